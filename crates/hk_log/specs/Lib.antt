@@ -1,0 +1,4 @@
+pub mod Items
+pub mod SameItems
+pub mod SameVersions
+pub mod Versions

@@ -1,0 +1,86 @@
+//! A row.
+
+ghost use Rattle.std.specs.Prelude.{◌≡◌, ◌≤◌, ◌<◌, length, IfOk, MatchResult};
+ghost use Rattle.hk_types.specs.declared.faults.FormFault.TheVariants.{BadBody};
+
+use crate::faults::FormFault;
+use crate::numbers::Tag;
+use std::alloc::{AllocError, Global};
+use std::marker::Model;
+
+/// The most bytes that a body has.
+pub const MOST_BODY_BYTES: usize = 4_096;
+
+/// A tag and at most 4,096 bytes.
+#[derive(Debug, Drop)]
+pub struct Row {
+    tag: Tag,
+    body: Vec<u8>,
+}
+
+impl Model for Row {
+    ghost use Rattle.std.specs.Prelude.{◌≤◌, length};
+    ghost use Rattle.hk_types.specs.Values.{RowValue};
+
+    ghost Value = { RowValue };
+
+    ghost view = { λ a. record { tag = a.tag; body = a.body.items } };
+
+    ghost invariant = { λ a. length a.body.items ≤ 4096 };
+}
+
+impl PartialEq for Row {
+    ghost use Rattle.hk_types.specs.Values.{same_row};
+    ghost use Rattle.hk_types.specs.SameRows.{same_row_per};
+
+    ghost eq = { same_row };
+
+    ghost laws = { same_row_per };
+
+    fn eq(&self, other: &Row) -> bool {
+        self.tag == other.tag && self.body == other.body
+    }
+}
+
+impl Eq for Row {
+    ghost use Rattle.hk_types.specs.SameRows.{same_row_equiv};
+
+    ghost laws = { same_row_equiv };
+}
+
+impl Row {
+    /// The row of this tag and body. A body above 4,096 bytes comes back.
+    pub fn new(tag: Tag, body: Vec<u8>) -> Result<Row, (Vec<u8>, FormFault)>
+        ensures ok { length body.items ≤ 4096 → IfOk result (λ row. row ≡ record { tag = tag; body = body.items }) }
+        ensures exact { MatchResult result (λ _. length body.items ≤ 4096) (λ e. (4096 < length body.items) × (e.0 ≡ body) × (e.1 ≡ BadBody)) }
+    {
+        if body.len() > MOST_BODY_BYTES {
+            return Err((body, FormFault::BadBody));
+        }
+        Ok(Row { tag, body })
+    }
+
+    pub fn tag(&self) -> Tag
+        ensures { result ≡ self.now.tag }
+    {
+        self.tag
+    }
+
+    pub fn body(&self) -> &[u8]
+        ensures value { result.now ≡ self.now.body }
+        ensures bound { length result.now ≤ 4096 }
+    {
+        self.body.as_slice()
+    }
+
+    /// The same row again.
+    pub fn copy(&self, alloc: Global) -> Result<Row, AllocError>
+        ensures { IfOk result (λ row. row ≡ self.now) }
+    {
+        let body = Vec::from_slice(alloc, &self.body)?;
+        Ok(Row {
+            tag: self.tag,
+            body,
+        })
+    }
+}
