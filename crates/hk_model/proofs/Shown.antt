@@ -1,6 +1,6 @@
 -- Which version of a row a content shows at a time: at most one, and its row is the visible one.
-use Rattle.std.proofs.Common.{◌≡◌, refl, sym, ap, ◌∙◌, subst, ℕ, Bool, true, false, cond, not, Option, Some, None, List, [], ◌∷◌, map, inl, inr, ◌||◌, ◌==◌, ◌&&◌, ◌<◌, ◌≤◌, arith, nat_le, nat_lt, le-leb, leb-true, leb-false, eq-eqb, eqb-true, true≢false, lt-ltb, ltb-true, ltb-false, le_antisymm}
-use Rattle.std.proofs.lemmas.Bool.{and_parts, and_from, or_left, or_right, cases_lt}
+use Rattle.std.proofs.Common.{◌≡◌, refl, sym, ap, ◌∙◌, ℕ, Bool, true, false, cond, not, Option, Some, None, List, [], ◌∷◌, map, inl, inr, ◌&&◌, ◌<◌, ◌≤◌, arith, nat_le, le-leb, leb-true, eq-eqb, true≢false, lt-ltb}
+use Rattle.std.proofs.lemmas.Bool.{and_parts, or_left, or_right, cases_lt}
 use Rattle.std.specs.List.{list_any}
 use Rattle.std.specs.FinMap as finmap
 use Rattle.std.specs.FinMap.Entries.{find}
@@ -10,7 +10,7 @@ use Rattle.hk_model.proofs.Visible.{get_entry}
 use Rattle.hk_types.specs.Values.{RowValue}
 use Rattle.hk_types.specs.declared.version_key.VersionKey.{VersionKey}
 use Rattle.hk_model.specs.Rows.{RowKey, version_key_cmp, row_key_cmp, row_key_of, version_of}
-use Rattle.hk_model.specs.Content.{Content, at_most, ended_by}
+use Rattle.hk_model.specs.Content.{Content, ended_by}
 use Rattle.hk_model.specs.Answers.{replaces, shows, visible}
 
 pub any_In : {K : Type 0} (p : K → Bool) (k : K) (ks : List K) → In k ks → p k ≡ true → list_any p ks ≡ true
