@@ -1,0 +1,83 @@
+//! What a command prints, gathered into larger writes.
+
+use crate::line::Printed;
+use crate::stop::Stop;
+use hk_types::Refusal;
+use std::alloc::Global;
+use std::io::Write;
+
+/// How many bytes of lines are gathered before they are written.
+const GATHERED_BYTES: usize = 65_536;
+
+/// The lines of a command on their way to a writer.
+#[derive(Drop)]
+pub(crate) struct Output<'a, W: Write> {
+    alloc: Global,
+    writer: &'a mut W,
+    lines: String,
+}
+
+impl<'a, W: Write> Output<'a, W> {
+    pub(crate) fn new(alloc: Global, writer: &'a mut W) -> Output<'a, W> {
+        Output {
+            alloc,
+            writer,
+            lines: String::new(alloc),
+        }
+    }
+
+    /// Adds the lines of a value, and writes what was gathered once that is much.
+    pub(crate) fn print<T: Printed>(&mut self, value: &T) -> Result<(), Stop> {
+        value.print_to(self.alloc, &mut self.lines)?;
+        if self.lines.len() >= GATHERED_BYTES {
+            return self.flush();
+        }
+        Ok(())
+    }
+
+    /// Writes what was gathered.
+    pub(crate) fn flush(&mut self) -> Result<(), Stop> {
+        let written = self.writer.write_all(self.lines.as_bytes());
+        self.lines.clear();
+        match written {
+            Ok(()) => self.sent(),
+            Err(_error) => Err(Stop::WriteFault),
+        }
+    }
+
+    fn sent(&mut self) -> Result<(), Stop> {
+        match self.writer.flush() {
+            Ok(()) => Ok(()),
+            Err(_error) => Err(Stop::WriteFault),
+        }
+    }
+
+    /// Writes what was gathered, and then why the command stopped. The status of the command: 1.
+    pub(crate) fn stop(&mut self, stop: Stop) -> u8 {
+        if self.print_stop(stop).is_ok() {
+            let _ = self.flush();
+        }
+        1
+    }
+
+    fn print_stop(&mut self, stop: Stop) -> Result<(), Stop> {
+        self.flush()?;
+        match stop {
+            Stop::Refused(Refusal::Memory) => self.write_plain(b"refused 90\n"),
+            Stop::Refused(refusal) => match self.print(&refusal) {
+                Err(Stop::Refused(_memory)) => self.write_plain(b"refused 90\n"),
+                other => other,
+            },
+            Stop::ReadFault => self.write_plain(b"refused 91\n"),
+            Stop::WriteFault => Ok(()),
+        }
+    }
+
+    /// Writes a line that takes no memory.
+    fn write_plain(&mut self, line: &[u8]) -> Result<(), Stop> {
+        match self.writer.write_all(line) {
+            Ok(()) => Ok(()),
+            Err(_error) => Err(Stop::WriteFault),
+        }
+    }
+}

@@ -1,0 +1,167 @@
+//! The command line.
+
+use clap::error::ErrorKind;
+use clap::{Arg, ArgAction, ArgMatches, Command, Error, value_parser};
+use hk_types::{Config, Key, LAST_TIME, Table, Time};
+use std::alloc::{AllocError, Global};
+
+/// What the program is asked to do.
+#[derive(Clone, Copy, Debug)]
+pub enum Call {
+    /// Absorb item frames, and print the row at a table and a key at a time.
+    At {
+        config: Config,
+        time: Time,
+        table: Table,
+        key: Key,
+    },
+    /// Print item frames.
+    Items,
+}
+
+const ABOUT: &str = "Read replicas of an in-memory multiversion primary";
+
+const LONG_ABOUT: &str = "Read replicas of an in-memory multiversion primary.
+
+A primary writes a log in 1 to 64 streams of item frames: entries, which say what a transaction \
+put in and ended, and marks, which say that a stream is complete up to a time. A replica takes \
+them in any order, late or twice, and answers at a past time with exactly the primary's rows of \
+that time, or with a numbered refusal.
+
+Answers and refusals go to standard output. The status is 0; 1 where a line 'refused' was \
+printed; 2 for a bad command line.";
+
+const AT_ABOUT: &str = "Absorb the item frames of standard input, and print a row at a time";
+
+const AT_EXAMPLE: &str = "Example:
+  hkrep at --log 7 --streams 1 1 1 5 < examples/first.bin
+prints '9 41': at time 1 the row of table 1, key 5 has the tag 9 and the body 41 (hexadecimal). \
+It prints 'none' where there is no such row, and 'refused 26 readable R' where the replica can \
+be read up to R only.";
+
+const ITEMS_ABOUT: &str = "Print each item of the frames of standard input";
+
+const ITEMS_EXAMPLE: &str = "Example:
+  hkrep items < examples/first.bin
+prints
+  commit log 7 stream 1 number 1 time 1 ends 0 rows 1
+  mark log 7 stream 1 n 1 m 1
+A fault of the input is printed after the items before it, as 'refused NUMBER'.";
+
+/// The names of the arguments of `at`, which are all numbers.
+const AT_NUMBERS: [&str; 5] = ["log", "streams", "time", "table", "key"];
+
+fn at_command<'a>(alloc: Global) -> Result<Command<'a>, AllocError> {
+    let log = Arg::new(alloc, "log")
+        .long("log")
+        .value_name("L")
+        .help("The id of the log: a number up to 18446744073709551615")
+        .required(true)
+        .action(ArgAction::Set)
+        .value_parser(value_parser!(u64));
+    let streams = Arg::new(alloc, "streams")
+        .long("streams")
+        .value_name("S")
+        .help("How many streams the log has: 1 to 64")
+        .required(true)
+        .action(ArgAction::Set)
+        .value_parser(value_parser!(u16).range(1..=64));
+    let time = Arg::new(alloc, "time")
+        .value_name("T")
+        .help("The time to read at: 0 to 4611686018427387904")
+        .required(true)
+        .action(ArgAction::Set)
+        .value_parser(value_parser!(u64).range(0..=LAST_TIME as i64));
+    let table = Arg::new(alloc, "table")
+        .value_name("TABLE")
+        .help("The number of the table: 0 to 65535")
+        .required(true)
+        .action(ArgAction::Set)
+        .value_parser(value_parser!(u16));
+    let key = Arg::new(alloc, "key")
+        .value_name("KEY")
+        .help("The key of the row: 0 to 18446744073709551615")
+        .required(true)
+        .action(ArgAction::Set)
+        .value_parser(value_parser!(u64));
+    Command::new(alloc, "at")
+        .about(AT_ABOUT)
+        .after_help(AT_EXAMPLE)
+        .arg(log)?
+        .arg(streams)?
+        .arg(time)?
+        .arg(table)?
+        .arg(key)
+}
+
+fn program<'a>(alloc: Global) -> Result<Command<'a>, AllocError> {
+    let items = Command::new(alloc, "items")
+        .about(ITEMS_ABOUT)
+        .after_help(ITEMS_EXAMPLE);
+    Command::new(alloc, "hkrep")
+        .about(ABOUT)
+        .long_about(LONG_ABOUT)
+        .version("0.1.0")
+        .subcommand_required(true)
+        .arg_required_else_help(true)
+        .subcommand(at_command(alloc)?)?
+        .subcommand(items)
+}
+
+fn is_decimal(word: &str) -> bool {
+    !word.is_empty() && word.bytes().all(|byte| byte.is_ascii_digit())
+}
+
+/// The first of the named words that is not made of decimal digits alone.
+fn first_signed<'a>(matches: &ArgMatches<'a>) -> Option<&'a str> {
+    for name in AT_NUMBERS {
+        if let Some(word) = matches.get_str(name) {
+            if !is_decimal(word) {
+                return Some(word);
+            }
+        }
+    }
+    None
+}
+
+/// The call that the arguments of `at` make, where each of them is in its range.
+fn at_call(matches: &ArgMatches<'_>) -> Option<Call> {
+    let log = matches.get_one::<u64>("log")?;
+    let streams = matches.get_one::<u16>("streams")?;
+    let time = matches.get_one::<u64>("time")?;
+    let table = matches.get_one::<u16>("table")?;
+    let key = matches.get_one::<u64>("key")?;
+    Some(Call::At {
+        config: Config::new(log, streams).ok()?,
+        time: Time::new(time).ok()?,
+        table: Table::new(table),
+        key: Key::new(key),
+    })
+}
+
+/// The error of a bad command line, with this text before the usage.
+fn bad_line(alloc: Global, message: &str) -> Result<Error, AllocError> {
+    let mut command = program(alloc)?;
+    command.error(ErrorKind::ValueValidation, message)
+}
+
+fn bad_word(alloc: Global, word: &str) -> Result<Error, AllocError> {
+    let message = format!(in alloc; "invalid value '{word}': a number is written in decimal digits alone")?;
+    bad_line(alloc, message.as_str())
+}
+
+/// Reads the words of the command line, the program's name first. An error has a text and a status: 2 for a
+/// bad command line, 0 where help or the version was asked for.
+pub fn read_call<'a>(alloc: Global, words: &'a [String]) -> Result<Call, Error> {
+    let matches = program(alloc)?.try_get_matches_from(words)?;
+    let Some(("at", at)) = matches.subcommand() else {
+        return Ok(Call::Items);
+    };
+    if let Some(word) = first_signed(at) {
+        return Err(bad_word(alloc, word)?);
+    }
+    match at_call(at) {
+        Some(call) => Ok(call),
+        None => Err(bad_line(alloc, "a number is out of its range")?),
+    }
+}

@@ -1,0 +1,237 @@
+#!/usr/bin/env python3
+"""End-to-end checks of the built program bin/hkrep: what it prints, its status, and its standard error.
+
+Prints a line for each check and ends with 'N passed, M failed'. Standard library only."""
+import os
+import pathlib
+import subprocess
+import sys
+import tempfile
+
+ROOT = pathlib.Path(__file__).resolve().parent.parent
+PROGRAM = ROOT / "bin" / "hkrep"
+
+
+def frame(text):
+    return bytes.fromhex("".join(text.split()))
+
+
+E1 = frame("00000031 01 01 0000000000000007 0001 0000000000000001 0000000000000001 0000"
+           "0001 0001 0000000000000005 00000009 0001 41")
+E2 = frame("00000043 01 01 0000000000000007 0001 0000000000000002 0000000000000002 0001"
+           "0001 0000000000000005 0000000000000001 0001 0001 0000000000000005 00000009 0001 42")
+E3 = frame("00000031 01 01 0000000000000007 0001 0000000000000003 0000000000000003 0000"
+           "0001 0001 0000000000000006 00000009 0001 43")
+
+
+def mark(stream, n, m, log=7):
+    rest = bytes([1, 2]) + log.to_bytes(8, "big") + stream.to_bytes(2, "big")
+    rest += n.to_bytes(8, "big") + m.to_bytes(8, "big")
+    return len(rest).to_bytes(4, "big") + rest
+
+
+def entry(number, time, rows=(), ends=(), stream=1, log=7):
+    """rows: (table, key, tag, body); ends: (table, key, born)"""
+    rest = bytes([1, 1]) + log.to_bytes(8, "big") + stream.to_bytes(2, "big")
+    rest += number.to_bytes(8, "big") + time.to_bytes(8, "big")
+    rest += len(ends).to_bytes(2, "big")
+    for table, key, born in ends:
+        rest += table.to_bytes(2, "big") + key.to_bytes(8, "big") + born.to_bytes(8, "big")
+    rest += len(rows).to_bytes(2, "big")
+    for table, key, tag, body in rows:
+        rest += table.to_bytes(2, "big") + key.to_bytes(8, "big") + tag.to_bytes(4, "big")
+        rest += len(body).to_bytes(2, "big") + body
+    return len(rest).to_bytes(4, "big") + rest
+
+
+def at(time, table, key, log="7", streams="1"):
+    return ["at", "--log", log, "--streams", streams, str(time), str(table), str(key)]
+
+
+passed = 0
+failed = 0
+
+
+def report(name, problems):
+    global passed, failed
+    if problems:
+        failed += 1
+        print(f"FAILED {name}")
+        for problem in problems:
+            print(f"  {problem}")
+    else:
+        passed += 1
+        print(f"ok {name}")
+
+
+def run(args, data=b"", **more):
+    more.setdefault("stdout", subprocess.PIPE)
+    return subprocess.run([str(PROGRAM), *args], input=data, stderr=subprocess.PIPE, timeout=60, **more)
+
+
+def check(name, args, data, out, status=0):
+    """What is printed, the status, and one warning on standard error exactly where the status is 1."""
+    got = run(args, data)
+    problems = []
+    if got.stdout != out.encode():
+        problems.append(f"printed {got.stdout[:300]!r}, wanted {out[:300]!r}")
+    if got.returncode != status:
+        problems.append(f"status {got.returncode}, wanted {status}")
+    warnings = got.stderr.decode().splitlines()
+    if len(warnings) != (1 if status == 1 else 0):
+        problems.append(f"standard error has {warnings!r}")
+    report(name, problems)
+
+
+def check_bad_line(name, args, words):
+    """A bad command line has status 2, prints nothing, and says what is wrong on standard error."""
+    got = run(args, E1)
+    problems = []
+    if got.returncode != 2:
+        problems.append(f"status {got.returncode}, wanted 2")
+    if got.stdout:
+        problems.append(f"printed {got.stdout!r}")
+    text = got.stderr.decode()
+    for word in words:
+        if word not in text:
+            problems.append(f"standard error lacks {word!r}: {text!r}")
+    report(name, problems)
+
+
+def check_help(name, args, words):
+    got = run(args)
+    text = got.stdout.decode()
+    problems = [f"lacks {word!r}" for word in words if word not in text]
+    if got.returncode != 0:
+        problems.append(f"status {got.returncode}, wanted 0")
+    report(name, problems)
+
+
+def worked_rows():
+    check("an entry and its mark answer", at(1, 1, 5), E1 + mark(1, 1, 1), "9 41\n")
+    check("the example file answers", at(1, 1, 5), (ROOT / "examples" / "first.bin").read_bytes(), "9 41\n")
+    check("an entry without a mark can't be read", at(1, 1, 5), E1, "refused 26 readable 0\n", 1)
+    check("an empty input at time 0", at(0, 1, 5), b"", "none\n")
+    check("an empty input at time 1", at(1, 1, 5), b"", "refused 26 readable 0\n", 1)
+    check("both items are printed", ["items"], E1 + mark(1, 1, 1),
+          "commit log 7 stream 1 number 1 time 1 ends 0 rows 1\nmark log 7 stream 1 n 1 m 1\n")
+    check("an empty input has no items", ["items"], b"", "")
+
+
+def bytes_of_all_kinds():
+    check("the greatest time is read", at(2 ** 62, 1, 5), entry(1, 2 ** 62, [(1, 5, 9, b"")]) + mark(1, 1, 2 ** 62),
+          "9 -\n")
+    check("a time above the greatest is 6", ["items"], entry(1, 2 ** 62 + 1, [(1, 5, 9, b"")]), "refused 6\n", 1)
+    check("a body of 4,096 bytes", at(1, 1, 5), entry(1, 1, [(1, 5, 9, b"\xab" * 4096)]) + mark(1, 1, 1),
+          "9 " + "ab" * 4096 + "\n")
+    check("a body of 4,097 bytes is 9", ["items"], entry(1, 1, [(1, 5, 9, b"\xab" * 4097)]), "refused 9\n", 1)
+    check("greatest numbers", at(1, 65535, 2 ** 64 - 1, log=str(2 ** 64 - 1)),
+          entry(1, 1, [(65535, 2 ** 64 - 1, 2 ** 32 - 1, b"\x00")], log=2 ** 64 - 1) + mark(1, 1, 1, log=2 ** 64 - 1),
+          "4294967295 00\n")
+    check("a cut frame is 1, after the items before it", ["items"], E2 + E1[:-1],
+          "commit log 7 stream 1 number 2 time 2 ends 1 rows 1\nrefused 1\n", 1)
+    check("a length above the greatest is 2", ["items"], frame("00408821"), "refused 2\n", 1)
+    check("the greatest length goes on", ["items"], frame("00408820"), "refused 1\n", 1)
+    check("a length below the least is 10", ["items"], frame("0000001b"), "refused 10\n", 1)
+    check("rows that do not rise are 7", ["items"], entry(1, 1, [(1, 6, 9, b""), (1, 5, 9, b"")]), "refused 7\n", 1)
+    check("nothing follows a fault", ["items"], frame("0000001b") + E1, "refused 10\n", 1)
+    many = b"".join(entry(n, n, [(1, n, 9, b"\x41")]) for n in range(1, 3001))
+    check("many items", ["items"], many,
+          "".join(f"commit log 7 stream 1 number {n} time {n} ends 0 rows 1\n" for n in range(1, 3001)))
+
+
+def refusals():
+    check("another log is 20", at(1, 1, 5, log="8"), E1 + mark(1, 1, 1), "refused 20\n", 1)
+    check("a stream above the number is 21", at(1, 1, 5), entry(1, 1, [(1, 5, 9, b"")], stream=2), "refused 21\n", 1)
+    check("another row of a version is 23", at(1, 1, 5), E1 + entry(2, 1 + 1, [(1, 5, 9, b"")]) + entry(
+        1, 2, [(1, 5, 9, b"\x01")], stream=1) + mark(1, 2, 2), "9 41\n")
+    check("an entry up to the closed time is 23", at(1, 1, 5), E1 + mark(1, 1, 5) + entry(2, 4, [(1, 6, 9, b"")]),
+          "refused 23\n", 1)
+    check("a repeated entry changes nothing", at(1, 1, 5), E1 + E1 + mark(1, 1, 1) + mark(1, 1, 1), "9 41\n")
+    check("a mark before its entry waits", at(1, 1, 5), mark(1, 1, 1) + E1, "9 41\n")
+    check("the first refusal is printed alone", at(1, 1, 5, log="8"), E1 + frame("0000001b"), "refused 20\n", 1)
+    check("the first fault is printed alone", at(1, 1, 5), E1 + frame("0000001b"), "refused 10\n", 1)
+    check("a cut input is 1", at(1, 1, 5), E1[:20], "refused 1\n", 1)
+
+
+def command_lines():
+    usage = ["error", "--help"]
+    check_bad_line("a plus sign", ["at", "--log", "7", "--streams", "1", "+7", "1", "5"], ["+7"])
+    check_bad_line("a plus sign in an option", ["at", "--log", "+7", "--streams", "1", "1", "1", "5"], ["+7"])
+    check_bad_line("a minus sign", ["at", "--log", "7", "--streams", "1", "-1", "1", "5"], usage)
+    check_bad_line("no stream", at(1, 1, 5, streams="0"), usage)
+    check_bad_line("65 streams", at(1, 1, 5, streams="65"), usage)
+    check_bad_line("a time above the greatest", at(2 ** 62 + 1, 1, 5), usage)
+    check_bad_line("a table above the greatest", at(1, 65536, 5), usage)
+    check_bad_line("a key above the greatest", at(1, 1, 2 ** 64), usage)
+    check_bad_line("a hexadecimal number", at("0x1", 1, 5), usage)
+    check_bad_line("a number with a space", at(" 1", 1, 5), [])
+    check_bad_line("an empty word", at("", 1, 5), [])
+    check_bad_line("too few words", ["at", "--log", "7", "--streams", "1", "1", "1"], usage)
+    check_bad_line("too many words", at(1, 1, 5) + ["6"], usage)
+    check_bad_line("no log", ["at", "--streams", "1", "1", "1", "5"], ["--log"])
+    check_bad_line("an unknown command", ["frobnicate"], usage)
+    check_bad_line("no command", [], ["Usage: hkrep"])
+    check_help("help", ["--help"], ["Usage: hkrep", "at", "items", "status"])
+    check_help("help of at", ["at", "--help"], ["Usage: hkrep at", "--log", "0 to 4611686018427387904", "Example"])
+    check_help("help of items", ["items", "--help"], ["Usage: hkrep items", "Example"])
+    check_help("the version", ["--version"], ["hkrep"])
+
+
+def failing_devices():
+    with open("/dev/full", "wb") as full:
+        got = run(["items"], E1, stdout=full)
+    report("a write that fails ends with status 1", [] if got.returncode == 1 else [f"status {got.returncode}"])
+    with open("/dev/full", "wb") as full:
+        got = run(at(1, 1, 5), E1 + mark(1, 1, 1), stdout=full)
+    report("so does one of an answer", [] if got.returncode == 1 else [f"status {got.returncode}"])
+    folder = os.open(str(ROOT), os.O_RDONLY)
+    try:
+        for args in (["items"], at(1, 1, 5)):
+            got = subprocess.run([str(PROGRAM), *args], stdin=folder, stdout=subprocess.PIPE,
+                                 stderr=subprocess.PIPE, timeout=60)
+            problems = [] if (got.stdout, got.returncode) == (b"refused 91\n", 1) else [repr((got.stdout, got.returncode))]
+            report(f"a read that fails is 91 ({args[0]})", problems)
+    finally:
+        os.close(folder)
+
+
+def refused_memory():
+    """Lets the Nth request for memory fail, for each N up to a run that meets no refusal."""
+    source = ROOT / "tests" / "faults" / "failing_malloc.c"
+    with tempfile.TemporaryDirectory() as folder:
+        library = pathlib.Path(folder) / "failing_malloc.so"
+        subprocess.run(["cc", "-shared", "-fPIC", "-O1", "-o", str(library), str(source), "-ldl"], check=True)
+        data = E1 + mark(1, 1, 1)
+        for args, out in ((at(1, 1, 5), b"9 41\n"), (["items"], run(["items"], data).stdout)):
+            problems = []
+            count = 0
+            for number in range(1, 2000):
+                count = number
+                environment = dict(os.environ, LD_PRELOAD=str(library), FAILING_MALLOC=str(number))
+                got = subprocess.run([str(PROGRAM), *args], input=data, stdout=subprocess.PIPE,
+                                     stderr=subprocess.PIPE, timeout=60, env=environment)
+                if got.returncode == 0 and got.stdout == out:
+                    break
+                if got.returncode not in (1, 2) or got.stdout not in (b"refused 90\n", b""):
+                    problems.append(f"request {number}: status {got.returncode}, printed {got.stdout!r}")
+            else:
+                problems.append("no run without a refusal")
+            if count < 5:
+                problems.append(f"only {count} requests were made")
+            report(f"each request for memory refused in turn ({args[0]}, {count} requests)", problems[:5])
+
+
+def main():
+    if not PROGRAM.exists():
+        print(f"FAILED {PROGRAM} is not built")
+        print("0 passed, 1 failed")
+        return 1
+    for group in (worked_rows, bytes_of_all_kinds, refusals, command_lines, failing_devices, refused_memory):
+        group()
+    print(f"{passed} passed, {failed} failed")
+    return 1 if failed else 0
+
+
+if __name__ == "__main__":
+    sys.exit(main())
