@@ -1,0 +1,11 @@
+pub mod Prefix
+pub mod Steps
+pub mod Numbers
+pub mod Loop
+pub mod Found
+pub mod Whole
+pub mod Lengths
+pub mod Again
+pub mod Framed
+pub mod Stream
+pub mod Items

@@ -1,0 +1,51 @@
+-- Frames of items, one after the other on a stream.
+use Rattle.std.specs.Prelude.{◌≡◌, ℕ, ◌⊎◌, List, [], ◌∷◌, ◌++◌, Option, Some, None, Result, Ok, Err}
+use Rattle.std.specs.Global.{Vec}
+use Rattle.std.specs.List.{flat_map, AllByRecursion}
+use Rattle.hk_types.specs.declared.faults.FormFault.{FormFault}
+use Rattle.hk_types.specs.declared.faults.FormFault.TheVariants.{Truncated}
+use Rattle.hk_types.specs.declared.faults.Refusal.{Refusal}
+use Rattle.hk_types.specs.declared.faults.Refusal.TheVariants as refusals
+use Rattle.hk_log.specs.declared.item.Item.{Item}
+use Rattle.hk_codec.specs.Framing.{framed, spelled, Begins}
+use Rattle.hk_codec.specs.Spelling.{rest_text, IsItem}
+use Rattle.hk_codec.specs.Reading.{item_at}
+
+-- the frame of an item: the length of the rest, and the rest
+abbrev pub spelling : Item → List ℕ
+spelling = spelled rest_text
+
+-- the item at the front and how many bytes its frame has, or none where a whole frame isn't there yet
+abbrev pub frame_at : List ℕ → Result (Option (Item × ℕ)) FormFault
+frame_at bytes = framed 28 4229152 item_at bytes
+
+-- The text begins with the spellings of these items. After them comes less than a frame, which is left,
+-- or bytes with this fault.
+abbrev pub Reads : List ℕ → List Item → Result (List ℕ) FormFault → Type 0
+Reads text items left = Begins 28 4229152 item_at rest_text IsItem text items left
+
+-- what is added to a list where this text is read so far
+abbrev pub Adds : List Item → List Item → List ℕ → Result (List ℕ) FormFault → Type 0
+Adds before after text left = (items : List Item) × (after ≡ before ++ items) × Reads text items left
+
+-- what a feeder holds: less than a frame, or the fault that it met
+abbrev pub held : List ℕ → Option FormFault → Result (List ℕ) FormFault
+held left None = Ok left
+held left (Some fault) = Err fault
+
+-- what a feeder with this state answers
+abbrev pub answer : Result (List ℕ) FormFault → Result (Unit {0}) Refusal
+answer (Ok left) = Ok tt
+answer (Err fault) = Err (refusals.Form fault)
+
+-- what it answers at the end: what is left is then cut off
+abbrev pub last_answer : Result (List ℕ) FormFault → Result (Unit {0}) Refusal
+last_answer (Ok []) = Ok tt
+last_answer (Ok (b ∷ left)) = Err (refusals.Form Truncated)
+last_answer (Err fault) = Err (refusals.Form fault)
+
+-- All of the text is the spellings of the items. Where it isn't, there is a fault after the spellings
+-- that the text begins with, or it ends inside a frame.
+abbrev pub Decodes : List ℕ → Result (Vec Item) Refusal → Type 0
+Decodes text (Ok v) = (text ≡ flat_map spelling v.items) × AllByRecursion IsItem v.items
+Decodes text (Err r) = (r ≡ refusals.Memory) ⊎ ((items : List Item) × (left : Result (List ℕ) FormFault) × Reads text items left × (last_answer left ≡ Err r))

@@ -1,0 +1,49 @@
+-- Frames of values of any kind: a length of four bytes, and then as many bytes, the rest.
+use Rattle.std.specs.Prelude.{◌≡◌, ℕ, ◌+◌, ◌<◌, ◌≤◌, ◌⊎◌, nat_lt, if◌then◌else◌, List, ◌++◌, length, take, drop, Option, Some, None, Result, Ok, Err}
+use Rattle.std.specs.List.{flat_map, AllByRecursion}
+use Rattle.std.specs.Int.{w32, from_be_bytes}
+use Rattle.hk_types.specs.declared.faults.FormFault.{FormFault}
+use Rattle.hk_types.specs.declared.faults.FormFault.TheVariants.{TooLong, WrongLength}
+use Rattle.hk_codec.specs.Fields.{number, ◌>>=◌}
+
+-- the length field
+abbrev pub len_of : List ℕ → ℕ
+len_of bytes = from_be_bytes w32 (take 4 bytes)
+
+-- The rest of the frame at the front, or none where a whole frame isn't there yet. The length is tested
+-- against the least and the most as soon as it is there.
+unfoldable pub rest_at : ℕ → ℕ → List ℕ → Result (Option (List ℕ)) FormFault
+rest_at least most bytes =
+    if nat_lt (length bytes) 4 then Ok None
+    else if nat_lt most (len_of bytes) then Err TooLong
+    else if nat_lt (len_of bytes) least then Err WrongLength
+    else if nat_lt (length bytes) (4 + len_of bytes) then Ok None
+    else Ok (Some (take (len_of bytes) (drop 4 bytes)))
+
+-- the value that a rest is, and how many bytes its frame has
+abbrev pub value_of : {X : Type 0} → (List ℕ → Result X FormFault) → Option (List ℕ) → Result (Option (X × ℕ)) FormFault
+value_of read None = Ok None
+value_of read (Some rest) = read rest >>= λ x. Ok (Some (x, 4 + length rest))
+
+-- the value at the front and how many bytes its frame has, or none where a whole frame isn't there yet
+unfoldable pub framed : {X : Type 0} → ℕ → ℕ → (List ℕ → Result X FormFault) → List ℕ → Result (Option (X × ℕ)) FormFault
+framed least most read bytes = rest_at least most bytes >>= value_of read
+
+-- less than a frame: fewer than four bytes, or a length in its limits and fewer bytes than it says
+abbrev pub IsPartial : ℕ → ℕ → List ℕ → Type 0
+IsPartial least most bytes = (length bytes < 4) ⊎ ((least ≤ len_of bytes) × (len_of bytes ≤ most) × (length bytes < 4 + len_of bytes))
+
+-- one frame, as its length says
+abbrev pub IsWhole : List ℕ → Type 0
+IsWhole bytes = (4 ≤ length bytes) × (length bytes ≡ 4 + len_of bytes)
+
+-- a frame: the length of the rest that spells a value, and the rest
+unfoldable pub spelled : {X : Type 0} → (X → List ℕ) → X → List ℕ
+spelled rest_text x = number w32 (length (rest_text x)) ++ rest_text x
+
+-- For values that `rest_text` spells where they are `IsValue`, and that `read` reads, in rests of at least
+-- `least` and at most `most` bytes: the text begins with the spellings of these values. After them comes
+-- less than a frame, which is left, or bytes with this fault.
+abbrev pub Begins : {X : Type 0} → ℕ → ℕ → (List ℕ → Result X FormFault) → (X → List ℕ) → (X → Type 0) → List ℕ → List X → Result (List ℕ) FormFault → Type 0
+Begins least most read rest_text IsValue text values (Ok left) = (text ≡ flat_map (spelled rest_text) values ++ left) × AllByRecursion IsValue values × IsPartial least most left
+Begins least most read rest_text IsValue text values (Err fault) = (left : List ℕ) × (text ≡ flat_map (spelled rest_text) values ++ left) × AllByRecursion IsValue values × (framed least most read left ≡ Err fault)

@@ -1,0 +1,5 @@
+pub mod Fields
+pub mod Framing
+pub mod Spelling
+pub mod Reading
+pub mod Frames

@@ -1,0 +1,143 @@
+//! The rest of an item's frame.
+
+ghost use Rattle.hk_codec.specs.Fields.{IsBytes, Gives, GivesOrRunsOut};
+ghost use Rattle.hk_codec.specs.Reading as spec;
+
+use crate::cursor::{Cursor, ReadError};
+use crate::lists::{read_ends, read_rows};
+use hk_log::{Entry, Item, MOST_WRITES, Mark};
+use hk_types::{FormFault, Key, Row, StreamNo, Table, Time, VersionKey};
+use std::alloc::Global;
+
+/// The version byte.
+pub(crate) const VERSION: u8 = 1;
+
+/// The kind byte of an entry.
+pub(crate) const ENTRY_KIND: u8 = 1;
+
+/// The kind byte of a mark.
+pub(crate) const MARK_KIND: u8 = 2;
+
+/// Reads the number and the time of an entry.
+#[tactic(auto, unfolding(crate::specs::Reading::moment_at))]
+fn read_moment(cursor: &mut Cursor) -> Result<(u64, Time), FormFault>
+    ensures { Gives (λ x. (x, cursor.new)) result (spec.moment_at cursor.old) }
+{
+    let number = cursor.u64()?;
+    let time = cursor.u64()?;
+    if number < 1 || time < number {
+        return Err(FormFault::BadNumber);
+    }
+    let time = Time::new(time)?;
+    Ok((number, time))
+}
+
+#[tactic(auto, unfolding(crate::specs::Reading::counted_ends_at))]
+fn read_counted_ends(
+    alloc: Global,
+    cursor: &mut Cursor,
+    time: Time,
+) -> Result<Vec<VersionKey>, ReadError>
+    ensures { GivesOrRunsOut (λ x. (x.items, cursor.new)) result (spec.counted_ends_at time cursor.old) }
+{
+    let count = cursor.u16()?;
+    if count as usize > MOST_WRITES {
+        return Err(ReadError::Fault(FormFault::BadCount));
+    }
+    read_ends(alloc, cursor, count, time)
+}
+
+#[tactic(auto, unfolding(crate::specs::Reading::counted_rows_at))]
+fn read_counted_rows(
+    alloc: Global,
+    cursor: &mut Cursor,
+    ends: usize,
+) -> Result<Vec<(Table, Key, Row)>, ReadError>
+    ensures { GivesOrRunsOut (λ x. (x.items, cursor.new)) result (spec.counted_rows_at ends cursor.old) }
+{
+    let count = cursor.u16()?;
+    if count as usize > MOST_WRITES || (ends == 0 && count == 0) {
+        return Err(ReadError::Fault(FormFault::BadCount));
+    }
+    read_rows(alloc, cursor, count)
+}
+
+#[tactic(auto, unfolding(crate::specs::Reading::mark_at))]
+fn read_mark(cursor: &mut Cursor, log: u64, stream: StreamNo) -> Result<Mark, FormFault>
+    ensures { Gives (λ x. (x, cursor.new)) result (spec.mark_at log stream cursor.old) }
+{
+    let n = cursor.u64()?;
+    let m = Time::new(cursor.u64()?)?;
+    Mark::new(log, stream, n, m)
+}
+
+/// What the first bytes of a rest say.
+#[derive(Clone, Copy)]
+struct Head {
+    kind: u8,
+    log: u64,
+    stream: StreamNo,
+}
+
+#[tactic(auto, unfolding(crate::specs::Reading::head_at))]
+fn read_head(cursor: &mut Cursor) -> Result<Head, FormFault>
+    ensures { Gives (λ x. (record { kind = x.kind; log = x.log; stream = x.stream }, cursor.new)) result (spec.head_at cursor.old) }
+{
+    if cursor.u8()? != VERSION {
+        return Err(FormFault::BadVersion);
+    }
+    let kind = cursor.u8()?;
+    if kind != ENTRY_KIND && kind != MARK_KIND {
+        return Err(FormFault::BadKind);
+    }
+    let log = cursor.u64()?;
+    let stream = StreamNo::new(cursor.u16()?)?;
+    Ok(Head { kind, log, stream })
+}
+
+#[tactic(auto, unfolding(crate::specs::Reading::entry_at))]
+fn read_entry(
+    alloc: Global,
+    cursor: &mut Cursor,
+    log: u64,
+    stream: StreamNo,
+) -> Result<Entry, ReadError>
+    requires { IsBytes cursor.old }
+    ensures { GivesOrRunsOut (λ x. (x, cursor.new)) result (spec.entry_at log stream cursor.old) }
+{
+    let (number, time) = read_moment(cursor)?;
+    let ends = read_counted_ends(alloc, cursor, time)?;
+    let rows = read_counted_rows(alloc, cursor, ends.len())?;
+    let _in_range = stream.number();
+    Ok(Entry::of_parts(log, stream, number, time, ends, rows))
+}
+
+/// Reads what stands behind the head.
+#[tactic(auto, unfolding(crate::specs::Reading::kind_at))]
+fn read_kind(alloc: Global, cursor: &mut Cursor, head: Head) -> Result<Item, ReadError>
+    requires { IsBytes cursor.old }
+    ensures { GivesOrRunsOut (λ x. (x, cursor.new)) result (spec.kind_at (record { kind = head.kind; log = head.log; stream = head.stream }) cursor.old) }
+{
+    if head.kind == ENTRY_KIND {
+        let entry = read_entry(alloc, cursor, head.log, head.stream)?;
+        return Ok(Item::Commit(entry));
+    }
+    let mark = read_mark(cursor, head.log, head.stream)?;
+    Ok(Item::Closed(mark))
+}
+
+/// The item that is all of the rest. In the order of the bytes: a field that does not fit is a wrong
+/// length, another version, an unknown kind, a stream outside 1 to 64, and then what `Entry::new` and
+/// `Mark::new` ask; bytes behind the last field are a wrong length.
+#[tactic(auto, unfolding(crate::specs::Reading::item_at))]
+pub(crate) fn read_item(alloc: Global, rest: &[u8]) -> Result<Item, ReadError>
+    ensures { GivesOrRunsOut (λ x. x) result (spec.item_at rest.now) }
+{
+    let mut cursor = Cursor::new(rest);
+    let head = read_head(&mut cursor)?;
+    let item = read_kind(alloc, &mut cursor, head)?;
+    if !cursor.is_empty() {
+        return Err(ReadError::Fault(FormFault::WrongLength));
+    }
+    Ok(item)
+}
