@@ -1,6 +1,11 @@
 //! What the program's commands do, over any reader and writer, and the lines that they print.
 #![tactic(auto)]
 
+mod frames;
+mod items;
 mod line;
+mod output;
+mod stop;
 
+pub use items::run_items;
 pub use line::{Printed, line_of};

@@ -3,21 +3,41 @@
 
 mod arguments;
 
+use arguments::{Call, read_call};
+use hk_cli::run_items;
+use log::warn;
+use std::alloc::Global;
+use std::io;
 use std::process::ExitCode;
+use std::rt::Env;
 
-fn main(rt: HostRuntime) -> ExitCode {
-    let alloc = rt.alloc();
-    match std::env::args(&rt) {
-        Ok(words) => match words.collect::<Vec<String>>(alloc) {
-            Ok(words) => match arguments::read_call(alloc, &words) {
-                Ok(_call) => ExitCode::SUCCESS,
-                Err(error) => {
-                    let _ = error.print(&rt);
-                    ExitCode::from(error.exit_code() as u8)
-                }
-            },
-            Err(_error) => ExitCode::from(1),
-        },
-        Err(_error) => ExitCode::from(1),
+/// The words that the process was started with.
+fn words<R: Env + Alloc<A = Global>>(rt: &R) -> io::Result<Vec<String>> {
+    Ok(std::env::args(rt)?.collect(rt.alloc())?)
+}
+
+/// The status of a call over standard input and output.
+fn run<R: Input + Print + Alloc<A = Global>>(rt: &R, call: Call) -> u8 {
+    let mut input = rt.reader();
+    let mut output = io::writer(rt);
+    match call {
+        Call::At { .. } => 1,
+        Call::Items => run_items(rt.alloc(), &mut input, &mut output),
     }
+}
+
+fn main(rt: HostRuntime) -> io::Result<ExitCode> {
+    let words = words(&rt)?;
+    let call = match read_call(rt.alloc(), &words) {
+        Ok(call) => call,
+        Err(error) => {
+            error.print(&rt)?;
+            return Ok(ExitCode::from(error.exit_code() as u8));
+        }
+    };
+    let status = run(&rt, call);
+    if status == 1 {
+        warn!(rt; "refused, or the output could not be written: see standard output");
+    }
+    Ok(ExitCode::from(status))
 }
