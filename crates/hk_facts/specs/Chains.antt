@@ -1,0 +1,62 @@
+-- The chain of a key: its versions, by the time at which they were born.
+use Rattle.std.specs.Prelude.{ℕ, Bool, not, ◌&&◌, nat_le, List, [], ◌∷◌, Option, Some, None, Result, Ok, Err, if◌then◌else◌, is_some}
+use Rattle.std.specs.Ordering.{nat_cmp}
+use Rattle.std.specs.FinMap as finmap
+use Rattle.hk_types.specs.Values.{RowValue}
+use Rattle.hk_types.specs.declared.faults.Refusal.{Refusal}
+use Rattle.hk_log.specs.Versions.{VersionValue}
+use Rattle.hk_model.specs.Maps.{or_else}
+use Rattle.hk_model.specs.Content.{at_most}
+use Rattle.hk_facts.specs.declared.fact.Fact.{Fact}
+use Rattle.hk_facts.specs.declared.fact.Part.{Part}
+use Rattle.hk_facts.specs.Facts.{joined, without, died_of}
+
+-- the value of a `Chain`
+abbrev pub ChainValue : Type 0
+ChainValue = finmap.FinMap nat_cmp VersionValue
+
+module _ {X : Type 0} where
+  -- the map with this at the key, or with nothing there
+  abbrev pub set_at : finmap.FinMap nat_cmp X → ℕ → Option X → finmap.FinMap nat_cmp X
+  set_at m k None = finmap.remove m k
+  set_at m k (Some x) = finmap.insert m k x
+
+  -- the map where what stands at a key is changed
+  abbrev pub alter : (Option X → Option X) → finmap.FinMap nat_cmp X → ℕ → finmap.FinMap nat_cmp X
+  alter f m k = set_at m k (f (finmap.get m k))
+
+  -- the map with this at the key, if it is not refused
+  abbrev pub put_at : finmap.FinMap nat_cmp X → ℕ → Result X Refusal → Result (finmap.FinMap nat_cmp X) Refusal
+  put_at m k (Ok x) = Ok (finmap.insert m k x)
+  put_at m k (Err why) = Err why
+
+  -- the map where what stands at a key is changed, if that is not refused
+  abbrev pub put_by : (Option X → Result X Refusal) → finmap.FinMap nat_cmp X → ℕ → Result (finmap.FinMap nat_cmp X) Refusal
+  put_by f m k = put_at m k (f (finmap.get m k))
+
+-- the chain with a fact on the version that was born then
+abbrev pub chain_put : ChainValue → ℕ → Fact → Result ChainValue Refusal
+chain_put c born fact = put_by (joined fact) c born
+
+-- the chain without a part of the version that was born then
+abbrev pub chain_forget : ChainValue → ℕ → Part → ChainValue
+chain_forget c born part = alter (without part) c born
+
+-- the chain without the versions that end at most at h
+abbrev pub chain_until : ChainValue → ℕ → ChainValue
+chain_until c h = finmap.retain_keys c (λ born. not (at_most h (died_of (finmap.get c born))))
+
+-- the last of a list that passes a test
+abbrev pub last_where : {A : Type 0} → (A → Bool) → List A → Option A
+last_where p [] = None
+last_where p (x ∷ xs) = or_else (last_where p xs) (if p x then Some x else None)
+
+-- the row of a version that was born by t, unless it ended by then
+abbrev pub shown : ℕ → Option (ℕ × VersionValue) → Option RowValue
+shown t None = None
+shown t (Some e) = if at_most t e.1.died then None else e.1.row
+
+-- the row at t: of the versions that have a row and were born at most at t, the row of the one born
+-- last, unless that one ended at most at t
+abbrev pub row_at : ChainValue → ℕ → Option RowValue
+row_at c t = shown t (last_where (λ e. nat_le e.0 t && is_some e.1.row) (finmap.entries c))

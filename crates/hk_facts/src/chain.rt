@@ -1,0 +1,202 @@
+//! Chains.
+
+ghost use Rattle.std.specs.Prelude.{◌≡◌, ◌⊎◌, ◌↔◌, IsTrue, OnOk, OnErr, IfErr, IfOk, Ok, Err, Some, None};
+ghost use Rattle.std.specs.Option.{option_copied};
+ghost use Rattle.std.specs.Ordering.{nat_cmp};
+ghost use Rattle.std.specs.BTreeMap.{Updates};
+ghost use Rattle.std.specs.FinMap as finmap;
+ghost use Rattle.hk_types.specs.declared.faults.Refusal.TheVariants.{Memory};
+ghost use Rattle.hk_facts.specs.declared.fact.Fact.TheVariants.{Row as RowFact, End as EndFact};
+ghost use Rattle.hk_model.specs.Content.{at_most};
+ghost use Rattle.hk_facts.specs.Chains.{chain_put, chain_forget, chain_until, row_at};
+
+use crate::fact::{Fact, Part, join, take_back, version_of};
+use hk_log::Version;
+use hk_types::{Refusal, Row, Time};
+use std::alloc::{AllocError, Global};
+use std::collections::BTreeMap;
+use std::collections::btree_map::Iter;
+use std::marker::Model;
+
+/// What is known of the versions of one key, by the time at which each was born.
+#[derive(Drop)]
+pub struct Chain {
+    versions: BTreeMap<Time, Version>,
+}
+
+impl Model for Chain {
+    ghost use Rattle.std.specs.Ordering.{nat_cmp};
+    ghost use Rattle.std.specs.Coded.{coded_ℕ};
+    ghost use Rattle.std.specs.FinMap as finmap;
+    ghost use Rattle.hk_log.specs.Versions.{version_code};
+    ghost use Rattle.hk_facts.specs.Chains.{ChainValue};
+
+    ghost Value = { ChainValue };
+
+    ghost coded = { finmap.code coded_ℕ version_code };
+
+    ghost view = { λ a. finmap.from_entries a.versions.entries };
+}
+
+impl Chain {
+    /// A chain with no version. It takes no memory.
+    pub fn new(alloc: Global) -> Chain
+        ensures { result ≡ finmap.empty }
+    {
+        Chain {
+            versions: BTreeMap::new(alloc),
+        }
+    }
+
+    /// A chain of one version, of which one fact is known. The only error is want of memory.
+    pub fn of_fact(alloc: Global, born: Time, fact: Fact) -> Result<Chain, AllocError>
+        ensures { IfOk result (λ chain. chain_put finmap.empty born fact ≡ Ok chain) }
+    {
+        let mut versions = BTreeMap::new(alloc);
+        insert(&mut versions, born, version_of(fact))?;
+        Ok(Chain { versions })
+    }
+
+    /// Adds a fact on the version that was born then. One that is known already changes nothing, and one
+    /// that differs from what is known is a contradiction. Want of memory comes only where nothing is
+    /// known of the version. A refusal changes nothing. The cost grows as the logarithm of the length.
+    pub fn put(&mut self, born: Time, fact: Fact) -> Result<(), Refusal>
+        ensures ok { OnOk result (chain_put self.old born fact ≡ Ok self.new) }
+        ensures err { IfErr result (λ why. (chain_put self.old born fact ≡ Err why) ⊎ ((why ≡ Memory) × (finmap.get self.old born ≡ None))) }
+        ensures kept { OnErr result (self.new ≡ self.old) }
+    {
+        if let Some(version) = self.versions.get_mut(&born) {
+            return join(version, fact);
+        }
+        insert(&mut self.versions, born, version_of(fact))?;
+        Ok(())
+    }
+
+    /// Adds a row, as `put` does.
+    pub fn put_row(&mut self, born: Time, row: Row) -> Result<(), Refusal>
+        ensures ok { OnOk result (chain_put self.old born (RowFact row) ≡ Ok self.new) }
+        ensures err { IfErr result (λ why. (chain_put self.old born (RowFact row) ≡ Err why) ⊎ ((why ≡ Memory) × (finmap.get self.old born ≡ None))) }
+        ensures kept { OnErr result (self.new ≡ self.old) }
+    {
+        self.put(born, Fact::Row(row))
+    }
+
+    /// Adds an end, as `put` does.
+    pub fn put_end(&mut self, born: Time, died: Time) -> Result<(), Refusal>
+        ensures ok { OnOk result (chain_put self.old born (EndFact died) ≡ Ok self.new) }
+        ensures err { IfErr result (λ why. (chain_put self.old born (EndFact died) ≡ Err why) ⊎ ((why ≡ Memory) × (finmap.get self.old born ≡ None))) }
+        ensures kept { OnErr result (self.new ≡ self.old) }
+    {
+        self.put(born, Fact::End(died))
+    }
+
+    /// Takes a part of a version back. A version of which nothing else is known goes. The cost grows as
+    /// the logarithm of the length.
+    pub fn forget(&mut self, born: Time, part: Part)
+        ensures { self.new ≡ chain_forget self.old born part }
+    {
+        let Some(version) = self.versions.get_mut(&born) else {
+            return;
+        };
+        if take_back(version, part) {
+            return;
+        }
+        self.versions.remove(&born);
+    }
+
+    /// Drops what is known of a version. The cost grows as the logarithm of the length.
+    pub fn remove(&mut self, born: Time)
+        ensures { self.new ≡ finmap.remove self.old born }
+    {
+        self.forget(born, Part::Whole);
+    }
+
+    /// Drops each version whose end is known and at most `until`, and nothing else. The cost grows with
+    /// the length.
+    pub fn drop_until(&mut self, until: Time)
+        ensures { self.new ≡ chain_until self.old until }
+    {
+        self.versions
+            .retain(|_born, version| !ended_by(version, until));
+    }
+
+    /// The row at a time: of the versions that have a row and were born at that time or before, the row of
+    /// the one born last, unless its end is known and at most that time. It takes no memory. The cost
+    /// grows as the logarithm of the length, and with the number of versions without a row that are
+    /// stepped over.
+    pub fn at(&self, time: Time) -> Option<&Row>
+        ensures { option_copied result ≡ row_at self.now time }
+    {
+        let mut earlier = self.versions.range(..=time);
+        while let Some((_born, version)) = earlier.next_back() {
+            if let Some(row) = version.row() {
+                if ended_by(version, time) {
+                    return None;
+                }
+                return Some(row);
+            }
+        }
+        None
+    }
+
+    /// What is known of the version that was born then. The cost grows as the logarithm of the length.
+    pub fn version(&self, born: Time) -> Option<&Version>
+        ensures { option_copied result ≡ finmap.get self.now born }
+    {
+        self.versions.get(&born)
+    }
+
+    /// The number of versions.
+    pub fn len(&self) -> usize
+        ensures { result ≡ finmap.len self.now }
+    {
+        self.versions.len()
+    }
+
+    pub fn is_empty(&self) -> bool
+        ensures { IsTrue result ↔ (self.now ≡ finmap.empty) }
+    {
+        self.versions.is_empty()
+    }
+
+    /// The versions, by rising time of birth.
+    pub fn iter(&self) -> Iter<'_, Time, Version>
+        ensures { result ≡ finmap.entries self.now }
+    {
+        self.versions.iter()
+    }
+
+    /// The same chain again. The only error is want of memory. The cost grows a little faster than the
+    /// length.
+    pub fn copy(&self, alloc: Global) -> Result<Chain, AllocError>
+        ensures { IfOk result (λ chain. chain ≡ self.now) }
+    {
+        let mut versions = BTreeMap::new(alloc);
+        for (born, version) in &self.versions {
+            insert(&mut versions, *born, version.copy(alloc)?)?;
+        }
+        Ok(Chain { versions })
+    }
+}
+
+fn insert(
+    versions: &mut BTreeMap<Time, Version>,
+    born: Time,
+    version: Version,
+) -> Result<(), AllocError>
+    ensures ok { OnOk result (Updates nat_cmp versions.old versions.new born (Some version)) }
+    ensures err { OnErr result (versions.new.entries ≡ versions.old.entries) }
+{
+    versions.insert(born, version)?;
+    Ok(())
+}
+
+/// Whether the end of a version is known, and at most this time.
+fn ended_by(version: &Version, time: Time) -> bool
+    ensures { result ≡ at_most time version.now.died }
+{
+    match version.died() {
+        None => false,
+        Some(died) => died <= time,
+    }
+}

@@ -1,0 +1,101 @@
+//! What is known of a version, one fact at a time.
+
+ghost use Rattle.std.specs.Prelude.{◌≡◌, Some, None, Ok, Err, OnOk, OnErr, IfErr};
+ghost use Rattle.std.specs.Bool.{OnTrue, OnFalse};
+ghost use Rattle.hk_facts.specs.declared.fact.Fact.TheVariants.{Row as KnownRow, End as KnownEnd};
+ghost use Rattle.hk_facts.specs.Facts.{joined, without};
+
+use hk_log::Version;
+use hk_types::{Refusal, Row, Time};
+
+/// One fact on a version: its row, or the time at which it ended.
+#[derive(Debug, Drop)]
+pub enum Fact {
+    Row(Row),
+    End(Time),
+}
+
+/// What is taken back of a version: its row, its end, or all that is known of it.
+#[derive(Clone, Copy, Debug, PartialEq, Eq)]
+pub enum Part {
+    Row,
+    End,
+    Whole,
+}
+
+/// The version of which this fact alone is known.
+pub(crate) fn version_of(fact: Fact) -> Version
+    ensures { joined fact None ≡ Ok result }
+{
+    match fact {
+        Fact::Row(row) => Version::of_row(row),
+        Fact::End(died) => Version::of_end(died),
+    }
+}
+
+/// Adds a fact to a version, unless the version has another row or another end there.
+pub(crate) fn join(version: &mut Version, fact: Fact) -> Result<(), Refusal>
+    ensures ok { OnOk result (joined fact (Some version.old) ≡ Ok version.new) }
+    ensures err { IfErr result (λ why. joined fact (Some version.old) ≡ Err why) }
+    ensures kept { OnErr result (version.new ≡ version.old) }
+{
+    match fact {
+        Fact::Row(row) => join_row(version, row),
+        Fact::End(died) => join_end(version, died),
+    }
+}
+
+fn join_row(version: &mut Version, row: Row) -> Result<(), Refusal>
+    ensures ok { OnOk result (joined (KnownRow row) (Some version.old) ≡ Ok version.new) }
+    ensures err { IfErr result (λ why. joined (KnownRow row) (Some version.old) ≡ Err why) }
+    ensures kept { OnErr result (version.new ≡ version.old) }
+{
+    if let Some(there) = version.row() {
+        if *there != row {
+            return Err(Refusal::Conflict);
+        }
+        return Ok(());
+    }
+    version.set_row(row);
+    Ok(())
+}
+
+fn join_end(version: &mut Version, died: Time) -> Result<(), Refusal>
+    ensures ok { OnOk result (joined (KnownEnd died) (Some version.old) ≡ Ok version.new) }
+    ensures err { IfErr result (λ why. joined (KnownEnd died) (Some version.old) ≡ Err why) }
+    ensures kept { OnErr result (version.new ≡ version.old) }
+{
+    if let Some(there) = version.died() {
+        if there != died {
+            return Err(Refusal::Conflict);
+        }
+        return Ok(());
+    }
+    version.set_died(died);
+    Ok(())
+}
+
+/// Takes a part of a version back, and says whether anything is left. Where nothing would be left,
+/// the version stays as it was.
+pub(crate) fn take_back(version: &mut Version, part: Part) -> bool
+    ensures left { OnTrue result (without part (Some version.old) ≡ Some version.new) }
+    ensures gone { OnFalse result (without part (Some version.old) ≡ None) }
+{
+    match part {
+        Part::Row => {
+            if version.died().is_none() {
+                return false;
+            }
+            version.forget_row();
+            true
+        }
+        Part::End => {
+            if version.row().is_none() {
+                return false;
+            }
+            version.forget_died();
+            true
+        }
+        Part::Whole => false,
+    }
+}

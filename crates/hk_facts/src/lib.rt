@@ -1,0 +1,13 @@
+//! The versions of the rows of a table: for each key a chain of them, by the time at which they were born.
+#![tactic(auto)]
+
+mod chain;
+mod fact;
+mod keyed;
+
+pub use chain::Chain;
+pub use fact::{Fact, Part};
+pub use keyed::Keyed;
+
+#[cfg(test)]
+mod tests;
