@@ -4,10 +4,9 @@ use Rattle.std.proofs.lemmas.Bool.Decides.{nat_tests}
 use Rattle.std.specs.Option.{is_some}
 use Rattle.std.specs.Ordering.{is_lt}
 use Rattle.hk_model.specs.Maps.{or_else}
-use Rattle.hk_model.specs.Content.{at_most}
 use Rattle.hk_types.specs.Values.{RowValue}
 use Rattle.hk_log.specs.Versions.{VersionValue}
-use Rattle.hk_facts.specs.Chains.{last_where, shown}
+use Rattle.hk_facts.specs.Chains.{last_where}
 
 module _ {A : Type 0} where
   pub last_where-push : (q : A → Bool) (xs : List A) (x : A) → last_where q (xs ++ x ∷ []) ≡ cond (q x) (Some x) (last_where q xs)
@@ -56,8 +55,5 @@ pub step_back : (s r : List (ℕ × VersionValue)) (e : ℕ × VersionValue) →
 step_back s r e is none = ap (last_where has_row) is ∙ last_where-push has_row r e ∙ ap (λ o. cond (is_some o) (Some e) (last_where has_row r)) (sym none)
 
 -- or onto one with a row
-pub step_onto : (t : ℕ) (s r : List (ℕ × VersionValue)) (e : ℕ × VersionValue) (row : RowValue) → s ≡ r ++ e ∷ [] → Some row ≡ e.1.row → shown t (last_where has_row s) ≡ cond (at_most t e.1.died) None (Some row)
-step_onto t s r e row is has =
-    ap (λ xs. shown t (last_where has_row xs)) is
-    ∙ ap (shown t) (last_where-push has_row r e ∙ ap (λ o. cond (is_some o) (Some e) (last_where has_row r)) (sym has))
-    ∙ ap (cond (at_most t e.1.died) None) (sym has)
+pub step_onto : (s r : List (ℕ × VersionValue)) (e : ℕ × VersionValue) (row : RowValue) → s ≡ r ++ e ∷ [] → Some row ≡ e.1.row → last_where has_row s ≡ Some e
+step_onto s r e row is has = ap (last_where has_row) is ∙ last_where-push has_row r e ∙ ap (λ o. cond (is_some o) (Some e) (last_where has_row r)) (sym has)

@@ -5,3 +5,4 @@ pub mod Parts
 pub mod Copies
 pub mod Filled
 pub mod Newest
+pub mod Showing

@@ -51,12 +51,15 @@ abbrev pub last_where : {A : Type 0} → (A → Bool) → List A → Option A
 last_where p [] = None
 last_where p (x ∷ xs) = or_else (last_where p xs) (if p x then Some x else None)
 
--- the row of a version that was born by t, unless it ended by then
+-- of the versions that have a row and were born at most at t, the one born last
+abbrev pub latest_at : ChainValue → ℕ → Option (ℕ × VersionValue)
+latest_at c t = last_where (λ e. nat_le e.0 t && is_some e.1.row) (finmap.entries c)
+
+-- the row of a version, unless it ended by t
 abbrev pub shown : ℕ → Option (ℕ × VersionValue) → Option RowValue
 shown t None = None
 shown t (Some e) = if at_most t e.1.died then None else e.1.row
 
--- the row at t: of the versions that have a row and were born at most at t, the row of the one born
--- last, unless that one ended at most at t
+-- the row at t: that of the latest version with a row, unless that one ended at most at t
 abbrev pub row_at : ChainValue → ℕ → Option RowValue
-row_at c t = shown t (last_where (λ e. nat_le e.0 t && is_some e.1.row) (finmap.entries c))
+row_at c t = shown t (latest_at c t)

@@ -1,14 +1,14 @@
 //! Chains.
 
 ghost use Rattle.std.specs.Prelude.{◌≡◌, ◌⊎◌, ◌↔◌, IsTrue, OnOk, OnErr, IfErr, IfOk, Ok, Err, Some, None};
-ghost use Rattle.std.specs.Option.{option_copied};
+ghost use Rattle.std.specs.Option.{option_copied, option_map};
 ghost use Rattle.std.specs.Ordering.{nat_cmp};
 ghost use Rattle.std.specs.BTreeMap.{Updates};
 ghost use Rattle.std.specs.FinMap as finmap;
 ghost use Rattle.hk_types.specs.declared.faults.Refusal.TheVariants.{Memory};
 ghost use Rattle.hk_facts.specs.declared.fact.Fact.TheVariants.{Row as RowFact, End as EndFact};
 ghost use Rattle.hk_model.specs.Content.{at_most};
-ghost use Rattle.hk_facts.specs.Chains.{chain_put, chain_forget, chain_until, row_at};
+ghost use Rattle.hk_facts.specs.Chains.{chain_put, chain_forget, chain_until, latest_at, row_at};
 
 use crate::fact::{Fact, Part, join, take_back, version_of};
 use hk_log::Version;
@@ -120,23 +120,30 @@ impl Chain {
             .retain(|_born, version| !ended_by(version, until));
     }
 
-    /// The row at a time: of the versions that have a row and were born at that time or before, the row of
-    /// the one born last, unless its end is known and at most that time. It takes no memory. The cost
-    /// grows as the logarithm of the length, and with the number of versions without a row that are
-    /// stepped over.
-    pub fn at(&self, time: Time) -> Option<&Row>
-        ensures { option_copied result ≡ row_at self.now time }
+    /// Of the versions that have a row and were born at a time or before, the one born last, with the time
+    /// of its birth. It takes no memory. The cost grows as the logarithm of the length, and with the
+    /// number of versions without a row that are stepped over.
+    pub fn latest(&self, time: Time) -> Option<(Time, &Version)>
+        ensures { option_map (λ p. (p.0, p.1.now)) result ≡ latest_at self.now time }
     {
         let mut earlier = self.versions.range(..=time);
-        while let Some((_born, version)) = earlier.next_back() {
-            if let Some(row) = version.row() {
-                if ended_by(version, time) {
-                    return None;
-                }
-                return Some(row);
+        while let Some((born, version)) = earlier.next_back() {
+            if let Some(_row) = version.row() {
+                return Some((*born, version));
             }
         }
         None
+    }
+
+    /// The row at a time: that of the latest version with a row, unless its end is known and at most that
+    /// time. It takes no memory. It costs what `latest` does.
+    pub fn at(&self, time: Time) -> Option<&Row>
+        ensures { option_copied result ≡ row_at self.now time }
+    {
+        match self.latest(time) {
+            Some((_born, version)) if !ended_by(version, time) => version.row(),
+            _ => None,
+        }
     }
 
     /// What is known of the version that was born then. The cost grows as the logarithm of the length.

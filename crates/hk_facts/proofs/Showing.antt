@@ -1,0 +1,97 @@
+-- What a content shows of a row, told by the chain of the row.
+use Rattle.std.proofs.Common.{◌≡◌, refl, sym, ap, ◌∙◌, subst, ℕ, ◌≤◌, true, false, ◌&&◌, ◌==◌, Option, Some, None, inl, inr, leb, nat_le, nat_lt, le-leb, leb-true, ltb-true, eqb-true, true≢false, arith}
+use Rattle.std.proofs.lemmas.Bool.{and_parts, cases_lt}
+use Rattle.std.specs.Option.{is_some}
+use Rattle.std.specs.List.{list_any}
+use Rattle.std.specs.FinMap as finmap
+use Rattle.hk_types.specs.Values.{RowValue}
+use Rattle.hk_types.specs.declared.version_key.VersionKey.{VersionKey}
+use Rattle.hk_log.specs.Versions.{VersionValue}
+use Rattle.hk_model.specs.Rows.{RowKey, version_key_cmp, version_of}
+use Rattle.hk_model.specs.Content.{Content, at_most, ended_by}
+use Rattle.hk_model.specs.Answers.{replaces, shows}
+use Rattle.hk_model.proofs.Maps.{version_key_total}
+use Rattle.hk_model.proofs.Members.{In-map}
+use Rattle.hk_model.proofs.Visible.{get_entry, any_where, not_from}
+use Rattle.hk_model.proofs.Shown.{Shows, shows_parts, shows_from, any_In, get-key, replaces_from}
+use Rattle.hk_facts.specs.Facts.{row_of, died_of}
+use Rattle.hk_facts.specs.Chains.{ChainValue, latest_at}
+use Rattle.hk_facts.proofs.Newest.{newest, no_newest}
+
+-- a chain has what the content has of the row
+pub record IsChainOf (c : Content) (k : RowKey) (chain : ChainValue) : Type 0 where
+  pub rows : (born : ℕ) → row_of (finmap.get chain born) ≡ finmap.get c.rows (version_of k born)
+  pub ends : (born : ℕ) → died_of (finmap.get chain born) ≡ finmap.get c.ends (version_of k born)
+
+-- a version with a row stands in the chain
+record Stands (chain : ChainValue) (born : ℕ) (r : RowValue) : Type 0 where
+  version : VersionValue
+  here : finmap.get chain born ≡ Some version
+  row : version.row ≡ Some r
+
+stands : (chain : ChainValue) (born : ℕ) (r : RowValue) → row_of (finmap.get chain born) ≡ Some r → Stands chain born r
+stands chain born r e = by (finmap.get chain born) refl e
+  where
+    by : (x : Option VersionValue) → finmap.get chain born ≡ x → row_of x ≡ Some r → Stands chain born r
+    by None h f = absurd cc
+    by (Some v) h f = record { version = v; here = h; row = f }
+
+there : (x : Option RowValue) (r : RowValue) → x ≡ Some r → is_some x ≡ true
+there x r e = ap is_some e
+
+there_row : (x : Option RowValue) → is_some x ≡ true → (r : RowValue) × (x ≡ Some r)
+there_row None e = absurd (true≢false (sym e))
+there_row (Some r) e = (r, refl)
+
+-- no version with a row that is born by t is later than the one that shows
+at_most_born : (c : Content) (k : RowKey) (t born later : ℕ) (r : RowValue) → Shows c t (version_of k born) → finmap.get c.rows (version_of k later) ≡ Some r → later ≤ t → later ≤ born
+at_most_born c k t born later r p here within =
+    elim (cases_lt born later) [
+      | inl lt ↦ absurd (true≢false (sym (any_In (replaces t (version_of k born)) (version_of k later) (finmap.keys c.rows) (get-key c.rows (version_of k later) r here) (replaces_from t (version_of k born) (version_of k later) refl lt within)) ∙ p.latest))
+      | inr le ↦ le
+    ]
+
+module _ (c : Content) (k : RowKey) (chain : ChainValue) (is : IsChainOf c k chain) (t : ℕ) where
+  -- the latest version that has no end by t shows
+  pub latest_shows : (e : ℕ × VersionValue) → latest_at chain t ≡ Some e → at_most t e.1.died ≡ false → (r : RowValue) × (e.1.row ≡ Some r) × (finmap.get c.rows (version_of k e.0) ≡ Some r) × (shows c t (version_of k e.0) ≡ true)
+  latest_shows e latest open_at_t =
+      let n = newest chain t e latest in
+      let row = there_row e.1.row n.2 in
+      let here : finmap.get c.rows (version_of k e.0) ≡ Some row.0 = sym (is.rows e.0) ∙ ap row_of n.0 ∙ row.1 in
+      let unended : ended_by c.ends t (version_of k e.0) ≡ false = ap (at_most t) (sym (is.ends e.0) ∙ ap died_of n.0) ∙ open_at_t in
+      let alone : list_any (replaces t (version_of k e.0)) (finmap.keys c.rows) ≡ false = not_from _ (λ y.
+      let w = any_where (replaces t (version_of k e.0)) (finmap.keys c.rows) y in
+      let x = In-map (λ (z : VersionKey × RowValue). z.0) w.0 (finmap.entries c.rows) w.1 in
+      let got = get_entry version_key_cmp version_key_total c.rows x.0.0 x.0.1 x.1 in
+      let q = subst (λ (v : VersionKey). replaces t (version_of k e.0) v ≡ true) x.2 w.2 in
+      let a = and_parts (((k.table == x.0.0.table) && (k.key == x.0.0.key)) && nat_lt e.0 x.0.0.born) (nat_le x.0.0.born t) q in
+      let b = and_parts ((k.table == x.0.0.table) && (k.key == x.0.0.key)) (nat_lt e.0 x.0.0.born) a.0 in
+      let d = and_parts (k.table == x.0.0.table) (k.key == x.0.0.key) b.0 in
+      let same : version_of k x.0.0.born ≡ x.0.0 = λ i. record { table = eqb-true k.table x.0.0.table d.0 i; key = eqb-true k.key x.0.0.key d.1 i; born = x.0.0.born } in
+      let later = ltb-true e.0 x.0.0.born b.1 in
+      let s = stands chain x.0.0.born x.0.1 (is.rows x.0.0.born ∙ ap (finmap.get c.rows) same ∙ got) in
+      let bound = n.3 x.0.0.born s.version s.here a.1 (there s.version.row x.0.1 s.row) in
+      omega arith) in
+      (row.0, row.1, here, shows_from c t (version_of k e.0) (record { born = leb-true e.0 t n.1; latest = alone; unended = unended }))
+
+  -- the version that shows is the latest, and has no end by t
+  pub shows_latest : (born : ℕ) (r : RowValue) → finmap.get c.rows (version_of k born) ≡ Some r → shows c t (version_of k born) ≡ true → (v : VersionValue) × (latest_at chain t ≡ Some (born, v)) × (v.row ≡ Some r) × (at_most t v.died ≡ false)
+  shows_latest born r here shown =
+      let p = shows_parts c t (version_of k born) shown in
+      let s = stands chain born r (is.rows born ∙ here) in
+      let by_t : leb born t ≡ true = le-leb born t p.born in
+      by s p by_t (latest_at chain t) refl
+    where
+      by : Stands chain born r → Shows c t (version_of k born) → leb born t ≡ true → (o : Option (ℕ × VersionValue)) → latest_at chain t ≡ o → (v : VersionValue) × (latest_at chain t ≡ Some (born, v)) × (v.row ≡ Some r) × (at_most t v.died ≡ false)
+      by s p by_t None e = absurd (no_newest chain t e born s.version s.here by_t (there s.version.row r s.row))
+      by s p by_t (Some e) latest =
+          let n = newest chain t e latest in
+          let up = n.3 born s.version s.here by_t (there s.version.row r s.row) in
+          let row = there_row e.1.row n.2 in
+          let stored : finmap.get c.rows (version_of k e.0) ≡ Some row.0 = sym (is.rows e.0) ∙ ap row_of n.0 ∙ row.1 in
+          let down : e.0 ≤ born = at_most_born c k t born e.0 row.0 p stored (leb-true e.0 t n.1) in
+          let same : e.0 ≡ born = omega arith in
+          let version : Some e.1 ≡ Some s.version = sym n.0 ∙ ap (finmap.get chain) same ∙ s.here in
+          let one : e.1 ≡ s.version = cc in
+          let open_at_t : at_most t s.version.died ≡ false = ap (at_most t) (sym (ap died_of s.here) ∙ is.ends born) ∙ p.unended in
+          (s.version, latest ∙ (λ i. Some (same i, one i)), s.row, open_at_t)
