@@ -1,5 +1,5 @@
 -- What a content shows of a row, told by the chain of the row.
-use Rattle.std.proofs.Common.{◌≡◌, refl, sym, ap, ◌∙◌, subst, ℕ, ◌≤◌, true, false, ◌&&◌, ◌==◌, Option, Some, None, inl, inr, leb, nat_le, nat_lt, le-leb, leb-true, ltb-true, eqb-true, true≢false, arith}
+use Rattle.std.proofs.Common.{◌≡◌, refl, sym, ap, ◌∙◌, subst, ℕ, ◌≤◌, Bool, true, false, ◌&&◌, ◌==◌, Option, Some, None, inl, inr, leb, nat_le, nat_lt, le-leb, leb-true, ltb-true, eqb-true, true≢false, arith}
 use Rattle.std.proofs.lemmas.Bool.{and_parts, cases_lt}
 use Rattle.std.specs.Option.{is_some}
 use Rattle.std.specs.List.{list_any}
@@ -9,13 +9,13 @@ use Rattle.hk_types.specs.declared.version_key.VersionKey.{VersionKey}
 use Rattle.hk_log.specs.Versions.{VersionValue}
 use Rattle.hk_model.specs.Rows.{RowKey, version_key_cmp, version_of}
 use Rattle.hk_model.specs.Content.{Content, at_most, ended_by}
-use Rattle.hk_model.specs.Answers.{replaces, shows}
+use Rattle.hk_model.specs.Answers.{replaces, shows, visible}
 use Rattle.hk_model.proofs.Maps.{version_key_total}
 use Rattle.hk_model.proofs.Members.{In-map}
 use Rattle.hk_model.proofs.Visible.{get_entry, any_where, not_from}
-use Rattle.hk_model.proofs.Shown.{Shows, shows_parts, shows_from, any_In, get-key, replaces_from}
+use Rattle.hk_model.proofs.Shown.{Shows, shows_parts, shows_from, any_In, get-key, replaces_from, visible_row, none_visible}
 use Rattle.hk_facts.specs.Facts.{row_of, died_of}
-use Rattle.hk_facts.specs.Chains.{ChainValue, latest_at}
+use Rattle.hk_facts.specs.Chains.{ChainValue, latest_at, row_at, shown}
 use Rattle.hk_facts.proofs.Newest.{newest, no_newest}
 
 -- a chain has what the content has of the row
@@ -42,6 +42,12 @@ there x r e = ap is_some e
 there_row : (x : Option RowValue) → is_some x ≡ true → (r : RowValue) × (x ≡ Some r)
 there_row None e = absurd (true≢false (sym e))
 there_row (Some r) e = (r, refl)
+
+pair_is : (x y : ℕ × VersionValue) → Some x ≡ Some y → x ≡ y
+pair_is x y e = cc
+
+none_is : (x : ℕ × VersionValue) → None ≡ Some x → ⊥
+none_is x e = cc
 
 -- no version with a row that is born by t is later than the one that shows
 at_most_born : (c : Content) (k : RowKey) (t born later : ℕ) (r : RowValue) → Shows c t (version_of k born) → finmap.get c.rows (version_of k later) ≡ Some r → later ≤ t → later ≤ born
@@ -95,3 +101,21 @@ module _ (c : Content) (k : RowKey) (chain : ChainValue) (is : IsChainOf c k cha
           let one : e.1 ≡ s.version = cc in
           let open_at_t : at_most t s.version.died ≡ false = ap (at_most t) (sym (ap died_of s.here) ∙ is.ends born) ∙ p.unended in
           (s.version, latest ∙ (λ i. Some (same i, one i)), s.row, open_at_t)
+
+  -- the row of the chain at t is the visible one
+  pub chain_visible : finmap.get (visible c t) k ≡ row_at chain t
+  chain_visible = by (latest_at chain t) refl
+    where
+      found : (e : ℕ × VersionValue) → latest_at chain t ≡ Some e → (b : Bool) → at_most t e.1.died ≡ b → finmap.get (visible c t) k ≡ cond b None e.1.row
+      found e latest true ended = none_visible c t k (λ born r here. not_from _ (λ y.
+          let s = shows_latest born r here y in
+          let same : Some e ≡ Some (born, s.0) = sym latest ∙ s.1 in
+          let one = pair_is e (born, s.0) same in
+          true≢false (sym ended ∙ ap (λ (z : ℕ × VersionValue). at_most t z.1.died) one ∙ s.3)))
+      found e latest false open_at_t = let s = latest_shows e latest open_at_t in visible_row c t (version_of k e.0) s.0 s.2 s.3 ∙ sym s.1
+      by : (o : Option (ℕ × VersionValue)) → latest_at chain t ≡ o → finmap.get (visible c t) k ≡ shown t o
+      by None none = none_visible c t k (λ born r here. not_from _ (λ y.
+          let s = shows_latest born r here y in
+          let same : None ≡ Some (born, s.0) = sym none ∙ s.1 in
+          absurd (none_is (born, s.0) same)))
+      by (Some e) latest = found e latest (at_most t e.1.died) refl
