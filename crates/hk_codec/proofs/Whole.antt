@@ -156,13 +156,11 @@ entry_takes log stream bytes x log_fits least most fits e =
     let m = moment_takes bytes a.0 fits a.1 in
     let es = ends_take a.0.0.1 a.0.1 b.0 m.takes.rest_fits b.1 in
     let re = rows_take (length b.0.0) b.0.1 c.0 es.takes.rest_fits c.1 in
-    let ends_text = number w16 (length b.0.0) ++ flat_map end_text b.0.0 in
-    let rows_text = number w16 (length c.0.0) ++ flat_map row_text c.0.0 in
     let e12 = Takes-then a.0.1 (number w16 (length b.0.0) ++ flat_map end_text b.0.0) b.0.1 (number w16 (length c.0.0) ++ flat_map row_text c.0.0) c.0.1 es.takes re.takes in
     let e02 = Takes-then bytes (number w64 a.0.0.0 ++ number w64 a.0.0.1) a.0.1 ((number w16 (length b.0.0) ++ flat_map end_text b.0.0) ++ (number w16 (length c.0.0) ++ flat_map row_text c.0.0)) c.0.1 m.takes e12 in
     let regrouped : (number w64 a.0.0.0 ++ number w64 a.0.0.1) ++ ((number w16 (length b.0.0) ++ flat_map end_text b.0.0) ++ (number w16 (length c.0.0) ++ flat_map row_text c.0.0))
     ≡ number w64 a.0.0.0 ++ (number w64 a.0.0.1 ++ (number w16 (length b.0.0) ++ (flat_map end_text b.0.0 ++ (number w16 (length c.0.0) ++ flat_map row_text c.0.0)))) = simp append_assoc in
-    let whole = subst (λ (t : List ℕ). Takes bytes t c.0.1) regrouped e02 in
+    let whole = subst (λ (t : List ℕ). Takes bytes t c.0.1) {x = (number w64 a.0.0.0 ++ number w64 a.0.0.1) ++ ((number w16 (length b.0.0) ++ flat_map end_text b.0.0) ++ (number w16 (length c.0.0) ++ flat_map row_text c.0.0))} {y = number w64 a.0.0.0 ++ (number w64 a.0.0.1 ++ (number w16 (length b.0.0) ++ (flat_map end_text b.0.0 ++ (number w16 (length c.0.0) ++ flat_map row_text c.0.0))))} regrouped e02 in
     let lawful = is_entry log stream a.0.0.0 a.0.0.1 b.0.0 c.0.0 bytes a.0.1 b.0.1 c.0.1 log_fits least most m es re in
     subst (λ (y : EntryValue × List ℕ). Takes bytes (number w64 y.0.number ++ (number w64 y.0.time ++ (number w16 (length y.0.ends) ++ (flat_map end_text y.0.ends ++ (number w16 (length y.0.rows) ++ flat_map row_text y.0.rows))))) y.1 × IsItem (Commit y.0) × (y.0.log ≡ log) × (y.0.stream ≡ stream)) {x = (made a.0 b.0 c.0)} (ok_is (made a.0 b.0 c.0) x c.2)
     (whole, (lawful, all_fit a.0.0.1 b.0.0 es.each, re.each), refl, refl)

@@ -15,7 +15,9 @@ use Rattle.hk_codec.specs.Reading.{item_at}
 abbrev pub spelling : Item → List ℕ
 spelling = spelled rest_text
 
--- the item at the front and how many bytes its frame has, or none where a whole frame isn't there yet
+-- The item at the front and how many bytes its frame has, or none where a whole frame isn't there yet. The
+-- shortest rest is a mark's, with 28 bytes, and the longest is that of an entry with 1,024 ends and 1,024
+-- rows of full bodies, with 4,229,152.
 abbrev pub frame_at : List ℕ → Result (Option (Item × ℕ)) FormFault
 frame_at bytes = framed 28 4229152 item_at bytes
 
