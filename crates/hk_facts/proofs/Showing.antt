@@ -1,5 +1,5 @@
 -- What a content shows of a row, told by the chain of the row.
-use Rattle.std.proofs.Common.{◌≡◌, refl, sym, ap, ◌∙◌, subst, ℕ, ◌≤◌, Bool, true, false, ◌&&◌, ◌==◌, Option, Some, None, inl, inr, leb, nat_le, nat_lt, le-leb, leb-true, ltb-true, eqb-true, true≢false, arith}
+use Rattle.std.proofs.Common.{◌≡◌, cond, refl, sym, ap, ◌∙◌, subst, ℕ, ◌≤◌, Bool, true, false, ◌&&◌, ◌==◌, Option, Some, None, inl, inr, leb, nat_le, nat_lt, le-leb, leb-true, ltb-true, eqb-true, true≢false, arith}
 use Rattle.std.proofs.lemmas.Bool.{and_parts, cases_lt}
 use Rattle.std.specs.Option.{is_some}
 use Rattle.std.specs.List.{list_any}
@@ -113,6 +113,7 @@ module _ (c : Content) (k : RowKey) (chain : ChainValue) (is : IsChainOf c k cha
           let one = pair_is e (born, s.0) same in
           true≢false (sym ended ∙ ap (λ (z : ℕ × VersionValue). at_most t z.1.died) one ∙ s.3)))
       found e latest false open_at_t = let s = latest_shows e latest open_at_t in visible_row c t (version_of k e.0) s.0 s.2 s.3 ∙ sym s.1
+
       by : (o : Option (ℕ × VersionValue)) → latest_at chain t ≡ o → finmap.get (visible c t) k ≡ shown t o
       by None none = none_visible c t k (λ born r here. not_from _ (λ y.
           let s = shows_latest born r here y in
