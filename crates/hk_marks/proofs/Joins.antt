@@ -12,7 +12,7 @@ use Rattle.std.specs.BTreeSet.{BTreeSet}
 use Rattle.std.specs.BTreeSet as sorted
 use Rattle.std.specs.FinMap as finmap
 use Rattle.std.specs.FinSet as set
-use Rattle.hk_model.proofs.Streams.{later, told, latest, latest-append, latest-entries, tied_counts, or_zero, or_zero-later, greatest_bound, greatest_above}
+use Rattle.hk_model.proofs.Streams.{later, told, latest, latest-append, latest-entries, tied_counts}
 use Rattle.hk_model.specs.Streams.{StreamContent, covers, greatest_covered, settled, together, all_together, unknown}
 use Rattle.hk_model.proofs.Lawful.{settled_lawful}
 use Rattle.hk_model.specs.Lawful.{IsLawfulStream}
@@ -39,16 +39,16 @@ widened_number false a b there = refl
 pub together_widened : (s o t : StreamContent) (ns cs : List ℕ) → Widens s o t ns cs → together t o ≡ together s o
 together_widened s o t ns cs wide =
     let taken : set.union t.taken o.taken ≡ set.union s.taken o.taken = set.same_set nat_cmp_total finmap.nat_cmp-IsAntisymmetric _ _ (λ q.
-        set.contains-union nat_cmp_total t.taken o.taken q
-        ∙ ap (λ b. b || set.contains o.taken q) (wide.taken q)
-        ∙ widened_number (among ns q) (set.contains s.taken q) (set.contains o.taken q) (wide.taken_there q)
-        ∙ sym (set.contains-union nat_cmp_total s.taken o.taken q)) in
+    set.contains-union nat_cmp_total t.taken o.taken q
+    ∙ ap (λ b. b || set.contains o.taken q) (wide.taken q)
+    ∙ widened_number (among ns q) (set.contains s.taken q) (set.contains o.taken q) (wide.taken_there q)
+    ∙ sym (set.contains-union nat_cmp_total s.taken o.taken q)) in
     (λ i. settled (taken i) (max (wide.closed i) o.closed) (finmap.entries t.waiting ++ finmap.entries o.waiting))
     ∙ settled_alike (set.union s.taken o.taken) (max s.closed o.closed) (finmap.entries t.waiting ++ finmap.entries o.waiting) (finmap.entries s.waiting ++ finmap.entries o.waiting) (λ q.
-        latest-append (finmap.entries t.waiting) (finmap.entries o.waiting) q
-        ∙ (λ i. later ((latest-entries t.waiting q ∙ wide.waiting q) i) (latest-entries o.waiting q i))
-        ∙ widened_mark (among cs q) (finmap.get s.waiting q) (finmap.get o.waiting q) (wide.new_counts q) (wide.waiting_there q)
-        ∙ sym (latest-append (finmap.entries s.waiting) (finmap.entries o.waiting) q ∙ (λ i. later (latest-entries s.waiting q i) (latest-entries o.waiting q i))))
+    latest-append (finmap.entries t.waiting) (finmap.entries o.waiting) q
+    ∙ (λ i. later ((latest-entries t.waiting q ∙ wide.waiting q) i) (latest-entries o.waiting q i))
+    ∙ widened_mark (among cs q) (finmap.get s.waiting q) (finmap.get o.waiting q) (wide.new_counts q) (wide.waiting_there q)
+    ∙ sym (latest-append (finmap.entries s.waiting) (finmap.entries o.waiting) q ∙ (λ i. later (latest-entries s.waiting q i) (latest-entries o.waiting q i))))
 
 -- ---- the marks of another view, one by one
 
@@ -122,160 +122,160 @@ covered t p k law below = let e : leb k p ≡ true = grind (arith, nat_tests) in
 -- ---- the numbers of another view
 
 module _ (p : ℕ) (extra : BTreeSet ℕ) (r : ℕ) (more : BTreeSet ℕ) (right : IsExtra r more)
-  (near : (q : ℕ) → sorted.contains nat_cmp more q ≡ true → (q ≤ p + 1 → ⊥) → sorted.contains nat_cmp extra q ≡ true)
+    (near : (q : ℕ) → sorted.contains nat_cmp more q ≡ true → (q ≤ p + 1 → ⊥) → sorted.contains nat_cmp extra q ≡ true)
   where
-  same_test : (x y : Bool) → (x ≡ true → y ≡ true) → (y ≡ true → x ≡ true) → x ≡ y
-  same_test true y f g = sym (f refl)
-  same_test false true f g = absurd (true≢false (sym (g refl)))
-  same_test false false f g = refl
+    same_test : (x y : Bool) → (x ≡ true → y ≡ true) → (y ≡ true → x ≡ true) → x ≡ y
+    same_test true y f g = sym (f refl)
+    same_test false true f g = absurd (true≢false (sym (g refl)))
+    same_test false false f g = refl
 
-  module _ (n : ℕ) (grown : BTreeSet ℕ) (reached : p ≤ n) (taken : taken_seen n grown ≡ set.union (taken_seen p extra) (up_to r)) where
-    test : ℕ → Bool
-    test q = set.contains (taken_seen p extra) q || (ltb 0 q && leb q r)
+    module _ (n : ℕ) (grown : BTreeSet ℕ) (reached : p ≤ n) (taken : taken_seen n grown ≡ set.union (taken_seen p extra) (up_to r)) where
+      test : ℕ → Bool
+      test q = set.contains (taken_seen p extra) q || (ltb 0 q && leb q r)
 
-    taken_test : (q : ℕ) → ((ltb 0 q && leb q n) || sorted.contains nat_cmp grown q) ≡ test q
-    unfolding test
-    taken_test q =
-        sym (contains-taken_seen n grown q)
-        ∙ ap (λ t. set.contains t q) taken
-        ∙ set.contains-union nat_cmp_total (taken_seen p extra) (up_to r) q
-        ∙ ap (λ b. set.contains (taken_seen p extra) q || b) (contains-up_to r q)
+      taken_test : (q : ℕ) → ((ltb 0 q && leb q n) || sorted.contains nat_cmp grown q) ≡ test q
+      unfolding test
+      taken_test q =
+          sym (contains-taken_seen n grown q)
+          ∙ ap (λ t. set.contains t q) taken
+          ∙ set.contains-union nat_cmp_total (taken_seen p extra) (up_to r) q
+          ∙ ap (λ b. set.contains (taken_seen p extra) q || b) (contains-up_to r q)
 
-    -- a number up to n is of the two prefixes' numbers
-    within : (q : ℕ) → 0 < q → q ≤ n → test q ≡ true
-    within q above below = sym (taken_test q) ∙ inside q above below (sorted.contains nat_cmp grown q)
-      where
-        inside : (q : ℕ) → 0 < q → q ≤ n → (x : Bool) → ((ltb 0 q && leb q n) || x) ≡ true
-        inside q above below true = grind (arith, nat_tests)
-        inside q above below false = grind (arith, nat_tests)
+      -- a number up to n is of the two prefixes' numbers
+      within : (q : ℕ) → 0 < q → q ≤ n → test q ≡ true
+      within q above below = sym (taken_test q) ∙ inside q above below (sorted.contains nat_cmp grown q)
+        where
+          inside : (q : ℕ) → 0 < q → q ≤ n → (x : Bool) → ((ltb 0 q && leb q n) || x) ≡ true
+          inside q above below true = grind (arith, nat_tests)
+          inside q above below false = grind (arith, nat_tests)
 
+      -- an extra number of the other view is here, or close to the prefix
+      close_number : (q : ℕ) → sorted.contains nat_cmp more q ≡ true → test q ≡ false → (q ≤ p + 1) × (0 < q)
+      unfolding test
+      close_number q e none =
+          let above = (right q e).0 in
+          elim (leb q (p + 1)) as (λ b. leb q (p + 1) ≡ b → (q ≤ p + 1) × (0 < q)) [
+            | true ↦ λ l. (at_most q l, omega arith)
+            | false ↦ λ l.
+                let here = near q e (λ k. beyond q l k) in
+                let there : set.contains (taken_seen p extra) q ≡ true = contains-taken_seen p extra q ∙ ap (λ b. (ltb 0 q && leb q p) || b) here ∙ or_true (ltb 0 q && leb q p) in
+                absurd (true≢false (sym (ap (λ b. b || (ltb 0 q && leb q r)) there) ∙ none))
+          ] refl
+        where
+          or_true : (b : Bool) → (b || true) ≡ true
+          or_true true = refl
+          or_true false = refl
+
+          at_most : (q : ℕ) → leb q (p + 1) ≡ true → q ≤ p + 1
+          at_most q l = grind (arith, nat_tests)
+
+          beyond : (q : ℕ) → leb q (p + 1) ≡ false → q ≤ p + 1 → ⊥
+          beyond q l k = grind (arith, nat_tests)
+
+      union_test : (q : ℕ) → set.contains (set.union (taken_seen p extra) (taken_seen r more)) q ≡ (test q || sorted.contains nat_cmp more q)
+      unfolding test
+      union_test q =
+          set.contains-union nat_cmp_total (taken_seen p extra) (taken_seen r more) q
+          ∙ ap (λ b. set.contains (taken_seen p extra) q || b) (contains-taken_seen r more q)
+          ∙ regroup (set.contains (taken_seen p extra) q) (ltb 0 q && leb q r) (sorted.contains nat_cmp more q)
+        where
+          regroup : (a b x : Bool) → (a || (b || x)) ≡ ((a || b) || x)
+          regroup true b x = refl
+          regroup false b x = refl
+
+      or_right : (a b : Bool) → b ≡ true → (a || b) ≡ true
+      or_right true b e = refl
+      or_right false b e = e
+
+      or_either : (a b : Bool) (P : Type 0) → (a || b) ≡ true → (a ≡ true → P) → (a ≡ false → b ≡ true → P) → P
+      or_either true b P e f g = f refl
+      or_either false b P e f g = g refl e
+
+      -- the number after the prefix is none of the other view's
+      pub joined_here : sorted.contains nat_cmp more (n + 1) ≡ false → taken_seen n grown ≡ set.union (taken_seen p extra) (taken_seen r more)
+      joined_here none = set.same_set nat_cmp_total finmap.nat_cmp-IsAntisymmetric _ _ (λ q.
+          contains-taken_seen n grown q ∙ taken_test q ∙ same_test (test q) (test q || sorted.contains nat_cmp more q) (λ e. ap (λ b. b || sorted.contains nat_cmp more q) e)
+          (λ e. or_either (test q) (sorted.contains nat_cmp more q) (test q ≡ true) e (λ t. t) (λ f m.
+          let close = close_number q m f in
+          elim (leb q n) as (λ b. leb q n ≡ b → test q ≡ true) [
+            | true ↦ λ l. within q close.1 (at_most q l)
+            | false ↦ λ l. let is : q ≡ n + 1 = just_after q close.0 l in absurd (true≢false (sym m ∙ ap (sorted.contains nat_cmp more) is ∙ none))
+          ] refl))
+          ∙ sym (union_test q))
+        where
+          at_most : (q : ℕ) → leb q n ≡ true → q ≤ n
+          at_most q l = grind (arith, nat_tests)
+
+          just_after : (q : ℕ) → q ≤ p + 1 → leb q n ≡ false → q ≡ n + 1
+          just_after q below l = grind (arith, nat_tests)
+
+      -- it is one of the other view's
+      pub joined_next : sorted.contains nat_cmp more (n + 1) ≡ true → set.union (taken_seen n grown) (up_to (n + 1)) ≡ set.union (taken_seen p extra) (taken_seen r more)
+      joined_next has = set.same_set nat_cmp_total finmap.nat_cmp-IsAntisymmetric _ _ (λ q.
+          set.contains-union nat_cmp_total (taken_seen n grown) (up_to (n + 1)) q
+          ∙ (λ i. (contains-taken_seen n grown q ∙ taken_test q) i || contains-up_to (n + 1) q i)
+          ∙ same_test (test q || (ltb 0 q && leb q (n + 1))) (test q || sorted.contains nat_cmp more q)
+          (λ e. or_either (test q) (ltb 0 q && leb q (n + 1)) ((test q || sorted.contains nat_cmp more q) ≡ true) e (λ t. ap (λ b. b || sorted.contains nat_cmp more q) t) (λ f u.
+          or_right (test q) (sorted.contains nat_cmp more q) (elim (leb q n) as (λ b. leb q n ≡ b → sorted.contains nat_cmp more q ≡ true) [
+            | true ↦ λ l. absurd (true≢false (sym (within q (positive q u) (at_most q l)) ∙ f))
+            | false ↦ λ l. ap (sorted.contains nat_cmp more) (just_after q u l) ∙ has
+          ] refl)))
+          (λ e. or_either (test q) (sorted.contains nat_cmp more q) ((test q || (ltb 0 q && leb q (n + 1))) ≡ true) e (λ t. ap (λ b. b || (ltb 0 q && leb q (n + 1))) t) (λ f m.
+          or_right (test q) (ltb 0 q && leb q (n + 1)) (let close = close_number q m f in reach q close.0 close.1)))
+          ∙ sym (union_test q))
+        where
+          positive : (q : ℕ) → (ltb 0 q && leb q (n + 1)) ≡ true → 0 < q
+          positive q u = grind (arith, nat_tests)
+
+          at_most : (q : ℕ) → leb q n ≡ true → q ≤ n
+          at_most q l = grind (arith, nat_tests)
+
+          just_after : (q : ℕ) → (ltb 0 q && leb q (n + 1)) ≡ true → leb q n ≡ false → q ≡ n + 1
+          just_after q u l = grind (arith, nat_tests)
+
+          reach : (q : ℕ) → q ≤ p + 1 → 0 < q → (ltb 0 q && leb q (n + 1)) ≡ true
+          reach q below above = grind (arith, nat_tests)
+
+-- ---- a stream that has room takes another view
+
+module _ (p : ℕ) (extra : BTreeSet ℕ) (c : ℕ) (waiting : BTreeMap ℕ ℕ) (ok : IsStored p extra waiting)
+    (r : ℕ) (more : BTreeSet ℕ) (d : ℕ) (marks : BTreeMap ℕ ℕ) (right : IsStored r more marks)
+    (room : HasRoom (stream_seen p extra c waiting) (stream_seen r more d marks))
+  where
     -- an extra number of the other view is here, or close to the prefix
-    close_number : (q : ℕ) → sorted.contains nat_cmp more q ≡ true → test q ≡ false → (q ≤ p + 1) × (0 < q)
-    unfolding test
-    close_number q e none =
-        let above = (right q e).0 in
-        elim (leb q (p + 1)) as (λ b. leb q (p + 1) ≡ b → (q ≤ p + 1) × (0 < q)) [
-          | true ↦ λ l. (at_most q l, omega arith)
-          | false ↦ λ l.
-              let here = near q e (λ k. beyond q l k) in
-              let there : set.contains (taken_seen p extra) q ≡ true = contains-taken_seen p extra q ∙ ap (λ b. (ltb 0 q && leb q p) || b) here ∙ or_true (ltb 0 q && leb q p) in
-              absurd (true≢false (sym (ap (λ b. b || (ltb 0 q && leb q r)) there) ∙ none))
-        ] refl
+    pub near_number : (q : ℕ) → sorted.contains nat_cmp more q ≡ true → (q ≤ p + 1 → ⊥) → sorted.contains nat_cmp extra q ≡ true
+    near_number q e far =
+        let there : set.contains (taken_seen r more) q ≡ true = contains-taken_seen r more q ∙ ap (λ b. (ltb 0 q && leb q r) || b) e ∙ or_true (ltb 0 q && leb q r) in
+        only q (right.extras q e).0 far (sorted.contains nat_cmp extra q)
+        (sym (λ i. contains-taken_seen p extra q i || (covers_seen r more right.extras q i || covers_seen p extra ok.extras (q - 1) i)) ∙ room.numbers q there)
       where
         or_true : (b : Bool) → (b || true) ≡ true
         or_true true = refl
         or_true false = refl
 
-        at_most : (q : ℕ) → leb q (p + 1) ≡ true → q ≤ p + 1
-        at_most q l = grind (arith, nat_tests)
+        only : (q : ℕ) → r + 1 < q → (q ≤ p + 1 → ⊥) → (x : Bool) → (((ltb 0 q && leb q p) || x) || (leb q r || leb (q - 1) p)) ≡ true → x ≡ true
+        only q above far true e = refl
+        only q above far false e = absurd (far (grind (arith, nat_tests)))
 
-        beyond : (q : ℕ) → leb q (p + 1) ≡ false → q ≤ p + 1 → ⊥
-        beyond q l k = grind (arith, nat_tests)
-
-    union_test : (q : ℕ) → set.contains (set.union (taken_seen p extra) (taken_seen r more)) q ≡ (test q || sorted.contains nat_cmp more q)
-    unfolding test
-    union_test q =
-        set.contains-union nat_cmp_total (taken_seen p extra) (taken_seen r more) q
-        ∙ ap (λ b. set.contains (taken_seen p extra) q || b) (contains-taken_seen r more q)
-        ∙ regroup (set.contains (taken_seen p extra) q) (ltb 0 q && leb q r) (sorted.contains nat_cmp more q)
-      where
-        regroup : (a b x : Bool) → (a || (b || x)) ≡ ((a || b) || x)
-        regroup true b x = refl
-        regroup false b x = refl
-
-    or_right : (a b : Bool) → b ≡ true → (a || b) ≡ true
-    or_right true b e = refl
-    or_right false b e = e
-
-    or_either : (a b : Bool) (P : Type 0) → (a || b) ≡ true → (a ≡ true → P) → (a ≡ false → b ≡ true → P) → P
-    or_either true b P e f g = f refl
-    or_either false b P e f g = g refl e
-
-    -- the number after the prefix is none of the other view's
-    pub joined_here : sorted.contains nat_cmp more (n + 1) ≡ false → taken_seen n grown ≡ set.union (taken_seen p extra) (taken_seen r more)
-    joined_here none = set.same_set nat_cmp_total finmap.nat_cmp-IsAntisymmetric _ _ (λ q.
-        contains-taken_seen n grown q ∙ taken_test q ∙ same_test (test q) (test q || sorted.contains nat_cmp more q) (λ e. ap (λ b. b || sorted.contains nat_cmp more q) e)
-          (λ e. or_either (test q) (sorted.contains nat_cmp more q) (test q ≡ true) e (λ t. t) (λ f m.
-            let close = close_number q m f in
-            elim (leb q n) as (λ b. leb q n ≡ b → test q ≡ true) [
-              | true ↦ λ l. within q close.1 (at_most q l)
-              | false ↦ λ l. let is : q ≡ n + 1 = just_after q close.0 l in absurd (true≢false (sym m ∙ ap (sorted.contains nat_cmp more) is ∙ none))
-            ] refl))
-        ∙ sym (union_test q))
-      where
-        at_most : (q : ℕ) → leb q n ≡ true → q ≤ n
-        at_most q l = grind (arith, nat_tests)
-
-        just_after : (q : ℕ) → q ≤ p + 1 → leb q n ≡ false → q ≡ n + 1
-        just_after q below l = grind (arith, nat_tests)
-
-    -- it is one of the other view's
-    pub joined_next : sorted.contains nat_cmp more (n + 1) ≡ true → set.union (taken_seen n grown) (up_to (n + 1)) ≡ set.union (taken_seen p extra) (taken_seen r more)
-    joined_next has = set.same_set nat_cmp_total finmap.nat_cmp-IsAntisymmetric _ _ (λ q.
-        set.contains-union nat_cmp_total (taken_seen n grown) (up_to (n + 1)) q
-        ∙ (λ i. (contains-taken_seen n grown q ∙ taken_test q) i || contains-up_to (n + 1) q i)
-        ∙ same_test (test q || (ltb 0 q && leb q (n + 1))) (test q || sorted.contains nat_cmp more q)
-          (λ e. or_either (test q) (ltb 0 q && leb q (n + 1)) ((test q || sorted.contains nat_cmp more q) ≡ true) e (λ t. ap (λ b. b || sorted.contains nat_cmp more q) t) (λ f u.
-            or_right (test q) (sorted.contains nat_cmp more q) (elim (leb q n) as (λ b. leb q n ≡ b → sorted.contains nat_cmp more q ≡ true) [
-              | true ↦ λ l. absurd (true≢false (sym (within q (positive q u) (at_most q l)) ∙ f))
-              | false ↦ λ l. ap (sorted.contains nat_cmp more) (just_after q u l) ∙ has
-            ] refl)))
-          (λ e. or_either (test q) (sorted.contains nat_cmp more q) ((test q || (ltb 0 q && leb q (n + 1))) ≡ true) e (λ t. ap (λ b. b || (ltb 0 q && leb q (n + 1))) t) (λ f m.
-            or_right (test q) (ltb 0 q && leb q (n + 1)) (let close = close_number q m f in reach q close.0 close.1)))
-        ∙ sym (union_test q))
-      where
-        positive : (q : ℕ) → (ltb 0 q && leb q (n + 1)) ≡ true → 0 < q
-        positive q u = grind (arith, nat_tests)
-
-        at_most : (q : ℕ) → leb q n ≡ true → q ≤ n
-        at_most q l = grind (arith, nat_tests)
-
-        just_after : (q : ℕ) → (ltb 0 q && leb q (n + 1)) ≡ true → leb q n ≡ false → q ≡ n + 1
-        just_after q u l = grind (arith, nat_tests)
-
-        reach : (q : ℕ) → q ≤ p + 1 → 0 < q → (ltb 0 q && leb q (n + 1)) ≡ true
-        reach q below above = grind (arith, nat_tests)
-
--- ---- a stream that has room takes another view
-
-module _ (p : ℕ) (extra : BTreeSet ℕ) (c : ℕ) (waiting : BTreeMap ℕ ℕ) (ok : IsStored p extra waiting)
-  (r : ℕ) (more : BTreeSet ℕ) (d : ℕ) (marks : BTreeMap ℕ ℕ) (right : IsStored r more marks)
-  (room : HasRoom (stream_seen p extra c waiting) (stream_seen r more d marks))
-  where
-  -- an extra number of the other view is here, or close to the prefix
-  pub near_number : (q : ℕ) → sorted.contains nat_cmp more q ≡ true → (q ≤ p + 1 → ⊥) → sorted.contains nat_cmp extra q ≡ true
-  near_number q e far =
-      let there : set.contains (taken_seen r more) q ≡ true = contains-taken_seen r more q ∙ ap (λ b. (ltb 0 q && leb q r) || b) e ∙ or_true (ltb 0 q && leb q r) in
-      only q (right.extras q e).0 far (sorted.contains nat_cmp extra q)
-        (sym (λ i. contains-taken_seen p extra q i || (covers_seen r more right.extras q i || covers_seen p extra ok.extras (q - 1) i)) ∙ room.numbers q there)
-    where
-      or_true : (b : Bool) → (b || true) ≡ true
-      or_true true = refl
-      or_true false = refl
-
-      only : (q : ℕ) → r + 1 < q → (q ≤ p + 1 → ⊥) → (x : Bool) → (((ltb 0 q && leb q p) || x) || (leb q r || leb (q - 1) p)) ≡ true → x ≡ true
-      only q above far true e = refl
-      only q above far false e = absurd (far (grind (arith, nat_tests)))
-
-  pub waits_here : (q : ℕ) → is_some (tree.get nat_cmp marks q) ≡ true → p < q → is_some (tree.get nat_cmp waiting q) ≡ true
-  waits_here q e above =
-      not_covered q above (is_some (tree.get nat_cmp waiting q))
+    pub waits_here : (q : ℕ) → is_some (tree.get nat_cmp marks q) ≡ true → p < q → is_some (tree.get nat_cmp waiting q) ≡ true
+    waits_here q e above =
+        not_covered q above (is_some (tree.get nat_cmp waiting q))
         (sym (λ i. covers_seen p extra ok.extras q i || is_some (get-waiting_seen waiting q i)) ∙ room.counts q (ap is_some (get-waiting_seen marks q) ∙ e))
-    where
-      not_covered : (q : ℕ) → p < q → (x : Bool) → (leb q p || x) ≡ true → x ≡ true
-      not_covered q above true e = refl
-      not_covered q above false e = absurd (grind (arith, nat_tests))
+      where
+        not_covered : (q : ℕ) → p < q → (x : Bool) → (leb q p || x) ≡ true → x ≡ true
+        not_covered q above true e = refl
+        not_covered q above false e = absurd (grind (arith, nat_tests))
 
-  -- what is settled in the end
-  pub settled_together : (n : ℕ) (grown : BTreeSet ℕ) (e : ℕ) (left : BTreeMap ℕ ℕ) (closed raised : ℕ) (raised_marks : BTreeMap ℕ ℕ)
-      → taken_seen n grown ≡ set.union (taken_seen p extra) (taken_seen r more)
-      → closed ≡ max c d
-      → tree.IsOrdered nat_cmp marks
-      → settled (taken_seen n grown) raised (finmap.entries (waiting_seen raised_marks)) ≡ settled (taken_seen n grown) closed (finmap.entries (waiting_seen waiting) ++ marks.entries)
-      → settled (taken_seen n grown) raised (finmap.entries (waiting_seen raised_marks)) ≡ record { taken = taken_seen n grown; closed = e; waiting = waiting_seen left }
-      → stream_seen n grown e left ≡ together (stream_seen p extra c waiting) (stream_seen r more d marks)
-  settled_together n grown e left closed raised raised_marks taken is rising raises settles =
-      sym settles ∙ raises ∙ (λ i. settled (taken i) (is i) (finmap.entries (waiting_seen waiting) ++ sym (entries-waiting_seen marks rising) i))
+    -- what is settled in the end
+    pub settled_together : (n : ℕ) (grown : BTreeSet ℕ) (e : ℕ) (left : BTreeMap ℕ ℕ) (closed raised : ℕ) (raised_marks : BTreeMap ℕ ℕ)
+        → taken_seen n grown ≡ set.union (taken_seen p extra) (taken_seen r more)
+        → closed ≡ max c d
+        → tree.IsOrdered nat_cmp marks
+        → settled (taken_seen n grown) raised (finmap.entries (waiting_seen raised_marks)) ≡ settled (taken_seen n grown) closed (finmap.entries (waiting_seen waiting) ++ marks.entries)
+        → settled (taken_seen n grown) raised (finmap.entries (waiting_seen raised_marks)) ≡ record { taken = taken_seen n grown; closed = e; waiting = waiting_seen left }
+        → stream_seen n grown e left ≡ together (stream_seen p extra c waiting) (stream_seen r more d marks)
+    settled_together n grown e left closed raised raised_marks taken is rising raises settles =
+        sym settles ∙ raises ∙ (λ i. settled (taken i) (is i) (finmap.entries (waiting_seen waiting) ++ sym (entries-waiting_seen marks rising) i))
 
 -- ---- all streams, from a place on
 
@@ -350,8 +350,8 @@ pub room_used : (at next : ℕ) (xs os ys : List StreamContent) (s o t d u : Str
 room_used at next xs os ys s o t d u ns cs within same after other wide is taken =
     let here : get_or ys at d ≡ t = get_or-joined at next xs os ys t d within same after is in
     set-joined at next xs os ys t u within same after is
-      (taken ∙ ap (λ x. together x o) here ∙ together_widened (get_or xs at s) o t ns cs wide
-      ∙ (λ i. together (any_default at xs s unknown within i) ((other ∙ any_default at os o unknown (omega arith)) i)))
+    (taken ∙ ap (λ x. together x o) here ∙ together_widened (get_or xs at s) o t ns cs wide
+    ∙ (λ i. together (any_default at xs s unknown within i) ((other ∙ any_default at os o unknown (omega arith)) i)))
 
 -- ---- the joined streams are streams
 
@@ -371,8 +371,8 @@ joined_kept n xs ys zs are same is count =
     let joined = length-all_together xs ys same in
     let long : n ≡ length zs = count ∙ sym joined ∙ ap length (sym is) in
     subst AreStreams (sym (ap (λ k. take k (zs ++ drop (length zs) xs)) long ∙ take-append_seam zs (drop (length zs) xs) ∙ is))
-      (record {
-        least = omega (arith, are.least);
-        most = omega (arith, are.most);
-        lawful = all_lawful xs ys;
-      })
+    (record {
+      least = omega (arith, are.least);
+      most = omega (arith, are.most);
+      lawful = all_lawful xs ys;
+    })

@@ -1,5 +1,5 @@
 -- What all values of a `Got` keep, and the least of their closed times.
-use Rattle.std.proofs.Common.{◌≡◌, refl, sym, ap, ◌∙◌, subst, ℕ, zero, suc, ◌<◌, ◌≤◌, ◌+◌, List, [], ◌∷◌, ◌++◌, length, replicate, set as set_at, All, arith, min, max, length-set, get_or, take}
+use Rattle.std.proofs.Common.{◌≡◌, sym, ap, ◌∙◌, ℕ, ◌<◌, ◌≤◌, ◌+◌, List, [], ◌∷◌, ◌++◌, length, replicate, set as set_at, arith, min, max, length-set, get_or, take}
 use Rattle.std.proofs.lemmas.List.{length-replicate, take_more, take_all}
 use Rattle.std.proofs.lemmas.List.Elements.{All-set, All-replicate}
 use Rattle.std.specs.FinMap as finmap

@@ -1,7 +1,7 @@
 -- What the readers of a stored stream give.
-use Rattle.std.proofs.Common.{◌≡◌, refl, sym, ap, ◌∙◌, ℕ, zero, suc, ◌<◌, ◌≤◌, ◌+◌, Bool, true, false, cond, not, T, Option, Some, None, is_some, List, [], ◌∷◌, map, ◌||◌, ◌&&◌, ltb, leb, nat_le, nat_cmp, is_le, is_lt, Ordering, Less, arith, unwrap_or, true≢false, max}
+use Rattle.std.proofs.Common.{◌≡◌, refl, sym, ap, ◌∙◌, ℕ, ◌<◌, ◌≤◌, ◌+◌, Bool, true, false, cond, not, T, Option, Some, None, is_some, List, [], ◌∷◌, map, ◌||◌, ◌&&◌, ltb, leb, nat_le, nat_cmp, is_le, is_lt, Ordering, Less, arith, unwrap_or, max}
 use Rattle.std.proofs.lemmas.Bool.Decides.{nat_tests}
-use Rattle.std.specs.List.{list_any, AllByRecursion}
+use Rattle.std.specs.List.{AllByRecursion}
 use Rattle.std.specs.List.Sorted.{IsStrictlySortedBy}
 use Rattle.std.specs.Map.{keys_of, update_all}
 use Rattle.std.proofs.lemmas.Map.Made.{update_all_none}
@@ -15,11 +15,10 @@ use Rattle.std.specs.BTreeSet as sorted
 use Rattle.std.specs.FinMap as finmap
 use Rattle.std.specs.FinMap.Entries.{below_all, is_sorted, same_entries}
 use Rattle.std.specs.FinSet as set
-use Rattle.hk_model.proofs.Lawful.{settled_lawful}
-use Rattle.hk_model.specs.Streams.{StreamContent, covers, settled, unknown, is_told}
+use Rattle.hk_model.specs.Streams.{covers, unknown, is_told}
 use Rattle.hk_model.specs.Lawful.{IsLawfulStream}
 use Rattle.hk_marks.proofs.Trees.{contains-taken_seen, covers_seen, get-waiting_seen}
-use Rattle.hk_marks.specs.Seen.{up_to, taken_seen, waiting_seen, IsExtra, WaitsAbove, IsStored, stream_seen}
+use Rattle.hk_marks.specs.Seen.{taken_seen, waiting_seen, IsExtra, IsStored, stream_seen}
 use Rattle.hk_marks.specs.Steps.{extra_numbers}
 
 -- ---- the entries of a map that is seen are those of its tree
@@ -43,7 +42,7 @@ is_sorted-from R (e ∷ es) h = T_and (below_all R e.0 es) (is_sorted R es) (bel
 pub entries-from_sorted : (es : List (ℕ × ℕ)) → IsStrictlySortedBy nat_cmp (keys_of es) → finmap.entries (finmap.from_entries {R = nat_cmp} es) ≡ es
 entries-from_sorted es rise =
     same_entries nat_cmp nat_cmp_total finmap.nat_cmp-IsAntisymmetric (finmap.entries (finmap.from_entries es)) es (finmap.entries_sorted (finmap.from_entries es)) (is_sorted-from nat_cmp es rise)
-      (λ q. sym (finmap.get-entries (finmap.from_entries es) q) ∙ finmap.get-from_entries nat_cmp_total es q)
+    (λ q. sym (finmap.get-entries (finmap.from_entries es) q) ∙ finmap.get-from_entries nat_cmp_total es q)
 
 pub entries-waiting_seen : (w : BTreeMap ℕ ℕ) → tree.IsOrdered nat_cmp w → finmap.entries (waiting_seen w) ≡ w.entries
 unfolding waiting_seen
@@ -68,15 +67,15 @@ pub unknown_seen : (extra : BTreeSet ℕ) (c : ℕ) (w : BTreeMap ℕ ℕ) → e
 unfolding taken_seen waiting_seen
 unknown_seen extra c w no_extra is none =
     let taken : taken_seen 0 extra ≡ set.empty = set.same_set nat_cmp_total finmap.nat_cmp-IsAntisymmetric _ _ (λ q.
-        set.contains-union nat_cmp_total set.empty (set.from_list extra.keys) q
-        ∙ (λ i. set.contains-empty nat_cmp q i || set.contains (set.from_list {R = nat_cmp} (no_extra i)) q)) in
+    set.contains-union nat_cmp_total set.empty (set.from_list extra.keys) q
+    ∙ (λ i. set.contains-empty nat_cmp q i || set.contains (set.from_list {R = nat_cmp} (no_extra i)) q)) in
     let closed : c ≡ max 0 0 = is ∙ (omega arith) in
     let waits : waiting_seen w ≡ unknown.waiting = finmap.same_map nat_cmp_total finmap.nat_cmp-IsAntisymmetric _ _ (λ q.
-        (λ i. finmap.get (finmap.from_entries {R = nat_cmp} (none i)) q)
-        ∙ finmap.get-empty nat_cmp q
-        ∙ sym (finmap.get-retain_keys finmap.empty (λ n. not (covers set.empty n)) q (λ x t. ap (λ n. not (covers set.empty n)) (sym (finmap.nat_cmp-IsAntisymmetric q x t)))
-          ∙ (λ i. cond (not (covers set.empty q)) (finmap.get-empty nat_cmp q i) None)
-          ∙ same_both (not (covers set.empty q)))) in
+    (λ i. finmap.get (finmap.from_entries {R = nat_cmp} (none i)) q)
+    ∙ finmap.get-empty nat_cmp q
+    ∙ sym (finmap.get-retain_keys finmap.empty (λ n. not (covers set.empty n)) q (λ x t. ap (λ n. not (covers set.empty n)) (sym (finmap.nat_cmp-IsAntisymmetric q x t)))
+    ∙ (λ i. cond (not (covers set.empty q)) (finmap.get-empty nat_cmp q i) None)
+    ∙ same_both (not (covers set.empty q)))) in
     λ i. record { taken = taken i; closed = closed i; waiting = waits i }
   where
     same_both : (b : Bool) → cond {A = Option ℕ} b None None ≡ None
@@ -120,9 +119,9 @@ pub alike_seen : (p : ℕ) (extra other : BTreeSet ℕ) (c : ℕ) (w v : BTreeMa
     → stream_seen p other c v ≡ stream_seen p extra c w
 alike_seen p extra other c w v same_extra same_waiting =
     let taken = set.same_set nat_cmp_total finmap.nat_cmp-IsAntisymmetric (taken_seen p other) (taken_seen p extra) (λ q.
-        contains-taken_seen p other q ∙ ap (λ b. (ltb 0 q && leb q p) || b) (same_extra q) ∙ sym (contains-taken_seen p extra q)) in
+    contains-taken_seen p other q ∙ ap (λ b. (ltb 0 q && leb q p) || b) (same_extra q) ∙ sym (contains-taken_seen p extra q)) in
     let waits = finmap.same_map nat_cmp_total finmap.nat_cmp-IsAntisymmetric (waiting_seen v) (waiting_seen w) (λ q.
-        get-waiting_seen v q ∙ same_waiting q ∙ sym (get-waiting_seen w q)) in
+    get-waiting_seen v q ∙ same_waiting q ∙ sym (get-waiting_seen w q)) in
     λ i. record { taken = taken i; closed = c; waiting = waits i }
 
 pub alike_stored : (p : ℕ) (extra other : BTreeSet ℕ) (w v : BTreeMap ℕ ℕ) → ((q : ℕ) → sorted.contains nat_cmp other q ≡ sorted.contains nat_cmp extra q) → ((q : ℕ) → tree.get nat_cmp v q ≡ tree.get nat_cmp w q)

@@ -1,5 +1,5 @@
 -- A number or a mark is what an item of it tells.
-use Rattle.std.proofs.Common.{◌≡◌, refl, sym, ap, ◌∙◌, subst, ℕ, zero, suc, ◌<◌, ◌≤◌, ◌+◌, ◌-◌, Bool, true, false, cond, Option, Some, None, List, [], ◌∷◌, ◌++◌, map, length, set as set_at, get_or, All, ◌||◌, ◌==◌, arith, max, le_antisymm, eqb-true, nat_cmp}
+use Rattle.std.proofs.Common.{◌≡◌, refl, sym, ap, ◌∙◌, ℕ, zero, suc, ◌<◌, ◌≤◌, ◌+◌, ◌-◌, Bool, true, false, cond, Option, Some, None, List, [], ◌∷◌, ◌++◌, map, length, set as set_at, get_or, All, ◌||◌, ◌==◌, arith, max, le_antisymm, eqb-true, nat_cmp}
 use Rattle.std.specs.Ordering.{eq_by_cmp}
 use Rattle.std.proofs.lemmas.List.Elements.{All-head, All-tail, All-get_or}
 use Rattle.std.specs.List.{range_with_len}
@@ -94,7 +94,7 @@ one_told items a (suc k) (x ∷ xs) lawful within others =
     let first : together x (stream_of items a) ≡ x = ap (together x) (others a (λ e. omega arith)) ∙ together_unknown x (All-head IsLawfulStream x xs lawful) in
     let there : (a + 1) + k ≡ a + suc k = omega arith in
     let rest = one_told items (a + 1) k xs (All-tail IsLawfulStream x xs lawful) (omega arith) (λ j apart. others j (λ e. apart (e ∙ sym there)))
-      ∙ ap (λ n. set_at xs k (together (get_or xs k unknown) (stream_of items n))) there in
+    ∙ ap (λ n. set_at xs k (together (get_or xs k unknown) (stream_of items n))) there in
     λ i. first i ∷ rest i
 
 not_equal : (a b : ℕ) → (b ≡ a → ⊥) → (a == b) ≡ false
@@ -109,10 +109,10 @@ own_entry_told streams lawful e above within =
     let there : 1 + (e.stream - 1) ≡ e.stream = omega arith in
     let is_lawful = All-get_or IsLawfulStream streams (e.stream - 1) unknown (omega arith) lawful in
     sym (one_told (Commit e ∷ []) 1 (e.stream - 1) streams lawful (omega arith)
-        (λ j apart. ap (λ b. settled (set.from_list (cond b (e.number ∷ []) [])) 0 []) (not_equal e.stream j (λ same. apart (same ∙ sym there))))
-      ∙ ap (λ k. set_at streams (e.stream - 1) (together (stream_at streams e.stream) (stream_of (Commit e ∷ []) k))) there
-      ∙ ap (λ b. set_at streams (e.stream - 1) (together (stream_at streams e.stream) (settled (set.from_list (cond b (e.number ∷ []) [])) 0 []))) (equal e.stream)
-      ∙ ap (set_at streams (e.stream - 1)) (number_told (stream_at streams e.stream) is_lawful e.number))
+    (λ j apart. ap (λ b. settled (set.from_list (cond b (e.number ∷ []) [])) 0 []) (not_equal e.stream j (λ same. apart (same ∙ sym there))))
+    ∙ ap (λ k. set_at streams (e.stream - 1) (together (stream_at streams e.stream) (stream_of (Commit e ∷ []) k))) there
+    ∙ ap (λ b. set_at streams (e.stream - 1) (together (stream_at streams e.stream) (settled (set.from_list (cond b (e.number ∷ []) [])) 0 []))) (equal e.stream)
+    ∙ ap (set_at streams (e.stream - 1)) (number_told (stream_at streams e.stream) is_lawful e.number))
 
 own_closed_told : (streams : List StreamContent) → All IsLawfulStream streams → (m : MarkValue) → 1 ≤ m.stream → m.stream ≤ length streams
     → set_at streams (m.stream - 1) (with_mark (stream_at streams m.stream) m.count m.upto) ≡ all_together streams (streams_of (length streams) (Closed m ∷ []))
@@ -120,10 +120,10 @@ own_closed_told streams lawful m above within =
     let there : 1 + (m.stream - 1) ≡ m.stream = omega arith in
     let is_lawful = All-get_or IsLawfulStream streams (m.stream - 1) unknown (omega arith) lawful in
     sym (one_told (Closed m ∷ []) 1 (m.stream - 1) streams lawful (omega arith)
-        (λ j apart. ap (λ b. settled set.empty 0 (cond b ((m.count, m.upto) ∷ []) [])) (not_equal m.stream j (λ same. apart (same ∙ sym there))))
-      ∙ ap (λ k. set_at streams (m.stream - 1) (together (stream_at streams m.stream) (stream_of (Closed m ∷ []) k))) there
-      ∙ ap (λ b. set_at streams (m.stream - 1) (together (stream_at streams m.stream) (settled set.empty 0 (cond b ((m.count, m.upto) ∷ []) [])))) (equal m.stream)
-      ∙ ap (set_at streams (m.stream - 1)) (mark_told (stream_at streams m.stream) is_lawful m.count m.upto))
+    (λ j apart. ap (λ b. settled set.empty 0 (cond b ((m.count, m.upto) ∷ []) [])) (not_equal m.stream j (λ same. apart (same ∙ sym there))))
+    ∙ ap (λ k. set_at streams (m.stream - 1) (together (stream_at streams m.stream) (stream_of (Closed m ∷ []) k))) there
+    ∙ ap (λ b. set_at streams (m.stream - 1) (together (stream_at streams m.stream) (settled set.empty 0 (cond b ((m.count, m.upto) ∷ []) [])))) (equal m.stream)
+    ∙ ap (set_at streams (m.stream - 1)) (mark_told (stream_at streams m.stream) is_lawful m.count m.upto))
 
 -- the streams of a log with one more number are those with its entry
 pub entry_told : (streams : List StreamContent) (s n : ℕ) → All IsLawfulStream streams → 1 ≤ s → s ≤ length streams → (e : EntryValue) → e.stream ≡ s → e.number ≡ n

@@ -1,9 +1,8 @@
 -- What the stored trees answer is what the maps and sets that are seen answer.
-use Rattle.std.proofs.Common.{◌≡◌, refl, sym, ap, ◌∙◌, ℕ, zero, suc, ◌<◌, ◌≤◌, ◌+◌, ◌^◌, Bool, true, false, cond, not, Option, Some, None, List, [], ◌∷◌, ◌||◌, ◌&&◌, ltb, leb, nat_cmp, Ordering, arith, max, true≢false, Result, Ok, Err, OnOk, OnErr}
+use Rattle.std.proofs.Common.{◌≡◌, refl, sym, ap, ◌∙◌, ℕ, zero, suc, ◌<◌, ◌≤◌, ◌+◌, ◌^◌, Bool, true, false, cond, Some, None, List, [], ◌∷◌, ◌||◌, ◌&&◌, ltb, leb, nat_cmp, Ordering, arith, max, true≢false, Result, Ok, Err, OnOk, OnErr}
 use Rattle.std.proofs.lemmas.Bool.Decides.{nat_tests}
-use Rattle.std.specs.List.{list_any}
 use Rattle.std.specs.Map.{lookup}
-use Rattle.std.specs.Ordering.{eq_by_cmp, is_eq}
+use Rattle.std.specs.Ordering.{eq_by_cmp}
 use Rattle.std.specs.Cmp.{IsTotalOrder, nat_cmp_total, eq_by_cmp_equiv}
 use Rattle.std.specs.BTreeMap.{BTreeMap, is_at}
 use Rattle.std.specs.BTreeMap as tree
@@ -12,7 +11,7 @@ use Rattle.std.specs.BTreeSet as sorted
 use Rattle.std.specs.FinMap as finmap
 use Rattle.std.specs.FinMap.{find}
 use Rattle.std.specs.FinSet as set
-use Rattle.hk_model.specs.Streams.{covers, settled, StreamContent}
+use Rattle.hk_model.specs.Streams.{covers, settled}
 use Rattle.hk_marks.proofs.Settled.{covers_prefix, settled-forget, settled-done, mark_covered, mark_waits}
 use Rattle.hk_marks.specs.Seen.{up_to, taken_seen, waiting_seen, IsExtra, WaitsAbove, IsStored, stream_seen}
 use Rattle.hk_marks.specs.Steps.{with_number, with_mark}
@@ -155,6 +154,7 @@ covers_seen p extra above = covers_prefix (taken_seen p extra) p
   where
     within : (q : ℕ) → 0 < q → q ≤ p → ((ltb 0 q && leb q p) || sorted.contains nat_cmp extra q) ≡ true
     within q a b = let e : (ltb 0 q && leb q p) ≡ true = grind (arith, nat_tests) in ap (λ x. x || sorted.contains nat_cmp extra q) e
+
     out : (x : Bool) → (x ≡ true → p + 1 < p + 1) → ((ltb 0 (p + 1) && leb (p + 1) p) || x) ≡ false
     out true h = absurd (let l = h refl in omega arith)
     out false h = grind (arith, nat_tests)
@@ -165,7 +165,7 @@ pub settled_step : (p : ℕ) (t : set.FinSet nat_cmp) → ((n : ℕ) → covers 
 settled_step p t law c d m n k v below has u greater =
     let cov : covers t k ≡ true = (let e : leb k p ≡ true = grind (arith, nat_tests) in law k ∙ e) in
     settled-forget t c (waiting_seen m) (waiting_seen n) k v cov (get-waiting_seen m k ∙ has)
-        (λ q. get-waiting_seen n q ∙ u.0 q ∙ ap (cond (eq_by_cmp nat_cmp k q) None) (sym (get-waiting_seen m q)))
+    (λ q. get-waiting_seen n q ∙ u.0 q ∙ ap (cond (eq_by_cmp nat_cmp k q) None) (sym (get-waiting_seen m q)))
     ∙ ap (λ x. settled t x (finmap.entries (waiting_seen n))) greater
 
 -- what is left waits
@@ -233,7 +233,7 @@ pub mark_left : (p : ℕ) (extra : BTreeSet ℕ) (c : ℕ) (w v : BTreeMap ℕ �
 mark_left p extra c w v k m ok above is =
     let f : leb k p ≡ false = grind (arith, nat_tests) in
     mark_waits (taken_seen p extra) c (waiting_seen w) (waiting_seen v) k m (covers_seen p extra ok.extras k ∙ f) (waits_seen p extra w ok)
-      (λ q. get-waiting_seen v q ∙ is q ∙ ap (later (told (k, m) q)) (sym (get-waiting_seen w q)))
+    (λ q. get-waiting_seen v q ∙ is q ∙ ap (later (told (k, m) q)) (sym (get-waiting_seen w q)))
 
 pub seen_same : (p : ℕ) (extra : BTreeSet ℕ) (c : ℕ) (w v : BTreeMap ℕ ℕ) → v.entries ≡ w.entries → stream_seen p extra c v ≡ stream_seen p extra c w
 unfolding waiting_seen

@@ -171,7 +171,7 @@ impl Got {
         requires { s ≤ length self.now }
         ensures { result ≡ covers (stream_at self.now s).taken count }
     {
-        count <= self.streams[place(s)].prefix()
+        self.streams[place(s)].covers(count)
     }
 
     /// The greatest number up to which all are taken, at most 2^62.

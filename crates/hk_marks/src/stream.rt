@@ -17,9 +17,8 @@ ghost use Rattle.hk_marks.specs.Steps.{with_number, with_mark, raised, extra_num
 
 mod join;
 
-pub use join::join_streams;
-
 use hk_types::Time;
+pub use join::join_streams;
 use std::alloc::{AllocError, Global};
 use std::collections::{BTreeMap, BTreeSet, btree_map, btree_set};
 use std::marker::Model;
@@ -217,6 +216,13 @@ impl Stream {
         self.extra.contains(&number)
     }
 
+    /// Whether the numbers 1 to `count` are all taken.
+    pub fn covers(&self, count: u64) -> bool
+        ensures { result ≡ covers self.now.taken count }
+    {
+        count <= self.prefix
+    }
+
     /// The greatest number up to which all are taken.
     pub fn prefix(&self) -> u64
         ensures value { (n : ℕ) → covers self.now.taken n ≡ nat_le n result }
@@ -284,5 +290,8 @@ fn copy_numbers(numbers: &BTreeSet<u64>, alloc: Global) -> Result<BTreeSet<u64>,
 fn copy_marks(marks: &BTreeMap<u64, Time>, alloc: Global) -> Result<BTreeMap<u64, Time>, AllocError>
     ensures { IfOk result (λ copied. (q : ℕ) → tree.get nat_cmp copied q ≡ tree.get nat_cmp marks.now q) }
 {
-    marks.iter().map(|(count, upto)| (*count, *upto)).collect(alloc)
+    marks
+        .iter()
+        .map(|(count, upto)| (*count, *upto))
+        .collect(alloc)
 }

@@ -106,12 +106,7 @@ fn insert_counts(waiting: &mut BTreeMap<u64, Time>, counts: &[u64]) -> Result<()
 
 /// Takes the numbers 1 to `upto` and other extra ones, of which those that neither the prefix nor
 /// `upto` reaches are here.
-fn take_numbers(
-    prefix: &mut u64,
-    extra: &mut BTreeSet<u64>,
-    upto: u64,
-    others: &BTreeSet<u64>,
-)
+fn take_numbers(prefix: &mut u64, extra: &mut BTreeSet<u64>, upto: u64, others: &BTreeSet<u64>)
     requires extras { IsExtra prefix.old extra.old }
     requires prefix_most { prefix.old ≤ 2 ^ 62 }
     requires others { IsExtra upto others.now }
@@ -187,7 +182,12 @@ impl Stream {
             &other.extra,
         );
         close_up_to(&mut self.closed, other.closed);
-        raise_marks(self.prefix, &mut self.closed, &mut self.waiting, &other.waiting);
+        raise_marks(
+            self.prefix,
+            &mut self.closed,
+            &mut self.waiting,
+            &other.waiting,
+        );
         settle(self.prefix, &mut self.closed, &mut self.waiting);
     }
 }

@@ -11,4 +11,4 @@ use Rattle.hk_marks.proofs.stream.copy_marks.Goals as goal
 pub returns : goal.returns
 returns c = IfOk-weaker c.collect.result _ _ (λ n. copied_entries c.args.marks.now n c.iter.ensures.ordered)
     (fact_from_collect (tree.IsFromIterResult nat_cmp) c.collect.result c.collect.ensures.ran
-      (YieldsList-from_map _ (λ (e : ℕ × ℕ). (e.0, e.1)) (YieldsList-at c.map.ensures.source (YieldsList-from_rest c.args.marks.now.entries c.iter.ensures.rest)) c.map.ensures.closure (λ x r q k. search rules)))
+    (YieldsList-from_map _ (λ (e : ℕ × ℕ). (e.0, e.1)) (YieldsList-at c.map.ensures.source (YieldsList-from_rest c.args.marks.now.entries c.iter.ensures.rest)) c.map.ensures.closure (λ x r q k. search rules)))

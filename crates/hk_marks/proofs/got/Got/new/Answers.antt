@@ -1,5 +1,4 @@
-use Rattle.std.proofs.Common.{arith, subst, sym, ap, ◌∙◌, ◌≡◌, replicate}
-use Rattle.hk_model.specs.Streams.{unknown}
+use Rattle.std.proofs.Common.{arith, subst, sym}
 use Rattle.hk_marks.specs.Seen.{AreStreams}
 use Rattle.hk_marks.proofs.Kept.{AreStreams-unknown}
 use Rattle.hk_marks.proofs.got.Got.new.Goals as goal

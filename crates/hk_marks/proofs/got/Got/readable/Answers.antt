@@ -1,5 +1,4 @@
-use Rattle.std.proofs.Common.{◌∙◌, ap, sym, length, arith, ◌≡◌, ◌≤◌, subst}
-use Rattle.std.proofs.lemmas.Grind.{common_steps}
+use Rattle.std.proofs.Common.{◌∙◌, ap, length, arith, ◌≤◌}
 use Rattle.hk_model.specs.Content.{least_closed}
 use Rattle.hk_marks.proofs.Kept.{least_from-more, least_from-all}
 use Rattle.hk_marks.proofs.got.Got.readable.Goals as goal

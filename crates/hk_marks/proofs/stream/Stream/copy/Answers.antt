@@ -1,4 +1,3 @@
-use Rattle.std.proofs.Common.{◌∙◌, sym}
 use Rattle.hk_marks.proofs.Readers.{alike_seen, alike_stored}
 use Rattle.hk_marks.proofs.stream.Stream.copy.Goals as goal
 

@@ -1,7 +1,4 @@
-use Rattle.std.proofs.Common.{◌∙◌, ◌≡◌, ◌≤◌, ◌<◌, sym, ap, subst, arith, ℕ}
-use Rattle.hk_model.specs.Streams.{StreamContent}
-use Rattle.hk_marks.specs.Seen.{stream_seen}
-use Rattle.hk_marks.specs.Room.{HasRoom}
+use Rattle.std.proofs.Common.{◌<◌, arith}
 use Rattle.hk_marks.proofs.Trees.{covers_seen}
 use Rattle.hk_marks.proofs.Joins.{near_number, waits_here, settled_together}
 use Rattle.hk_marks.proofs.stream.Stream.settle_with.Goals as goal
@@ -19,4 +16,4 @@ pub returns : goal.returns
 returns c =
     let law = covers_seen _ _ c.take_numbers.ensures.extras in
     rw (← c.self.view_is, ← c.other.view_is) (settled_together _ _ _ _ c.self.invariant _ _ _ _ c.other.invariant (rw (c.self.view_is, c.other.view_is) c.requires) _ _ _ _ _ _ _
-      c.take_numbers.ensures.taken c.close_up_to.ensures c.raise_marks.ensures.rising (c.raise_marks.ensures.settles _ law) (c.settle.ensures.settles _ law))
+    c.take_numbers.ensures.taken c.close_up_to.ensures c.raise_marks.ensures.rising (c.raise_marks.ensures.settles _ law) (c.settle.ensures.settles _ law))

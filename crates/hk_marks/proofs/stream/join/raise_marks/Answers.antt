@@ -1,4 +1,4 @@
-use Rattle.std.proofs.Common.{◌∙◌, ◌≡◌, ◌++◌, sym, ap, ℕ, List, true, is_some, Some}
+use Rattle.std.proofs.Common.{◌∙◌, ◌≡◌, ◌++◌, sym, ap, ℕ, List, true, is_some}
 use Rattle.std.proofs.lemmas.Map.Iter.{btree_map_turn}
 use Rattle.std.specs.Cmp.{nat_cmp_total}
 use Rattle.std.specs.Ordering.{nat_cmp}
@@ -29,7 +29,7 @@ loop-count-preserved c =
     record {
       settles = λ t law.
           raised_waiting t c.loop-count.closed _ _ (waiting_seen c.loop-count.waiting) (waiting_seen c.raise_waiting.new.waiting) c.next.new.self
-            (λ q. get-waiting_seen c.raise_waiting.new.waiting q ∙ found q ∙ ap (later (told (c.in-Some.count.now, c.in-Some.upto.now) q)) (sym (get-waiting_seen c.loop-count.waiting q)))
+          (λ q. get-waiting_seen c.raise_waiting.new.waiting q ∙ found q ∙ ap (later (told (c.in-Some.count.now, c.in-Some.upto.now) q)) (sym (get-waiting_seen c.loop-count.waiting q)))
           ∙ ap (λ (rest : List (ℕ × ℕ)). settled t c.loop-count.closed (finmap.entries (waiting_seen c.loop-count.waiting) ++ rest)) (sym c.in-Some.ensures.steps)
           ∙ c.loop-count.invariant.settles t law;
       same_counts = λ q. same_counts _ _ c.loop-count.waiting c.raise_waiting.new.waiting there found q ∙ c.loop-count.invariant.same_counts q;
