@@ -1,0 +1,11 @@
+use Rattle.std.proofs.Common.{subst}
+use Rattle.hk_model.specs.Lawful.{IsLawfulStream}
+use Rattle.hk_marks.proofs.Readers.{lawful_seen}
+use Rattle.hk_marks.proofs.Trees.{covers_seen}
+use Rattle.hk_marks.proofs.stream.Stream.prefix.Goals as goal
+
+pub returns-clause-value : goal.returns-clause-value
+returns-clause-value c = rw (← c.self.view_is) (covers_seen _ _ c.self.invariant.extras)
+
+pub returns-clause-lawful : goal.returns-clause-lawful
+returns-clause-lawful c = subst IsLawfulStream c.self.view_is (lawful_seen _ _ c.self.inside.closed _ c.self.invariant)

@@ -1,0 +1,48 @@
+-- How the stored parts of a stream are seen.
+use Rattle.std.specs.Prelude.{◌≡◌, ℕ, zero, suc, ◌^◌, ◌+◌, ◌<◌, ◌≤◌, List, length, All, true, Some}
+use Rattle.std.specs.Ordering.{nat_cmp}
+use Rattle.std.specs.FinMap as finmap
+use Rattle.std.specs.FinSet as set
+use Rattle.std.specs.BTreeMap as tree
+use Rattle.std.specs.BTreeSet as sorted
+use Rattle.std.specs.BTreeMap.{BTreeMap}
+use Rattle.std.specs.BTreeSet.{BTreeSet}
+use Rattle.hk_model.specs.Streams.{StreamContent}
+use Rattle.hk_model.specs.Lawful.{IsLawfulStream}
+
+-- the numbers 1 to n
+abbrev pub up_to : ℕ → set.FinSet nat_cmp
+up_to zero = set.empty
+up_to (suc n) = set.insert (up_to n) (suc n)
+
+-- the numbers 1 to the prefix, and the extra ones
+unfoldable pub taken_seen : ℕ → BTreeSet ℕ → set.FinSet nat_cmp
+taken_seen prefix extra = set.union (up_to prefix) (set.from_list extra.keys)
+
+-- marks by count
+unfoldable pub waiting_seen : BTreeMap ℕ ℕ → finmap.FinMap nat_cmp ℕ
+waiting_seen waiting = finmap.from_entries waiting.entries
+
+abbrev pub stream_seen : ℕ → BTreeSet ℕ → ℕ → BTreeMap ℕ ℕ → StreamContent
+stream_seen prefix extra closed waiting =
+    record { taken = taken_seen prefix extra; closed = closed; waiting = waiting_seen waiting }
+
+-- extra numbers lie above the next number
+abbrev pub IsExtra : ℕ → BTreeSet ℕ → Type 0
+IsExtra prefix extra = (q : ℕ) → sorted.contains nat_cmp extra q ≡ true → (prefix + 1 < q) × (q ≤ 2 ^ 62)
+
+-- marks wait for numbers above the prefix
+abbrev pub WaitsAbove : ℕ → BTreeMap ℕ ℕ → Type 0
+WaitsAbove prefix waiting = (q m : ℕ) → tree.get nat_cmp waiting q ≡ Some m → prefix < q
+
+-- what every stored stream is
+pub record IsStored (prefix : ℕ) (extra : BTreeSet ℕ) (waiting : BTreeMap ℕ ℕ) : Type 0 where
+  pub prefix_most : prefix ≤ 2 ^ 62
+  pub extras : IsExtra prefix extra
+  pub waits : WaitsAbove prefix waiting
+
+-- what the streams of every `Got` are
+pub record AreStreams (streams : List StreamContent) : Type 0 where
+  pub least : 1 ≤ length streams
+  pub most : length streams ≤ 64
+  pub lawful : All IsLawfulStream streams

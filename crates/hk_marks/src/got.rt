@@ -1,0 +1,244 @@
+//! What is known of all streams of a log.
+
+ghost use Rattle.std.specs.Prelude.{◌≡◌, ◌≤◌, ◌<◌, ◌^◌, ◌-◌, ◌∷◌, [], ℕ, All, min, nat_le, length, replicate, slice_set, IsOk, IfOk, OnOk, OnErr, IfErr};
+ghost use Rattle.std.specs.FinMap as finmap;
+ghost use Rattle.std.specs.FinSet as set;
+ghost use Rattle.std.specs.List.Sorted.{IsStrictlyIncreasing};
+ghost use Rattle.std.specs.Map.Iter.{ShowsInOrder, deref, deref_pair};
+ghost use Rattle.hk_types.specs.declared.faults.Refusal.TheVariants.{Memory};
+ghost use Rattle.hk_log.specs.Items.{EntryValue, MarkValue};
+ghost use Rattle.hk_log.specs.declared.item.Item.TheVariants.{Commit, Closed};
+ghost use Rattle.hk_model.specs.Content.{least_closed};
+ghost use Rattle.hk_model.specs.Lawful.{IsLawfulStream};
+ghost use Rattle.hk_model.specs.Streams.{StreamContent, all_together, covers, is_told, stream_at, streams_of, unknown};
+ghost use Rattle.hk_marks.specs.Steps.{with_number, with_mark, raised, extra_numbers};
+
+use crate::stream::{Stream, join_streams};
+use hk_types::{Config, Refusal, StreamNo, Time};
+use std::alloc::Global;
+use std::collections::{btree_map, btree_set};
+use std::marker::Model;
+
+/// What is known of each stream of a log: the entry numbers taken, the time up to which it is
+/// closed, and the marks that wait for entries that are missing.
+///
+/// Numbers are kept as a prefix, 1 to some number, and the extra ones above it. So a log that
+/// comes in order costs no memory, and one that comes out of order a tree node an extra number.
+/// A mark says that the first `n` entries of its stream are all those with time at most `m`. It
+/// closes the stream up to `m` as soon as 1 to `n` are taken; until then it waits, and of several
+/// for one `n` the one with the greatest `m`.
+#[derive(Drop)]
+pub struct Got {
+    streams: Vec<Stream>,
+}
+
+impl Model for Got {
+    ghost use Rattle.std.specs.Prelude.{List};
+    ghost use Rattle.std.specs.Coded.{coded_list};
+    ghost use Rattle.hk_model.specs.Streams.{StreamContent};
+    ghost use Rattle.hk_model.specs.Codes.{stream_code};
+    ghost use Rattle.hk_marks.specs.Seen.{AreStreams};
+
+    ghost Value = { List StreamContent };
+
+    ghost coded = { coded_list stream_code };
+
+    ghost view = { λ a. a.streams.items };
+
+    ghost invariant = { λ a. AreStreams a.streams.items };
+}
+
+fn place(s: StreamNo) -> usize
+    ensures value { result ≡ s - 1 }
+    ensures below { result < s }
+{
+    usize::from(s.number() - 1)
+}
+
+fn earlier(a: Time, b: Time) -> Time
+    ensures { result ≡ min a b }
+{
+    if a.number() <= b.number() { a } else { b }
+}
+
+impl Got {
+    /// Nothing is taken, and each stream is closed at time 0.
+    ///
+    /// The only refusal is `Memory`. Costs by the number of streams.
+    pub fn new(alloc: Global, config: Config) -> Result<Got, Refusal>
+        ensures ok { IfOk result (λ got. got ≡ replicate config.streams unknown) }
+        ensures err { IfErr result (λ why. why ≡ Memory) }
+    {
+        let count = usize::from(config.streams());
+        let mut streams = Vec::with_capacity(alloc, count)?;
+        'streams: for _ in 0..count {
+            streams.push(Stream::new(alloc))?;
+        }
+        Ok(Got { streams })
+    }
+
+    /// Takes an entry's number, 1 to 2^62. A number that is taken already changes nothing.
+    ///
+    /// The only refusal is `Memory`, where a number that doesn't follow the prefix finds no room;
+    /// then nothing is changed. Costs by the logarithm of the extra numbers, and where it closes a
+    /// gap, that for each extra number that joins the prefix and for each mark that it frees.
+    pub fn add_number(&mut self, s: StreamNo, number: u64) -> Result<(), Refusal>
+        requires known { s ≤ length self.old }
+        requires least { 1 ≤ number }
+        requires most { number ≤ 2 ^ 62 }
+        ensures ok { OnOk result (self.new ≡ slice_set self.old (s - 1) (with_number (stream_at self.old s) number)) }
+
+        // It takes what an entry of this number tells.
+        ensures entry { OnOk result ((e : EntryValue) → e.stream ≡ s → e.number ≡ number
+            → self.new ≡ all_together self.old (streams_of (length self.old) (Commit e ∷ []))) }
+        ensures err { IfErr result (λ why. why ≡ Memory) }
+        ensures kept { OnErr result (self.new ≡ self.old) }
+    {
+        self.streams[place(s)].add_number(number)?;
+        Ok(())
+    }
+
+    /// Takes the mark that the first `n` entries of the stream are those with time at most `m`.
+    ///
+    /// The only refusal is `Memory`, where a mark that has to wait finds no room; then nothing is
+    /// changed. Costs by the logarithm of the waiting marks.
+    pub fn add_mark(&mut self, s: StreamNo, n: u64, m: Time) -> Result<(), Refusal>
+        requires known { s ≤ length self.old }
+        requires truthful { n ≤ m }
+        ensures ok { OnOk result (self.new ≡ slice_set self.old (s - 1) (with_mark (stream_at self.old s) n m)) }
+
+        // It takes what such a mark tells.
+        ensures mark { OnOk result ((mark : MarkValue) → mark.stream ≡ s → mark.count ≡ n → mark.upto ≡ m
+            → self.new ≡ all_together self.old (streams_of (length self.old) (Closed mark ∷ []))) }
+        ensures err { IfErr result (λ why. why ≡ Memory) }
+        ensures kept { OnErr result (self.new ≡ self.old) }
+    {
+        self.streams[place(s)].add_mark(n, m)?;
+        Ok(())
+    }
+
+    /// Takes the numbers 1 to `prefix`, which is at most 2^62, and closes the stream at least up
+    /// to `closed`.
+    ///
+    /// It needs no memory and is never refused. Costs by the extra numbers that join the prefix
+    /// and the marks that it frees, each by the logarithm of what is there.
+    pub fn raise(&mut self, s: StreamNo, prefix: u64, closed: Time) -> Result<(), Refusal>
+        requires known { s ≤ length self.old }
+        requires most { prefix ≤ 2 ^ 62 }
+        ensures done { IsOk result }
+        ensures value { self.new ≡ slice_set self.old (s - 1) (raised (stream_at self.old s) prefix closed) }
+    {
+        self.streams[place(s)].raise(prefix, closed);
+        Ok(())
+    }
+
+    /// Takes all that another view of the same number of streams has.
+    ///
+    /// The only refusal is `Memory`, where an extra number or a waiting mark finds no room; then
+    /// nothing is changed in any stream. Costs by the extra numbers and waiting marks of the other
+    /// view, and by those here that it frees, each by the logarithm of what is there.
+    pub fn join(&mut self, other: &Got) -> Result<(), Refusal>
+        requires { length self.old ≡ length other.now }
+        ensures ok { OnOk result (self.new ≡ all_together self.old other.now) }
+        ensures err { IfErr result (λ why. why ≡ Memory) }
+        ensures kept { OnErr result (self.new ≡ self.old) }
+    {
+        let alloc = *self.streams.allocator();
+        join_streams(alloc, &mut self.streams, &other.streams)?;
+        Ok(())
+    }
+
+    /// How many streams the log has, 1 to 64.
+    pub fn streams(&self) -> u16
+        ensures value { result ≡ length self.now }
+        ensures least { 1 ≤ length self.now }
+        ensures most { length self.now ≤ 64 }
+        ensures lawful { All IsLawfulStream self.now }
+    {
+        self.streams.len() as u16
+    }
+
+    /// Whether an entry's number is taken.
+    pub fn has(&self, s: StreamNo, number: u64) -> bool
+        requires { s ≤ length self.now }
+        ensures { result ≡ set.contains (stream_at self.now s).taken number }
+    {
+        self.streams[place(s)].has(number)
+    }
+
+    /// Whether the numbers 1 to `count` are all taken.
+    pub fn covers(&self, s: StreamNo, count: u64) -> bool
+        requires { s ≤ length self.now }
+        ensures { result ≡ covers (stream_at self.now s).taken count }
+    {
+        self.streams[place(s)].covers(count)
+    }
+
+    /// The greatest number up to which all are taken, at most 2^62.
+    pub fn prefix(&self, s: StreamNo) -> u64
+        requires { s ≤ length self.now }
+        ensures value { (n : ℕ) → covers (stream_at self.now s).taken n ≡ nat_le n result }
+        ensures most { result ≤ 2 ^ 62 }
+    {
+        self.streams[place(s)].prefix()
+    }
+
+    /// Whether a mark tells nothing new, so that taking it would change nothing.
+    pub fn is_told(&self, s: StreamNo, n: u64, m: Time) -> bool
+        requires { s ≤ length self.now }
+        ensures { result ≡ is_told (stream_at self.now s) n m }
+    {
+        self.streams[place(s)].is_told(n, m)
+    }
+
+    /// The time up to which the stream is closed: its entries with this time or less are all taken.
+    pub fn closed(&self, s: StreamNo) -> Time
+        requires { s ≤ length self.now }
+        ensures { result ≡ (stream_at self.now s).closed }
+    {
+        self.streams[place(s)].closed()
+    }
+
+    /// The least closed time over all streams. It needs no memory; costs by the number of streams.
+    pub fn readable(&self) -> Time
+        ensures value { result ≡ least_closed self.now }
+        ensures lawful { All IsLawfulStream self.now }
+    {
+        let mut least = self.streams[0].closed();
+        for stream in &self.streams {
+            least = earlier(least, stream.closed());
+        }
+        least
+    }
+
+    /// The taken numbers above the prefix, in rising order.
+    pub fn extra_numbers(&self, s: StreamNo) -> btree_set::Iter<'_, u64>
+        requires { s ≤ length self.now }
+        ensures value { set.from_list result ≡ extra_numbers (stream_at self.now s) }
+        ensures rising { IsStrictlyIncreasing result }
+        ensures runs { ShowsInOrder (deref {X = ℕ}) }
+    {
+        self.streams[place(s)].extra_numbers()
+    }
+
+    /// The waiting marks as `n` and `m`, in rising order of `n`.
+    pub fn waiting_marks(&self, s: StreamNo) -> btree_map::Iter<'_, u64, Time>
+        requires { s ≤ length self.now }
+        ensures value { result ≡ finmap.entries (stream_at self.now s).waiting }
+        ensures runs { ShowsInOrder (deref_pair {K = ℕ} {X = ℕ}) }
+    {
+        self.streams[place(s)].waiting_marks()
+    }
+
+    /// The same again. The only refusal is `Memory`. Costs by what is copied.
+    pub fn copy(&self, alloc: Global) -> Result<Got, Refusal>
+        ensures ok { IfOk result (λ got. got ≡ self.now) }
+        ensures err { IfErr result (λ why. why ≡ Memory) }
+    {
+        let mut streams = Vec::with_capacity(alloc, self.streams.len())?;
+        for stream in &self.streams {
+            streams.push(stream.copy(alloc)?)?;
+        }
+        Ok(Got { streams })
+    }
+}

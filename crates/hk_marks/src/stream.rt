@@ -1,0 +1,297 @@
+//! What is known of one stream.
+
+ghost use Rattle.std.specs.Prelude.{◌≡◌, ◌≤◌, ◌<◌, ◌^◌, ◌+◌, ◌&&◌, ℕ, Bool, true, max, nat_le, length, is_some, Some, IsSome, IfSome, IfNone, IfOk, OnOk, OnErr};
+ghost use Rattle.std.specs.Bool.{OnTrue, OnFalse};
+ghost use Rattle.std.specs.List.Sorted.{IsStrictlyIncreasing};
+ghost use Rattle.std.specs.Ordering.{nat_cmp};
+ghost use Rattle.std.specs.FinMap as finmap;
+ghost use Rattle.std.specs.BTreeMap as tree;
+ghost use Rattle.std.specs.BTreeSet as sorted;
+ghost use Rattle.std.specs.FinSet as set;
+ghost use Rattle.std.specs.Map.Iter.{ShowsInOrder, deref, deref_pair};
+ghost use Rattle.hk_model.specs.Streams.{StreamContent, covers, settled, unknown, is_told};
+ghost use Rattle.hk_model.specs.Lawful.{IsLawfulStream};
+ghost use Rattle.hk_marks.specs.Seen.{up_to, taken_seen, waiting_seen, IsExtra, WaitsAbove};
+ghost use Rattle.hk_model.proofs.Streams.{later, told};
+ghost use Rattle.hk_marks.specs.Steps.{with_number, with_mark, raised, extra_numbers};
+
+mod join;
+
+use hk_types::Time;
+pub use join::join_streams;
+use std::alloc::{AllocError, Global};
+use std::collections::{BTreeMap, BTreeSet, btree_map, btree_set};
+use std::marker::Model;
+
+/// The numbers 1 to the prefix are taken, and the extra ones, which lie above the next number.
+/// Each mark waits for more numbers than the prefix.
+#[derive(Drop)]
+pub struct Stream {
+    prefix: u64,
+    extra: BTreeSet<u64>,
+    closed: Time,
+    waiting: BTreeMap<u64, Time>,
+}
+
+impl Model for Stream {
+    ghost use Rattle.hk_model.specs.Streams.{StreamContent};
+    ghost use Rattle.hk_model.specs.Codes.{stream_code};
+    ghost use Rattle.hk_marks.specs.Seen.{stream_seen, IsStored};
+
+    ghost Value = { StreamContent };
+
+    ghost coded = { stream_code };
+
+    ghost view = { λ a. stream_seen a.prefix a.extra a.closed a.waiting };
+
+    ghost invariant = { λ a. IsStored a.prefix a.extra a.waiting };
+}
+
+/// The least of the extra numbers, where it is at most a bound.
+fn first_up_to(bound: u64, extra: &BTreeSet<u64>) -> Option<u64>
+    ensures bounded { IfSome result (λ number. number ≤ bound) }
+    ensures member { IfSome result (λ number. sorted.contains nat_cmp extra.now number ≡ true) }
+    ensures none { IfNone result ((q : ℕ) → sorted.contains nat_cmp extra.now q ≡ true → bound < q) }
+{
+    let number = extra.first()?;
+    if *number > bound {
+        return None;
+    }
+    Some(*number)
+}
+
+/// Takes the extra numbers that the prefix reaches into the prefix.
+fn grow(prefix: &mut u64, extra: &mut BTreeSet<u64>)
+    requires least { (q : ℕ) → sorted.contains nat_cmp extra.old q ≡ true → 0 < q }
+    requires most { (q : ℕ) → sorted.contains nat_cmp extra.old q ≡ true → q ≤ 2 ^ 62 }
+    requires prefix_most { prefix.old ≤ 2 ^ 62 }
+    ensures same { taken_seen prefix.new extra.new ≡ taken_seen prefix.old extra.old }
+    ensures extras { IsExtra prefix.new extra.new }
+    ensures prefix_most { prefix.new ≤ 2 ^ 62 }
+    ensures grows { prefix.old ≤ prefix.new }
+{
+    while let Some(number) = first_up_to(*prefix + 1, extra) {
+        extra.remove(&number);
+        if number > *prefix {
+            *prefix = number;
+        }
+    }
+}
+
+/// Takes the numbers 1 to `upto`.
+fn take_up_to(prefix: &mut u64, extra: &mut BTreeSet<u64>, upto: u64)
+    requires extras { IsExtra prefix.old extra.old }
+    requires prefix_most { prefix.old ≤ 2 ^ 62 }
+    requires most { upto ≤ 2 ^ 62 }
+    ensures taken { taken_seen prefix.new extra.new ≡ set.union (taken_seen prefix.old extra.old) (up_to upto) }
+    ensures extras { IsExtra prefix.new extra.new }
+    ensures prefix_most { prefix.new ≤ 2 ^ 62 }
+    ensures grows { prefix.old ≤ prefix.new }
+{
+    if upto > *prefix {
+        *prefix = upto;
+        grow(prefix, extra);
+    }
+}
+
+/// A mark that the prefix covers, where one waits.
+fn first_covered(prefix: u64, waiting: &BTreeMap<u64, Time>) -> Option<u64>
+    ensures found { IfSome result (λ count. count ≤ prefix) }
+    ensures waits { IfSome result (λ count. IsSome (tree.get nat_cmp waiting.now count)) }
+    ensures none { IfNone result (WaitsAbove prefix waiting.now) }
+{
+    let (count, _) = waiting.first_key_value()?;
+    if *count > prefix {
+        return None;
+    }
+    Some(*count)
+}
+
+fn close_up_to(closed: &mut Time, upto: Time)
+    ensures { closed.new ≡ max closed.old upto }
+{
+    if closed.number() < upto.number() {
+        *closed = upto;
+    }
+}
+
+/// Forgets the marks that the prefix covers, and closes up to their times.
+fn settle(prefix: u64, closed: &mut Time, waiting: &mut BTreeMap<u64, Time>)
+    ensures settles { (taken : set.FinSet nat_cmp) → ((n : ℕ) → covers taken n ≡ nat_le n prefix)
+        → settled taken closed.old (finmap.entries (waiting_seen waiting.old)) ≡ record { taken = taken; closed = closed.new; waiting = waiting_seen waiting.new } }
+    ensures waits { WaitsAbove prefix waiting.new }
+{
+    while let Some(count) = first_covered(prefix, waiting) {
+        if let Some(upto) = waiting.remove(&count) {
+            close_up_to(closed, upto);
+        }
+    }
+}
+
+/// Gives a mark that waits the greater time. Answers whether a mark of this count waits.
+fn raise_waiting(waiting: &mut BTreeMap<u64, Time>, count: u64, upto: Time) -> bool
+    ensures test { result ≡ is_some (tree.get nat_cmp waiting.old count) }
+    ensures found { OnTrue result ((q : ℕ) → tree.get nat_cmp waiting.new q ≡ later (told (count, upto) q) (tree.get nat_cmp waiting.old q)) }
+    ensures absent { OnFalse result (waiting.new.entries ≡ waiting.old.entries) }
+{
+    if let Some(there) = waiting.get_mut(&count) {
+        close_up_to(there, upto);
+        return true;
+    }
+    false
+}
+
+/// Lets a mark wait, the greatest time for each count.
+fn wait(waiting: &mut BTreeMap<u64, Time>, count: u64, upto: Time) -> Result<(), AllocError>
+    ensures ok { OnOk result ((q : ℕ) → tree.get nat_cmp waiting.new q ≡ later (told (count, upto) q) (tree.get nat_cmp waiting.old q)) }
+    ensures err { OnErr result (waiting.new.entries ≡ waiting.old.entries) }
+{
+    if !raise_waiting(waiting, count, upto) {
+        waiting.insert(count, upto)?;
+    }
+    Ok(())
+}
+
+impl Stream {
+    /// A stream of which nothing is known.
+    pub fn new(alloc: Global) -> Stream
+        ensures { result ≡ unknown }
+    {
+        Stream {
+            prefix: 0,
+            extra: BTreeSet::new(alloc),
+            closed: Time::zero(),
+            waiting: BTreeMap::new(alloc),
+        }
+    }
+
+    /// Takes an entry's number.
+    pub fn add_number(&mut self, number: u64) -> Result<(), AllocError>
+        requires least { 1 ≤ number }
+        requires most { number ≤ 2 ^ 62 }
+        ensures ok { OnOk result (self.new ≡ with_number self.old number) }
+        ensures err { OnErr result (self.new ≡ self.old) }
+    {
+        if number <= self.prefix {
+            return Ok(());
+        }
+        if number > self.prefix + 1 {
+            self.extra.insert(number)?;
+            return Ok(());
+        }
+        self.prefix = number;
+        grow(&mut self.prefix, &mut self.extra);
+        settle(self.prefix, &mut self.closed, &mut self.waiting);
+        Ok(())
+    }
+
+    /// Takes a mark: the entries with time at most `upto` are the first `count`.
+    pub fn add_mark(&mut self, count: u64, upto: Time) -> Result<(), AllocError>
+        ensures ok { OnOk result (self.new ≡ with_mark self.old count upto) }
+        ensures err { OnErr result (self.new ≡ self.old) }
+    {
+        if count <= self.prefix {
+            close_up_to(&mut self.closed, upto);
+            return Ok(());
+        }
+        wait(&mut self.waiting, count, upto)
+    }
+
+    /// Takes the numbers 1 to `prefix`, and closes at least up to `closed`.
+    pub fn raise(&mut self, prefix: u64, closed: Time)
+        requires { prefix ≤ 2 ^ 62 }
+        ensures { self.new ≡ raised self.old prefix closed }
+    {
+        take_up_to(&mut self.prefix, &mut self.extra, prefix);
+        close_up_to(&mut self.closed, closed);
+        settle(self.prefix, &mut self.closed, &mut self.waiting);
+    }
+
+    pub fn has(&self, number: u64) -> bool
+        ensures { result ≡ set.contains self.now.taken number }
+    {
+        if number <= self.prefix {
+            return number > 0;
+        }
+        self.extra.contains(&number)
+    }
+
+    /// Whether the numbers 1 to `count` are all taken.
+    pub fn covers(&self, count: u64) -> bool
+        ensures { result ≡ covers self.now.taken count }
+    {
+        count <= self.prefix
+    }
+
+    /// The greatest number up to which all are taken.
+    pub fn prefix(&self) -> u64
+        ensures value { (n : ℕ) → covers self.now.taken n ≡ nat_le n result }
+        ensures most { result ≤ 2 ^ 62 }
+        ensures lawful { IsLawfulStream self.now }
+    {
+        self.prefix
+    }
+
+    pub fn closed(&self) -> Time
+        ensures { result ≡ self.now.closed }
+    {
+        self.closed
+    }
+
+    /// Whether a mark tells nothing new.
+    pub fn is_told(&self, count: u64, upto: Time) -> bool
+        ensures { result ≡ is_told self.now count upto }
+    {
+        if count <= self.prefix {
+            return upto <= self.closed;
+        }
+        match self.waiting.get(&count) {
+            Some(there) => upto <= *there,
+            None => false,
+        }
+    }
+
+    /// The taken numbers above the prefix, in rising order.
+    pub fn extra_numbers(&self) -> btree_set::Iter<'_, u64>
+        ensures value { set.from_list result ≡ extra_numbers self.now }
+        ensures rising { IsStrictlyIncreasing result }
+        ensures runs { ShowsInOrder (deref {X = ℕ}) }
+    {
+        self.extra.iter()
+    }
+
+    /// The waiting marks, in rising order of their counts.
+    pub fn waiting_marks(&self) -> btree_map::Iter<'_, u64, Time>
+        ensures value { result ≡ finmap.entries self.now.waiting }
+        ensures runs { ShowsInOrder (deref_pair {K = ℕ} {X = ℕ}) }
+    {
+        self.waiting.iter()
+    }
+
+    /// The same again.
+    pub fn copy(&self, alloc: Global) -> Result<Stream, AllocError>
+        ensures { IfOk result (λ stream. stream ≡ self.now) }
+    {
+        Ok(Stream {
+            prefix: self.prefix,
+            extra: copy_numbers(&self.extra, alloc)?,
+            closed: self.closed,
+            waiting: copy_marks(&self.waiting, alloc)?,
+        })
+    }
+}
+
+fn copy_numbers(numbers: &BTreeSet<u64>, alloc: Global) -> Result<BTreeSet<u64>, AllocError>
+    ensures { IfOk result (λ copied. (q : ℕ) → sorted.contains nat_cmp copied q ≡ sorted.contains nat_cmp numbers.now q) }
+{
+    numbers.iter().copied().collect(alloc)
+}
+
+fn copy_marks(marks: &BTreeMap<u64, Time>, alloc: Global) -> Result<BTreeMap<u64, Time>, AllocError>
+    ensures { IfOk result (λ copied. (q : ℕ) → tree.get nat_cmp copied q ≡ tree.get nat_cmp marks.now q) }
+{
+    marks
+        .iter()
+        .map(|(count, upto)| (*count, *upto))
+        .collect(alloc)
+}
