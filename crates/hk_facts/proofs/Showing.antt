@@ -1,5 +1,5 @@
 -- What a content shows of a row, told by the chain of the row.
-use Rattle.std.proofs.Common.{◌≡◌, cond, refl, sym, ap, ◌∙◌, subst, ℕ, ◌≤◌, Bool, true, false, ◌&&◌, ◌==◌, Option, Some, None, inl, inr, leb, nat_le, nat_lt, le-leb, leb-true, ltb-true, eqb-true, true≢false, arith}
+use Rattle.std.proofs.Common.{◌≡◌, cond, refl, sym, ap, ◌∙◌, subst, ℕ, ◌≤◌, Bool, true, false, ◌&&◌, ◌==◌, Option, Some, None, inl, inr, leb, nat_le, nat_lt, le-leb, leb-true, ltb-true, eqb-true, eq-eqb, not, true≢false, arith}
 use Rattle.std.proofs.lemmas.Bool.{and_parts, cases_lt}
 use Rattle.std.specs.Option.{is_some}
 use Rattle.std.specs.List.{list_any}
@@ -15,7 +15,7 @@ use Rattle.hk_model.proofs.Members.{In-map}
 use Rattle.hk_model.proofs.Visible.{get_entry, any_where, not_from}
 use Rattle.hk_model.proofs.Shown.{Shows, shows_parts, shows_from, any_In, get-key, replaces_from, visible_row, none_visible}
 use Rattle.hk_facts.specs.Facts.{row_of, died_of}
-use Rattle.hk_facts.specs.Chains.{ChainValue, latest_at, row_at, shown}
+use Rattle.hk_facts.specs.Chains.{ChainValue, latest_at, row_at, shown, picked}
 use Rattle.hk_facts.proofs.Newest.{newest, no_newest}
 
 -- a chain has what the content has of the row
@@ -45,6 +45,9 @@ there_row (Some r) e = (r, refl)
 
 pair_is : (x y : ℕ × VersionValue) → Some x ≡ Some y → x ≡ y
 pair_is x y e = cc
+
+none_row : (r : RowValue) → None ≡ Some r → ⊥
+none_row r e = cc
 
 none_is : (x : ℕ × VersionValue) → None ≡ Some x → ⊥
 none_is x e = cc
@@ -120,3 +123,27 @@ module _ (c : Content) (k : RowKey) (chain : ChainValue) (is : IsChainOf c k cha
           let same : None ≡ Some (born, s.0) = sym none ∙ s.1 in
           absurd (none_is (born, s.0) same)))
       by (Some e) latest = found e latest (at_most t e.1.died) refl
+
+  -- the row of a version that shows is that of the chain's latest
+  pub shown_by : (born : ℕ) → cond (shows c t (version_of k born)) (finmap.get c.rows (version_of k born)) None ≡ picked t born (latest_at chain t)
+  shown_by born = by (shows c t (version_of k born)) (finmap.get c.rows (version_of k born)) (latest_at chain t) refl refl refl
+    where
+      -- what is picked has a row, and shows
+      other : (e : ℕ × VersionValue) → latest_at chain t ≡ Some e → (b d : Bool) → (e.0 == born) ≡ b → at_most t e.1.died ≡ d → ((r : RowValue) → finmap.get c.rows (version_of k born) ≡ Some r → shows c t (version_of k born) ≡ true → ⊥) → None ≡ cond (b && not d) e.1.row None
+      other e latest true false same open_at_t never =
+          let s = latest_shows e latest open_at_t in
+          let one : e.0 ≡ born = eqb-true e.0 born same in
+          absurd (never s.0 (ap (λ n. finmap.get c.rows (version_of k n)) (sym one) ∙ s.2) (ap (λ n. shows c t (version_of k n)) (sym one) ∙ s.3))
+      other e latest true true same open_at_t never = refl
+      other e latest false d same open_at_t never = refl
+
+      by : (b : Bool) (x : Option RowValue) (o : Option (ℕ × VersionValue)) → shows c t (version_of k born) ≡ b → finmap.get c.rows (version_of k born) ≡ x → latest_at chain t ≡ o → cond b x None ≡ picked t born o
+      by true (Some r) o shown here latest =
+          let s = shows_latest born r here shown in
+          let open_at_t : at_most t s.0.died ≡ false = s.3 in
+          let picks : picked t born (Some (born, s.0)) ≡ Some r = (λ i. cond ((eq-eqb born born refl i) && not (open_at_t i)) s.0.row None) ∙ s.2 in
+          sym (ap (picked t born) (sym latest ∙ s.1) ∙ picks)
+      by true None None shown here latest = refl
+      by true None (Some e) shown here latest = other e latest (e.0 == born) (at_most t e.1.died) refl refl (λ r there _. absurd (none_row r (sym here ∙ there)))
+      by false x None shown here latest = refl
+      by false x (Some e) shown here latest = other e latest (e.0 == born) (at_most t e.1.died) refl refl (λ r there y. true≢false (sym y ∙ shown))

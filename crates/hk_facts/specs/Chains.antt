@@ -1,5 +1,5 @@
 -- The chain of a key: its versions, by the time at which they were born.
-use Rattle.std.specs.Prelude.{ℕ, Bool, not, ◌&&◌, nat_le, List, [], ◌∷◌, Option, Some, None, Result, Ok, Err, if◌then◌else◌, is_some}
+use Rattle.std.specs.Prelude.{ℕ, Bool, not, ◌&&◌, ◌==◌, nat_le, List, [], ◌∷◌, Option, Some, None, Result, Ok, Err, if◌then◌else◌, is_some}
 use Rattle.std.specs.Ordering.{nat_cmp}
 use Rattle.std.specs.FinMap as finmap
 use Rattle.hk_types.specs.Values.{RowValue}
@@ -63,3 +63,8 @@ shown t (Some e) = if at_most t e.1.died then None else e.1.row
 -- the row at t: that of the latest version with a row, unless that one ended at most at t
 abbrev pub row_at : ChainValue → ℕ → Option RowValue
 row_at c t = shown t (latest_at c t)
+
+-- the row of the version that was born then, if it is the latest and did not end by t
+abbrev pub picked : ℕ → ℕ → Option (ℕ × VersionValue) → Option RowValue
+picked t born None = None
+picked t born (Some e) = if (e.0 == born) && not (at_most t e.1.died) then e.1.row else None
