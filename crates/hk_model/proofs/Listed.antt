@@ -2,22 +2,25 @@
 use Rattle.std.proofs.Common.{◌≡◌, refl, sym, ap, ◌∙◌, subst, ℕ, Bool, true, false, cond, Option, Some, None, List, [], ◌∷◌, map, filter, filter_map, ◌⊎◌, inl, inr, T, ◌&&◌, Ordering, nat_cmp}
 use Rattle.std.specs.declared.cmp.Ordering.TheVariants.{Less, Equal, Greater}
 use Rattle.std.specs.List.{cons_option}
-use Rattle.std.specs.Ordering.{is_lt, ordering_then}
+use Rattle.std.specs.Ordering.{is_lt, ordering_then, eq_by_cmp, is_eq}
 use Rattle.std.specs.Option.{option_map}
-use Rattle.std.specs.Cmp.{IsTotalOrder, tied_itself}
+use Rattle.std.specs.Cmp.{IsTotalOrder, tied_itself, Equal-is}
+use Rattle.std.specs.List.{AllByRecursion}
+use Rattle.std.specs.List.Sorted.{IsStrictlySortedBy}
 use Rattle.std.specs.FinMap as finmap
+use Rattle.std.specs.FinSet as set
 use Rattle.std.specs.FinMap.Entries.{find, is_sorted, below_all, same_entries}
 use Rattle.hk_types.specs.Values.{RowValue}
 use Rattle.hk_types.specs.declared.version_key.VersionKey.{VersionKey}
 use Rattle.hk_model.specs.Rows.{RowKey, version_key_cmp, row_key_cmp, row_key_of}
 use Rattle.hk_model.specs.Content.{Content}
 use Rattle.hk_model.specs.Answers.{shows, visible}
-use Rattle.hk_model.proofs.Maps.{version_key_total, row_key_total, row_key_same}
+use Rattle.hk_model.proofs.Maps.{version_key_total, row_key_total, row_key_same, version_key_same}
 use Rattle.hk_model.proofs.Members.{In, In-find}
 use Rattle.hk_model.proofs.Same.{same_option}
 use Rattle.hk_model.proofs.Writes.{In_filter, filter_In}
-use Rattle.hk_model.proofs.Visible.{T_both, find_sorted, get_entry}
-use Rattle.hk_model.proofs.Shown.{shows_parts, one_shows, visible_row, visible_version}
+use Rattle.hk_model.proofs.Visible.{T_both, find_sorted, get_entry, any_where}
+use Rattle.hk_model.proofs.Shown.{shows_parts, one_shows, visible_row, visible_version, any_In}
 
 -- each is below all that follow it
 abbrev pub Rises : {K : Type 0} → (K → K → Ordering) → List K → Type 0
@@ -170,3 +173,25 @@ module _ (c : Content) (t : ℕ) where
       (ap (λ b. cond b (option_map {U = RowKey × RowValue} (λ s. (row_key_of l.version, s)) (finmap.get c.rows l.version)) None) l.shown
       ∙ ap (option_map {U = RowKey × RowValue} (λ s. (row_key_of l.version, s))) l.row
       ∙ ap (λ (q : RowKey). Some (q, r)) (sym l.of_key)))
+
+-- ---- lists of an index
+
+all_In : {X : Type 0} (P : X → Type 0) (xs : List X) → AllByRecursion P xs → (x : X) → In x xs → P x
+all_In P [] all x i = elim i [ ]
+all_In P (y ∷ ys) all x (inl e) = subst P (sym e) all.0
+all_In P (y ∷ ys) all x (inr i) = all_In P ys all.1 x i
+
+-- a strictly sorted list rises
+pub rises_from : {K : Type 0} (R : K → K → Ordering) (ks : List K) → IsStrictlySortedBy R ks → Rises R ks
+unfolding IsStrictlySortedBy
+rises_from R [] s = tt
+rises_from R (k ∷ ks) s = (all_In (λ y. R k y ≡ Less) ks s.0, rises_from R ks s.1)
+
+-- what stands in a list is in its set, and the other way round
+pub set_In : (vs : List VersionKey) (v : VersionKey) → In v vs → set.contains (set.from_list {R = version_key_cmp} vs) v ≡ true
+set_In vs v i = set.contains-from_list version_key_total vs v ∙ any_In (eq_by_cmp version_key_cmp v) v vs i (ap is_eq (tied_itself version_key_total v))
+
+pub In_set : (vs : List VersionKey) (v : VersionKey) → set.contains (set.from_list {R = version_key_cmp} vs) v ≡ true → In v vs
+In_set vs v c =
+    let w = any_where (eq_by_cmp version_key_cmp v) vs (sym (set.contains-from_list version_key_total vs v) ∙ c) in
+    subst (λ z. In z vs) (sym (version_key_same v w.0 ((Equal-is (version_key_cmp v w.0)).0 w.2))) w.1
