@@ -1,0 +1,103 @@
+-- The facts of a replica: its rows and its ends, by version key.
+use Rattle.std.specs.Prelude.{◌≡◌, ℕ, Bool, true, ◌||◌, ◌==◌, List, [], ◌∷◌, Option, Some, None, Result, Ok, Err, if◌then◌else◌, refl}
+use Rattle.std.specs.Option.{is_some, option_and_then}
+use Rattle.std.specs.List.{flat_map}
+use Rattle.std.specs.Coded.{Coded, code_by, coded×, coded_ℕ}
+use Rattle.std.specs.Ordering.{nat_cmp}
+use Rattle.std.specs.FinMap as finmap
+use Rattle.hk_types.specs.Values.{RowValue, same_row}
+use Rattle.hk_types.specs.declared.version_key.VersionKey.{VersionKey}
+use Rattle.hk_types.specs.declared.faults.Refusal.{Refusal}
+use Rattle.hk_types.specs.declared.faults.Refusal.TheVariants.{Conflict}
+use Rattle.hk_log.specs.Items.{EntryValue}
+use Rattle.hk_log.specs.Versions.{VersionValue, is_known}
+use Rattle.hk_log.specs.declared.item.Item.TheVariants.{Commit}
+use Rattle.hk_model.specs.Rows.{version_key_cmp}
+use Rattle.hk_model.specs.Maps.{or_else, differ, union, contradict}
+use Rattle.hk_model.specs.Facts.{rows_of, ends_of}
+use Rattle.hk_model.specs.Codes.{version_key_code, row_code}
+use Rattle.hk_facts.specs.declared.fact.Fact.{Fact}
+use Rattle.hk_facts.specs.declared.fact.Fact.TheVariants.{Row, End}
+use Rattle.hk_facts.specs.declared.fact.Part.{Part}
+use Rattle.hk_facts.specs.declared.fact.Part.TheVariants.{Row as RowPart, End as EndPart, Whole}
+use Rattle.hk_facts.specs.Keyed.{KeyedValue, version_in}
+use Rattle.hk_facts.specs.Facts.{if_known}
+
+-- the value of a `Facts`
+pub record FactsValue : Type 0 where
+  pub rows : finmap.FinMap version_key_cmp RowValue
+  pub ends : finmap.FinMap version_key_cmp ℕ
+
+abbrev pub facts_code : Coded FactsValue
+facts_code =
+    code_by (finmap.FinMap version_key_cmp RowValue × finmap.FinMap version_key_cmp ℕ)
+    (coded× (finmap.code version_key_code row_code) (finmap.code version_key_code coded_ℕ))
+    (λ f. (f.rows, f.ends)) (λ p. record { rows = p.0; ends = p.1 }) (λ _. refl)
+
+abbrev pub no_facts : FactsValue
+no_facts = record { rows = finmap.empty; ends = finmap.empty }
+
+-- ---- as they are stored: the chains of each table
+
+abbrev pub TablesValue : Type 0
+TablesValue = finmap.FinMap nat_cmp KeyedValue
+
+-- what is known of a version
+abbrev pub stored : TablesValue → VersionKey → Option VersionValue
+stored tables v = option_and_then (λ k. version_in k v.key v.born) (finmap.get tables v.table)
+
+-- an entry, where there is a value
+abbrev pub entry_if : {Y : Type 0} → VersionKey → Option Y → List (VersionKey × Y)
+entry_if v None = []
+entry_if v (Some y) = (v, y) ∷ []
+
+-- what is read of each stored version
+abbrev pub read_all : {Y : Type 0} → (VersionValue → Option Y) → TablesValue → List (VersionKey × Y)
+read_all read tables =
+    flat_map (λ t. flat_map (λ k. flat_map (λ v. entry_if (record { table = t.0; key = k.0; born = v.0 }) (read v.1)) (finmap.entries k.1)) (finmap.entries t.1)) (finmap.entries tables)
+
+-- the rows and the ends of all stored versions
+abbrev pub facts_of : TablesValue → FactsValue
+facts_of tables = record { rows = finmap.from_entries (read_all (λ v. v.row) tables); ends = finmap.from_entries (read_all (λ v. v.died) tables) }
+
+-- of each stored version something is known
+abbrev pub AllKnown : TablesValue → Type 0
+AllKnown tables = (q : VersionKey) (v : VersionValue) → stored tables q ≡ Some v → is_known v ≡ true
+
+-- ---- what calls do
+
+-- what is known of a version
+abbrev pub known_at : FactsValue → VersionKey → Option VersionValue
+known_at f v = if_known (record { row = finmap.get f.rows v; died = finmap.get f.ends v })
+
+-- the map with this at the key, unless something stands there
+abbrev pub added : {X : Type 0} → finmap.FinMap version_key_cmp X → VersionKey → X → finmap.FinMap version_key_cmp X
+added m v x = if finmap.contains_key m v then m else finmap.insert m v x
+
+-- whether a version has another row, or another end, than the fact says
+abbrev pub clashes_at : FactsValue → VersionKey → Fact → Bool
+clashes_at f v (Row row) = differ same_row (finmap.get f.rows v) (Some row)
+clashes_at f v (End died) = differ (λ a b. a == b) (finmap.get f.ends v) (Some died)
+
+-- the facts with one more
+abbrev pub with_fact_at : FactsValue → VersionKey → Fact → FactsValue
+with_fact_at f v (Row row) = record { rows = added f.rows v row; ends = f.ends }
+with_fact_at f v (End died) = record { rows = f.rows; ends = added f.ends v died }
+
+-- the facts with one more, unless it clashes
+abbrev pub facts_put : FactsValue → VersionKey → Fact → Result FactsValue Refusal
+facts_put f v fact = if clashes_at f v fact then Err Conflict else Ok (with_fact_at f v fact)
+
+-- the facts without a part of a version
+abbrev pub facts_without : FactsValue → VersionKey → Part → FactsValue
+facts_without f v RowPart = record { rows = finmap.remove f.rows v; ends = f.ends }
+facts_without f v EndPart = record { rows = f.rows; ends = finmap.remove f.ends v }
+facts_without f v Whole = record { rows = finmap.remove f.rows v; ends = finmap.remove f.ends v }
+
+-- the facts with all that an entry says
+abbrev pub with_entry : FactsValue → EntryValue → FactsValue
+with_entry f e = record { rows = union f.rows (rows_of (Commit e ∷ [])); ends = union f.ends (ends_of (Commit e ∷ [])) }
+
+-- whether an entry gives a version another row, or another end
+abbrev pub disputes : FactsValue → EntryValue → Bool
+disputes f e = contradict same_row f.rows (rows_of (Commit e ∷ [])) || contradict (λ a b. a == b) f.ends (ends_of (Commit e ∷ []))

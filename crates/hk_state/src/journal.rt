@@ -1,0 +1,1 @@
+//! Many facts at once, added all or none.
