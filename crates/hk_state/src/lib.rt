@@ -3,5 +3,6 @@
 
 mod facts;
 mod journal;
+mod replica;
 
-pub use facts::Facts;
+pub use replica::ReplicaState;

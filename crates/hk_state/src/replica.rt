@@ -1,0 +1,103 @@
+//! The state of a replica.
+
+ghost use Rattle.std.specs.Prelude.{◌≡◌, ℕ, ◌<◌, ◌≤◌, length, IfOk, IfErr, IfSome, IfNone, Some, None, nat_le, if◌then◌else◌, MatchOption};
+ghost use Rattle.std.specs.Option.{option_copied};
+ghost use Rattle.std.specs.FinMap as finmap;
+ghost use Rattle.hk_types.specs.declared.faults.Refusal.TheVariants.{Memory};
+ghost use Rattle.hk_model.specs.Rows.{RowKey};
+ghost use Rattle.hk_model.specs.Content.{readable};
+ghost use Rattle.hk_model.specs.Lawful.{IsLawful};
+ghost use Rattle.hk_model.specs.Streams.{stream_at};
+ghost use Rattle.hk_model.specs.Replicas.{nothing};
+
+use crate::facts::Facts;
+use hk_marks::Got;
+use hk_types::{Config, Refusal, StreamNo, Time};
+use std::alloc::Global;
+use std::marker::Model;
+
+/// What a replica of one log holds: the rows and the ends of versions, its horizon, and what is known of
+/// each stream. Contracts see it as its content.
+#[derive(Drop)]
+pub struct ReplicaState {
+    config: Config,
+    horizon: Time,
+    facts: Facts,
+    got: Got,
+    alloc: Global,
+}
+
+impl Model for ReplicaState {
+    ghost use Rattle.hk_model.specs.Content.{Content};
+    ghost use Rattle.hk_model.specs.Codes.{content_code};
+    ghost use Rattle.hk_state.specs.Replica.{content_of, IsReplica};
+
+    ghost Value = { Content };
+
+    ghost coded = { content_code };
+
+    ghost view = { λ a. content_of a.config a.horizon a.facts a.got };
+
+    ghost invariant = { λ a. IsReplica a.config a.horizon a.facts a.got };
+}
+
+impl ReplicaState {
+    /// The state of a replica that took nothing. The only refusal is `Memory`. Costs by the number of
+    /// streams.
+    pub fn new(alloc: Global, config: Config) -> Result<ReplicaState, Refusal>
+        ensures ok { IfOk result (λ state. state ≡ nothing config) }
+        ensures err { IfErr result (λ why. why ≡ Memory) }
+    {
+        let got = Got::new(alloc, config)?;
+        Ok(ReplicaState {
+            config,
+            horizon: Time::zero(),
+            facts: Facts::new(alloc),
+            got,
+            alloc,
+        })
+    }
+
+    /// The id of the log, and how many streams it has.
+    pub fn config(&self) -> Config
+        ensures log { result.log ≡ self.now.log }
+        ensures streams { result.streams ≡ length self.now.streams }
+    {
+        self.config
+    }
+
+    /// The least time that can be asked. It takes no memory.
+    pub fn horizon(&self) -> Time
+        ensures value { result ≡ self.now.horizon }
+        ensures lawful { IsLawful self.now }
+    {
+        self.horizon
+    }
+
+    /// The greatest time that can be asked: the least closed time over all streams. It takes no memory.
+    /// Costs by the number of streams.
+    pub fn readable(&self) -> Time
+        ensures value { result ≡ readable self.now }
+        ensures lawful { IsLawful self.now }
+    {
+        self.got.readable()
+    }
+
+    /// The time up to which a stream is closed, or `None` where the log has no such stream. It takes no
+    /// memory.
+    pub fn closed(&self, stream: StreamNo) -> Option<Time>
+        ensures { result ≡ (if nat_le stream (length self.now.streams) then Some (stream_at self.now.streams stream).closed else None) }
+    {
+        if stream.number() > self.config.streams() {
+            return None;
+        }
+        Some(self.got.closed(stream))
+    }
+
+    /// The numbers and marks of the streams.
+    pub fn got(&self) -> &Got
+        ensures { result.now ≡ self.now.streams }
+    {
+        &self.got
+    }
+}
