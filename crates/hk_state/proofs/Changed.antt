@@ -144,7 +144,7 @@ module _ (part : Part) where
 
 -- ---- in the words of facts
 
-tied_is : (q v : VersionKey) → tied q v ≡ true → q ≡ v
+pub tied_is : (q v : VersionKey) → tied q v ≡ true → q ≡ v
 tied_is q v e = version_key_same q v (equal _ (key_tied q v ∙ e))
   where
     equal : (r : Ordering) → is_eq r ≡ true → r ≡ Equal
@@ -166,7 +166,7 @@ module _ {X : Type 0} where
       cases None is = finmap.get-insert version_key_total m v x q ∙ ap (λ b. cond b (Some x) (finmap.get m q)) (key_tied q v)
       cases (Some y) is = here y is (tied q v) refl
 
-  get-without : (m : finmap.FinMap version_key_cmp X) (v q : VersionKey) → finmap.get (finmap.remove m v) q ≡ cond (tied q v) None (finmap.get m q)
+  pub get-without : (m : finmap.FinMap version_key_cmp X) (v q : VersionKey) → finmap.get (finmap.remove m v) q ≡ cond (tied q v) None (finmap.get m q)
   get-without m v q = finmap.get-remove version_key_total m v q ∙ ap (λ b. cond b None (finmap.get m q)) (key_tied q v)
 
 pub row_known : (w : VersionValue) → row_of (if_known w) ≡ w.row

@@ -1,3 +1,4 @@
 pub mod Stored
 pub mod Changed
 pub mod Tables
+pub mod Undone

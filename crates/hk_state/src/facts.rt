@@ -51,6 +51,11 @@ impl Facts {
         }
     }
 
+    /// The allocator that the facts grow by.
+    pub fn allocator(&self) -> Global {
+        self.alloc
+    }
+
     /// The chain of a key of a table. The cost grows as the logarithm of the number of tables and keys.
     pub fn chain(&self, table: Table, key: Key) -> Option<&Chain>
         ensures some { IfSome result (λ chain. (born : ℕ) → finmap.get chain.now born ≡ known_at self.now (record { table = table; key = key; born = born })) }
