@@ -2,3 +2,4 @@ pub mod Stored
 pub mod Changed
 pub mod Tables
 pub mod Undone
+pub mod Replicas

@@ -1,6 +1,7 @@
 //! What a replica holds.
 #![tactic(auto)]
 
+mod absorb;
 mod facts;
 mod journal;
 mod replica;
