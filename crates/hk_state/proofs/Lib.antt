@@ -3,3 +3,4 @@ pub mod Changed
 pub mod Tables
 pub mod Undone
 pub mod Replicas
+pub mod Forgetting

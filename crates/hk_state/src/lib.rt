@@ -4,6 +4,7 @@
 mod absorb;
 mod facts;
 mod journal;
+mod prune;
 mod replica;
 
 pub use replica::ReplicaState;
