@@ -2,3 +2,5 @@ pub mod Stored
 pub mod Changed
 pub mod Tables
 pub mod Undone
+pub mod Contradicts
+pub mod Listed

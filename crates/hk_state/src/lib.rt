@@ -2,6 +2,7 @@
 #![tactic(auto)]
 
 mod facts;
+mod disputes;
 mod journal;
 
 pub use facts::Facts;
