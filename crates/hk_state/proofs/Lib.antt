@@ -4,3 +4,5 @@ pub mod Tables
 pub mod Undone
 pub mod Replicas
 pub mod Forgetting
+pub mod Contradicts
+pub mod Listed

@@ -2,7 +2,9 @@
 #![tactic(auto)]
 
 mod absorb;
+mod disputes;
 mod facts;
+
 mod journal;
 mod prune;
 mod replica;
