@@ -6,3 +6,4 @@ pub mod Replicas
 pub mod Forgetting
 pub mod Contradicts
 pub mod Listed
+pub mod Absorbing

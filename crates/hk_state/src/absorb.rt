@@ -1,8 +1,9 @@
 //! Absorbing items.
 
-ghost use Rattle.std.specs.Prelude.{◌≡◌, ◌≤◌, ◌==◌, ◌∷◌, [], not, nat_lt, length, if◌then◌else◌, Some, None, OnOk, OnErr, IfErr};
+ghost use Rattle.std.specs.Prelude.{◌≡◌, ◌≤◌, ◌==◌, ◌∷◌, [], not, nat_lt, length, if◌then◌else◌, Some, None, OnOk, OnErr, IfOk, IfErr};
 ghost use Rattle.hk_types.specs.declared.faults.Refusal.TheVariants.{ForeignLog as Foreign, WrongStreams as Wrong, Memory};
 ghost use Rattle.hk_log.specs.declared.item.Item.TheVariants.{Commit, Closed};
+ghost use Rattle.hk_model.specs.declared.took.Took.TheVariants.{Taken};
 ghost use Rattle.hk_model.specs.Streams.{all_together, streams_of};
 ghost use Rattle.hk_state.specs.Calls.{Absorbs};
 ghost use Rattle.hk_state.specs.Facts.{with_entry};
@@ -48,8 +49,9 @@ fn take_noted(
 }
 
 /// Adds an entry's rows, ends and number, or nothing of it.
-fn take_entry(facts: &mut Facts, got: &mut Got, entry: &Entry) -> Result<(), Refusal>
+fn take_entry(facts: &mut Facts, got: &mut Got, entry: &Entry) -> Result<Took, Refusal>
     requires { entry.now.stream ≤ length got.old }
+    ensures told { IfOk result (λ took. took ≡ Taken) }
     ensures facts { OnOk result (facts.new ≡ with_entry facts.old entry.now) }
     ensures got { OnOk result (got.new ≡ all_together got.old (streams_of (length got.old) (Commit entry.now ∷ []))) }
     ensures err { IfErr result (λ why. why ≡ Memory) }
@@ -61,5 +63,64 @@ fn take_entry(facts: &mut Facts, got: &mut Got, entry: &Entry) -> Result<(), Ref
         facts.take_back(journal);
         return Err(why);
     }
-    Ok(())
+    Ok(Took::Taken)
+}
+
+/// Takes a mark that tells something new, or nothing of it.
+fn take_mark(got: &mut Got, mark: &Mark) -> Result<Took, Refusal>
+    requires { mark.now.stream ≤ length got.old }
+    ensures told { IfOk result (λ took. took ≡ Taken) }
+    ensures got { OnOk result (got.new ≡ all_together got.old (streams_of (length got.old) (Closed mark.now ∷ []))) }
+    ensures err { IfErr result (λ why. why ≡ Memory) }
+    ensures kept { OnErr result (got.new ≡ got.old) }
+{
+    got.add_mark(mark.stream(), mark.n(), mark.m())?;
+    Ok(Took::Taken)
+}
+
+impl ReplicaState {
+    fn absorb_entry(&mut self, entry: &Entry) -> Result<Took, Refusal>
+        ensures { Absorbs self.old self.new (Commit entry.now) result }
+    {
+        let stream = entry.stream();
+        if let Some(why) = misfit(self.config, entry.log(), stream) {
+            return Err(why);
+        }
+        if self.got.has(stream, entry.number()) {
+            return Ok(Took::Repeated);
+        }
+        if self.facts.disputes(entry) || entry.time() <= self.got.closed(stream) {
+            return Err(Refusal::Conflict);
+        }
+        take_entry(&mut self.facts, &mut self.got, entry)
+    }
+
+    fn absorb_mark(&mut self, mark: &Mark) -> Result<Took, Refusal>
+        ensures { Absorbs self.old self.new (Closed mark.now) result }
+    {
+        if let Some(why) = misfit(self.config, mark.log(), mark.stream()) {
+            return Err(why);
+        }
+        if self.got.is_told(mark.stream(), mark.n(), mark.m()) {
+            return Ok(Took::Repeated);
+        }
+        take_mark(&mut self.got, mark)
+    }
+
+    /// Absorbs an item.
+    ///
+    /// An item of another log is refused `ForeignLog`, one of a stream above the configured number
+    /// `WrongStreams`. An entry whose number is taken is `Repeated` and takes no memory. An entry that
+    /// gives a version another row or another end than is known, or whose time is at most the closed time
+    /// of its stream, is refused `Conflict`. `Memory` comes last, where a growth was refused. A refusal
+    /// changes nothing. `Repeated` is told exactly where nothing changed. The cost grows as the number of
+    /// the entry's writes times the logarithm of what is held.
+    pub fn absorb(&mut self, item: &Item) -> Result<Took, Refusal>
+        ensures gives { Absorbs self.old self.new item.now result }
+    {
+        match item {
+            Item::Commit(entry) => self.absorb_entry(entry),
+            Item::Closed(mark) => self.absorb_mark(mark),
+        }
+    }
 }

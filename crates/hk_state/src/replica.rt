@@ -20,11 +20,11 @@ use std::marker::Model;
 /// each stream. Contracts see it as its content.
 #[derive(Drop)]
 pub struct ReplicaState {
-    config: Config,
-    horizon: Time,
-    facts: Facts,
-    got: Got,
-    alloc: Global,
+    pub(crate) config: Config,
+    pub(crate) horizon: Time,
+    pub(crate) facts: Facts,
+    pub(crate) got: Got,
+    pub(crate) alloc: Global,
 }
 
 impl Model for ReplicaState {
