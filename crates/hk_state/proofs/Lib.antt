@@ -4,3 +4,5 @@ pub mod Tables
 pub mod Undone
 pub mod Contradicts
 pub mod Listed
+pub mod Ended
+pub mod Dropped

@@ -1,8 +1,12 @@
 //! What a replica holds.
 #![tactic(auto)]
 
-mod facts;
 mod disputes;
+mod drops;
+mod facts;
 mod journal;
 
 pub use facts::Facts;
+
+#[cfg(test)]
+mod tests;
