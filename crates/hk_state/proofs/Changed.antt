@@ -1,5 +1,5 @@
 -- A change of stored chains is a change of their facts.
-use Rattle.std.proofs.Common.{◌≡◌, refl, sym, ap, ◌∙◌, subst, ℕ, zero, suc, Bool, true, false, cond, ◌&&◌, ◌==◌, Option, Some, None, Result, Ok, Err, nat_cmp, is_eq, Ordering, Less, Equal, Greater, ◌||◌, arith}
+use Rattle.std.proofs.Common.{◌≡◌, refl, sym, ap, ◌∙◌, ℕ, zero, suc, Bool, true, false, cond, ◌&&◌, ◌==◌, Option, Some, None, Result, Ok, Err, nat_cmp, is_eq, Ordering, Less, Equal, Greater, ◌||◌, arith}
 use Rattle.std.proofs.lemmas.Bool.Decides.{nat_tests}
 use Rattle.std.specs.Cmp.{nat_cmp_total}
 use Rattle.std.specs.Option.{option_and_then, is_some}
@@ -18,9 +18,9 @@ use Rattle.hk_facts.specs.declared.fact.Fact.TheVariants.{Row, End}
 use Rattle.hk_facts.specs.declared.fact.Part.{Part}
 use Rattle.hk_facts.specs.declared.fact.Part.TheVariants.{Row as RowPart, End as EndPart, Whole}
 use Rattle.hk_facts.specs.Facts.{row_of, died_of, clashes, with_fact, joined, without, if_known}
-use Rattle.hk_facts.specs.Chains.{ChainValue, set_at, alter, put_at, put_by, chain_put, chain_forget}
+use Rattle.hk_facts.specs.Chains.{ChainValue, alter, put_at, put_by, chain_put, chain_forget}
 use Rattle.hk_facts.specs.Keyed.{KeyedValue, or_empty, if_filled, version_in, keyed_put, keyed_forget}
-use Rattle.hk_facts.proofs.Trees.{get-set_at, tied_same, tied_self}
+use Rattle.hk_facts.proofs.Trees.{get-set_at, tied_same}
 use Rattle.hk_state.specs.Facts.{FactsValue, TablesValue, stored, facts_of, AllKnown, added, clashes_at, with_fact_at, facts_put, facts_without}
 use Rattle.hk_state.proofs.Stored.{tied, key_tied, get_row, get_end}
 
@@ -89,11 +89,11 @@ module _ (fact : Fact) where
   keyed_put_ok m n key born is =
       let put = put_ok m n key (chain_put (or_empty (finmap.get m key)) born fact) is in
       let below = chain_put_ok (or_empty (finmap.get m key)) put.0 born put.1.0 in
-      let look : (b : ℕ) → finmap.get (or_empty (finmap.get m key)) b ≡ version_in m key b = λ b. through_empty (λ c. finmap.get c b) (finmap.get m key) (finmap.get-empty nat_cmp b) in
-      (ap (clashes fact) (sym (look born)) ∙ below.0,
-       λ k b. deeper m n key k (Some put.0) (λ c. finmap.get c b) (eq_by_cmp nat_cmp b born) (Some (with_fact fact (version_in m key born))) (put.1.1 k)
-         (below.1 b ∙ (λ i. cond (eq_by_cmp nat_cmp b born) (Some (with_fact fact (look born i))) (look b i))))
-
+      let look : (b : ℕ) → finmap.get (or_empty (finmap.get m key)) b ≡ version_in m key b = λ b. through_empty (λ c. finmap.get c b) (finmap.get m key) (finmap.get-empty nat_cmp b) in (
+        ap (clashes fact) (sym (look born)) ∙ below.0,
+        λ k b. deeper m n key k (Some put.0) (λ c. finmap.get c b) (eq_by_cmp nat_cmp b born) (Some (with_fact fact (version_in m key born))) (put.1.1 k)
+            (below.1 b ∙ (λ i. cond (eq_by_cmp nat_cmp b born) (Some (with_fact fact (look born i))) (look b i))),
+      )
 
   tables_put_ok : (m n : TablesValue) (v : VersionKey) → put_by (λ k. keyed_put (or_empty k) v.key v.born fact) m v.table ≡ Ok n
       → (clashes fact (stored m v) ≡ false) × ((q : VersionKey) → stored n q ≡ cond (tied q v) (Some (with_fact fact (stored m v))) (stored m q))
@@ -101,10 +101,11 @@ module _ (fact : Fact) where
   tables_put_ok m n v is =
       let put = put_ok m n v.table (keyed_put (or_empty (finmap.get m v.table)) v.key v.born fact) is in
       let below = keyed_put_ok (or_empty (finmap.get m v.table)) put.0 v.key v.born put.1.0 in
-      let look : (k b : ℕ) → version_in (or_empty (finmap.get m v.table)) k b ≡ option_and_then (λ m. version_in m k b) (finmap.get m v.table) = λ k b. through_empty (λ m. version_in m k b) (finmap.get m v.table) (ap (option_and_then (λ c. finmap.get c b)) (finmap.get-empty nat_cmp k)) in
-      (ap (clashes fact) (sym (look v.key v.born)) ∙ below.0,
-       λ q. deeper m n v.table q.table (Some put.0) (λ m. version_in m q.key q.born) (eq_by_cmp nat_cmp q.key v.key && eq_by_cmp nat_cmp q.born v.born) (Some (with_fact fact (stored m v))) (put.1.1 q.table)
-         (below.1 q.key q.born ∙ (λ i. cond (eq_by_cmp nat_cmp q.key v.key && eq_by_cmp nat_cmp q.born v.born) (Some (with_fact fact (look v.key v.born i))) (look q.key q.born i))))
+      let look : (k b : ℕ) → version_in (or_empty (finmap.get m v.table)) k b ≡ option_and_then (λ m. version_in m k b) (finmap.get m v.table) = λ k b. through_empty (λ m. version_in m k b) (finmap.get m v.table) (ap (option_and_then (λ c. finmap.get c b)) (finmap.get-empty nat_cmp k)) in (
+        ap (clashes fact) (sym (look v.key v.born)) ∙ below.0,
+        λ q. deeper m n v.table q.table (Some put.0) (λ m. version_in m q.key q.born) (eq_by_cmp nat_cmp q.key v.key && eq_by_cmp nat_cmp q.born v.born) (Some (with_fact fact (stored m v))) (put.1.1 q.table)
+            (below.1 q.key q.born ∙ (λ i. cond (eq_by_cmp nat_cmp q.key v.key && eq_by_cmp nat_cmp q.born v.born) (Some (with_fact fact (look v.key v.born i))) (look q.key q.born i))),
+      )
 
   tables_put_err : (m : TablesValue) (v : VersionKey) (why : Refusal) → put_by (λ k. keyed_put (or_empty k) v.key v.born fact) m v.table ≡ Err why → (clashes fact (stored m v) ≡ true) × (why ≡ Conflict)
   tables_put_err m v why is =
@@ -127,9 +128,9 @@ module _ (part : Part) where
       let c = or_empty (finmap.get m key) in
       let look : (b : ℕ) → finmap.get c b ≡ version_in m key b = λ b. through_empty (λ c. finmap.get c b) (finmap.get m key) (finmap.get-empty nat_cmp b) in
       deeper m (keyed_forget m key born part) key k (if_filled (chain_forget c born part)) (λ c. finmap.get c b) (eq_by_cmp nat_cmp b born) (without part (version_in m key born)) (get-set_at m key (if_filled (chain_forget c born part)) k)
-        (through_filled (λ c. finmap.get c b) (chain_forget c born part) (finmap.get-empty nat_cmp b)
-         ∙ chain_forgotten c born b
-         ∙ (λ i. cond (eq_by_cmp nat_cmp b born) (without part (look born i)) (look b i)))
+      (through_filled (λ c. finmap.get c b) (chain_forget c born part) (finmap.get-empty nat_cmp b)
+      ∙ chain_forgotten c born b
+      ∙ (λ i. cond (eq_by_cmp nat_cmp b born) (without part (look born i)) (look b i)))
 
   tables_forgotten : (m : TablesValue) (v q : VersionKey) → stored (alter (λ k. if_filled (keyed_forget (or_empty k) v.key v.born part)) m v.table) q ≡ cond (tied q v) (without part (stored m v)) (stored m q)
   unfolding tied
@@ -138,9 +139,9 @@ module _ (part : Part) where
       let nothing : (a b : ℕ) → version_in finmap.empty a b ≡ None = λ a b. ap (option_and_then (λ c. finmap.get c b)) (finmap.get-empty nat_cmp a) in
       let look : (a b : ℕ) → version_in k a b ≡ option_and_then (λ m. version_in m a b) (finmap.get m v.table) = λ a b. through_empty (λ m. version_in m a b) (finmap.get m v.table) (nothing a b) in
       deeper m (alter (λ k. if_filled (keyed_forget (or_empty k) v.key v.born part)) m v.table) v.table q.table (if_filled (keyed_forget k v.key v.born part)) (λ m. version_in m q.key q.born) (eq_by_cmp nat_cmp q.key v.key && eq_by_cmp nat_cmp q.born v.born) (without part (stored m v)) (get-set_at m v.table (if_filled (keyed_forget k v.key v.born part)) q.table)
-        (through_filled (λ m. version_in m q.key q.born) (keyed_forget k v.key v.born part) (nothing q.key q.born)
-         ∙ keyed_forgotten k v.key v.born q.key q.born
-         ∙ (λ i. cond (eq_by_cmp nat_cmp q.key v.key && eq_by_cmp nat_cmp q.born v.born) (without part (look v.key v.born i)) (look q.key q.born i)))
+      (through_filled (λ m. version_in m q.key q.born) (keyed_forget k v.key v.born part) (nothing q.key q.born)
+      ∙ keyed_forgotten k v.key v.born q.key q.born
+      ∙ (λ i. cond (eq_by_cmp nat_cmp q.key v.key && eq_by_cmp nat_cmp q.born v.born) (without part (look v.key v.born i)) (look q.key q.born i)))
 
 -- ---- in the words of facts
 
@@ -162,6 +163,7 @@ module _ {X : Type 0} where
       here : (y : X) → finmap.get m v ≡ Some y → (b : Bool) → tied q v ≡ b → finmap.get m q ≡ cond b (Some y) (finmap.get m q)
       here y is true t = ap (finmap.get m) (tied_is q v t) ∙ is
       here y is false t = refl
+
       cases : (o : Option X) → finmap.get m v ≡ o → finmap.get (cond (is_some o) m (finmap.insert m v x)) q ≡ cond (tied q v) (or_else o (Some x)) (finmap.get m q)
       cases None is = finmap.get-insert version_key_total m v x q ∙ ap (λ b. cond b (Some x) (finmap.get m q)) (key_tied q v)
       cases (Some y) is = here y is (tied q v) refl
@@ -225,12 +227,12 @@ module _ (m n : TablesValue) (v : VersionKey) (new : Option VersionValue) (is : 
 with_fact_is : (m n : TablesValue) (v : VersionKey) (fact : Fact) → ((q : VersionKey) → stored n q ≡ cond (tied q v) (Some (with_fact fact (stored m v))) (stored m q)) → with_fact_at (facts_of m) v fact ≡ facts_of n
 with_fact_is m n v (Row row) is =
     same_facts (with_fact_at (facts_of m) v (Row row)) (facts_of n)
-      (λ q. get-added (facts_of m).rows v row q ∙ ap (λ x. cond (tied q v) (or_else x (Some row)) (finmap.get (facts_of m).rows q)) (get_row m v) ∙ sym (row_changed m n v (Some (with_fact (Row row) (stored m v))) is q))
-      (λ q. sym (end_stays m n v (Some (with_fact (Row row) (stored m v))) is refl q))
+    (λ q. get-added (facts_of m).rows v row q ∙ ap (λ x. cond (tied q v) (or_else x (Some row)) (finmap.get (facts_of m).rows q)) (get_row m v) ∙ sym (row_changed m n v (Some (with_fact (Row row) (stored m v))) is q))
+    (λ q. sym (end_stays m n v (Some (with_fact (Row row) (stored m v))) is refl q))
 with_fact_is m n v (End died) is =
     same_facts (with_fact_at (facts_of m) v (End died)) (facts_of n)
-      (λ q. sym (row_stays m n v (Some (with_fact (End died) (stored m v))) is refl q))
-      (λ q. get-added (facts_of m).ends v died q ∙ ap (λ x. cond (tied q v) (or_else x (Some died)) (finmap.get (facts_of m).ends q)) (get_end m v) ∙ sym (end_changed m n v (Some (with_fact (End died) (stored m v))) is q))
+    (λ q. sym (row_stays m n v (Some (with_fact (End died) (stored m v))) is refl q))
+    (λ q. get-added (facts_of m).ends v died q ∙ ap (λ x. cond (tied q v) (or_else x (Some died)) (finmap.get (facts_of m).ends q)) (get_end m v) ∙ sym (end_changed m n v (Some (with_fact (End died) (stored m v))) is q))
 
 clashes_is : (m : TablesValue) (v : VersionKey) (fact : Fact) → clashes_at (facts_of m) v fact ≡ clashes fact (stored m v)
 clashes_is m v (Row row) = ap (λ x. differ same_row x (Some row)) (get_row m v)
@@ -252,9 +254,11 @@ known_put fact m n v known is = known_changed m n v (Some (with_fact fact (store
     some : {X : Type 0} (o : Option X) (x : X) → is_some (or_else o (Some x)) ≡ true
     some None x = refl
     some (Some y) x = refl
+
     either : (b : Bool) → (b || true) ≡ true
     either true = refl
     either false = refl
+
     fresh : (fact : Fact) (x : Option VersionValue) → is_known (with_fact fact x) ≡ true
     fresh (Row row) x = ap (λ b. b || is_some (died_of x)) (some (row_of x) row)
     fresh (End died) x = ap (λ b. is_some (row_of x) || b) (some (died_of x) died) ∙ either (is_some (row_of x))
@@ -262,16 +266,16 @@ known_put fact m n v known is = known_changed m n v (Some (with_fact fact (store
 without_is : (part : Part) (m n : TablesValue) (v : VersionKey) → ((q : VersionKey) → stored n q ≡ cond (tied q v) (without part (stored m v)) (stored m q)) → facts_of n ≡ facts_without (facts_of m) v part
 without_is RowPart m n v is =
     same_facts (facts_of n) (facts_without (facts_of m) v RowPart)
-      (λ q. row_changed m n v (without RowPart (stored m v)) is q ∙ ap (λ x. cond (tied q v) x (finmap.get (facts_of m).rows q)) (row_known (record { row = None; died = died_of (stored m v) })) ∙ sym (get-without (facts_of m).rows v q))
-      (end_stays m n v (without RowPart (stored m v)) is (died_known (record { row = None; died = died_of (stored m v) })))
+    (λ q. row_changed m n v (without RowPart (stored m v)) is q ∙ ap (λ x. cond (tied q v) x (finmap.get (facts_of m).rows q)) (row_known (record { row = None; died = died_of (stored m v) })) ∙ sym (get-without (facts_of m).rows v q))
+    (end_stays m n v (without RowPart (stored m v)) is (died_known (record { row = None; died = died_of (stored m v) })))
 without_is EndPart m n v is =
     same_facts (facts_of n) (facts_without (facts_of m) v EndPart)
-      (row_stays m n v (without EndPart (stored m v)) is (row_known (record { row = row_of (stored m v); died = None })))
-      (λ q. end_changed m n v (without EndPart (stored m v)) is q ∙ ap (λ x. cond (tied q v) x (finmap.get (facts_of m).ends q)) (died_known (record { row = row_of (stored m v); died = None })) ∙ sym (get-without (facts_of m).ends v q))
+    (row_stays m n v (without EndPart (stored m v)) is (row_known (record { row = row_of (stored m v); died = None })))
+    (λ q. end_changed m n v (without EndPart (stored m v)) is q ∙ ap (λ x. cond (tied q v) x (finmap.get (facts_of m).ends q)) (died_known (record { row = row_of (stored m v); died = None })) ∙ sym (get-without (facts_of m).ends v q))
 without_is Whole m n v is =
     same_facts (facts_of n) (facts_without (facts_of m) v Whole)
-      (λ q. row_changed m n v None is q ∙ sym (get-without (facts_of m).rows v q))
-      (λ q. end_changed m n v None is q ∙ sym (get-without (facts_of m).ends v q))
+    (λ q. row_changed m n v None is q ∙ sym (get-without (facts_of m).rows v q))
+    (λ q. end_changed m n v None is q ∙ sym (get-without (facts_of m).ends v q))
 
 pub facts_forgotten : (part : Part) (m : TablesValue) (v : VersionKey) → facts_of (alter (λ k. if_filled (keyed_forget (or_empty k) v.key v.born part)) m v.table) ≡ facts_without (facts_of m) v part
 facts_forgotten part m v = without_is part m (alter (λ k. if_filled (keyed_forget (or_empty k) v.key v.born part)) m v.table) v (tables_forgotten part m v)
@@ -285,6 +289,7 @@ known_forgotten part m v known = known_changed m (alter (λ k. if_filled (keyed_
         cases : (b : Bool) → is_known w ≡ b → cond b (Some w) None ≡ Some x → is_known x ≡ true
         cases true k e = let same : w ≡ x = cc in ap is_known (sym same) ∙ k
         cases false k e = cc
+
     left : (part : Part) (w : VersionValue) → without part (stored m v) ≡ Some w → is_known w ≡ true
     left RowPart w e = known_if (record { row = None; died = died_of (stored m v) }) w e
     left EndPart w e = known_if (record { row = row_of (stored m v); died = None }) w e

@@ -3,7 +3,8 @@ pub mod Changed
 pub mod Tables
 pub mod Undone
 pub mod Replicas
-pub mod Forgetting
 pub mod Contradicts
 pub mod Listed
 pub mod Absorbing
+pub mod Ended
+pub mod Dropped

@@ -1,8 +1,7 @@
 -- A contradiction of an entry is found by a walk over its lists.
-use Rattle.std.proofs.Common.{◌≡◌, refl, sym, ap, ◌∙◌, subst, ℕ, Bool, true, false, cond, ◌&&◌, ◌||◌, ◌==◌, nat_lt, T, Option, Some, None, List, [], ◌∷◌, ◌++◌, map, nat_cmp, is_eq, is_lt, Ordering, Less, Equal, Greater, arith, take, length, get_or, ◌+◌, ◌<◌}
+use Rattle.std.proofs.Common.{◌≡◌, refl, sym, ap, ◌∙◌, ℕ, Bool, true, false, cond, ◌&&◌, ◌||◌, ◌==◌, nat_lt, T, Option, Some, None, List, [], ◌∷◌, ◌++◌, map, nat_cmp, is_eq, is_lt, Ordering, Less, Equal, Greater, arith}
 use Rattle.std.proofs.lemmas.Bool.Decides.{nat_tests}
-use Rattle.std.proofs.lemmas.List.{take_more}
-use Rattle.std.specs.Cmp.{IsTotalOrder, tied_itself, first_so, second_so}
+use Rattle.std.specs.Cmp.{tied_itself, first_so, second_so}
 use Rattle.std.specs.List.{list_any}
 use Rattle.std.specs.Ordering.{eq_by_cmp, ordering_then, ordering_reverse}
 use Rattle.std.specs.FinMap as finmap
@@ -14,7 +13,7 @@ use Rattle.hk_log.specs.Items.{EntryValue, is_before, rise_after, end_place, row
 use Rattle.hk_log.specs.declared.item.Item.TheVariants.{Commit}
 use Rattle.hk_model.specs.Rows.{version_key_cmp}
 use Rattle.hk_model.specs.Maps.{differ, contradict}
-use Rattle.hk_model.specs.Facts.{inserted, entry_rows, entry_ends, rows_of, ends_of}
+use Rattle.hk_model.specs.Facts.{inserted, rows_of, ends_of}
 use Rattle.hk_model.proofs.Maps.{version_key_total, version_key_same}
 use Rattle.hk_state.proofs.Contradicts.{contradict_over}
 
@@ -106,6 +105,7 @@ module _ {A X : Type 0} (alike : X → X → Bool) (m : finmap.FinMap version_ke
     where
       n : finmap.FinMap version_key_cmp X
       n = finmap.from_entries (map f xs)
+
       same : finmap.entries (finmap.from_entries {R = version_key_cmp} (map f xs)) ≡ map f xs
       same = same_entries version_key_cmp version_key_total version_key_same (finmap.entries (finmap.from_entries (map f xs))) (map f xs) (finmap.entries_sorted (finmap.from_entries (map f xs))) s
           (λ q. sym (finmap.get-entries (finmap.from_entries (map f xs)) q) ∙ finmap.get-from_entries version_key_total (map f xs) q)
@@ -115,7 +115,6 @@ rows_listed m e rise = listed same_row m (inserted e.time) e.rows (sorted_after 
 
 pub ends_listed : (m : finmap.FinMap version_key_cmp ℕ) (e : EntryValue) → rise_after None (map end_place e.ends) ≡ true → contradict (λ a b. a == b) m (ends_of (Commit e ∷ [])) ≡ list_any (λ v. differ (λ a b. a == b) (finmap.get m v) (Some e.time)) e.ends
 ends_listed m e rise = listed (λ a b. a == b) m (λ v. (v, e.time)) e.ends (sorted_after (λ v. (v, e.time)) end_place (λ a b h. before_less a.table a.key b.table b.key a.born b.born h) None e.ends rise)
-
 
 pub row_dispute : (m : finmap.FinMap version_key_cmp RowValue) (e : EntryValue) (rows : List (ℕ × ℕ × RowValue)) (t : ℕ) (b : Bool) → rise_after None (map row_place e.rows) ≡ true → rows ≡ e.rows → t ≡ e.time → b ≡ list_any (λ r. differ same_row (finmap.get m (inserted t r).0) (Some r.2)) rows → b ≡ contradict same_row m (rows_of (Commit e ∷ []))
 row_dispute m e rows t b rise is at found = found ∙ (λ i. list_any (λ r. differ same_row (finmap.get m (inserted (at i) r).0) (Some r.2)) (is i)) ∙ sym (rows_listed m e rise)

@@ -1,18 +1,17 @@
 -- What look-ups in the facts of stored chains answer.
-use Rattle.std.proofs.Common.{◌≡◌, refl, sym, ap, ◌∙◌, ℕ, Bool, true, false, cond, ◌&&◌, ◌==◌, T, Option, Some, None, List, [], ◌∷◌, ◌++◌, nat_cmp, is_eq, is_lt, Ordering, Less, Equal, Greater, arith, true≢false}
+use Rattle.std.proofs.Common.{◌≡◌, refl, sym, ap, ◌∙◌, ℕ, Bool, true, false, cond, ◌&&◌, T, Option, Some, None, List, [], ◌∷◌, nat_cmp, is_eq, is_lt, Ordering, Less, Equal, Greater, arith}
 use Rattle.std.proofs.lemmas.Bool.Decides.{nat_tests}
-use Rattle.std.specs.Option.{option_and_then, is_some}
+use Rattle.std.specs.Option.{option_and_then}
 use Rattle.std.specs.List.{flat_map}
 use Rattle.std.specs.Ordering.{eq_by_cmp, ordering_then}
 use Rattle.std.specs.FinMap as finmap
 use Rattle.std.specs.FinMap.{find, is_sorted}
 use Rattle.std.specs.FinMap.Entries.{below_all}
-use Rattle.hk_types.specs.Values.{RowValue}
 use Rattle.hk_types.specs.declared.version_key.VersionKey.{VersionKey}
 use Rattle.hk_log.specs.Versions.{VersionValue, is_known}
 use Rattle.hk_model.specs.Rows.{version_key_cmp}
 use Rattle.hk_model.specs.Maps.{or_else}
-use Rattle.hk_model.proofs.Maps.{version_key_total, version_key_same, find-append}
+use Rattle.hk_model.proofs.Maps.{version_key_total, find-append}
 use Rattle.hk_facts.specs.Facts.{row_of, died_of, if_known}
 use Rattle.hk_facts.specs.Chains.{ChainValue}
 use Rattle.hk_facts.specs.Keyed.{KeyedValue, version_in}
@@ -43,7 +42,7 @@ key_tied q v = both_ties (nat_cmp q.table v.table) _ ∙ ap (λ b. is_eq (nat_cm
 -- ---- lists of lists
 
 module _ {K X Y : Type 0} (R : K → K → Ordering) (q : K) (sel : ℕ) (g : ℕ × X → List (K × Y)) (h : X → Option Y) (a : Bool)
-  (each : (e : ℕ × X) → find R q (g e) ≡ cond (a && eq_by_cmp nat_cmp sel e.0) (h e.1) None) where
+    (each : (e : ℕ × X) → find R q (g e) ≡ cond (a && eq_by_cmp nat_cmp sel e.0) (h e.1) None) where
   none_above : (k : ℕ) (es : List (ℕ × X)) → eq_by_cmp nat_cmp sel k ≡ true → T (below_all nat_cmp k es) → find nat_cmp sel es ≡ None
   none_above k [] e h = refl
   none_above k (f ∷ fs) e h = ap (λ b. cond b (Some f.1) (find nat_cmp sel fs)) (other sel k f.0 e (firstT _ _ h)) ∙ none_above k fs e (restT _ _ h)
@@ -65,6 +64,7 @@ module _ {K X Y : Type 0} (R : K → K → Ordering) (q : K) (sel : ℕ) (g : �
       or_none : (x : Option Y) → or_else x None ≡ x
       or_none None = refl
       or_none (Some x) = refl
+
       cases : (b c : Bool) → (c ≡ true → find nat_cmp sel es ≡ None) → or_else (cond (b && c) (h e.1) None) (cond b (option_and_then h (find nat_cmp sel es)) None) ≡ cond b (option_and_then h (cond c (Some e.1) (find nat_cmp sel es))) None
       cases false c none = refl
       cases true false none = refl
@@ -86,8 +86,8 @@ module _ {Y : Type 0} (read : VersionValue → Option Y) (q : VersionKey) where
   unfolding tied
   in_chain t k c =
       find_flat version_key_cmp q q.born _ read (eq_by_cmp nat_cmp q.table t && eq_by_cmp nat_cmp q.key k)
-        (λ v. find_entry (record { table = t; key = k; born = v.0 }) (read v.1) ∙ ap (λ b. cond b (read v.1) None) (key_tied q (record { table = t; key = k; born = v.0 }) ∙ assoc (eq_by_cmp nat_cmp q.table t) _ _))
-        (finmap.entries c) (finmap.entries_sorted c)
+      (λ v. find_entry (record { table = t; key = k; born = v.0 }) (read v.1) ∙ ap (λ b. cond b (read v.1) None) (key_tied q (record { table = t; key = k; born = v.0 }) ∙ assoc (eq_by_cmp nat_cmp q.table t) _ _))
+      (finmap.entries c) (finmap.entries_sorted c)
       ∙ ap (λ x. cond (eq_by_cmp nat_cmp q.table t && eq_by_cmp nat_cmp q.key k) (option_and_then read x) None) (sym (finmap.get-entries c q.born))
     where
       assoc : (x y z : Bool) → (x && (y && z)) ≡ ((x && y) && z)

@@ -1,26 +1,24 @@
 -- The facts of a stored tree of tables, and what becomes of them.
-use Rattle.std.proofs.Common.{◌≡◌, refl, sym, ap, ◌∙◌, subst, ℕ, Option, Some, None, Result, Ok, Err, OnOk, OnErr, IfErr, IfSome, ◌⊎◌, inl, inr, nat_cmp, Bor, List, []}
+use Rattle.std.proofs.Common.{◌≡◌, sym, ap, ◌∙◌, subst, ℕ, Option, Some, None, Result, Ok, Err, OnOk, OnErr, IfErr, IfSome, ◌⊎◌, inl, inr, nat_cmp, Bor, []}
 use Rattle.std.specs.Option.{option_copied, option_and_then, IfNone}
 use Rattle.std.specs.BTreeMap.{BTreeMap}
 use Rattle.std.specs.BTreeMap as tree
 use Rattle.std.specs.FinMap as finmap
-use Rattle.hk_types.specs.Values.{RowValue}
 use Rattle.hk_types.specs.declared.version_key.VersionKey.{VersionKey}
 use Rattle.hk_types.specs.declared.faults.Refusal.{Refusal}
 use Rattle.hk_types.specs.declared.faults.Refusal.TheVariants.{Memory}
-use Rattle.hk_log.specs.Versions.{VersionValue}
 use Rattle.hk_facts.specs.declared.fact.Fact.{Fact}
 use Rattle.hk_facts.specs.declared.fact.Part.{Part}
 use Rattle.hk_facts.specs.Facts.{row_of, died_of, without}
-use Rattle.hk_facts.specs.Chains.{ChainValue, put_by, alter, chain_forget}
-use Rattle.hk_facts.specs.Keyed.{KeyedValue, or_empty, if_filled, version_in, keyed_put, keyed_forget, AllFilled}
+use Rattle.hk_facts.specs.Chains.{ChainValue, put_by, chain_forget}
+use Rattle.hk_facts.specs.Keyed.{KeyedValue, or_empty, if_filled, version_in, keyed_put, keyed_forget}
 use Rattle.hk_facts.proofs.Parts.{nothing_left}
 use Rattle.hk_facts.proofs.Trees.{seen, IfErr_map}
-use Rattle.hk_facts.proofs.Filled.{known_there, known_absent, filled_nothing, filled_none, alter_empty}
+use Rattle.hk_facts.proofs.Filled.{known_there, known_absent, filled_none, alter_empty}
 use Rattle.hk_state.specs.Facts.{FactsValue, TablesValue, stored, facts_of, no_facts, known_at, AllKnown, facts_put}
 use Rattle.hk_model.specs.Rows.{version_key_cmp}
 use Rattle.hk_state.proofs.Stored.{get_row, get_end, known_stored, nothing_known}
-use Rattle.hk_state.proofs.Changed.{same_facts, facts_put_ok, facts_put_err, known_put, row_known, died_known}
+use Rattle.hk_state.proofs.Changed.{same_facts, facts_put_err, known_put, row_known, died_known}
 
 -- ---- what is looked up
 

@@ -1,5 +1,5 @@
 -- Facts that are added under a journal, and taken back.
-use Rattle.std.proofs.Common.{◌≡◌, refl, sym, ap, ◌∙◌, ◌==◌, subst, ℕ, Bool, true, false, cond, Option, Some, None, List, [], ◌∷◌, ◌++◌, map, Result, Ok, Err, OnOk, OnErr, IfErr, option_map, ◌+◌, ◌<◌, take, length, get_or}
+use Rattle.std.proofs.Common.{◌≡◌, refl, sym, ap, ◌∙◌, ◌==◌, ℕ, Bool, true, false, cond, Option, Some, None, List, [], ◌∷◌, ◌++◌, map, Result, Ok, Err, OnOk, OnErr, option_map, ◌+◌, ◌<◌, take, length, get_or}
 use Rattle.std.proofs.lemmas.List.{take_more}
 use Rattle.std.specs.Option.{is_some}
 use Rattle.std.specs.FinMap as finmap
@@ -7,18 +7,18 @@ use Rattle.std.specs.FinMap.{find}
 use Rattle.hk_types.specs.Values.{RowValue, same_row}
 use Rattle.hk_types.specs.declared.version_key.VersionKey.{VersionKey}
 use Rattle.hk_types.specs.declared.faults.Refusal.{Refusal}
-use Rattle.hk_types.specs.declared.faults.Refusal.TheVariants.{Conflict, Memory}
+use Rattle.hk_types.specs.declared.faults.Refusal.TheVariants.{Conflict}
 use Rattle.hk_model.specs.Rows.{version_key_cmp}
 use Rattle.hk_model.specs.Maps.{or_else, union, differ}
 use Rattle.hk_model.proofs.Maps.{version_key_total, version_key_same, find-append, get-union}
 use Rattle.hk_facts.specs.declared.fact.Fact.{Fact}
 use Rattle.hk_facts.specs.declared.fact.Fact.TheVariants.{Row, End}
 use Rattle.hk_facts.specs.declared.fact.Part.{Part}
-use Rattle.hk_facts.specs.declared.fact.Part.TheVariants.{Row as RowPart, End as EndPart, Whole}
-use Rattle.hk_state.specs.Facts.{FactsValue, added, clashes_at, with_fact_at, facts_put, facts_without, known_at}
+use Rattle.hk_facts.specs.declared.fact.Part.TheVariants.{Row as RowPart, End as EndPart}
+use Rattle.hk_state.specs.Facts.{FactsValue, added, with_fact_at, facts_put, facts_without}
 use Rattle.hk_state.specs.Journal.{undone}
 use Rattle.hk_state.proofs.Stored.{tied, key_tied}
-use Rattle.hk_state.proofs.Changed.{get-added, get-without, same_facts, tied_is}
+use Rattle.hk_state.proofs.Changed.{get-added, get-without, tied_is}
 
 -- ---- a longer journal
 
@@ -122,9 +122,11 @@ module _ {X : Type 0} (m : finmap.FinMap version_key_cmp X) where
       assoc : (a b c : Option X) → or_else (or_else a b) c ≡ or_else a (or_else b c)
       assoc None b c = refl
       assoc (Some a) b c = refl
+
       or_none : (x : Option X) → x ≡ or_else x None
       or_none None = refl
       or_none (Some x) = refl
+
       here : (q : VersionKey) (b : Bool) → tied q v ≡ b → cond b (or_else (finmap.get (union m (finmap.from_entries es)) v) (Some x)) (finmap.get (union m (finmap.from_entries es)) q) ≡ or_else (finmap.get m q) (or_else (find version_key_cmp q es) (cond b (Some x) None))
       here q true t = ap (λ k. or_else (finmap.get (union m (finmap.from_entries es)) k) (Some x)) (sym (tied_is q v t)) ∙ ap (λ o. or_else o (Some x)) (get_union es q) ∙ assoc (finmap.get m q) (find version_key_cmp q es) (Some x)
       here q false t = get_union es q ∙ ap (or_else (finmap.get m q)) (or_none (find version_key_cmp q es))

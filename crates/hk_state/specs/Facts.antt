@@ -1,6 +1,6 @@
 -- The facts of a replica: its rows and its ends, by version key.
 use Rattle.std.specs.Prelude.{◌≡◌, ℕ, Bool, true, ◌||◌, ◌==◌, List, [], ◌∷◌, Option, Some, None, Result, Ok, Err, if◌then◌else◌, refl}
-use Rattle.std.specs.Option.{is_some, option_and_then}
+use Rattle.std.specs.Option.{option_and_then}
 use Rattle.std.specs.List.{flat_map}
 use Rattle.std.specs.Coded.{Coded, code_by, coded×, coded_ℕ}
 use Rattle.std.specs.Ordering.{nat_cmp}
@@ -13,7 +13,7 @@ use Rattle.hk_log.specs.Items.{EntryValue}
 use Rattle.hk_log.specs.Versions.{VersionValue, is_known}
 use Rattle.hk_log.specs.declared.item.Item.TheVariants.{Commit}
 use Rattle.hk_model.specs.Rows.{version_key_cmp}
-use Rattle.hk_model.specs.Maps.{or_else, differ, union, contradict}
+use Rattle.hk_model.specs.Maps.{differ, union, contradict}
 use Rattle.hk_model.specs.Facts.{rows_of, ends_of}
 use Rattle.hk_model.specs.Codes.{version_key_code, row_code}
 use Rattle.hk_facts.specs.declared.fact.Fact.{Fact}

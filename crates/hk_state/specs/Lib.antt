@@ -1,5 +1,5 @@
 pub mod Calls
+pub mod Drops
 pub mod Facts
 pub mod Journal
-pub mod Pruned
 pub mod Replica

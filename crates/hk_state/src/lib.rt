@@ -3,10 +3,13 @@
 
 mod absorb;
 mod disputes;
+mod drops;
 mod facts;
-
 mod journal;
-mod prune;
 mod replica;
 
+pub use facts::Facts;
 pub use replica::ReplicaState;
+
+#[cfg(test)]
+mod tests;

@@ -1,4 +1,4 @@
-use Rattle.std.proofs.Common.{sym, ◌∙◌}
+use Rattle.std.proofs.Common.{sym}
 use Rattle.hk_facts.specs.declared.fact.Fact.TheVariants.{End}
 use Rattle.hk_state.proofs.Undone.{put_back, none_here}
 use Rattle.hk_state.proofs.facts.Facts.add_end.Goals as goal

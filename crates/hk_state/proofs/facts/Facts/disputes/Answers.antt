@@ -10,6 +10,6 @@ pub returns-else-has_another_row : goal.returns-else-has_another_row
 returns-else-has_another_row c =
     let e = c.args.entry.now in
     found_second c.has_another_row.result c.has_another_end.result _ _
-      (row_dispute c.args.self.now.rows e c.rows.result.now c.time.result c.has_another_row.result c.rows.ensures.lawful.rows_rise c.rows.ensures.value c.time.ensures c.has_another_row.ensures)
-      c.if-has_another_row.false
-      (end_dispute c.args.self.now.ends e c.ends.result.now c.time-else-has_another_row.result c.has_another_end.result c.ends.ensures.lawful.ends_rise c.ends.ensures.value c.time-else-has_another_row.ensures c.has_another_end.ensures)
+    (row_dispute c.args.self.now.rows e c.rows.result.now c.time.result c.has_another_row.result c.rows.ensures.lawful.rows_rise c.rows.ensures.value c.time.ensures c.has_another_row.ensures)
+    c.if-has_another_row.false
+    (end_dispute c.args.self.now.ends e c.ends.result.now c.time-else-has_another_row.result c.has_another_end.result c.ends.ensures.lawful.ends_rise c.ends.ensures.value c.time-else-has_another_row.ensures c.has_another_end.ensures)

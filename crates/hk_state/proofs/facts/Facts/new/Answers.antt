@@ -1,8 +1,7 @@
-use Rattle.std.proofs.Common.{sym, ap, subst, nat_cmp, ◌∙◌}
-use Rattle.std.specs.FinMap as finmap
+use Rattle.std.proofs.Common.{sym, ap, subst, ◌∙◌}
 use Rattle.hk_facts.specs.Keyed.{AllFilled}
 use Rattle.hk_facts.proofs.Filled.{filled_nothing}
-use Rattle.hk_state.specs.Facts.{TablesValue, facts_of, no_facts, AllKnown}
+use Rattle.hk_state.specs.Facts.{TablesValue, facts_of, AllKnown}
 use Rattle.hk_state.proofs.Tables.{nothing_seen, known_nothing, empty_facts}
 use Rattle.hk_state.proofs.facts.Facts.new.Goals as goal
 

@@ -1,4 +1,4 @@
-use Rattle.std.proofs.Common.{◌≡◌, ap}
+use Rattle.std.proofs.Common.{ap}
 use Rattle.std.specs.FinMap as finmap
 use Rattle.hk_facts.specs.Chains.{chain_put}
 use Rattle.hk_facts.specs.Keyed.{or_empty, keyed_put, version_in}
@@ -20,11 +20,11 @@ invariant_of-self c =
     let updates = (c.get_mut.follows.holds c.put.new.self).3 in
     record {
       filled = filled_there m n v.table c.self.invariant.filled keyed c.put.new.self has updates
-        (kept_or_put c.put.result keyed c.put.new.self c.put.ensures.ok (put_filled keyed c.put.new.self v.key (chain_put (or_empty (finmap.get keyed v.key)) v.born c.args.fact)) c.put.ensures.kept (was_filled m v.table keyed c.self.invariant.filled has));
+          (kept_or_put c.put.result keyed c.put.new.self c.put.ensures.ok (put_filled keyed c.put.new.self v.key (chain_put (or_empty (finmap.get keyed v.key)) v.born c.args.fact)) c.put.ensures.kept (was_filled m v.table keyed c.self.invariant.filled has));
       known = kept_known c.args.fact (seen m) v c.put.result (seen n)
-        (OnOk_map c.put.result (put_there m n v.table keyed c.put.new.self (λ x. keyed_put (or_empty x) v.key v.born c.args.fact) has updates) c.put.ensures.ok)
-        (OnErr_map c.put.result (write_back m n v.table keyed c.put.new.self has updates) c.put.ensures.kept)
-        c.self.invariant.known;
+          (OnOk_map c.put.result (put_there m n v.table keyed c.put.new.self (λ x. keyed_put (or_empty x) v.key v.born c.args.fact) has updates) c.put.ensures.ok)
+          (OnErr_map c.put.result (write_back m n v.table keyed c.put.new.self has updates) c.put.ensures.kept)
+          c.self.invariant.known;
     }
 
 pub returns-in-Some-clause-ok : goal.returns-in-Some-clause-ok

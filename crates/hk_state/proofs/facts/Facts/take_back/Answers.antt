@@ -1,4 +1,4 @@
-use Rattle.std.proofs.Common.{◌≡◌, sym, ap, ◌∙◌}
+use Rattle.std.proofs.Common.{sym, ap, ◌∙◌}
 use Rattle.hk_state.specs.Journal.{undone}
 use Rattle.hk_state.proofs.Undone.{undone_push}
 use Rattle.hk_state.proofs.facts.Facts.take_back.Goals as goal
