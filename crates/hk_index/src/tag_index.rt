@@ -1,0 +1,112 @@
+//! The index of versions by tag.
+
+ghost use Rattle.std.specs.Prelude.{◌≡◌, None, IfOk, IfErr, OnErr, OnOk};
+ghost use Rattle.std.specs.FinSet as set;
+ghost use Rattle.std.specs.HashMap as hash;
+ghost use Rattle.hk_types.specs.declared.faults.Refusal.TheVariants.{Memory};
+ghost use Rattle.hk_index.specs.Listed.{Lists};
+ghost use Rattle.hk_index.specs.Tagged.{label_eq, with_tag};
+
+use crate::key_index::KeyIndex;
+use crate::label::Label;
+use hk_types::{Refusal, Table, Tag, VersionKey};
+use std::alloc::Global;
+use std::collections::HashMap;
+use std::marker::Model;
+
+/// A set of version keys with tags, found by table and tag.
+#[derive(Drop)]
+pub struct TagIndex {
+    labels: HashMap<Label, KeyIndex>,
+    alloc: Global,
+}
+
+impl Model for TagIndex {
+    ghost use Rattle.std.specs.FinSet as set;
+    ghost use Rattle.hk_index.specs.Tagged.{tagged_cmp, tagged_code, tagged_seen, AreLabelled};
+
+    ghost Value = { set.FinSet tagged_cmp };
+
+    ghost coded = { set.code tagged_code };
+
+    ghost view = { λ a. tagged_seen a.labels.entries };
+
+    ghost invariant = { λ a. AreLabelled a.labels.entries };
+}
+
+fn forget(labels: &mut HashMap<Label, KeyIndex>, label: Label)
+    ensures forgotten { hash.Updates label_eq labels.old labels.new label None }
+    ensures unique { hash.IsUnique label_eq labels.new }
+{
+    labels.remove(&label);
+}
+
+impl TagIndex {
+    /// No versions.
+    pub fn new(alloc: Global) -> TagIndex
+        ensures { result ≡ set.empty }
+    {
+        TagIndex {
+            labels: HashMap::new(alloc),
+            alloc,
+        }
+    }
+
+    /// Adds a version with a tag. One that is there already changes nothing.
+    ///
+    /// The only refusal is `Memory`; then nothing is changed. Costs by the logarithm of the
+    /// versions of the table with the tag.
+    pub fn add(&mut self, tag: Tag, version: VersionKey) -> Result<(), Refusal>
+        ensures ok { OnOk result (self.new ≡ set.insert self.old (record { tag = tag; version = version })) }
+        ensures err { IfErr result (λ why. why ≡ Memory) }
+        ensures kept { OnErr result (self.new ≡ self.old) }
+    {
+        let label = Label::new(version.table, tag);
+        if let Some(versions) = self.labels.get_mut(&label) {
+            return versions.add(version);
+        }
+        let mut versions = KeyIndex::new(self.alloc);
+        versions.add(version)?;
+        self.labels.insert(label, versions)?;
+        Ok(())
+    }
+
+    /// Removes a version with a tag, where it is there. Costs by the logarithm of the versions of
+    /// the table with the tag.
+    pub fn remove(&mut self, tag: Tag, version: VersionKey)
+        ensures { self.new ≡ set.remove self.old (record { tag = tag; version = version }) }
+    {
+        let label = Label::new(version.table, tag);
+        let Some(versions) = self.labels.get_mut(&label) else {
+            return;
+        };
+        versions.remove(version);
+        if versions.is_empty() {
+            forget(&mut self.labels, label);
+        }
+    }
+
+    /// Whether a version is there with a tag. Costs by the logarithm of the versions of the table
+    /// with the tag.
+    pub fn has(&self, tag: Tag, version: VersionKey) -> bool
+        ensures { result ≡ set.contains self.now (record { tag = tag; version = version }) }
+    {
+        match self.labels.get(&Label::new(version.table, tag)) {
+            Some(versions) => versions.has(version),
+            None => false,
+        }
+    }
+
+    /// The versions of a table with a tag, in rising order.
+    ///
+    /// The only refusal is `Memory`. Costs by what it gives.
+    pub fn list(&self, alloc: Global, table: Table, tag: Tag) -> Result<Vec<VersionKey>, Refusal>
+        ensures ok { IfOk result (λ versions. Lists versions.items (with_tag self.now table tag)) }
+        ensures err { IfErr result (λ why. why ≡ Memory) }
+    {
+        match self.labels.get(&Label::new(table, tag)) {
+            Some(versions) => versions.all(alloc),
+            None => Ok(Vec::new(alloc)),
+        }
+    }
+}
