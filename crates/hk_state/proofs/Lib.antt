@@ -1,6 +1,6 @@
 pub mod Stored
 pub mod Changed
-pub mod Tables
+pub mod ByTable
 pub mod Undone
 pub mod Replicas
 pub mod Contradicts
@@ -8,3 +8,4 @@ pub mod Listed
 pub mod Absorbing
 pub mod Ended
 pub mod Dropped
+pub mod Indexed

@@ -16,6 +16,7 @@ use Rattle.hk_facts.specs.declared.fact.Fact.TheVariants.{Row, End}
 use Rattle.hk_facts.specs.declared.fact.Part.{Part}
 use Rattle.hk_facts.specs.declared.fact.Part.TheVariants.{Row as RowPart, End as EndPart}
 use Rattle.hk_state.specs.Facts.{FactsValue, added, with_fact_at, facts_put, facts_without}
+use Rattle.hk_state.specs.Indexed.{IsNew}
 use Rattle.hk_state.specs.Journal.{undone}
 use Rattle.hk_state.proofs.Stored.{tied, key_tied}
 use Rattle.hk_state.proofs.Changed.{get-added, get-without, tied_is}
@@ -43,24 +44,19 @@ module _ {X : Type 0} (m : finmap.FinMap version_key_cmp X) (v : VersionKey) (no
       here q true t = sym (ap (finmap.get m) (tied_is q v t) ∙ none)
       here q false t = refl
 
--- the facts say nothing there
-abbrev pub is_open : FactsValue → VersionKey → Fact → Type 0
-is_open f v (Row row) = finmap.get f.rows v ≡ None
-is_open f v (End died) = finmap.get f.ends v ≡ None
-
 abbrev pub part_of : Fact → Part
 part_of (Row row) = RowPart
 part_of (End died) = EndPart
 
-without_open : (f : FactsValue) (v : VersionKey) (fact : Fact) → is_open f v fact → facts_without f v (part_of fact) ≡ f
+without_open : (f : FactsValue) (v : VersionKey) (fact : Fact) → IsNew f v fact → facts_without f v (part_of fact) ≡ f
 without_open f v (Row row) none = ap (λ m. record { rows = m; ends = f.ends }) (remove_none f.rows v none)
 without_open f v (End died) none = ap (λ m. record { rows = f.rows; ends = m }) (remove_none f.ends v none)
 
-without_new : (f : FactsValue) (v : VersionKey) (fact : Fact) → is_open f v fact → facts_without (with_fact_at f v fact) v (part_of fact) ≡ f
+without_new : (f : FactsValue) (v : VersionKey) (fact : Fact) → IsNew f v fact → facts_without (with_fact_at f v fact) v (part_of fact) ≡ f
 without_new f v (Row row) none = ap (λ m. record { rows = m; ends = f.ends }) (remove_added f.rows v none row)
 without_new f v (End died) none = ap (λ m. record { rows = f.rows; ends = m }) (remove_added f.ends v none died)
 
-open_put : (f : FactsValue) (v : VersionKey) (fact : Fact) → is_open f v fact → facts_put f v fact ≡ Ok (with_fact_at f v fact)
+open_put : (f : FactsValue) (v : VersionKey) (fact : Fact) → IsNew f v fact → facts_put f v fact ≡ Ok (with_fact_at f v fact)
 open_put f v (Row row) none = ap (λ o. cond (differ same_row o (Some row)) (Err Conflict) (Ok (with_fact_at f v (Row row)))) none
 open_put f v (End died) none = ap (λ o. cond (differ (λ a b. a == b) o (Some died)) (Err Conflict) (Ok (with_fact_at f v (End died)))) none
 
@@ -69,7 +65,7 @@ inside x y e = cc
 
 -- ---- one fact more, named first
 
-module _ {A : Type 0} (r : Result A Refusal) (f g : FactsValue) (v : VersionKey) (fact : Fact) (free : is_open f v fact) where
+module _ {A : Type 0} (r : Result A Refusal) (f g : FactsValue) (v : VersionKey) (fact : Fact) (free : IsNew f v fact) where
   put_open : OnOk r (facts_put f v fact ≡ Ok g) → OnOk r (g ≡ with_fact_at f v fact)
   put_open = cases r
     where

@@ -1,5 +1,6 @@
 pub mod Calls
 pub mod Drops
 pub mod Facts
+pub mod Indexed
 pub mod Journal
 pub mod Replica

@@ -7,6 +7,7 @@ mod drops;
 mod facts;
 mod journal;
 mod replica;
+mod tables;
 
 pub use facts::Facts;
 pub use replica::ReplicaState;

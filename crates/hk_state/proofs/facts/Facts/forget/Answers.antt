@@ -1,50 +1,16 @@
-use Rattle.std.proofs.Common.{refl, sym, ap, ◌∙◌, subst, true≢false}
-use Rattle.hk_facts.specs.Keyed.{keyed_forget}
-use Rattle.hk_facts.proofs.Trees.{seen}
-use Rattle.hk_facts.proofs.Filled.{len_some, filled_there, filled_gone, change_absent, change_there, change_gone}
-use Rattle.hk_state.specs.Facts.{TablesValue, facts_of, AllKnown}
-use Rattle.hk_state.proofs.Changed.{facts_forgotten, known_forgotten}
-use Rattle.hk_state.proofs.Tables.{keyed_nothing}
+use Rattle.std.proofs.Common.{sym, ap, ◌∙◌}
+use Rattle.hk_state.specs.Indexed.{tag_lost}
+use Rattle.hk_state.proofs.Indexed.{part_gone, part_rowless}
 use Rattle.hk_state.proofs.facts.Facts.forget.Goals as goal
+use Rattle.hk_state.proofs.facts.Facts.forget.Goals.{in-Some, in_default}
 
-pub returns-in_default : goal.returns-in_default
-returns-in_default c =
-    let m = c.self.inside.tables in
+pub invariant_of-self : goal.invariant_of-self
+invariant_of-self c =
+    let a = c.self.inside in
+    let is = c.self.invariant in
     let v = c.args.version.now in
-    rw (c.get_mut.follows.holds-at-none, ← c.self.view_is) (ap facts_of (change_absent (λ x. keyed_forget x v.key v.born c.args.part) m v.table (keyed_nothing v.key v.born c.args.part) c.in_default.ensures.value) ∙ facts_forgotten c.args.part (seen m) v)
-
-pub invariant_of-self-then-not-is_empty : goal.invariant_of-self-then-not-is_empty
-invariant_of-self-then-not-is_empty c =
-    let m = c.self.inside.tables in
-    let v = c.args.version.now in
-    let n = c.get_mut.follows.lender c.forget.new.self in
-    let updates = (c.get_mut.follows.holds c.forget.new.self).3 in
-    record {
-      filled = filled_there m n v.table c.self.invariant.filled c.in-Some.keyed.now c.forget.new.self c.in-Some.ensures.value updates (len_some c.forget.new.self (λ e. true≢false (sym (c.if-not-is_empty.ensures.1 e))));
-      known = subst (λ (t : TablesValue). AllKnown t) (sym (change_there (λ x. keyed_forget x v.key v.born c.args.part) m n v.table c.in-Some.keyed.now c.forget.new.self c.in-Some.ensures.value updates c.forget.ensures (λ e. true≢false (sym (c.if-not-is_empty.ensures.1 e))))) (known_forgotten c.args.part (seen m) v c.self.invariant.known);
-    }
-
-pub returns-then-not-is_empty : goal.returns-then-not-is_empty
-returns-then-not-is_empty c =
-    let m = c.self.inside.tables in
-    let v = c.args.version.now in
-    let n = c.get_mut.follows.lender c.forget.new.self in
-    rw (← c.self.view_is) (ap facts_of (change_there (λ x. keyed_forget x v.key v.born c.args.part) m n v.table c.in-Some.keyed.now c.forget.new.self c.in-Some.ensures.value (c.get_mut.follows.holds c.forget.new.self).3 c.forget.ensures (λ e. true≢false (sym (c.if-not-is_empty.ensures.1 e)))) ∙ facts_forgotten c.args.part (seen m) v)
-
-pub invariant_of-self-2 : goal.invariant_of-self-2
-invariant_of-self-2 c =
-    let m = c.self.inside.tables in
-    let v = c.args.version.now in
-    let n = c.get_mut.follows.lender c.forget.new.self in
-    let updates = (c.get_mut.follows.holds c.forget.new.self).3 in
-    record {
-      filled = filled_gone m n v.table c.self.invariant.filled c.remove.new.self c.in-Some.keyed.now c.forget.new.self c.in-Some.ensures.value updates c.remove.ensures.updates;
-      known = subst (λ (t : TablesValue). AllKnown t) (sym (change_gone (λ x. keyed_forget x v.key v.born c.args.part) m n v.table c.in-Some.keyed.now c.forget.new.self c.in-Some.ensures.value updates c.forget.ensures c.remove.new.self c.remove.ensures.updates (c.if-not-is_empty.ensures.0 refl))) (known_forgotten c.args.part (seen m) v c.self.invariant.known);
-    }
-
-pub returns : goal.returns
-returns c =
-    let m = c.self.inside.tables in
-    let v = c.args.version.now in
-    let n = c.get_mut.follows.lender c.forget.new.self in
-    rw (← c.self.view_is) (ap facts_of (change_gone (λ x. keyed_forget x v.key v.born c.args.part) m n v.table c.in-Some.keyed.now c.forget.new.self c.in-Some.ensures.value (c.get_mut.follows.holds c.forget.new.self).3 c.forget.ensures c.remove.new.self c.remove.ensures.updates (c.if-not-is_empty.ensures.0 refl)) ∙ facts_forgotten c.args.part (seen m) v)
+    let here = ap (λ f. tag_lost f v c.args.part) c.self.view_is in
+    elim c.match-tag_of.branch [
+      | in-Some w ↦ rw (c.forget.ensures, w.self-inside-is, w.remove-in-Some.ensures, w.remove.ensures) (part_gone a.tables a.tags a.keys is v c.args.part w.in-Some.tag (here ∙ sym w.in-Some.ensures))
+      | in_default w ↦ rw (c.forget.ensures, w.self-inside-is) (part_rowless a.tables a.tags a.keys is v c.args.part (here ∙ sym w.in_default.ensures))
+    ]

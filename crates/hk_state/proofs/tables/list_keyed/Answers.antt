@@ -4,7 +4,7 @@ use Rattle.std.specs.FinMap as finmap
 use Rattle.std.specs.Map.Iter.{deref_pair}
 use Rattle.std.proofs.lemmas.Map.Iter.{iter_end}
 use Rattle.hk_state.specs.Drops.{ended_of_chain}
-use Rattle.hk_state.proofs.facts.list_keyed.Goals as goal
+use Rattle.hk_state.proofs.tables.list_keyed.Goals as goal
 
 pub returns : goal.returns
 returns c =

@@ -7,8 +7,8 @@ use Rattle.hk_facts.proofs.Filled.{put_filled, kept_or_put, was_filled, filled_t
 use Rattle.hk_state.specs.Facts.{facts_of}
 use Rattle.hk_state.proofs.Stored.{nothing_known}
 use Rattle.hk_state.proofs.Changed.{facts_put_ok, known_put}
-use Rattle.hk_state.proofs.Tables.{kept_known, fact_refused}
-use Rattle.hk_state.proofs.facts.Facts.put.Goals as goal
+use Rattle.hk_state.proofs.ByTable.{kept_known, fact_refused}
+use Rattle.hk_state.proofs.tables.Tables.put.Goals as goal
 
 pub invariant_of-self : goal.invariant_of-self
 invariant_of-self c =

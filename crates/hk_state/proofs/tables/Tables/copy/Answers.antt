@@ -4,7 +4,7 @@ use Rattle.std.proofs.lemmas.Map.Iter.{iter_end}
 use Rattle.hk_facts.proofs.Copies.{fill_more, filled_all}
 use Rattle.hk_facts.proofs.Filled.{filled_alike}
 use Rattle.hk_state.specs.Facts.{TablesValue, facts_of, AllKnown}
-use Rattle.hk_state.proofs.facts.Facts.copy.Goals as goal
+use Rattle.hk_state.proofs.tables.Tables.copy.Goals as goal
 
 pub loop-table-preserved : goal.loop-table-preserved
 loop-table-preserved c = fill_more deref_pair c.loop-table.tables c.insert.new.tables c.loop-table.yielded (c.in-Some.table, c.in-Some.keyed) c.in-Some.table.now _ (ap (λ v. (c.in-Some.table.now, v)) c.in_ok-copy.ensures) c.loop-table.invariant c.in_ok-insert.ensures.ok

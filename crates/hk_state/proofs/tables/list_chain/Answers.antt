@@ -5,7 +5,7 @@ use Rattle.std.specs.Map.Iter.{deref_pair}
 use Rattle.std.proofs.lemmas.Map.Iter.{iter_end}
 use Rattle.hk_state.specs.Facts.{entry_if}
 use Rattle.hk_state.specs.Drops.{end_by}
-use Rattle.hk_state.proofs.facts.list_chain.Goals as goal
+use Rattle.hk_state.proofs.tables.list_chain.Goals as goal
 
 pub returns : goal.returns
 returns c =
