@@ -9,3 +9,4 @@ pub mod Absorbing
 pub mod Ended
 pub mod Dropped
 pub mod Indexed
+pub mod Reading

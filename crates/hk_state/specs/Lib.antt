@@ -3,4 +3,5 @@ pub mod Drops
 pub mod Facts
 pub mod Indexed
 pub mod Journal
+pub mod Reads
 pub mod Replica

@@ -6,6 +6,7 @@ mod disputes;
 mod drops;
 mod facts;
 mod journal;
+mod reads;
 mod replica;
 mod tables;
 

@@ -1,0 +1,96 @@
+//! Reading a state at a time.
+
+ghost use Rattle.std.specs.Prelude.{◌≡◌, ◌==◌, ℕ, is_some, length};
+ghost use Rattle.std.specs.Option.{option_copied};
+ghost use Rattle.std.specs.FinMap as finmap;
+ghost use Rattle.std.specs.FinSet as set;
+ghost use Rattle.hk_types.specs.declared.version_key.VersionKey.{VersionKey};
+ghost use Rattle.hk_model.specs.Content.{at_most};
+ghost use Rattle.hk_model.specs.Answers.{visible, rows_where};
+ghost use Rattle.hk_facts.specs.Chains.{latest_at, picked};
+ghost use Rattle.hk_state.specs.Indexed.{is_tagged};
+ghost use Rattle.hk_state.specs.Reads.{row_shown, chains_at, with_facts};
+
+use crate::facts::Facts;
+use crate::replica::ReplicaState;
+use crate::tables::Tables;
+use hk_facts::{Chain, Keyed};
+use hk_index::{KeyIndex, TagIndex};
+use hk_log::Version;
+use hk_types::{Key, Row, Table, Time, VersionKey};
+
+/// How many chains have a row at a time.
+fn count_chains(keyed: &Keyed, time: Time) -> usize
+    ensures { result ≡ chains_at keyed.now time }
+{
+    keyed
+        .iter()
+        .filter(|(_key, chain)| chain.at(time).is_some())
+        .count()
+}
+
+impl ReplicaState {
+    /// The rows and the ends of all versions.
+    pub fn facts(&self) -> &Facts
+        ensures rows { result.now.rows ≡ self.now.rows }
+        ensures ends { result.now.ends ≡ self.now.ends }
+    {
+        &self.facts
+    }
+
+    /// The versions whose row is known, by tag.
+    pub fn tags(&self) -> &TagIndex
+        ensures { (tag : ℕ) (v : VersionKey) → set.contains result.now (record { tag = tag; version = v }) ≡ is_tagged tag (finmap.get self.now.rows v) }
+    {
+        self.facts.tags()
+    }
+
+    /// The versions whose row is known, by table and key.
+    pub fn keys(&self) -> &KeyIndex
+        ensures { (v : VersionKey) → set.contains result.now v ≡ is_some (finmap.get self.now.rows v) }
+    {
+        self.facts.keys()
+    }
+
+    /// The row at a key of a table at a time. It takes no memory. The cost grows as the logarithm of the
+    /// number of facts.
+    pub fn row_at(&self, table: Table, key: Key, time: Time) -> Option<&Row>
+        ensures { option_copied result ≡ finmap.get (visible self.now time) (record { table = table; key = key }) }
+    {
+        match self.facts.chain(table, key) {
+            Some(chain) => chain.at(time),
+            None => None,
+        }
+    }
+
+    /// The row of a version, where the version shows at a time. It takes no memory. The cost grows as the
+    /// logarithm of the number of facts.
+    pub fn row_shown(&self, version: &VersionKey, time: Time) -> Option<&Row>
+        ensures { option_copied result ≡ row_shown self.now time version.now }
+    {
+        match self.facts.chain(version.table, version.key) {
+            Some(chain) => picked(chain, time, version.born),
+            None => None,
+        }
+    }
+}
+
+/// The row of the version of a chain that was born then, where it is the one that shows at a time.
+fn picked(chain: &Chain, time: Time, born: Time) -> Option<&Row>
+    ensures { option_copied result ≡ picked time born (latest_at chain.now time) }
+{
+    match chain.latest(time) {
+        Some((latest, version)) if latest == born && !has_ended(version, time) => version.row(),
+        _ => None,
+    }
+}
+
+/// Whether a version is known to have ended at a time or before.
+fn has_ended(version: &Version, time: Time) -> bool
+    ensures { result ≡ at_most time version.now.died }
+{
+    match version.died() {
+        Some(died) => died <= time,
+        None => false,
+    }
+}
