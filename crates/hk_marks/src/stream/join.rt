@@ -3,7 +3,7 @@
 //! All growth comes first, on the way into the streams. What can't fail comes after it, on the way
 //! out. Where a growth is refused, the way out takes back what was grown.
 
-ghost use Rattle.std.specs.Prelude.{◌≡◌, ◌≤◌, ◌<◌, ◌^◌, ◌+◌, ◌&&◌, ◌||◌, ◌++◌, ℕ, Bool, true, false, cond, not, nat_le, nat_lt, filter, length, take, drop, is_some, Some, None, IsTrue, IfOk, OnOk, OnErr};
+ghost use Rattle.std.specs.Prelude.{◌≡◌, ◌≤◌, ◌<◌, ◌^◌, ◌+◌, ◌&&◌, ◌++◌, ℕ, true, false, cond, not, nat_le, nat_lt, filter, length, take, drop, is_some, Some, None, IfOk, OnOk, OnErr};
 ghost use Rattle.std.specs.Ordering.{nat_cmp};
 ghost use Rattle.std.specs.FinMap as finmap;
 ghost use Rattle.std.specs.FinSet as set;
