@@ -18,8 +18,9 @@ use Rattle.hk_facts.specs.declared.fact.Fact.{Fact}
 use Rattle.hk_facts.specs.declared.fact.Fact.TheVariants.{Row, End}
 use Rattle.hk_facts.specs.declared.fact.Part.{Part}
 use Rattle.hk_facts.specs.declared.fact.Part.TheVariants.{Row as RowPart, End as EndPart, Whole}
-use Rattle.hk_state.specs.Facts.{FactsValue, no_facts, with_fact_at, facts_put, facts_without, clashes_at}
-use Rattle.hk_state.specs.Indexed.{is_tagged, AreIndexed, tag_lost}
+use Rattle.hk_facts.specs.Facts.{if_known}
+use Rattle.hk_state.specs.Facts.{FactsValue, no_facts, known_at, with_fact_at, facts_put, facts_without, clashes_at}
+use Rattle.hk_state.specs.Indexed.{is_tagged, has_fact, AreTagged, AreKeyed, AreIndexed, tag_lost}
 use Rattle.hk_state.proofs.Stored.{tied, key_tied}
 use Rattle.hk_state.proofs.Changed.{get-added, get-without, tied_is}
 
@@ -35,14 +36,7 @@ at_tag tag v = record { tag = tag; version = v }
 pub none_indexed : AreIndexed no_facts set.empty set.empty
 none_indexed = record {
   tagged = λ t v. set.contains-empty tagged_cmp (at_tag t v) ∙ ap (is_tagged t) (sym (finmap.get-empty version_key_cmp v));
-  keyed = λ v. set.contains-empty version_key_cmp v ∙ ap is_some (sym (finmap.get-empty version_key_cmp v));
-}
-
--- only the rows matter
-pub same_rows : (f g : FactsValue) (tags : Tags) (keys : Keys) → g.rows ≡ f.rows → AreIndexed f tags keys → AreIndexed g tags keys
-same_rows f g tags keys e is = record {
-  tagged = λ t v. is.tagged t v ∙ ap (λ m. is_tagged t (finmap.get m v)) (sym e);
-  keyed = λ v. is.keyed v ∙ ap (λ m. is_some (finmap.get m v)) (sym e);
+  keyed = λ v. set.contains-empty version_key_cmp v ∙ (λ i. is_some (sym (finmap.get-empty {X = RowValue} version_key_cmp v) i) || is_some (sym (finmap.get-empty {X = ℕ} version_key_cmp v) i));
 }
 
 tag_tied : (t tag : ℕ) (q v : VersionKey) → eq_by_cmp tagged_cmp (at_tag t q) (at_tag tag v) ≡ ((t == tag) && tied q v)
@@ -74,124 +68,73 @@ no_row : (o : Option RowValue) → option_map (λ r. r.tag) o ≡ None → o ≡
 no_row None e = refl
 no_row (Some r) e = cc
 
-module _ (f : FactsValue) (tags : Tags) (keys : Keys) (is : AreIndexed f tags keys) (v : VersionKey) where
+module _ (f : FactsValue) (tags : Tags) (is : AreTagged f tags) (v : VersionKey) where
   same_at : (q : VersionKey) → tied q v ≡ true → finmap.get f.rows q ≡ finmap.get f.rows v
   same_at q e = ap (finmap.get f.rows) (tied_is q v e)
 
   -- a row where none was known
-  pub row_indexed : (row : RowValue) → finmap.get f.rows v ≡ None → AreIndexed (with_fact_at f v (Row row)) (set.insert tags (at_tag row.tag v)) (set.insert keys v)
-  row_indexed row none = record {
-    tagged = λ t q.
-        with_tag tags t row.tag q v
-        ∙ ap (λ b. ((t == row.tag) && tied q v) || b) (is.tagged t q)
-        ∙ tag_there t q (tied q v) refl
-        ∙ sym (ap (is_tagged t) (get-added f.rows v row q ∙ ap (λ o. cond (tied q v) (or_else o (Some row)) (finmap.get f.rows q)) none));
-    keyed = λ q.
-        with_key keys q v
-        ∙ ap (λ b. tied q v || b) (is.keyed q)
-        ∙ key_there q (tied q v)
-        ∙ sym (ap is_some (get-added f.rows v row q ∙ ap (λ o. cond (tied q v) (or_else o (Some row)) (finmap.get f.rows q)) none));
-  }
+  pub row_tagged : (row : RowValue) → finmap.get f.rows v ≡ None → AreTagged (with_fact_at f v (Row row)) (set.insert tags (at_tag row.tag v))
+  row_tagged row none t q =
+      with_tag tags t row.tag q v
+      ∙ ap (λ b. ((t == row.tag) && tied q v) || b) (is t q)
+      ∙ there q (tied q v) refl
+      ∙ sym (ap (is_tagged t) (get-added f.rows v row q ∙ ap (λ o. cond (tied q v) (or_else o (Some row)) (finmap.get f.rows q)) none))
     where
-      new_tag : (t : ℕ) (o : Option RowValue) → o ≡ None → (((t == row.tag) && true) || is_tagged t o) ≡ (row.tag == t)
-      new_tag t None e = clean (t == row.tag) ∙ same_number t row.tag
-        where
-          clean : (b : Bool) → ((b && true) || false) ≡ b
-          clean true = refl
-          clean false = refl
-      new_tag t (Some r) e = absurd (differs r e)
-        where
-          differs : (r : RowValue) → ◌≡◌ {A = Option RowValue} (Some r) None → ⊥
-          differs r e = cc
+      clean : (b : Bool) → ((b && true) || false) ≡ b
+      clean true = refl
+      clean false = refl
       old_tag : (a b : Bool) → ((a && false) || b) ≡ b
       old_tag true b = refl
       old_tag false b = refl
-      tag_there : (t : ℕ) (q : VersionKey) (b : Bool) → tied q v ≡ b → (((t == row.tag) && b) || is_tagged t (finmap.get f.rows q)) ≡ is_tagged t (cond b (Some row) (finmap.get f.rows q))
-      tag_there t q true e = new_tag t (finmap.get f.rows q) (same_at q e ∙ none)
-      tag_there t q false e = old_tag (t == row.tag) (is_tagged t (finmap.get f.rows q))
-      key_there : (q : VersionKey) (b : Bool) → (b || is_some (finmap.get f.rows q)) ≡ is_some (cond b (Some row) (finmap.get f.rows q))
-      key_there q true = refl
-      key_there q false = refl
+      there : (q : VersionKey) (b : Bool) → tied q v ≡ b → (((t == row.tag) && b) || is_tagged t (finmap.get f.rows q)) ≡ is_tagged t (cond b (Some row) (finmap.get f.rows q))
+      there q true e = ap (λ o. ((t == row.tag) && true) || is_tagged t o) (same_at q e ∙ none) ∙ clean (t == row.tag) ∙ same_number t row.tag
+      there q false e = old_tag (t == row.tag) (is_tagged t (finmap.get f.rows q))
 
-  -- a tag, or a key, that was added where no row is known is taken back
-  pub tag_back : (tag : ℕ) → finmap.get f.rows v ≡ None → AreIndexed f (set.remove (set.insert tags (at_tag tag v)) (at_tag tag v)) keys
-  tag_back tag none = record {
-    tagged = λ t q.
-        without_tag (set.insert tags (at_tag tag v)) t tag q v
-        ∙ ap (λ b. not ((t == tag) && tied q v) && b) (with_tag tags t tag q v ∙ ap (λ b. ((t == tag) && tied q v) || b) (is.tagged t q))
-        ∙ there t q (tied q v) refl;
-    keyed = is.keyed;
-  }
+  -- a tag that was added where no row is known is taken back
+  pub tag_back : (tag : ℕ) → finmap.get f.rows v ≡ None → AreTagged f (set.remove (set.insert tags (at_tag tag v)) (at_tag tag v))
+  tag_back tag none t q =
+      without_tag (set.insert tags (at_tag tag v)) t tag q v
+      ∙ ap (λ b. not ((t == tag) && tied q v) && b) (with_tag tags t tag q v ∙ ap (λ b. ((t == tag) && tied q v) || b) (is t q))
+      ∙ there q (tied q v) refl
     where
-      there : (t : ℕ) (q : VersionKey) (b : Bool) → tied q v ≡ b → (not ((t == tag) && b) && (((t == tag) && b) || is_tagged t (finmap.get f.rows q))) ≡ is_tagged t (finmap.get f.rows q)
-      there t q true e = ap (λ o. not ((t == tag) && true) && (((t == tag) && true) || is_tagged t o)) (same_at q e ∙ none) ∙ gone (t == tag) ∙ sym (ap (is_tagged t) (same_at q e ∙ none))
-        where
-          gone : (a : Bool) → (not (a && true) && ((a && true) || false)) ≡ false
-          gone true = refl
-          gone false = refl
-      there t q false e = still (t == tag) (is_tagged t (finmap.get f.rows q))
-        where
-          still : (a b : Bool) → (not (a && false) && ((a && false) || b)) ≡ b
-          still true b = refl
-          still false b = refl
-
-  pub key_back : finmap.get f.rows v ≡ None → AreIndexed f tags (set.remove (set.insert keys v) v)
-  key_back none = record {
-    tagged = is.tagged;
-    keyed = λ q.
-        without_key (set.insert keys v) q v
-        ∙ ap (λ b. not (tied q v) && b) (with_key keys q v ∙ ap (λ b. tied q v || b) (is.keyed q))
-        ∙ there q (tied q v) refl;
-  }
-    where
-      there : (q : VersionKey) (b : Bool) → tied q v ≡ b → (not b && (b || is_some (finmap.get f.rows q))) ≡ is_some (finmap.get f.rows q)
-      there q true e = sym (ap is_some (same_at q e ∙ none))
-      there q false e = refl
+      gone : (a : Bool) → (not (a && true) && ((a && true) || false)) ≡ false
+      gone true = refl
+      gone false = refl
+      still : (a b : Bool) → (not (a && false) && ((a && false) || b)) ≡ b
+      still true b = refl
+      still false b = refl
+      there : (q : VersionKey) (b : Bool) → tied q v ≡ b → (not ((t == tag) && b) && (((t == tag) && b) || is_tagged t (finmap.get f.rows q))) ≡ is_tagged t (finmap.get f.rows q)
+      there q true e = ap (λ o. not ((t == tag) && true) && (((t == tag) && true) || is_tagged t o)) (same_at q e ∙ none) ∙ gone (t == tag) ∙ sym (ap (is_tagged t) (same_at q e ∙ none))
+      there q false e = still (t == tag) (is_tagged t (finmap.get f.rows q))
 
   -- a row that is taken away
   row_gone : (tag : ℕ) → ((t : ℕ) → is_tagged t (finmap.get f.rows v) ≡ (tag == t)) → (g : FactsValue) → ((q : VersionKey) → finmap.get g.rows q ≡ cond (tied q v) None (finmap.get f.rows q))
-      → AreIndexed g (set.remove tags (at_tag tag v)) (set.remove keys v)
-  row_gone tag had g left = record {
-    tagged = λ t q.
-        without_tag tags t tag q v
-        ∙ ap (λ b. not ((t == tag) && tied q v) && b) (is.tagged t q)
-        ∙ tag_there t q (tied q v) refl
-        ∙ sym (ap (is_tagged t) (left q));
-    keyed = λ q.
-        without_key keys q v
-        ∙ ap (λ b. not (tied q v) && b) (is.keyed q)
-        ∙ key_there (finmap.get f.rows q) (tied q v)
-        ∙ sym (ap is_some (left q));
-  }
+      → AreTagged g (set.remove tags (at_tag tag v))
+  row_gone tag had g left t q =
+      without_tag tags t tag q v
+      ∙ ap (λ b. not ((t == tag) && tied q v) && b) (is t q)
+      ∙ there q (tied q v) refl
+      ∙ sym (ap (is_tagged t) (left q))
     where
-      tag_there : (t : ℕ) (q : VersionKey) (b : Bool) → tied q v ≡ b → (not ((t == tag) && b) && is_tagged t (finmap.get f.rows q)) ≡ is_tagged t (cond b None (finmap.get f.rows q))
-      tag_there t q true e = ap (λ b. not ((t == tag) && true) && b) (ap (is_tagged t) (same_at q e) ∙ had t ∙ same_number tag t) ∙ gone (t == tag)
-        where
-          gone : (a : Bool) → (not (a && true) && a) ≡ false
-          gone true = refl
-          gone false = refl
-      tag_there t q false e = still (t == tag) (is_tagged t (finmap.get f.rows q))
-        where
-          still : (a b : Bool) → (not (a && false) && b) ≡ b
-          still true b = refl
-          still false b = refl
-      key_there : (o : Option RowValue) (b : Bool) → (not b && is_some o) ≡ is_some (cond b None o)
-      key_there o true = refl
-      key_there o false = refl
+      gone : (a : Bool) → (not (a && true) && a) ≡ false
+      gone true = refl
+      gone false = refl
+      still : (a b : Bool) → (not (a && false) && b) ≡ b
+      still true b = refl
+      still false b = refl
+      there : (q : VersionKey) (b : Bool) → tied q v ≡ b → (not ((t == tag) && b) && is_tagged t (finmap.get f.rows q)) ≡ is_tagged t (cond b None (finmap.get f.rows q))
+      there q true e = ap (λ b. not ((t == tag) && true) && b) (ap (is_tagged t) (same_at q e) ∙ had t ∙ same_number tag t) ∙ gone (t == tag)
+      there q false e = still (t == tag) (is_tagged t (finmap.get f.rows q))
 
   -- where no row was known, none is taken away
-  none_gone : finmap.get f.rows v ≡ None → (g : FactsValue) → ((q : VersionKey) → finmap.get g.rows q ≡ cond (tied q v) None (finmap.get f.rows q)) → AreIndexed g tags keys
-  none_gone none g left = record {
-    tagged = λ t q. is.tagged t q ∙ sym (ap (is_tagged t) (left q ∙ there q (tied q v) refl));
-    keyed = λ q. is.keyed q ∙ sym (ap is_some (left q ∙ there q (tied q v) refl));
-  }
+  none_gone : finmap.get f.rows v ≡ None → (g : FactsValue) → ((q : VersionKey) → finmap.get g.rows q ≡ cond (tied q v) None (finmap.get f.rows q)) → AreTagged g tags
+  none_gone none g left t q = is t q ∙ sym (ap (is_tagged t) (left q ∙ there q (tied q v) refl))
     where
       there : (q : VersionKey) (b : Bool) → tied q v ≡ b → cond b None (finmap.get f.rows q) ≡ finmap.get f.rows q
       there q true e = sym (same_at q e ∙ none)
       there q false e = refl
 
-
-  pub part_gone : (part : Part) (tag : ℕ) → tag_lost f v part ≡ Some tag → AreIndexed (facts_without f v part) (set.remove tags (at_tag tag v)) (set.remove keys v)
+  pub part_gone : (part : Part) (tag : ℕ) → tag_lost f v part ≡ Some tag → AreTagged (facts_without f v part) (set.remove tags (at_tag tag v))
   part_gone RowPart tag e = row_gone tag (had tag (finmap.get f.rows v) e) (facts_without f v RowPart) (λ q. get-without f.rows v q)
   part_gone Whole tag e = row_gone tag (had tag (finmap.get f.rows v) e) (facts_without f v Whole) (λ q. get-without f.rows v q)
   part_gone EndPart tag e = absurd (differs e)
@@ -199,10 +142,135 @@ module _ (f : FactsValue) (tags : Tags) (keys : Keys) (is : AreIndexed f tags ke
       differs : ◌≡◌ {A = Option ℕ} None (Some tag) → ⊥
       differs e = cc
 
-  pub part_rowless : (part : Part) → tag_lost f v part ≡ None → AreIndexed (facts_without f v part) tags keys
+  pub part_rowless : (part : Part) → tag_lost f v part ≡ None → AreTagged (facts_without f v part) tags
   part_rowless RowPart e = none_gone (no_row (finmap.get f.rows v) e) (facts_without f v RowPart) (λ q. get-without f.rows v q)
   part_rowless Whole e = none_gone (no_row (finmap.get f.rows v) e) (facts_without f v Whole) (λ q. get-without f.rows v q)
-  part_rowless EndPart e = record { tagged = is.tagged; keyed = is.keyed }
+  part_rowless EndPart e = λ t q. is t q
+
+  -- a put where the row is known, or of an end, leaves the rows as they were
+  pub known_tagged : (row : RowValue) → is_some (finmap.get f.rows v) ≡ true → AreTagged (with_fact_at f v (Row row)) tags
+  known_tagged row there t q = is t q ∙ ap (λ b. is_tagged t (finmap.get (cond b f.rows (finmap.insert f.rows v row)) q)) (sym there)
+
+  pub end_tagged : (died : ℕ) → AreTagged (with_fact_at f v (End died)) tags
+  end_tagged died t q = is t q
+
+-- ---- the index by key
+
+-- a version of which something is known has a row or an end
+pub known_fact : (f : FactsValue) (v : VersionKey) → is_some (known_at f v) ≡ has_fact f v
+known_fact f v = cases (finmap.get f.rows v) (finmap.get f.ends v)
+  where
+    cases : (r : Option RowValue) (d : Option ℕ) → is_some (if_known (record { row = r; died = d })) ≡ (is_some r || is_some d)
+    cases None None = refl
+    cases None (Some d) = refl
+    cases (Some r) d = refl
+
+module _ (f : FactsValue) (keys : Keys) (is : AreKeyed f keys) (v : VersionKey) where
+  fact_at : (q : VersionKey) → tied q v ≡ true → has_fact f q ≡ has_fact f v
+  fact_at q e = ap (has_fact f) (tied_is q v e)
+
+  -- a key that was added where nothing is known is taken back
+  pub key_back : has_fact f v ≡ false → AreKeyed f (set.remove (set.insert keys v) v)
+  key_back none q =
+      without_key (set.insert keys v) q v
+      ∙ ap (λ b. not (tied q v) && b) (with_key keys q v ∙ ap (λ b. tied q v || b) (is q))
+      ∙ there (tied q v) refl
+    where
+      there : (b : Bool) → tied q v ≡ b → (not b && (b || has_fact f q)) ≡ has_fact f q
+      there true e = sym (fact_at q e ∙ none)
+      there false e = refl
+
+  -- a fact on a version of which nothing was known
+  pub fact_keyed : (fact : Fact) → has_fact f v ≡ false → AreKeyed (with_fact_at f v fact) (set.insert keys v)
+  fact_keyed (Row row) none q =
+      with_key keys q v ∙ ap (λ b. tied q v || b) (is q)
+      ∙ there (tied q v) refl
+      ∙ sym (ap (λ o. is_some o || is_some (finmap.get f.ends q)) (get-added f.rows v row q))
+    where
+      some : (o : Option RowValue) → is_some (or_else o (Some row)) ≡ true
+      some None = refl
+      some (Some r) = refl
+      there : (b : Bool) → tied q v ≡ b → (b || has_fact f q) ≡ (is_some (cond b (or_else (finmap.get f.rows v) (Some row)) (finmap.get f.rows q)) || is_some (finmap.get f.ends q))
+      there true e = sym (ap (λ b. b || is_some (finmap.get f.ends q)) (some (finmap.get f.rows v)))
+      there false e = refl
+  fact_keyed (End died) none q =
+      with_key keys q v ∙ ap (λ b. tied q v || b) (is q)
+      ∙ there (tied q v) refl
+      ∙ sym (ap (λ o. is_some (finmap.get f.rows q) || is_some o) (get-added f.ends v died q))
+    where
+      some : (o : Option ℕ) → is_some (or_else o (Some died)) ≡ true
+      some None = refl
+      some (Some r) = refl
+      right : (b : Bool) → true ≡ (b || true)
+      right true = refl
+      right false = refl
+      there : (b : Bool) → tied q v ≡ b → (b || has_fact f q) ≡ (is_some (finmap.get f.rows q) || is_some (cond b (or_else (finmap.get f.ends v) (Some died)) (finmap.get f.ends q)))
+      there true e = right (is_some (finmap.get f.rows q)) ∙ ap (λ b. is_some (finmap.get f.rows q) || b) (sym (some (finmap.get f.ends v)))
+      there false e = refl
+
+  -- a fact on a version of which something is known
+  pub more_keyed : (fact : Fact) → has_fact f v ≡ true → AreKeyed (with_fact_at f v fact) keys
+  more_keyed (Row row) had q = is q ∙ there (tied q v) refl ∙ sym (ap (λ o. is_some o || is_some (finmap.get f.ends q)) (get-added f.rows v row q))
+    where
+      some : (o : Option RowValue) → is_some (or_else o (Some row)) ≡ true
+      some None = refl
+      some (Some r) = refl
+      there : (b : Bool) → tied q v ≡ b → has_fact f q ≡ (is_some (cond b (or_else (finmap.get f.rows v) (Some row)) (finmap.get f.rows q)) || is_some (finmap.get f.ends q))
+      there true e = fact_at q e ∙ had ∙ sym (ap (λ b. b || is_some (finmap.get f.ends q)) (some (finmap.get f.rows v)))
+      there false e = refl
+  more_keyed (End died) had q = is q ∙ there (tied q v) refl ∙ sym (ap (λ o. is_some (finmap.get f.rows q) || is_some o) (get-added f.ends v died q))
+    where
+      some : (o : Option ℕ) → is_some (or_else o (Some died)) ≡ true
+      some None = refl
+      some (Some r) = refl
+      right : (b : Bool) → true ≡ (b || true)
+      right true = refl
+      right false = refl
+      there : (b : Bool) → tied q v ≡ b → has_fact f q ≡ (is_some (finmap.get f.rows q) || is_some (cond b (or_else (finmap.get f.ends v) (Some died)) (finmap.get f.ends q)))
+      there true e = fact_at q e ∙ had ∙ right (is_some (finmap.get f.rows q)) ∙ ap (λ b. is_some (finmap.get f.rows q) || b) (sym (some (finmap.get f.ends v)))
+      there false e = refl
+
+  -- other versions keep what is known of them
+  others : (part : Part) (q : VersionKey) → tied q v ≡ false → has_fact (facts_without f v part) q ≡ has_fact f q
+  others RowPart q e = ap (λ o. is_some o || is_some (finmap.get f.ends q)) (get-without f.rows v q ∙ ap (λ b. cond b None (finmap.get f.rows q)) e)
+  others EndPart q e = ap (λ o. is_some (finmap.get f.rows q) || is_some o) (get-without f.ends v q ∙ ap (λ b. cond b None (finmap.get f.ends q)) e)
+  others Whole q e = (λ i. is_some ((get-without f.rows v q ∙ ap (λ b. cond b None (finmap.get f.rows q)) e) i) || is_some ((get-without f.ends v q ∙ ap (λ b. cond b None (finmap.get f.ends q)) e) i))
+
+  -- no part that is taken back makes more known
+  less : {X : Type 0} (m : finmap.FinMap version_key_cmp X) → is_some (finmap.get (finmap.remove m v) v) ≡ true → is_some (finmap.get m v) ≡ true
+  less m e = by (tied v v) (ap is_some (sym (get-without m v v)) ∙ e)
+    where
+      by : (b : Bool) → is_some (cond b None (finmap.get m v)) ≡ true → is_some (finmap.get m v) ≡ true
+      by true h = cc
+      by false h = h
+
+  either_true : (a b a' b' : Bool) → (a' ≡ true → a ≡ true) → (b' ≡ true → b ≡ true) → (a' || b') ≡ true → (a || b) ≡ true
+  either_true true b a' b' f g e = refl
+  either_true false true a' b' f g e = refl
+  either_true false false true b' f g e = f refl
+  either_true false false false true f g e = g refl
+  either_true false false false false f g e = e
+
+  still_known : (part : Part) → has_fact (facts_without f v part) v ≡ true → has_fact f v ≡ true
+  still_known RowPart e = either_true _ _ (is_some (finmap.get (finmap.remove f.rows v) v)) (is_some (finmap.get f.ends v)) (less f.rows) (λ h. h) e
+  still_known EndPart e = either_true _ _ (is_some (finmap.get f.rows v)) (is_some (finmap.get (finmap.remove f.ends v) v)) (λ h. h) (less f.ends) e
+  still_known Whole e = either_true _ _ (is_some (finmap.get (finmap.remove f.rows v) v)) (is_some (finmap.get (finmap.remove f.ends v) v)) (less f.rows) (less f.ends) e
+
+  -- a part is taken back, and something stays known
+  pub part_stays : (part : Part) → has_fact (facts_without f v part) v ≡ true → AreKeyed (facts_without f v part) keys
+  part_stays part left q = is q ∙ there (tied q v) refl
+    where
+      there : (b : Bool) → tied q v ≡ b → has_fact f q ≡ has_fact (facts_without f v part) q
+      there true e = fact_at q e ∙ still_known part left ∙ sym (ap (has_fact (facts_without f v part)) (tied_is q v e) ∙ left)
+      there false e = sym (others part q e)
+
+  -- a part is taken back, and nothing stays known
+  pub part_last : (part : Part) → has_fact (facts_without f v part) v ≡ false → AreKeyed (facts_without f v part) (set.remove keys v)
+  part_last part left q = without_key keys q v ∙ ap (λ b. not (tied q v) && b) (is q) ∙ there (tied q v) refl
+    where
+      there : (b : Bool) → tied q v ≡ b → (not b && has_fact f q) ≡ has_fact (facts_without f v part) q
+      there true e = sym (ap (has_fact (facts_without f v part)) (tied_is q v e) ∙ left)
+      there false e = sym (others part q e)
 
 -- what a put leaves
 pub put_is : (f g : FactsValue) (v : VersionKey) (fact : Fact) → facts_put f v fact ≡ Ok g → g ≡ with_fact_at f v fact
@@ -211,3 +279,26 @@ put_is f g v fact e = go (clashes_at f v fact) (with_fact_at f v fact) e
     go : (b : Bool) (w : FactsValue) → cond b (Err Conflict) (Ok w) ≡ Ok g → g ≡ w
     go true w e = cc
     go false w e = cc
+
+-- what a put leaves, told or refused
+module _ (f g : FactsValue) (v : VersionKey) {A : Type 0} (r : Result A Refusal) (same : OnErr r (g ≡ f)) where
+  pub put_row_tagged : (row : RowValue) (tags : Tags) → AreTagged f tags → OnOk r (facts_put f v (Row row) ≡ Ok g) → is_some (finmap.get f.rows v) ≡ true → AreTagged g tags
+  put_row_tagged row tags is ok there = by r same ok
+    where
+      by : (r : Result A Refusal) → OnErr r (g ≡ f) → OnOk r (facts_put f v (Row row) ≡ Ok g) → AreTagged g tags
+      by (Ok a) e o = subst (λ h. AreTagged h tags) (sym (put_is f g v (Row row) o)) (known_tagged f tags is v row there)
+      by (Err w) e o = subst (λ h. AreTagged h tags) (sym e) is
+
+  pub put_end_tagged : (died : ℕ) (tags : Tags) → AreTagged f tags → OnOk r (facts_put f v (End died) ≡ Ok g) → AreTagged g tags
+  put_end_tagged died tags is ok = by r same ok
+    where
+      by : (r : Result A Refusal) → OnErr r (g ≡ f) → OnOk r (facts_put f v (End died) ≡ Ok g) → AreTagged g tags
+      by (Ok a) e o = subst (λ h. AreTagged h tags) (sym (put_is f g v (End died) o)) (end_tagged f tags is v died)
+      by (Err w) e o = subst (λ h. AreTagged h tags) (sym e) is
+
+  pub put_keyed : (fact : Fact) (keys : Keys) → AreKeyed f keys → OnOk r (facts_put f v fact ≡ Ok g) → has_fact f v ≡ true → AreKeyed g keys
+  put_keyed fact keys is ok had = by r same ok
+    where
+      by : (r : Result A Refusal) → OnErr r (g ≡ f) → OnOk r (facts_put f v fact ≡ Ok g) → AreKeyed g keys
+      by (Ok a) e o = subst (λ h. AreKeyed h keys) (sym (put_is f g v fact o)) (more_keyed f keys is v fact had)
+      by (Err w) e o = subst (λ h. AreKeyed h keys) (sym e) is

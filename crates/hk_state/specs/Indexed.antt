@@ -1,5 +1,5 @@
 -- What the indexes of facts hold.
-use Rattle.std.specs.Prelude.{◌≡◌, ℕ, Bool, false, ◌==◌, is_some, Option, Some, None}
+use Rattle.std.specs.Prelude.{◌≡◌, ℕ, Bool, false, ◌==◌, ◌||◌, is_some, Option, Some, None}
 use Rattle.std.specs.Option.{option_map}
 use Rattle.std.specs.FinMap as finmap
 use Rattle.std.specs.FinSet as set
@@ -26,9 +26,13 @@ has_tag f tag v = is_tagged tag (finmap.get f.rows v)
 abbrev pub AreTagged : FactsValue → set.FinSet tagged_cmp → Type 0
 AreTagged f tags = (tag : ℕ) (v : VersionKey) → set.contains tags (record { tag = tag; version = v }) ≡ has_tag f tag v
 
--- the index by key has each version whose row is known, and no other
+-- whether a row or an end of a version is known
+abbrev pub has_fact : FactsValue → VersionKey → Bool
+has_fact f v = is_some (finmap.get f.rows v) || is_some (finmap.get f.ends v)
+
+-- the index by key has each version of which a row or an end is known, and no other
 abbrev pub AreKeyed : FactsValue → set.FinSet version_key_cmp → Type 0
-AreKeyed f keys = (v : VersionKey) → set.contains keys v ≡ is_some (finmap.get f.rows v)
+AreKeyed f keys = (v : VersionKey) → set.contains keys v ≡ has_fact f v
 
 pub record AreIndexed (f : FactsValue) (tags : set.FinSet tagged_cmp) (keys : set.FinSet version_key_cmp) : Type 0 where
   pub tagged : AreTagged f tags

@@ -18,8 +18,8 @@ use hk_types::{Key, Refusal, Row, Table, Tag, Time, VersionKey};
 use std::alloc::{AllocError, Global};
 use std::marker::Model;
 
-/// The rows and the ends of all versions. The versions whose row is known stand in two indexes: by tag, and
-/// by table and key.
+/// The rows and the ends of all versions, with two indexes: by tag those whose row is known, and by table and
+/// key those of which a row or an end is known.
 #[derive(Drop)]
 pub struct Facts {
     tables: Tables,
@@ -64,7 +64,7 @@ impl Facts {
         &self.tags
     }
 
-    /// The versions whose row is known, by table and key.
+    /// The versions of which a row or an end is known, by table and key.
     pub fn keys(&self) -> &KeyIndex
         ensures { AreKeyed self.now result.now }
     {
@@ -111,7 +111,9 @@ impl Facts {
     {
         match fact {
             Fact::Row(row) => self.put_row(version, row),
-            Fact::End(died) => self.tables.put(version, Fact::End(died)),
+            Fact::End(died) => {
+                put_listed(&mut self.tables, &mut self.keys, version, Fact::End(died))
+            }
         }
     }
 
@@ -121,16 +123,12 @@ impl Facts {
         ensures kept { OnErr result (self.new ≡ self.old) }
     {
         if self.tables.row_at(version).is_some() {
-            return self.tables.put(version, Fact::Row(row));
+            return put_listed(&mut self.tables, &mut self.keys, version, Fact::Row(row));
         }
         let tag = row.tag();
         self.tags.add(tag, *version)?;
-        if let Err(why) = self.keys.add(*version) {
-            self.tags.remove(tag, *version);
-            return Err(why);
-        }
-        if let Err(why) = self.tables.put(version, Fact::Row(row)) {
-            self.keys.remove(*version);
+        let put = put_listed(&mut self.tables, &mut self.keys, version, Fact::Row(row));
+        if let Err(why) = put {
             self.tags.remove(tag, *version);
             return Err(why);
         }
@@ -141,11 +139,11 @@ impl Facts {
     pub fn forget(&mut self, version: &VersionKey, part: Part)
         ensures { self.new ≡ facts_without self.old version.now part }
     {
-        if let Some(tag) = self.tag_of(version, part) {
-            self.keys.remove(*version);
+        let tag = self.tag_of(version, part);
+        forget_listed(&mut self.tables, &mut self.keys, version, part);
+        if let Some(tag) = tag {
             self.tags.remove(tag, *version);
         }
-        self.tables.forget(version, part);
     }
 
     /// The tag of the row that goes with a part of a version.
@@ -165,5 +163,41 @@ impl Facts {
         ensures { IfOk result (λ versions. (q : VersionKey) → is_among versions.items q ≡ ended_by self.now.ends until q) }
     {
         self.tables.ended(until)
+    }
+}
+
+/// Adds a fact, and its version to the index by key.
+fn put_listed(
+    tables: &mut Tables,
+    keys: &mut KeyIndex,
+    version: &VersionKey,
+    fact: Fact,
+) -> Result<(), Refusal>
+    requires { AreKeyed tables.old keys.old }
+    ensures ok { OnOk result (facts_put tables.old version.now fact ≡ Ok tables.new) }
+    ensures err { IfErr result (λ why. (facts_put tables.old version.now fact ≡ Err why) ⊎ ((why ≡ Memory) × (known_at tables.old version.now ≡ None))) }
+    ensures kept { OnErr result (tables.new ≡ tables.old) }
+    ensures keyed { AreKeyed tables.new keys.new }
+{
+    if tables.knows(version) {
+        return tables.put(version, fact);
+    }
+    keys.add(*version)?;
+    if let Err(why) = tables.put(version, fact) {
+        keys.remove(*version);
+        return Err(why);
+    }
+    Ok(())
+}
+
+/// Takes a part of a version back, and the version out of the index by key where nothing else is known of it.
+fn forget_listed(tables: &mut Tables, keys: &mut KeyIndex, version: &VersionKey, part: Part)
+    requires { AreKeyed tables.old keys.old }
+    ensures value { tables.new ≡ facts_without tables.old version.now part }
+    ensures keyed { AreKeyed tables.new keys.new }
+{
+    tables.forget(version, part);
+    if !tables.knows(version) {
+        keys.remove(*version);
     }
 }

@@ -1,6 +1,6 @@
 //! Reading a state at a time.
 
-ghost use Rattle.std.specs.Prelude.{◌≡◌, ◌==◌, ℕ, is_some, length};
+ghost use Rattle.std.specs.Prelude.{◌≡◌, ◌==◌, ◌||◌, ℕ, is_some, length};
 ghost use Rattle.std.specs.Option.{option_copied};
 ghost use Rattle.std.specs.FinMap as finmap;
 ghost use Rattle.std.specs.FinSet as set;
@@ -45,9 +45,9 @@ impl ReplicaState {
         self.facts.tags()
     }
 
-    /// The versions whose row is known, by table and key.
+    /// The versions of which a row or an end is known, by table and key.
     pub fn keys(&self) -> &KeyIndex
-        ensures { (v : VersionKey) → set.contains result.now v ≡ is_some (finmap.get self.now.rows v) }
+        ensures { (v : VersionKey) → set.contains result.now v ≡ (is_some (finmap.get self.now.rows v) || is_some (finmap.get self.now.ends v)) }
     {
         self.facts.keys()
     }
