@@ -112,7 +112,7 @@ filter_map-In f x y [] i e = elim i [ ]
 filter_map-In f x y (z ∷ xs) (inl s) e = cons_here (f z) y (filter_map f xs) (ap f (sym s) ∙ e)
 filter_map-In f x y (z ∷ xs) (inr i) e = In_cons (f z) y (filter_map f xs) (filter_map-In f x y xs i e)
 
-map_In_pair : {K X : Type 0} (k : K) (es : List (K × X)) → In k (map (λ e. e.0) es) → (x : X) × In (k, x) es
+pub map_In_pair : {K X : Type 0} (k : K) (es : List (K × X)) → In k (map (λ e. e.0) es) → (x : X) × In (k, x) es
 map_In_pair k [] i = elim i [ ]
 map_In_pair k (e ∷ es) (inl s) = (e.1, inl (λ i. (s i, e.1)))
 map_In_pair k (e ∷ es) (inr i) = let rest = map_In_pair k es i in (rest.0, inr rest.1)

@@ -27,6 +27,12 @@ module _ (m : BTreeMap ℕ KeyedValue) (t k : ℕ) where
   chain_some known keyed None has is = tt
   chain_some known keyed (Some c) has is = λ born. sym (known_stored (seen m) known (record { table = t; key = k; born = born }) ∙ known_there m t (λ x. version_in x k born) keyed has ∙ ap (option_and_then (λ c. finmap.get c born)) (sym is))
 
+  pub chain_has : AllKnown (seen m) → (keyed : KeyedValue) (chain : ChainValue) → Some keyed ≡ tree.get nat_cmp m t → finmap.get keyed k ≡ Some chain → (born : ℕ) → finmap.get chain born ≡ known_at (facts_of (seen m)) (record { table = t; key = k; born = born })
+  chain_has known keyed chain has is born = sym (known_stored (seen m) known (record { table = t; key = k; born = born }) ∙ known_there m t (λ x. version_in x k born) keyed has ∙ ap (option_and_then (λ c. finmap.get c born)) is)
+
+  pub chain_lacks : (keyed : KeyedValue) → Some keyed ≡ tree.get nat_cmp m t → finmap.get keyed k ≡ None → (born : ℕ) → known_at (facts_of (seen m)) (record { table = t; key = k; born = born }) ≡ None
+  chain_lacks keyed has is born = nothing_known (seen m) (record { table = t; key = k; born = born }) (known_there m t (λ x. version_in x k born) keyed has ∙ ap (option_and_then (λ c. finmap.get c born)) is)
+
   pub chain_none : (keyed : KeyedValue) (r : Option (Bor ChainValue)) → Some keyed ≡ tree.get nat_cmp m t → option_copied r ≡ finmap.get keyed k → IfNone r ((born : ℕ) → known_at (facts_of (seen m)) (record { table = t; key = k; born = born }) ≡ None)
   chain_none keyed None has is = λ born. nothing_known (seen m) (record { table = t; key = k; born = born }) (known_there m t (λ x. version_in x k born) keyed has ∙ ap (option_and_then (λ c. finmap.get c born)) (sym is))
   chain_none keyed (Some c) has is = tt

@@ -10,3 +10,4 @@ pub mod Ended
 pub mod Dropped
 pub mod Indexed
 pub mod Reading
+pub mod Counting

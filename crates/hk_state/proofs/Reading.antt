@@ -14,7 +14,7 @@ use Rattle.hk_state.specs.Facts.{FactsValue, known_at}
 use Rattle.hk_state.specs.Reads.{row_shown}
 use Rattle.hk_state.proofs.ByTable.{known_row, known_end}
 
-abbrev facts_in : Content → FactsValue
+abbrev pub facts_in : Content → FactsValue
 facts_in c = record { rows = c.rows; ends = c.ends }
 
 module _ (c : Content) (k : RowKey) where

@@ -1,12 +1,14 @@
 //! The facts of a replica, with the indexes of their versions.
 
-ghost use Rattle.std.specs.Prelude.{◌≡◌, is_some, ◌⊎◌, ◌<◌, OnOk, OnErr, IfErr, IfOk, IfSome, IfNone, Ok, Err, Some, None, ℕ};
+ghost use Rattle.std.specs.Prelude.{◌≡◌, ◌==◌, length, is_some, ◌⊎◌, ◌<◌, OnOk, OnErr, IfErr, IfOk, IfSome, IfNone, Ok, Err, Some, None, ℕ};
 ghost use Rattle.std.specs.Option.{option_copied};
 ghost use Rattle.std.specs.FinMap as finmap;
 ghost use Rattle.hk_types.specs.declared.faults.Refusal.TheVariants.{Memory};
 ghost use Rattle.hk_types.specs.declared.version_key.VersionKey.{VersionKey};
 ghost use Rattle.hk_facts.specs.declared.fact.Fact.TheVariants.{Row as RowFact};
 ghost use Rattle.hk_model.specs.Content.{ended_by};
+ghost use Rattle.hk_model.specs.Answers.{visible, rows_where};
+ghost use Rattle.hk_state.specs.Reads.{with_facts};
 ghost use Rattle.hk_state.specs.Drops.{is_among};
 ghost use Rattle.hk_state.specs.Facts.{no_facts, known_at, facts_put, facts_without};
 ghost use Rattle.hk_state.specs.Indexed.{AreTagged, AreKeyed, IsNew, tag_lost};
@@ -99,6 +101,14 @@ impl Facts {
         ensures { result ≡ is_some (known_at self.now version.now) }
     {
         self.tables.knows(version)
+    }
+
+    /// How many rows of a table show at a time. It takes no memory. The cost grows as the number of keys of
+    /// the table, each by the logarithm of its versions.
+    pub fn count_at(&self, table: Table, time: Time) -> u64
+        ensures { result ≡ length (rows_where (λ k row. k.table == table) (visible (with_facts self.now) time)) }
+    {
+        self.tables.count_at(table, time) as u64
     }
 
     /// Adds a fact on a version. One that is known already changes nothing, and one that differs from what

@@ -9,25 +9,14 @@ ghost use Rattle.hk_model.specs.Content.{at_most};
 ghost use Rattle.hk_model.specs.Answers.{visible, rows_where};
 ghost use Rattle.hk_facts.specs.Chains.{latest_at, picked};
 ghost use Rattle.hk_state.specs.Indexed.{is_tagged};
-ghost use Rattle.hk_state.specs.Reads.{row_shown, chains_at, with_facts};
+ghost use Rattle.hk_state.specs.Reads.{row_shown};
 
 use crate::facts::Facts;
 use crate::replica::ReplicaState;
-use crate::tables::Tables;
-use hk_facts::{Chain, Keyed};
+use hk_facts::Chain;
 use hk_index::{KeyIndex, TagIndex};
 use hk_log::Version;
 use hk_types::{Key, Row, Table, Time, VersionKey};
-
-/// How many chains have a row at a time.
-fn count_chains(keyed: &Keyed, time: Time) -> usize
-    ensures { result ≡ chains_at keyed.now time }
-{
-    keyed
-        .iter()
-        .filter(|(_key, chain)| chain.at(time).is_some())
-        .count()
-}
 
 impl ReplicaState {
     /// The rows and the ends of all versions.
@@ -61,6 +50,14 @@ impl ReplicaState {
             Some(chain) => chain.at(time),
             None => None,
         }
+    }
+
+    /// How many rows of a table show at a time. It takes no memory. The cost grows as the number of keys of
+    /// the table, each by the logarithm of its versions.
+    pub fn count_at(&self, table: Table, time: Time) -> u64
+        ensures { result ≡ length (rows_where (λ k row. k.table == table) (visible self.now time)) }
+    {
+        self.facts.count_at(table, time)
     }
 
     /// The row of a version, where the version shows at a time. It takes no memory. The cost grows as the

@@ -1,6 +1,6 @@
 //! The facts of a replica, as chains of versions by table and key.
 
-ghost use Rattle.std.specs.Prelude.{◌≡◌, is_some, ◌++◌, map, ◌⊎◌, ◌↔◌, ◌<◌, IsTrue, OnOk, OnErr, IfErr, IfOk, IfSome, IfNone, Ok, Err, Some, None, ℕ};
+ghost use Rattle.std.specs.Prelude.{◌≡◌, ◌==◌, length, is_some, ◌++◌, map, ◌⊎◌, ◌↔◌, ◌<◌, IsTrue, OnOk, OnErr, IfErr, IfOk, IfSome, IfNone, Ok, Err, Some, None, ℕ};
 ghost use Rattle.std.specs.Option.{option_copied};
 ghost use Rattle.std.specs.Ordering.{nat_cmp};
 ghost use Rattle.std.specs.BTreeMap.{Updates};
@@ -8,6 +8,8 @@ ghost use Rattle.std.specs.FinMap as finmap;
 ghost use Rattle.hk_types.specs.declared.faults.Refusal.TheVariants.{Memory};
 ghost use Rattle.hk_types.specs.declared.version_key.VersionKey.{VersionKey};
 ghost use Rattle.hk_model.specs.Content.{ended_by};
+ghost use Rattle.hk_model.specs.Answers.{visible, rows_where};
+ghost use Rattle.hk_state.specs.Reads.{chains_at, with_facts};
 ghost use Rattle.hk_state.specs.Drops.{is_among, end_by, ended_of_chain, ended_of_keyed};
 ghost use Rattle.hk_state.specs.Facts.{entry_if, no_facts, known_at, facts_put, facts_without};
 
@@ -142,6 +144,17 @@ impl Tables {
         Ok(found)
     }
 
+    /// How many rows of a table show at a time. It takes no memory. The cost grows as the number of keys of
+    /// the table, each by the logarithm of its versions.
+    pub fn count_at(&self, table: Table, time: Time) -> usize
+        ensures { result ≡ length (rows_where (λ k row. k.table == table) (visible (with_facts self.now) time)) }
+    {
+        match self.tables.get(&table) {
+            Some(keyed) => count_chains(keyed, time),
+            None => 0,
+        }
+    }
+
     /// The same facts again. The only error is want of memory. The cost grows a little faster than the
     /// number of facts.
     pub fn copy(&self, alloc: Global) -> Result<Tables, AllocError>
@@ -153,6 +166,16 @@ impl Tables {
         }
         Ok(Tables { tables, alloc })
     }
+}
+
+/// How many chains have a row at a time.
+fn count_chains(keyed: &Keyed, time: Time) -> usize
+    ensures { result ≡ chains_at keyed.now time }
+{
+    keyed
+        .iter()
+        .filter(|(_key, chain)| chain.at(time).is_some())
+        .count()
 }
 
 fn list_keyed(
