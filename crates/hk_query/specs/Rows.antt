@@ -1,5 +1,5 @@
 -- The rows of versions that a content shows.
-use Rattle.std.specs.Prelude.{ℕ, List, map, Option, None, if◌then◌else◌}
+use Rattle.std.specs.Prelude.{◌≡◌, ℕ, Bool, List, [], ◌∷◌, map, Option, None, if◌then◌else◌, IfOk, IfErr, Result}
 use Rattle.std.specs.List.{filter_map}
 use Rattle.std.specs.Option.{option_map}
 use Rattle.std.specs.FinMap as finmap
@@ -10,7 +10,7 @@ use Rattle.hk_model.specs.Answers.{shows}
 
 -- the row of a version with its key, where the version shows at t
 abbrev pub keyed_row : Content → ℕ → VersionKey → Option (ℕ × RowValue)
-keyed_row c t v = if shows c t v then option_map (λ r. (v.key, r)) (finmap.get c.rows v) else None
+keyed_row c t v = option_map (λ r. (v.key, r)) (if shows c t v then finmap.get c.rows v else None)
 
 -- the rows of those of these versions that show at t
 abbrev pub rows_shown : Content → ℕ → List VersionKey → List (ℕ × RowValue)

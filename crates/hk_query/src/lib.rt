@@ -1,11 +1,8 @@
 //! Answers of a replica at a time.
 #![tactic(auto)]
 
-mod ask;
+mod reply;
 mod rows;
 
-pub use ask::ask;
 pub use hk_model::{Answer, Query};
-
-#[cfg(test)]
-mod tests;
+pub use reply::ask;

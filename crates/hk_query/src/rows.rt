@@ -1,9 +1,7 @@
 //! The rows that a state shows at a time.
 
-ghost use Rattle.std.specs.Prelude.{◌≡◌, ◌++◌, ◌∷◌, [], IfOk, OnOk, map, filter_map};
-ghost use Rattle.hk_model.specs.Rows.{RowKey};
-ghost use Rattle.hk_query.specs.Rows.{rows_shown, row_shown};
-ghost use Rattle.std.specs.Option.{option_copied};
+ghost use Rattle.std.specs.Prelude.{◌≡◌, ◌++◌, ◌∷◌, [], IfOk, OnOk};
+ghost use Rattle.hk_query.specs.Rows.{rows_shown};
 
 use hk_state::ReplicaState;
 use hk_types::{Key, Row, Time, VersionKey};
@@ -20,9 +18,22 @@ pub(crate) fn shown_rows(
 {
     let mut rows = Vec::new(alloc);
     for version in versions {
-        if let Some(row) = state.shown(version, time) {
-            rows.push((version.key, row.copy(alloc)?))?;
-        }
+        push_shown(alloc, &mut rows, state, time, version)?;
     }
     Ok(rows)
+}
+
+fn push_shown(
+    alloc: Global,
+    rows: &mut Vec<(Key, Row)>,
+    state: &ReplicaState,
+    time: Time,
+    version: &VersionKey,
+) -> Result<(), AllocError>
+    ensures { OnOk result (rows.new.items ≡ rows.old.items ++ rows_shown state.now time (version.now ∷ [])) }
+{
+    if let Some(row) = state.row_shown(version, time) {
+        rows.push((version.key, row.copy(alloc)?))?;
+    }
+    Ok(())
 }
