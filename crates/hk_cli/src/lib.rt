@@ -1,11 +1,13 @@
 //! What the program's commands do, over any reader and writer, and the lines that they print.
 #![tactic(auto)]
 
+mod at;
 mod frames;
 mod items;
 mod line;
 mod output;
 mod stop;
 
+pub use at::run_at;
 pub use items::run_items;
 pub use line::{Printed, line_of};

@@ -4,7 +4,7 @@
 mod arguments;
 
 use arguments::{Call, read_call};
-use hk_cli::run_items;
+use hk_cli::{run_at, run_items};
 use log::warn;
 use std::alloc::Global;
 use std::io;
@@ -21,7 +21,12 @@ fn run<R: Input + Print + Alloc<A = Global>>(rt: &R, call: Call) -> u8 {
     let mut input = rt.reader();
     let mut output = io::writer(rt);
     match call {
-        Call::At { .. } => 1,
+        Call::At {
+            config,
+            time,
+            table,
+            key,
+        } => run_at(rt.alloc(), &mut input, &mut output, config, time, table, key),
         Call::Items => run_items(rt.alloc(), &mut input, &mut output),
     }
 }
