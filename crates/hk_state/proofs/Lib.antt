@@ -11,3 +11,4 @@ pub mod Dropped
 pub mod Indexed
 pub mod Reading
 pub mod Counting
+pub mod Pruning

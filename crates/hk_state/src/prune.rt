@@ -1,0 +1,50 @@
+//! Pruning.
+
+ghost use Rattle.std.specs.Prelude.{◌≡◌, ◌≤◌, nat_le, OnOk, IfOk, IsOk};
+ghost use Rattle.hk_model.specs.Content.{readable};
+ghost use Rattle.hk_state.specs.Calls.{Prunes};
+
+use crate::replica::ReplicaState;
+use hk_model::Front;
+use hk_types::{Refusal, Time};
+
+impl ReplicaState {
+    /// Whether a time may become the horizon: it is at most the readable mark. It takes no memory.
+    pub fn can_prune(&self, time: Time) -> bool
+        ensures { result ≡ nat_le time (readable self.now) }
+    {
+        time <= self.readable()
+    }
+
+    /// Drops each version that ended at a time or before, and makes that time the horizon.
+    ///
+    /// A time above the readable mark is refused `AheadOfMark` with that mark. One at most the horizon
+    /// changes nothing and takes no memory. `Memory` comes where the list of what goes could not be made. A
+    /// refusal changes nothing. Costs by the facts that are held, and by those that go times the logarithm.
+    pub fn prune(&mut self, time: Time) -> Result<(), Refusal>
+        ensures gives { Prunes self.old self.new time result }
+        ensures below { time ≤ self.old.horizon → time ≤ readable self.old → IsOk result }
+    {
+        let readable = self.got.readable();
+        if readable < time {
+            return Err(Refusal::AheadOfMark { readable });
+        }
+        if time <= self.horizon {
+            return Ok(());
+        }
+        self.facts.drop_until(time)?;
+        self.horizon = time;
+        Ok(())
+    }
+}
+
+/// From where to where a state can be read. It takes no memory.
+pub fn front_of(state: &ReplicaState) -> Front
+    ensures horizon { result.horizon ≡ state.now.horizon }
+    ensures readable { result.readable ≡ readable state.now }
+{
+    Front {
+        horizon: state.horizon(),
+        readable: state.readable(),
+    }
+}
