@@ -12,3 +12,4 @@ pub mod Indexed
 pub mod Reading
 pub mod Counting
 pub mod Pruning
+pub mod Standing

@@ -1,12 +1,14 @@
 -- What calls on a state leave and answer.
-use Rattle.std.specs.Prelude.{◌≡◌, ◌⊎◌, ℕ, Result, Ok, Err}
+use Rattle.std.specs.Prelude.{◌≡◌, ◌⊎◌, ◌∷◌, ◌≤◌, ℕ, max, List, Result, Ok, Err, IfOk, IfErr}
 use Rattle.hk_types.specs.Values.{ConfigValue}
 use Rattle.hk_types.specs.declared.faults.Refusal.{Refusal}
 use Rattle.hk_types.specs.declared.faults.Refusal.TheVariants.{Memory}
 use Rattle.hk_log.specs.declared.item.Item.{Item}
 use Rattle.hk_model.specs.declared.took.Took.{Took}
 use Rattle.hk_model.specs.declared.took.Took.TheVariants.{Taken}
-use Rattle.hk_model.specs.Content.{Content}
+use Rattle.hk_model.specs.Content.{Content, readable}
+use Rattle.hk_model.specs.Histories.{Transaction, IsHistory, IsItemOf}
+use Rattle.hk_model.specs.Replicas.{Stands}
 use Rattle.hk_model.specs.Rules.{taken, pruned}
 
 -- an absorb left and told what taking gives, or it changed nothing: it was refused so, or memory ran out
@@ -19,3 +21,17 @@ Absorbs old new item (Err why) = (new ≡ old) × ((taken old item ≡ Err why) 
 abbrev pub Prunes : Content → Content → ℕ → Result (Unit {0}) Refusal → Type 0
 Prunes old new h (Ok done) = pruned old h ≡ Ok new
 Prunes old new h (Err why) = (new ≡ old) × ((pruned old h ≡ Err why) ⊎ ((why ≡ Memory) × ((c : Content) × (pruned old h ≡ Ok c))))
+
+-- where the old state stands for items of a history and the item is another, the new state stands for them
+-- all, unless memory ran out
+abbrev pub AbsorbsOf : Content → Content → Item → Result Took Refusal → Type 0
+AbsorbsOf old new item result =
+    (config : ConfigValue) (history : List Transaction) (items : List Item) (horizon : ℕ) → IsHistory config history → Stands config history items horizon old → IsItemOf config history item
+    → IfOk result (λ took. Stands config history (item ∷ items) horizon new) × IfErr result (λ why. why ≡ Memory)
+
+-- where the old state stands for items of a history, a prune up to its readable mark leaves one that stands
+-- for them at the greater horizon, unless memory ran out
+abbrev pub PrunesOf : Content → Content → ℕ → Result (Unit {0}) Refusal → Type 0
+PrunesOf old new h result =
+    (config : ConfigValue) (history : List Transaction) (items : List Item) (horizon : ℕ) → Stands config history items horizon old → h ≤ readable old
+    → IfOk result (λ done. Stands config history items (max horizon h) new) × IfErr result (λ why. why ≡ Memory)

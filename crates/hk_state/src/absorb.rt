@@ -5,7 +5,7 @@ ghost use Rattle.hk_types.specs.declared.faults.Refusal.TheVariants.{ForeignLog 
 ghost use Rattle.hk_log.specs.declared.item.Item.TheVariants.{Commit, Closed};
 ghost use Rattle.hk_model.specs.declared.took.Took.TheVariants.{Taken};
 ghost use Rattle.hk_model.specs.Streams.{all_together, streams_of};
-ghost use Rattle.hk_state.specs.Calls.{Absorbs};
+ghost use Rattle.hk_state.specs.Calls.{Absorbs, AbsorbsOf};
 ghost use Rattle.hk_state.specs.Facts.{with_entry};
 ghost use Rattle.hk_state.specs.Journal.{undone};
 
@@ -117,6 +117,7 @@ impl ReplicaState {
     /// the entry's writes times the logarithm of what is held.
     pub fn absorb(&mut self, item: &Item) -> Result<Took, Refusal>
         ensures gives { Absorbs self.old self.new item.now result }
+        ensures stands { AbsorbsOf self.old self.new item.now result }
     {
         match item {
             Item::Commit(entry) => self.absorb_entry(entry),

@@ -2,7 +2,7 @@
 
 ghost use Rattle.std.specs.Prelude.{◌≡◌, ◌≤◌, nat_le, OnOk, IfOk, IsOk};
 ghost use Rattle.hk_model.specs.Content.{readable};
-ghost use Rattle.hk_state.specs.Calls.{Prunes};
+ghost use Rattle.hk_state.specs.Calls.{Prunes, PrunesOf};
 
 use crate::replica::ReplicaState;
 use hk_model::Front;
@@ -22,6 +22,14 @@ impl ReplicaState {
     /// changes nothing and takes no memory. `Memory` comes where the list of what goes could not be made. A
     /// refusal changes nothing. Costs by the facts that are held, and by those that go times the logarithm.
     pub fn prune(&mut self, time: Time) -> Result<(), Refusal>
+        ensures gives { Prunes self.old self.new time result }
+        ensures stands { PrunesOf self.old self.new time result }
+        ensures below { time ≤ self.old.horizon → time ≤ readable self.old → IsOk result }
+    {
+        self.raise_horizon(time)
+    }
+
+    fn raise_horizon(&mut self, time: Time) -> Result<(), Refusal>
         ensures gives { Prunes self.old self.new time result }
         ensures below { time ≤ self.old.horizon → time ≤ readable self.old → IsOk result }
     {
