@@ -4,6 +4,7 @@ ghost use Rattle.std.specs.Prelude.{◌≡◌, ◌⊎◌, ◌≢◌, ℕ, Ok, Er
 ghost use Rattle.std.specs.FinMap as finmap;
 ghost use Rattle.hk_types.specs.declared.faults.Refusal.TheVariants.{Memory};
 ghost use Rattle.hk_model.specs.declared.query.Query.TheVariants.{Range, ByTag, Count};
+ghost use Rattle.hk_query.specs.Primary.{IsOfPrimary};
 ghost use Rattle.hk_model.specs.Answers.{Rows, answer, answer_seen, reply, visible};
 
 use crate::rows::shown_rows;
@@ -90,6 +91,22 @@ fn answer(
 /// logarithm of the tables, the keys and the versions of the key; `Range` and `ByTag` by the versions that
 /// the index lists, each by such a logarithm; `Count` by the keys of the table.
 pub fn ask(
+    alloc: Global,
+    state: &ReplicaState,
+    time: Time,
+    query: &Query,
+) -> Result<Answer, Refusal>
+    ensures gives { MatchResult result (λ a. reply state.now time query.now ≡ Ok (answer_seen a))
+        (λ why. (reply state.now time query.now ≡ Err why) ⊎ ((why ≡ Memory) × (reply state.now time query.now ≡ Ok (answer (visible state.now time) query.now)))) }
+    ensures primary { IsOfPrimary state.now time query.now result }
+
+    // A count takes no memory.
+    ensures count { (table : ℕ) → query.now ≡ Count table → IfErr result (λ why. why ≢ Memory) }
+{
+    reply(alloc, state, time, query)
+}
+
+fn reply(
     alloc: Global,
     state: &ReplicaState,
     time: Time,

@@ -1,0 +1,24 @@
+-- What a reply says of the primary's rows.
+use Rattle.std.proofs.Common.{◌≡◌, sym, ◌∙◌, ℕ, List, Result, Ok, Err, IfOk, IfErr, MatchResult, ◌⊎◌, inl, inr}
+use Rattle.hk_types.specs.declared.faults.Refusal.{Refusal}
+use Rattle.hk_types.specs.declared.faults.Refusal.TheVariants.{Memory}
+use Rattle.hk_model.specs.declared.answer.Answer.{Answer}
+use Rattle.hk_model.specs.declared.query.Query.{Query}
+use Rattle.hk_model.specs.Content.{Content}
+use Rattle.hk_model.specs.Answers.{AnswerValue, answer, answer_seen, reply, visible}
+use Rattle.hk_model.proofs.Laws.{reply_law_proof}
+use Rattle.hk_query.specs.Primary.{IsOfPrimary}
+
+inside : (a b : AnswerValue) → ◌≡◌ {A = Result AnswerValue Refusal} (Ok a) (Ok b) → a ≡ b
+inside a b e = cc
+
+differs : (a : AnswerValue) (why : Refusal) → ◌≡◌ {A = Result AnswerValue Refusal} (Ok a) (Err why) → ⊥
+differs a why e = cc
+
+pub of_primary : (c : Content) (t : ℕ) (query : Query) (r : Result Answer Refusal) → MatchResult r (λ a. reply c t query ≡ Ok (answer_seen a)) (λ why. (reply c t query ≡ Err why) ⊎ ((why ≡ Memory) × (reply c t query ≡ Ok (answer (visible c t) query)))) → IsOfPrimary c t query r
+of_primary c t query (Ok a) gave config history items horizon is stands old soon = (inside _ _ (sym gave ∙ reply_law_proof config history is items horizon c stands t old soon query), tt)
+of_primary c t query (Err why) gave config history items horizon is stands old soon =
+    (tt, elim gave [
+      | inl e ↦ absurd (differs _ why (sym (reply_law_proof config history is items horizon c stands t old soon query) ∙ e))
+      | inr m ↦ m.0
+    ])

@@ -1,0 +1,19 @@
+-- An answer beside the primary's rows.
+use Rattle.std.specs.Prelude.{◌≡◌, ◌≤◌, ℕ, List, Result, IfOk, IfErr}
+use Rattle.hk_types.specs.Values.{ConfigValue}
+use Rattle.hk_types.specs.declared.faults.Refusal.{Refusal}
+use Rattle.hk_types.specs.declared.faults.Refusal.TheVariants.{Memory}
+use Rattle.hk_log.specs.declared.item.Item.{Item}
+use Rattle.hk_model.specs.declared.answer.Answer.{Answer}
+use Rattle.hk_model.specs.declared.query.Query.{Query}
+use Rattle.hk_model.specs.Content.{Content, readable}
+use Rattle.hk_model.specs.Histories.{Transaction, IsHistory, table_at}
+use Rattle.hk_model.specs.Replicas.{Stands}
+use Rattle.hk_model.specs.Answers.{answer, answer_seen}
+
+-- where the content stands for items of a history, from its horizon to its readable mark the answer is that
+-- on the primary's rows at that time, unless memory ran out
+abbrev pub IsOfPrimary : Content → ℕ → Query → Result Answer Refusal → Type 0
+IsOfPrimary c t query result =
+    (config : ConfigValue) (history : List Transaction) (items : List Item) (horizon : ℕ) → IsHistory config history → Stands config history items horizon c → horizon ≤ t → t ≤ readable c
+    → IfOk result (λ a. answer_seen a ≡ answer (table_at history t) query) × IfErr result (λ why. why ≡ Memory)
