@@ -6,6 +6,8 @@ mod items;
 mod line;
 mod output;
 mod stop;
+#[cfg(test)]
+mod tests;
 
 pub use items::run_items;
 pub use line::{Printed, line_of};
