@@ -1,5 +1,7 @@
 //! The command `items`.
 
+ghost use Rattle.std.specs.Prelude.{◌≤◌};
+
 use crate::frames::{Sink, hand_items};
 use crate::output::Output;
 use crate::stop::Stop;
@@ -13,9 +15,19 @@ impl<'a, W: Write> Sink for Output<'a, W> {
     }
 }
 
-/// Prints each item of the input, and then the fault that follows, if one does. The status: 0, or 1 where
-/// a line `refused` was printed or a write failed. It holds one frame of the input at a time.
-pub fn run_items<I: Read, W: Write>(alloc: Global, input: &mut I, writer: &mut W) -> u8 {
+/// Prints a line for each item of the input, up to its end, and answers the status 0. Where something stops it
+/// first, the lines of the items before it stand, a line says why, and the status is 1:
+///
+/// - `refused` and the fault's number, 1 to 10, where the bytes that follow the items spell nothing;
+/// - `refused 90` where memory ran out;
+/// - `refused 91` where a read failed, or 2^32 reads did not come to the end;
+/// - no line where a write failed or took no bytes: the status alone tells it.
+///
+/// It reads 65,536 bytes at a time, holds their items and the part of a frame behind them, and writes once 65,536
+/// bytes of lines are gathered, and at the end. The time grows with the bytes of the input.
+pub fn run_items<I: Read, W: Write>(alloc: Global, input: &mut I, writer: &mut W) -> u8
+    ensures { result ≤ 1 }
+{
     let mut output = Output::new(alloc, writer);
     if let Err(stop) = hand_items(alloc, input, &mut output) {
         return output.stop(stop);

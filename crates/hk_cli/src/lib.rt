@@ -7,6 +7,8 @@ mod items;
 mod line;
 mod output;
 mod stop;
+#[cfg(test)]
+mod tests;
 
 pub use at::run_at;
 pub use items::run_items;

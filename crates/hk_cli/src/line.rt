@@ -12,16 +12,18 @@ use hk_model::{Answer, Front, Told, Took};
 use hk_types::{Key, Refusal, Row};
 use std::alloc::{AllocError, Global};
 
-/// What has lines of its own in the program's output.
+/// What has lines of its own in the program's output: answers, refusals, items, and what a world is told. Numbers
+/// are decimal; a body is lower-case hexadecimal, or `-` where it is empty. Each line ends with a line feed.
 pub trait Printed {
     ghost text: { Self → List ℕ };
 
-    /// Adds the lines at the end of the text. The only error is want of memory.
+    /// Adds the lines at the end of the text. The only error is want of memory; then a part of the lines may stand.
+    /// The time grows with the lines.
     fn print_to(&self, alloc: Global, out: &mut String) -> Result<(), AllocError>
         ensures { OnOk result (string_bytes out.new ≡ string_bytes out.old ++ text self.now) };
 }
 
-/// The lines of a value, each with its line feed.
+/// The lines of a value, each with its line feed. The only error is want of memory.
 pub fn line_of<T: Printed>(alloc: Global, value: &T) -> Result<String, AllocError>
     ensures { IfOk result (λ line. string_bytes line ≡ T.text value.now) }
 {
@@ -110,7 +112,10 @@ fn put_entry_place(entry: &Entry, out: &mut String) -> Result<(), AllocError>
     let stream = entry.stream();
     let number = entry.number();
     let time = entry.time();
-    write!(out, "commit log {log} stream {stream} number {number} time {time}")
+    write!(
+        out,
+        "commit log {log} stream {stream} number {number} time {time}"
+    )
 }
 
 fn put_entry_counts(entry: &Entry, out: &mut String) -> Result<(), AllocError>

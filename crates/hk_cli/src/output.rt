@@ -1,5 +1,7 @@
 //! What a command prints, gathered into larger writes.
 
+ghost use Rattle.std.specs.Prelude.{◌≡◌};
+
 use crate::line::Printed;
 use crate::stop::Stop;
 use hk_types::Refusal;
@@ -53,7 +55,9 @@ impl<'a, W: Write> Output<'a, W> {
     }
 
     /// Writes what was gathered, and then why the command stopped. The status of the command: 1.
-    pub(crate) fn stop(&mut self, stop: Stop) -> u8 {
+    pub(crate) fn stop(&mut self, stop: Stop) -> u8
+        ensures { result ≡ 1 }
+    {
         if self.print_stop(stop).is_ok() {
             let _ = self.flush();
         }

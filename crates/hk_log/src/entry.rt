@@ -8,7 +8,9 @@ use hk_types::{FormFault, Key, Row, StreamNo, Table, Time, VersionKey};
 use std::alloc::{AllocError, Global};
 use std::marker::Model;
 
-/// A committed transaction: the versions that it ended, and the rows that it put in.
+/// A committed transaction on one stream of a log: the versions that it ended, and the rows that it put in.
+/// Its number counts the entries of the stream from 1, and is at most its time. It has at most `MOST_WRITES`
+/// ends and at most `MOST_WRITES` rows, and not neither.
 #[derive(Debug, Drop)]
 pub struct Entry {
     log: u64,
@@ -30,10 +32,14 @@ impl Model for Entry {
 }
 
 impl Entry {
-    /// The entry of these parts. In this order: the number is at least 1 and at most the time, else it
-    /// is a bad number; at most 1,024 ends and at most 1,024 rows, not both none, else it is a bad
-    /// count; both lists rise strictly by table and key, else it is a bad order; each ended version was
-    /// born at 1 or later and before the time, else it is a bad number.
+    /// The entry of these parts, or the first of these faults:
+    ///
+    /// - `BadNumber`: the number is 0, or above the time;
+    /// - `BadCount`: there are more than 1,024 ends, or more than 1,024 rows, or neither;
+    /// - `BadOrder`: the ends or the rows do not rise strictly by table and key;
+    /// - `BadNumber`: an end was born at 0, or not before the time.
+    ///
+    /// The lists are moved in, and dropped with a fault. The cost grows with their lengths alone.
     pub fn new(
         log: u64,
         stream: StreamNo,
@@ -70,7 +76,7 @@ impl Entry {
         })
     }
 
-    /// The entry of parts that are known to make one.
+    /// The entry of parts that are known to make one, with no test.
     pub fn of_parts(
         log: u64,
         stream: StreamNo,
@@ -92,18 +98,21 @@ impl Entry {
         }
     }
 
+    /// The id of the log.
     pub fn log(&self) -> u64
         ensures { result ≡ self.now.log }
     {
         self.log
     }
 
+    /// The stream of the log.
     pub fn stream(&self) -> StreamNo
         ensures { result ≡ self.now.stream }
     {
         self.stream
     }
 
+    /// Which entry of its stream it is, from 1 to its time.
     pub fn number(&self) -> u64
         ensures value { result ≡ self.now.number }
         ensures lawful { IsEntry self.now }
@@ -111,13 +120,15 @@ impl Entry {
         self.number
     }
 
+    /// The time of the commit, at least 1.
     pub fn time(&self) -> Time
         ensures { result ≡ self.now.time }
     {
         self.time
     }
 
-    /// The versions that it ended, in rising order of table and key.
+    /// The versions that it ended, at most `MOST_WRITES`, in rising order of table and key. Each was born at 1
+    /// or later and before the time.
     pub fn ends(&self) -> &[VersionKey]
         ensures value { result.now ≡ self.now.ends }
         ensures lawful { IsEntry self.now }
@@ -125,7 +136,7 @@ impl Entry {
         self.ends.as_slice()
     }
 
-    /// The rows that it put in, in rising order of table and key.
+    /// The rows that it put in, at most `MOST_WRITES`, in rising order of table and key.
     pub fn rows(&self) -> &[(Table, Key, Row)]
         ensures value { result.now ≡ self.now.rows }
         ensures lawful { IsEntry self.now }
@@ -133,7 +144,7 @@ impl Entry {
         self.rows.as_slice()
     }
 
-    /// The same entry again. The only error is want of memory.
+    /// The same entry again, its rows copied. The only error is want of memory.
     pub fn copy(&self, alloc: Global) -> Result<Entry, AllocError>
         ensures { IfOk result (λ entry. entry ≡ self.now) }
     {

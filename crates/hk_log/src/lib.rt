@@ -5,6 +5,8 @@ mod entry;
 mod item;
 mod mark;
 mod places;
+#[cfg(test)]
+mod tests;
 mod version;
 
 pub use entry::Entry;

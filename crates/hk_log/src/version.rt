@@ -8,7 +8,8 @@ use hk_types::{Row, Time};
 use std::alloc::{AllocError, Global};
 use std::marker::Model;
 
-/// What is known of one version of a row: its row, the time at which it ended, or both. At least one of them is there.
+/// What is known of one version of a row: its row, the time at which it ended, or both. At least one of
+/// them is there.
 #[derive(Debug, Drop)]
 pub struct Version {
     row: Option<Row>,
@@ -75,14 +76,14 @@ impl Version {
         self.died
     }
 
-    /// Sets the row.
+    /// Makes this row known, in place of the one that was, if one was.
     pub fn set_row(&mut self, row: Row)
         ensures { self.new ≡ record { row = Some row; died = self.old.died } }
     {
         self.row = Some(row);
     }
 
-    /// Sets the end.
+    /// Makes this end known, in place of the one that was, if one was.
     pub fn set_died(&mut self, died: Time)
         ensures { self.new ≡ record { row = self.old.row; died = Some died } }
     {
@@ -105,7 +106,7 @@ impl Version {
         self.died = None;
     }
 
-    /// The same version again. The only error is want of memory.
+    /// The same version again, its row copied. The only error is want of memory.
     pub fn copy(&self, alloc: Global) -> Result<Version, AllocError>
         ensures { IfOk result (λ version. version ≡ self.now) }
     {

@@ -4,14 +4,14 @@ ghost use Rattle.std.specs.Prelude.{◌≡◌, ◌≤◌, ◌<◌, length, IfOk,
 ghost use Rattle.hk_types.specs.declared.faults.FormFault.TheVariants.{BadBody};
 
 use crate::faults::FormFault;
-use crate::numbers::Tag;
+use crate::tag::Tag;
 use std::alloc::{AllocError, Global};
 use std::marker::Model;
 
 /// The most bytes that a body has.
 pub const MOST_BODY_BYTES: usize = 4_096;
 
-/// A tag and at most 4,096 bytes.
+/// A row of a table: a tag, and a body of 0 to 4,096 bytes.
 #[derive(Debug, Drop)]
 pub struct Row {
     tag: Tag,
@@ -49,7 +49,7 @@ impl Eq for Row {
 }
 
 impl Row {
-    /// The row of this tag and body. A body above 4,096 bytes comes back.
+    /// The row of this tag and this body, which is not copied. A body above 4,096 bytes comes back with `BadBody`.
     pub fn new(tag: Tag, body: Vec<u8>) -> Result<Row, (Vec<u8>, FormFault)>
         ensures ok { length body.items ≤ 4096 → IfOk result (λ row. row ≡ record { tag = tag; body = body.items }) }
         ensures exact { MatchResult result (λ _. length body.items ≤ 4096) (λ e. (4096 < length body.items) × (e.0 ≡ body) × (e.1 ≡ BadBody)) }
@@ -60,12 +60,14 @@ impl Row {
         Ok(Row { tag, body })
     }
 
+    /// The tag of the row.
     pub fn tag(&self) -> Tag
         ensures { result ≡ self.now.tag }
     {
         self.tag
     }
 
+    /// The bytes of the body, at most 4,096.
     pub fn body(&self) -> &[u8]
         ensures value { result.now ≡ self.now.body }
         ensures bound { length result.now ≤ 4096 }
@@ -73,7 +75,7 @@ impl Row {
         self.body.as_slice()
     }
 
-    /// The same row again.
+    /// The same row again, its body copied. The only error is want of memory.
     pub fn copy(&self, alloc: Global) -> Result<Row, AllocError>
         ensures { IfOk result (λ row. row ≡ self.now) }
     {
