@@ -5,7 +5,7 @@ use Rattle.std.specs.Fmt.{decimal}
 use Rattle.hex.specs.Hex.{encode_lower}
 use Rattle.hk_types.specs.Values.{RowValue}
 use Rattle.hk_types.specs.declared.faults.Refusal.{Refusal}
-use Rattle.hk_types.specs.declared.faults.Refusal.TheVariants.{Form, ForeignLog, WrongStreams, Gap, Conflict, AheadOfMark, TooOld, NotYet, WriteConflict, NoRow, TwiceWritten, TooManyWrites, NoStream, ClockFull, Held, Damaged, Unpublished, NodeFull, NoHold, NoSuch, Memory}
+use Rattle.hk_types.specs.declared.faults.Refusal.TheVariants.{Gap, AheadOfMark, TooOld, NotYet, WriteConflict, NoRow, Held, Unpublished}
 use Rattle.hk_types.specs.FaultNumbers.{refusal_number}
 use Rattle.hk_log.specs.Items.{EntryValue, MarkValue}
 use Rattle.hk_log.specs.declared.item.Item.{Item}

@@ -1,5 +1,9 @@
 //! What ends a command before its time.
 
+ghost use Rattle.std.specs.Prelude.{◌≡◌};
+ghost use Rattle.hk_types.specs.declared.faults.Refusal.TheVariants.{Form, Memory};
+ghost use Rattle.hk_cli.specs.declared.stop.Stop.TheVariants.{Refused};
+
 use hk_types::{FormFault, Refusal};
 use std::alloc::AllocError;
 
@@ -15,18 +19,24 @@ pub(crate) enum Stop {
 }
 
 impl From<Refusal> for Stop {
+    ghost from_gives = { λ refusal e. e ≡ Refused refusal };
+
     fn from(refusal: Refusal) -> Stop {
         Stop::Refused(refusal)
     }
 }
 
 impl From<FormFault> for Stop {
+    ghost from_gives = { λ fault e. e ≡ Refused (Form fault) };
+
     fn from(fault: FormFault) -> Stop {
         Stop::Refused(Refusal::Form(fault))
     }
 }
 
 impl From<AllocError> for Stop {
+    ghost from_gives = { λ _ e. e ≡ Refused Memory };
+
     fn from(_error: AllocError) -> Stop {
         Stop::Refused(Refusal::Memory)
     }
