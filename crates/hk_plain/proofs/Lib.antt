@@ -1,1 +1,4 @@
 pub mod Scans
+pub mod Lists
+pub mod Marks
+pub mod Anys

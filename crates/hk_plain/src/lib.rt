@@ -1,4 +1,11 @@
-//! The definitions as slow programs over lists, with which every later body is compared.
+//! The definitions as slow programs over lists, written for reading. Every later body is compared with them.
+//! Each call costs by the products of its lists, and copies what it keeps.
 #![tactic(auto)]
 
-pub mod plain;
+pub mod content;
+pub mod facts;
+pub mod fragment;
+pub mod gathering;
+pub mod stream;
+pub mod streams;
+pub mod taking;
