@@ -1,5 +1,5 @@
 -- Lists of facts, and the maps that they are seen as.
-use Rattle.std.proofs.Common.{◌≡◌, refl, sym, ap, ◌∙◌, subst, Bool, true, false, Option, Some, None, List, [], ◌∷◌, ◌++◌, map, inl, inr, is_some, cond, ◌||◌, true≢false}
+use Rattle.std.proofs.Common.{◌≡◌, ℕ, zero, suc, ◌≤◌, length, drop, append-nil, arith, refl, sym, ap, ◌∙◌, subst, Bool, true, false, Option, Some, None, List, [], ◌∷◌, ◌++◌, map, inl, inr, is_some, cond, ◌||◌, true≢false}
 use Rattle.std.specs.List.{list_any}
 use Rattle.std.specs.Ordering.{eq_by_cmp, is_eq}
 use Rattle.std.specs.Cmp.{tied_itself}
@@ -20,12 +20,12 @@ same_tests false true f g = g refl
 same_tests false false f g = refl
 
 module _ {X : Type 0} where
-  pair_In : (k : VersionKey) (es : List (VersionKey × X)) → In k (map (λ e. e.0) es) → (x : X) × In (k, x) es
+  pub pair_In : (k : VersionKey) (es : List (VersionKey × X)) → In k (map (λ e. e.0) es) → (x : X) × In (k, x) es
   pair_In k [] i = elim i [ ]
   pair_In k (e ∷ es) (inl s) = (e.1, inl (λ i. (s i, e.1)))
   pair_In k (e ∷ es) (inr i) = let rest = pair_In k es i in (rest.0, inr rest.1)
 
-  Some_find : (k : VersionKey) (x : X) (es : List (VersionKey × X)) → In (k, x) es → (y : X) × (find version_key_cmp k es ≡ Some y)
+  pub Some_find : (k : VersionKey) (x : X) (es : List (VersionKey × X)) → In (k, x) es → (y : X) × (find version_key_cmp k es ≡ Some y)
   Some_find k x [] i = elim i [ ]
   Some_find k x (e ∷ es) i = by (eq_by_cmp version_key_cmp k e.0) refl i (λ j. Some_find k x es j)
     where
@@ -67,3 +67,13 @@ module _ {X : Type 0} where
       ∙ find-append version_key_cmp v es fs
       ∙ sym (get-union version_key_total version_key_same (finmap.from_entries es) (finmap.from_entries fs) v
       ∙ (λ i. or_else (finmap.get-from_entries version_key_total es v i) (finmap.get-from_entries version_key_total fs v i))))
+
+-- a scan of a list that has come to its end
+pub none_left : {X Y : Type 0} (f : List X → List Y) (done all : List Y) (xs : List X) (i : ℕ) → length xs ≤ i → done ++ f (drop i xs) ≡ all → f [] ≡ [] → done ≡ all
+none_left f done all xs i l is none = sym (append-nil done) ∙ ap (λ ys. done ++ ys) (sym none) ∙ ap (λ ys. done ++ f ys) (sym (dropped xs i l)) ∙ is
+  where
+    dropped : {A : Type 0} (as' : List A) (k : ℕ) → length as' ≤ k → drop k as' ≡ []
+    dropped [] zero h = refl
+    dropped [] (suc k) h = refl
+    dropped (a ∷ as') zero h = absurd (omega arith)
+    dropped (a ∷ as') (suc k) h = dropped as' k (omega arith)

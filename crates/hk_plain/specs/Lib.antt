@@ -1,1 +1,4 @@
 pub mod Computed
+pub mod Codes
+pub mod Keys
+pub mod Passing

@@ -2,10 +2,13 @@
 //! Each call costs by the products of its lists, and copies what it keeps.
 #![tactic(auto)]
 
+pub mod answering;
 pub mod content;
 pub mod facts;
 pub mod fragment;
 pub mod gathering;
+pub mod place;
 pub mod stream;
 pub mod streams;
+pub mod tables;
 pub mod taking;
