@@ -5,3 +5,4 @@ pub mod Anys
 pub mod Places
 pub mod Keys
 pub mod Showing
+pub mod Written

@@ -2,3 +2,4 @@ pub mod Computed
 pub mod Codes
 pub mod Keys
 pub mod Passing
+pub mod Formed

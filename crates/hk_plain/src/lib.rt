@@ -7,6 +7,7 @@ pub mod content;
 pub mod facts;
 pub mod fragment;
 pub mod gathering;
+pub mod history;
 pub mod place;
 pub mod stream;
 pub mod streams;
