@@ -6,3 +6,4 @@ pub mod Places
 pub mod Keys
 pub mod Showing
 pub mod Written
+pub mod Built

@@ -9,7 +9,7 @@ use Rattle.std.specs.FinMap.Entries.{put, by_order, find, find-where_key}
 use Rattle.hk_model.proofs.Maps.{row_key_total, row_key_same}
 use Rattle.hk_model.specs.Rows.{RowKey, row_key_cmp}
 
-no_entries : {K X : Type 0} (R : K → K → Ordering) → finmap.entries (finmap.empty {X = X} {R = R}) ≡ []
+pub no_entries : {K X : Type 0} (R : K → K → Ordering) → finmap.entries (finmap.empty {X = X} {R = R}) ≡ []
 no_entries R = by (finmap.entries finmap.empty) (sym (finmap.len-entries finmap.empty) ∙ finmap.len-empty R _)
   where
     by : {A : Type 0} (es : List A) → length es ≡ 0 → es ≡ []

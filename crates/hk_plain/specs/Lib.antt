@@ -3,3 +3,4 @@ pub mod Codes
 pub mod Keys
 pub mod Passing
 pub mod Formed
+pub mod Accepted

@@ -3,6 +3,7 @@
 #![tactic(auto)]
 
 pub mod answering;
+pub mod committing;
 pub mod content;
 pub mod facts;
 pub mod fragment;
