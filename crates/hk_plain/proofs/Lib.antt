@@ -7,3 +7,5 @@ pub mod Keys
 pub mod Showing
 pub mod Written
 pub mod Built
+pub mod Numbered
+pub mod Entries

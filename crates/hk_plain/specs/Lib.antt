@@ -4,3 +4,4 @@ pub mod Keys
 pub mod Passing
 pub mod Formed
 pub mod Accepted
+pub mod Configured
