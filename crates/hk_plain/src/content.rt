@@ -1,8 +1,10 @@
 //! What a replica holds, as lists, and what its operations make of it.
 
 ghost use Rattle.std.specs.Prelude.{◌≡◌, IfOk};
+ghost use Rattle.std.specs.FinMap as finmap;
 ghost use Rattle.hk_model.specs.Canon.{canon};
 ghost use Rattle.hk_model.specs.Content.{readable};
+ghost use Rattle.hk_model.specs.Replicas.{nothing};
 ghost use Rattle.hk_model.specs.Rules as rules;
 ghost use Rattle.hk_plain.specs.Computed.{Computes};
 
@@ -37,6 +39,13 @@ impl Model for PlainContent {
 }
 
 impl PlainContent {
+    /// What a replica holds that took nothing. The only error is want of memory.
+    pub fn new(alloc: Global, config: Config) -> Result<PlainContent, AllocError>
+        ensures { IfOk result (λ content. content ≡ nothing config) }
+    {
+        PlainContent::canon(alloc, config, &[], Time::zero())
+    }
+
     /// What stands for items at a horizon. The only error is want of memory.
     pub fn canon(
         alloc: Global,
@@ -78,6 +87,27 @@ impl PlainContent {
         streams::least_closed(&self.streams)
     }
 
+    /// The rows by version key; a key that stands twice has the first row.
+    pub fn rows(&self) -> &[(VersionKey, Row)]
+        ensures { finmap.from_entries result.now ≡ self.now.rows }
+    {
+        self.rows.as_slice()
+    }
+
+    /// The ends by version key; a key that stands twice has the first end.
+    pub fn ends(&self) -> &[(VersionKey, Time)]
+        ensures { finmap.from_entries result.now ≡ self.now.ends }
+    {
+        self.ends.as_slice()
+    }
+
+    /// What is known of each stream, the first stream first.
+    pub fn streams(&self) -> &[PlainStream]
+        ensures { result.now ≡ self.now.streams }
+    {
+        self.streams.as_slice()
+    }
+
     /// The same again. The only error is want of memory.
     pub fn copied(&self, alloc: Global) -> Result<PlainContent, AllocError>
         ensures { IfOk result (λ content. content ≡ self.now) }
@@ -112,14 +142,14 @@ impl PlainContent {
     }
 
     /// Whether a version has different rows, or different ends, in the two.
-    pub fn disagrees(&self, other: &PlainContent) -> bool
+    pub(crate) fn disagrees(&self, other: &PlainContent) -> bool
         ensures { result ≡ rules.disagree self.now other.now }
     {
         disagree(&self.rows, &other.rows) || disagree(&self.ends, &other.ends)
     }
 
     /// The content with the facts, numbers and marks of items. The only error is want of memory.
-    pub fn with_items(&self, alloc: Global, items: &[Item]) -> Result<PlainContent, AllocError>
+    pub(crate) fn with_items(&self, alloc: Global, items: &[Item]) -> Result<PlainContent, AllocError>
         ensures { IfOk result (λ content. content ≡ rules.with_items self.now items.now) }
     {
         let rows = row_facts(alloc, items)?;

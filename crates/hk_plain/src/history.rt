@@ -35,6 +35,16 @@ impl Model for PlainTransaction {
 }
 
 impl PlainTransaction {
+    pub fn new(time: Time, stream: StreamNo, writes: Vec<WriteOp>) -> PlainTransaction
+        ensures { result ≡ record { time = time; stream = stream; writes = writes.items } }
+    {
+        PlainTransaction {
+            time,
+            stream,
+            writes,
+        }
+    }
+
     pub fn time(&self) -> Time
         ensures { result ≡ self.now.time }
     {

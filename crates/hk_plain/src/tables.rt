@@ -43,7 +43,7 @@ impl PlainTables {
     }
 
     /// Tables with these rows; a name that stands twice has the first row.
-    pub fn of_rows(rows: Vec<(Place, Row)>) -> PlainTables
+    pub(crate) fn of_rows(rows: Vec<(Place, Row)>) -> PlainTables
         ensures { result ≡ finmap.from_entries rows.items }
     {
         PlainTables { rows }
@@ -85,7 +85,7 @@ impl PlainTables {
     }
 
     /// Does a write.
-    pub fn write(&mut self, alloc: Global, write: &WriteOp) -> Result<(), AllocError>
+    pub(crate) fn write(&mut self, alloc: Global, write: &WriteOp) -> Result<(), AllocError>
         ensures { OnOk result (self.new ≡ written self.old write.now) }
     {
         let place = Place::new(write.table(), write.key());
