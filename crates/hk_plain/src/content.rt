@@ -149,7 +149,11 @@ impl PlainContent {
     }
 
     /// The content with the facts, numbers and marks of items. The only error is want of memory.
-    pub(crate) fn with_items(&self, alloc: Global, items: &[Item]) -> Result<PlainContent, AllocError>
+    pub(crate) fn with_items(
+        &self,
+        alloc: Global,
+        items: &[Item],
+    ) -> Result<PlainContent, AllocError>
         ensures { IfOk result (λ content. content ≡ rules.with_items self.now items.now) }
     {
         let rows = row_facts(alloc, items)?;

@@ -8,7 +8,6 @@ use Rattle.hk_plain.proofs.content.PlainContent.own_rows.Goals as goal
 
 pub returns : goal.returns
 returns c =
-    
     ap (λ es. finmap.from_entries {R = version_key_cmp} es)
     (filter_same _ (λ e. nat_lt c.args.horizon e.0.born || (c.args.are_old && not (ended_by (finmap.from_entries c.self.inside.ends.items) c.args.horizon e.0))) _ (λ x b f' k. search rules) _ _ c.retain.ensures.filtered)
     ∙ retained _ (λ v. nat_lt c.args.horizon v.born || (c.args.are_old && not (ended_by (finmap.from_entries c.self.inside.ends.items) c.args.horizon v)))
