@@ -42,12 +42,13 @@ module _ (c : Content) (t : ℕ) where
   range_answered keys exact table low high vs lists =
       rows_are (λ k row. (k.table == table) && nat_le low k.key && nat_le k.key high) (with_keys keys table low high) vs lists
       (λ v r here.
-        set.contains-retain keys (between table low high) v (λ x e. ap (between table low high) (sym (version_key_same v x e)))
-        ∙ ap (λ b. b && between table low high v) (exact v ∙ ap (λ o. is_some o || is_some (finmap.get c.ends v)) here)
-        ∙ regroup (v.table == table) (nat_le low v.key) (nat_le v.key high))
+      set.contains-retain keys (between table low high) v (λ x e. ap (between table low high) (sym (version_key_same v x e)))
+      ∙ ap (λ b. b && between table low high v) (exact v ∙ ap (λ o. is_some o || is_some (finmap.get c.ends v)) here)
+      ∙ regroup (v.table == table) (nat_le low v.key) (nat_le v.key high))
     where
       between : ℕ → ℕ → ℕ → VersionKey → Bool
       between table low high w = (w.table == table) && (nat_le low w.key && nat_le w.key high)
+
       regroup : (a b d : Bool) → (a && (b && d)) ≡ ((a && b) && d)
       regroup true b d = refl
       regroup false b d = refl

@@ -6,3 +6,6 @@ mod rows;
 
 pub use hk_model::{Answer, Query};
 pub use reply::ask;
+
+#[cfg(test)]
+mod tests;

@@ -63,12 +63,7 @@ fn by_tag(
 }
 
 /// The answer to a query at a time that can be asked.
-fn answer(
-    alloc: Global,
-    state: &ReplicaState,
-    time: Time,
-    query: &Query,
-) -> Result<Answer, Refusal>
+fn answer(alloc: Global, state: &ReplicaState, time: Time, query: &Query) -> Result<Answer, Refusal>
     ensures ok { IfOk result (λ a. answer_seen a ≡ answer (visible state.now time) query.now) }
     ensures err { IfErr result (λ why. why ≡ Memory) }
     ensures count { (table : ℕ) → query.now ≡ Count table → IsOk result }

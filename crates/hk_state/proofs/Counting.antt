@@ -74,14 +74,16 @@ module _ (c : Content) (table t : ℕ) where
     where
       by : Rises row_key_cmp (map (λ e. e.0) (filter_map row_of_chain es)) → (o : Option (RowKey × RowValue)) → row_of_chain e ≡ o → Rises row_key_cmp (map (λ e. e.0) (cons_option o (filter_map row_of_chain es)))
       by rest None h = rest
-      by rest (Some x) h =
-          (λ k i.
+      by rest (Some x) h = (
+        λ k i.
             let p = map_In_pair k (filter_map row_of_chain es) i in
             let w = In-filter_map row_of_chain (k, p.0) es p.1 in
             let q = is_row w.0 k p.0 w.2 in
             let s = is_row e x.0 x.1 h in
             let less = keys_less e.0 w.0.0 (r.0 w.0.0 (map_key w.0 es w.1)) in
-            (λ j. row_key_cmp (s.0 j) (q.0 j)) ∙ less, rest)
+            (λ j. row_key_cmp (s.0 j) (q.0 j)) ∙ less,
+        rest,
+      )
 
   same_length : (es : List (ℕ × ChainValue)) → length (filter (λ e. is_some (row_at e.1 t)) es) ≡ length (filter_map row_of_chain es)
   same_length [] = refl
@@ -144,6 +146,7 @@ none_counted c table t none =
   where
     differs : (chain : ChainValue) → ◌≡◌ {A = Option ChainValue} None (Some chain) → ⊥
     differs chain e = cc
+
     no_entries : {X : Type 0} (es : List X) → length es ≡ 0 → es ≡ []
     no_entries [] e = refl
     no_entries (x ∷ es) e = absurd (zero e)

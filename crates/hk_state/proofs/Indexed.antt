@@ -83,9 +83,11 @@ module _ (f : FactsValue) (tags : Tags) (is : AreTagged f tags) (v : VersionKey)
       clean : (b : Bool) → ((b && true) || false) ≡ b
       clean true = refl
       clean false = refl
+
       old_tag : (a b : Bool) → ((a && false) || b) ≡ b
       old_tag true b = refl
       old_tag false b = refl
+
       there : (q : VersionKey) (b : Bool) → tied q v ≡ b → (((t == row.tag) && b) || is_tagged t (finmap.get f.rows q)) ≡ is_tagged t (cond b (Some row) (finmap.get f.rows q))
       there q true e = ap (λ o. ((t == row.tag) && true) || is_tagged t o) (same_at q e ∙ none) ∙ clean (t == row.tag) ∙ same_number t row.tag
       there q false e = old_tag (t == row.tag) (is_tagged t (finmap.get f.rows q))
@@ -100,9 +102,11 @@ module _ (f : FactsValue) (tags : Tags) (is : AreTagged f tags) (v : VersionKey)
       gone : (a : Bool) → (not (a && true) && ((a && true) || false)) ≡ false
       gone true = refl
       gone false = refl
+
       still : (a b : Bool) → (not (a && false) && ((a && false) || b)) ≡ b
       still true b = refl
       still false b = refl
+
       there : (q : VersionKey) (b : Bool) → tied q v ≡ b → (not ((t == tag) && b) && (((t == tag) && b) || is_tagged t (finmap.get f.rows q))) ≡ is_tagged t (finmap.get f.rows q)
       there q true e = ap (λ o. not ((t == tag) && true) && (((t == tag) && true) || is_tagged t o)) (same_at q e ∙ none) ∙ gone (t == tag) ∙ sym (ap (is_tagged t) (same_at q e ∙ none))
       there q false e = still (t == tag) (is_tagged t (finmap.get f.rows q))
@@ -119,9 +123,11 @@ module _ (f : FactsValue) (tags : Tags) (is : AreTagged f tags) (v : VersionKey)
       gone : (a : Bool) → (not (a && true) && a) ≡ false
       gone true = refl
       gone false = refl
+
       still : (a b : Bool) → (not (a && false) && b) ≡ b
       still true b = refl
       still false b = refl
+
       there : (q : VersionKey) (b : Bool) → tied q v ≡ b → (not ((t == tag) && b) && is_tagged t (finmap.get f.rows q)) ≡ is_tagged t (cond b None (finmap.get f.rows q))
       there q true e = ap (λ b. not ((t == tag) && true) && b) (ap (is_tagged t) (same_at q e) ∙ had t ∙ same_number tag t) ∙ gone (t == tag)
       there q false e = still (t == tag) (is_tagged t (finmap.get f.rows q))
@@ -190,6 +196,7 @@ module _ (f : FactsValue) (keys : Keys) (is : AreKeyed f keys) (v : VersionKey) 
       some : (o : Option RowValue) → is_some (or_else o (Some row)) ≡ true
       some None = refl
       some (Some r) = refl
+
       there : (b : Bool) → tied q v ≡ b → (b || has_fact f q) ≡ (is_some (cond b (or_else (finmap.get f.rows v) (Some row)) (finmap.get f.rows q)) || is_some (finmap.get f.ends q))
       there true e = sym (ap (λ b. b || is_some (finmap.get f.ends q)) (some (finmap.get f.rows v)))
       there false e = refl
@@ -201,9 +208,11 @@ module _ (f : FactsValue) (keys : Keys) (is : AreKeyed f keys) (v : VersionKey) 
       some : (o : Option ℕ) → is_some (or_else o (Some died)) ≡ true
       some None = refl
       some (Some r) = refl
+
       right : (b : Bool) → true ≡ (b || true)
       right true = refl
       right false = refl
+
       there : (b : Bool) → tied q v ≡ b → (b || has_fact f q) ≡ (is_some (finmap.get f.rows q) || is_some (cond b (or_else (finmap.get f.ends v) (Some died)) (finmap.get f.ends q)))
       there true e = right (is_some (finmap.get f.rows q)) ∙ ap (λ b. is_some (finmap.get f.rows q) || b) (sym (some (finmap.get f.ends v)))
       there false e = refl
@@ -215,6 +224,7 @@ module _ (f : FactsValue) (keys : Keys) (is : AreKeyed f keys) (v : VersionKey) 
       some : (o : Option RowValue) → is_some (or_else o (Some row)) ≡ true
       some None = refl
       some (Some r) = refl
+
       there : (b : Bool) → tied q v ≡ b → has_fact f q ≡ (is_some (cond b (or_else (finmap.get f.rows v) (Some row)) (finmap.get f.rows q)) || is_some (finmap.get f.ends q))
       there true e = fact_at q e ∙ had ∙ sym (ap (λ b. b || is_some (finmap.get f.ends q)) (some (finmap.get f.rows v)))
       there false e = refl
@@ -223,9 +233,11 @@ module _ (f : FactsValue) (keys : Keys) (is : AreKeyed f keys) (v : VersionKey) 
       some : (o : Option ℕ) → is_some (or_else o (Some died)) ≡ true
       some None = refl
       some (Some r) = refl
+
       right : (b : Bool) → true ≡ (b || true)
       right true = refl
       right false = refl
+
       there : (b : Bool) → tied q v ≡ b → has_fact f q ≡ (is_some (finmap.get f.rows q) || is_some (cond b (or_else (finmap.get f.ends v) (Some died)) (finmap.get f.ends q)))
       there true e = fact_at q e ∙ had ∙ right (is_some (finmap.get f.rows q)) ∙ ap (λ b. is_some (finmap.get f.rows q) || b) (sym (some (finmap.get f.ends v)))
       there false e = refl

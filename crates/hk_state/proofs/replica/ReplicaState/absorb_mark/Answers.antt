@@ -36,4 +36,4 @@ returns c =
     let new : is_told (stream_at a.got k.stream) k.count k.upto ≡ false = (λ i. is_told (stream_at a.got (sym c.stream-2.ensures i)) (sym c.n.ensures.value i) (sym c.m.ensures i)) ∙ sym c.is_told.ensures ∙ c.if-is_told.false in
     let after : Content = content_of a.config a.horizon a.facts c.take_mark.new.got in
     subst (λ (x : Content). Absorbs x after (Closed k) c.take_mark.result) c.self.view_is
-      (mark_result a.config a.horizon a.facts a.got c.self.invariant k c.n.ensures.lawful none new c.take_mark.result c.take_mark.new.got e.told e.got e.err e.kept).0
+    (mark_result a.config a.horizon a.facts a.got c.self.invariant k c.n.ensures.lawful none new c.take_mark.result c.take_mark.new.got e.told e.got e.err e.kept).0

@@ -13,8 +13,8 @@ returns-in-Some c =
     let m = c.self.inside.tables in
     let keyed = c.in-Some.keyed.now in
     rw (← c.self.view_is) (c.count_chains.ensures ∙ chains_counted (with_facts (facts_of (seen m))) c.args.table c.args.time keyed
-      (λ key chain e born. chain_has m c.args.table key c.self.invariant.known keyed chain c.in-Some.ensures.value e born)
-      (λ key e born. chain_lacks m c.args.table key keyed c.in-Some.ensures.value e born))
+    (λ key chain e born. chain_has m c.args.table key c.self.invariant.known keyed chain c.in-Some.ensures.value e born)
+    (λ key e born. chain_lacks m c.args.table key keyed c.in-Some.ensures.value e born))
 
 pub returns-in-None : goal.returns-in-None
 returns-in-None c =
