@@ -17,8 +17,10 @@ differs a why e = cc
 
 pub of_primary : (c : Content) (t : ℕ) (query : Query) (r : Result Answer Refusal) → MatchResult r (λ a. reply c t query ≡ Ok (answer_seen a)) (λ why. (reply c t query ≡ Err why) ⊎ ((why ≡ Memory) × (reply c t query ≡ Ok (answer (visible c t) query)))) → IsOfPrimary c t query r
 of_primary c t query (Ok a) gave config history items horizon is stands old soon = (inside _ _ (sym gave ∙ reply_law_proof config history is items horizon c stands t old soon query), tt)
-of_primary c t query (Err why) gave config history items horizon is stands old soon =
-    (tt, elim gave [
-      | inl e ↦ absurd (differs _ why (sym (reply_law_proof config history is items horizon c stands t old soon query) ∙ e))
-      | inr m ↦ m.0
-    ])
+of_primary c t query (Err why) gave config history items horizon is stands old soon = (
+  tt,
+  elim gave [
+    | inl e ↦ absurd (differs _ why (sym (reply_law_proof config history is items horizon c stands t old soon query) ∙ e))
+    | inr m ↦ m.0
+  ],
+)

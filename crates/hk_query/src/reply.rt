@@ -101,12 +101,7 @@ pub fn ask(
     reply(alloc, state, time, query)
 }
 
-fn reply(
-    alloc: Global,
-    state: &ReplicaState,
-    time: Time,
-    query: &Query,
-) -> Result<Answer, Refusal>
+fn reply(alloc: Global, state: &ReplicaState, time: Time, query: &Query) -> Result<Answer, Refusal>
     ensures gives { MatchResult result (λ a. reply state.now time query.now ≡ Ok (answer_seen a))
         (λ why. (reply state.now time query.now ≡ Err why) ⊎ ((why ≡ Memory) × (reply state.now time query.now ≡ Ok (answer (visible state.now time) query.now)))) }
 

@@ -24,19 +24,23 @@ absorbs_of old new item (Ok took) gave config history items horizon is stands of
     let s = absorb_step config history is items horizon old stands item of in
     (subst (Stands config history (item ∷ items) horizon) (ap (λ (x : Took × Content). x.1) (inside _ _ (sym s.1 ∙ gave))) s.2, tt)
 absorbs_of old new item (Err why) gave config history items horizon is stands of =
-    let s = absorb_step config history is items horizon old stands item of in
-    (tt, elim gave.1 [
-      | inl e ↦ absurd (differs _ why (sym s.1 ∙ e))
-      | inr m ↦ m.0
-    ])
+    let s = absorb_step config history is items horizon old stands item of in (
+      tt,
+      elim gave.1 [
+        | inl e ↦ absurd (differs _ why (sym s.1 ∙ e))
+        | inr m ↦ m.0
+      ],
+    )
 
 pub prunes_of : (old new : Content) (h : ℕ) (r : Result (Unit {0}) Refusal) → Prunes old new h r → PrunesOf old new h r
 prunes_of old new h (Ok done) gave config history items horizon stands within =
     let s = prune_step config history items horizon h old stands within in
     (subst (Stands config history items (max horizon h)) (left _ _ (sym s.1 ∙ gave)) s.2, tt)
 prunes_of old new h (Err why) gave config history items horizon stands within =
-    let s = prune_step config history items horizon h old stands within in
-    (tt, elim gave.1 [
-      | inl e ↦ absurd (differs _ why (sym s.1 ∙ e))
-      | inr m ↦ m.0
-    ])
+    let s = prune_step config history items horizon h old stands within in (
+      tt,
+      elim gave.1 [
+        | inl e ↦ absurd (differs _ why (sym s.1 ∙ e))
+        | inr m ↦ m.0
+      ],
+    )

@@ -146,7 +146,9 @@ fn bad_line(alloc: Global, message: &str) -> Result<Error, AllocError> {
 }
 
 fn bad_word(alloc: Global, word: &str) -> Result<Error, AllocError> {
-    let message = format!(in alloc; "invalid value '{word}': a number is written in decimal digits alone")?;
+    let message = format!(in alloc;
+        "invalid value '{word}': a number is written in decimal digits alone"
+    )?;
     bad_line(alloc, message.as_str())
 }
 

@@ -26,7 +26,15 @@ fn run<R: Input + Print + Alloc<A = Global>>(rt: &R, call: Call) -> u8 {
             time,
             table,
             key,
-        } => run_at(rt.alloc(), &mut input, &mut output, config, time, table, key),
+        } => run_at(
+            rt.alloc(),
+            &mut input,
+            &mut output,
+            config,
+            time,
+            table,
+            key,
+        ),
         Call::Items => run_items(rt.alloc(), &mut input, &mut output),
     }
 }
