@@ -20,3 +20,7 @@ with_facts f = record { log = 0; horizon = 0; rows = f.rows; ends = f.ends; stre
 -- how many chains have a row at t
 abbrev pub chains_at : KeyedValue → ℕ → ℕ
 chains_at keyed t = length (filter (λ e. is_some (row_at e.1 t)) (finmap.entries keyed))
+
+-- the facts of a content
+abbrev pub facts_of_content : Content → FactsValue
+facts_of_content c = record { rows = c.rows; ends = c.ends }

@@ -1,6 +1,6 @@
 //! Reading a state at a time.
 
-ghost use Rattle.std.specs.Prelude.{◌≡◌, ◌==◌, ◌||◌, ℕ, is_some, length};
+ghost use Rattle.std.specs.Prelude.{◌≡◌, IfSome, IfNone, None, ◌==◌, ◌||◌, ℕ, is_some, length};
 ghost use Rattle.std.specs.Option.{option_copied};
 ghost use Rattle.std.specs.FinMap as finmap;
 ghost use Rattle.std.specs.FinSet as set;
@@ -9,7 +9,8 @@ ghost use Rattle.hk_model.specs.Content.{at_most};
 ghost use Rattle.hk_model.specs.Answers.{visible, rows_where};
 ghost use Rattle.hk_facts.specs.Chains.{latest_at, picked};
 ghost use Rattle.hk_state.specs.Indexed.{is_tagged};
-ghost use Rattle.hk_state.specs.Reads.{row_shown};
+ghost use Rattle.hk_state.specs.Facts.{known_at};
+ghost use Rattle.hk_state.specs.Reads.{facts_of_content, row_shown};
 
 use crate::facts::Facts;
 use crate::replica::ReplicaState;
@@ -25,6 +26,15 @@ impl ReplicaState {
         ensures ends { result.now.ends ≡ self.now.ends }
     {
         &self.facts
+    }
+
+    /// The chain of a key of a table: what is known of each of its versions. It takes no memory. The cost
+    /// grows as the logarithm of the number of tables and keys.
+    pub fn chain(&self, table: Table, key: Key) -> Option<&Chain>
+        ensures some { IfSome result (λ chain. (born : ℕ) → finmap.get chain.now born ≡ known_at (facts_of_content self.now) (record { table = table; key = key; born = born })) }
+        ensures none { IfNone result ((born : ℕ) → known_at (facts_of_content self.now) (record { table = table; key = key; born = born }) ≡ None) }
+    {
+        self.facts.chain(table, key)
     }
 
     /// The versions whose row is known, by tag.
