@@ -19,57 +19,50 @@ fn row(alloc: Global, tag: u32, byte: u8) -> Result<Row, AllocError> {
     }
 }
 
-/// A row to put: its table, its key, its tag and the byte of its body.
-type Write = (u16, u64, u32, u8);
+/// What an entry writes: a table, a key, when the version was born that it ends or 0, and the tag and the
+/// byte of the row that it puts, if any.
+type Write = (u16, u64, u64, Option<(u32, u8)>);
 
 /// The entry of log 7 and stream 1 whose time is its number.
-fn entry(
-    alloc: Global,
-    number: u64,
-    ended: Option<VersionKey>,
-    writes: &[Write],
-) -> Result<Item, Fail> {
+fn entry(alloc: Global, number: u64, write: Write) -> Result<Item, Fail> {
+    let (number_of_table, number_of_key, over, put) = write;
+    let table = Table::new(number_of_table);
+    let key = Key::new(number_of_key);
     let mut ends = Vec::new(alloc);
-    if let Some(version) = ended {
-        ends.push(version)?;
+    if over > 0 {
+        let born = time(over)?;
+        ends.push(VersionKey { table, key, born })?;
     }
     let mut rows = Vec::new(alloc);
-    for (table, key, tag, byte) in writes {
-        rows.push((Table::new(*table), Key::new(*key), row(alloc, *tag, *byte)?))?;
+    if let Some((tag, byte)) = put {
+        rows.push((table, key, row(alloc, tag, byte)?))?;
     }
     let stream = StreamNo::new(1)?;
     let made = Entry::new(7, stream, number, time(number)?, ends, rows)?;
     Ok(Item::Commit(made))
 }
 
-/// A state that is pruned to 1 and closed up to 4.
+/// A state that is pruned to 4 and closed up to 7.
 ///
-/// At 1 table 1 has the keys 0, 5 and the greatest, of the tags 9, 9 and 3, and table 2 has key 5 of tag 9.
-/// At 2 key 5 of table 1 gets another body. At 3 key 6 of table 1 comes, of tag 9, and at 4 key 5 goes.
+/// At 4 table 1 has the keys 0, 5 and the greatest, of the tags 9, 9 and 3, and table 2 has key 5 of tag 9.
+/// At 5 key 5 of table 1 gets another body. At 6 key 6 of table 1 comes, of tag 9, and at 7 key 5 goes.
 fn small_state(alloc: Global) -> Result<ReplicaState, Fail> {
     let mut state = ReplicaState::new(alloc, Config::new(7, 1)?)?;
-    let at_one = [
-        (1, 0, 9, 0x40),
-        (1, 5, 9, 0x41),
-        (1, u64::MAX, 3, 0x4f),
-        (2, 5, 9, 0x51),
+    let writes = [
+        (1, 0, 0, Some((9, 0x40))),
+        (1, 5, 0, Some((9, 0x41))),
+        (1, u64::MAX, 0, Some((3, 0x4f))),
+        (2, 5, 0, Some((9, 0x51))),
+        (1, 5, 2, Some((9, 0x42))),
+        (1, 6, 0, Some((9, 0x43))),
+        (1, 5, 5, None),
     ];
-    state.absorb(&entry(alloc, 1, None, &at_one)?)?;
-    let old = VersionKey {
-        table: Table::new(1),
-        key: Key::new(5),
-        born: time(1)?,
-    };
-    let new = VersionKey {
-        born: time(2)?,
-        ..old
-    };
-    state.absorb(&entry(alloc, 2, Some(old), &[(1, 5, 9, 0x42)])?)?;
-    state.absorb(&entry(alloc, 3, None, &[(1, 6, 9, 0x43)])?)?;
-    state.absorb(&entry(alloc, 4, Some(new), &[])?)?;
-    let mark = Mark::new(7, StreamNo::new(1)?, 4, time(4)?)?;
+    for (number, write) in (1..).zip(writes) {
+        state.absorb(&entry(alloc, number, write)?)?;
+    }
+    let mark = Mark::new(7, StreamNo::new(1)?, 7, time(7)?)?;
     state.absorb(&Item::Closed(mark))?;
-    state.prune(time(1)?)?;
+    state.prune(time(4)?)?;
     Ok(state)
 }
 
@@ -101,6 +94,14 @@ fn count(table: u16) -> Query {
     }
 }
 
+/// The answer of a row with this tag and byte.
+fn one(alloc: Global, wanted: Option<(u32, u8)>) -> Result<Answer, Fail> {
+    match wanted {
+        Some((tag, byte)) => Ok(Answer::One(Some(row(alloc, tag, byte)?))),
+        None => Ok(Answer::One(None)),
+    }
+}
+
 /// The answer of these rows, each with its key, its tag and the byte of its body.
 fn rows(alloc: Global, wanted: &[(u64, u32, u8)]) -> Result<Answer, Fail> {
     let mut rows = Vec::new(alloc);
@@ -113,64 +114,65 @@ fn rows(alloc: Global, wanted: &[(u64, u32, u8)]) -> Result<Answer, Fail> {
 #[test]
 fn a_row_shows_from_its_birth_to_before_its_end(rt: HostRuntime) -> Result<(), Fail> {
     let state = small_state(rt.alloc())?;
-    let wanted = [
-        (1, 0, 0x40),
-        (1, u64::MAX, 0x4f),
-        (1, 5, 0x41),
-        (2, 5, 0x42),
-        (3, 5, 0x42),
-        (4, 5, 0),
-        (2, 6, 0),
-        (3, 6, 0x43),
-        (4, 7, 0),
+    let cases = [
+        (4, get(1, 0), Some((9, 0x40))),
+        (4, get(1, u64::MAX), Some((3, 0x4f))),
+        (4, get(1, 5), Some((9, 0x41))),
+        (5, get(1, 5), Some((9, 0x42))),
+        (6, get(1, 5), Some((9, 0x42))),
+        (7, get(1, 5), None),
+        (5, get(1, 6), None),
+        (6, get(1, 6), Some((9, 0x43))),
+        (7, get(1, 7), None),
+        (7, get(2, 5), Some((9, 0x51))),
+        (7, get(3, 5), None),
     ];
-    for (at, key, byte) in wanted {
-        let told = ask(rt.alloc(), &state, time(at)?, &get(1, key))?;
-        let tag = if key == u64::MAX { 3 } else { 9 };
-        let one = match byte {
-            0 => None,
-            _ => Some(row(rt.alloc(), tag, byte)?),
-        };
-        assert_eq!(rt; told, Answer::One(one), "key {key} at {at}");
+    for (at, query, wanted) in cases {
+        let told = ask(rt.alloc(), &state, time(at)?, &query)?;
+        assert_eq!(rt; told, one(rt.alloc(), wanted)?, "{query:?} at {at}");
     }
-    let told = ask(rt.alloc(), &state, time(1)?, &get(3, 5))?;
-    assert_eq!(rt; told, Answer::One(None));
     Ok(())
+}
+
+/// Whether a query is answered with these rows at a time.
+fn shows(
+    alloc: Global,
+    state: &ReplicaState,
+    at: u64,
+    query: Query,
+    wanted: &[(u64, u32, u8)],
+) -> Result<bool, Fail> {
+    let told = ask(alloc, state, time(at)?, &query)?;
+    Ok(told == rows(alloc, wanted)?)
 }
 
 #[test]
 fn a_range_has_both_of_its_bounds(rt: HostRuntime) -> Result<(), Fail> {
     let state = small_state(rt.alloc())?;
-    let least = (0, 9, 0x40);
-    let five = (5, 9, 0x42);
-    let six = (6, 9, 0x43);
-    let greatest = (u64::MAX, 3, 0x4f);
-    let told = ask(rt.alloc(), &state, time(3)?, &range(1, 5, 6))?;
-    assert_eq!(rt; told, rows(rt.alloc(), &[five, six])?);
-    let told = ask(rt.alloc(), &state, time(3)?, &range(1, 0, u64::MAX))?;
-    assert_eq!(rt; told, rows(rt.alloc(), &[least, five, six, greatest])?);
-    let told = ask(rt.alloc(), &state, time(4)?, &range(1, 1, u64::MAX))?;
-    assert_eq!(rt; told, rows(rt.alloc(), &[six, greatest])?);
-    let told = ask(rt.alloc(), &state, time(3)?, &range(1, 6, 5))?;
-    assert_eq!(rt; told, rows(rt.alloc(), &[])?);
-    let told = ask(rt.alloc(), &state, time(3)?, &range(2, 0, u64::MAX))?;
-    assert_eq!(rt; told, rows(rt.alloc(), &[(5, 9, 0x51)])?);
+    let all = [
+        (0, 9, 0x40),
+        (5, 9, 0x42),
+        (6, 9, 0x43),
+        (u64::MAX, 3, 0x4f),
+    ];
+    assert!(rt; shows(rt.alloc(), &state, 6, range(1, 5, 6), &all[1..3])?);
+    assert!(rt; shows(rt.alloc(), &state, 6, range(1, 0, u64::MAX), &all)?);
+    assert!(rt; shows(rt.alloc(), &state, 7, range(1, 1, u64::MAX), &all[2..])?);
+    assert!(rt; shows(rt.alloc(), &state, 6, range(1, 6, 5), &[])?);
+    assert!(rt; shows(rt.alloc(), &state, 6, range(2, 0, 5), &[(5, 9, 0x51)])?);
     Ok(())
 }
 
 #[test]
 fn two_tables_share_a_tag(rt: HostRuntime) -> Result<(), Fail> {
     let state = small_state(rt.alloc())?;
-    let told = ask(rt.alloc(), &state, time(1)?, &by_tag(1, 9))?;
-    assert_eq!(rt; told, rows(rt.alloc(), &[(0, 9, 0x40), (5, 9, 0x41)])?);
-    let told = ask(rt.alloc(), &state, time(4)?, &by_tag(1, 9))?;
-    assert_eq!(rt; told, rows(rt.alloc(), &[(0, 9, 0x40), (6, 9, 0x43)])?);
-    let told = ask(rt.alloc(), &state, time(4)?, &by_tag(1, 3))?;
-    assert_eq!(rt; told, rows(rt.alloc(), &[(u64::MAX, 3, 0x4f)])?);
-    let told = ask(rt.alloc(), &state, time(4)?, &by_tag(2, 9))?;
-    assert_eq!(rt; told, rows(rt.alloc(), &[(5, 9, 0x51)])?);
-    let told = ask(rt.alloc(), &state, time(4)?, &by_tag(2, 3))?;
-    assert_eq!(rt; told, rows(rt.alloc(), &[])?);
+    let early = [(0, 9, 0x40), (5, 9, 0x41)];
+    let late = [(0, 9, 0x40), (6, 9, 0x43)];
+    assert!(rt; shows(rt.alloc(), &state, 4, by_tag(1, 9), &early)?);
+    assert!(rt; shows(rt.alloc(), &state, 7, by_tag(1, 9), &late)?);
+    assert!(rt; shows(rt.alloc(), &state, 7, by_tag(1, 3), &[(u64::MAX, 3, 0x4f)])?);
+    assert!(rt; shows(rt.alloc(), &state, 7, by_tag(2, 9), &[(5, 9, 0x51)])?);
+    assert!(rt; shows(rt.alloc(), &state, 7, by_tag(2, 3), &[])?);
     Ok(())
 }
 
@@ -178,12 +180,12 @@ fn two_tables_share_a_tag(rt: HostRuntime) -> Result<(), Fail> {
 fn the_rows_of_a_table_are_counted(rt: HostRuntime) -> Result<(), Fail> {
     let state = small_state(rt.alloc())?;
     for (table, at, wanted) in [
-        (1, 1, 3),
-        (1, 2, 3),
-        (1, 3, 4),
         (1, 4, 3),
-        (2, 4, 1),
-        (3, 4, 0),
+        (1, 5, 3),
+        (1, 6, 4),
+        (1, 7, 3),
+        (2, 7, 1),
+        (3, 7, 0),
     ] {
         let told = ask(rt.alloc(), &state, time(at)?, &count(table))?;
         assert_eq!(rt; told, Answer::Number(wanted), "table {table} at {at}");
@@ -194,14 +196,13 @@ fn the_rows_of_a_table_are_counted(rt: HostRuntime) -> Result<(), Fail> {
 #[test]
 fn times_that_cannot_be_asked_are_refused(rt: HostRuntime) -> Result<(), Fail> {
     let state = small_state(rt.alloc())?;
-    let too_old = Refusal::TooOld { horizon: time(1)? };
-    let not_yet = Refusal::NotYet { readable: time(4)? };
-    let queries = [get(1, 5), range(1, 6, 5), by_tag(1, 9), count(1)];
-    for query in &queries {
-        assert_eq!(rt; ask(rt.alloc(), &state, time(0)?, query), Err(too_old));
-        assert!(rt; ask(rt.alloc(), &state, time(1)?, query).is_ok());
-        assert!(rt; ask(rt.alloc(), &state, time(4)?, query).is_ok());
-        assert_eq!(rt; ask(rt.alloc(), &state, time(5)?, query), Err(not_yet));
+    let too_old = Refusal::TooOld { horizon: time(4)? };
+    let not_yet = Refusal::NotYet { readable: time(7)? };
+    for query in [get(1, 5), range(1, 6, 5), by_tag(1, 9), count(1)] {
+        for (at, wanted) in [(3, Some(too_old)), (4, None), (7, None), (8, Some(not_yet))] {
+            let told = ask(rt.alloc(), &state, time(at)?, &query);
+            assert_eq!(rt; told.err(), wanted, "{query:?} at {at}");
+        }
     }
     Ok(())
 }

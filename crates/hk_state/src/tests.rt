@@ -1,14 +1,14 @@
-//! Facts and states over a few entries, with what they hold written out.
+//! Facts over a few entries, with what they hold written out.
 
 mod absorbing;
+mod played;
 mod pruning;
 mod refusing;
 
-use crate::{Facts, ReplicaState, front_of};
+use crate::Facts;
 use hk_facts::{Fact, Part};
-use hk_log::{Entry, Item, Mark};
-use hk_model::Front;
-use hk_types::{Config, Key, Refusal, Row, StreamNo, Table, Tag, Time, VersionKey};
+use hk_log::Entry;
+use hk_types::{Key, Refusal, Row, StreamNo, Table, Tag, Time, VersionKey};
 use std::alloc::{AllocError, Global};
 use std::test::Fail;
 
@@ -33,36 +33,10 @@ fn version(key: u64, born: u64) -> Result<VersionKey, Fail> {
     })
 }
 
-/// Where an entry stands.
-#[derive(Clone, Copy)]
-struct Place {
-    log: u64,
-    stream: u16,
-    number: u64,
-    time: u64,
-}
-
-/// The entry of log 7 and stream 1 whose time is its number, which ends a version and puts one row in.
+/// The entry of this number and time that ends these versions and puts one row in.
 fn entry(
     alloc: Global,
     number: u64,
-    ended: Option<VersionKey>,
-    key: u64,
-    byte: u8,
-) -> Result<Entry, Fail> {
-    let place = Place {
-        log: 7,
-        stream: 1,
-        number,
-        time: number,
-    };
-    entry_at(alloc, place, ended, key, byte)
-}
-
-/// The entry at a place that ends a version and puts one row in.
-fn entry_at(
-    alloc: Global,
-    place: Place,
     ended: Option<VersionKey>,
     key: u64,
     byte: u8,
@@ -73,98 +47,8 @@ fn entry_at(
     }
     let mut rows = Vec::new(alloc);
     rows.push((Table::new(1), Key::new(key), row(alloc, byte)?))?;
-    let stream = StreamNo::new(place.stream)?;
-    let made = Entry::new(
-        place.log,
-        stream,
-        place.number,
-        time(place.time)?,
-        ends,
-        rows,
-    )?;
+    let made = Entry::new(7, StreamNo::new(1)?, number, time(number)?, ends, rows)?;
     Ok(made)
-}
-
-/// Entry 1 of time 1: key 5 gets the body 41.
-fn first(alloc: Global) -> Result<Item, Fail> {
-    Ok(Item::Commit(entry(alloc, 1, None, 5, 0x41)?))
-}
-
-/// Entry 2 of time 2: the first version of key 5 ends, and key 5 gets the body 42.
-fn second(alloc: Global) -> Result<Item, Fail> {
-    let ended = Some(version(5, 1)?);
-    Ok(Item::Commit(entry(alloc, 2, ended, 5, 0x42)?))
-}
-
-/// Entry 3 of time 3: key 6 gets the body 43.
-fn third(alloc: Global) -> Result<Item, Fail> {
-    Ok(Item::Commit(entry(alloc, 3, None, 6, 0x43)?))
-}
-
-/// The mark of log 7 that this many entries of a stream are those up to a time.
-fn mark(stream: u16, count: u64, upto: u64) -> Result<Item, Fail> {
-    let made = Mark::new(7, StreamNo::new(stream)?, count, time(upto)?)?;
-    Ok(Item::Closed(made))
-}
-
-/// The state of log 7 that took nothing.
-fn empty_state(alloc: Global, streams: u16) -> Result<ReplicaState, Fail> {
-    Ok(ReplicaState::new(alloc, Config::new(7, streams)?)?)
-}
-
-/// The byte of the row that a key shows at a time, and 0 where it shows none.
-fn byte_at(state: &ReplicaState, key: u64, at: u64) -> Result<u8, Fail> {
-    Ok(
-        state
-            .row_at(Table::new(1), Key::new(key), time(at)?)
-            .and_then(|row| row.body().first())
-            .copied()
-            .unwrap_or(0),
-    )
-}
-
-/// The versions of table 1 of which something is known.
-fn keyed(alloc: Global, state: &ReplicaState) -> Result<Vec<VersionKey>, Fail> {
-    let low = Key::new(0);
-    let high = Key::new(u64::MAX);
-    Ok(state.keys().list(alloc, Table::new(1), low, high)?)
-}
-
-/// The versions of table 1 with a row of tag 9.
-fn tagged(alloc: Global, state: &ReplicaState) -> Result<Vec<VersionKey>, Fail> {
-    Ok(state.tags().list(alloc, Table::new(1), Tag::new(9))?)
-}
-
-/// What the readers of a state tell.
-#[derive(Debug, PartialEq, Eq, Drop)]
-struct Seen {
-    front: Front,
-    closed: Option<Time>,
-    keyed: Vec<VersionKey>,
-    tagged: Vec<VersionKey>,
-    counts: [u64; 3],
-    bytes: [u8; 3],
-}
-
-/// What a state tells, with key 5 and the number of rows at the times 1 to 3.
-fn look(alloc: Global, state: &ReplicaState) -> Result<Seen, Fail> {
-    let table = Table::new(1);
-    Ok(Seen {
-        front: front_of(state),
-        closed: state.closed(StreamNo::new(1)?),
-        keyed: keyed(alloc, state)?,
-        tagged: tagged(alloc, state)?,
-        counts: [
-            state.count_at(table, time(1)?),
-            state.count_at(table, time(2)?),
-            state.count_at(table, time(3)?),
-        ],
-        bytes: [
-            byte_at(state, 5, 1)?,
-            byte_at(state, 5, 2)?,
-            byte_at(state, 5, 3)?,
-        ],
-    })
 }
 
 /// The byte of a version's row, and 0 where none is known.

@@ -1,134 +1,88 @@
-//! What a state refuses, and that it is then as it was.
+//! What a state refuses, and that its readers tell the same then.
 
-use super::{Place, Seen, empty_state, entry, entry_at, first, look, mark, second, time, version};
-use crate::ReplicaState;
-use hk_log::{Item, Mark};
-use hk_model::Took;
-use hk_types::{Refusal, StreamNo};
-use std::alloc::Global;
+use super::played::{Step, Write, close, empty_state, first, play, put, second};
 use std::test::Fail;
-
-/// A state of two streams that took the first two entries of the first.
-fn two_entries(alloc: Global) -> Result<ReplicaState, Fail> {
-    let mut state = empty_state(alloc, 2)?;
-    state.absorb(&first(alloc)?)?;
-    state.absorb(&second(alloc)?)?;
-    Ok(state)
-}
-
-/// What an item gives, and what the state tells after it.
-fn after(
-    alloc: Global,
-    state: &mut ReplicaState,
-    item: &Item,
-) -> Result<(Result<Took, Refusal>, Seen), Fail> {
-    let told = state.absorb(item);
-    Ok((told, look(alloc, state)?))
-}
 
 #[test]
 fn a_repeated_item_changes_nothing(rt: HostRuntime) -> Result<(), Fail> {
-    let mut state = two_entries(rt.alloc())?;
-    state.absorb(&mark(1, 2, 2)?)?;
-    let before = look(rt.alloc(), &state)?;
-    assert_eq!(rt; before.bytes, [0x41, 0x42, 0x42]);
-    let unlike = entry(rt.alloc(), 1, None, 5, 0x99)?;
-    let repeated = [
-        first(rt.alloc())?,
-        second(rt.alloc())?,
-        mark(1, 2, 2)?,
-        mark(1, 1, 1)?,
-        Item::Commit(unlike),
-    ];
-    for item in &repeated {
-        let (told, now) = after(rt.alloc(), &mut state, item)?;
-        assert_eq!(rt; told, Ok(Took::Repeated));
-        assert_eq!(rt; now, before);
-    }
+    let mut state = empty_state(rt.alloc(), 1)?;
+    play(rt.alloc(), &mut state, &[first(), second(), close(1, 2, 2)])?;
+    let unlike = put(1, 5, 0, 0x99);
+    let steps = [first(), second(), close(1, 2, 2), close(1, 1, 1), unlike];
+    let told = play(rt.alloc(), &mut state, &steps)?;
+    assert_eq!(rt; told.as_slice(), [(1, false, 2); 5].as_slice());
     Ok(())
 }
 
+/// A state of two streams refuses what is of log 8 as 20, and what is of stream 3 as 21.
 #[test]
 fn items_of_no_stream_of_the_log_are_refused(rt: HostRuntime) -> Result<(), Fail> {
-    let mut state = two_entries(rt.alloc())?;
-    let before = look(rt.alloc(), &state)?;
-    let foreign = Place {
-        log: 8,
-        stream: 3,
-        number: 3,
-        time: 3,
-    };
-    let above = Place { log: 7, ..foreign };
-    let refused = [
-        (
-            Item::Commit(entry_at(rt.alloc(), foreign, None, 6, 0x43)?),
-            Refusal::ForeignLog,
-        ),
-        (
-            Item::Closed(Mark::new(8, StreamNo::new(1)?, 2, time(2)?)?),
-            Refusal::ForeignLog,
-        ),
-        (
-            Item::Commit(entry_at(rt.alloc(), above, None, 6, 0x43)?),
-            Refusal::WrongStreams,
-        ),
-        (mark(3, 0, 4)?, Refusal::WrongStreams),
-    ];
-    for (item, why) in &refused {
-        let (told, now) = after(rt.alloc(), &mut state, item)?;
-        assert_eq!(rt; told, Err(*why));
-        assert_eq!(rt; now, before);
+    let mut state = empty_state(rt.alloc(), 2)?;
+    play(rt.alloc(), &mut state, &[first(), second()])?;
+    for (log, stream, why) in [(8, 1, 20), (8, 3, 20), (7, 3, 21)] {
+        let entry = Step::Put(Write {
+            log,
+            stream,
+            number: 3,
+            time: 3,
+            key: 6,
+            over: 0,
+            byte: 0x43,
+        });
+        let mark = Step::Close {
+            log,
+            stream,
+            count: 0,
+            upto: 4,
+        };
+        let told = play(rt.alloc(), &mut state, &[entry, mark])?;
+        assert_eq!(rt; told.as_slice(), [(why, false, 0); 2].as_slice());
     }
     Ok(())
 }
 
+/// On the second stream: another row of a version, another end of one, and the end of the next version.
 #[test]
 fn another_row_and_another_end_are_refused(rt: HostRuntime) -> Result<(), Fail> {
-    let mut state = two_entries(rt.alloc())?;
-    let before = look(rt.alloc(), &state)?;
-    let at_one = Place {
-        log: 7,
-        stream: 2,
-        number: 1,
-        time: 1,
-    };
-    let at_three = Place { time: 3, ..at_one };
-    let another_row = entry_at(rt.alloc(), at_one, None, 5, 0x99)?;
-    let another_end = entry_at(rt.alloc(), at_three, Some(version(5, 1)?), 6, 0x43)?;
-    for item in &[Item::Commit(another_row), Item::Commit(another_end)] {
-        let (told, now) = after(rt.alloc(), &mut state, item)?;
-        assert_eq!(rt; told, Err(Refusal::Conflict));
-        assert_eq!(rt; now, before);
+    let mut state = empty_state(rt.alloc(), 2)?;
+    play(rt.alloc(), &mut state, &[first(), second()])?;
+    for (time, over, wanted) in [
+        (1, 0, (23, false, 0)),
+        (3, 1, (23, false, 0)),
+        (3, 2, (0, true, 0)),
+    ] {
+        let step = Step::Put(Write {
+            log: 7,
+            stream: 2,
+            number: 1,
+            time,
+            key: 5,
+            over,
+            byte: 0x99,
+        });
+        let told = play(rt.alloc(), &mut state, &[step])?;
+        assert_eq!(rt; told.as_slice(), [wanted].as_slice());
     }
-    let next_end = entry_at(rt.alloc(), at_three, Some(version(5, 2)?), 6, 0x43)?;
-    assert_eq!(rt; state.absorb(&Item::Commit(next_end)), Ok(Took::Taken));
     Ok(())
 }
 
+/// Entry 2 of the times 4 and 5 comes too late after a mark up to 5, and that of time 6 does not.
 #[test]
 fn an_entry_of_a_closed_time_is_refused(rt: HostRuntime) -> Result<(), Fail> {
     let mut state = empty_state(rt.alloc(), 1)?;
-    state.absorb(&first(rt.alloc())?)?;
-    state.absorb(&mark(1, 1, 5)?)?;
-    let before = look(rt.alloc(), &state)?;
-    let at_four = Place {
-        log: 7,
-        stream: 1,
-        number: 2,
-        time: 4,
-    };
-    for at in [4, 5] {
-        let place = Place {
-            time: at,
-            ..at_four
-        };
-        let late = entry_at(rt.alloc(), place, None, 6, 0x43)?;
-        let (told, now) = after(rt.alloc(), &mut state, &Item::Commit(late))?;
-        assert_eq!(rt; told, Err(Refusal::Conflict), "at {at}");
-        assert_eq!(rt; now, before);
+    play(rt.alloc(), &mut state, &[first(), close(1, 1, 5)])?;
+    for (time, wanted) in [(4, (23, false, 5)), (5, (23, false, 5)), (6, (0, true, 5))] {
+        let step = Step::Put(Write {
+            log: 7,
+            stream: 1,
+            number: 2,
+            time,
+            key: 6,
+            over: 0,
+            byte: 0x43,
+        });
+        let told = play(rt.alloc(), &mut state, &[step])?;
+        assert_eq!(rt; told.as_slice(), [wanted].as_slice());
     }
-    let at_six = Place { time: 6, ..at_four };
-    let next = entry_at(rt.alloc(), at_six, None, 6, 0x43)?;
-    assert_eq!(rt; state.absorb(&Item::Commit(next)), Ok(Took::Taken));
     Ok(())
 }
