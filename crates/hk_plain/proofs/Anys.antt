@@ -1,5 +1,5 @@
 -- A scan for one that passes a test.
-use Rattle.std.proofs.Common.{◌≡◌, refl, sym, ap, ◌∙◌, ℕ, zero, suc, ◌+◌, Bool, true, false, List, [], ◌∷◌, length, drop, get_or, ◌<◌, ◌||◌, arith, add-one}
+use Rattle.std.proofs.Common.{◌≡◌, sym, ap, ◌∙◌, ℕ, zero, suc, ◌+◌, Bool, true, false, List, [], ◌∷◌, length, drop, get_or, ◌<◌, ◌||◌, arith, add-one}
 use Rattle.std.specs.List.{list_any}
 
 -- the one where the scan stands passes

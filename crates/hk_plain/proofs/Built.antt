@@ -1,11 +1,10 @@
 -- Writes that are handed in one by one.
-use Rattle.std.proofs.Common.{◌≡◌, refl, sym, ap, ◌∙◌, ℕ, zero, suc, ◌+◌, Bool, true, false, cond, Result, Ok, Err, List, [], ◌∷◌, map, length, drop, get_or, is_some, ◌<◌, ◌≤◌, ◌||◌, nat_le, le-leb, arith, add-one}
+use Rattle.std.proofs.Common.{◌≡◌, refl, sym, ap, ◌∙◌, ℕ, zero, suc, ◌+◌, Bool, true, false, cond, Err, List, [], ◌∷◌, map, length, drop, get_or, is_some, ◌<◌, ◌≤◌, ◌||◌, nat_le, le-leb, arith, add-one}
 use Rattle.std.proofs.lemmas.Bool.{lt-leb}
 use Rattle.std.specs.List.{list_any}
 use Rattle.std.specs.Ordering.{eq_by_cmp}
 use Rattle.std.specs.FinMap as finmap
-use Rattle.std.specs.FinMap.Entries.{find, put, is_some-find}
-use Rattle.hk_types.specs.declared.faults.Refusal.{Refusal}
+use Rattle.std.specs.FinMap.Entries.{put, is_some-find}
 use Rattle.hk_types.specs.declared.faults.Refusal.TheVariants.{TwiceWritten, TooManyWrites}
 use Rattle.hk_model.specs.Rows.{RowKey, row_key_cmp}
 use Rattle.hk_model.specs.Histories.{written_key}

@@ -1,14 +1,13 @@
 -- The entries and marks of a history are well formed.
-use Rattle.std.proofs.Common.{◌≡◌, refl, sym, ap, ◌∙◌, ℕ, zero, List, ◌∷◌, ◌^◌, ◌<◌, ◌≤◌, Bool, true, false, cond, Result, Ok, Err, nat_lt, le-ltb, arith, ◌&&◌, ◌||◌, map, length, ◌⊎◌, inl, inr}
-use Rattle.std.specs.List.{list_all}
+use Rattle.std.proofs.Common.{◌≡◌, refl, sym, ap, ◌∙◌, ℕ, zero, List, ◌∷◌, ◌^◌, ◌<◌, ◌≤◌, cond, Ok, Err, le-ltb, arith, ◌&&◌, ◌||◌, ◌⊎◌, inl, inr}
 use Rattle.hk_types.specs.Values.{ConfigValue}
 use Rattle.hk_types.specs.declared.faults.FormFault.{FormFault}
 use Rattle.hk_types.specs.declared.faults.FormFault.TheVariants.{BadNumber, BadOrder, BadCount}
 use Rattle.hk_types.specs.declared.faults.Refusal.{Refusal}
 use Rattle.hk_types.specs.declared.faults.Refusal.TheVariants.{Memory}
-use Rattle.hk_log.specs.Items.{EntryValue, MarkValue, IsEntry, IsMark, checked_entry, checked_mark, counts_fit, rise, end_place, row_place, was_born}
+use Rattle.hk_log.specs.Items.{EntryValue, IsEntry, checked_entry, checked_mark}
 use Rattle.hk_log.specs.declared.item.Item.TheVariants.{Commit, Closed}
-use Rattle.hk_model.specs.Histories.{Transaction, Follows, IsHistory, IsTruthful, entry_of, last}
+use Rattle.hk_model.specs.Histories.{Transaction, Follows, IsHistory, IsTruthful, entry_of}
 use Rattle.hk_model.specs.Worlds.{mark_now}
 use Rattle.hk_model.proofs.Formed.{items_formed}
 use Rattle.hk_model.proofs.Honest.{last_closed}

@@ -1,5 +1,5 @@
 -- Lists of facts, and the maps that they are seen as.
-use Rattle.std.proofs.Common.{◌≡◌, ℕ, zero, suc, ◌≤◌, length, drop, append-nil, arith, refl, sym, ap, ◌∙◌, subst, Bool, true, false, Option, Some, None, List, [], ◌∷◌, ◌++◌, map, inl, inr, is_some, cond, ◌||◌, true≢false}
+use Rattle.std.proofs.Common.{◌≡◌, ℕ, zero, suc, ◌≤◌, length, drop, append-nil, arith, refl, sym, ap, ◌∙◌, subst, Bool, true, false, Some, List, [], ◌∷◌, ◌++◌, map, inl, inr, cond, ◌||◌, true≢false}
 use Rattle.std.specs.List.{list_any}
 use Rattle.std.specs.Ordering.{eq_by_cmp, is_eq}
 use Rattle.std.specs.Cmp.{tied_itself}

@@ -1,5 +1,5 @@
 -- What stands under a number, counted from 1.
-use Rattle.std.proofs.Common.{◌≡◌, refl, sym, ap, ◌∙◌, ℕ, zero, suc, ◌-◌, ◌<◌, ◌≤◌, ◌==◌, Bor, IfSome, MatchOption, length, get_or, set, replicate, ◌+◌, ◌++◌, add-one, Bool, true, false, cond, Option, Some, None, List, [], ◌∷◌, arith, eqb}
+use Rattle.std.proofs.Common.{◌≡◌, refl, sym, ap, ◌∙◌, ℕ, zero, suc, ◌-◌, ◌<◌, ◌≤◌, ◌==◌, Bor, IfSome, MatchOption, length, get_or, set, replicate, ◌+◌, ◌++◌, add-one, false, cond, Option, Some, None, List, [], ◌∷◌, arith}
 use Rattle.std.proofs.lemmas.Bool.Decides.{nat_tests}
 use Rattle.std.proofs.lemmas.Option.{slice_get_past, slice_get_read}
 use Rattle.std.specs.List.{slice_get, HoldsAt}

@@ -218,8 +218,8 @@ fn put_rows(alloc: Global, writes: &[WriteOp]) -> Result<Vec<(Table, Key, Row)>,
     Ok(rows)
 }
 
-/// The entry of a transaction after the earlier ones. It is refused with a fault of form where its
-/// parts make no entry, as those of a history's next transaction always do.
+/// The entry of a transaction after the earlier ones. The only other refusal is the fault of form of
+/// parts that make no entry; those of a transaction that may follow a history always make one.
 pub fn entry_of(
     alloc: Global,
     config: Config,

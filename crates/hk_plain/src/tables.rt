@@ -97,7 +97,7 @@ impl PlainTables {
     }
 
     /// Does writes, one after the other.
-    pub fn write_all(&mut self, alloc: Global, writes: &[WriteOp]) -> Result<(), AllocError>
+    pub(crate) fn write_all(&mut self, alloc: Global, writes: &[WriteOp]) -> Result<(), AllocError>
         ensures { OnOk result (self.new ≡ all_written self.old writes.now) }
     {
         for write in writes {

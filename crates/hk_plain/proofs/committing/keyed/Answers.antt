@@ -1,4 +1,4 @@
-use Rattle.std.proofs.Common.{◌≡◌, sym, ap, ◌∙◌, inl, ◌<◌, ◌≤◌, length, arith, true, false}
+use Rattle.std.proofs.Common.{◌≡◌, sym, ◌∙◌, inl, ◌<◌, ◌≤◌, length, arith, true, false}
 use Rattle.std.specs.List.{list_any}
 use Rattle.std.specs.Ordering.{eq_by_cmp}
 use Rattle.std.specs.FinMap.Entries.{put}

@@ -1,7 +1,6 @@
 use Rattle.std.proofs.Common.{◌≡◌, sym, ap, ◌∙◌, ◌+◌, inl, map, filter, filter_map}
 use Rattle.std.proofs.lemmas.Result.{err_from_is_err_and}
 use Rattle.std.specs.FinMap as finmap
-use Rattle.hk_log.specs.Items.{EntryValue, checked_entry}
 use Rattle.hk_model.specs.Rows.{version_of}
 use Rattle.hk_model.specs.Histories.{written_key, put_row, last_put, entries_in, entry_of}
 use Rattle.hk_plain.specs.Formed.{formed, refused}

@@ -1,4 +1,4 @@
-use Rattle.std.proofs.Common.{◌∙◌, sym, ap, arith, ◌++◌, ◌∷◌, [], ◌+◌}
+use Rattle.std.proofs.Common.{◌∙◌, sym, arith, ◌++◌, ◌∷◌, [], ◌+◌}
 use Rattle.std.proofs.lemmas.List.FromFn.{map-range_with_len_more}
 use Rattle.hk_model.specs.Streams.{stream_of}
 use Rattle.hk_plain.proofs.streams.streams_of.Goals as goal

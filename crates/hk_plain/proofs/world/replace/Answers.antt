@@ -1,5 +1,5 @@
 use Rattle.std.proofs.Common.{sym, ap, ◌∙◌, ◌<◌, ◌≤◌, length, arith}
-use Rattle.hk_model.specs.Worlds.{Replica, renumbered}
+use Rattle.hk_model.specs.Worlds.{renumbered}
 use Rattle.hk_plain.proofs.Numbered.{renumbered_set, renumbered_zero, renumbered_past}
 use Rattle.hk_plain.proofs.world.replace.Goals as goal
 

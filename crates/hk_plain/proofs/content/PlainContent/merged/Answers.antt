@@ -1,5 +1,4 @@
-use Rattle.std.proofs.Common.{subst, ap, ◌∙◌, Result}
-use Rattle.hk_types.specs.declared.faults.Refusal.{Refusal}
+use Rattle.std.proofs.Common.{subst, ap, ◌∙◌}
 use Rattle.hk_model.specs.Content.{Content}
 use Rattle.hk_model.specs.Fragments.{FragmentValue, cut}
 use Rattle.hk_model.specs.Rules.{joined}

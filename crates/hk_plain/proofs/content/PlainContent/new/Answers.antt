@@ -1,8 +1,6 @@
 use Rattle.std.proofs.Common.{sym, ap, ◌∙◌, []}
 use Rattle.std.proofs.lemmas.Result.{IfOk-weaker}
-use Rattle.hk_model.specs.Content.{Content}
 use Rattle.hk_model.specs.Canon.{canon}
-use Rattle.hk_model.specs.Replicas.{nothing}
 use Rattle.hk_model.proofs.Laws.{nothing_canon}
 use Rattle.hk_plain.proofs.content.PlainContent.new.Goals as goal
 

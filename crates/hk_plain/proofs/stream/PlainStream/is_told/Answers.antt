@@ -1,4 +1,4 @@
-use Rattle.std.proofs.Common.{◌≡◌, ap, sym, ◌∙◌}
+use Rattle.std.proofs.Common.{ap, sym, ◌∙◌}
 use Rattle.std.specs.List.{list_any}
 use Rattle.hk_plain.proofs.Marks.{tells, waiting_told}
 use Rattle.hk_model.specs.Streams.{StreamContent, covers, is_told}

@@ -1,4 +1,4 @@
-use Rattle.std.proofs.Common.{ap, sym, ◌∙◌, ◌++◌, List, ℕ}
+use Rattle.std.proofs.Common.{◌∙◌, ◌++◌}
 use Rattle.std.specs.FinSet as set
 use Rattle.hk_plain.proofs.Marks.{joined_lists}
 use Rattle.hk_model.specs.Streams.{settled, together}

@@ -1,4 +1,4 @@
-use Rattle.std.proofs.Common.{◌≡◌, ◌++◌, map, filter, drop, ℕ}
+use Rattle.std.proofs.Common.{◌≡◌, ◌++◌, map, filter, drop}
 use Rattle.hk_types.specs.Values.{RowValue}
 use Rattle.hk_model.specs.Rows.{RowKey}
 use Rattle.hk_plain.specs.Passing.{passes}

@@ -1,4 +1,4 @@
-use Rattle.std.proofs.Common.{◌≡◌, refl, sym, ap, ◌∙◌, subst, List, arith, ◌<◌, ◌≤◌, ◌^◌, Err, ◌⊎◌}
+use Rattle.std.proofs.Common.{◌≡◌, refl, sym, subst, List, arith, ◌<◌, ◌≤◌, ◌^◌, Err, ◌⊎◌}
 use Rattle.std.proofs.lemmas.Result.{err_from_is_err_and}
 use Rattle.hk_types.specs.declared.faults.Refusal.TheVariants.{Memory}
 use Rattle.hk_model.specs.Histories.{Transaction, Follows, entry_of}

@@ -1,4 +1,4 @@
-use Rattle.std.proofs.Common.{◌≡◌, sym, ap, ◌∙◌, subst, Ok, Some, List}
+use Rattle.std.proofs.Common.{sym, ap, ◌∙◌, subst, Ok, List}
 use Rattle.hk_model.specs.Histories.{Transaction, Follows}
 use Rattle.hk_model.specs.Commits.{committed}
 use Rattle.hk_model.proofs.Commits.{commit_follows}

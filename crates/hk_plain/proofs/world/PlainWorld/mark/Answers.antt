@@ -1,5 +1,5 @@
 use Rattle.std.proofs.Common.{◌≡◌, sym, ap, ◌∙◌, arith, ◌<◌, ◌≤◌, ◌^◌, List}
-use Rattle.hk_log.specs.Items.{MarkValue, checked_mark}
+use Rattle.hk_log.specs.Items.{checked_mark}
 use Rattle.hk_model.specs.Histories.{Transaction, entries_in, last}
 use Rattle.hk_model.specs.Worlds.{mark_now}
 use Rattle.hk_plain.proofs.Entries.{no_fault}
