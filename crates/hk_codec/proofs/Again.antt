@@ -18,16 +18,16 @@ use Rattle.hk_codec.proofs.Steps.{both}
 use Rattle.hk_codec.proofs.Numbers.{wide16, wide32, wide64, number_again}
 use Rattle.hk_codec.proofs.Found.{EndIs}
 
-again16 : (n : ℕ) (rest : List ℕ) → n < 2 ^ 16 → number_at w16 (number w16 n ++ rest) ≡ Ok (n, rest)
+pub again16 : (n : ℕ) (rest : List ℕ) → n < 2 ^ 16 → number_at w16 (number w16 n ++ rest) ≡ Ok (n, rest)
 again16 n rest lt = number_again w16 (2 ^ 16) wide16 n rest lt
 
-again32 : (n : ℕ) (rest : List ℕ) → n < 2 ^ 32 → number_at w32 (number w32 n ++ rest) ≡ Ok (n, rest)
+pub again32 : (n : ℕ) (rest : List ℕ) → n < 2 ^ 32 → number_at w32 (number w32 n ++ rest) ≡ Ok (n, rest)
 again32 n rest lt = number_again w32 (2 ^ 32) wide32 n rest lt
 
-again64 : (n : ℕ) (rest : List ℕ) → n < 2 ^ 64 → number_at w64 (number w64 n ++ rest) ≡ Ok (n, rest)
+pub again64 : (n : ℕ) (rest : List ℕ) → n < 2 ^ 64 → number_at w64 (number w64 n ++ rest) ≡ Ok (n, rest)
 again64 n rest lt = number_again w64 (2 ^ 64) wide64 n rest lt
 
-below : (a b : ℕ) → a ≤ b → ltb b a ≡ false
+pub below : (a b : ℕ) → a ≤ b → ltb b a ≡ false
 below a b le = le-ltb _ _ le
 
 mark_again : (k : MarkValue) (rest : List ℕ) → IsMark k → mark_at k.log k.stream (mark_text k ++ rest) ≡ Ok (k, rest)
@@ -54,7 +54,7 @@ end_again time last before v rest h after =
     let born : v.born < time = ltb-true _ _ b.1 in
     ap (end_at time before) regrouped ∙ rw (again16 v.table (number w64 v.key ++ (number w64 v.born ++ rest)) h.fits.table, again64 v.key (number w64 v.born ++ rest) h.fits.key, again64 v.born rest (omega arith), after, b.0, b.1) refl
 
-body_again : (body rest : List ℕ) → length body ≤ 4096 → body_at (number w16 (length body) ++ (body ++ rest)) ≡ Ok (body, rest)
+pub body_again : (body rest : List ℕ) → length body ≤ 4096 → body_at (number w16 (length body) ++ (body ++ rest)) ≡ Ok (body, rest)
 unfolding body_at bytes_at
 body_again body rest most =
     let fits : ltb 4096 (length body) ≡ false = below (length body) 4096 most in

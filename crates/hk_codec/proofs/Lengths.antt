@@ -9,17 +9,20 @@ use Rattle.hk_types.specs.Values.{RowValue}
 use Rattle.hk_types.specs.declared.version_key.VersionKey.{VersionKey}
 use Rattle.hk_log.specs.Items.{EntryValue, MarkValue}
 use Rattle.hk_log.specs.declared.item.Item.TheVariants.{Commit, Closed}
+use Rattle.hk_log.specs.declared.item.Item.{Item}
 use Rattle.hk_codec.specs.Fields.{number}
+use Rattle.hk_codec.specs.Framing.{spelled}
+use Rattle.hk_codec.specs.Frames.{spelling}
 use Rattle.hk_codec.specs.Spelling.{end_text, row_text, head_text, entry_text, mark_text, rest_text, RowFits}
 use Rattle.hk_codec.proofs.Numbers.{wide16, wide32, wide64, number_len}
 
-len16 : (n : ℕ) → length (number w16 n) ≡ 2
+pub len16 : (n : ℕ) → length (number w16 n) ≡ 2
 len16 n = number_len w16 (2 ^ 16) wide16 n
 
-len32 : (n : ℕ) → length (number w32 n) ≡ 4
+pub len32 : (n : ℕ) → length (number w32 n) ≡ 4
 len32 n = number_len w32 (2 ^ 32) wide32 n
 
-len64 : (n : ℕ) → length (number w64 n) ≡ 8
+pub len64 : (n : ℕ) → length (number w64 n) ≡ 8
 len64 n = number_len w64 (2 ^ 64) wide64 n
 
 end_len : (v : VersionKey) → length (end_text v) ≡ 18
@@ -71,3 +74,7 @@ rows_most (r ∷ rs) h =
     let others = rows_most rs h.1 in
     let more : length (r ∷ rs) ≡ length rs + 1 = omega arith in
     record { least = omega (arith, cons, first, others.least, more); most = omega (arith, cons, first, fits, others.most, more) }
+
+pub spelling_len : (i : Item) → length (spelling i) ≡ 4 + length (rest_text i)
+unfolding spelled
+spelling_len i = omega (arith, length-append (number w32 (length (rest_text i))) (rest_text i), len32 (length (rest_text i)))

@@ -6,6 +6,6 @@ pub mod Found
 pub mod Whole
 pub mod Lengths
 pub mod Again
-pub mod Framed
+pub mod InFrames
 pub mod Stream
 pub mod Items

@@ -1,5 +1,5 @@
 -- Frames of any kind of value, one after the other.
-use Rattle.std.proofs.Common.{◌≡◌, ℕ, ◌+◌, ◌-◌, ◌≤◌, List, [], ◌∷◌, ◌++◌, length, take, drop, Option, Some, None, Result, Ok, Err, refl, sym, ap, subst, ◌∙◌, append_assoc, arith, inl, inr}
+use Rattle.std.proofs.Common.{◌≡◌, ℕ, ◌+◌, ◌-◌, ◌≤◌, List, [], ◌∷◌, ◌++◌, length, take, drop, Option, Some, None, Result, Ok, Err, true, false, is_some, refl, sym, ap, subst, ◌∙◌, append_assoc, arith, inl, inr}
 use Rattle.std.specs.List.{flat_map, AllByRecursion, All}
 use Rattle.std.proofs.lemmas.List.{length-append, length-drop, drop-drop, drop_at, append-nil, nil_from_length}
 use Rattle.std.proofs.lemmas.List.Elements.{All-cons, All-nil}
@@ -8,9 +8,9 @@ use Rattle.std.proofs.lemmas.List.Concat.{flat_map-cons}
 use Rattle.std.proofs.Math.Seq.{take-append_seam, take-length}
 use Rattle.hk_types.specs.declared.faults.FormFault.{FormFault}
 use Rattle.hk_codec.specs.Fields.{IsBytes}
-use Rattle.hk_codec.specs.Framing.{len_of, framed, spelled, IsWhole, Begins}
+use Rattle.hk_codec.specs.Framing.{len_of, framed, spelled, IsWhole, Begins, IsFormat, AddsValues, held}
 use Rattle.hk_codec.proofs.Steps.{IsBytes-drop}
-use Rattle.hk_codec.proofs.Framed.{IsFormat, maybe, frame_takes, frame_again, partial_is, partial_again, fault_stays, spelled_len}
+use Rattle.hk_codec.proofs.InFrames.{maybe, frame_takes, frame_again, partial_is, partial_again, fault_stays, spelled_len}
 
 -- the bytes from a place on, as a slice has them
 pub tail_is : (used : ℕ) (text : List ℕ) → take (length text - used) (drop used text) ≡ drop used text
@@ -51,23 +51,24 @@ pub record OneMore {X : Type 0} (rest_text : X → List ℕ) (IsValue : X → Ty
   pub so_far : SoFar rest_text IsValue text before after (used + n)
   pub least : 4 ≤ n
 
-module _ {X : Type 0} (least most : ℕ) (read : List ℕ → Result X FormFault) (rest_text : X → List ℕ) (IsValue : X → Type 0) (format : IsFormat least most read rest_text IsValue) where
-  pub one_more : (text : List ℕ) (before after : List X) (used : ℕ) (x : X) (n : ℕ) → IsBytes text → SoFar rest_text IsValue text before after used → framed least most read (drop used text) ≡ Ok (Some (x, n)) → OneMore rest_text IsValue text before (after ++ x ∷ []) used n
+module _ {X Y : Type 0} (seen : X → Y) (least most : ℕ) (read : List ℕ → Result Y FormFault) (text_of : Y → List ℕ) (IsY : Y → Type 0) (format : IsFormat least most read text_of IsY) where
+  pub one_more : (text : List ℕ) (before after : List X) (used : ℕ) (x : X) (n : ℕ) → IsBytes text → SoFar (λ x. text_of (seen x)) (λ x. IsY (seen x)) text before after used → framed least most read (drop used text) ≡ Ok (Some (seen x, n)) → OneMore (λ x. text_of (seen x)) (λ x. IsY (seen x)) text before (after ++ x ∷ []) used n
+  unfolding spelled
   one_more text before after used x n bytes s e =
-      let f = frame_takes least most read rest_text IsValue format (drop used text) x n (IsBytes-drop used text bytes) e in
+      let f = frame_takes least most read text_of IsY format (drop used text) (seen x) n (IsBytes-drop used text bytes) e in
       let fits : used + n ≤ length text = omega (arith, s.fits, f.fits, length-drop used text) in
       let added : after ++ x ∷ [] ≡ before ++ (s.values ++ x ∷ []) = ap (λ (t : List X). t ++ x ∷ []) s.added ∙ append_assoc before s.values (x ∷ []) in
-      let rest : drop used text ≡ spelled rest_text x ++ drop (used + n) text = f.parts ∙ ap (λ (t : List ℕ). spelled rest_text x ++ t) (drop-drop n used text) in
-      let one : flat_map (spelled rest_text) (x ∷ []) ≡ spelled rest_text x = flat_map-cons (spelled rest_text) x [] ∙ append-nil (spelled rest_text x) in
-      let texts : flat_map (spelled rest_text) (s.values ++ x ∷ []) ≡ flat_map (spelled rest_text) s.values ++ spelled rest_text x = flat_map-append (spelled rest_text) s.values (x ∷ []) ∙ ap (λ (t : List ℕ). flat_map (spelled rest_text) s.values ++ t) one in
-      let whole : text ≡ flat_map (spelled rest_text) (s.values ++ x ∷ []) ++ drop (used + n) text =
-      s.whole ∙ ap (λ (t : List ℕ). flat_map (spelled rest_text) s.values ++ t) rest ∙ sym (append_assoc (flat_map (spelled rest_text) s.values) (spelled rest_text x) (drop (used + n) text)) ∙ ap (λ (t : List ℕ). t ++ drop (used + n) text) (sym texts) in
-      record { so_far = record { fits = fits; values = s.values ++ x ∷ []; added = added; whole = whole; each = each_more IsValue s.values x s.each f.value }; least = f.least }
+      let rest : drop used text ≡ spelled (λ x. text_of (seen x)) x ++ drop (used + n) text = f.parts ∙ ap (λ (t : List ℕ). spelled (λ x. text_of (seen x)) x ++ t) (drop-drop n used text) in
+      let one : flat_map (spelled (λ x. text_of (seen x))) (x ∷ []) ≡ spelled (λ x. text_of (seen x)) x = flat_map-cons (spelled (λ x. text_of (seen x))) x [] ∙ append-nil (spelled (λ x. text_of (seen x)) x) in
+      let texts : flat_map (spelled (λ x. text_of (seen x))) (s.values ++ x ∷ []) ≡ flat_map (spelled (λ x. text_of (seen x))) s.values ++ spelled (λ x. text_of (seen x)) x = flat_map-append (spelled (λ x. text_of (seen x))) s.values (x ∷ []) ∙ ap (λ (t : List ℕ). flat_map (spelled (λ x. text_of (seen x))) s.values ++ t) one in
+      let whole : text ≡ flat_map (spelled (λ x. text_of (seen x))) (s.values ++ x ∷ []) ++ drop (used + n) text =
+      s.whole ∙ ap (λ (t : List ℕ). flat_map (spelled (λ x. text_of (seen x))) s.values ++ t) rest ∙ sym (append_assoc (flat_map (spelled (λ x. text_of (seen x))) s.values) (spelled (λ x. text_of (seen x)) x) (drop (used + n) text)) ∙ ap (λ (t : List ℕ). t ++ drop (used + n) text) (sym texts) in
+      record { so_far = record { fits = fits; values = s.values ++ x ∷ []; added = added; whole = whole; each = each_more (λ x. IsY (seen x)) s.values x s.each f.value }; least = f.least }
 
-  pub stops : (text : List ℕ) (before after : List X) (used : ℕ) → SoFar rest_text IsValue text before after used → framed least most read (drop used text) ≡ Ok None → (values : List X) × (after ≡ before ++ values) × Begins least most read rest_text IsValue text values (Ok (drop used text))
+  pub stops : (text : List ℕ) (before after : List X) (used : ℕ) → SoFar (λ x. text_of (seen x)) (λ x. IsY (seen x)) text before after used → framed least most read (drop used text) ≡ Ok None → (values : List X) × (after ≡ before ++ values) × Begins least most read (λ x. text_of (seen x)) (λ x. IsY (seen x)) text values (Ok (drop used text))
   stops text before after used s e = (s.values, s.added, (s.whole, s.each, partial_is least most read (drop used text) e))
 
-  pub faults : (text : List ℕ) (before after : List X) (used : ℕ) (f : FormFault) → SoFar rest_text IsValue text before after used → framed least most read (drop used text) ≡ Err f → (values : List X) × (after ≡ before ++ values) × Begins least most read rest_text IsValue text values (Err f)
+  pub faults : (text : List ℕ) (before after : List X) (used : ℕ) (f : FormFault) → SoFar (λ x. text_of (seen x)) (λ x. IsY (seen x)) text before after used → framed least most read (drop used text) ≡ Err f → (values : List X) × (after ≡ before ++ values) × Begins least most read (λ x. text_of (seen x)) (λ x. IsY (seen x)) text values (Err f)
   faults text before after used f s e = (s.values, s.added, (drop used text, s.whole, s.each, e))
 
 -- ---- one reading
@@ -136,25 +137,59 @@ joined rest_text text more left after xs ys e k =
     ap (λ (t : List ℕ). t ++ more) e ∙ append_assoc (flat_map (spelled rest_text) xs) left more ∙ ap (λ (t : List ℕ). flat_map (spelled rest_text) xs ++ t) k
     ∙ sym (append_assoc (flat_map (spelled rest_text) xs) (flat_map (spelled rest_text) ys) after) ∙ ap (λ (t : List ℕ). t ++ after) (sym (flat_map-append (spelled rest_text) xs ys))
 
-pub pieces_join_up : {X : Type 0} (least most : ℕ) (read : List ℕ → Result X FormFault) (rest_text : X → List ℕ) (IsValue : X → Type 0) (text more left : List ℕ) (xs ys : List X) (r : Result (List ℕ) FormFault) → Begins least most read rest_text IsValue text xs (Ok left) → Begins least most read rest_text IsValue (left ++ more) ys r → Begins least most read rest_text IsValue (text ++ more) (xs ++ ys) r
+pub pieces_join_up : {X Y : Type 0} (least most : ℕ) (read : List ℕ → Result Y FormFault) (rest_text : X → List ℕ) (IsValue : X → Type 0) (text more left : List ℕ) (xs ys : List X) (r : Result (List ℕ) FormFault) → Begins least most read rest_text IsValue text xs (Ok left) → Begins least most read rest_text IsValue (left ++ more) ys r → Begins least most read rest_text IsValue (text ++ more) (xs ++ ys) r
 pieces_join_up least most read rest_text IsValue text more left xs ys (Ok after) h k = (joined rest_text text more left after xs ys h.0 k.0, each_both IsValue xs ys h.1 k.1, k.2)
 pieces_join_up least most read rest_text IsValue text more left xs ys (Err f) h k = (k.0, joined rest_text text more left k.0 xs ys h.0 k.1, each_both IsValue xs ys h.1 k.2, k.3)
 
 -- what is read up to a fault is read so, whatever follows
-pub fault_behind : {X : Type 0} (least most : ℕ) (read : List ℕ → Result X FormFault) (rest_text : X → List ℕ) (IsValue : X → Type 0) (text more : List ℕ) (xs : List X) (f : FormFault) → Begins least most read rest_text IsValue text xs (Err f) → Begins least most read rest_text IsValue (text ++ more) xs (Err f)
+pub fault_behind : {X Y : Type 0} (least most : ℕ) (read : List ℕ → Result Y FormFault) (rest_text : X → List ℕ) (IsValue : X → Type 0) (text more : List ℕ) (xs : List X) (f : FormFault) → Begins least most read rest_text IsValue text xs (Err f) → Begins least most read rest_text IsValue (text ++ more) xs (Err f)
 fault_behind least most read rest_text IsValue text more xs f h = (h.0 ++ more, ap (λ (t : List ℕ). t ++ more) h.1 ∙ append_assoc (flat_map (spelled rest_text) xs) h.0 more, h.2, fault_stays least most read h.0 more f h.3)
 
-module _ {X : Type 0} (least most : ℕ) (read : List ℕ → Result X FormFault) (rest_text : X → List ℕ) (IsValue : X → Type 0) (format : IsFormat least most read rest_text IsValue) where
+module _ {X Y : Type 0} (seen : X → Y) (least most : ℕ) (read : List ℕ → Result Y FormFault) (text_of : Y → List ℕ) (IsY : Y → Type 0) (format : IsFormat least most read text_of IsY) where
   -- of one frame, as its length says, nothing is left
-  pub whole_leaves_nothing : (text left : List ℕ) (xs : List X) → IsWhole text → Begins least most read rest_text IsValue text xs (Ok left) → left ≡ []
+  pub whole_leaves_nothing : (text left : List ℕ) (xs : List X) → IsWhole text → Begins least most read (λ x. text_of (seen x)) (λ x. IsY (seen x)) text xs (Ok left) → left ≡ []
+  unfolding spelled
   whole_leaves_nothing text left [] whole (is, each, inl few) = let same : length text ≡ length left = ap length is in absurd (omega (arith, same, few, whole.0))
   whole_leaves_nothing text left [] whole (is, each, inr p) =
       let same : length text ≡ length left = ap length is in
       let len : len_of text ≡ len_of left = ap len_of is in
       absurd (omega (arith, same, len, p.2, whole.1))
   whole_leaves_nothing text left (x ∷ xs) whole h =
-      let parts : text ≡ spelled rest_text x ++ (flat_map (spelled rest_text) xs ++ left) = h.0 ∙ ap (λ (t : List ℕ). t ++ left) (flat_map-cons (spelled rest_text) x xs) ∙ append_assoc (spelled rest_text x) (flat_map (spelled rest_text) xs) left in
-      let len = spelled_len least most read rest_text IsValue format x (flat_map (spelled rest_text) xs ++ left) h.1.0 in
-      let all : length text ≡ length (spelled rest_text x) + length (flat_map (spelled rest_text) xs ++ left) = ap length parts ∙ length-append (spelled rest_text x) (flat_map (spelled rest_text) xs ++ left) in
-      let own : len_of text ≡ len_of (spelled rest_text x ++ (flat_map (spelled rest_text) xs ++ left)) = ap len_of parts in
-      nil_from_length left (omega (arith, len, all, own, whole.1, length-append (flat_map (spelled rest_text) xs) left))
+      let parts : text ≡ spelled (λ x. text_of (seen x)) x ++ (flat_map (spelled (λ x. text_of (seen x))) xs ++ left) = h.0 ∙ ap (λ (t : List ℕ). t ++ left) (flat_map-cons (spelled (λ x. text_of (seen x))) x xs) ∙ append_assoc (spelled (λ x. text_of (seen x)) x) (flat_map (spelled (λ x. text_of (seen x))) xs) left in
+      let len = spelled_len least most read text_of IsY format (seen x) (flat_map (spelled (λ x. text_of (seen x))) xs ++ left) h.1.0 in
+      let all : length text ≡ length (spelled (λ x. text_of (seen x)) x) + length (flat_map (spelled (λ x. text_of (seen x))) xs ++ left) = ap length parts ∙ length-append (spelled (λ x. text_of (seen x)) x) (flat_map (spelled (λ x. text_of (seen x))) xs ++ left) in
+      let own : len_of text ≡ len_of (spelled (λ x. text_of (seen x)) x ++ (flat_map (spelled (λ x. text_of (seen x))) xs ++ left)) = ap len_of parts in
+      nil_from_length left (omega (arith, len, all, own, whole.1, length-append (flat_map (spelled (λ x. text_of (seen x))) xs) left))
+
+  -- behind one frame, the second part of a piece is read alone
+  pub whole_first : (before middle after : List X) (rest piece first second text left : List ℕ) (fault : Option FormFault) (r : Result (List ℕ) FormFault) → first ++ second ≡ piece → text ≡ rest ++ first → is_some fault ≡ false → IsWhole text
+      → AddsValues least most read (λ x. text_of (seen x)) (λ x. IsY (seen x)) before middle text (held left fault) → AddsValues least most read (λ x. text_of (seen x)) (λ x. IsY (seen x)) middle after second r → AddsValues least most read (λ x. text_of (seen x)) (λ x. IsY (seen x)) before after (rest ++ piece) r
+  whole_first before middle after rest piece first second text left (Some f) r whole is none one h k = absurd cc
+  whole_first before middle after rest piece first second text left None r whole is none one h k =
+      let text-is : text ++ second ≡ rest ++ piece = ap (λ (t : List ℕ). t ++ second) is ∙ append_assoc rest first second ∙ ap (λ (t : List ℕ). rest ++ t) whole in
+      let nothing : left ≡ [] = whole_leaves_nothing text left h.0 one h.2 in
+      let front : Begins least most read (λ x. text_of (seen x)) (λ x. IsY (seen x)) text h.0 (Ok []) = subst (λ (l : List ℕ). Begins least most read (λ x. text_of (seen x)) (λ x. IsY (seen x)) text h.0 (Ok l)) nothing h.2 in
+      let added : after ≡ before ++ (h.0 ++ k.0) = k.1 ∙ ap (λ (t : List X). t ++ k.0) h.1 ∙ append_assoc before h.0 k.0 in
+      (h.0 ++ k.0, added, subst (λ (t : List ℕ). Begins least most read (λ x. text_of (seen x)) (λ x. IsY (seen x)) t (h.0 ++ k.0) r) text-is (pieces_join_up least most read (λ x. text_of (seen x)) (λ x. IsY (seen x)) text second [] h.0 k.0 r front k.2))
+
+-- up to a fault, the second part of a piece adds nothing
+pub fault_first : {X Y : Type 0} (least most : ℕ) (read : List ℕ → Result Y FormFault) (rest_text : X → List ℕ) (IsValue : X → Type 0) (before after : List X) (rest piece first second text left kept_ : List ℕ) (fault : Option FormFault) → first ++ second ≡ piece → text ≡ rest ++ first → is_some fault ≡ true
+    → AddsValues least most read rest_text IsValue before after text (held left fault) → AddsValues least most read rest_text IsValue before after (rest ++ piece) (held kept_ fault)
+fault_first least most read rest_text IsValue before after rest piece first second text left kept_ None whole is some h = absurd cc
+fault_first least most read rest_text IsValue before after rest piece first second text left kept_ (Some f) whole is some h =
+    let text-is : text ++ second ≡ rest ++ piece = ap (λ (t : List ℕ). t ++ second) is ∙ append_assoc rest first second ∙ ap (λ (t : List ℕ). rest ++ t) whole in
+    (h.0, h.1, subst (λ (t : List ℕ). Begins least most read rest_text IsValue t h.0 (Err f)) text-is (fault_behind least most read rest_text IsValue text second h.0 f h.2))
+
+-- the bytes from a place on, as a slice has them
+abbrev pub from_place : ℕ → List ℕ → List ℕ
+from_place used text = take (length text - used) (drop used text)
+
+module _ {X Y : Type 0} (seen : X → Y) (least most : ℕ) (read : List ℕ → Result Y FormFault) (text_of : Y → List ℕ) (IsY : Y → Type 0) (format : IsFormat least most read text_of IsY) where
+  pub value_more : (text : List ℕ) (before after : List X) (used : ℕ) (x : X) (n : ℕ) → IsBytes text → SoFar (λ x. text_of (seen x)) (λ x. IsY (seen x)) text before after used → framed least most read (from_place used text) ≡ Ok (Some (seen x, n)) → OneMore (λ x. text_of (seen x)) (λ x. IsY (seen x)) text before (after ++ x ∷ []) used n
+  value_more text before after used x n bytes s e = one_more seen least most read text_of IsY format text before after used x n bytes s (ap (framed least most read) (sym (tail_is used text)) ∙ e)
+
+  pub values_stop : (text : List ℕ) (before after : List X) (used : ℕ) → SoFar (λ x. text_of (seen x)) (λ x. IsY (seen x)) text before after used → framed least most read (from_place used text) ≡ Ok None → AddsValues least most read (λ x. text_of (seen x)) (λ x. IsY (seen x)) before after text (Ok (drop used text))
+  values_stop text before after used s e = stops seen least most read text_of IsY format text before after used s (ap (framed least most read) (sym (tail_is used text)) ∙ e)
+
+  pub values_fault : (text : List ℕ) (before after : List X) (used : ℕ) (f : FormFault) → SoFar (λ x. text_of (seen x)) (λ x. IsY (seen x)) text before after used → framed least most read (from_place used text) ≡ Err f → AddsValues least most read (λ x. text_of (seen x)) (λ x. IsY (seen x)) before after text (Err f)
+  values_fault text before after used f s e = faults seen least most read text_of IsY format text before after used f s (ap (framed least most read) (sym (tail_is used text)) ∙ e)

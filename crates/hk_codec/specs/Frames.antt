@@ -1,13 +1,13 @@
 -- Frames of items, one after the other on a stream.
-use Rattle.std.specs.Prelude.{◌≡◌, ℕ, ◌⊎◌, List, [], ◌∷◌, ◌++◌, Option, Some, None, Result, Ok, Err}
+use Rattle.std.specs.Prelude.{◌≡◌, ℕ, ◌⊎◌, List, ◌++◌, Option, Result, Ok, Err}
 use Rattle.std.specs.Global.{Vec}
 use Rattle.std.specs.List.{flat_map, AllByRecursion}
 use Rattle.hk_types.specs.declared.faults.FormFault.{FormFault}
-use Rattle.hk_types.specs.declared.faults.FormFault.TheVariants.{Truncated}
 use Rattle.hk_types.specs.declared.faults.Refusal.{Refusal}
 use Rattle.hk_types.specs.declared.faults.Refusal.TheVariants as refusals
 use Rattle.hk_log.specs.declared.item.Item.{Item}
 use Rattle.hk_codec.specs.Framing.{framed, spelled, Begins}
+pub use Rattle.hk_codec.specs.Framing.{held, answer, last_answer}
 use Rattle.hk_codec.specs.Spelling.{rest_text, IsItem}
 use Rattle.hk_codec.specs.Reading.{item_at}
 
@@ -29,22 +29,6 @@ Reads text items left = Begins 28 4229152 item_at rest_text IsItem text items le
 -- what is added to a list where this text is read so far
 abbrev pub Adds : List Item → List Item → List ℕ → Result (List ℕ) FormFault → Type 0
 Adds before after text left = (items : List Item) × (after ≡ before ++ items) × Reads text items left
-
--- what a feeder holds: less than a frame, or the fault that it met
-abbrev pub held : List ℕ → Option FormFault → Result (List ℕ) FormFault
-held left None = Ok left
-held left (Some fault) = Err fault
-
--- what a feeder with this state answers
-abbrev pub answer : Result (List ℕ) FormFault → Result (Unit {0}) Refusal
-answer (Ok left) = Ok tt
-answer (Err fault) = Err (refusals.Form fault)
-
--- what it answers at the end: what is left is then cut off
-abbrev pub last_answer : Result (List ℕ) FormFault → Result (Unit {0}) Refusal
-last_answer (Ok []) = Ok tt
-last_answer (Ok (b ∷ left)) = Err (refusals.Form Truncated)
-last_answer (Err fault) = Err (refusals.Form fault)
 
 -- All of the text is the spellings of the items. Where it isn't, there is a fault after the spellings
 -- that the text begins with, or it ends inside a frame.

@@ -1,10 +1,12 @@
 -- Frames of values of any kind: a length of four bytes, and then as many bytes, the rest.
-use Rattle.std.specs.Prelude.{◌≡◌, ℕ, ◌+◌, ◌<◌, ◌≤◌, ◌⊎◌, nat_lt, if◌then◌else◌, List, ◌++◌, length, take, drop, Option, Some, None, Result, Ok, Err}
+use Rattle.std.specs.Prelude.{◌≡◌, ℕ, ◌+◌, ◌^◌, ◌<◌, ◌≤◌, ◌⊎◌, nat_lt, if◌then◌else◌, List, [], ◌∷◌, ◌++◌, length, take, drop, Option, Some, None, Result, Ok, Err}
 use Rattle.std.specs.List.{flat_map, AllByRecursion}
 use Rattle.std.specs.Int.{w32, from_be_bytes}
 use Rattle.hk_types.specs.declared.faults.FormFault.{FormFault}
-use Rattle.hk_types.specs.declared.faults.FormFault.TheVariants.{TooLong, WrongLength}
-use Rattle.hk_codec.specs.Fields.{number, ◌>>=◌}
+use Rattle.hk_types.specs.declared.faults.FormFault.TheVariants.{TooLong, WrongLength, Truncated}
+use Rattle.hk_types.specs.declared.faults.Refusal.{Refusal}
+use Rattle.hk_types.specs.declared.faults.Refusal.TheVariants as refusals
+use Rattle.hk_codec.specs.Fields.{IsBytes, number, ◌>>=◌}
 
 -- the length field
 abbrev pub len_of : List ℕ → ℕ
@@ -41,9 +43,37 @@ IsWhole bytes = (4 ≤ length bytes) × (length bytes ≡ 4 + len_of bytes)
 unfoldable pub spelled : {X : Type 0} → (X → List ℕ) → X → List ℕ
 spelled rest_text x = number w32 (length (rest_text x)) ++ rest_text x
 
--- For values that `rest_text` spells where they are `IsValue`, and that `read` reads, in rests of at least
--- `least` and at most `most` bytes: the text begins with the spellings of these values. After them comes
+-- For values that `rest_text` spells where they are `IsValue`, and as what `read` sees them, in rests of at
+-- least `least` and at most `most` bytes: the text begins with the spellings of these values. After them comes
 -- less than a frame, which is left, or bytes with this fault.
-abbrev pub Begins : {X : Type 0} → ℕ → ℕ → (List ℕ → Result X FormFault) → (X → List ℕ) → (X → Type 0) → List ℕ → List X → Result (List ℕ) FormFault → Type 0
+abbrev pub Begins : {X Y : Type 0} → ℕ → ℕ → (List ℕ → Result Y FormFault) → (X → List ℕ) → (X → Type 0) → List ℕ → List X → Result (List ℕ) FormFault → Type 0
 Begins least most read rest_text IsValue text values (Ok left) = (text ≡ flat_map (spelled rest_text) values ++ left) × AllByRecursion IsValue values × IsPartial least most left
 Begins least most read rest_text IsValue text values (Err fault) = (left : List ℕ) × (text ≡ flat_map (spelled rest_text) values ++ left) × AllByRecursion IsValue values × (framed least most read left ≡ Err fault)
+
+-- what is added to a list of values where this text is read so far
+abbrev pub AddsValues : {X Y : Type 0} → ℕ → ℕ → (List ℕ → Result Y FormFault) → (X → List ℕ) → (X → Type 0) → List X → List X → List ℕ → Result (List ℕ) FormFault → Type 0
+AddsValues {X} least most read rest_text IsValue before after text left = (values : List X) × (after ≡ before ++ values) × Begins least most read rest_text IsValue text values left
+
+-- reading and spelling of a rest undo each other, and the rest of each value is in its limits
+pub record IsFormat {X : Type 0} (least most : ℕ) (read : List ℕ → Result X FormFault) (rest_text : X → List ℕ) (IsValue : X → Type 0) : Type 0 where
+  pub takes : (bytes : List ℕ) (x : X) → IsBytes bytes → length bytes ≤ most → read bytes ≡ Ok x → (bytes ≡ rest_text x) × IsValue x
+  pub again : (x : X) → IsValue x → read (rest_text x) ≡ Ok x
+  pub at_least : (x : X) → IsValue x → least ≤ length (rest_text x)
+  pub at_most : (x : X) → IsValue x → length (rest_text x) ≤ most
+  pub in_width : most < 2 ^ 32
+
+-- what a feeder holds: less than a frame, or the fault that it met
+abbrev pub held : List ℕ → Option FormFault → Result (List ℕ) FormFault
+held left None = Ok left
+held left (Some fault) = Err fault
+
+-- what a feeder with this state answers
+abbrev pub answer : Result (List ℕ) FormFault → Result (Unit {0}) Refusal
+answer (Ok left) = Ok tt
+answer (Err fault) = Err (refusals.Form fault)
+
+-- what it answers at the end: what is left is then cut off
+abbrev pub last_answer : Result (List ℕ) FormFault → Result (Unit {0}) Refusal
+last_answer (Ok []) = Ok tt
+last_answer (Ok (b ∷ left)) = Err (refusals.Form Truncated)
+last_answer (Err fault) = Err (refusals.Form fault)

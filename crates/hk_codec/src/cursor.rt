@@ -83,6 +83,13 @@ impl<'a> Cursor<'a> {
         self.rest.is_empty()
     }
 
+    /// The bytes that are left.
+    pub fn rest(&self) -> &'a [u8]
+        ensures { result.now ≡ self.now }
+    {
+        self.rest
+    }
+
     /// Reads so many bytes. Where fewer are left the fault is a wrong length, and nothing is read.
     #[tactic(auto, unfolding(crate::specs::Fields::bytes_at))]
     pub fn bytes(&mut self, count: usize) -> Result<&'a [u8], FormFault>

@@ -134,8 +134,19 @@ fn put_rest(out: &mut Vec<u8>, item: &Item) -> Result<(), AllocError>
     }
 }
 
+/// How many bytes an item's spelling has. The cost grows with the number of its rows.
+#[tactic(auto, using(crate::proofs::Lengths::spelling_len))]
+pub fn frame_len(item: &Item) -> u32
+    ensures len { result ≡ length (spelling item.now) }
+    ensures bound { result ≤ 4229156 }
+{
+    4 + rest_len(item)
+}
+
+/// Adds the item's spelling at the end, as `encode` does. The only error is want of memory; what was there
+/// before is then still the front.
 #[tactic(auto, using(std::proofs::Common::append_assoc, crate::proofs::Prefix::kept_all, crate::proofs::Prefix::kept_before, crate::proofs::Prefix::kept_both), unfolding(crate::specs::Framing::spelled))]
-fn put_frame(out: &mut Vec<u8>, item: &Item) -> Result<(), AllocError>
+pub fn put_frame(out: &mut Vec<u8>, item: &Item) -> Result<(), AllocError>
     ensures ok { OnOk result (out.new.items ≡ out.old.items ++ spelling item.now) }
     ensures kept { OnErr result (take (length out.old.items) out.new.items ≡ out.old.items) }
 {

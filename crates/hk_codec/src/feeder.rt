@@ -1,12 +1,12 @@
-//! A stream of frames that comes in pieces.
+//! A stream of items that comes in pieces.
 
-ghost use Rattle.std.specs.Prelude.{◌≡◌, ◌≤◌, ◌++◌, ◌⊎◌, List, [], ℕ, length, take, drop, IfOk, OnOk, OnErr};
+ghost use Rattle.std.specs.Prelude.{◌≡◌, ◌≤◌, ◌++◌, ◌⊎◌, List, [], ℕ, length, drop, IfOk};
 ghost use Rattle.hk_types.specs.declared.faults.FormFault.{FormFault};
 ghost use Rattle.hk_types.specs.declared.faults.Refusal.TheVariants as refusals;
-ghost use Rattle.hk_codec.specs.Framing.{IsWhole};
 ghost use Rattle.hk_codec.specs.Frames.{Adds, Decodes, held, answer, last_answer};
 
-use crate::frames::{LENGTH_BYTES, length_of, take_frames};
+use crate::frame_feeder::FrameFeeder;
+use crate::frames::{Progress, take_frames};
 use hk_log::Item;
 use hk_types::{FormFault, Refusal};
 use std::alloc::{AllocError, Global};
@@ -16,19 +16,16 @@ use std::marker::Model;
 /// it met.
 #[derive(Debug, Drop)]
 pub struct Feeder {
-    alloc: Global,
-    rest: Vec<u8>,
-    fault: Option<FormFault>,
+    frames: FrameFeeder,
 }
 
 impl Model for Feeder {
     ghost use Rattle.std.specs.Prelude.{List, ℕ, Result};
     ghost use Rattle.hk_types.specs.declared.faults.FormFault.{FormFault};
-    ghost use Rattle.hk_codec.specs.Frames.{held};
 
     ghost Value = { Result (List ℕ) FormFault };
 
-    ghost view = { λ a. held a.rest.items a.fault };
+    ghost view = { λ a. a.frames };
 }
 
 impl Feeder {
@@ -37,9 +34,7 @@ impl Feeder {
         ensures { result ≡ Ok [] }
     {
         Feeder {
-            alloc,
-            rest: Vec::new(alloc),
-            fault: None,
+            frames: FrameFeeder::new(alloc),
         }
     }
 
@@ -55,26 +50,7 @@ impl Feeder {
         // Where memory runs out nothing changes.
         ensures memory { result ≡ Err refusals.Memory → (self.new ≡ self.old) × (out.new.items ≡ out.old.items) }
     {
-        if let Some(fault) = self.fault {
-            return Err(Refusal::Form(fault));
-        }
-        let count = out.len();
-        let fed = if self.rest.is_empty() {
-            fresh_frames(self.alloc, &mut self.rest, piece, out)
-        } else {
-            more_frames(self.alloc, &mut self.rest, piece, out)
-        };
-        match fed {
-            Ok(None) => Ok(()),
-            Ok(Some(fault)) => {
-                self.fault = Some(fault);
-                Err(Refusal::Form(fault))
-            }
-            Err(_) => {
-                out.truncate(count);
-                Err(Refusal::Memory)
-            }
-        }
+        self.frames.feed(piece, out)
     }
 
     /// Ends the stream: the fault that was met, else `Truncated` where bytes are held, since they are cut
@@ -82,115 +58,16 @@ impl Feeder {
     pub fn finish(self) -> Result<(), Refusal>
         ensures { result ≡ last_answer self }
     {
-        if let Some(fault) = self.fault {
-            return Err(Refusal::Form(fault));
-        }
-        if !self.rest.is_empty() {
-            return Err(Refusal::Form(FormFault::Truncated));
-        }
-        Ok(())
+        self.frames.finish()
     }
 }
 
-/// Adds the items of a piece that nothing was held before, and holds what is left of it.
-fn fresh_frames(
-    alloc: Global,
-    rest: &mut Vec<u8>,
-    piece: &[u8],
-    out: &mut Vec<Item>,
-) -> Result<Option<FormFault>, AllocError>
-    requires { rest.old.items ≡ [] }
-    ensures read { IfOk result (λ fault. Adds out.old.items out.new.items piece.now (held rest.new.items fault)) }
-    ensures kept { OnErr result (take (length out.old.items) out.new.items ≡ out.old.items) }
-    ensures err { OnErr result (rest.new.items ≡ rest.old.items) }
+/// Adds the items of the whole frames that the bytes begin with. The only error is want of memory.
+fn take_items(alloc: Global, bytes: &[u8], out: &mut Vec<Item>) -> Result<Progress, AllocError>
+    ensures used { IfOk result (λ p. p.used ≤ length bytes.now) }
+    ensures read { IfOk result (λ p. Adds out.old.items out.new.items bytes.now (held (drop p.used bytes.now) p.fault)) }
 {
-    let progress = take_frames(alloc, piece, out)?;
-    rest.extend_from_slice(&piece[progress.used..])?;
-    Ok(progress.fault)
-}
-
-/// Adds the items of what is held and the piece behind it, and holds what is left of them.
-fn more_frames(
-    alloc: Global,
-    rest: &mut Vec<u8>,
-    piece: &[u8],
-    out: &mut Vec<Item>,
-) -> Result<Option<FormFault>, AllocError>
-    ensures read { IfOk result (λ fault. Adds out.old.items out.new.items (rest.old.items ++ piece.now) (held rest.new.items fault)) }
-    ensures kept { OnErr result (take (length out.old.items) out.new.items ≡ out.old.items) }
-    ensures err { OnErr result (rest.new.items ≡ rest.old.items) }
-{
-    let before = rest.len();
-    let fed = topped_frames(alloc, rest, piece, out);
-    if fed.is_err() {
-        rest.truncate(before);
-    }
-    fed
-}
-
-/// As `more_frames`, but where memory runs out what was held may have bytes of the piece behind it. Only
-/// those bytes of the piece are copied that the held frame lacks, and those that are left.
-fn topped_frames(
-    alloc: Global,
-    rest: &mut Vec<u8>,
-    piece: &[u8],
-    out: &mut Vec<Item>,
-) -> Result<Option<FormFault>, AllocError>
-    ensures read { IfOk result (λ fault. Adds out.old.items out.new.items (rest.old.items ++ piece.now) (held rest.new.items fault)) }
-    ensures kept { OnErr result (take (length out.old.items) out.new.items ≡ out.old.items) }
-    ensures front { OnErr result (take (length rest.old.items) rest.new.items ≡ rest.old.items) }
-{
-    let (first, second) = piece.split_at(lacking(rest, piece));
-    rest.extend_from_slice(first)?;
-    let progress = take_frames(alloc, rest, out)?;
-    if progress.fault.is_some() {
-        return Ok(progress.fault);
-    }
-    if second.is_empty() {
-        drop_front(rest, progress.used);
-        return Ok(None);
-    }
-    let behind = take_frames(alloc, second, out)?;
-    replace(rest, &second[behind.used..])?;
-    Ok(behind.fault)
-}
-
-/// How many bytes of the piece go behind the held ones: those that the held frame lacks, where the piece
-/// has more and the frame's length is held, else all.
-fn lacking(rest: &[u8], piece: &[u8]) -> usize
-    ensures within { result ≤ length piece.now }
-    ensures whole { (result ≡ length piece.now) ⊎ IsWhole (rest.now ++ take result piece.now) }
-{
-    if rest.len() < LENGTH_BYTES {
-        return piece.len();
-    }
-    let whole = LENGTH_BYTES + length_of(rest);
-    match whole.checked_sub(rest.len()) {
-        Some(count) if count < piece.len() => count,
-        _ => piece.len(),
-    }
-}
-
-/// Holds these bytes in the place of what was held, which stays where memory runs out.
-fn replace(rest: &mut Vec<u8>, left: &[u8]) -> Result<(), AllocError>
-    ensures ok { OnOk result (rest.new.items ≡ left.now) }
-    ensures err { OnErr result (rest.new.items ≡ rest.old.items) }
-{
-    rest.reserve(left.len())?;
-    rest.clear();
-    rest.extend_from_slice(left)
-}
-
-/// Drops the bytes before a place. Where there are none, nothing is moved.
-fn drop_front(bytes: &mut Vec<u8>, used: usize)
-    requires { used ≤ length bytes.old.items }
-    ensures { bytes.new.items ≡ drop used bytes.old.items }
-{
-    if used > 0 {
-        let left = bytes.len() - used;
-        bytes.copy_within(used.., 0);
-        bytes.truncate(left);
-    }
+    take_frames(alloc, bytes, out)
 }
 
 /// The items whose spellings, one after another, are all of the bytes. Else the fault of what follows the
@@ -200,7 +77,7 @@ pub fn decode_all(alloc: Global, bytes: &[u8]) -> Result<Vec<Item>, Refusal>
     ensures { Decodes bytes.now result }
 {
     let mut items = Vec::new(alloc);
-    let progress = take_frames(alloc, bytes, &mut items)?;
+    let progress = take_items(alloc, bytes, &mut items)?;
     if let Some(fault) = progress.fault {
         return Err(Refusal::Form(fault));
     }

@@ -1,26 +1,17 @@
 //! Frames on a stream.
 
 ghost use Rattle.std.specs.Prelude.{◌≡◌, ◌≤◌, ◌<◌, ◌^◌, length, take, drop, IfOk, OnErr};
-ghost use Rattle.std.specs.Option.{option_copied};
+ghost use Rattle.std.specs.Option.{option_copied, option_map};
 ghost use Rattle.hk_codec.specs.Fields.{Gives, GivesOrRunsOut};
-ghost use Rattle.hk_codec.specs.Framing.{len_of, rest_at};
-ghost use Rattle.hk_codec.specs.Frames.{frame_at, Adds, held};
+ghost use Rattle.hk_codec.specs.Framing.{len_of, rest_at, framed, AddsValues, IsFormat, held};
 
 use crate::cursor::ReadError;
-use crate::reading::read_item;
-use hk_log::Item;
+use crate::framed::Framed;
 use hk_types::FormFault;
 use std::alloc::{AllocError, Global};
 
 /// The bytes of the length field.
 pub(crate) const LENGTH_BYTES: usize = 4;
-
-/// The most bytes that the rest of an item's frame has: an entry of 1,024 ends and 1,024 rows with full
-/// bodies.
-const MOST_REST_BYTES: usize = 4_229_152;
-
-/// The least: a mark's.
-const LEAST_REST_BYTES: usize = 28;
 
 /// The length field at the front.
 pub(crate) fn length_of(bytes: &[u8]) -> usize
@@ -55,16 +46,16 @@ pub fn frame_rest(bytes: &[u8], least: usize, most: usize) -> Result<Option<&[u8
     Ok(Some(&bytes[LENGTH_BYTES..LENGTH_BYTES + len]))
 }
 
-/// The item at the front and how many bytes its frame has, or `None` where a whole frame isn't there.
+/// The value at the front and how many bytes its frame has, or `None` where a whole frame isn't there.
 #[tactic(auto, unfolding(crate::specs::Framing::framed))]
-pub(crate) fn next_frame(alloc: Global, bytes: &[u8]) -> Result<Option<(Item, usize)>, ReadError>
-    ensures { GivesOrRunsOut (λ x. x) result (frame_at bytes.now) }
+pub fn next_frame<T: Framed>(alloc: Global, bytes: &[u8]) -> Result<Option<(T, usize)>, ReadError>
+    ensures { GivesOrRunsOut (option_map (λ x. (T.seen x.0, x.1))) result (framed T.LEAST_BYTES T.MOST_BYTES T.read bytes.now) }
 {
-    match frame_rest(bytes, LEAST_REST_BYTES, MOST_REST_BYTES)? {
+    match frame_rest(bytes, T::LEAST_BYTES, T::MOST_BYTES)? {
         None => Ok(None),
         Some(rest) => {
-            let item = read_item(alloc, rest)?;
-            Ok(Some((item, LENGTH_BYTES + rest.len())))
+            let value = T::read_rest(alloc, rest)?;
+            Ok(Some((value, LENGTH_BYTES + rest.len())))
         }
     }
 }
@@ -76,21 +67,22 @@ pub(crate) struct Progress {
     pub(crate) fault: Option<FormFault>,
 }
 
-/// Adds the items of the whole frames that the bytes begin with. The only error is want of memory.
-pub(crate) fn take_frames(
+/// Adds the values of the whole frames that the bytes begin with. The only error is want of memory.
+pub(crate) fn take_frames<T: Framed>(
     alloc: Global,
     bytes: &[u8],
-    out: &mut Vec<Item>,
+    out: &mut Vec<T>,
 ) -> Result<Progress, AllocError>
+    requires { IsFormat T.LEAST_BYTES T.MOST_BYTES T.read T.rest_text T.IsTold }
     ensures used { IfOk result (λ p. p.used ≤ length bytes.now) }
-    ensures read { IfOk result (λ p. Adds out.old.items out.new.items bytes.now (held (drop p.used bytes.now) p.fault)) }
+    ensures read { IfOk result (λ p. AddsValues T.LEAST_BYTES T.MOST_BYTES T.read (λ x. T.rest_text (T.seen x)) (λ x. T.IsTold (T.seen x)) out.old.items out.new.items bytes.now (held (drop p.used bytes.now) p.fault)) }
     ensures kept { OnErr result (take (length out.old.items) out.new.items ≡ out.old.items) }
 {
     let mut used = 0;
     'frames: loop {
-        match next_frame(alloc, &bytes[used..]) {
-            Ok(Some((item, len))) => {
-                out.push(item)?;
+        match next_frame::<T>(alloc, &bytes[used..]) {
+            Ok(Some((value, len))) => {
+                out.push(value)?;
                 used += len;
             }
             Ok(None) => return Ok(Progress { used, fault: None }),

@@ -4,6 +4,7 @@ ghost use Rattle.hk_codec.specs.Fields.{IsBytes, Gives, GivesOrRunsOut};
 ghost use Rattle.hk_codec.specs.Reading as spec;
 
 use crate::cursor::{Cursor, ReadError};
+use crate::framed::Framed;
 use crate::lists::{read_ends, read_rows};
 use hk_log::{Entry, Item, MOST_WRITES, Mark};
 use hk_types::{FormFault, Key, Row, StreamNo, Table, Time, VersionKey};
@@ -140,4 +141,33 @@ pub(crate) fn read_item(alloc: Global, rest: &[u8]) -> Result<Item, ReadError>
         return Err(ReadError::Fault(FormFault::WrongLength));
     }
     Ok(item)
+}
+
+/// The least rest is a mark's. The greatest is that of an entry with 1,024 ends and 1,024 rows of full bodies.
+impl Framed for Item {
+    ghost use Rattle.hk_log.specs.declared.item.Item.{Item};
+    ghost use Rattle.hk_codec.specs.Spelling.{rest_text, IsItem};
+    ghost use Rattle.hk_codec.specs.Reading.{item_at};
+
+    ghost LEAST_BYTES = { 28 };
+
+    ghost MOST_BYTES = { 4229152 };
+
+    ghost Told = { Item };
+
+    ghost seen = { λ x. x };
+
+    ghost read = { item_at };
+
+    ghost rest_text = { rest_text };
+
+    ghost IsTold = { IsItem };
+
+    const LEAST_BYTES: usize = 28;
+
+    const MOST_BYTES: usize = 4_229_152;
+
+    fn read_rest(alloc: Global, rest: &[u8]) -> Result<Item, ReadError> {
+        read_item(alloc, rest)
+    }
 }

@@ -6,17 +6,9 @@ use Rattle.std.proofs.lemmas.List.{take-append-le, drop-append-le, take_at, take
 use Rattle.hk_types.specs.declared.faults.FormFault.{FormFault}
 use Rattle.hk_types.specs.declared.faults.FormFault.TheVariants.{TooLong, WrongLength}
 use Rattle.hk_codec.specs.Fields.{IsBytes, ◌>>=◌, number, number_at}
-use Rattle.hk_codec.specs.Framing.{len_of, rest_at, value_of, framed, spelled, IsPartial}
+use Rattle.hk_codec.specs.Framing.{len_of, rest_at, value_of, framed, spelled, IsPartial, IsFormat}
 use Rattle.hk_codec.proofs.Steps.{IsBytes-take, IsBytes-drop, bind_ok, done, ok_is}
 use Rattle.hk_codec.proofs.Numbers.{wide32, number_takes, number_again, number_len}
-
--- reading and spelling of a rest undo each other, and the rest of each value is in its limits
-pub record IsFormat {X : Type 0} (least most : ℕ) (read : List ℕ → Result X FormFault) (rest_text : X → List ℕ) (IsValue : X → Type 0) : Type 0 where
-  pub takes : (bytes : List ℕ) (x : X) → IsBytes bytes → read bytes ≡ Ok x → (bytes ≡ rest_text x) × IsValue x
-  pub again : (x : X) → IsValue x → read (rest_text x) ≡ Ok x
-  pub at_least : (x : X) → IsValue x → least ≤ length (rest_text x)
-  pub at_most : (x : X) → IsValue x → length (rest_text x) ≤ most
-  pub in_width : most < 2 ^ 32
 
 -- ---- the rest
 
@@ -60,6 +52,7 @@ has_rest least most bytes rest h = rw (h.four, h.at_most, h.at_least, h.long, h.
 pub record RestIs (bytes rest : List ℕ) : Type 0 where
   pub parts : bytes ≡ (number w32 (length rest) ++ rest) ++ drop (4 + length rest) bytes
   pub fits : 4 + length rest ≤ length bytes
+  pub len : length rest ≡ len_of bytes
   pub bytes_fit : IsBytes rest
 
 rest_takes : (least most : ℕ) (bytes rest : List ℕ) → IsBytes bytes → HasRest least most bytes rest → RestIs bytes rest
@@ -76,6 +69,7 @@ rest_takes least most bytes rest fits h =
     let made : RestIs bytes (take (len_of bytes) (drop 4 bytes)) = record {
       parts = subst (λ (k : ℕ). bytes ≡ (number w32 k ++ take (len_of bytes) (drop 4 bytes)) ++ drop (4 + k) bytes) (sym len) whole;
       fits = omega (arith, long, len);
+      len = len;
       bytes_fit = IsBytes-take (len_of bytes) (drop 4 bytes) (IsBytes-drop 4 bytes fits);
     } in
     subst (λ (r : List ℕ). RestIs bytes r) h.is made
@@ -107,8 +101,10 @@ module _ {X : Type 0} (least most : ℕ) (read : List ℕ → Result X FormFault
       let a = bind_ok (rest_at least most bytes) (value_of read) (Some (x, n)) e in
       let b = some_rest read a.0 (x, n) a.2 in
       let there : rest_at least most bytes ≡ Ok (Some b.0) = a.1 ∙ ap maybe b.1 in
-      let r = rest_takes least most bytes b.0 fits (rest_is least most bytes b.0 there) in
-      let v = format.takes b.0 x r.bytes_fit b.2 in
+      let has = rest_is least most bytes b.0 there in
+      let r = rest_takes least most bytes b.0 fits has in
+      let within : len_of bytes ≤ most = ltb-false _ _ has.at_most in
+      let v = format.takes b.0 x r.bytes_fit (omega (arith, r.len, within)) b.2 in
       let whole : bytes ≡ (number w32 (length b.0) ++ b.0) ++ drop n bytes = subst (λ (k : ℕ). bytes ≡ (number w32 (length b.0) ++ b.0) ++ drop k bytes) b.3 r.parts in
       record {
         parts = subst (λ (t : List ℕ). bytes ≡ (number w32 (length t) ++ t) ++ drop n bytes) v.0 whole;

@@ -1,0 +1,197 @@
+//! A stream of frames that comes in pieces.
+
+ghost use Rattle.std.specs.Prelude.{◌≡◌, ◌≤◌, ◌++◌, ◌⊎◌, List, [], ℕ, length, take, drop, IfOk, OnOk, OnErr};
+ghost use Rattle.hk_types.specs.declared.faults.FormFault.{FormFault};
+ghost use Rattle.hk_types.specs.declared.faults.Refusal.TheVariants as refusals;
+ghost use Rattle.hk_codec.specs.Framing.{IsWhole, IsFormat, AddsValues, held, answer, last_answer};
+
+use crate::framed::Framed;
+use crate::frames::{LENGTH_BYTES, length_of, take_frames};
+use hk_types::{FormFault, Refusal};
+use std::alloc::{AllocError, Global};
+use std::marker::Model;
+
+/// Reads values from a stream of frames that comes in pieces. It holds less than a frame, or the fault that
+/// it met.
+#[derive(Debug, Drop)]
+pub struct FrameFeeder {
+    alloc: Global,
+    rest: Vec<u8>,
+    fault: Option<FormFault>,
+}
+
+impl Model for FrameFeeder {
+    ghost use Rattle.std.specs.Prelude.{List, ℕ, Result};
+    ghost use Rattle.hk_types.specs.declared.faults.FormFault.{FormFault};
+    ghost use Rattle.hk_codec.specs.Framing.{held};
+
+    ghost Value = { Result (List ℕ) FormFault };
+
+    ghost view = { λ a. held a.rest.items a.fault };
+}
+
+impl FrameFeeder {
+    /// A feeder at the start of a stream. It allocates nothing yet.
+    pub fn new(alloc: Global) -> FrameFeeder
+        ensures { result ≡ Ok [] }
+    {
+        FrameFeeder {
+            alloc,
+            rest: Vec::new(alloc),
+            fault: None,
+        }
+    }
+
+    /// Takes the next piece of the stream, and adds the values of the frames that are whole now. A fault is
+    /// answered once the bytes have it, after the values before it, and then for ever. Where memory runs
+    /// out, which is `Memory`, the feeder and the list are as before. The cost is one pass over the
+    /// frames that are whole now, and one copy of the bytes that are left.
+    pub fn feed<T: Framed>(&mut self, piece: &[u8], out: &mut Vec<T>) -> Result<(), Refusal>
+        requires { IsFormat T.LEAST_BYTES T.MOST_BYTES T.read T.rest_text T.IsTold }
+        // What is held and the piece begin with the spellings of the added values. What follows them is held.
+        ensures reads { (rest : List ℕ) → self.old ≡ Ok rest → (result ≡ Err refusals.Memory) ⊎ ((result ≡ answer self.new) × AddsValues T.LEAST_BYTES T.MOST_BYTES T.read (λ x. T.rest_text (T.seen x)) (λ x. T.IsTold (T.seen x)) out.old.items out.new.items (rest ++ piece.now) self.new) }
+        // A fault stays.
+        ensures fault { (f : FormFault) → self.old ≡ Err f → (result ≡ Err (refusals.Form f)) × (self.new ≡ Err f) × (out.new.items ≡ out.old.items) }
+        // Where memory runs out nothing changes.
+        ensures memory { result ≡ Err refusals.Memory → (self.new ≡ self.old) × (out.new.items ≡ out.old.items) }
+    {
+        if let Some(fault) = self.fault {
+            return Err(Refusal::Form(fault));
+        }
+        let count = out.len();
+        let fed = if self.rest.is_empty() {
+            fresh_frames(self.alloc, &mut self.rest, piece, out)
+        } else {
+            more_frames(self.alloc, &mut self.rest, piece, out)
+        };
+        match fed {
+            Ok(None) => Ok(()),
+            Ok(Some(fault)) => {
+                self.fault = Some(fault);
+                Err(Refusal::Form(fault))
+            }
+            Err(_) => {
+                out.truncate(count);
+                Err(Refusal::Memory)
+            }
+        }
+    }
+
+    /// Ends the stream: the fault that was met, else `Truncated` where bytes are held, since they are cut
+    /// off.
+    pub fn finish(self) -> Result<(), Refusal>
+        ensures { result ≡ last_answer self }
+    {
+        if let Some(fault) = self.fault {
+            return Err(Refusal::Form(fault));
+        }
+        if !self.rest.is_empty() {
+            return Err(Refusal::Form(FormFault::Truncated));
+        }
+        Ok(())
+    }
+}
+
+/// Adds the values of a piece that nothing was held before, and holds what is left of it.
+fn fresh_frames<T: Framed>(
+    alloc: Global,
+    rest: &mut Vec<u8>,
+    piece: &[u8],
+    out: &mut Vec<T>,
+) -> Result<Option<FormFault>, AllocError>
+    requires format { IsFormat T.LEAST_BYTES T.MOST_BYTES T.read T.rest_text T.IsTold }
+    requires empty { rest.old.items ≡ [] }
+    ensures read { IfOk result (λ fault. AddsValues T.LEAST_BYTES T.MOST_BYTES T.read (λ x. T.rest_text (T.seen x)) (λ x. T.IsTold (T.seen x)) out.old.items out.new.items piece.now (held rest.new.items fault)) }
+    ensures kept { OnErr result (take (length out.old.items) out.new.items ≡ out.old.items) }
+    ensures err { OnErr result (rest.new.items ≡ rest.old.items) }
+{
+    let progress = take_frames(alloc, piece, out)?;
+    rest.extend_from_slice(&piece[progress.used..])?;
+    Ok(progress.fault)
+}
+
+/// Adds the values of what is held and the piece behind it, and holds what is left of them.
+fn more_frames<T: Framed>(
+    alloc: Global,
+    rest: &mut Vec<u8>,
+    piece: &[u8],
+    out: &mut Vec<T>,
+) -> Result<Option<FormFault>, AllocError>
+    requires { IsFormat T.LEAST_BYTES T.MOST_BYTES T.read T.rest_text T.IsTold }
+    ensures read { IfOk result (λ fault. AddsValues T.LEAST_BYTES T.MOST_BYTES T.read (λ x. T.rest_text (T.seen x)) (λ x. T.IsTold (T.seen x)) out.old.items out.new.items (rest.old.items ++ piece.now) (held rest.new.items fault)) }
+    ensures kept { OnErr result (take (length out.old.items) out.new.items ≡ out.old.items) }
+    ensures err { OnErr result (rest.new.items ≡ rest.old.items) }
+{
+    let before = rest.len();
+    let fed = topped_frames(alloc, rest, piece, out);
+    if fed.is_err() {
+        rest.truncate(before);
+    }
+    fed
+}
+
+/// As `more_frames`, but where memory runs out what was held may have bytes of the piece behind it. Only
+/// those bytes of the piece are copied that the held frame lacks, and those that are left.
+fn topped_frames<T: Framed>(
+    alloc: Global,
+    rest: &mut Vec<u8>,
+    piece: &[u8],
+    out: &mut Vec<T>,
+) -> Result<Option<FormFault>, AllocError>
+    requires { IsFormat T.LEAST_BYTES T.MOST_BYTES T.read T.rest_text T.IsTold }
+    ensures read { IfOk result (λ fault. AddsValues T.LEAST_BYTES T.MOST_BYTES T.read (λ x. T.rest_text (T.seen x)) (λ x. T.IsTold (T.seen x)) out.old.items out.new.items (rest.old.items ++ piece.now) (held rest.new.items fault)) }
+    ensures kept { OnErr result (take (length out.old.items) out.new.items ≡ out.old.items) }
+    ensures front { OnErr result (take (length rest.old.items) rest.new.items ≡ rest.old.items) }
+{
+    let (first, second) = piece.split_at(lacking(rest, piece));
+    rest.extend_from_slice(first)?;
+    let progress = take_frames(alloc, rest, out)?;
+    if progress.fault.is_some() {
+        return Ok(progress.fault);
+    }
+    if second.is_empty() {
+        drop_front(rest, progress.used);
+        return Ok(None);
+    }
+    let behind = take_frames(alloc, second, out)?;
+    replace(rest, &second[behind.used..])?;
+    Ok(behind.fault)
+}
+
+/// How many bytes of the piece go behind the held ones: those that the held frame lacks, where the piece
+/// has more and the frame's length is held, else all.
+fn lacking(rest: &[u8], piece: &[u8]) -> usize
+    ensures within { result ≤ length piece.now }
+    ensures whole { (result ≡ length piece.now) ⊎ IsWhole (rest.now ++ take result piece.now) }
+{
+    if rest.len() < LENGTH_BYTES {
+        return piece.len();
+    }
+    let whole = LENGTH_BYTES + length_of(rest);
+    match whole.checked_sub(rest.len()) {
+        Some(count) if count < piece.len() => count,
+        _ => piece.len(),
+    }
+}
+
+/// Holds these bytes in the place of what was held, which stays where memory runs out.
+fn replace(rest: &mut Vec<u8>, left: &[u8]) -> Result<(), AllocError>
+    ensures ok { OnOk result (rest.new.items ≡ left.now) }
+    ensures err { OnErr result (rest.new.items ≡ rest.old.items) }
+{
+    rest.reserve(left.len())?;
+    rest.clear();
+    rest.extend_from_slice(left)
+}
+
+/// Drops the bytes before a place. Where there are none, nothing is moved.
+fn drop_front(bytes: &mut Vec<u8>, used: usize)
+    requires { used ≤ length bytes.old.items }
+    ensures { bytes.new.items ≡ drop used bytes.old.items }
+{
+    if used > 0 {
+        let left = bytes.len() - used;
+        bytes.copy_within(used.., 0);
+        bytes.truncate(left);
+    }
+}

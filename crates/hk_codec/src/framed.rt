@@ -1,0 +1,44 @@
+//! Values that stand in frames.
+
+use crate::cursor::ReadError;
+use hk_types::FormFault;
+use std::alloc::Global;
+
+/// A value that stands in a frame: a length of four bytes, the high one first, and then as many bytes, the
+/// rest, which spell the value.
+pub trait Framed: Drop {
+    ghost use Rattle.std.specs.Prelude.{ℕ, List, Result};
+    ghost use Rattle.hk_types.specs.declared.faults.FormFault.{FormFault};
+    ghost use Rattle.hk_codec.specs.Fields.{GivesOrRunsOut};
+
+    /// The fewest bytes of a rest.
+    ghost LEAST_BYTES: { ℕ };
+
+    /// The most.
+    ghost MOST_BYTES: { ℕ };
+
+    /// What the bytes tell of a value.
+    ghost Told: { Type 0 };
+
+    /// What is told by the bytes that spell a value.
+    ghost seen: { Self → Told };
+
+    /// What a rest tells, or its first fault.
+    ghost read: { List ℕ → Result Told FormFault };
+
+    /// The bytes that tell this.
+    ghost rest_text: { Told → List ℕ };
+
+    /// What can be told.
+    ghost IsTold: { Told → Type 0 };
+
+    /// The fewest bytes of a rest.
+    const LEAST_BYTES: usize;
+
+    /// The most bytes of a rest.
+    const MOST_BYTES: usize;
+
+    /// The value that is all of the rest, or its first fault; `Memory` where memory runs out.
+    fn read_rest(alloc: Global, rest: &[u8]) -> Result<Self, ReadError>
+        ensures { GivesOrRunsOut seen result (read rest.now) };
+}
