@@ -97,7 +97,7 @@ some_fact tables f (Remove t n ∷ ws) few all =
 
 -- ---- born times
 
-put_time : (config : ConfigValue) (h : List Transaction) → IsHistory config h → (k : RowKey) → is_some (finmap.get (tables_of h) k) ≡ true → 0 < last_put h k
+pub put_time : (config : ConfigValue) (h : List Transaction) → IsHistory config h → (k : RowKey) → is_some (finmap.get (tables_of h) k) ≡ true → 0 < last_put h k
 put_time config h is k there = by (finmap.get (tables_of h) k) refl there
   where
     by : (x : Option RowValue) → finmap.get (tables_of h) k ≡ x → is_some x ≡ true → 0 < last_put h k
@@ -121,7 +121,7 @@ born_times time f there (k ∷ ks) within =
 
 -- ---- numbers
 
-few_entries : (config : ConfigValue) (h : List Transaction) → IsHistory config h → (s : ℕ) → entries_in h s ≤ last h
+pub few_entries : (config : ConfigValue) (h : List Transaction) → IsHistory config h → (s : ℕ) → entries_in h s ≤ last h
 few_entries config [] is s = omega arith
 few_entries config (t ∷ earlier) is s =
     let rest = few_entries config earlier is.1 s in
@@ -169,7 +169,7 @@ counts_formed : (ends rows : ℕ) → ends ≤ 1024 → rows ≤ 1024 → 0 < en
 counts_formed ends rows few_ends few_rows some =
     and_from (nat_lt ends 1025 && nat_lt rows 1025) (nat_lt 0 (ends + rows)) (and_from (nat_lt ends 1025) (nat_lt rows 1025) (lt-ltb ends 1025 (omega arith)) (lt-ltb rows 1025 (omega arith))) (lt-ltb 0 (ends + rows) some)
 
-entry_formed : (config : ConfigValue) (earlier : List Transaction) (t : Transaction) → config.log < 2 ^ 64 → config.streams ≤ 64 → IsHistory config earlier → Follows config earlier t → IsEntry (entry_of config earlier t)
+pub entry_formed : (config : ConfigValue) (earlier : List Transaction) (t : Transaction) → config.log < 2 ^ 64 → config.streams ≤ 64 → IsHistory config earlier → Follows config earlier t → IsEntry (entry_of config earlier t)
 entry_formed config earlier t log streams is f =
     let above = f.stream_above in
     let within = f.stream_within in
