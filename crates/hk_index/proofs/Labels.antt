@@ -1,14 +1,18 @@
 -- What versions that are stored by label tell of the set of tagged versions.
-use Rattle.std.proofs.Common.{◌≡◌, refl, sym, ap, subst, ◌∙◌, ℕ, Bool, true, false, cond, not, Option, Some, None, List, [], ◌∷◌, map, ◌||◌, ◌&&◌, ◌==◌, Less, Equal, Greater, is_eq, nat_cmp, arith, eqb-true, eq-eqb, true≢false, Result, Ok, Err, OnOk, OnErr}
+use Rattle.std.proofs.Common.{◌≡◌, refl, sym, ap, subst, ◌∙◌, ℕ, Bool, true, false, cond, not, Option, Some, None, List, [], ◌∷◌, ◌++◌, map, ◌||◌, ◌&&◌, ◌==◌, Less, Equal, Greater, is_eq, nat_cmp, arith, eqb-true, eq-eqb, true≢false, Result, Ok, Err, OnOk, OnErr}
 use Rattle.std.proofs.lemmas.Bool.Decides.{nat_tests}
 use Rattle.std.proofs.lemmas.Bool.{and_parts, and_from}
 use Rattle.std.proofs.lemmas.List.Folds.{list_any-append}
 use Rattle.std.specs.List.{list_any, IsDistinct, AllByRecursion}
 use Rattle.std.specs.List.Sorted.{IsStrictlySortedBy}
-use Rattle.std.specs.Map.{keys_of, lookup}
+use Rattle.std.specs.Map.{keys_of, lookup, update_all}
 use Rattle.std.specs.Ordering.{eq_by_cmp, ordering_then}
-use Rattle.std.specs.Cmp.{IsTotalOrder, then_total, on_total, nat_cmp_total, Equal-is, tied_itself}
+use Rattle.std.specs.Cmp.{IsTotalOrder, IsEquivalence, then_total, on_total, nat_cmp_total, Equal-is, tied_itself}
 use Rattle.std.specs.HashMap.{HashMap}
+use Rattle.std.specs.HashMap as hash
+use Rattle.std.proofs.lemmas.Map.{update_all_push}
+use Rattle.std.proofs.lemmas.Map.Made.{update_all_none}
+use Rattle.std.proofs.lemmas.List.{map_push}
 use Rattle.std.specs.declared.hash.BuildHasherDefault.{BuildHasherDefault}
 use Rattle.std.specs.declared.hash.FoldHasher.{FoldHasher}
 use Rattle.std.specs.FinMap as finmap
@@ -399,3 +403,30 @@ Lists-same vs s u is lists = record { same = lists.same ∙ is; rising = lists.r
 pub Lists-empty : (vs : List VersionKey) (u : set.FinSet version_key_cmp) → vs ≡ [] → set.empty ≡ u → Lists vs u
 unfolding IsStrictlySortedBy
 Lists-empty vs u is none = record { same = ap set.from_list is ∙ none; rising = subst (IsStrictlySortedBy version_key_cmp) (sym is) tt }
+
+-- ---- a copy
+
+pub label_equiv : IsEquivalence label_eq
+label_equiv = record { refl = label_itself; symm = λ a b. swap a.table b.table a.tag b.tag; congr = λ a b c e. ap (λ l. label_eq l c) (same_label a b e) }
+  where
+    swap : (a b s t : ℕ) → ((a == b) && (s == t)) ≡ ((b == a) && (t == s))
+    swap a b s t = grind (arith, nat_tests)
+
+-- one more label
+pub copy_more : {A : Type 0} (shows : A → Label × set.FinSet version_key_cmp) (m n : LabelMap) (xs : List A) (x : A) (k : Label) (v : set.FinSet version_key_cmp) → (k, v) ≡ shows x → ((q : Label) → hash.get label_eq m q ≡ update_all label_eq (λ _. None) (map shows xs) q) → hash.Updates label_eq m n k (Some v)
+    → (q : Label) → hash.get label_eq n q ≡ update_all label_eq (λ _. None) (map shows (xs ++ x ∷ [])) q
+copy_more shows m n xs x k v is before u q =
+    u.0 q
+    ∙ update_all_push label_eq (λ _. None) (hash.get label_eq m) (map shows xs) (k, v) q (before q)
+    ∙ ap (λ e. update_all label_eq (λ _. None) (map shows xs ++ e ∷ []) q) is
+    ∙ ap (λ es. update_all label_eq (λ _. None) es q) (sym (map_push shows xs x))
+
+-- all of them
+pub copied_all : (m n : LabelMap) (es : List (Label × set.FinSet version_key_cmp)) → AreLabelled m.entries → es ≡ m.entries → ((q : Label) → hash.get label_eq n q ≡ update_all label_eq (λ _. None) es q) → (q : Label) → lookup (label_eq q) n.entries ≡ lookup (label_eq q) m.entries
+copied_all m n es are is each q = each q ∙ ap (λ fs. update_all label_eq (λ _. None) fs q) is ∙ update_all_none label_equiv label_eq (λ x y. refl) m.entries q are.unique
+
+pub copied_labelled : (es fs : List (Label × set.FinSet version_key_cmp)) → AreLabelled es → IsDistinct label_eq (keys_of fs) → ((q : Label) → lookup (label_eq q) fs ≡ lookup (label_eq q) es) → AreLabelled fs
+copied_labelled es fs are unique same = record { unique = unique; tables = λ k versions e. are.tables k versions (sym (same k) ∙ e) }
+
+pub copied_seen : (es fs : List (Label × set.FinSet version_key_cmp)) → AreLabelled es → AreLabelled fs → ((q : Label) → lookup (label_eq q) fs ≡ lookup (label_eq q) es) → tagged_seen fs ≡ tagged_seen es
+copied_seen es fs are too same = set.same_set tagged_total tagged_same _ _ (λ t. contains-tagged_seen fs too t ∙ ap (λ o. holds o t.version) (same (label_of t)) ∙ sym (contains-tagged_seen es are t))

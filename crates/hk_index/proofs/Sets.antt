@@ -30,6 +30,12 @@ tied_swap = (eq_by_cmp_equiv version_key_total).symm
 pub tied_versions : (v q : VersionKey) → eq_by_cmp version_key_cmp v q ≡ true → v ≡ q
 tied_versions v q e = version_key_same v q ((Equal-is (version_key_cmp v q)).0 e)
 
+pub seen-listed : (vs : List VersionKey) (t : BTreeSet VersionKey) → sorted.IsFromIterResult version_key_cmp vs t → seen t ≡ set.from_list vs
+seen-listed vs t is = set.same_set version_key_total version_key_same _ _ (λ q. contains-seen t q ∙ is.0 q ∙ sym (set.contains-from_list version_key_total vs q))
+
+pub same-copied : (s t : BTreeSet VersionKey) → sorted.IsFromIterResult version_key_cmp s.keys t → seen t ≡ seen s
+same-copied s t is = set.same_set version_key_total version_key_same _ _ (λ q. contains-seen t q ∙ is.0 q ∙ sym (contains-seen s q))
+
 pub seen-insert : (s t : BTreeSet VersionKey) (v : VersionKey) → sorted.Updates version_key_cmp s t v true → seen t ≡ set.insert (seen s) v
 seen-insert s t v u = set.same_set version_key_total version_key_same _ _ (λ q.
     contains-seen t q ∙ u.0 q ∙ either (eq_by_cmp version_key_cmp v q) (sorted.contains version_key_cmp s q)

@@ -4,6 +4,8 @@ ghost use Rattle.std.specs.Prelude.{◌≡◌, ◌↔◌, IsTrue, filter, IfOk, 
 ghost use Rattle.std.specs.FinSet as set;
 ghost use Rattle.hk_types.specs.declared.faults.Refusal.TheVariants.{Memory};
 ghost use Rattle.std.specs.BTreeSet as sorted;
+ghost use Rattle.std.specs.Map.Iter.{ShowsInOrder, deref};
+ghost use Rattle.hk_types.specs.declared.version_key.VersionKey.{VersionKey};
 ghost use Rattle.std.specs.List.{take_while};
 ghost use Rattle.std.specs.Ordering.{is_le};
 ghost use Rattle.hk_model.specs.Rows.{version_key_cmp};
@@ -12,6 +14,7 @@ ghost use Rattle.hk_index.specs.Listed.{Lists, is_up_to, with_keys};
 use hk_types::{Key, Refusal, Table, Time, VersionKey};
 use std::alloc::{AllocError, Global};
 use std::collections::BTreeSet;
+use std::collections::btree_set::Iter;
 use std::marker::Model;
 
 /// A set of version keys, in the order of table, key and born.
@@ -131,4 +134,49 @@ impl KeyIndex {
         let versions = self.versions.iter().copied().collect(alloc)?;
         Ok(versions)
     }
+
+    /// The versions one by one, in rising order. It takes no memory.
+    pub fn iter(&self) -> Iter<'_, VersionKey>
+        ensures lists { Lists result self.now }
+        ensures runs { ShowsInOrder (deref {X = VersionKey}) }
+    {
+        self.versions.iter()
+    }
+
+    /// The set of these versions.
+    ///
+    /// The only refusal is `Memory`. The cost grows a little faster than the list.
+    pub fn of(alloc: Global, versions: &[VersionKey]) -> Result<KeyIndex, Refusal>
+        ensures ok { IfOk result (λ index. index ≡ set.from_list versions.now) }
+        ensures err { IfErr result (λ why. why ≡ Memory) }
+    {
+        let versions = set_of(alloc, versions)?;
+        Ok(KeyIndex { versions })
+    }
+
+    /// The same set again.
+    ///
+    /// The only refusal is `Memory`. The cost grows a little faster than the set.
+    pub fn copy(&self, alloc: Global) -> Result<KeyIndex, Refusal>
+        ensures ok { IfOk result (λ index. index ≡ self.now) }
+        ensures err { IfErr result (λ why. why ≡ Memory) }
+    {
+        let versions = copy_of(alloc, &self.versions)?;
+        Ok(KeyIndex { versions })
+    }
+}
+
+fn set_of(alloc: Global, versions: &[VersionKey]) -> Result<BTreeSet<VersionKey>, AllocError>
+    ensures { IfOk result (λ set. sorted.IsFromIterResult version_key_cmp versions.now set) }
+{
+    versions.iter().copied().collect(alloc)
+}
+
+fn copy_of(
+    alloc: Global,
+    versions: &BTreeSet<VersionKey>,
+) -> Result<BTreeSet<VersionKey>, AllocError>
+    ensures { IfOk result (λ copy. sorted.IsFromIterResult version_key_cmp versions.now.keys copy) }
+{
+    versions.iter().copied().collect(alloc)
 }

@@ -1,6 +1,6 @@
 //! The index of versions by tag.
 
-ghost use Rattle.std.specs.Prelude.{◌≡◌, None, IfOk, IfErr, OnErr, OnOk};
+ghost use Rattle.std.specs.Prelude.{◌≡◌, Some, None, IfOk, IfErr, OnErr, OnOk};
 ghost use Rattle.std.specs.FinSet as set;
 ghost use Rattle.std.specs.HashMap as hash;
 ghost use Rattle.hk_types.specs.declared.faults.Refusal.TheVariants.{Memory};
@@ -10,7 +10,7 @@ ghost use Rattle.hk_index.specs.Tagged.{label_eq, with_tag};
 use crate::key_index::KeyIndex;
 use crate::label::Label;
 use hk_types::{Refusal, Table, Tag, VersionKey};
-use std::alloc::Global;
+use std::alloc::{AllocError, Global};
 use std::collections::HashMap;
 use std::marker::Model;
 
@@ -109,4 +109,30 @@ impl TagIndex {
             None => Ok(Vec::new(alloc)),
         }
     }
+
+    /// The same set again.
+    ///
+    /// The only refusal is `Memory`. The cost grows a little faster than the set.
+    pub fn copy(&self, alloc: Global) -> Result<TagIndex, Refusal>
+        ensures ok { IfOk result (λ index. index ≡ self.now) }
+        ensures err { IfErr result (λ why. why ≡ Memory) }
+    {
+        let mut labels = HashMap::with_capacity(alloc, self.labels.len())?;
+        for (label, versions) in &self.labels {
+            insert(&mut labels, *label, versions.copy(alloc)?)?;
+        }
+        Ok(TagIndex { labels, alloc })
+    }
+}
+
+fn insert(
+    labels: &mut HashMap<Label, KeyIndex>,
+    label: Label,
+    versions: KeyIndex,
+) -> Result<(), AllocError>
+    ensures ok { OnOk result (hash.Updates label_eq labels.old labels.new label (Some versions)) }
+    ensures unique { hash.IsUnique label_eq labels.new }
+{
+    labels.insert(label, versions)?;
+    Ok(())
 }

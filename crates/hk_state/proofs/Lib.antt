@@ -13,3 +13,5 @@ pub mod Reading
 pub mod Counting
 pub mod Pruning
 pub mod Standing
+pub mod Replacing
+pub mod Walking

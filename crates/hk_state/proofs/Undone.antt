@@ -138,3 +138,10 @@ add_more g m now new xs i x is below before one =
     ∙ ap (λ n. added n (g x).0 (g x).1) before
     ∙ union_push m (map g (take i xs)) (g x).0 (g x).1
     ∙ ap (λ es. union m (finmap.from_entries es)) (sym (ap (map g) (take_more xs i x below ∙ ap (λ y. take i xs ++ y ∷ []) (sym is)) ∙ map_push g (take i xs) x))
+
+pub add_one : {X : Type 0} (m now new : finmap.FinMap version_key_cmp X) (es : List (VersionKey × X)) (i : ℕ) (e : VersionKey × X) → e ≡ get_or es i e → i < length es → now ≡ union m (finmap.from_entries (take i es)) → new ≡ added now e.0 e.1 → new ≡ union m (finmap.from_entries (take (i + 1) es))
+add_one m now new es i e is below before one =
+    one
+    ∙ ap (λ n. added n e.0 e.1) before
+    ∙ union_push m (take i es) e.0 e.1
+    ∙ ap (λ fs. union m (finmap.from_entries fs)) (sym (take_more es i e below ∙ ap (λ y. take i es ++ y ∷ []) (sym is)))

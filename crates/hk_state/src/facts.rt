@@ -24,9 +24,9 @@ use std::marker::Model;
 /// key those of which a row or an end is known.
 #[derive(Drop)]
 pub struct Facts {
-    tables: Tables,
-    tags: TagIndex,
-    keys: KeyIndex,
+    pub(crate) tables: Tables,
+    pub(crate) tags: TagIndex,
+    pub(crate) keys: KeyIndex,
 }
 
 impl Model for Facts {

@@ -15,7 +15,7 @@ use hk_log::Entry;
 use hk_types::{Key, Refusal, Row, Table, Time, VersionKey};
 use std::alloc::AllocError;
 
-fn note(
+pub(crate) fn note(
     journal: &mut Vec<(VersionKey, Part)>,
     version: &VersionKey,
     part: Part,

@@ -2,6 +2,8 @@
 #![tactic(auto)]
 
 mod absorb;
+mod apply;
+mod copy;
 mod disputes;
 mod drops;
 mod facts;
@@ -10,7 +12,9 @@ mod prune;
 mod reads;
 mod replica;
 mod tables;
+mod versions;
 
+pub use apply::Change;
 pub use facts::Facts;
 pub use prune::front_of;
 pub use replica::ReplicaState;

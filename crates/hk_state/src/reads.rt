@@ -10,7 +10,7 @@ ghost use Rattle.hk_model.specs.Answers.{visible, rows_where};
 ghost use Rattle.hk_facts.specs.Chains.{latest_at, picked};
 ghost use Rattle.hk_state.specs.Indexed.{is_tagged};
 ghost use Rattle.hk_state.specs.Facts.{known_at};
-ghost use Rattle.hk_state.specs.Reads.{facts_of_content, row_shown};
+ghost use Rattle.hk_state.specs.Reads.{facts_of_content, with_facts, row_shown};
 
 use crate::facts::Facts;
 use crate::replica::ReplicaState;
@@ -51,17 +51,6 @@ impl ReplicaState {
         self.facts.keys()
     }
 
-    /// The row at a key of a table at a time. It takes no memory. The cost grows as the logarithm of the
-    /// number of facts.
-    pub fn row_at(&self, table: Table, key: Key, time: Time) -> Option<&Row>
-        ensures { option_copied result ≡ finmap.get (visible self.now time) (record { table = table; key = key }) }
-    {
-        match self.facts.chain(table, key) {
-            Some(chain) => chain.at(time),
-            None => None,
-        }
-    }
-
     /// How many rows of a table show at a time. It takes no memory. The cost grows as the number of keys of
     /// the table, each by the logarithm of its versions.
     pub fn count_at(&self, table: Table, time: Time) -> u64
@@ -69,13 +58,26 @@ impl ReplicaState {
     {
         self.facts.count_at(table, time)
     }
+}
+
+impl Facts {
+    /// The row at a key of a table at a time. It takes no memory. The cost grows as the logarithm of the
+    /// number of facts.
+    pub fn shown_at(&self, table: Table, key: Key, time: Time) -> Option<&Row>
+        ensures { option_copied result ≡ finmap.get (visible (with_facts self.now) time) (record { table = table; key = key }) }
+    {
+        match self.chain(table, key) {
+            Some(chain) => chain.at(time),
+            None => None,
+        }
+    }
 
     /// The row of a version, where the version shows at a time. It takes no memory. The cost grows as the
     /// logarithm of the number of facts.
     pub fn row_shown(&self, version: &VersionKey, time: Time) -> Option<&Row>
-        ensures { option_copied result ≡ row_shown self.now time version.now }
+        ensures { option_copied result ≡ row_shown (with_facts self.now) time version.now }
     {
-        match self.facts.chain(version.table, version.key) {
+        match self.chain(version.table, version.key) {
             Some(chain) => picked(chain, time, version.born),
             None => None,
         }

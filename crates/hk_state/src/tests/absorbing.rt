@@ -34,7 +34,7 @@ fn a_version_shows_until_it_ends(rt: HostRuntime) -> Result<(), Fail> {
     let mut state = empty_state(rt.alloc(), 1)?;
     play(rt.alloc(), &mut state, &[first(), second()])?;
     for (born, at, wanted) in [(1, 1, true), (1, 2, false), (2, 1, false), (2, 2, true)] {
-        let shown = state.row_shown(&version(5, born)?, time(at)?);
+        let shown = state.facts().row_shown(&version(5, born)?, time(at)?);
         assert_eq!(rt; shown.is_some(), wanted, "born at {born}, at {at}");
     }
     assert_eq!(rt; state.facts().end_at(&version(5, 1)?), Some(time(2)?));

@@ -179,7 +179,9 @@ pub(super) fn bytes(
 ) -> Result<Vec<u8>, Fail> {
     let mut shown = Vec::new(alloc);
     for (key, at) in places {
-        let row = state.row_at(Table::new(1), Key::new(*key), time(*at)?);
+        let row = state
+            .facts()
+            .shown_at(Table::new(1), Key::new(*key), time(*at)?);
         let byte = row.and_then(|row| row.body().first()).copied();
         shown.push(byte.unwrap_or(0))?;
     }

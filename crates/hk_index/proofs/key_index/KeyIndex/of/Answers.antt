@@ -1,0 +1,5 @@
+use Rattle.hk_index.proofs.Sets.{seen-listed}
+use Rattle.hk_index.proofs.key_index.KeyIndex.of.Goals as goal
+
+pub returns-clause-ok : goal.returns-clause-ok
+returns-clause-ok c = seen-listed c.args.versions.now c.in_ok-versions.versions c.in_ok-versions.ensures

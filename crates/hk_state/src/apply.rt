@@ -1,0 +1,211 @@
+//! Applying a change.
+
+ghost use Rattle.std.specs.Prelude.{◌≡◌, ◌||◌, length, OnOk, OnErr, IfErr};
+ghost use Rattle.std.specs.List.{list_any};
+ghost use Rattle.std.specs.FinMap as finmap;
+ghost use Rattle.std.specs.FinSet as set;
+ghost use Rattle.hk_types.specs.declared.faults.Refusal.TheVariants.{Memory};
+ghost use Rattle.hk_facts.specs.declared.fact.Fact.TheVariants.{Row as RowFact};
+ghost use Rattle.hk_model.specs.Maps.{union};
+ghost use Rattle.hk_model.specs.Lawful.{IsLawful};
+ghost use Rattle.hk_state.specs.Changes.{with_listed, replaced, meets, changed};
+ghost use Rattle.hk_state.specs.Facts.{FactsValue, with_fact_at};
+ghost use Rattle.hk_state.specs.Journal.{undone};
+
+use crate::facts::Facts;
+use crate::journal::note;
+use crate::replica::ReplicaState;
+use hk_facts::{Fact, Part};
+use hk_index::KeyIndex;
+use hk_marks::Got;
+use hk_types::{Refusal, Row, Time, VersionKey};
+use std::alloc::Global;
+
+/// What becomes of a state: the versions of which all goes first, the rows and ends that come then where none
+/// are known, and the horizon and the numbers and marks that it has after.
+#[derive(Drop)]
+pub struct Change {
+    /// The new horizon.
+    pub horizon: Time,
+    /// The versions whose row and end go first.
+    pub drops: Vec<VersionKey>,
+    /// The rows that come.
+    pub rows: Vec<(VersionKey, Row)>,
+    /// The ends that come.
+    pub ends: Vec<(VersionKey, Time)>,
+    /// The new numbers and marks of the streams.
+    pub got: Got,
+}
+
+impl ReplicaState {
+    /// The allocator that the state grows by.
+    pub fn allocator(&self) -> Global {
+        self.alloc
+    }
+
+    /// Applies a change, all of it or nothing.
+    ///
+    /// The only refusal is `Memory`, and it changes nothing. The cost grows as the length of the change
+    /// times the logarithm of what is held. Where a version that is dropped has a row or an end added, as
+    /// no log brings about that does not contradict itself, it grows with what is held.
+    pub fn apply(&mut self, change: Change) -> Result<(), Refusal>
+        requires lawful { IsLawful (changed self.old change) }
+        requires as_many { length change.got ≡ length self.old.streams }
+        ensures ok { OnOk result (self.new ≡ changed self.old change) }
+        ensures err { IfErr result (λ why. why ≡ Memory) }
+        ensures kept { OnErr result (self.new ≡ self.old) }
+    {
+        let Change {
+            horizon,
+            drops,
+            rows,
+            ends,
+            got,
+        } = change;
+        self.facts.replace(&drops, rows, &ends)?;
+        self.horizon = horizon;
+        self.got = got;
+        Ok(())
+    }
+}
+
+impl Facts {
+    /// Drops all that is known of some versions, and then adds rows and ends where none are known: all of
+    /// it or nothing. The only refusal is `Memory`.
+    pub(crate) fn replace(
+        &mut self,
+        drops: &[VersionKey],
+        rows: Vec<(VersionKey, Row)>,
+        ends: &[(VersionKey, Time)],
+    ) -> Result<(), Refusal>
+        ensures ok { OnOk result (self.new ≡ replaced self.old drops.now rows.items ends.now) }
+        ensures err { IfErr result (λ why. why ≡ Memory) }
+        ensures kept { OnErr result (self.new ≡ self.old) }
+    {
+        let dropped = KeyIndex::of(self.allocator(), drops)?;
+        if adds_to(&dropped, &rows, ends) {
+            return self.replace_on_a_copy(drops, rows, ends);
+        }
+        self.add_listed(rows, ends)?;
+        self.drop_all(drops);
+        Ok(())
+    }
+
+    /// Does so on a copy, which then takes the place of what was. Costs by the number of facts.
+    fn replace_on_a_copy(
+        &mut self,
+        drops: &[VersionKey],
+        rows: Vec<(VersionKey, Row)>,
+        ends: &[(VersionKey, Time)],
+    ) -> Result<(), Refusal>
+        ensures ok { OnOk result (self.new ≡ replaced self.old drops.now rows.items ends.now) }
+        ensures err { IfErr result (λ why. why ≡ Memory) }
+        ensures kept { OnErr result (self.new ≡ self.old) }
+    {
+        let mut facts = self.copy(self.allocator())?;
+        facts.drop_all(drops);
+        facts.add_listed(rows, ends)?;
+        *self = facts;
+        Ok(())
+    }
+
+    /// Adds rows and ends where none are known, all of them or none. The only refusal is `Memory`.
+    fn add_listed(
+        &mut self,
+        rows: Vec<(VersionKey, Row)>,
+        ends: &[(VersionKey, Time)],
+    ) -> Result<(), Refusal>
+        ensures ok { OnOk result (self.new ≡ with_listed self.old rows.items ends.now) }
+        ensures err { IfErr result (λ why. why ≡ Memory) }
+        ensures kept { OnErr result (self.new ≡ self.old) }
+    {
+        let mut journal = Vec::new(self.allocator());
+        if let Err(why) = self.add_noted(&mut journal, rows, ends) {
+            self.take_back(journal);
+            return Err(why);
+        }
+        Ok(())
+    }
+
+    /// Adds rows and ends where none are known, each named in the journal first.
+    fn add_noted(
+        &mut self,
+        journal: &mut Vec<(VersionKey, Part)>,
+        rows: Vec<(VersionKey, Row)>,
+        ends: &[(VersionKey, Time)],
+    ) -> Result<(), Refusal>
+        ensures ok { OnOk result (self.new ≡ with_listed self.old rows.items ends.now) }
+        ensures err { IfErr result (λ why. why ≡ Memory) }
+        ensures back { undone journal.new.items self.new ≡ undone journal.old.items self.old }
+    {
+        self.add_all_rows(journal, rows)?;
+        self.add_all_ends(journal, ends)
+    }
+
+    fn add_all_rows(
+        &mut self,
+        journal: &mut Vec<(VersionKey, Part)>,
+        rows: Vec<(VersionKey, Row)>,
+    ) -> Result<(), Refusal>
+        ensures ok { OnOk result (self.new ≡ record { rows = union self.old.rows (finmap.from_entries rows.items); ends = self.old.ends }) }
+        ensures err { IfErr result (λ why. why ≡ Memory) }
+        ensures back { undone journal.new.items self.new ≡ undone journal.old.items self.old }
+    {
+        for (version, row) in rows {
+            self.add_own_row(journal, &version, row)?;
+        }
+        Ok(())
+    }
+
+    fn add_all_ends(
+        &mut self,
+        journal: &mut Vec<(VersionKey, Part)>,
+        ends: &[(VersionKey, Time)],
+    ) -> Result<(), Refusal>
+        ensures ok { OnOk result (self.new ≡ record { rows = self.old.rows; ends = union self.old.ends (finmap.from_entries ends.now) }) }
+        ensures err { IfErr result (λ why. why ≡ Memory) }
+        ensures back { undone journal.new.items self.new ≡ undone journal.old.items self.old }
+    {
+        for (version, died) in ends {
+            self.add_end(journal, version, *died)?;
+        }
+        Ok(())
+    }
+
+    /// Adds a row where none is known, and names it in the journal first. The only refusal is `Memory`.
+    fn add_own_row(
+        &mut self,
+        journal: &mut Vec<(VersionKey, Part)>,
+        version: &VersionKey,
+        row: Row,
+    ) -> Result<(), Refusal>
+        ensures ok { OnOk result (self.new ≡ with_fact_at self.old version.now (RowFact row)) }
+        ensures err { IfErr result (λ why. why ≡ Memory) }
+        ensures back { undone journal.new.items self.new ≡ undone journal.old.items self.old }
+    {
+        if self.row_at(version).is_some() {
+            return Ok(());
+        }
+        note(journal, version, Part::Row)?;
+        self.put(version, Fact::Row(row))
+    }
+}
+
+/// Whether a row or an end is of one of these versions.
+fn adds_to(dropped: &KeyIndex, rows: &[(VersionKey, Row)], ends: &[(VersionKey, Time)]) -> bool
+    ensures { result ≡ (list_any (λ r. set.contains dropped.now r.0) rows.now || list_any (λ e. set.contains dropped.now e.0) ends.now) }
+{
+    adds_row_to(dropped, rows) || adds_end_to(dropped, ends)
+}
+
+fn adds_row_to(dropped: &KeyIndex, rows: &[(VersionKey, Row)]) -> bool
+    ensures { result ≡ list_any (λ r. set.contains dropped.now r.0) rows.now }
+{
+    rows.iter().any(|(version, _row)| dropped.has(*version))
+}
+
+fn adds_end_to(dropped: &KeyIndex, ends: &[(VersionKey, Time)]) -> bool
+    ensures { result ≡ list_any (λ e. set.contains dropped.now e.0) ends.now }
+{
+    ends.iter().any(|(version, _died)| dropped.has(*version))
+}

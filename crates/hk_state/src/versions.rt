@@ -1,0 +1,97 @@
+//! The versions of a state's facts, one by one.
+
+ghost use Rattle.std.specs.Prelude.{◌≡◌, ◌++◌, ◌∷◌, [], IfOk, OnOk, map};
+ghost use Rattle.std.specs.Option.{option_copied};
+ghost use Rattle.std.specs.List.{list_any};
+ghost use Rattle.std.specs.Map.Iter.{ShowsInOrder, deref};
+ghost use Rattle.hk_types.specs.declared.version_key.VersionKey.{VersionKey};
+ghost use Rattle.hk_model.specs.Rules.{disagree};
+ghost use Rattle.hk_state.specs.Facts.{known_at};
+ghost use Rattle.hk_state.specs.Reads.{with_facts};
+ghost use Rattle.hk_state.specs.Versions.{AreVersions, lent, differs_at, disagree_at};
+
+use crate::facts::Facts;
+use hk_log::Version;
+use hk_types::VersionKey;
+use std::alloc::{AllocError, Global};
+use std::collections::btree_set::Iter;
+
+impl Facts {
+    /// What is known of a version. The cost grows as the logarithm of the number of facts.
+    pub fn version(&self, version: &VersionKey) -> Option<&Version>
+        ensures { option_copied result ≡ known_at self.now version.now }
+    {
+        let chain = self.tables.chain(version.table, version.key)?;
+        chain.version(version.born)
+    }
+
+    /// All versions of which anything is known, in rising order. The only error is want of memory. The
+    /// cost grows a little faster than the number of facts.
+    pub fn versions(&self, alloc: Global) -> Result<Vec<(VersionKey, &Version)>, AllocError>
+        ensures { IfOk result (λ versions. AreVersions self.now (map lent versions.items)) }
+    {
+        let mut found = Vec::new(alloc);
+        for version in self.keys.iter() {
+            if let Some(known) = self.version(version) {
+                push_lent(&mut found, *version, known)?;
+            }
+        }
+        Ok(found)
+    }
+
+    /// Whether a version has another row, or another end, than this. It takes no memory. The cost grows as
+    /// the logarithm of the number of facts.
+    pub fn differs_at(&self, version: &VersionKey, known: &Version) -> bool
+        ensures { result ≡ differs_at self.now version.now known.now }
+    {
+        if let Some(died) = known.died()
+            && self.has_end_unlike(version, died)
+        {
+            return true;
+        }
+        match known.row() {
+            Some(row) => self.has_row_unlike(version, row),
+            None => false,
+        }
+    }
+
+    /// Whether some version has another row, or another end, here than there. It takes no memory. The cost
+    /// grows as the number of facts there times the logarithm of the number of facts.
+    pub fn disagrees(&self, other: &Facts) -> bool
+        ensures { result ≡ disagree (with_facts self.now) (with_facts other.now) }
+    {
+        self.disagrees_on(other, other.keys.iter())
+    }
+
+    /// Whether one of these versions has another row, or another end, here than there.
+    fn disagrees_on(&self, other: &Facts, versions: Iter<'_, VersionKey>) -> bool
+        requires { ShowsInOrder (deref {X = VersionKey}) }
+        ensures { result ≡ list_any (disagree_at self.now other.now) versions.entry }
+    {
+        let mut versions = versions;
+        versions.any(|version| self.disagrees_at(other, version))
+    }
+
+    /// Whether a version has another row, or another end, here than there.
+    fn disagrees_at(&self, other: &Facts, version: &VersionKey) -> bool
+        ensures { result ≡ disagree_at self.now other.now version.now }
+    {
+        match other.version(version) {
+            Some(known) => self.differs_at(version, known),
+            None => false,
+        }
+    }
+}
+
+fn push_lent<'a>(
+    found: &mut Vec<(VersionKey, &'a Version)>,
+    version: VersionKey,
+    known: &'a Version,
+) -> Result<(), AllocError>
+    ensures { OnOk result (map lent found.new.items ≡ map lent found.old.items ++ (version, known.now) ∷ []) }
+{
+    match found.push((version, known)) {
+        Ok(()) => Ok(()),
+        Err(_refused) => Err(AllocError),
+    }
+}
