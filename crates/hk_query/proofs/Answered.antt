@@ -1,6 +1,5 @@
 -- The rows that an index lists, and that show, are the rows of the answer.
-use Rattle.std.proofs.Common.{◌≡◌, refl, sym, ap, ◌∙◌, ℕ, Bool, true, false, cond, ◌||◌, ◌&&◌, ◌==◌, Option, Some, None, List, [], ◌∷◌, map, filter, filter_map, nat_le}
-use Rattle.std.proofs.lemmas.Bool.{and_parts, and_from}
+use Rattle.std.proofs.Common.{◌≡◌, refl, sym, ap, ◌∙◌, ℕ, Bool, true, false, cond, ◌||◌, ◌&&◌, ◌==◌, Option, Some, None, List, [], ◌∷◌, map, filter_map, nat_le}
 use Rattle.std.specs.List.{cons_option}
 use Rattle.std.specs.Option.{option_map, is_some}
 use Rattle.std.specs.FinMap as finmap
@@ -11,13 +10,12 @@ use Rattle.hk_model.specs.Rows.{RowKey, version_key_cmp, row_key_of}
 use Rattle.hk_model.specs.Content.{Content}
 use Rattle.hk_model.specs.Answers.{shows, visible, rows_where}
 use Rattle.hk_model.proofs.Maps.{version_key_same}
-use Rattle.hk_model.proofs.Members.{In}
 use Rattle.hk_model.proofs.Listed.{shown_of, listed, rises_from, set_In, In_set}
 use Rattle.hk_index.specs.Listed.{Lists, with_keys}
 use Rattle.hk_index.specs.Tagged.{tagged_cmp, with_tag}
 use Rattle.hk_index.proofs.Labels.{contains-with_tag}
 use Rattle.hk_state.specs.Indexed.{is_tagged}
-use Rattle.hk_query.specs.Rows.{keyed_row, rows_shown}
+use Rattle.hk_query.specs.Rows.{rows_shown}
 
 module _ (c : Content) (t : ℕ) where
   keyed_map : (vs : List VersionKey) → rows_shown c t vs ≡ map (λ e. (e.0.key, e.1)) (filter_map (shown_of c t) vs)

@@ -1,5 +1,5 @@
 -- What a reply says of the primary's rows.
-use Rattle.std.proofs.Common.{◌≡◌, sym, ◌∙◌, ℕ, List, Result, Ok, Err, IfOk, IfErr, MatchResult, ◌⊎◌, inl, inr}
+use Rattle.std.proofs.Common.{◌≡◌, sym, ◌∙◌, ℕ, Result, Ok, Err, MatchResult, ◌⊎◌, inl, inr}
 use Rattle.hk_types.specs.declared.faults.Refusal.{Refusal}
 use Rattle.hk_types.specs.declared.faults.Refusal.TheVariants.{Memory}
 use Rattle.hk_model.specs.declared.answer.Answer.{Answer}

@@ -1,0 +1,30 @@
+-- A time that can be asked is replied with the answer on the rows that show then.
+use Rattle.std.proofs.Common.{◌≡◌, refl, sym, ap, ◌∙◌, ℕ, false, nat_lt, Result, Ok, Err, IfOk, IfErr, MatchResult, ◌⊎◌, inr}
+use Rattle.std.specs.FinMap as finmap
+use Rattle.hk_types.specs.Values.{RowValue}
+use Rattle.hk_types.specs.declared.faults.Refusal.{Refusal}
+use Rattle.hk_types.specs.declared.faults.Refusal.TheVariants.{Memory}
+use Rattle.hk_model.specs.declared.answer.Answer.{Answer}
+use Rattle.hk_model.specs.declared.query.Query.{Query}
+use Rattle.hk_model.specs.Rows.{version_key_cmp}
+use Rattle.hk_model.specs.Content.{Content, readable}
+use Rattle.hk_model.specs.Histories.{Tables}
+use Rattle.hk_model.specs.Answers.{answer, answer_seen, reply, visible}
+use Rattle.hk_state.specs.Facts.{FactsValue}
+use Rattle.hk_state.specs.Reads.{with_facts}
+
+-- the tables that rows and ends show at t
+abbrev shown_of : finmap.FinMap version_key_cmp RowValue → finmap.FinMap version_key_cmp ℕ → ℕ → Tables
+shown_of rows ends t = visible (with_facts (record { rows = rows; ends = ends })) t
+
+same_shown : (c : Content) (t : ℕ) (f : FactsValue) → f.rows ≡ c.rows → f.ends ≡ c.ends → visible (with_facts f) t ≡ visible c t
+same_shown c t f rows ends = ap (λ m. shown_of m f.ends t) rows ∙ ap (λ m. shown_of c.rows m t) ends
+
+can_be_asked : (c : Content) (t : ℕ) (q : Query) → nat_lt t c.horizon ≡ false → nat_lt (readable c) t ≡ false → reply c t q ≡ Ok (answer (visible c t) q)
+can_be_asked c t q old soon = rw (old, soon) refl
+
+pub replied : (c : Content) (t : ℕ) (q : Query) (f : FactsValue) → f.rows ≡ c.rows → f.ends ≡ c.ends → nat_lt t c.horizon ≡ false → nat_lt (readable c) t ≡ false
+    → (r : Result Answer Refusal) → IfOk r (λ a. answer_seen a ≡ answer (visible (with_facts f) t) q) → IfErr r (λ why. why ≡ Memory)
+    → MatchResult r (λ a. reply c t q ≡ Ok (answer_seen a)) (λ why. (reply c t q ≡ Err why) ⊎ ((why ≡ Memory) × (reply c t q ≡ Ok (answer (visible c t) q))))
+replied c t q f rows ends old soon (Ok a) ok err = can_be_asked c t q old soon ∙ ap (λ tables. Ok (answer tables q)) (sym (same_shown c t f rows ends)) ∙ ap Ok (sym ok)
+replied c t q f rows ends old soon (Err why) ok err = inr (err, can_be_asked c t q old soon)

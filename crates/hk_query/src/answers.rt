@@ -1,0 +1,83 @@
+//! Answers on facts, at a time.
+
+ghost use Rattle.std.specs.Prelude.{◌≡◌, ℕ, IfOk, IfErr, IsOk};
+ghost use Rattle.std.specs.FinMap as finmap;
+ghost use Rattle.hk_types.specs.declared.faults.Refusal.TheVariants.{Memory};
+ghost use Rattle.hk_model.specs.declared.query.Query.TheVariants.{Range, ByTag, Count};
+ghost use Rattle.hk_model.specs.Answers.{Rows, answer, answer_seen, visible};
+ghost use Rattle.hk_state.specs.Reads.{with_facts};
+
+use crate::rows::shown_rows;
+use hk_model::{Answer, Query};
+use hk_state::Facts;
+use hk_types::{Key, Refusal, Row, Table, Tag, Time};
+use std::alloc::{AllocError, Global};
+
+/// A copy of the row at a key.
+fn get(
+    alloc: Global,
+    facts: &Facts,
+    time: Time,
+    table: Table,
+    key: Key,
+) -> Result<Option<Row>, AllocError>
+    ensures { IfOk result (λ row. row ≡ finmap.get (visible (with_facts facts.now) time) (record { table = table; key = key })) }
+{
+    match facts.shown_at(table, key, time) {
+        Some(row) => Ok(Some(row.copy(alloc)?)),
+        None => Ok(None),
+    }
+}
+
+/// The rows with keys from a low to a high one.
+fn range(
+    alloc: Global,
+    facts: &Facts,
+    time: Time,
+    table: Table,
+    low: Key,
+    high: Key,
+) -> Result<Vec<(Key, Row)>, Refusal>
+    ensures ok { IfOk result (λ rows. answer (visible (with_facts facts.now) time) (Range table low high) ≡ Rows rows.items) }
+    ensures err { IfErr result (λ why. why ≡ Memory) }
+{
+    let versions = facts.keys().list(alloc, table, low, high)?;
+    let rows = shown_rows(alloc, facts, time, &versions)?;
+    Ok(rows)
+}
+
+/// The rows with a tag.
+fn by_tag(
+    alloc: Global,
+    facts: &Facts,
+    time: Time,
+    table: Table,
+    tag: Tag,
+) -> Result<Vec<(Key, Row)>, Refusal>
+    ensures ok { IfOk result (λ rows. answer (visible (with_facts facts.now) time) (ByTag table tag) ≡ Rows rows.items) }
+    ensures err { IfErr result (λ why. why ≡ Memory) }
+{
+    let versions = facts.tags().list(alloc, table, tag)?;
+    let rows = shown_rows(alloc, facts, time, &versions)?;
+    Ok(rows)
+}
+
+/// The answer to a query on the rows that facts show at a time.
+///
+/// The only refusal is `Memory`, and a `Count` takes no memory. Costs: `Get` by the logarithm of the tables,
+/// the keys and the versions of the key; `Range` and `ByTag` by the versions that the index lists, each by
+/// such a logarithm; `Count` by the keys of the table.
+pub fn answer_at(alloc: Global, facts: &Facts, time: Time, query: &Query) -> Result<Answer, Refusal>
+    ensures ok { IfOk result (λ a. answer_seen a ≡ answer (visible (with_facts facts.now) time) query.now) }
+    ensures err { IfErr result (λ why. why ≡ Memory) }
+    ensures count { (table : ℕ) → query.now ≡ Count table → IsOk result }
+{
+    match query {
+        Query::Get { table, key } => Ok(Answer::One(get(alloc, facts, time, *table, *key)?)),
+        Query::Range { table, low, high } => {
+            Ok(Answer::Rows(range(alloc, facts, time, *table, *low, *high)?))
+        }
+        Query::ByTag { table, tag } => Ok(Answer::Rows(by_tag(alloc, facts, time, *table, *tag)?)),
+        Query::Count { table } => Ok(Answer::Number(facts.count_at(*table, time))),
+    }
+}
