@@ -1,0 +1,34 @@
+use Rattle.std.proofs.Common.{◌≡◌, sym, ap, ◌∙◌, subst, map, max, length, ◌==◌, ◌&&◌, ◌||◌}
+use Rattle.hk_model.specs.Lawful.{IsLawful}
+use Rattle.hk_model.proofs.Lawful.{joined_lawful}
+use Rattle.hk_state.specs.Versions.{lent}
+use Rattle.hk_state.specs.Drops.{is_among}
+use Rattle.hk_merge.specs.Listed.{fragment_sent}
+use Rattle.hk_merge.specs.Plans.{old_come, gone_at}
+use Rattle.hk_merge.proofs.Rising.{facts_are, come_rows, come_ends, as_many_together}
+use Rattle.hk_merge.proofs.Joining.{change_joins}
+use Rattle.hk_merge.proofs.join.work_out.Goals as goal
+
+pub returns : goal.returns
+returns c =
+    let t = c.args.taker.now in
+    let f = fragment_sent c.args.sent.now in
+    let sent = map lent c.args.sent.now.facts.now in
+    let b = c.in_ok-change.ensures in
+    let r = c.in_ok-rise.ensures in
+    let k = c.in_ok-take.ensures in
+    let owns = facts_are c.facts.result.now t c.facts.ensures.rows c.facts.ensures.ends in
+    let at : c.later-horizon.result ≡ max t.horizon f.content.horizon = c.later-horizon.ensures ∙ ap (λ n. max n f.content.horizon) c.horizon.ensures.value in
+    let high : c.coming-coming.result.horizon ≡ max t.horizon f.content.horizon = c.coming-coming.ensures.horizon ∙ at in
+    let old : c.coming-coming.result.old ≡ old_come t f = c.coming-coming.ensures.old ∙ ap (λ h. (f.base == 0) && (f.content.horizon == h)) at in
+    let same =
+    change_joins t f c.horizon.ensures.lawful c.requires.agree c.take.new.change (c.take.ensures.horizon ∙ c.rise.ensures.horizon ∙ b.horizon ∙ at) (c.take.ensures.got ∙ c.rise.ensures.got ∙ b.got)
+    (λ q. ap (λ l. is_among l q) c.take.ensures.drops ∙ r.drops q ∙ ap (λ l. is_among l q || gone_at t f q) b.drops)
+    (come_rows t f c.facts.result.now owns c.coming-coming.result.old old c.coming-coming.result.horizon high sent c.requires.listed c.in_ok-change.change.rows.items c.rise.new.change.rows.items c.take.new.change.rows.items b.rows r.rows k.rows)
+    (come_ends t f c.facts.result.now owns c.coming-coming.result.old old c.coming-coming.result.horizon high sent c.requires.listed c.in_ok-change.change.ends.items c.rise.new.change.ends.items c.take.new.change.ends.items b.ends r.ends k.ends) in
+    record {
+      ok = same;
+      lawful = subst IsLawful (sym same) (joined_lawful t f c.horizon.ensures.lawful c.requires.lawful (sym c.requires.as_many));
+      as_many = ap length (c.take.ensures.got ∙ c.rise.ensures.got ∙ b.got) ∙ as_many_together t.streams f.content.streams c.requires.as_many;
+      err = tt;
+    }

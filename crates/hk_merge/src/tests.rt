@@ -1,0 +1,4 @@
+//! Merges of small states, with what they hold written out.
+
+mod merging;
+mod played;
