@@ -1,0 +1,9 @@
+pub mod Trees
+pub mod Written
+pub mod Reading
+pub mod Entered
+pub mod Latest
+pub mod Found
+pub mod Kept
+pub mod Judged
+pub mod Shown

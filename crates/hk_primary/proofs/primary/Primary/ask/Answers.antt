@@ -1,0 +1,19 @@
+use Rattle.std.proofs.Common.{◌≡◌, sym, ap, ◌∙◌, Result, Ok, Err, IfOk, List}
+use Rattle.hk_types.specs.declared.faults.Refusal.{Refusal}
+use Rattle.hk_model.specs.declared.answer.Answer.{Answer}
+use Rattle.hk_model.specs.Answers.{answer, answer_seen}
+use Rattle.hk_model.specs.Histories.{Tables, table_at}
+use Rattle.hk_primary.proofs.Shown.{shown_is}
+use Rattle.hk_primary.specs.Log.{PrimaryValue}
+use Rattle.hk_model.specs.declared.query.Query.{Query}
+use Rattle.hk_primary.proofs.primary.Primary.ask.Goals as goal
+
+on_same : (r : Result Answer Refusal) (s t : Tables) (q : Query) → s ≡ t → IfOk r (λ a. answer_seen a ≡ answer s q) → IfOk r (λ a. answer_seen a ≡ answer t q)
+on_same (Ok a) s t q e h = h ∙ ap (λ x. answer x q) e
+on_same (Err why) s t q e h = h
+
+pub returns-clause-told : goal.returns-clause-told
+returns-clause-told c =
+    let a = c.self.inside in
+    on_same c.answer_at.result _ (table_at c.args.self.now.history c.args.time) c.args.query.now
+    (shown_is a.config a.newest a.log.items a.facts a.counts.items c.self.invariant c.args.time ∙ ap (λ (p : PrimaryValue). table_at p.history c.args.time) c.self.view_is) c.answer_at.ensures.ok

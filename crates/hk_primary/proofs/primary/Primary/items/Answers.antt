@@ -1,0 +1,8 @@
+use Rattle.hk_primary.proofs.Reading.{honest}
+use Rattle.hk_primary.proofs.primary.Primary.items.Goals as goal
+
+pub returns-in_err-copies-clause-honest : goal.returns-in_err-copies-clause-honest
+returns-in_err-copies-clause-honest c = rw (← c.self.view_is) (honest c.self.inside.config c.self.inside.after c.self.inside.log.items c.self.invariant.logged)
+
+pub returns-clause-honest : goal.returns-clause-honest
+returns-clause-honest c = rw (← c.self.view_is) (honest c.self.inside.config c.self.inside.after c.self.inside.log.items c.self.invariant.logged)

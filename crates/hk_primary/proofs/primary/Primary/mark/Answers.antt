@@ -1,0 +1,16 @@
+use Rattle.std.proofs.Common.{◌≡◌, ◌≤◌, sym, ap, ◌∙◌, subst, arith}
+use Rattle.hk_log.specs.Items.{MarkValue}
+use Rattle.hk_model.specs.Histories.{IsTruthful}
+use Rattle.hk_primary.specs.Log.{PrimaryValue, history_of}
+use Rattle.hk_primary.proofs.Kept.{mark_truthful}
+use Rattle.hk_primary.proofs.primary.Primary.mark.Goals as goal
+
+pub emit-requires : goal.emit-requires
+emit-requires c =
+    let a = c.self.inside in
+    let least = c.number.ensures.least in
+    let stream = c.number.ensures.value in
+    let streams = c.streams.ensures.value in
+    let within : c.args.stream ≤ a.config.streams = omega (arith, c.if-number-streams.false) in
+    let truth = mark_truthful a.config a.newest a.log.items a.facts a.counts.items c.self.invariant c.args.stream (omega arith) within in
+    record { truthful = rw c.mark_of-mark.ensures (rw (← c.self.view_is) truth) }

@@ -1,0 +1,47 @@
+-- What calls on a primary leave and tell.
+use Rattle.std.specs.Prelude.{◌≡◌, ℕ, List, ◌∷◌, Option, Some, None, Result, Ok, Err}
+use Rattle.std.specs.Option.{option_map}
+use Rattle.hk_types.specs.declared.faults.Refusal.{Refusal}
+use Rattle.hk_types.specs.declared.faults.Refusal.TheVariants.{Memory}
+use Rattle.hk_log.specs.declared.item.Item.{Item}
+use Rattle.hk_log.specs.declared.item.Item.TheVariants.{Commit}
+use Rattle.hk_model.specs.Histories.{Transaction, entry_of}
+use Rattle.hk_primary.specs.Log.{PrimaryValue, with_item, IsHonest}
+use Rattle.hk_primary.specs.Txns.{TxnValue}
+use Rattle.hk_primary.specs.Verdicts.{committed_after}
+
+-- what a primary makes of a transaction on a stream
+abbrev pub judged : PrimaryValue → TxnValue → ℕ → Result (Option Transaction) Refusal
+judged p txn stream = committed_after p.config p.after p.history stream txn.read_at txn.writes
+
+-- the time of a transaction, if there is one
+abbrev pub time_of : Option Transaction → Option ℕ
+time_of None = None
+time_of (Some t) = Some t.time
+
+-- the verdict, by its time
+abbrev pub timed : Result (Option Transaction) Refusal → Result (Option ℕ) Refusal
+timed (Ok t) = Ok (time_of t)
+timed (Err why) = Err why
+
+-- a commit told what the verdict says; memory runs out only where a transaction is accepted
+abbrev pub Tells : Result (Option Transaction) Refusal → Result (Option ℕ) (TxnValue × Refusal) → Type 0
+Tells (Ok t) (Ok time) = time ≡ time_of t
+Tells (Ok None) (Err e) = ⊥
+Tells (Ok (Some t)) (Err e) = e.1 ≡ Memory
+Tells (Err why) (Ok time) = ⊥
+Tells (Err why) (Err e) = e.1 ≡ why
+
+-- an accepted transaction extends the history, and its entry the log
+abbrev pub extended : PrimaryValue → Transaction → PrimaryValue
+extended p t = with_item p (t ∷ p.history) (Commit (entry_of p.config p.history t))
+
+-- the primary after this verdict
+abbrev pub grown : PrimaryValue → Result (Option Transaction) Refusal → PrimaryValue
+grown p (Ok (Some t)) = extended p t
+grown p (Ok None) = p
+grown p (Err why) = p
+
+-- some primary meets it, whose log holds items of its own history alone
+abbrev pub AtSome : (PrimaryValue → Type 0) → Type 0
+AtSome P = (p : PrimaryValue) × IsHonest p × P p

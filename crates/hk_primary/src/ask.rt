@@ -1,0 +1,36 @@
+//! Questions to a primary.
+
+ghost use Rattle.std.specs.Prelude.{◌≡◌, ◌≤◌, ◌<◌, ℕ, IfErr, IfOk, IsOk, OnOk};
+ghost use Rattle.hk_types.specs.declared.faults.Refusal.TheVariants.{Memory, NotYet as Early};
+ghost use Rattle.hk_model.specs.Answers.{answer, answer_seen};
+ghost use Rattle.hk_model.specs.Histories.{last, table_at};
+ghost use Rattle.hk_model.specs.declared.query.Query.TheVariants.{Count};
+
+use crate::primary::Primary;
+use hk_query::{Answer, Query, answer_at};
+use hk_types::{Refusal, Time};
+
+impl Primary {
+    /// What the primary answers to a query on the rows that the commits up to a time left.
+    ///
+    /// A time above that of the last commit is refused `NotYet` with that time, and then `Memory` comes where a
+    /// growth was refused; a `Count` takes no memory. Costs: `Get` by the logarithm of the versions; `Range`
+    /// and `ByTag` by the versions that the index lists, each by such a logarithm; `Count` by the keys of the
+    /// table.
+    pub fn ask(&self, time: Time, query: &Query) -> Result<Answer, Refusal>
+        ensures told { IfOk result (λ a. answer_seen a ≡ answer (table_at self.now.history time) query.now) }
+        ensures known { OnOk result (time ≤ last self.now.history) }
+        ensures early { last self.now.history < time → IfErr result (λ why. why ≡ Early (last self.now.history)) }
+        ensures memory { time ≤ last self.now.history → IfErr result (λ why. why ≡ Memory) }
+
+        // A count takes no memory.
+        ensures count { (table : ℕ) → query.now ≡ Count table → time ≤ last self.now.history → IsOk result }
+    {
+        if self.newest < time {
+            return Err(Refusal::NotYet {
+                readable: self.newest,
+            });
+        }
+        answer_at(self.alloc, &self.facts, time, query)
+    }
+}

@@ -1,0 +1,28 @@
+//! The primary of a log.
+#![tactic(auto)]
+
+ghost use Rattle.hk_primary.specs.Verdicts.{AcceptedLaw, FromZeroLaw};
+
+mod ask;
+mod commit;
+mod entries;
+mod looks;
+mod primary;
+mod row_key;
+mod shared;
+mod txn;
+
+pub use hk_query::{Answer, Query};
+pub use primary::Primary;
+pub use row_key::RowKey;
+pub use shared::SharedPrimary;
+pub use txn::{MOST_WRITES, Txn};
+
+/// What a primary whose clock starts after a time makes of a transaction.
+pub fn verdict_law()
+    ensures from_zero { FromZeroLaw }
+    ensures accepted { AcceptedLaw }
+{}
+
+#[cfg(test)]
+mod tests;

@@ -1,0 +1,43 @@
+//! The names of rows.
+
+ghost use Rattle.std.specs.Prelude.{◌≡◌};
+ghost use Rattle.hk_model.specs.Histories.{written_key};
+
+use hk_model::WriteOp;
+use hk_types::{Key, Table};
+use std::marker::Model;
+
+/// A table and a key in it. Row keys are ordered by these fields.
+#[derive(Clone, Copy, Debug, PartialEq, Eq, PartialOrd, Ord)]
+pub struct RowKey {
+    /// The table.
+    pub table: Table,
+    /// The key in the table.
+    pub key: Key,
+}
+
+impl Model for RowKey {
+    ghost use Rattle.hk_model.specs.Rows as rows;
+
+    ghost Value = { rows.RowKey };
+
+    ghost view = { λ a. record { table = a.table; key = a.key } };
+
+    ghost inverse = { λ k. record { table = k.table; key = k.key } };
+}
+
+impl RowKey {
+    /// The row key of a table and a key.
+    pub fn new(table: Table, key: Key) -> RowKey
+        ensures { result ≡ record { table = table; key = key } }
+    {
+        RowKey { table, key }
+    }
+
+    /// The row that a write is of.
+    pub fn of(write: &WriteOp) -> RowKey
+        ensures { result ≡ written_key write.now }
+    {
+        RowKey::new(write.table(), write.key())
+    }
+}
