@@ -1,0 +1,10 @@
+pub mod Agreeing
+pub mod Conflicting
+pub mod Lefts
+pub mod Listed
+pub mod Misfits
+pub mod Picked
+pub mod Sound
+pub mod Putting
+pub mod Wholes
+pub mod Sents

@@ -1,0 +1,135 @@
+-- What items say together is the canon of them at horizon 0, and its cut at 0 is their fragment.
+use Rattle.std.proofs.Common.{◌≡◌, refl, sym, ap, ◌∙◌, subst, ℕ, ◌<◌, ◌≤◌, Bool, true, false, cond, not, ◌||◌, Option, Some, None, List, All, Result, Ok, Err, ◌⊎◌, inl, inr, nat_le, arith}
+use Rattle.std.proofs.lemmas.Bool.Decides.{nat_tests}
+use Rattle.std.specs.List.{flat_map}
+use Rattle.std.specs.FinMap as finmap
+use Rattle.hk_types.specs.Values.{ConfigValue}
+use Rattle.hk_types.specs.declared.version_key.VersionKey.{VersionKey}
+use Rattle.hk_types.specs.declared.faults.Refusal.{Refusal}
+use Rattle.hk_types.specs.declared.faults.Refusal.TheVariants.{Conflict, Memory}
+use Rattle.hk_log.specs.Items.{EntryValue}
+use Rattle.hk_log.specs.declared.item.Item.{Item}
+use Rattle.hk_log.specs.declared.item.Item.TheVariants.{Commit}
+use Rattle.hk_model.specs.Rows.{version_key_cmp}
+use Rattle.hk_model.specs.Facts.{row_facts, end_facts, rows_of, ends_of}
+use Rattle.hk_model.specs.Content.{at_most, without_ended, readable}
+use Rattle.hk_model.specs.Canon.{canon}
+use Rattle.hk_model.specs.Streams.{streams_of}
+use Rattle.hk_model.specs.Fragments.{FragmentValue, part}
+use Rattle.hk_model.specs.Lawful.{IsLawful, IsItem}
+use Rattle.hk_model.specs.Rules.{gathered, gathered_unless, first_misfit}
+use Rattle.hk_model.proofs.Maps.{version_key_total, version_key_same, get-without_ended}
+use Rattle.hk_model.proofs.Members.{In, In-map}
+use Rattle.hk_model.proofs.Logs.{fact_end, end_found}
+use Rattle.hk_model.proofs.Writes.{All_In}
+use Rattle.hk_model.proofs.Lawful.{IsSound, entry_sound, canon_lawful}
+use Rattle.hk_model.proofs.Gathers.{gathered_law}
+use Rattle.hk_state.specs.Facts.{FactsValue, no_facts}
+use Rattle.hk_state.specs.Reads.{facts_of_content}
+use Rattle.hk_state.specs.Versions.{AreVersions}
+use Rattle.hk_delta.specs.Parts.{Known, fragment_seen, fragment_fault}
+use Rattle.hk_delta.specs.Cuts.{all_left}
+use Rattle.hk_delta.specs.Gathers.{said, all_put, are_at_odds, Gathers, GathersOf}
+use Rattle.hk_delta.proofs.Agreeing.{facts_from, items_settle}
+use Rattle.hk_delta.proofs.Lefts.{parts_faultless, cut_is}
+
+same_ok : (f g : FactsValue) → ◌≡◌ {A = Result FactsValue Refusal} (Ok f) (Ok g) → f ≡ g
+same_ok f g e = cc
+
+same_err : (a b : Refusal) → ◌≡◌ {A = Result FactsValue Refusal} (Err a) (Err b) → a ≡ b
+same_err a b e = cc
+
+pub settled_ok : (items : List Item) (f : FactsValue) → all_put (Ok no_facts) (flat_map said items) ≡ Ok f → (f ≡ facts_from (row_facts items) (end_facts items)) × (are_at_odds items ≡ false)
+settled_ok items f e =
+    elim (items_settle items) [
+      | inl s ↦ (same_ok f (facts_from (row_facts items) (end_facts items)) (sym e ∙ s.0), (λ i. s.1 i || s.2 i))
+      | inr s ↦ absurd (differ f Conflict (sym e ∙ s.0))
+    ]
+  where
+    differ : (f : FactsValue) (why : Refusal) → ◌≡◌ {A = Result FactsValue Refusal} (Ok f) (Err why) → ⊥
+    differ f why e = cc
+
+pub settled_err : (items : List Item) (why : Refusal) → all_put (Ok no_facts) (flat_map said items) ≡ Err why → (why ≡ Conflict) × (are_at_odds items ≡ true)
+settled_err items why e =
+    elim (items_settle items) [
+      | inl s ↦ absurd (differ (facts_from (row_facts items) (end_facts items)) why (sym s.0 ∙ e))
+      | inr s ↦ (same_err why Conflict (sym e ∙ s.0), s.1)
+    ]
+  where
+    differ : (f : FactsValue) (why : Refusal) → ◌≡◌ {A = Result FactsValue Refusal} (Ok f) (Err why) → ⊥
+    differ f why e = cc
+
+module _ (config : ConfigValue) (items : List Item) (all : All IsItem items) where
+  sound : (e : EntryValue) → In (Commit e) items → IsSound e
+  sound e i = entry_sound e (All_In IsItem items all (Commit e) i)
+
+  zero_within : 0 ≤ readable (canon config items 0)
+  zero_within = omega arith
+
+  pub whole_lawful : IsLawful (canon config items 0)
+  whole_lawful = canon_lawful config items 0 sound zero_within
+
+  -- no item states an end at 0
+  ends_later : (v : VersionKey) → at_most 0 (finmap.get (ends_of items) v) ≡ false
+  ends_later v = by (finmap.get (ends_of items) v) refl
+    where
+      by : (o : Option ℕ) → finmap.get (ends_of items) v ≡ o → at_most 0 o ≡ false
+      by None e = refl
+      by (Some d) e =
+          let f = fact_end v d items (end_found items v d e) in
+          let m = In-map (λ (u : VersionKey). (u, f.0.time)) (v, d) f.0.ends f.2 in
+          let dead : d ≡ f.0.time = ap (λ (z : VersionKey × ℕ). z.1) m.2 in
+          above d f.0.time dead (sound f.0 f.1).time
+        where
+          above : (d t : ℕ) → d ≡ t → 0 < t → nat_le d 0 ≡ false
+          above d t e l = grind (arith, nat_tests)
+
+  all_kept : {X : Type 0} (facts : finmap.FinMap version_key_cmp X) → without_ended (ends_of items) 0 facts ≡ facts
+  all_kept facts = finmap.same_map version_key_total version_key_same _ _ (λ v. get-without_ended (ends_of items) 0 facts v ∙ ap (λ b. cond (not b) (finmap.get facts v) None) (ends_later v))
+
+  pub whole_facts : facts_from (row_facts items) (end_facts items) ≡ facts_of_content (canon config items 0)
+  whole_facts = λ i. record { rows = sym (all_kept (rows_of items)) i; ends = sym (all_kept (ends_of items)) i }
+
+  module _ (f : FactsValue) (is : f ≡ facts_from (row_facts items) (end_facts items)) (es : List Known) (are : AreVersions f es) where
+    listed : AreVersions (facts_of_content (canon config items 0)) es
+    listed = subst (λ (g : FactsValue). AreVersions g es) (is ∙ whole_facts) are
+
+    pub whole_faultless : fragment_fault 0 0 (streams_of config.streams items) (all_left 0 es) ≡ None
+    whole_faultless = parts_faultless (canon config items 0) whole_lawful 0 (inl refl) es listed
+
+    pub whole_is : fragment_seen config 0 0 (streams_of config.streams items) (all_left 0 es) ≡ part config items 0 0
+    whole_is = cut_is (canon config items 0) whole_lawful 0 config refl es listed
+
+-- ---- what is answered
+
+pub gathered_ok : (config : ConfigValue) (items : List Item) → first_misfit config items ≡ None → are_at_odds items ≡ false → gathered config items ≡ Ok (part config items 0 0)
+gathered_ok config items fits agree = ap (gathered_unless config items) fits ∙ ap (λ b. cond b (Err Conflict) (Ok (part config items 0 0))) agree
+
+pub gathered_err : (config : ConfigValue) (items : List Item) → first_misfit config items ≡ None → are_at_odds items ≡ true → gathered config items ≡ Err Conflict
+gathered_err config items fits odds = ap (gathered_unless config items) fits ∙ ap (λ b. cond b (Err Conflict) (Ok (part config items 0 0))) odds
+
+-- a refusal of the growing, after the test for a conflict
+pub refused : (config : ConfigValue) (items : List Item) → first_misfit config items ≡ None → (why told : Refusal) → (why ≡ Memory) ⊎ ((why ≡ Conflict) × (are_at_odds items ≡ true)) → (are_at_odds items ≡ true → told ≡ Conflict) → (are_at_odds items ≡ false → told ≡ why)
+    → (gathered config items ≡ Err told) ⊎ ((told ≡ Memory) × ((f : FragmentValue) × (gathered config items ≡ Ok f)))
+refused config items fits why told is odds even = by (are_at_odds items) refl
+  where
+    by : (b : Bool) → are_at_odds items ≡ b → (gathered config items ≡ Err told) ⊎ ((told ≡ Memory) × ((f : FragmentValue) × (gathered config items ≡ Ok f)))
+    by true e = inl (gathered_err config items fits e ∙ ap Err (sym (odds e)))
+    by false e = elim is [
+      | inl m ↦ inr (even e ∙ m, (part config items 0 0, gathered_ok config items fits e))
+      | inr c ↦ absurd (differ (sym e ∙ c.1))
+    ]
+      where
+        differ : false ≡ true → ⊥
+        differ e = cc
+
+-- items of a history
+pub of_history : (config : ConfigValue) (items : List Item) (r : Result FragmentValue Refusal) → Gathers config items r → GathersOf config items r
+of_history config items (Ok f) gave history is all = (same f (part config items 0 0) (sym gave ∙ gathered_law config history is items all), tt)
+  where
+    same : (f g : FragmentValue) → ◌≡◌ {A = Result FragmentValue Refusal} (Ok f) (Ok g) → f ≡ g
+    same f g e = cc
+of_history config items (Err why) gave history is all = (tt, elim gave [ inl e ↦ absurd (differ (part config items 0 0) why (sym (gathered_law config history is items all) ∙ e)) | inr m ↦ m.0 ])
+  where
+    differ : (f : FragmentValue) (why : Refusal) → ◌≡◌ {A = Result FragmentValue Refusal} (Ok f) (Err why) → ⊥
+    differ f why e = cc

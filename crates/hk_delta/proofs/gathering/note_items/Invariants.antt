@@ -1,0 +1,6 @@
+use Rattle.std.proofs.Common.{◌≡◌, take}
+use Rattle.hk_model.specs.Streams.{streams_of}
+use Rattle.hk_delta.proofs.gathering.note_items.Given as goal
+
+abbrev pub invariant-loop-item : goal.invariant-loop-item
+invariant-loop-item l = l.got ≡ streams_of l.config.streams (take l.item-index l.items)

@@ -1,0 +1,43 @@
+-- What is left of facts above a base, and what cutting a state answers.
+use Rattle.std.specs.Prelude.{◌≡◌, ◌⊎◌, ◌<◌, ◌≤◌, ℕ, nat_lt, if◌then◌else◌, List, Option, None, Result, Ok, Err, IfOk}
+use Rattle.std.specs.List.{flat_map}
+use Rattle.hk_types.specs.Values.{ConfigValue, RowValue}
+use Rattle.hk_types.specs.declared.version_key.VersionKey.{VersionKey}
+use Rattle.hk_types.specs.declared.faults.Refusal.{Refusal}
+use Rattle.hk_types.specs.declared.faults.Refusal.TheVariants.{Memory, TooOld}
+use Rattle.hk_log.specs.Versions.{VersionValue}
+use Rattle.hk_log.specs.declared.item.Item.{Item}
+use Rattle.hk_model.specs.Content.{Content, at_most}
+use Rattle.hk_model.specs.Fragments.{FragmentValue, cut, part}
+use Rattle.hk_model.specs.Histories.{Transaction}
+use Rattle.hk_model.specs.Replicas.{Stands}
+use Rattle.hk_facts.specs.Facts.{if_known}
+use Rattle.hk_state.specs.Facts.{entry_if}
+use Rattle.hk_delta.specs.Parts.{Known}
+
+-- the row of a version that was born above the base
+abbrev pub row_above : ℕ → ℕ → Option RowValue → Option RowValue
+row_above base born row = if nat_lt base born then row else None
+
+-- the end that is above the base
+abbrev pub end_above : ℕ → Option ℕ → Option ℕ
+end_above base died = if at_most base died then None else died
+
+-- what is left of a version above the base, if anything
+abbrev pub left_above : ℕ → VersionKey → VersionValue → Option VersionValue
+left_above base v known = if_known (record { row = row_above base v.born known.row; died = end_above base known.died })
+
+-- what is left of versions
+abbrev pub all_left : ℕ → List Known → List Known
+all_left base versions = flat_map (λ e. entry_if e.0 (left_above base e.0 e.1)) versions
+
+-- the cut at the base, or it was refused: below the horizon, or else memory ran out
+abbrev pub Cuts : Content → ℕ → Result FragmentValue Refusal → Type 0
+Cuts c base (Ok f) = (c.horizon ≤ base) × (f ≡ cut c base)
+Cuts c base (Err why) = ((base < c.horizon) × (why ≡ TooOld c.horizon)) ⊎ ((c.horizon ≤ base) × (why ≡ Memory))
+
+-- where the content stands for items of a history, the fragment is the part of them at its horizon
+abbrev pub CutsOf : Content → ℕ → Result FragmentValue Refusal → Type 0
+CutsOf c base result =
+    (config : ConfigValue) (history : List Transaction) (items : List Item) (horizon : ℕ) → Stands config history items horizon c
+    → IfOk result (λ f. f ≡ part config items horizon base)

@@ -1,0 +1,117 @@
+//! Fragments of a state: the whole of it, or what changed since a time.
+
+ghost use Rattle.std.specs.Prelude.{◌≡◌, ◌⊎◌, ◌≤◌, ◌++◌, map, OnOk, IfOk, IfErr};
+ghost use Rattle.hk_types.specs.declared.faults.Refusal.TheVariants.{Memory, TooOld as Old};
+ghost use Rattle.hk_model.specs.Fragments.{cut};
+ghost use Rattle.hk_state.specs.Facts.{entry_if};
+ghost use Rattle.hk_state.specs.Versions.{lent};
+ghost use Rattle.hk_delta.specs.Cuts as spec;
+ghost use Rattle.hk_delta.specs.Cuts.{Cuts, CutsOf, left_above, all_left};
+
+use crate::Fragment;
+use hk_log::Version;
+use hk_state::ReplicaState;
+use hk_types::{Refusal, Row, Time, VersionKey};
+use std::alloc::{AllocError, Global};
+
+/// A copy of the row of a version, where the version was born above a base.
+fn row_above(
+    alloc: Global,
+    base: Time,
+    version: &VersionKey,
+    known: &Version,
+) -> Result<Option<Row>, AllocError>
+    ensures { IfOk result (λ row. row ≡ spec.row_above base version.now.born known.now.row) }
+{
+    match known.row() {
+        Some(row) if base < version.born => Ok(Some(row.copy(alloc)?)),
+        _ => Ok(None),
+    }
+}
+
+/// The end of a version, where it is above a base.
+fn end_above(base: Time, known: &Version) -> Option<Time>
+    ensures { result ≡ spec.end_above base known.now.died }
+{
+    match known.died() {
+        Some(died) if base < died => Some(died),
+        _ => None,
+    }
+}
+
+/// Adds what is left of a version above a base, where anything is.
+fn push_left(
+    alloc: Global,
+    facts: &mut Vec<(VersionKey, Version)>,
+    base: Time,
+    version: &VersionKey,
+    known: &Version,
+) -> Result<(), AllocError>
+    ensures { OnOk result (facts.new.items ≡ facts.old.items ++ entry_if version.now (left_above base version.now known.now)) }
+{
+    let row = row_above(alloc, base, version, known)?;
+    if let Some(left) = Version::new(row, end_above(base, known)) {
+        facts.push((*version, left))?;
+    }
+    Ok(())
+}
+
+/// What is left of versions above a base.
+pub(crate) fn left_of(
+    alloc: Global,
+    base: Time,
+    versions: &[(VersionKey, &Version)],
+) -> Result<Vec<(VersionKey, Version)>, AllocError>
+    ensures { IfOk result (λ facts. facts.items ≡ all_left base (map lent versions.now)) }
+{
+    let mut facts = Vec::new(alloc);
+    for (version, known) in versions {
+        push_left(alloc, &mut facts, base, version, known)?;
+    }
+    Ok(facts)
+}
+
+/// The fragment of a state with a base that is 0 or at least its horizon.
+fn fragment_from(alloc: Global, state: &ReplicaState, base: Time) -> Result<Fragment, Refusal>
+    requires { (base ≡ 0) ⊎ (state.now.horizon ≤ base) }
+    ensures ok { IfOk result (λ fragment. fragment ≡ cut state.now base) }
+    ensures err { IfErr result (λ why. why ≡ Memory) }
+{
+    let got = state.got().copy(alloc)?;
+    let versions = state.facts().versions(alloc)?;
+    let facts = left_of(alloc, base, &versions)?;
+    Ok(Fragment::of_parts(state.config(), base, state.horizon(), got, facts))
+}
+
+/// The whole of what a state holds, as a fragment of base 0.
+///
+/// The only refusal is `Memory`. Costs by what is held, which is copied.
+pub fn whole_of(alloc: Global, state: &ReplicaState) -> Result<Fragment, Refusal>
+    ensures ok { IfOk result (λ fragment. fragment ≡ cut state.now 0) }
+    ensures err { IfErr result (λ why. why ≡ Memory) }
+    ensures stands { CutsOf state.now 0 result }
+{
+    fragment_from(alloc, state, Time::zero())
+}
+
+/// What a state holds that a replica may lack which is readable up to the base: the rows that were born above
+/// it, the ends above it, and all numbers and marks.
+///
+/// A base below the horizon is refused `TooOld` with the horizon, and then `Memory` comes where a growth was
+/// refused. Costs by the versions that are held, each of which is looked at, and by what is copied.
+pub fn delta_since(alloc: Global, state: &ReplicaState, base: Time) -> Result<Fragment, Refusal>
+    ensures gives { Cuts state.now base result }
+    ensures stands { CutsOf state.now base result }
+{
+    since(alloc, state, base)
+}
+
+fn since(alloc: Global, state: &ReplicaState, base: Time) -> Result<Fragment, Refusal>
+    ensures { Cuts state.now base result }
+{
+    let horizon = state.horizon();
+    if base < horizon {
+        return Err(Refusal::TooOld { horizon });
+    }
+    fragment_from(alloc, state, base)
+}

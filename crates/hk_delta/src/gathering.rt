@@ -1,0 +1,200 @@
+//! Fragments of items.
+
+ghost use Rattle.std.specs.Prelude.{◌≡◌, ◌⊎◌, ◌∷◌, [], length, All, None, IfOk, IfErr, OnOk, true, false};
+ghost use Rattle.std.specs.List.{flat_map};
+ghost use Rattle.hk_types.specs.declared.faults.Refusal.TheVariants.{Conflict as Contradiction, Memory};
+ghost use Rattle.hk_model.specs.Items as items_spec;
+ghost use Rattle.hk_model.specs.Fragments.{part};
+ghost use Rattle.hk_model.specs.Lawful.{IsItem};
+ghost use Rattle.hk_model.specs.Rules as rules;
+ghost use Rattle.hk_model.specs.Streams.{all_together, streams_of};
+ghost use Rattle.hk_delta.specs.Gathers.{are_at_odds, Gathers, GathersOf, Puts, row_said, end_said, said};
+
+use crate::Fragment;
+use crate::conflicts::conflict;
+use crate::cutting::left_of;
+use hk_facts::Fact;
+use hk_log::Item;
+use hk_marks::Got;
+use hk_state::Facts;
+use hk_types::{Config, Key, Refusal, Row, Table, Time, VersionKey};
+use std::alloc::Global;
+
+/// Why an item is none of the configuration's log, if it is none.
+fn misfit(config: Config, item: &Item) -> Option<Refusal>
+    ensures { result ≡ items_spec.misfit config.log config.streams item.now }
+{
+    let (log, stream) = match item {
+        Item::Commit(entry) => (entry.log(), entry.stream()),
+        Item::Closed(mark) => (mark.log(), mark.stream()),
+    };
+    if log != config.log() {
+        return Some(Refusal::ForeignLog);
+    }
+    if stream.number() > config.streams() {
+        return Some(Refusal::WrongStreams);
+    }
+    None
+}
+
+/// Why the first of the items that is none of the log is none.
+fn first_misfit(config: Config, items: &[Item]) -> Option<Refusal>
+    ensures { result ≡ rules.first_misfit config items.now }
+{
+    for item in items {
+        if let Some(why) = misfit(config, item) {
+            return Some(why);
+        }
+    }
+    None
+}
+
+/// Puts the rows of an entry of a time.
+fn put_rows(
+    alloc: Global,
+    facts: &mut Facts,
+    rows: &[(Table, Key, Row)],
+    time: Time,
+) -> Result<(), Refusal>
+    ensures { Puts facts.old facts.new (flat_map (row_said time) rows.now) result }
+{
+    for (table, key, row) in rows {
+        let version = VersionKey {
+            table: *table,
+            key: *key,
+            born: time,
+        };
+        let fact = Fact::Row(row.copy(alloc)?);
+        if let Err(why) = facts.put(&version, fact) {
+            return Err(why);
+        }
+    }
+    Ok(())
+}
+
+/// Puts the ends of an entry of a time.
+fn put_ends(facts: &mut Facts, ends: &[VersionKey], time: Time) -> Result<(), Refusal>
+    ensures { Puts facts.old facts.new (flat_map (end_said time) ends.now) result }
+{
+    for version in ends {
+        if let Err(why) = facts.put(version, Fact::End(time)) {
+            return Err(why);
+        }
+    }
+    Ok(())
+}
+
+/// Puts all that an item says of versions.
+fn put_item(alloc: Global, facts: &mut Facts, item: &Item) -> Result<(), Refusal>
+    ensures puts { Puts facts.old facts.new (said item.now) result }
+    ensures lawful { IsItem item.now }
+{
+    match item {
+        Item::Commit(entry) => {
+            if let Err(why) = put_rows(alloc, facts, entry.rows(), entry.time()) {
+                return Err(why);
+            }
+            put_ends(facts, entry.ends(), entry.time())
+        }
+        Item::Closed(mark) => {
+            let _count = mark.n();
+            Ok(())
+        }
+    }
+}
+
+/// Puts all that items say of versions.
+fn put_items(alloc: Global, facts: &mut Facts, items: &[Item]) -> Result<(), Refusal>
+    ensures puts { Puts facts.old facts.new (flat_map said items.now) result }
+    ensures lawful { OnOk result (All IsItem items.now) }
+{
+    for item in items {
+        if let Err(why) = put_item(alloc, facts, item) {
+            return Err(why);
+        }
+    }
+    Ok(())
+}
+
+/// Notes the number of an entry, or a mark.
+fn note_item(got: &mut Got, config: Config, item: &Item) -> Result<(), Refusal>
+    requires many { length got.old ≡ config.streams }
+    requires fits { items_spec.misfit config.log config.streams item.now ≡ None }
+    ensures ok { OnOk result (got.new ≡ all_together got.old (streams_of (length got.old) (item.now ∷ []))) }
+    ensures err { IfErr result (λ why. why ≡ Memory) }
+{
+    match item {
+        Item::Commit(entry) => got.add_number(entry.stream(), entry.number()),
+        Item::Closed(mark) => got.add_mark(mark.stream(), mark.n(), mark.m()),
+    }
+}
+
+/// What items tell of the streams.
+fn note_items(alloc: Global, config: Config, items: &[Item]) -> Result<Got, Refusal>
+    requires { rules.first_misfit config items.now ≡ None }
+    ensures ok { IfOk result (λ got. got ≡ streams_of config.streams items.now) }
+    ensures err { IfErr result (λ why. why ≡ Memory) }
+{
+    let mut got = Got::new(alloc, config)?;
+    for item in items {
+        note_item(&mut got, config, item)?;
+    }
+    Ok(got)
+}
+
+/// The fragment of items of the log. It is refused `Conflict` only where two of them contradict each other, and
+/// else `Memory`.
+fn gather(alloc: Global, config: Config, items: &[Item]) -> Result<Fragment, Refusal>
+    requires { rules.first_misfit config items.now ≡ None }
+    ensures ok { IfOk result (λ fragment. fragment ≡ part config items.now 0 0) }
+    ensures agree { OnOk result (are_at_odds items.now ≡ false) }
+    ensures err { IfErr result (λ why. (why ≡ Memory) ⊎ ((why ≡ Contradiction) × (are_at_odds items.now ≡ true))) }
+{
+    let mut facts = Facts::new(alloc);
+    if let Err(why) = put_items(alloc, &mut facts, items) {
+        return Err(why);
+    }
+    let got = note_items(alloc, config, items)?;
+    let versions = facts.versions(alloc)?;
+    let left = left_of(alloc, Time::zero(), &versions)?;
+    let beginning = Time::zero();
+    Ok(Fragment::of_parts(config, beginning, beginning, got, left))
+}
+
+/// The fragment of items, with base 0 and horizon 0: the union of what they say, and all their numbers and marks.
+///
+/// The first item that is of another log is refused `ForeignLog`, or of a stream above the configured number
+/// `WrongStreams`. Two items that give a version different rows or different ends are refused `Conflict`, and
+/// then `Memory` comes where a growth was refused. The cost grows as the number of facts times its logarithm, and
+/// the rows are copied. Only where memory was refused, the items are compared with each other, which takes no
+/// memory, and costs by the square of what they say.
+pub fn fragment_of(alloc: Global, config: Config, items: &[Item]) -> Result<Fragment, Refusal>
+    ensures gives { Gathers config items.now result }
+    ensures stands { GathersOf config items.now result }
+{
+    gathered(alloc, config, items)
+}
+
+fn gathered(alloc: Global, config: Config, items: &[Item]) -> Result<Fragment, Refusal>
+    ensures { Gathers config items.now result }
+{
+    if let Some(why) = first_misfit(config, items) {
+        return Err(why);
+    }
+    match gather(alloc, config, items) {
+        Ok(fragment) => Ok(fragment),
+        Err(why) => Err(refusal_of(why, items)),
+    }
+}
+
+/// A conflict is refused before want of memory.
+fn refusal_of(why: Refusal, items: &[Item]) -> Refusal
+    ensures conflict { are_at_odds items.now ≡ true → result ≡ Contradiction }
+    ensures other { are_at_odds items.now ≡ false → result ≡ why }
+{
+    if conflict(items) {
+        Refusal::Conflict
+    } else {
+        why
+    }
+}

@@ -1,0 +1,16 @@
+//! Fragments: the parts of a replica's content that are sent to another replica of the same log.
+#![tactic(auto)]
+
+mod conflicts;
+mod cutting;
+mod fragment;
+mod gathering;
+mod joining;
+
+pub use cutting::{delta_since, whole_of};
+pub use fragment::Fragment;
+pub use gathering::fragment_of;
+pub use joining::join;
+
+#[cfg(test)]
+mod tests;
