@@ -1,0 +1,116 @@
+-- How long the spellings are.
+use Rattle.std.proofs.Common.{◌≡◌, ℕ, ◌+◌, ◌<◌, List, [], ◌∷◌, Some, None, length, take, get_or, refl, ap, ◌∙◌, arith}
+use Rattle.std.specs.List.{flat_map}
+use Rattle.std.proofs.lemmas.List.{length-append, append-nil, take_more}
+use Rattle.std.proofs.lemmas.Grind.{flat_map-append}
+use Rattle.std.proofs.lemmas.List.Concat.{flat_map-cons}
+use Rattle.hk_types.specs.Values.{RowValue}
+use Rattle.hk_model.specs.Answers.{AnswerValue, One, Rows, Number}
+use Rattle.hk_wire.specs.Answers.{row_text, keyed_text, answer_text}
+use Rattle.hk_model.specs.declared.query.Query.{Query}
+use Rattle.hk_model.specs.declared.query.Query.TheVariants.{Get, Range, ByTag, Count}
+use Rattle.hk_codec.proofs.Lengths.{len16, len32, len64}
+use Rattle.hk_types.specs.declared.faults.Refusal.{Refusal}
+use Rattle.hk_wire.specs.Refusals.{refusal_text}
+use Rattle.hk_wire.specs.Replies.{Done, Front as Told, Answer, Refused, reply_rest}
+use Rattle.hk_wire.specs.Queries.{query_text}
+use Rattle.hk_log.specs.declared.item.Item.{Item}
+use Rattle.hk_codec.specs.Frames.{spelling}
+use Rattle.hk_wire.specs.Requests.{Items, Front as AskFront, Delta, Full, Ask, Prune, request_rest}
+
+pub get_len : (table key : ℕ) → length (query_text (Get table key)) ≡ 11
+unfolding query_text
+get_len table key = simp (length-append, len16, len64) refl
+
+pub range_len : (table low high : ℕ) → length (query_text (Range table low high)) ≡ 19
+unfolding query_text
+range_len table low high = simp (length-append, len16, len64) refl
+
+pub by_tag_len : (table tag : ℕ) → length (query_text (ByTag table tag)) ≡ 7
+unfolding query_text
+by_tag_len table tag = simp (length-append, len16, len32) refl
+
+pub count_len : (table : ℕ) → length (query_text (Count table)) ≡ 3
+unfolding query_text
+count_len table = simp (len16) refl
+
+pub front_len : length (request_rest AskFront) ≡ 2
+unfolding request_rest
+front_len = refl
+
+pub delta_len : (base : ℕ) → length (request_rest (Delta base)) ≡ 10
+unfolding request_rest
+delta_len base = simp (len64) refl
+
+pub full_len : length (request_rest Full) ≡ 2
+unfolding request_rest
+full_len = refl
+
+pub ask_len : (t : ℕ) (query : Query) → length (request_rest (Ask t query)) ≡ 10 + length (query_text query)
+unfolding request_rest
+ask_len t query = simp (length-append, len64) (omega arith)
+
+pub prune_len : (horizon : ℕ) → length (request_rest (Prune horizon)) ≡ 10
+unfolding request_rest
+prune_len horizon = simp (len64) refl
+
+pub done_len : (ops : ℕ) → length (reply_rest (Done ops)) ≡ 10
+unfolding reply_rest
+done_len ops = simp (len64) refl
+
+pub told_len : (horizon readable : ℕ) → length (reply_rest (Told horizon readable)) ≡ 18
+unfolding reply_rest
+told_len horizon readable = simp (length-append, len64) refl
+
+pub refused_len : (why : Refusal) → length (reply_rest (Refused why)) ≡ 19
+unfolding reply_rest refusal_text
+refused_len why = simp (length-append, len64) refl
+
+-- ---- lists
+
+-- one element more
+pub one_longer : {X : Type 0} (text : X → List ℕ) (xs : List X) (i : ℕ) (d : X) → i < length xs → length (flat_map text (take (i + 1) xs)) ≡ length (flat_map text (take i xs)) + length (text (get_or xs i d))
+one_longer text xs i d lt =
+    ap (λ ys. length (flat_map text ys)) (take_more xs i d lt)
+    ∙ ap length (flat_map-append text (take i xs) (get_or xs i d ∷ []))
+    ∙ length-append (flat_map text (take i xs)) (flat_map text (get_or xs i d ∷ []))
+    ∙ ap (λ (k : ℕ). length (flat_map text (take i xs)) + k) (ap length (flat_map-cons text (get_or xs i d) [] ∙ append-nil (text (get_or xs i d))))
+
+-- ---- answers
+
+pub row_len : (row : RowValue) → length (row_text row) ≡ 6 + length row.body
+unfolding row_text
+row_len row = simp (length-append, len16, len32) (omega arith)
+
+keyed_len : (e : ℕ × RowValue) → length (keyed_text e) ≡ 14 + length e.1.body
+unfolding keyed_text
+keyed_len e = simp (length-append, len64, row_len) (omega arith)
+
+pub rows_more : (rows : List (ℕ × RowValue)) (i : ℕ) (d : ℕ × RowValue) → i < length rows → length (flat_map keyed_text (take (i + 1) rows)) ≡ length (flat_map keyed_text (take i rows)) + (14 + length (get_or rows i d).1.body)
+rows_more rows i d lt = one_longer keyed_text rows i d lt ∙ ap (λ (k : ℕ). length (flat_map keyed_text (take i rows)) + k) (keyed_len (get_or rows i d))
+
+pub none_len : length (answer_text (One None)) ≡ 2
+unfolding answer_text
+none_len = refl
+
+pub some_len : (row : RowValue) → length (answer_text (One (Some row))) ≡ 8 + length row.body
+unfolding answer_text
+some_len row = simp (row_len) (omega arith)
+
+pub rows_answer_len : (rows : List (ℕ × RowValue)) → length (answer_text (Rows rows)) ≡ 5 + length (flat_map keyed_text rows)
+unfolding answer_text
+rows_answer_len rows = simp (length-append, len32) (omega arith)
+
+pub number_answer_len : (n : ℕ) → length (answer_text (Number n)) ≡ 9
+unfolding answer_text
+number_answer_len n = simp (len64) refl
+
+pub answer_rest_len : (a : AnswerValue) → length (reply_rest (Answer a)) ≡ 2 + length (answer_text a)
+unfolding reply_rest
+answer_rest_len a = omega arith
+
+-- ---- items
+
+pub items_rest_len : (items : List Item) → length (request_rest (Items items)) ≡ 6 + length (flat_map spelling items)
+unfolding request_rest
+items_rest_len items = simp (length-append, len32) (omega arith)

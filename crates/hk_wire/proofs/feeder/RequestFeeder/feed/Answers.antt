@@ -1,0 +1,5 @@
+use Rattle.hk_wire.proofs.Formats.{request_format}
+use Rattle.hk_wire.proofs.feeder.RequestFeeder.feed.Goals as goal
+
+pub feed-requires : goal.feed-requires
+feed-requires c = request_format

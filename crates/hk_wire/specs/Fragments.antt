@@ -1,0 +1,203 @@
+-- Fragments: what their bytes tell, their spelling and their reading.
+use Rattle.std.specs.Prelude.{◌≡◌, ℕ, ◌+◌, ◌^◌, ◌<◌, ◌≤◌, Bool, true, false, not, ◌&&◌, ◌||◌, max, min, nat_lt, nat_le, ◌==◌, if◌then◌else◌, List, [], ◌∷◌, ◌++◌, length, map, Option, Some, None, Ok, Err}
+use Rattle.std.specs.Int.{w16, w32, w64}
+use Rattle.std.specs.List.{flat_map, AllByRecursion}
+use Rattle.std.specs.Ordering.{nat_cmp}
+use Rattle.std.specs.FinMap as finmap
+use Rattle.std.specs.FinSet as set
+use Rattle.hk_types.specs.Values.{RowValue}
+use Rattle.hk_types.specs.declared.version_key.VersionKey.{VersionKey}
+use Rattle.hk_types.specs.declared.faults.FormFault.TheVariants.{BadStream, BadNumber, BadOrder}
+use Rattle.hk_log.specs.Versions.{VersionValue}
+use Rattle.hk_model.specs.Streams.{StreamContent, covers}
+use Rattle.hk_model.specs.Fragments.{FragmentValue}
+use Rattle.hk_marks.specs.Steps.{extra_numbers}
+use Rattle.hk_delta.specs.Parts.{Known, versions_listed, follows, row_stands, end_stands}
+use Rattle.hk_codec.specs.Fields.{◌>>=◌, check, number, byte_at, number_at, list_at}
+use Rattle.hk_wire.specs.Readers.{Reader, both, after, barred, made, kinded, counted, time_at}
+use Rattle.hk_wire.specs.Answers.{row_text, row_at, RowFits}
+
+-- what is told of a stream: the number up to which all are taken, the closed time, the taken numbers above it,
+-- and the waiting marks by their counts
+pub record StreamTold : Type 0 where
+  pub prefix : ℕ
+  pub closed : ℕ
+  pub extra : List ℕ
+  pub waiting : List (ℕ × ℕ)
+
+-- what is told of a fragment: its facts as one list of versions
+pub record FragmentTold : Type 0 where
+  pub log : ℕ
+  pub base : ℕ
+  pub horizon : ℕ
+  pub streams : List StreamTold
+  pub facts : List Known
+
+-- the greatest of these numbers up to which all are taken, else 0
+abbrev pub greatest_reached : set.FinSet nat_cmp → List ℕ → ℕ
+greatest_reached taken [] = 0
+greatest_reached taken (q ∷ numbers) = if covers taken q then max q (greatest_reached taken numbers) else greatest_reached taken numbers
+
+-- what is told of a stream
+abbrev pub stream_seen : StreamContent → StreamTold
+stream_seen s =
+    record {
+      prefix = greatest_reached s.taken (set.items s.taken);
+      closed = s.closed;
+      extra = set.items (extra_numbers s);
+      waiting = finmap.entries s.waiting;
+    }
+
+-- what is told of a fragment
+abbrev pub fragment_seen : FragmentValue → FragmentTold
+fragment_seen f =
+    record {
+      log = f.content.log;
+      base = f.base;
+      horizon = f.content.horizon;
+      streams = map stream_seen f.content.streams;
+      facts = versions_listed f.content;
+    }
+
+-- ---- spelling
+
+-- a count and a time
+abbrev pub mark_text : ℕ × ℕ → List ℕ
+mark_text m = number w64 m.0 ++ number w64 m.1
+
+unfoldable pub stream_text : StreamTold → List ℕ
+stream_text s =
+    number w64 s.prefix ++ (number w64 s.closed
+    ++ ((number w32 (length s.extra) ++ flat_map (number w64) s.extra)
+    ++ (number w32 (length s.waiting) ++ flat_map mark_text s.waiting)))
+
+-- 1 with a row, 2 with an end, 3 with both
+abbrev pub flags_of : Option RowValue → Option ℕ → ℕ
+flags_of None None = 0
+flags_of (Some row) None = 1
+flags_of None (Some died) = 2
+flags_of (Some row) (Some died) = 3
+
+abbrev pub known_flags : VersionValue → ℕ
+known_flags x = flags_of x.row x.died
+
+-- the row and the end, as far as they are known
+abbrev pub parts_text : Option RowValue → Option ℕ → List ℕ
+parts_text None None = []
+parts_text (Some row) None = row_text row
+parts_text None (Some died) = number w64 died
+parts_text (Some row) (Some died) = row_text row ++ number w64 died
+
+abbrev pub known_parts : VersionValue → List ℕ
+known_parts x = parts_text x.row x.died
+
+-- the name of a version
+abbrev pub version_text : VersionKey → List ℕ
+version_text v = number w16 v.table ++ (number w64 v.key ++ number w64 v.born)
+
+-- a version, the flags, and what is known of it
+unfoldable pub fact_text : Known → List ℕ
+fact_text e = version_text e.0 ++ (known_flags e.1 ∷ known_parts e.1)
+
+unfoldable pub fragment_text : FragmentTold → List ℕ
+fragment_text f =
+    number w64 f.log ++ (number w16 (length f.streams) ++ (number w64 f.base ++ (number w64 f.horizon
+    ++ (flat_map stream_text f.streams ++ (number w32 (length f.facts) ++ flat_map fact_text f.facts)))))
+
+-- ---- reading
+
+-- a number after the one before it, where there is one
+abbrev pub number_follows : Option ℕ → ℕ → Bool
+number_follows None n = true
+number_follows (Some before) n = nat_lt before n
+
+-- an extra number: after the one before it, above the prefix and the next number, and at most 2^62
+unfoldable pub extra_at : ℕ → Option ℕ → Reader ℕ
+extra_at prefix before bytes =
+    barred (barred (number_at w64) (λ n. not (number_follows before n)) BadOrder) (λ n. nat_le n (prefix + 1) || nat_lt (2 ^ 62) n) BadNumber bytes
+
+-- the count of a waiting mark: after the one before it, and above the prefix
+abbrev pub waiting_count_at : ℕ → Option ℕ → Reader ℕ
+waiting_count_at prefix before bytes =
+    barred (barred (number_at w64) (λ n. not (number_follows before n)) BadOrder) (λ n. nat_le n prefix) BadNumber bytes
+
+-- a waiting mark: its time is not below its count
+unfoldable pub waiting_at : ℕ → Option ℕ → Reader (ℕ × ℕ)
+waiting_at prefix before bytes = barred (both (waiting_count_at prefix before) time_at) (λ m. nat_lt m.1 m.0) BadNumber bytes
+
+-- what is told of a stream behind its prefix
+abbrev pub stream_of : ℕ → Reader (ℕ × (List ℕ × List (ℕ × ℕ)))
+stream_of prefix bytes = both time_at (both (counted (λ n. n) (extra_at prefix)) (counted (λ m. m.0) (waiting_at prefix))) bytes
+
+-- a stream
+unfoldable pub stream_at : Reader StreamTold
+stream_at bytes = made (λ s. record { prefix = s.0; closed = s.1.0; extra = s.1.1.0; waiting = s.1.1.1 }) (after time_at stream_of) bytes
+
+-- a version after the one before it, born at 1 or later
+unfoldable pub version_at : Option VersionKey → Reader VersionKey
+version_at before bytes =
+    barred (barred (made (λ p. record { table = p.0; key = p.1.0; born = p.1.1 }) (both (number_at w16) (both (number_at w64) (number_at w64)))) (λ v. not (follows before v)) BadOrder)
+    (λ v. nat_lt v.born 1 || nat_lt (2 ^ 62) v.born) BadNumber bytes
+
+-- an end above the base, the horizon and the birth of its version
+abbrev pub died_at : ℕ → ℕ → ℕ → Reader ℕ
+died_at base horizon born bytes = barred time_at (λ died. not (end_stands base horizon born (Some died))) BadNumber bytes
+
+-- what is known of a version, by its flags; a row is of a version that was born above the base
+unfoldable pub known_of : ℕ → ℕ → ℕ → ℕ → Reader VersionValue
+known_of base horizon born flags bytes =
+    if flags == 2 then made (λ died. record { row = None; died = Some died }) (died_at base horizon born) bytes
+    else if nat_le born base then Err BadNumber
+    else if flags == 1 then made (λ row. record { row = Some row; died = None }) row_at bytes
+    else if flags == 3 then made (λ p. record { row = Some p.0; died = Some p.1 }) (both row_at (died_at base horizon born)) bytes
+    else Err BadNumber
+
+-- a fact after the version before it
+unfoldable pub fact_at : ℕ → ℕ → Option VersionKey → Reader Known
+fact_at base horizon before bytes = after (version_at before) (λ v. kinded (known_of base horizon v.born)) bytes
+
+-- the least closed time of the streams
+abbrev pub least_told : List StreamTold → ℕ
+least_told [] = 0
+least_told (s ∷ []) = s.closed
+least_told (s ∷ t ∷ more) = min s.closed (least_told (t ∷ more))
+
+-- streams stand in their order
+abbrev pub no_stream : StreamTold → Unit {0}
+no_stream s = tt
+
+-- a base that is 0 or not below the horizon, and the horizon
+unfoldable pub bounds_at : Reader (ℕ × ℕ)
+bounds_at bytes = barred (both time_at time_at) (λ p. not ((p.0 == 0) || nat_le p.1 p.0)) BadNumber bytes
+
+-- so many streams, of which none is closed below the horizon
+unfoldable pub streams_at : ℕ → ℕ → Reader (List StreamTold)
+streams_at horizon count bytes = barred (list_at no_stream (λ _. stream_at) count None) (λ streams. nat_lt (least_told streams) horizon) BadNumber bytes
+
+-- a number of streams, 1 to 64
+unfoldable pub stream_count_at : Reader ℕ
+stream_count_at bytes = barred (number_at w16) (λ n. nat_lt n 1 || nat_lt 64 n) BadStream bytes
+
+-- the log, the number of streams, the base and the horizon
+abbrev pub fragment_head_at : Reader (ℕ × (ℕ × (ℕ × ℕ)))
+fragment_head_at bytes = both (number_at w64) (both stream_count_at bounds_at) bytes
+
+-- the facts behind their count
+abbrev pub facts_at : ℕ → ℕ → Reader (List Known)
+facts_at base horizon bytes = counted (λ e. e.0) (fact_at base horizon) bytes
+
+-- a fragment: the head, the streams, the facts
+unfoldable pub fragment_at : Reader FragmentTold
+fragment_at bytes =
+    made (λ p. record { log = p.0.0.0; base = p.0.0.1.1.0; horizon = p.0.0.1.1.1; streams = p.0.1; facts = p.1 })
+    (after (after fragment_head_at (λ h. streams_at h.1.1.1 h.1.0)) (λ p. facts_at p.0.1.1.0 p.0.1.1.1)) bytes
+
+-- ---- what can be told
+
+-- an extra number in its place
+abbrev pub ExtraFits : ℕ → Option ℕ → ℕ → Type 0
+ExtraFits prefix before n = (number_follows before n ≡ true) × ((prefix + 1 < n) × (n ≤ 2 ^ 62))
+
+-- a waiting mark in its place
+abbrev pub WaitingFits : ℕ → Option ℕ → ℕ × ℕ → Type 0
+WaitingFits prefix before m = (number_follows before m.0 ≡ true) × ((prefix < m.0) × ((m.0 ≤ m.1) × (m.1 ≤ 2 ^ 62)))

@@ -1,0 +1,46 @@
+-- Readers of fields, and what is made of them.
+use Rattle.std.specs.Prelude.{ℕ, ◌^◌, Bool, nat_lt, List, Option, None, Result, Ok}
+use Rattle.std.specs.Int.{w32, w64}
+use Rattle.hk_types.specs.declared.faults.FormFault.{FormFault}
+use Rattle.hk_types.specs.declared.faults.FormFault.TheVariants.{BadNumber}
+use Rattle.hk_codec.specs.Fields.{◌>>=◌, check, byte_at, number_at, list_at}
+
+-- a reader gives a value at the front of bytes, and the bytes after it, or the first fault
+abbrev pub Reader : Type 0 → Type 0
+Reader X = List ℕ → Result (X × List ℕ) FormFault
+
+-- one value, and then another
+abbrev pub both : {A B : Type 0} → Reader A → Reader B → Reader (A × B)
+both first second bytes = first bytes >>= λ a. second a.1 >>= λ b. Ok ((a.0, b.0), b.1)
+
+-- one value, and then another, which is read as the first one says
+abbrev pub after : {A B : Type 0} → Reader A → (A → Reader B) → Reader (A × B)
+after first second bytes = first bytes >>= λ a. second a.0 a.1 >>= λ b. Ok ((a.0, b.0), b.1)
+
+-- a value, with a fault where it is barred
+abbrev pub barred : {A : Type 0} → Reader A → (A → Bool) → FormFault → Reader A
+barred reader bad fault bytes = reader bytes >>= λ a. check (bad a.0) fault >>= λ _. Ok a
+
+-- what is made of a value
+abbrev pub made : {A B : Type 0} → (A → B) → Reader A → Reader B
+made f reader bytes = reader bytes >>= λ a. Ok (f a.0, a.1)
+
+-- nothing
+abbrev pub nothing : {A : Type 0} → A → Reader A
+nothing x bytes = Ok (x, bytes)
+
+-- a byte that tells the kind, and then what it says
+abbrev pub kinded : {A : Type 0} → (ℕ → Reader A) → Reader A
+kinded of_kind bytes = byte_at bytes >>= λ kind. of_kind kind.0 kind.1
+
+-- a time, 0 to 2^62
+unfoldable pub time_at : Reader ℕ
+time_at bytes = barred (number_at w64) (λ n. nat_lt (2 ^ 62) n) BadNumber bytes
+
+-- a list behind its count, each element read by `one`, which is told the place of the element before it
+abbrev pub listed : {X P : Type 0} → Reader ℕ → (X → P) → (Option P → Reader X) → Reader (List X)
+listed count_at place one bytes = count_at bytes >>= λ count. list_at place one count.0 None count.1
+
+-- a list behind a count of four bytes
+abbrev pub counted : {X P : Type 0} → (X → P) → (Option P → Reader X) → Reader (List X)
+counted place one bytes = listed (number_at w32) place one bytes

@@ -1,0 +1,103 @@
+-- Replies: their spelling and their reading.
+use Rattle.std.specs.Prelude.{◌≡◌, ℕ, ◌^◌, ◌<◌, ◌≤◌, Bool, true, ◌&&◌, ◌||◌, nat_le, nat_lt, ◌==◌, if◌then◌else◌, List, ◌++◌, length, Result, Err}
+use Rattle.std.specs.Int.{w64}
+use Rattle.hk_types.specs.declared.faults.FormFault.{FormFault}
+use Rattle.hk_types.specs.declared.faults.FormFault.TheVariants.{BadKind, BadNumber}
+use Rattle.hk_codec.specs.Fields.{number, number_at}
+use Rattle.hk_codec.specs.Framing.{spelled, Begins, AddsValues}
+use Rattle.hk_wire.specs.declared.reply.Reply.{Reply}
+use Rattle.hk_wire.specs.declared.reply.Reply.TheVariants as replied
+use Rattle.hk_types.specs.declared.faults.Refusal.{Refusal}
+use Rattle.hk_model.specs.Answers.{AnswerValue, answer_seen}
+use Rattle.hk_wire.specs.Answers.{answer_text, answer_at, answer_keeps_rules, AnswerFits}
+use Rattle.hk_wire.specs.Readers.{Reader, both, barred, made, time_at}
+use Rattle.hk_wire.specs.Messages.{message_text, message_at}
+use Rattle.hk_wire.specs.Refusals.{refusal_text, refusal_at, RefusalFits, is_sent}
+
+-- the value of a `Reply`
+pub data ReplyValue : Type 0 where
+  Done : ℕ → ReplyValue
+  Front : ℕ → ℕ → ReplyValue
+  Answer : AnswerValue → ReplyValue
+  Refused : Refusal → ReplyValue
+
+-- the value that a `Reply` has
+abbrev pub reply_seen : Reply → ReplyValue
+reply_seen (replied.Done ops) = Done ops
+reply_seen (replied.Front front) = Front front.horizon front.readable
+reply_seen (replied.Answer a) = Answer (answer_seen a)
+reply_seen (replied.Refused why) = Refused why
+
+-- the kind byte of a reply
+abbrev pub reply_kind : ReplyValue → ℕ
+reply_kind (Done ops) = 32
+reply_kind (Front horizon readable) = 33
+reply_kind (Answer a) = 35
+reply_kind (Refused why) = 36
+
+-- its body
+abbrev pub reply_body : ReplyValue → List ℕ
+reply_body (Done ops) = number w64 ops
+reply_body (Front horizon readable) = number w64 horizon ++ number w64 readable
+reply_body (Answer a) = answer_text a
+reply_body (Refused why) = refusal_text why
+
+-- the rest of its frame
+unfoldable pub reply_rest : ReplyValue → List ℕ
+reply_rest r = message_text (reply_kind r) (reply_body r)
+
+-- its spelling: the length of the rest, and the rest
+abbrev pub reply_text : ReplyValue → List ℕ
+reply_text r = spelled reply_rest r
+
+-- whether a reply keeps the rules of its kind
+abbrev pub keeps_rules : ReplyValue → Bool
+keeps_rules (Done ops) = nat_lt 0 ops && nat_le ops (2 ^ 62)
+keeps_rules (Front horizon readable) = nat_le horizon readable
+keeps_rules (Answer a) = answer_keeps_rules a
+keeps_rules (Refused why) = is_sent why
+
+-- whether a reply has a spelling: it keeps its rules, and its rest has at most 2^28 bytes
+abbrev pub has_spelling : ReplyValue → Bool
+has_spelling r = keeps_rules r && nat_le (length (reply_rest r)) 268435456
+
+-- a reply whose numbers fit their fields
+abbrev pub ReplyFits : ReplyValue → Type 0
+ReplyFits (Done ops) = ops < 2 ^ 64
+ReplyFits (Front horizon readable) = (horizon ≤ 2 ^ 62) × (readable ≤ 2 ^ 62)
+ReplyFits (Answer a) = AnswerFits a
+ReplyFits (Refused why) = RefusalFits why
+
+-- what has a spelling
+abbrev pub IsReply : ReplyValue → Type 0
+IsReply r = ReplyFits r × (has_spelling r ≡ true)
+
+-- a number of operations, 1 to 2^62
+unfoldable pub ops_at : Reader ℕ
+ops_at bytes = barred (number_at w64) (λ ops. ops == 0 || nat_lt (2 ^ 62) ops) BadNumber bytes
+
+-- a horizon, and a readable mark that is not below it
+unfoldable pub front_at : Reader (ℕ × ℕ)
+front_at bytes = barred (both time_at time_at) (λ p. nat_lt p.1 p.0) BadNumber bytes
+
+-- the body of a kind
+unfoldable pub reply_of : ℕ → Reader ReplyValue
+reply_of kind bytes =
+    if kind == 32 then made (λ ops. Done ops) ops_at bytes
+    else if kind == 33 then made (λ p. Front p.0 p.1) front_at bytes
+    else if kind == 35 then made (λ a. Answer a) answer_at bytes
+    else if kind == 36 then made (λ why. Refused why) refusal_at bytes
+    else Err BadKind
+
+-- the reply that is all of the rest of a frame
+unfoldable pub reply_at : List ℕ → Result ReplyValue FormFault
+reply_at bytes = message_at reply_of bytes
+
+-- The text begins with the spellings of these replies. After them comes less than a frame, which is left, or
+-- bytes with this fault.
+abbrev pub ReadsReplies : List ℕ → List Reply → Result (List ℕ) FormFault → Type 0
+ReadsReplies text replies left = Begins 2 268435456 reply_at (λ r. reply_rest (reply_seen r)) (λ r. IsReply (reply_seen r)) text replies left
+
+-- what is added to a list where this text is read so far
+abbrev pub AddsReplies : List Reply → List Reply → List ℕ → Result (List ℕ) FormFault → Type 0
+AddsReplies before after text left = AddsValues 2 268435456 reply_at (λ r. reply_rest (reply_seen r)) (λ r. IsReply (reply_seen r)) before after text left

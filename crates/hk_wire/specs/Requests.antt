@@ -1,0 +1,136 @@
+-- Requests: their spelling and their reading.
+use Rattle.std.specs.Prelude.{◌≡◌, ℕ, ◌^◌, ◌≤◌, Bool, true, ◌&&◌, nat_le, nat_lt, ◌==◌, if◌then◌else◌, List, [], ◌++◌, length, Option, Some, None, Result, Ok, Err}
+use Rattle.std.specs.List.{flat_map, AllByRecursion}
+use Rattle.std.specs.Int.{w32, w64}
+use Rattle.hk_types.specs.declared.faults.FormFault.{FormFault}
+use Rattle.hk_types.specs.declared.faults.FormFault.TheVariants.{BadKind, BadCount, WrongLength}
+use Rattle.hk_log.specs.declared.item.Item.{Item}
+use Rattle.hk_model.specs.declared.query.Query.{Query}
+use Rattle.hk_codec.specs.Fields.{◌>>=◌, number, number_at, bytes_at, list_at}
+use Rattle.hk_codec.specs.Spelling.{IsItem}
+use Rattle.hk_codec.specs.Frames.{spelling, frame_at}
+use Rattle.hk_codec.specs.Framing.{spelled, Begins, AddsValues}
+use Rattle.hk_wire.specs.declared.request.Request.{Request}
+use Rattle.hk_wire.specs.declared.request.Request.TheVariants as asked
+use Rattle.hk_wire.specs.Readers.{Reader, both, barred, made, nothing, listed, time_at}
+use Rattle.hk_wire.specs.Messages.{message_text, message_at}
+use Rattle.hk_wire.specs.Queries.{query_text, query_at, QueryFits}
+
+-- the value of a `Request`
+pub data RequestValue : Type 0 where
+  Items : List Item → RequestValue
+  Front : RequestValue
+  Delta : ℕ → RequestValue
+  Full : RequestValue
+  Ask : ℕ → Query → RequestValue
+  Prune : ℕ → RequestValue
+
+-- the value that a `Request` has
+abbrev pub request_seen : Request → RequestValue
+request_seen (asked.Items items) = Items items.items
+request_seen asked.Front = Front
+request_seen (asked.Delta base) = Delta base
+request_seen asked.Full = Full
+request_seen (asked.Ask t query) = Ask t query
+request_seen (asked.Prune horizon) = Prune horizon
+
+-- the kind byte of a request
+abbrev pub request_kind : RequestValue → ℕ
+request_kind (Items items) = 16
+request_kind Front = 17
+request_kind (Delta base) = 18
+request_kind Full = 19
+request_kind (Ask t query) = 20
+request_kind (Prune horizon) = 23
+
+-- its body
+abbrev pub request_body : RequestValue → List ℕ
+request_body (Items items) = number w32 (length items) ++ flat_map spelling items
+request_body Front = []
+request_body (Delta base) = number w64 base
+request_body Full = []
+request_body (Ask t query) = number w64 t ++ query_text query
+request_body (Prune horizon) = number w64 horizon
+
+-- the rest of its frame
+unfoldable pub request_rest : RequestValue → List ℕ
+request_rest r = message_text (request_kind r) (request_body r)
+
+-- its spelling: the length of the rest, and the rest
+abbrev pub request_text : RequestValue → List ℕ
+request_text r = spelled request_rest r
+
+-- whether a request keeps the rules of its kind
+abbrev pub keeps_rules : RequestValue → Bool
+keeps_rules (Items items) = nat_le (length items) 65536
+keeps_rules Front = true
+keeps_rules (Delta base) = true
+keeps_rules Full = true
+keeps_rules (Ask t query) = true
+keeps_rules (Prune horizon) = true
+
+-- whether a request has a spelling: it keeps its rules, and its rest has at most 2^28 bytes
+abbrev pub has_spelling : RequestValue → Bool
+has_spelling r = keeps_rules r && nat_le (length (request_rest r)) 268435456
+
+-- a request whose numbers fit their fields
+abbrev pub RequestFits : RequestValue → Type 0
+RequestFits (Items items) = AllByRecursion IsItem items
+RequestFits Front = Unit {0}
+RequestFits (Delta base) = base ≤ 2 ^ 62
+RequestFits Full = Unit {0}
+RequestFits (Ask t query) = (t ≤ 2 ^ 62) × QueryFits query
+RequestFits (Prune horizon) = horizon ≤ 2 ^ 62
+
+-- what has a spelling
+abbrev pub IsRequest : RequestValue → Type 0
+IsRequest r = RequestFits r × (has_spelling r ≡ true)
+
+-- a whole item frame, and the bytes after it
+abbrev pub frame_taken : Option (Item × ℕ) → Reader Item
+frame_taken None bytes = Err WrongLength
+frame_taken (Some frame) bytes = bytes_at frame.1 bytes >>= λ taken. Ok (frame.0, taken.1)
+
+-- the item frame at the front; one that is not all there is of a wrong length
+unfoldable pub item_frame_at : Reader Item
+item_frame_at bytes = frame_at bytes >>= λ frame. frame_taken frame bytes
+
+-- a count of items, at most 65,536
+unfoldable pub item_count_at : Reader ℕ
+item_count_at bytes = barred (number_at w32) (λ count. nat_lt 65536 count) BadCount bytes
+
+-- items stand in any order
+abbrev pub no_place : Item → Unit {0}
+no_place item = tt
+
+-- so many item frames
+abbrev pub item_frames_at : ℕ → Option (Unit {0}) → Reader (List Item)
+item_frames_at count before bytes = list_at no_place (λ _. item_frame_at) count before bytes
+
+-- the items behind their count
+unfoldable pub items_at : Reader (List Item)
+items_at bytes = listed item_count_at no_place (λ _. item_frame_at) bytes
+
+-- the body of a kind
+unfoldable pub request_of : ℕ → Reader RequestValue
+request_of kind bytes =
+    if kind == 16 then made (λ items. Items items) items_at bytes
+    else if kind == 17 then nothing Front bytes
+    else if kind == 18 then made (λ base. Delta base) time_at bytes
+    else if kind == 19 then nothing Full bytes
+    else if kind == 20 then made (λ p. Ask p.0 p.1) (both time_at query_at) bytes
+    else if kind == 23 then made (λ horizon. Prune horizon) time_at bytes
+    else Err BadKind
+
+-- the request that is all of the rest of a frame
+unfoldable pub request_at : List ℕ → Result RequestValue FormFault
+request_at bytes = message_at request_of bytes
+
+-- The text begins with the spellings of these requests. After them comes less than a frame, which is left,
+-- or bytes with this fault.
+abbrev pub ReadsRequests : List ℕ → List Request → Result (List ℕ) FormFault → Type 0
+ReadsRequests text requests left = Begins 2 268435456 request_at (λ r. request_rest (request_seen r)) (λ r. IsRequest (request_seen r)) text requests left
+
+-- what is added to a list where this text is read so far
+abbrev pub AddsRequests : List Request → List Request → List ℕ → Result (List ℕ) FormFault → Type 0
+AddsRequests before after text left = AddsValues 2 268435456 request_at (λ r. request_rest (request_seen r)) (λ r. IsRequest (request_seen r)) before after text left

@@ -1,0 +1,121 @@
+//! The one spelling of a message.
+
+ghost use Rattle.std.specs.Prelude.{◌≡◌, ◌≤◌, ◌⊎◌, ◌++◌, ℕ, true, false, [], length, take, OnOk, OnErr, IfErr, IfSome, MatchOption};
+ghost use Rattle.std.specs.Int.{w32};
+ghost use Rattle.hk_types.specs.declared.faults.FormFault.TheVariants as faults;
+ghost use Rattle.hk_types.specs.declared.faults.Refusal.TheVariants as refusals;
+ghost use Rattle.hk_codec.specs.Fields.{number};
+ghost use Rattle.hk_wire.specs.Messages.{message_text};
+ghost use Rattle.hk_wire.specs.Requests as requests;
+
+use crate::head::{MOST_REST_BYTES, VERSION};
+use crate::items::{MOST_ITEMS, items_len, put_items};
+use crate::query::{put_query, query_len};
+use crate::request::{ASK, DELTA, FRONT, FULL, ITEMS, PRUNE, Request};
+use hk_codec::{put_u32, put_u64};
+use hk_types::{FormFault, Refusal};
+use std::alloc::AllocError;
+
+/// Adds the length of a rest, the version and the kind.
+#[tactic(auto, using(std::proofs::Common::append_assoc, hk_codec::proofs::Prefix::kept_all, hk_codec::proofs::Prefix::kept_before, hk_codec::proofs::Prefix::kept_both))]
+pub(crate) fn put_head(out: &mut Vec<u8>, rest: u32, kind: u8) -> Result<(), AllocError>
+    ensures ok { OnOk result (out.new.items ≡ out.old.items ++ (number w32 rest ++ message_text kind [])) }
+    ensures kept { OnErr result (take (length out.old.items) out.new.items ≡ out.old.items) }
+{
+    out.reserve(4 + rest as usize)?;
+    put_u32(out, rest)?;
+    out.push(VERSION)?;
+    out.push(kind)?;
+    Ok(())
+}
+
+/// Whether a request keeps the rules of its kind.
+fn keeps_rules(request: &Request) -> bool
+    ensures { result ≡ requests.keeps_rules (requests.request_seen request.now) }
+{
+    match request {
+        Request::Items(items) => items.len() <= MOST_ITEMS,
+        _ => true,
+    }
+}
+
+/// How many bytes the rest of the frame of a request that keeps its rules has.
+#[tactic(auto, using(crate::proofs::Lengths::items_rest_len, crate::proofs::Lengths::front_len, crate::proofs::Lengths::delta_len, crate::proofs::Lengths::full_len, crate::proofs::Lengths::ask_len, crate::proofs::Lengths::prune_len))]
+fn rest_len(request: &Request) -> u64
+    requires { requests.keeps_rules (requests.request_seen request.now) ≡ true }
+    ensures { result ≡ length (requests.request_rest (requests.request_seen request.now)) }
+{
+    match request {
+        Request::Items(items) => 6 + items_len(items),
+        Request::Front | Request::Full => 2,
+        Request::Delta { base: _ } => 10,
+        Request::Ask { t: _, query } => 10 + query_len(query) as u64,
+        Request::Prune { horizon: _ } => 10,
+    }
+}
+
+/// How many bytes the rest of a request's frame has, or `None` where it has no spelling.
+fn request_len(request: &Request) -> Option<u32>
+    ensures len { MatchOption result (requests.has_spelling (requests.request_seen request.now) ≡ false) (λ len. (requests.has_spelling (requests.request_seen request.now) ≡ true) × (len ≡ length (requests.request_rest (requests.request_seen request.now)))) }
+    ensures rules { IfSome result (λ _. requests.keeps_rules (requests.request_seen request.now) ≡ true) }
+{
+    if !keeps_rules(request) {
+        return None;
+    }
+    let len = rest_len(request);
+    if len > u64::from(MOST_REST_BYTES) {
+        return None;
+    }
+    Some(len as u32)
+}
+
+/// Adds a request's frame, whose rest has so many bytes.
+#[tactic(auto, using(std::proofs::Common::append_assoc, hk_codec::proofs::Prefix::kept_all, hk_codec::proofs::Prefix::kept_before, hk_codec::proofs::Prefix::kept_both), unfolding(hk_codec::specs::Framing::spelled, crate::specs::Requests::request_rest))]
+fn put_request(out: &mut Vec<u8>, request: &Request, rest: u32) -> Result<(), AllocError>
+    requires len { rest ≡ length (requests.request_rest (requests.request_seen request.now)) }
+    requires rules { requests.keeps_rules (requests.request_seen request.now) ≡ true }
+    ensures ok { OnOk result (out.new.items ≡ out.old.items ++ requests.request_text (requests.request_seen request.now)) }
+    ensures kept { OnErr result (take (length out.old.items) out.new.items ≡ out.old.items) }
+{
+    match request {
+        Request::Items(items) => {
+            put_head(out, rest, ITEMS)?;
+            put_items(out, items)
+        }
+        Request::Front => put_head(out, rest, FRONT),
+        Request::Delta { base } => {
+            put_head(out, rest, DELTA)?;
+            put_u64(out, base.number())
+        }
+        Request::Full => put_head(out, rest, FULL),
+        Request::Ask { t, query } => {
+            put_head(out, rest, ASK)?;
+            put_u64(out, t.number())?;
+            put_query(out, query)
+        }
+        Request::Prune { horizon } => {
+            put_head(out, rest, PRUNE)?;
+            put_u64(out, horizon.number())
+        }
+    }
+}
+
+/// Adds a request's one spelling at the end. A request without a spelling is refused `Form(TooLong)`: more
+/// than 65,536 items, and a rest of more than 2^28 bytes. After that comes `Memory`. On a refusal the output is as before. The
+/// whole frame is reserved at once; the cost is one growth of the output at most and two passes over the
+/// request, one that counts its bytes and one that writes them.
+pub fn encode_request(request: &Request, out: &mut Vec<u8>) -> Result<(), Refusal>
+    ensures ok { OnOk result ((requests.has_spelling (requests.request_seen request.now) ≡ true) × (out.new.items ≡ out.old.items ++ requests.request_text (requests.request_seen request.now))) }
+    ensures err { OnErr result (out.new.items ≡ out.old.items) }
+    ensures why { IfErr result (λ e. ((e ≡ refusals.Form faults.TooLong) × (requests.has_spelling (requests.request_seen request.now) ≡ false)) ⊎ ((e ≡ refusals.Memory) × (requests.has_spelling (requests.request_seen request.now) ≡ true))) }
+{
+    let Some(rest) = request_len(request) else {
+        return Err(Refusal::Form(FormFault::TooLong));
+    };
+    let start = out.len();
+    if put_request(out, request, rest).is_err() {
+        out.truncate(start);
+        return Err(Refusal::Memory);
+    }
+    Ok(())
+}

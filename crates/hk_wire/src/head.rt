@@ -1,0 +1,45 @@
+//! What each message begins and ends with, and times.
+
+ghost use Rattle.std.specs.Prelude.{◌≡◌, length, nat_lt, true};
+ghost use Rattle.hk_types.specs.declared.faults.FormFault.TheVariants.{WrongLength};
+ghost use Rattle.hk_codec.specs.Fields.{Gives, check};
+ghost use Rattle.hk_wire.specs.Messages.{head_at};
+ghost use Rattle.hk_wire.specs.Readers.{time_at};
+
+use hk_codec::Cursor;
+use hk_types::{FormFault, Time};
+
+/// The version byte.
+pub(crate) const VERSION: u8 = 1;
+
+/// The greatest length of the rest of a message's frame.
+pub(crate) const MOST_REST_BYTES: u32 = 268_435_456;
+
+/// Reads the version and the kind.
+#[tactic(auto, unfolding(crate::specs::Messages::head_at))]
+pub(crate) fn read_head(cursor: &mut Cursor) -> Result<u8, FormFault>
+    ensures { Gives (λ x. (x, cursor.new)) result (head_at cursor.old) }
+{
+    if cursor.u8()? != VERSION {
+        return Err(FormFault::BadVersion);
+    }
+    cursor.u8()
+}
+
+/// Tests that no byte is left.
+pub(crate) fn read_end(cursor: &Cursor) -> Result<(), FormFault>
+    ensures { Gives (λ _. true) result (check (nat_lt 0 (length cursor.now)) WrongLength) }
+{
+    if !cursor.is_empty() {
+        return Err(FormFault::WrongLength);
+    }
+    Ok(())
+}
+
+/// Reads a time.
+#[tactic(auto, unfolding(crate::specs::Readers::time_at))]
+pub(crate) fn read_time(cursor: &mut Cursor) -> Result<Time, FormFault>
+    ensures { Gives (λ x. (x, cursor.new)) result (time_at cursor.old) }
+{
+    Time::new(cursor.u64()?)
+}

@@ -1,0 +1,35 @@
+//! Messages: what is asked of a replica and what it replies, as bytes.
+//!
+//! A message stands in a frame of its own: a length of four bytes, the high one first, and then as many bytes,
+//! which are the version 1, the kind and the body. Each message has at most one spelling, which `encode_request`
+//! and `encode_reply` add at the end of bytes. A `RequestFeeder` and a `ReplyFeeder` read the messages of a
+//! stream that comes in any pieces, and give exactly those whose spellings the bytes begin with, and the first
+//! fault of what follows them.
+//!
+//! Fragments are not sent yet: the requests to join and to merge one, kinds 21 and 22, and the reply that hands
+//! one out, kind 34, are missing, and their kinds are read as `BadKind`.
+#![tactic(auto)]
+
+mod answer;
+mod encoding;
+mod feeder;
+mod head;
+mod items;
+mod laws;
+mod query;
+mod refusal;
+mod reply;
+mod reply_encoding;
+mod reply_feeder;
+mod request;
+
+pub use encoding::encode_request;
+pub use feeder::RequestFeeder;
+pub use laws::{one_reply_spelling, one_request_spelling, reply_pieces_join, request_pieces_join};
+pub use reply::Reply;
+pub use reply_encoding::encode_reply;
+pub use reply_feeder::ReplyFeeder;
+pub use request::Request;
+
+#[cfg(test)]
+mod tests;

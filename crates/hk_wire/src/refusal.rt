@@ -1,0 +1,152 @@
+//! Refusals as bytes.
+
+ghost use Rattle.std.specs.Prelude.{◌≡◌, ◌≤◌, ◌++◌, length, take, OnOk, OnErr};
+ghost use Rattle.hk_codec.specs.Fields.{Gives};
+ghost use Rattle.hk_wire.specs.Refusals as spec;
+
+use crate::head::read_time;
+use hk_codec::{Cursor, put_u64};
+use hk_types::{FormFault, Refusal};
+use std::alloc::AllocError;
+
+/// Reads a field that must be 0.
+#[tactic(auto, unfolding(crate::specs::Refusals::zero_at))]
+fn read_zero(cursor: &mut Cursor) -> Result<(), FormFault>
+    ensures { Gives (λ x. (x, cursor.new)) result (spec.zero_at cursor.old) }
+{
+    if cursor.u64()? != 0 {
+        return Err(FormFault::BadNumber);
+    }
+    Ok(())
+}
+
+/// The refusal with a number that names no number.
+#[tactic(auto, unfolding(crate::specs::Refusals::plain))]
+fn plain(number: u8) -> Option<Refusal>
+    ensures { result ≡ spec.plain number }
+{
+    match number {
+        1 => Some(Refusal::Form(FormFault::Truncated)),
+        2 => Some(Refusal::Form(FormFault::TooLong)),
+        3 => Some(Refusal::Form(FormFault::BadVersion)),
+        4 => Some(Refusal::Form(FormFault::BadKind)),
+        5 => Some(Refusal::Form(FormFault::BadStream)),
+        6 => Some(Refusal::Form(FormFault::BadNumber)),
+        7 => Some(Refusal::Form(FormFault::BadOrder)),
+        8 => Some(Refusal::Form(FormFault::BadCount)),
+        9 => Some(Refusal::Form(FormFault::BadBody)),
+        10 => Some(Refusal::Form(FormFault::WrongLength)),
+        20 => Some(Refusal::ForeignLog),
+        21 => Some(Refusal::WrongStreams),
+        23 => Some(Refusal::Conflict),
+        41 => Some(Refusal::Damaged),
+        43 => Some(Refusal::NodeFull),
+        44 => Some(Refusal::NoHold),
+        45 => Some(Refusal::NoSuch),
+        90 => Some(Refusal::Memory),
+        _ => None,
+    }
+}
+
+/// Reads a refusal that names no number.
+fn read_plain(cursor: &mut Cursor, number: u8) -> Result<Refusal, FormFault>
+    ensures { Gives (λ x. (x, cursor.new)) result (spec.plain_of (spec.plain number) cursor.old) }
+{
+    let Some(refusal) = plain(number) else {
+        return Err(FormFault::BadNumber);
+    };
+    read_zero(cursor)?;
+    read_zero(cursor)?;
+    Ok(refusal)
+}
+
+/// Reads what follows a refusal's number.
+#[tactic(auto, unfolding(crate::specs::Refusals::refusal_of))]
+fn read_of(cursor: &mut Cursor, number: u8) -> Result<Refusal, FormFault>
+    ensures { Gives (λ x. (x, cursor.new)) result (spec.refusal_of number cursor.old) }
+{
+    match number {
+        22 => {
+            let base = read_time(cursor)?;
+            let readable = read_time(cursor)?;
+            Ok(Refusal::Gap { base, readable })
+        }
+        24 => {
+            let readable = read_time(cursor)?;
+            read_zero(cursor)?;
+            Ok(Refusal::AheadOfMark { readable })
+        }
+        25 => {
+            let horizon = read_time(cursor)?;
+            read_zero(cursor)?;
+            Ok(Refusal::TooOld { horizon })
+        }
+        26 => {
+            let readable = read_time(cursor)?;
+            read_zero(cursor)?;
+            Ok(Refusal::NotYet { readable })
+        }
+        40 => {
+            let reader = cursor.u64()?;
+            let at = read_time(cursor)?;
+            Ok(Refusal::Held { reader, at })
+        }
+        42 => {
+            let ops = cursor.u64()?;
+            read_zero(cursor)?;
+            Ok(Refusal::Unpublished { ops })
+        }
+        _ => read_plain(cursor, number),
+    }
+}
+
+/// Reads a refusal.
+#[tactic(auto, unfolding(crate::specs::Refusals::refusal_at))]
+pub(crate) fn read_refusal(cursor: &mut Cursor) -> Result<Refusal, FormFault>
+    ensures { Gives (λ x. (x, cursor.new)) result (spec.refusal_at cursor.old) }
+{
+    let number = cursor.u8()?;
+    read_of(cursor, number)
+}
+
+/// Whether a refusal is sent. Those of transactions are not.
+pub(crate) fn is_sent(refusal: Refusal) -> bool
+    ensures { result ≡ spec.is_sent refusal }
+{
+    match refusal {
+        Refusal::WriteConflict { .. }
+        | Refusal::NoRow { .. }
+        | Refusal::TwiceWritten
+        | Refusal::TooManyWrites
+        | Refusal::NoStream
+        | Refusal::ClockFull => false,
+        _ => true,
+    }
+}
+
+/// The two numbers that a refusal names, and 0 in the place of one that it doesn't.
+fn pair(refusal: Refusal) -> (u64, u64)
+    ensures { result ≡ spec.refusal_pair refusal }
+{
+    match refusal {
+        Refusal::Gap { base, readable } => (base.number(), readable.number()),
+        Refusal::AheadOfMark { readable } => (readable.number(), 0),
+        Refusal::TooOld { horizon } => (horizon.number(), 0),
+        Refusal::NotYet { readable } => (readable.number(), 0),
+        Refusal::Held { reader, at } => (reader, at.number()),
+        Refusal::Unpublished { ops } => (ops, 0),
+        _ => (0, 0),
+    }
+}
+
+/// Adds a refusal's bytes.
+#[tactic(auto, using(std::proofs::Common::append_assoc, hk_codec::proofs::Prefix::kept_all, hk_codec::proofs::Prefix::kept_before, hk_codec::proofs::Prefix::kept_both), unfolding(crate::specs::Refusals::refusal_text))]
+pub(crate) fn put_refusal(out: &mut Vec<u8>, refusal: &Refusal) -> Result<(), AllocError>
+    ensures ok { OnOk result (out.new.items ≡ out.old.items ++ spec.refusal_text refusal.now) }
+    ensures kept { OnErr result (take (length out.old.items) out.new.items ≡ out.old.items) }
+{
+    let (first, second) = pair(*refusal);
+    out.push(refusal.number())?;
+    put_u64(out, first)?;
+    put_u64(out, second)
+}

@@ -1,0 +1,123 @@
+//! Replies.
+
+ghost use Rattle.hk_codec.specs.Fields.{Gives, GivesOrRunsOut};
+ghost use Rattle.hk_wire.specs.Replies as spec;
+
+use crate::answer::read_answer;
+use crate::head::{read_end, read_head, read_time};
+use crate::refusal::read_refusal;
+use hk_codec::{Cursor, Framed, ReadError};
+use hk_model::{Answer, Front};
+use hk_types::{FormFault, LAST_TIME, Refusal};
+use std::alloc::Global;
+
+/// What a replica replies.
+#[derive(Debug, PartialEq, Eq, Drop)]
+pub enum Reply {
+    /// The change took effect; the replica has had so many operations, 1 to 2^62.
+    Done { ops: u64 },
+    /// From where to where the replica can be read.
+    Front(Front),
+    /// The answer to a query.
+    Answer(Answer),
+    /// Why nothing happened.
+    Refused(Refusal),
+}
+
+/// The kind bytes.
+pub(crate) const DONE: u8 = 32;
+
+pub(crate) const FRONT: u8 = 33;
+
+pub(crate) const ANSWER: u8 = 35;
+
+pub(crate) const REFUSED: u8 = 36;
+
+/// Reads a number of operations.
+#[tactic(auto, unfolding(crate::specs::Replies::ops_at))]
+fn read_ops(cursor: &mut Cursor) -> Result<u64, FormFault>
+    ensures { Gives (λ x. (x, cursor.new)) result (spec.ops_at cursor.old) }
+{
+    let ops = cursor.u64()?;
+    if ops == 0 || ops > LAST_TIME {
+        return Err(FormFault::BadNumber);
+    }
+    Ok(ops)
+}
+
+/// Reads a front.
+#[tactic(auto, unfolding(crate::specs::Replies::front_at))]
+fn read_front(cursor: &mut Cursor) -> Result<Front, FormFault>
+    ensures { Gives (λ x. ((x.horizon, x.readable), cursor.new)) result (spec.front_at cursor.old) }
+{
+    let horizon = read_time(cursor)?;
+    let readable = read_time(cursor)?;
+    if readable.number() < horizon.number() {
+        return Err(FormFault::BadNumber);
+    }
+    Ok(Front { horizon, readable })
+}
+
+/// Reads the body of a kind.
+#[tactic(auto, unfolding(crate::specs::Replies::reply_of))]
+fn read_body(alloc: Global, cursor: &mut Cursor, kind: u8) -> Result<Reply, ReadError>
+    ensures { GivesOrRunsOut (λ x. (spec.reply_seen x, cursor.new)) result (spec.reply_of kind cursor.old) }
+{
+    match kind {
+        DONE => {
+            let ops = read_ops(cursor)?;
+            Ok(Reply::Done { ops })
+        }
+        FRONT => {
+            let front = read_front(cursor)?;
+            Ok(Reply::Front(front))
+        }
+        ANSWER => {
+            let answer = read_answer(alloc, cursor)?;
+            Ok(Reply::Answer(answer))
+        }
+        REFUSED => {
+            let why = read_refusal(cursor)?;
+            Ok(Reply::Refused(why))
+        }
+        _ => Err(ReadError::Fault(FormFault::BadKind)),
+    }
+}
+
+/// The reply that is all of the rest.
+#[tactic(auto, unfolding(crate::specs::Replies::reply_at, crate::specs::Messages::message_at))]
+fn read_reply(alloc: Global, rest: &[u8]) -> Result<Reply, ReadError>
+    ensures { GivesOrRunsOut spec.reply_seen result (spec.reply_at rest.now) }
+{
+    let mut cursor = Cursor::new(rest);
+    let kind = read_head(&mut cursor)?;
+    let reply = read_body(alloc, &mut cursor, kind)?;
+    read_end(&cursor)?;
+    Ok(reply)
+}
+
+impl Framed for Reply {
+    ghost use Rattle.hk_wire.specs.Replies.{ReplyValue, reply_seen, reply_at, reply_rest, IsReply};
+
+    ghost LEAST_BYTES = { 2 };
+
+    ghost MOST_BYTES = { 268435456 };
+
+    ghost Told = { ReplyValue };
+
+    ghost seen = { reply_seen };
+
+    ghost read = { reply_at };
+
+    ghost rest_text = { reply_rest };
+
+    ghost IsTold = { IsReply };
+
+    const LEAST_BYTES: usize = 2;
+
+    const MOST_BYTES: usize = 268_435_456;
+
+    fn read_rest(alloc: Global, rest: &[u8]) -> Result<Reply, ReadError> {
+        read_reply(alloc, rest)
+    }
+}

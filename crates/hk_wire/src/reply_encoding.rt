@@ -1,0 +1,105 @@
+//! The one spelling of a reply.
+
+ghost use Rattle.std.specs.Prelude.{◌≡◌, ◌≤◌, ◌⊎◌, ◌++◌, ℕ, true, false, length, take, OnOk, OnErr, IfErr, MatchOption};
+ghost use Rattle.hk_types.specs.declared.faults.FormFault.TheVariants as faults;
+ghost use Rattle.hk_types.specs.declared.faults.Refusal.TheVariants as refusals;
+ghost use Rattle.hk_wire.specs.Replies as replies;
+
+use crate::answer::{answer_len, keeps_answer_rules, put_answer};
+use crate::encoding::put_head;
+use crate::head::MOST_REST_BYTES;
+use crate::refusal::{is_sent, put_refusal};
+use crate::reply::{ANSWER, DONE, FRONT, REFUSED, Reply};
+use hk_codec::put_u64;
+use hk_types::{FormFault, LAST_TIME, Refusal};
+use std::alloc::AllocError;
+
+/// Whether a reply keeps the rules of its kind.
+fn keeps_rules(reply: &Reply) -> bool
+    ensures { result ≡ replies.keeps_rules (replies.reply_seen reply.now) }
+{
+    match reply {
+        Reply::Done { ops } => 0 < *ops && *ops <= LAST_TIME,
+        Reply::Front(front) => front.horizon.number() <= front.readable.number(),
+        Reply::Answer(answer) => keeps_answer_rules(answer),
+        Reply::Refused(why) => is_sent(*why),
+    }
+}
+
+/// How many bytes the rest of the frame of a reply that keeps its rules has.
+#[tactic(auto, using(crate::proofs::Lengths::done_len, crate::proofs::Lengths::told_len, crate::proofs::Lengths::answer_rest_len, crate::proofs::Lengths::refused_len))]
+fn rest_len(reply: &Reply) -> u64
+    requires { replies.keeps_rules (replies.reply_seen reply.now) ≡ true }
+    ensures { result ≡ length (replies.reply_rest (replies.reply_seen reply.now)) }
+{
+    match reply {
+        Reply::Done { ops: _ } => 10,
+        Reply::Front(_front) => 18,
+        Reply::Answer(answer) => 2 + answer_len(answer),
+        Reply::Refused(_why) => 19,
+    }
+}
+
+/// How many bytes the rest of a reply's frame has, or `None` where it has no spelling.
+fn reply_len(reply: &Reply) -> Option<u32>
+    ensures { MatchOption result (replies.has_spelling (replies.reply_seen reply.now) ≡ false) (λ len. (replies.has_spelling (replies.reply_seen reply.now) ≡ true) × (len ≡ length (replies.reply_rest (replies.reply_seen reply.now)))) }
+{
+    if !keeps_rules(reply) {
+        return None;
+    }
+    let len = rest_len(reply);
+    if len > u64::from(MOST_REST_BYTES) {
+        return None;
+    }
+    Some(len as u32)
+}
+
+/// Adds a reply's frame, whose rest has so many bytes.
+#[tactic(auto, using(std::proofs::Common::append_assoc, hk_codec::proofs::Prefix::kept_all, hk_codec::proofs::Prefix::kept_before, hk_codec::proofs::Prefix::kept_both), unfolding(hk_codec::specs::Framing::spelled, crate::specs::Replies::reply_rest))]
+fn put_reply(out: &mut Vec<u8>, reply: &Reply, rest: u32) -> Result<(), AllocError>
+    requires len { rest ≡ length (replies.reply_rest (replies.reply_seen reply.now)) }
+    requires rules { replies.keeps_rules (replies.reply_seen reply.now) ≡ true }
+    ensures ok { OnOk result (out.new.items ≡ out.old.items ++ replies.reply_text (replies.reply_seen reply.now)) }
+    ensures kept { OnErr result (take (length out.old.items) out.new.items ≡ out.old.items) }
+{
+    match reply {
+        Reply::Done { ops } => {
+            put_head(out, rest, DONE)?;
+            put_u64(out, *ops)
+        }
+        Reply::Front(front) => {
+            put_head(out, rest, FRONT)?;
+            put_u64(out, front.horizon.number())?;
+            put_u64(out, front.readable.number())
+        }
+        Reply::Answer(answer) => {
+            put_head(out, rest, ANSWER)?;
+            put_answer(out, answer)
+        }
+        Reply::Refused(why) => {
+            put_head(out, rest, REFUSED)?;
+            put_refusal(out, why)
+        }
+    }
+}
+
+/// Adds a reply's one spelling at the end. A reply without a spelling is refused `Form(TooLong)`: a number of
+/// operations that is 0 or above 2^62, a horizon above the readable mark, rows whose keys do not rise
+/// strictly, a refusal of a transaction, and a rest of more than 2^28 bytes. After that comes `Memory`. On a refusal the output is as before. The whole
+/// frame is reserved at once; the cost is one growth of the output at most and two passes over the reply, one
+/// that counts its bytes and one that writes them.
+pub fn encode_reply(reply: &Reply, out: &mut Vec<u8>) -> Result<(), Refusal>
+    ensures ok { OnOk result ((replies.has_spelling (replies.reply_seen reply.now) ≡ true) × (out.new.items ≡ out.old.items ++ replies.reply_text (replies.reply_seen reply.now))) }
+    ensures err { OnErr result (out.new.items ≡ out.old.items) }
+    ensures why { IfErr result (λ e. ((e ≡ refusals.Form faults.TooLong) × (replies.has_spelling (replies.reply_seen reply.now) ≡ false)) ⊎ ((e ≡ refusals.Memory) × (replies.has_spelling (replies.reply_seen reply.now) ≡ true))) }
+{
+    let Some(rest) = reply_len(reply) else {
+        return Err(Refusal::Form(FormFault::TooLong));
+    };
+    let start = out.len();
+    if put_reply(out, reply, rest).is_err() {
+        out.truncate(start);
+        return Err(Refusal::Memory);
+    }
+    Ok(())
+}

@@ -1,0 +1,110 @@
+//! Requests.
+
+ghost use Rattle.hk_codec.specs.Fields.{GivesOrRunsOut};
+ghost use Rattle.hk_wire.specs.Requests as spec;
+
+use crate::head::{read_end, read_head, read_time};
+use crate::items::read_items;
+use crate::query::read_query;
+use hk_codec::{Cursor, Framed, ReadError};
+use hk_log::Item;
+use hk_model::Query;
+use hk_types::{FormFault, Time};
+use std::alloc::Global;
+
+/// What a replica is asked.
+#[derive(Debug, PartialEq, Eq, Drop)]
+pub enum Request {
+    /// To take items, at most 65,536.
+    Items(Vec<Item>),
+    /// From where to where it can be read.
+    Front,
+    /// What it has learnt since a time.
+    Delta { base: Time },
+    /// All that it holds.
+    Full,
+    /// The answer to a query at a time.
+    Ask { t: Time, query: Query },
+    /// To forget what no one reads from a horizon on.
+    Prune { horizon: Time },
+}
+
+/// The kind bytes.
+pub(crate) const ITEMS: u8 = 16;
+
+pub(crate) const FRONT: u8 = 17;
+
+pub(crate) const DELTA: u8 = 18;
+
+pub(crate) const FULL: u8 = 19;
+
+pub(crate) const ASK: u8 = 20;
+
+pub(crate) const PRUNE: u8 = 23;
+
+/// Reads the body of a kind.
+#[tactic(auto, unfolding(crate::specs::Requests::request_of))]
+fn read_body(alloc: Global, cursor: &mut Cursor, kind: u8) -> Result<Request, ReadError>
+    ensures { GivesOrRunsOut (λ x. (spec.request_seen x, cursor.new)) result (spec.request_of kind cursor.old) }
+{
+    match kind {
+        ITEMS => {
+            let items = read_items(alloc, cursor)?;
+            Ok(Request::Items(items))
+        }
+        FRONT => Ok(Request::Front),
+        DELTA => {
+            let base = read_time(cursor)?;
+            Ok(Request::Delta { base })
+        }
+        FULL => Ok(Request::Full),
+        ASK => {
+            let t = read_time(cursor)?;
+            let query = read_query(cursor)?;
+            Ok(Request::Ask { t, query })
+        }
+        PRUNE => {
+            let horizon = read_time(cursor)?;
+            Ok(Request::Prune { horizon })
+        }
+        _ => Err(ReadError::Fault(FormFault::BadKind)),
+    }
+}
+
+/// The request that is all of the rest.
+#[tactic(auto, unfolding(crate::specs::Requests::request_at, crate::specs::Messages::message_at))]
+fn read_request(alloc: Global, rest: &[u8]) -> Result<Request, ReadError>
+    ensures { GivesOrRunsOut spec.request_seen result (spec.request_at rest.now) }
+{
+    let mut cursor = Cursor::new(rest);
+    let kind = read_head(&mut cursor)?;
+    let request = read_body(alloc, &mut cursor, kind)?;
+    read_end(&cursor)?;
+    Ok(request)
+}
+
+impl Framed for Request {
+    ghost use Rattle.hk_wire.specs.Requests.{RequestValue, request_seen, request_at, request_rest, IsRequest};
+
+    ghost LEAST_BYTES = { 2 };
+
+    ghost MOST_BYTES = { 268435456 };
+
+    ghost Told = { RequestValue };
+
+    ghost seen = { request_seen };
+
+    ghost read = { request_at };
+
+    ghost rest_text = { request_rest };
+
+    ghost IsTold = { IsRequest };
+
+    const LEAST_BYTES: usize = 2;
+
+    const MOST_BYTES: usize = 268_435_456;
+
+    fn read_rest(alloc: Global, rest: &[u8]) -> Result<Request, ReadError> {
+        read_request(alloc, rest)
+    }
+}

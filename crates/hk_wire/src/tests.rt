@@ -1,0 +1,4 @@
+//! Worked messages.
+
+mod faults;
+mod worked;
