@@ -1,0 +1,7 @@
+//! Replicas beside the plain program.
+
+mod folds;
+mod generated;
+mod pair;
+mod random;
+mod seen;
