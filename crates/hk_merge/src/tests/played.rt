@@ -119,7 +119,8 @@ pub(super) fn look(alloc: Global, state: &ReplicaState) -> Result<Vec<Held>, Fai
 
 /// The byte of the row of a key at a time, or 0.
 pub(super) fn byte_at(state: &ReplicaState, key: u64, at: u64) -> Result<u8, Fail> {
-    Ok(byte_of(state.row_at(Table::new(1), Key::new(key), time(at)?)))
+    let table = Table::new(1);
+    Ok(byte_of(state.facts().shown_at(table, Key::new(key), time(at)?)))
 }
 
 /// The keys and bytes of the rows of tag 9 that show at a time.
@@ -131,7 +132,7 @@ pub(super) fn tagged_at(
     let mut found = Vec::new(alloc);
     let at = time(at)?;
     for version in &state.tags().list(alloc, Table::new(1), Tag::new(9))? {
-        let byte = byte_of(state.row_shown(version, at));
+        let byte = byte_of(state.facts().row_shown(version, at));
         if byte > 0 {
             found.push((version.key.number(), byte))?;
         }
