@@ -2,6 +2,7 @@
 #![tactic(auto)]
 
 mod at;
+mod command;
 mod frames;
 mod items;
 mod line;
@@ -9,6 +10,7 @@ mod output;
 mod stop;
 #[cfg(test)]
 mod tests;
+mod words;
 
 pub use at::run_at;
 pub use items::run_items;

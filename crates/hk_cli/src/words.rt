@@ -1,0 +1,147 @@
+//! The words of a line of a script.
+
+ghost use Rattle.std.specs.Prelude.{◌≡◌, ◌≤◌, IfOk};
+ghost use Rattle.hk_cli.specs.declared.words.Unread.TheVariants.{Memory};
+
+use hk_types::{Key, Row, StreamNo, Table, Tag, Time};
+use std::alloc::{AllocError, Global};
+
+/// The most bytes of a body.
+const MOST_BODY_BYTES: usize = 4_096;
+
+/// Why a line is no command.
+#[derive(Clone, Copy, Debug, PartialEq, Eq)]
+pub(crate) enum Unread {
+    /// The line has another form.
+    BadCommand,
+    /// Memory ran out.
+    Memory,
+}
+
+impl From<AllocError> for Unread {
+    ghost from_gives = { λ _ e. e ≡ Memory };
+
+    fn from(_error: AllocError) -> Unread {
+        Unread::Memory
+    }
+}
+
+/// The words of a line, which are parted by single spaces.
+#[derive(Drop)]
+pub(crate) struct Words<'a> {
+    rest: Option<&'a str>,
+}
+
+impl<'a> Words<'a> {
+    pub(crate) fn new(line: &'a str) -> Words<'a> {
+        Words { rest: Some(line) }
+    }
+
+    /// The next word, where one is left.
+    fn next(&mut self) -> Option<&'a str> {
+        let rest = self.rest?;
+        match rest.split_once(' ') {
+            Some((word, more)) => {
+                self.rest = Some(more);
+                Some(word)
+            }
+            None => {
+                self.rest = None;
+                Some(rest)
+            }
+        }
+    }
+
+    /// The next word.
+    pub(crate) fn word(&mut self) -> Result<&'a str, Unread> {
+        self.next().ok_or(Unread::BadCommand)
+    }
+
+    /// Whether a word is left.
+    pub(crate) fn has_more(&self) -> bool {
+        self.rest.is_some()
+    }
+
+    /// No word is left.
+    pub(crate) fn end(&self) -> Result<(), Unread> {
+        if self.has_more() {
+            return Err(Unread::BadCommand);
+        }
+        Ok(())
+    }
+
+    /// A number of decimal digits alone.
+    pub(crate) fn number(&mut self) -> Result<u64, Unread> {
+        let word = self.word()?;
+        if !word.bytes().all(|byte| byte.is_ascii_digit()) {
+            return Err(Unread::BadCommand);
+        }
+        word.parse::<u64>().ok().ok_or(Unread::BadCommand)
+    }
+
+    /// A number from a least to a greatest one.
+    pub(crate) fn within(&mut self, least: u64, most: u64) -> Result<u64, Unread>
+        ensures { IfOk result (λ number. (least ≤ number) × (number ≤ most)) }
+    {
+        let number = self.number()?;
+        if number < least || number > most {
+            return Err(Unread::BadCommand);
+        }
+        Ok(number)
+    }
+
+    pub(crate) fn small(&mut self) -> Result<u16, Unread> {
+        u16::try_from(self.number()?).ok().ok_or(Unread::BadCommand)
+    }
+
+    pub(crate) fn table(&mut self) -> Result<Table, Unread> {
+        Ok(Table::new(self.small()?))
+    }
+
+    pub(crate) fn key(&mut self) -> Result<Key, Unread> {
+        Ok(Key::new(self.number()?))
+    }
+
+    pub(crate) fn tag(&mut self) -> Result<Tag, Unread> {
+        let tag = u32::try_from(self.number()?);
+        Ok(Tag::new(tag.ok().ok_or(Unread::BadCommand)?))
+    }
+
+    pub(crate) fn time(&mut self) -> Result<Time, Unread> {
+        let time = Time::new(self.number()?);
+        time.ok().ok_or(Unread::BadCommand)
+    }
+
+    pub(crate) fn stream(&mut self) -> Result<StreamNo, Unread> {
+        let stream = StreamNo::new(self.small()?);
+        stream.ok().ok_or(Unread::BadCommand)
+    }
+
+    /// A tag and a body, which is `-` where it is empty, else pairs of lower-case hexadecimal digits.
+    pub(crate) fn row(&mut self, alloc: Global) -> Result<Row, Unread> {
+        let tag = self.tag()?;
+        let body = body_of(alloc, self.word()?)?;
+        match Row::new(tag, body) {
+            Ok(row) => Ok(row),
+            Err((_body, _fault)) => Err(Unread::BadCommand),
+        }
+    }
+}
+
+/// Whether a byte is a lower-case hexadecimal digit.
+fn is_digit(byte: u8) -> bool {
+    byte.is_ascii_digit() || (b'a'..=b'f').contains(&byte)
+}
+
+fn body_of(alloc: Global, word: &str) -> Result<Vec<u8>, Unread> {
+    if word == "-" {
+        return Ok(Vec::new(alloc));
+    }
+    if word.is_empty() || word.len() > 2 * MOST_BODY_BYTES || !word.bytes().all(is_digit) {
+        return Err(Unread::BadCommand);
+    }
+    match hex::decode(alloc, word) {
+        Ok(body) => Ok(body),
+        Err(_odd) => Err(Unread::BadCommand),
+    }
+}
