@@ -226,6 +226,80 @@ def refusals():
     check("a cut input is 1", at(1, 1, 5), E1[:20], "refused 1\n", 1)
 
 
+def world_scripts():
+    for script in sorted((ROOT / "examples" / "world").glob("*.script")):
+        check(f"the script {script.stem}", ["world"], script.read_bytes(), script.with_suffix(".out").read_text(), 1)
+    check("no script", ["world"], b"", "")
+    check("empty lines alone", ["world"], b"\n\n", "")
+    check("a world alone", ["world"], b"world 7 1 1", "")
+    check("leading zeros, and no line feed at the end", ["world"], b"\nworld 007 01 001\n\nfront 0001",
+          "front horizon 0 readable 0\n")
+    check("a slot begins again", ["world"], b"world 7 1 1\nbegin 16\nput 16 1 5 9 -\nbegin 16\ncommit 16 1\n",
+          "begun 16 at 0\nok\nbegun 16 at 0\ncommitted none\n")
+    check("an empty body", ["world"], b"world 7 1 1\nbegin 1\nput 1 1 5 9 -\ncommit 1 1\nask 0 1 get 1 5\n",
+          "begun 1 at 0\nok\ncommitted 1\n9 -\n")
+    two = (b"world 7 2 1\nbegin 1\nput 1 1 5 9 41\ncommit 1 1\nbegin 1\nbegin 2\nput 1 1 5 9 42\nput 2 1 5 9 43\n"
+           b"commit 2 2\ncommit 1 1\ncommit 1 1\n")
+    check("a conflict leaves its slot", ["world"], two,
+          "begun 1 at 0\nok\ncommitted 1\nbegun 1 at 1\nbegun 2 at 1\nok\nok\ncommitted 2\n"
+          "refused 30 table 1 key 5 at 2\nrefused 30 table 1 key 5 at 2\n", 1)
+    check("refused commands go on", ["world"],
+          b"world 7 1 1\nbegin 1\nput 1 1 5 9 41\nput 1 1 5 9 41\nremove 1 1 5\ncommit 1 2\nabsorb 1 1\nabsorb 2 1\n"
+          b"batch 1 1\nprune 1 1\nmerge 1 2\ndelta 2 1 0\nask 0 1 count 1\nask 2 0 count 1\nfront 2\nmark 2\ncommit 1 1\n",
+          "begun 1 at 0\nok\nrefused 32\nrefused 32\nrefused 34\nrefused 45\nrefused 45\nrefused 45\n"
+          "refused 24 readable 0\nrefused 45\nrefused 45\nrefused 26 readable 0\nrefused 45\nrefused 45\n"
+          "refused 34\ncommitted 1\n", 1)
+    check("a removed key that is absent", ["world"], b"world 7 1 1\nbegin 1\nremove 1 1 9\ncommit 1 1\n",
+          "begun 1 at 0\nok\nrefused 31 table 1 key 9\n", 1)
+
+
+BAD_OPENINGS = ["world", "world 7", "world 7 1", "world 7 0 1", "world 7 65 1", "world 7 1 0", "world 7 1 17", "world 7 1 1 1",
+                " world 7 1 1", "world 7 1 1 ", "world  7 1 1", "World 7 1 1", "begin 1", "world -7 1 1", "world +7 1 1",
+                "world 18446744073709551616 1 1", "world 7 1 1\r"]
+
+BAD_LINES = ["begin", "begin 0", "begin 17", "begin 1 1", "put 1 1 5 9", "put 1 1 5 9 41 42", "put 1 1 5 9 4", "put 1 1 5 9 4G",
+             "put 1 1 5 9 AB", "put 1 1 5 9 --", "put 1 65536 5 9 41", "put 1 1 18446744073709551616 9 41", "put 1 1 5 4294967296 41",
+             "put 1 1 5 9 " + "41" * 4097, "put 2 1 5 9 41", "remove 1 1", "remove 2 1 5", "remove 1 1 5 9", "commit 1", "commit 1 0",
+             "commit 1 65", "commit 2 1", "commit 1 1 1", "mark", "mark 0", "mark 65", "absorb 1", "absorb 1 x", "absorb 65536 1",
+             "absorb 1 1 1", "batch 1", "batch 1 ", "batch 1" + " 1" * 65, "prune 1", "prune 1 4611686018427387905", "merge 1",
+             "merge 1 1 1", "delta 1 1", "delta 1 1 4611686018427387905", "ask", "ask 1", "ask 1 0", "ask 1 0 all 1", "ask 1 0 get 1",
+             "ask 1 0 get 1 5 6", "ask 1 0 range 1 5", "ask 1 0 tag 1", "ask 1 0 tag 1 4294967296", "ask 1 0 count", "ask 1 0 count 1 1",
+             "ask 1 4611686018427387905 count 1", "front", "front 1 1", "front  1", " front 1", "front 1 ", "front 1\r", "FRONT 1",
+             "world 7 1 1", "front \u0661", " ", "front 0x1", "a" * 16384, "a" * 16385]
+
+
+def bad_scripts():
+    for line in BAD_OPENINGS:
+        check(f"no opening: {line[:40]!r}", ["world"], (line + "\nfront 1\n").encode(), "line 1: bad command\n", 1)
+    opening = b"\nworld 7 1 1\nbegin 1\n\n"
+    for line in BAD_LINES:
+        check(f"no command: {line[:40]!r}", ["world"], opening + line.encode() + b"\nfront 1\n",
+              "begun 1 at 0\nline 5: bad command\n", 1)
+    check("bytes that are no text", ["world"], opening + b"\xff\n", "begun 1 at 0\nline 5: bad command\n", 1)
+    check("an empty slot after its commit", ["world"], opening + b"commit 1 1\ncommit 1 1\n",
+          "begun 1 at 0\ncommitted none\nline 6: bad command\n", 1)
+
+
+def long_scripts():
+    """10,000 lines: commits that each put a key anew, all items in one replica, in other orders in another, and a merge."""
+    lines = ["world 7 2 2"]
+    wanted = []
+    for number in range(1, 2001):
+        lines += ["begin 1", f"put 1 1 {number % 50} 9 {number % 256:02x}", f"commit 1 {number % 2 + 1}"]
+        wanted += [f"begun 1 at {number - 1}", "ok", f"committed {number}"]
+    lines += ["mark 1", "mark 2"]
+    wanted += ["mark stream 1 n 1000 m 2000", "mark stream 2 n 1000 m 2000"]
+    for item in range(2002, 2, -1):
+        lines.append(f"absorb 1 {item}")
+        wanted.append("taken")
+    for item in range(1, 1998):
+        lines.append(f"absorb 2 {item}")
+        wanted.append("taken")
+    lines += ["absorb 1 2", "absorb 1 1", "merge 2 1", "ask 2 2000 get 1 0", "ask 2 1999 get 1 49", "front 2"]
+    wanted += ["taken", "taken", "ok", f"9 {2000 % 256:02x}", f"9 {1999 % 256:02x}", "front horizon 0 readable 2000"]
+    check(f"a script of {len(lines)} lines", ["world"], ("\n".join(lines) + "\n").encode(), "\n".join(wanted) + "\n")
+
+
 def command_lines():
     usage = ["error", "--help"]
     check_bad_line("a plus sign", ["at", "--log", "7", "--streams", "1", "+7", "1", "5"], ["+7"])
@@ -247,6 +321,7 @@ def command_lines():
     check_help("help", ["--help"], ["Usage: hkrep", "at", "items", "status"])
     check_help("help of at", ["at", "--help"], ["Usage: hkrep at", "--log", "0 to 4611686018427387904", "Example"])
     check_help("help of items", ["items", "--help"], ["Usage: hkrep items", "Example"])
+    check_help("help of world", ["world", "--help"], ["Usage: hkrep world", "Example"])
     check_help("the version", ["--version"], ["hkrep"])
 
 
@@ -259,7 +334,7 @@ def failing_devices():
     report("so does one of an answer", [] if got.returncode == 1 else [f"status {got.returncode}"])
     folder = os.open(str(ROOT), os.O_RDONLY)
     try:
-        for args in (["items"], at(1, 1, 5)):
+        for args in (["items"], at(1, 1, 5), ["world"]):
             got = subprocess.run([str(PROGRAM), *args], stdin=folder, stdout=subprocess.PIPE,
                                  stderr=subprocess.PIPE, timeout=60)
             problems = [] if (got.stdout, got.returncode) == (b"refused 91\n", 1) else [repr((got.stdout, got.returncode))]
@@ -299,7 +374,7 @@ def main():
         print(f"FAILED {PROGRAM} is not built")
         print("0 passed, 1 failed")
         return 1
-    for group in (worked_rows, bytes_of_all_kinds, deliveries, generated_histories, refusals, command_lines, failing_devices, refused_memory):
+    for group in (worked_rows, bytes_of_all_kinds, deliveries, generated_histories, refusals, world_scripts, bad_scripts, long_scripts, command_lines, failing_devices, refused_memory):
         group()
     print(f"{passed} passed, {failed} failed")
     return 1 if failed else 0

@@ -7,11 +7,14 @@ mod frames;
 mod items;
 mod line;
 mod output;
+mod script;
 mod stop;
 #[cfg(test)]
 mod tests;
 mod words;
+mod world;
 
 pub use at::run_at;
 pub use items::run_items;
 pub use line::{Printed, line_of};
+pub use world::run_world;

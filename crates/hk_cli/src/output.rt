@@ -72,8 +72,17 @@ impl<'a, W: Write> Output<'a, W> {
                 Err(Stop::Refused(_memory)) => self.write_plain(b"refused 90\n"),
                 other => other,
             },
+            Stop::BadCommand(line) => self.print_bad(line),
             Stop::ReadFault => self.write_plain(b"refused 91\n"),
             Stop::WriteFault => Ok(()),
+        }
+    }
+
+    /// Adds that a line is no command.
+    fn print_bad(&mut self, line: u64) -> Result<(), Stop> {
+        match writeln!(self.lines, "line {line}: bad command") {
+            Ok(()) => Ok(()),
+            Err(_memory) => self.write_plain(b"refused 90\n"),
         }
     }
 

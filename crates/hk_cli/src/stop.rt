@@ -14,6 +14,8 @@ pub(crate) enum Stop {
     Refused(Refusal),
     /// A read failed, or there were 2^32 reads without an end.
     ReadFault,
+    /// The line of this number, counted from 1, is no command.
+    BadCommand(u64),
     /// A write failed or took no bytes, so nothing more can be printed.
     WriteFault,
 }

@@ -17,6 +17,8 @@ pub enum Call {
     },
     /// Print item frames.
     Items,
+    /// Play a script of a primary and its replicas.
+    World,
 }
 
 const ABOUT: &str = "Read replicas of an in-memory multiversion primary";
@@ -47,6 +49,14 @@ prints
   commit log 7 stream 1 number 1 time 1 ends 0 rows 1
   mark log 7 stream 1 n 1 m 1
 A fault of the input is printed after the items before it, as 'refused NUMBER'.";
+
+const WORLD_ABOUT: &str = "Play the script of standard input: a primary, and replicas that take its items";
+
+const WORLD_EXAMPLE: &str = "Example:
+  hkrep world < examples/world/half_fed.script
+plays the script line by line, and prints what each line is told. A refused command prints its \
+refusal and changes nothing; a line that is no command prints 'line N: bad command' and ends the \
+script.";
 
 /// The names of the arguments of `at`, which are all numbers.
 const AT_NUMBERS: [&str; 5] = ["log", "streams", "time", "table", "key"];
@@ -98,6 +108,9 @@ fn program<'a>(alloc: Global) -> Result<Command<'a>, AllocError> {
     let items = Command::new(alloc, "items")
         .about(ITEMS_ABOUT)
         .after_help(ITEMS_EXAMPLE);
+    let world = Command::new(alloc, "world")
+        .about(WORLD_ABOUT)
+        .after_help(WORLD_EXAMPLE);
     Command::new(alloc, "hkrep")
         .about(ABOUT)
         .long_about(LONG_ABOUT)
@@ -105,7 +118,8 @@ fn program<'a>(alloc: Global) -> Result<Command<'a>, AllocError> {
         .subcommand_required(true)
         .arg_required_else_help(true)
         .subcommand(at_command(alloc)?)?
-        .subcommand(items)
+        .subcommand(items)?
+        .subcommand(world)
 }
 
 fn is_decimal(word: &str) -> bool {
@@ -156,8 +170,10 @@ fn bad_word(alloc: Global, word: &str) -> Result<Error, AllocError> {
 /// bad command line, 0 where help or the version was asked for.
 pub fn read_call<'a>(alloc: Global, words: &'a [String]) -> Result<Call, Error> {
     let matches = program(alloc)?.try_get_matches_from(words)?;
-    let Some(("at", at)) = matches.subcommand() else {
-        return Ok(Call::Items);
+    let at = match matches.subcommand() {
+        Some(("at", at)) => at,
+        Some(("world", _none)) => return Ok(Call::World),
+        _items => return Ok(Call::Items),
     };
     if let Some(word) = first_signed(at) {
         return Err(bad_word(alloc, word)?);

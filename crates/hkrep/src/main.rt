@@ -4,7 +4,7 @@
 mod arguments;
 
 use arguments::{Call, read_call};
-use hk_cli::{run_at, run_items};
+use hk_cli::{run_at, run_items, run_world};
 use log::warn;
 use std::alloc::Global;
 use std::io;
@@ -36,6 +36,7 @@ fn run<R: Input + Print + Alloc<A = Global>>(rt: &R, call: Call) -> u8 {
             key,
         ),
         Call::Items => run_items(rt.alloc(), &mut input, &mut output),
+        Call::World => run_world(rt.alloc(), &mut input, &mut output),
     }
 }
 

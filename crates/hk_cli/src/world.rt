@@ -1,0 +1,153 @@
+//! The command `world`.
+
+ghost use Rattle.std.specs.Prelude.{◌≤◌};
+
+use crate::command::{command_of, opening_of};
+use crate::frames::MOST_READS;
+use crate::output::Output;
+use crate::script::{Reply, Script};
+use crate::stop::Stop;
+use crate::words::Unread;
+use hk_types::Refusal;
+use std::alloc::Global;
+use std::io::{Read, Write};
+
+/// How many bytes are asked for in one read.
+const PIECE_BYTES: usize = 65_536;
+
+/// The most bytes of a line, without its line feed.
+const MOST_LINE_BYTES: usize = 16_384;
+
+/// A script that is read line by line.
+#[derive(Drop)]
+struct Player {
+    alloc: Global,
+    /// The line that is being read, and its number, counted from 1.
+    line: Vec<u8>,
+    number: u64,
+    /// What stands behind the first line that is not empty.
+    script: Option<Script>,
+}
+
+impl Player {
+    fn new(alloc: Global) -> Player {
+        Player {
+            alloc,
+            line: Vec::new(alloc),
+            number: 1,
+            script: None,
+        }
+    }
+
+    fn is_refused(&self) -> bool {
+        match &self.script {
+            Some(script) => script.is_refused(),
+            None => false,
+        }
+    }
+
+    /// Why the line that is being read stops the script.
+    fn stop_of(&self, unread: Unread) -> Stop {
+        match unread {
+            Unread::BadCommand => Stop::BadCommand(self.number),
+            Unread::Memory => Stop::Refused(Refusal::Memory),
+        }
+    }
+
+    /// Takes the bytes of a read, and prints what their lines are told.
+    fn take_all<W: Write>(
+        &mut self,
+        bytes: &[u8],
+        output: &mut Output<'_, W>,
+    ) -> Result<(), Stop> {
+        for byte in bytes {
+            self.take(*byte, output)?;
+        }
+        Ok(())
+    }
+
+    fn take<W: Write>(&mut self, byte: u8, output: &mut Output<'_, W>) -> Result<(), Stop> {
+        if byte == b'\n' {
+            self.end_line(output)?;
+            self.line.clear();
+            self.number = self.number.saturating_add(1);
+            return Ok(());
+        }
+        if self.line.len() >= MOST_LINE_BYTES {
+            return Err(Stop::BadCommand(self.number));
+        }
+        self.line.push(byte).map_err(|_full| Stop::Refused(Refusal::Memory))
+    }
+
+    /// Makes the command of the line that was read, and prints what it is told.
+    fn end_line<W: Write>(&mut self, output: &mut Output<'_, W>) -> Result<(), Stop> {
+        if self.line.is_empty() {
+            return Ok(());
+        }
+        match self.make_line() {
+            Ok(Some(reply)) => output.print(&reply),
+            Ok(None) => Ok(()),
+            Err(unread) => Err(self.stop_of(unread)),
+        }
+    }
+
+    /// Makes the command of the line that was read; the first line makes the world, and is told nothing.
+    fn make_line(&mut self) -> Result<Option<Reply>, Unread> {
+        let line = match str::from_utf8(&self.line) {
+            Ok(line) => line,
+            Err(_error) => return Err(Unread::BadCommand),
+        };
+        if let Some(script) = &mut self.script {
+            let command = command_of(self.alloc, line)?;
+            return Ok(Some(script.make(command)?));
+        }
+        let script = Script::new(self.alloc, opening_of(line)?);
+        self.script = Some(script.map_err(|_refused| Unread::Memory)?);
+        Ok(None)
+    }
+}
+
+/// Plays the script of the input up to its end, or to what stops it first.
+fn play<I: Read, W: Write>(
+    alloc: Global,
+    input: &mut I,
+    player: &mut Player,
+    output: &mut Output<'_, W>,
+) -> Result<(), Stop> {
+    let mut piece = vec![in alloc; 0u8; PIECE_BYTES]?;
+    for _ in 0..MOST_READS {
+        let count = match input.read(piece.as_mut_slice()) {
+            Ok(count) => count,
+            Err(_error) => return Err(Stop::ReadFault),
+        };
+        if count == 0 {
+            player.end_line(output)?;
+            return output.flush();
+        }
+        player.take_all(&piece[..count], output)?;
+        output.flush()?;
+    }
+    Err(Stop::ReadFault)
+}
+
+/// Plays the script of the input, line by line, up to its end, and prints what each line is told. What the lines
+/// of one read are told is written before the next read.
+///
+/// The status is 0, or 1 where a refusal was printed or something stopped the script:
+///
+/// - `line N: bad command` where the line of that number is none, has more than 16,384 bytes, or names an empty slot;
+/// - `refused 90` where memory ran out outside a command;
+/// - `refused 91` where a read failed, or 2^32 reads did not come to the end;
+/// - no line where a write failed or took no bytes: the status alone tells it.
+///
+/// A command that is refused prints its refusal, changes nothing, and the script goes on.
+pub fn run_world<I: Read, W: Write>(alloc: Global, input: &mut I, writer: &mut W) -> u8
+    ensures { result ≤ 1 }
+{
+    let mut output = Output::new(alloc, writer);
+    let mut player = Player::new(alloc);
+    match play(alloc, input, &mut player, &mut output) {
+        Ok(()) => u8::from(player.is_refused()),
+        Err(stop) => output.stop(stop),
+    }
+}
