@@ -234,6 +234,9 @@ def world_scripts():
     check("a world alone", ["world"], b"world 7 1 1", "")
     check("leading zeros, and no line feed at the end", ["world"], b"\nworld 007 01 001\n\nfront 0001",
           "front horizon 0 readable 0\n")
+    long = "front " + "0" * (16384 - 7) + "1"
+    check("a line of 16,384 bytes", ["world"], f"world 7 1 1\n{long}\n".encode(), "front horizon 0 readable 0\n")
+    check("a line of 16,385 bytes", ["world"], f"world 7 1 1\n{long}0\n".encode(), "line 2: bad command\n", 1)
     check("a slot begins again", ["world"], b"world 7 1 1\nbegin 16\nput 16 1 5 9 -\nbegin 16\ncommit 16 1\n",
           "begun 16 at 0\nok\nbegun 16 at 0\ncommitted none\n")
     check("an empty body", ["world"], b"world 7 1 1\nbegin 1\nput 1 1 5 9 -\ncommit 1 1\nask 0 1 get 1 5\n",
