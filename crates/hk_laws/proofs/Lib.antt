@@ -1,0 +1,6 @@
+pub mod Numbered
+pub mod Acted
+pub mod Deltas
+pub mod Apart
+pub mod Itself
+pub mod Built
