@@ -14,7 +14,7 @@ module _ (rs : List Content) (k i : ℕ) (e : i + 1 ≡ k) (l : i < length rs) w
   acts_there x v act d new result found gives = subst (λ y. Gives (acted_among rs k y act) rs (set rs i new) result) (sym found) (by result gives)
     where
       by : (r : Result Told Refusal) → Gives (act v) (get_or rs i d) new r → Gives (acted_among rs k (Some v) act) rs (set rs i new) r
-      by (Ok told) g = (g.0, ap (set rs i) g.1 ∙ renumbered_at rs i k (act v).1 e l)
+      by (Ok told) g = (g.0, ap (set rs i) g.1 ∙ renumbered_at rs i k (act v).1 e l, g.2)
       by (Err why) g = (g.0, ap (set rs i) g.1 ∙ set_same rs i d l)
 
   -- it acts alone

@@ -1,5 +1,5 @@
 -- What a delta tells.
-use Rattle.std.proofs.Common.{◌≡◌, refl, sym, ap, ◌∙◌, subst, ℕ, ◌<◌, ◌≤◌, ◌⊎◌, true, false, cond, nat_lt, arith, Ok, Err, Result, ◌≢◌, inl, inr, MatchResult}
+use Rattle.std.proofs.Common.{◌≡◌, refl, sym, ap, ◌∙◌, subst, ℕ, ◌<◌, ◌≤◌, ◌⊎◌, true, false, cond, nat_lt, arith, Ok, Err, Result, true≢false, inl, inr, MatchResult}
 use Rattle.std.proofs.lemmas.Bool.Decides.{nat_tests}
 use Rattle.hk_types.specs.declared.faults.Refusal.{Refusal}
 use Rattle.hk_types.specs.declared.faults.Refusal.TheVariants.{TooOld, Memory}
@@ -10,7 +10,7 @@ use Rattle.hk_model.specs.Fragments.{FragmentValue, cut}
 use Rattle.hk_model.specs.Rules.{joined}
 use Rattle.hk_model.specs.Worlds.{ToldValue, told_by, delta_join}
 use Rattle.hk_model.specs.Worlds.ToldValue.{Refused}
-use Rattle.hk_laws.specs.Calls.{Gives}
+use Rattle.hk_laws.specs.Calls.{Gives, is_memory, tells_lack}
 
 above : (m n : ℕ) → n ≤ m → nat_lt m n ≡ false
 above m n l = grind (arith, nat_tests)
@@ -28,7 +28,7 @@ too_old a b base l = ap (λ t. cond t (Refused (TooOld b.horizon), a) (told_by a
 
 -- a refused cut is told
 pub refused_cut : (a b : Content) (base : ℕ) (why : Refusal) (result : Result Told Refusal) →
-    ((base < b.horizon) × (why ≡ TooOld b.horizon)) ⊎ ((b.horizon ≤ base) × (why ≡ Memory)) → MatchResult result (λ told. (told_seen told ≡ Refused why) × (why ≢ Memory)) (λ e. (e ≡ Memory) × (why ≡ Memory)) → Gives (delta_join a b base) a a result
-refused_cut a b base why (Ok told) (inl p) m = subst (λ (x : ToldValue × Content). Gives x a a (Ok told)) (sym (too_old a b base p.0)) (m.0 ∙ ap Refused p.1, refl)
-refused_cut a b base why (Ok told) (inr p) m = absurd (m.1 p.1)
+    ((base < b.horizon) × (why ≡ TooOld b.horizon)) ⊎ ((b.horizon ≤ base) × (why ≡ Memory)) → MatchResult result (λ told. (told_seen told ≡ Refused why) × (is_memory why ≡ false)) (λ e. (e ≡ Memory) × (why ≡ Memory)) → Gives (delta_join a b base) a a result
+refused_cut a b base why (Ok told) (inl p) m = subst (λ (x : ToldValue × Content). Gives x a a (Ok told)) (sym (too_old a b base p.0)) (m.0 ∙ ap Refused p.1, refl, ap tells_lack m.0 ∙ m.1)
+refused_cut a b base why (Ok told) (inr p) m = absurd (true≢false (sym (ap is_memory p.1) ∙ m.1))
 refused_cut a b base why (Err e) p m = (m.0, refl)

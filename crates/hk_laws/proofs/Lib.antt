@@ -4,3 +4,5 @@ pub mod Deltas
 pub mod Apart
 pub mod Itself
 pub mod Built
+pub mod Stepping
+pub mod Carried

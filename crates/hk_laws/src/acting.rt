@@ -1,6 +1,6 @@
 //! What one replica does and tells.
 
-ghost use Rattle.std.specs.Prelude.{◌≡◌, ◌≢◌, Result, IfOk, IfErr, MatchResult};
+ghost use Rattle.std.specs.Prelude.{◌≡◌, Result, IfOk, IfErr, MatchResult, false};
 ghost use Rattle.hk_types.specs.declared.faults.Refusal.TheVariants.{Memory};
 ghost use Rattle.hk_model.specs.Answers.{reply};
 ghost use Rattle.hk_model.specs.Content.{readable};
@@ -8,7 +8,7 @@ ghost use Rattle.hk_model.specs.Events.{told_seen};
 ghost use Rattle.hk_model.specs.Rules as rules;
 ghost use Rattle.hk_model.specs.Worlds.{told_batch, told_by, told_reply, told_taken};
 ghost use Rattle.hk_model.specs.Worlds.ToldValue.{Fronted, Refused};
-ghost use Rattle.hk_laws.specs.Calls.{Gives};
+ghost use Rattle.hk_laws.specs.Calls.{Gives, is_memory, tells_lack};
 
 use hk_log::Item;
 use hk_model::{Query, Told};
@@ -18,7 +18,7 @@ use std::alloc::Global;
 
 /// What a refusal is told as. Want of memory is told by `World::step`.
 pub(crate) fn refused(why: Refusal) -> Result<Told, Refusal>
-    ensures { MatchResult result (λ told. (told_seen told ≡ Refused why) × (why ≢ Memory)) (λ e. (e ≡ Memory) × (why ≡ Memory)) }
+    ensures { MatchResult result (λ told. (told_seen told ≡ Refused why) × (is_memory why ≡ false)) (λ e. (e ≡ Memory) × (why ≡ Memory)) }
 {
     match why {
         Refusal::Memory => Err(Refusal::Memory),
@@ -54,6 +54,7 @@ pub(crate) fn ask(
     query: &Query,
 ) -> Result<Told, Refusal>
     ensures ok { IfOk result (λ told. told_seen told ≡ told_reply (reply state.now time query.now)) }
+    ensures heard { IfOk result (λ told. tells_lack (told_seen told) ≡ false) }
     ensures err { IfErr result (λ why. why ≡ Memory) }
 {
     match hk_query::ask(alloc, state, time, query) {
@@ -64,7 +65,8 @@ pub(crate) fn ask(
 
 /// A replica tells from where to where it can be read.
 pub(crate) fn front(state: &ReplicaState) -> Told
-    ensures { told_seen result ≡ Fronted state.now.horizon (readable state.now) }
+    ensures told { told_seen result ≡ Fronted state.now.horizon (readable state.now) }
+    ensures heard { tells_lack (told_seen result) ≡ false }
 {
     Told::Fronted(front_of(state))
 }

@@ -1,12 +1,12 @@
 //! What each kind of event does to a world.
 
-ghost use Rattle.std.specs.Prelude.{◌≡◌, IfOk, IfErr};
+ghost use Rattle.std.specs.Prelude.{◌≡◌, IfOk, IfErr, false};
 ghost use Rattle.hk_types.specs.declared.faults.Refusal.TheVariants.{Memory};
 ghost use Rattle.hk_model.specs.Events.{told_seen};
 ghost use Rattle.hk_model.specs.Worlds.{asked_primary};
 ghost use Rattle.hk_model.specs.Worlds.EventValue.{Commit, MarkOf, Absorb, Batch, Prune, Merge, Delta, Ask, FrontOf};
 ghost use Rattle.hk_laws.specs.Running.{stepped};
-ghost use Rattle.hk_laws.specs.Calls.{Gives};
+ghost use Rattle.hk_laws.specs.Calls.{Gives, tells_lack};
 
 use crate::acting::{self, refused};
 use crate::among;
@@ -20,6 +20,7 @@ use hk_types::{Refusal, StreamNo, Time};
 /// A primary is asked at a time.
 fn ask_primary(primary: &Primary, time: Time, query: &Query) -> Result<Told, Refusal>
     ensures ok { IfOk result (λ told. told_seen told ≡ asked_primary primary.now.history time query.now) }
+    ensures heard { IfOk result (λ told. tells_lack (told_seen told) ≡ false) }
     ensures err { IfErr result (λ why. why ≡ Memory) }
 {
     match primary.ask(time, query) {
@@ -111,7 +112,8 @@ impl World {
 
     /// A replica tells from where to where it can be read.
     pub(crate) fn front_of(&self, replica: u16) -> Told
-        ensures { told_seen result ≡ (stepped self.now (FrontOf replica)).0 }
+        ensures told { told_seen result ≡ (stepped self.now (FrontOf replica)).0 }
+        ensures heard { tells_lack (told_seen result) ≡ false }
     {
         match numbered(&self.replicas, u64::from(replica)) {
             Some(state) => acting::front(state),

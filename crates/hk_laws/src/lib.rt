@@ -8,7 +8,10 @@ mod events;
 mod joining;
 mod laws;
 mod lists;
+mod running;
+mod step;
 mod world;
 
 pub use laws::{deliver_law, merge_law, world_law};
+pub use running::run;
 pub use world::{MOST_REPLICAS, World};

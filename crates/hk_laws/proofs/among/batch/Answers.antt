@@ -1,4 +1,4 @@
-use Rattle.std.proofs.Common.{◌≡◌, sym, ap, ◌∙◌, None, Some, List}
+use Rattle.std.proofs.Common.{◌≡◌, refl, sym, ap, ◌∙◌, None, Some, List}
 use Rattle.hk_log.specs.declared.item.Item.{Item}
 use Rattle.hk_model.specs.Worlds.{both, numbered, all_numbered, told_batch}
 use Rattle.hk_model.specs.Rules.{gathered}
@@ -13,6 +13,7 @@ returns-then-not-all_there c =
     let missing : both (numbered c.args.replicas.now c.args.replica) (all_numbered c.args.items.now c.args.numbers.now) ≡ None = ap (λ x. both (numbered c.args.replicas.now c.args.replica) x) none ∙ both_none (numbered c.args.replicas.now c.args.replica) in (
       sym (ap (λ x. (acted_among c.args.replicas.now c.args.replica x (λ p. told_batch p.0 (gathered c.args.config p.1))).0) missing),
       sym (ap (λ x. (acted_among c.args.replicas.now c.args.replica x (λ p. told_batch p.0 (gathered c.args.config p.1))).1) missing),
+      refl,
     )
 
 pub returns : goal.returns

@@ -3,7 +3,7 @@ use Rattle.hk_types.specs.declared.faults.Refusal.{Refusal}
 use Rattle.hk_model.specs.Content.{Content}
 use Rattle.hk_model.specs.Worlds.{numbered, told_by}
 use Rattle.hk_model.specs.Rules.{merged}
-use Rattle.hk_laws.specs.Calls.{Gives}
+use Rattle.hk_laws.specs.Calls.{Gives, tells_lack}
 use Rattle.hk_laws.proofs.Numbered.{numbered_at}
 use Rattle.hk_laws.proofs.Acted.{acts_not}
 use Rattle.hk_laws.proofs.among.merge.Goals as goal
@@ -18,4 +18,4 @@ returns-then-taker-source c =
     (numbered rs c.args.from) b (λ p. told_by p.0 (merged p.0 p.1)) c.index-replicas-taker.result (Ok c.same.result)
     (numbered_at rs c.in-Some-place_of.source c.args.from c.index-replicas-taker.result c.in-Some-place_of.ensures.0 c.in-Some-place_of.ensures.1)
     (subst (λ (x : Content). Gives (told_by a (merged a x)) a a (Ok c.same.result)) one
-    (subst (λ (x : Result Content Refusal). Gives (told_by a x) a a (Ok c.same.result)) (sym c.same.ensures.whole) (c.same.ensures.told, refl)))
+    (subst (λ (x : Result Content Refusal). Gives (told_by a x) a a (Ok c.same.result)) (sym c.same.ensures.whole) (c.same.ensures.told, refl, ap tells_lack c.same.ensures.told)))
