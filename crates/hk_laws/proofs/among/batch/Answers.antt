@@ -1,0 +1,25 @@
+use Rattle.std.proofs.Common.{◌≡◌, refl, sym, ap, ◌∙◌, None, Some, List}
+use Rattle.hk_log.specs.declared.item.Item.{Item}
+use Rattle.hk_model.specs.Worlds.{both, numbered, all_numbered, told_batch}
+use Rattle.hk_model.specs.Rules.{gathered}
+use Rattle.hk_laws.specs.Calls.{acted_among}
+use Rattle.hk_laws.proofs.Numbered.{all_found, one_missing, both_none}
+use Rattle.hk_laws.proofs.Acted.{acts_on}
+use Rattle.hk_laws.proofs.among.batch.Goals as goal
+
+pub returns-then-not-all_there : goal.returns-then-not-all_there
+returns-then-not-all_there c =
+    let none = one_missing c.args.items.now c.args.numbers.now (sym c.if-not-all_there.ensures) in
+    let missing : both (numbered c.args.replicas.now c.args.replica) (all_numbered c.args.items.now c.args.numbers.now) ≡ None = ap (λ x. both (numbered c.args.replicas.now c.args.replica) x) none ∙ both_none (numbered c.args.replicas.now c.args.replica) in (
+      sym (ap (λ x. (acted_among c.args.replicas.now c.args.replica x (λ p. told_batch p.0 (gathered c.args.config p.1))).0) missing),
+      sym (ap (λ x. (acted_among c.args.replicas.now c.args.replica x (λ p. told_batch p.0 (gathered c.args.config p.1))).1) missing),
+      refl,
+    )
+
+pub returns : goal.returns
+returns c =
+    let all = all_found c.args.items.now c.args.numbers.now (sym c.if-not-all_there.ensures) in
+    acts_on c.args.replicas.now c.args.replica c.in-Some.place c.in-Some.ensures.0 c.in-Some.ensures.1
+    (all_numbered c.args.items.now c.args.numbers.now) c.deref.result.now (λ p. told_batch p.0 (gathered c.args.config p.1))
+    c.index-replicas-place.result c.batch.new.state c.batch.result
+    (all ∙ ap (λ (xs : List Item). Some xs) (sym c.in_ok-items.ensures ∙ sym c.deref.ensures.value)) c.batch.ensures

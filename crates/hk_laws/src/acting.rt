@@ -1,0 +1,72 @@
+//! What one replica does and tells.
+
+ghost use Rattle.std.specs.Prelude.{◌≡◌, Result, IfOk, IfErr, MatchResult, false};
+ghost use Rattle.hk_types.specs.declared.faults.Refusal.TheVariants.{Memory};
+ghost use Rattle.hk_model.specs.Answers.{reply};
+ghost use Rattle.hk_model.specs.Content.{readable};
+ghost use Rattle.hk_model.specs.Events.{told_seen};
+ghost use Rattle.hk_model.specs.Rules as rules;
+ghost use Rattle.hk_model.specs.Worlds.{told_batch, told_by, told_reply, told_taken};
+ghost use Rattle.hk_model.specs.Worlds.ToldValue.{Fronted, Refused};
+ghost use Rattle.hk_laws.specs.Calls.{Gives, is_memory, tells_lack};
+
+use hk_log::Item;
+use hk_model::{Query, Told};
+use hk_state::{ReplicaState, front_of};
+use hk_types::{Config, Refusal, Time};
+use std::alloc::Global;
+
+/// What a refusal is told as. Want of memory is told by `World::step`.
+pub(crate) fn refused(why: Refusal) -> Result<Told, Refusal>
+    ensures { MatchResult result (λ told. (told_seen told ≡ Refused why) × (is_memory why ≡ false)) (λ e. (e ≡ Memory) × (why ≡ Memory)) }
+{
+    match why {
+        Refusal::Memory => Err(Refusal::Memory),
+        why => Ok(Told::Refused(why)),
+    }
+}
+
+/// A replica absorbs an item.
+pub(crate) fn absorb(state: &mut ReplicaState, item: &Item) -> Result<Told, Refusal>
+    ensures { Gives (told_taken state.old (rules.taken state.old item.now)) state.old state.new result }
+{
+    match state.absorb(item) {
+        Ok(took) => Ok(Told::Took(took)),
+        Err(why) => refused(why),
+    }
+}
+
+/// A replica is pruned to a time.
+pub(crate) fn prune(state: &mut ReplicaState, horizon: Time) -> Result<Told, Refusal>
+    ensures { Gives (told_by state.old (rules.pruned state.old horizon)) state.old state.new result }
+{
+    match state.prune(horizon) {
+        Ok(()) => Ok(Told::Done),
+        Err(why) => refused(why),
+    }
+}
+
+/// A replica is asked at a time.
+pub(crate) fn ask(
+    alloc: Global,
+    state: &ReplicaState,
+    time: Time,
+    query: &Query,
+) -> Result<Told, Refusal>
+    ensures ok { IfOk result (λ told. told_seen told ≡ told_reply (reply state.now time query.now)) }
+    ensures heard { IfOk result (λ told. tells_lack (told_seen told) ≡ false) }
+    ensures err { IfErr result (λ why. why ≡ Memory) }
+{
+    match hk_query::ask(alloc, state, time, query) {
+        Ok(answer) => Ok(Told::Answered(answer)),
+        Err(why) => refused(why),
+    }
+}
+
+/// A replica tells from where to where it can be read.
+pub(crate) fn front(state: &ReplicaState) -> Told
+    ensures told { told_seen result ≡ Fronted state.now.horizon (readable state.now) }
+    ensures heard { tells_lack (told_seen result) ≡ false }
+{
+    Told::Fronted(front_of(state))
+}

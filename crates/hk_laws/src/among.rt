@@ -1,0 +1,133 @@
+//! What happens to one replica of a list.
+
+ghost use Rattle.std.specs.Prelude.{◌≡◌, ◌≢◌, ◌+◌, ◌<◌, length, Ok};
+ghost use Rattle.hk_model.specs.Events.{told_seen};
+ghost use Rattle.hk_model.specs.Rules as rules;
+ghost use Rattle.hk_model.specs.Worlds.{all_numbered, both, delta_join, numbered, told_batch, told_by, told_taken};
+ghost use Rattle.hk_model.specs.Worlds.ToldValue.{Done};
+ghost use Rattle.hk_laws.specs.Calls.{Gives, acted_among};
+
+use crate::acting::{self, refused};
+use crate::joining;
+use crate::lists::{all_there, copies, numbered, place_of};
+use hk_delta::delta_since;
+use hk_log::Item;
+use hk_model::Told;
+use hk_state::ReplicaState;
+use hk_types::{Config, Refusal, Time};
+use std::alloc::Global;
+
+/// A replica absorbs an item.
+pub(crate) fn absorb(
+    replicas: &mut [ReplicaState],
+    replica: u16,
+    items: &[Item],
+    item: u64,
+) -> Result<Told, Refusal>
+    ensures { Gives (acted_among replicas.old replica (both (numbered replicas.old replica) (numbered items.now item)) (λ p. told_taken p.0 (rules.taken p.0 p.1))) replicas.old replicas.new result }
+{
+    let Some(place) = place_of(replicas, replica) else {
+        return Ok(Told::Refused(Refusal::NoSuch));
+    };
+    let Some(item) = numbered(items, item) else {
+        return Ok(Told::Refused(Refusal::NoSuch));
+    };
+    acting::absorb(&mut replicas[place], item)
+}
+
+/// A replica is pruned to a time.
+pub(crate) fn prune(
+    replicas: &mut [ReplicaState],
+    replica: u16,
+    horizon: Time,
+) -> Result<Told, Refusal>
+    ensures { Gives (acted_among replicas.old replica (numbered replicas.old replica) (λ r. told_by r (rules.pruned r horizon))) replicas.old replicas.new result }
+{
+    let Some(place) = place_of(replicas, replica) else {
+        return Ok(Told::Refused(Refusal::NoSuch));
+    };
+    acting::prune(&mut replicas[place], horizon)
+}
+
+/// A replica joins the fragment of some items.
+pub(crate) fn batch(
+    alloc: Global,
+    config: Config,
+    replicas: &mut [ReplicaState],
+    replica: u16,
+    items: &[Item],
+    numbers: &[u64],
+) -> Result<Told, Refusal>
+    ensures { Gives (acted_among replicas.old replica (both (numbered replicas.old replica) (all_numbered items.now numbers.now)) (λ p. told_batch p.0 (rules.gathered config p.1))) replicas.old replicas.new result }
+{
+    let Some(place) = place_of(replicas, replica) else {
+        return Ok(Told::Refused(Refusal::NoSuch));
+    };
+    if !all_there(items, numbers) {
+        return Ok(Told::Refused(Refusal::NoSuch));
+    }
+    let items = copies(alloc, items, numbers)?;
+    joining::batch(alloc, config, &mut replicas[place], &items)
+}
+
+/// A replica joins what another has learnt since a time.
+pub(crate) fn delta(
+    alloc: Global,
+    replicas: &mut [ReplicaState],
+    to: u16,
+    from: u16,
+    base: Time,
+) -> Result<Told, Refusal>
+    ensures { Gives (acted_among replicas.old to (both (numbered replicas.old to) (numbered replicas.old from)) (λ p. delta_join p.0 p.1 base)) replicas.old replicas.new result }
+{
+    let Some(taker) = place_of(replicas, to) else {
+        return Ok(Told::Refused(Refusal::NoSuch));
+    };
+    let Some(source) = place_of(replicas, from) else {
+        return Ok(Told::Refused(Refusal::NoSuch));
+    };
+    match delta_since(alloc, &replicas[source], base) {
+        Ok(fragment) => joining::join(&mut replicas[taker], &fragment),
+        Err(why) => refused(why),
+    }
+}
+
+/// A replica is merged into another one.
+fn merge_apart(replicas: &mut [ReplicaState], to: usize, from: usize) -> Result<Told, Refusal>
+    requires taker { to < length replicas.old }
+    requires source { from < length replicas.old }
+    requires apart { to ≢ from }
+    ensures { Gives (acted_among replicas.old (to + 1) (both (numbered replicas.old (to + 1)) (numbered replicas.old (from + 1))) (λ p. told_by p.0 (rules.merged p.0 p.1))) replicas.old replicas.new result }
+{
+    if to < from {
+        let (low, high) = replicas.split_at_mut(from);
+        return joining::merge(&mut low[to], &high[0]);
+    }
+    let (low, high) = replicas.split_at_mut(to);
+    joining::merge(&mut high[0], &low[from])
+}
+
+/// A replica is merged into another one. Merged into itself it stays as it is.
+pub(crate) fn merge(replicas: &mut [ReplicaState], to: u16, from: u16) -> Result<Told, Refusal>
+    ensures { Gives (acted_among replicas.old to (both (numbered replicas.old to) (numbered replicas.old from)) (λ p. told_by p.0 (rules.merged p.0 p.1))) replicas.old replicas.new result }
+{
+    let Some(taker) = place_of(replicas, to) else {
+        return Ok(Told::Refused(Refusal::NoSuch));
+    };
+    let Some(source) = place_of(replicas, from) else {
+        return Ok(Told::Refused(Refusal::NoSuch));
+    };
+    if taker == source {
+        return Ok(same(&replicas[taker]));
+    }
+    merge_apart(replicas, taker, source)
+}
+
+/// What a merge of a replica with itself tells: it leaves the replica as it is.
+fn same(state: &ReplicaState) -> Told
+    ensures told { told_seen result ≡ Done }
+    ensures whole { rules.merged state.now state.now ≡ Ok state.now }
+{
+    let _lawful = state.horizon();
+    Told::Done
+}

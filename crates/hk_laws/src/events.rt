@@ -1,0 +1,123 @@
+//! What each kind of event does to a world.
+
+ghost use Rattle.std.specs.Prelude.{◌≡◌, IfOk, IfErr, false};
+ghost use Rattle.hk_types.specs.declared.faults.Refusal.TheVariants.{Memory};
+ghost use Rattle.hk_model.specs.Events.{told_seen};
+ghost use Rattle.hk_model.specs.Worlds.{asked_primary};
+ghost use Rattle.hk_model.specs.Worlds.EventValue.{Commit, MarkOf, Absorb, Batch, Prune, Merge, Delta, Ask, FrontOf};
+ghost use Rattle.hk_laws.specs.Running.{stepped};
+ghost use Rattle.hk_laws.specs.Calls.{Gives, tells_lack};
+
+use crate::acting::{self, refused};
+use crate::among;
+use crate::building::transaction;
+use crate::lists::numbered;
+use crate::world::World;
+use hk_model::{Query, Told, WriteOp};
+use hk_primary::Primary;
+use hk_types::{Refusal, StreamNo, Time};
+
+/// A primary is asked at a time.
+fn ask_primary(primary: &Primary, time: Time, query: &Query) -> Result<Told, Refusal>
+    ensures ok { IfOk result (λ told. told_seen told ≡ asked_primary primary.now.history time query.now) }
+    ensures heard { IfOk result (λ told. tells_lack (told_seen told) ≡ false) }
+    ensures err { IfErr result (λ why. why ≡ Memory) }
+{
+    match primary.ask(time, query) {
+        Ok(answer) => Ok(Told::Answered(answer)),
+        Err(why) => refused(why),
+    }
+}
+
+impl World {
+    /// A transaction that read at a time commits its writes on a stream, in their order.
+    pub(crate) fn commit(
+        &mut self,
+        stream: StreamNo,
+        read_at: Time,
+        writes: Vec<WriteOp>,
+    ) -> Result<Told, Refusal>
+        ensures { Gives (stepped self.old (Commit stream read_at writes.items)) self.old self.new result }
+    {
+        let txn = match transaction(self.alloc, read_at, writes) {
+            Ok(txn) => txn,
+            Err(why) => return refused(why),
+        };
+        match self.primary.commit(txn, stream) {
+            Ok(time) => Ok(Told::Committed(time)),
+            Err((_txn, why)) => refused(why),
+        }
+    }
+
+    /// The primary emits a mark of a stream.
+    pub(crate) fn mark_of(&mut self, stream: StreamNo) -> Result<Told, Refusal>
+        ensures { Gives (stepped self.old (MarkOf stream)) self.old self.new result }
+    {
+        match self.primary.mark(stream) {
+            Ok(mark) => Ok(Told::Marked(mark)),
+            Err(Refusal::Memory) => Err(Refusal::Memory),
+            Err(why) => Ok(Told::Refused(why)),
+        }
+    }
+
+    /// A replica absorbs an item.
+    pub(crate) fn absorb(&mut self, replica: u16, item: u64) -> Result<Told, Refusal>
+        ensures { Gives (stepped self.old (Absorb replica item)) self.old self.new result }
+    {
+        among::absorb(&mut self.replicas, replica, self.primary.log(), item)
+    }
+
+    /// A replica is pruned to a time.
+    pub(crate) fn prune(&mut self, replica: u16, horizon: Time) -> Result<Told, Refusal>
+        ensures { Gives (stepped self.old (Prune replica horizon)) self.old self.new result }
+    {
+        among::prune(&mut self.replicas, replica, horizon)
+    }
+
+    /// A replica joins the fragment of some items.
+    pub(crate) fn batch(&mut self, replica: u16, items: &[u64]) -> Result<Told, Refusal>
+        ensures { Gives (stepped self.old (Batch replica items.now)) self.old self.new result }
+    {
+        let config = self.primary.config();
+        let log = self.primary.log();
+        among::batch(self.alloc, config, &mut self.replicas, replica, log, items)
+    }
+
+    /// A replica is merged into another one, or into itself, which leaves it as it is.
+    pub(crate) fn merge(&mut self, to: u16, from: u16) -> Result<Told, Refusal>
+        ensures { Gives (stepped self.old (Merge to from)) self.old self.new result }
+    {
+        among::merge(&mut self.replicas, to, from)
+    }
+
+    /// A replica joins what another has learnt since a time.
+    pub(crate) fn delta(&mut self, to: u16, from: u16, base: Time) -> Result<Told, Refusal>
+        ensures { Gives (stepped self.old (Delta to from base)) self.old self.new result }
+    {
+        among::delta(self.alloc, &mut self.replicas, to, from, base)
+    }
+
+    /// The primary, which is replica 0, or a replica is asked at a time.
+    pub(crate) fn ask(&self, replica: u16, time: Time, query: &Query) -> Result<Told, Refusal>
+        ensures { Gives (stepped self.now (Ask replica time query.now)) self.now self.now result }
+    {
+        if replica == 0 {
+            return ask_primary(&self.primary, time, query);
+        }
+        match numbered(&self.replicas, u64::from(replica)) {
+            Some(state) => acting::ask(self.alloc, state, time, query),
+            None => Ok(Told::Refused(Refusal::NoSuch)),
+        }
+    }
+
+    /// A replica tells from where to where it can be read.
+    pub(crate) fn front_of(&self, replica: u16) -> Told
+        ensures told { told_seen result ≡ (stepped self.now (FrontOf replica)).0 }
+        ensures heard { tells_lack (told_seen result) ≡ false }
+    {
+        match numbered(&self.replicas, u64::from(replica)) {
+            Some(state) => acting::front(state),
+            None => Told::Refused(Refusal::NoSuch),
+        }
+    }
+}

@@ -1,0 +1,48 @@
+//! What one replica takes of others, and of several items at once.
+
+ghost use Rattle.hk_model.specs.Rules as rules;
+ghost use Rattle.hk_model.specs.Worlds.{told_batch, told_by};
+ghost use Rattle.hk_laws.specs.Calls.{Gives};
+
+use crate::acting::refused;
+use hk_delta::{Fragment, fragment_of};
+use hk_log::Item;
+use hk_model::Told;
+use hk_state::ReplicaState;
+use hk_types::{Config, Refusal};
+use std::alloc::Global;
+
+/// A replica joins a fragment.
+pub(crate) fn join(state: &mut ReplicaState, fragment: &Fragment) -> Result<Told, Refusal>
+    ensures { Gives (told_by state.old (rules.joined state.old fragment.now)) state.old state.new result }
+{
+    match hk_delta::join(state, fragment) {
+        Ok(()) => Ok(Told::Done),
+        Err(why) => refused(why),
+    }
+}
+
+/// A replica joins the fragment of some items.
+pub(crate) fn batch(
+    alloc: Global,
+    config: Config,
+    state: &mut ReplicaState,
+    items: &[Item],
+) -> Result<Told, Refusal>
+    ensures { Gives (told_batch state.old (rules.gathered config items.now)) state.old state.new result }
+{
+    match fragment_of(alloc, config, items) {
+        Ok(fragment) => join(state, &fragment),
+        Err(why) => refused(why),
+    }
+}
+
+/// A replica takes all that another one holds.
+pub(crate) fn merge(state: &mut ReplicaState, peer: &ReplicaState) -> Result<Told, Refusal>
+    ensures { Gives (told_by state.old (rules.merged state.old peer.now)) state.old state.new result }
+{
+    match hk_merge::merge(state, peer) {
+        Ok(()) => Ok(Told::Done),
+        Err(why) => refused(why),
+    }
+}

@@ -1,0 +1,47 @@
+//! Runs of a world.
+
+ghost use Rattle.std.specs.Prelude.{◌≡◌, ◌≤◌, ◌<◌, ◌+◌, ◌++◌, ◌∷◌, [], map, IfOk, IfErr};
+ghost use Rattle.std.specs.Vec.{vec_capacity, vec_len};
+ghost use Rattle.hk_types.specs.declared.faults.Refusal.TheVariants.{Memory};
+ghost use Rattle.hk_model.specs.Events.{event_seen, told_seen};
+ghost use Rattle.hk_laws.specs.Runs.{Runs};
+
+use crate::world::World;
+use hk_model::{Event, Told};
+use hk_types::{Config, Refusal};
+use std::alloc::Global;
+
+/// Adds an answer to a list that has room for it.
+fn push_told(list: &mut Vec<Told>, told: Told)
+    requires { vec_len list.old < vec_capacity list.old }
+    ensures items { list.new.items ≡ list.old.items ++ told ∷ [] }
+    ensures len { vec_len list.new ≡ vec_len list.old + 1 }
+    ensures room { vec_capacity list.old ≤ vec_capacity list.new }
+{
+    let pushed = list.push(told);
+    prove!(pushed.is_ok());
+}
+
+/// What events tell, one after the other, in a new world with so many replicas, 1 to `MOST_REPLICAS`.
+///
+/// The only refusal is `Memory`, where the world or the list of answers could not be made. An event that is
+/// told `Memory` changes nothing, and the others tell what they would tell without it. It costs what the
+/// events do.
+pub fn run(
+    alloc: Global,
+    config: Config,
+    replicas: u16,
+    events: Vec<Event>,
+) -> Result<Vec<Told>, Refusal>
+    requires some { 1 ≤ replicas }
+    requires few { replicas ≤ 16 }
+    ensures ok { IfOk result (λ told. Runs config replicas (map event_seen events.items) (map told_seen told.items)) }
+    ensures err { IfErr result (λ why. why ≡ Memory) }
+{
+    let mut told = Vec::with_capacity(alloc, events.len())?;
+    let mut world = World::new(alloc, config, replicas)?;
+    for event in events {
+        push_told(&mut told, world.step(event));
+    }
+    Ok(told)
+}

@@ -1,0 +1,55 @@
+//! One event of a world.
+
+ghost use Rattle.hk_model.specs.Events.{event_seen, told_seen};
+ghost use Rattle.hk_laws.specs.Running.{stepped};
+ghost use Rattle.hk_laws.specs.Calls.{Gives, Steps, StepsOf};
+
+use crate::world::World;
+use hk_model::{Event, Told};
+use hk_types::Refusal;
+
+impl World {
+    fn act(&mut self, event: Event) -> Result<Told, Refusal>
+        ensures { Gives (stepped self.old (event_seen event)) self.old self.new result }
+    {
+        match event {
+            Event::Commit {
+                stream,
+                read_at,
+                writes,
+            } => self.commit(stream, read_at, writes),
+            Event::MarkOf { stream } => self.mark_of(stream),
+            Event::Absorb { replica, item } => self.absorb(replica, item),
+            Event::Batch { replica, items } => self.batch(replica, &items),
+            Event::Prune { replica, horizon } => self.prune(replica, horizon),
+            Event::Merge { to, from } => self.merge(to, from),
+            Event::Delta { to, from, base } => self.delta(to, from, base),
+            Event::Ask { replica, t, query } => self.ask(replica, t, &query),
+            Event::FrontOf { replica } => Ok(self.front_of(replica)),
+        }
+    }
+
+    fn tell(&mut self, event: Event) -> Told
+        ensures { Steps self.old self.new (event_seen event) (told_seen result) }
+    {
+        match self.act(event) {
+            Ok(told) => told,
+            Err(why) => Told::Refused(why),
+        }
+    }
+
+    /// Lets an event happen, and tells what came of it.
+    ///
+    /// A replica or an item that is not there is refused `NoSuch`, before any other test. Else what is refused
+    /// and why is said at the call that the event stands for: of the transaction's `put`, `remove` and `commit`
+    /// for a commit, `Primary::mark` for a mark, `ReplicaState::absorb` and `prune`, `fragment_of` and `join`
+    /// for a batch, `merge`, `delta_since` and `join` for a delta, and `ask`. `Memory` comes where a growth was
+    /// refused. A refusal changes nothing. A merge of a replica with itself leaves it as it is. It costs what
+    /// those calls do; the items of a batch are copied, and no replica is.
+    pub fn step(&mut self, event: Event) -> Told
+        ensures gives { Steps self.old self.new (event_seen event) (told_seen result) }
+        ensures stands { StepsOf self.old self.new (event_seen event) (told_seen result) }
+    {
+        self.tell(event)
+    }
+}
