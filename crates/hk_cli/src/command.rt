@@ -1,5 +1,7 @@
 //! The commands of a script.
 
+ghost use Rattle.std.specs.Prelude.{◌≤◌, IfOk};
+
 use crate::words::{Unread, Words};
 use hk_model::{Event, Query};
 use hk_types::{Config, Key, Row, StreamNo, Table, Time};
@@ -48,7 +50,9 @@ pub(crate) enum Command {
 }
 
 /// The first line of a script.
-pub(crate) fn opening_of(line: &str) -> Result<Opening, Unread> {
+pub(crate) fn opening_of(line: &str) -> Result<Opening, Unread>
+    ensures { IfOk result (λ opening. (1 ≤ opening.replicas) × (opening.replicas ≤ 16)) }
+{
     let mut words = Words::new(line);
     if words.word()? != "world" {
         return Err(Unread::BadCommand);

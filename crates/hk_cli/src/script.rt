@@ -1,5 +1,6 @@
 //! A script on its way: its world, and the transactions that are being written.
 
+ghost use Rattle.std.specs.Prelude.{◌≤◌};
 ghost use Rattle.hk_cli.specs.Scripts as spec;
 
 use crate::command::{Command, Opening, SLOTS};
@@ -42,7 +43,10 @@ pub(crate) struct Script {
 
 impl Script {
     /// The script behind its first line.
-    pub(crate) fn new(alloc: Global, opening: Opening) -> Result<Script, Refusal> {
+    pub(crate) fn new(alloc: Global, opening: Opening) -> Result<Script, Refusal>
+        requires some { 1 ≤ opening.replicas }
+        requires few { opening.replicas ≤ 16 }
+    {
         let mut slots = Vec::with_capacity(alloc, SLOTS)?;
         for _ in 0..SLOTS {
             slots.push(None)?;

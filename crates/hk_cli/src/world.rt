@@ -55,11 +55,7 @@ impl Player {
     }
 
     /// Takes the bytes of a read, and prints what their lines are told.
-    fn take_all<W: Write>(
-        &mut self,
-        bytes: &[u8],
-        output: &mut Output<'_, W>,
-    ) -> Result<(), Stop> {
+    fn take_all<W: Write>(&mut self, bytes: &[u8], output: &mut Output<'_, W>) -> Result<(), Stop> {
         for byte in bytes {
             self.take(*byte, output)?;
         }
@@ -76,7 +72,9 @@ impl Player {
         if self.line.len() >= MOST_LINE_BYTES {
             return Err(Stop::BadCommand(self.number));
         }
-        self.line.push(byte).map_err(|_full| Stop::Refused(Refusal::Memory))
+        self.line
+            .push(byte)
+            .map_err(|_full| Stop::Refused(Refusal::Memory))
     }
 
     /// Makes the command of the line that was read, and prints what it is told.
