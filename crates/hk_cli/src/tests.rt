@@ -7,6 +7,8 @@ use std::io;
 use std::io::{ErrorKind, Read, Write};
 use std::test::*;
 
+mod worlds;
+
 /// Log 7, stream 1, number 1, time 1, with a row at table 1, key 5; and the mark of the first entry up to time 1.
 const FIRST: [u8; 85] = [
     0, 0, 0, 0x31, 1, 1, 0, 0, 0, 0, 0, 0, 0, 7, 0, 1, 0, 0, 0, 0, 0, 0, 0, 1, 0, 0, 0, 0, 0, 0, 0,
