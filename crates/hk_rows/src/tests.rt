@@ -1,7 +1,9 @@
 //! Replicas beside the plain program.
 
+mod deltas;
 mod folds;
 mod generated;
+mod merges;
 mod pair;
 mod random;
 mod seen;

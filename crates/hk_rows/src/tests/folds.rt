@@ -1,9 +1,9 @@
 //! Folds of random deliveries and prunings.
 
-use super::generated::{log_of, queries};
+use super::generated::log_of;
 use super::pair::Pair;
 use super::random::Random;
-use super::seen::{facts_are_seen, primary_is_seen, replies_are_seen, streams_are_seen};
+use super::seen::replies_are_seen;
 use std::alloc::Global;
 use std::process::Abort;
 use std::test::Fail;
@@ -11,16 +11,14 @@ use std::test::Fail;
 /// After each delivery the state is as the plain program has it, and shows the primary's rows at every time.
 fn fold(rt: &impl Abort, alloc: Global, seed: u64, deliveries: u64) -> Result<(), Fail> {
     let log = log_of(alloc, seed, 6 + seed % 4)?;
-    let queries = queries(alloc)?;
     let mut random = Random::new(seed ^ 1000);
     let mut pair = Pair::new(alloc, &log)?;
     for _ in 0..deliveries {
         pair.deliver(rt, alloc, &mut random, log.last, &log.items)?;
-        streams_are_seen(rt, &pair.state, &pair.content)?;
-        facts_are_seen(rt, alloc, &pair.state, &pair.content)?;
-        primary_is_seen(rt, alloc, &log, &pair.state, &pair.content, &queries)?;
+        pair.is_seen(rt, alloc)?;
+        pair.shows(rt, alloc, &log)?;
     }
-    replies_are_seen(rt, alloc, log.last, &pair.state, &pair.content, &queries)
+    replies_are_seen(rt, alloc, &log, &pair.state, &pair.content)
 }
 
 #[test]
@@ -37,15 +35,13 @@ fn fold_of_two(rt: &impl Abort, alloc: Global, seed: u64) -> Result<(), Fail> {
     let log = log_of(alloc, seed, 6)?;
     let mut items = log_of(alloc, seed, 6)?.items;
     items.append(&mut log_of(alloc, seed ^ 500, 6)?.items)?;
-    let queries = queries(alloc)?;
     let mut random = Random::new(seed ^ 2000);
     let mut pair = Pair::new(alloc, &log)?;
     for _ in 0..50 {
         pair.deliver(rt, alloc, &mut random, log.last, &items)?;
-        streams_are_seen(rt, &pair.state, &pair.content)?;
-        facts_are_seen(rt, alloc, &pair.state, &pair.content)?;
+        pair.is_seen(rt, alloc)?;
     }
-    replies_are_seen(rt, alloc, log.last, &pair.state, &pair.content, &queries)
+    replies_are_seen(rt, alloc, &log, &pair.state, &pair.content)
 }
 
 #[test]

@@ -11,12 +11,13 @@ use std::test::Fail;
 /// How many streams the log has.
 pub(super) const STREAMS: u16 = 3;
 
-/// A history, the newest transaction first, with items of it, and the tables at each time up to the last.
+/// Items of a history, the tables at each time up to its last, and queries that are asked of them.
 #[derive(Drop)]
 pub(super) struct Log {
     pub(super) config: Config,
     pub(super) items: Vec<Item>,
     pub(super) tables: Vec<PlainTables>,
+    pub(super) queries: Vec<Query>,
     pub(super) last: u64,
 }
 
@@ -39,6 +40,7 @@ pub(super) fn log_of(alloc: Global, seed: u64, transactions: u64) -> Result<Log,
         config,
         items,
         tables: tables_of_times(alloc, &history, last)?,
+        queries: queries(alloc)?,
         last,
     })
 }
@@ -117,7 +119,7 @@ fn write_at(
 }
 
 /// Queries of all kinds.
-pub(super) fn queries(alloc: Global) -> Result<Vec<Query>, Fail> {
+fn queries(alloc: Global) -> Result<Vec<Query>, Fail> {
     let mut queries = Vec::new(alloc);
     for number in 1..=2 {
         let table = Table::new(number);

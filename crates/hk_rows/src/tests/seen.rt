@@ -1,7 +1,7 @@
 //! What is seen of a replica: its facts, its front, and its replies at every time.
 
 use super::generated::Log;
-use hk_model::{Answer, Front, Query, Took};
+use hk_model::{Answer, Front, Took};
 use hk_plain::PlainContent;
 use hk_query::ask;
 use hk_state::{ReplicaState, front_of};
@@ -32,11 +32,10 @@ fn replies_at(
     state: &ReplicaState,
     content: &PlainContent,
     at: u64,
-    queries: &[Query],
 ) -> Result<(), Fail> {
     let time = Time::new(at)?;
     let why = refused(content, time);
-    for query in queries {
+    for query in &log.queries {
         let wanted = match (why, log.tables.get(at as usize)) {
             (Some(why), _) => Err(why),
             (None, Some(tables)) => Ok(tables.answer(alloc, query)?),
@@ -54,10 +53,9 @@ pub(super) fn primary_is_seen(
     log: &Log,
     state: &ReplicaState,
     content: &PlainContent,
-    queries: &[Query],
 ) -> Result<(), Fail> {
     for at in 0..=log.last.saturating_add(1) {
-        replies_at(rt, alloc, log, state, content, at, queries)?;
+        replies_at(rt, alloc, log, state, content, at)?;
     }
     Ok(())
 }
@@ -66,14 +64,13 @@ pub(super) fn primary_is_seen(
 pub(super) fn replies_are_seen(
     rt: &impl Abort,
     alloc: Global,
-    last: u64,
+    log: &Log,
     state: &ReplicaState,
     content: &PlainContent,
-    queries: &[Query],
 ) -> Result<(), Fail> {
-    for at in 0..=last.saturating_add(1) {
+    for at in 0..=log.last.saturating_add(1) {
         let time = Time::new(at)?;
-        for query in queries {
+        for query in &log.queries {
             let wanted = content.reply(alloc, time, query);
             assert_eq!(rt; ask(alloc, state, time, query), wanted, "{query:?} at {at}");
         }
