@@ -5,7 +5,7 @@ ghost use Rattle.hk_model.specs.Events.{told_seen};
 ghost use Rattle.hk_model.specs.Rules as rules;
 ghost use Rattle.hk_model.specs.Worlds.{all_numbered, both, delta_join, numbered, told_batch, told_by, told_taken};
 ghost use Rattle.hk_model.specs.Worlds.ToldValue.{Done};
-ghost use Rattle.hk_laws.specs.Calls.{Gives, acted_among};
+ghost use Rattle.hk_laws.specs.Calls.{Acts};
 
 use crate::acting::{self, refused};
 use crate::joining;
@@ -24,7 +24,7 @@ pub(crate) fn absorb(
     items: &[Item],
     item: u64,
 ) -> Result<Told, Refusal>
-    ensures { Gives (acted_among replicas.old replica (both (numbered replicas.old replica) (numbered items.now item)) (λ p. told_taken p.0 (rules.taken p.0 p.1))) replicas.old replicas.new result }
+    ensures { Acts replicas.old replicas.new replica (both (numbered replicas.old replica) (numbered items.now item)) (λ p. told_taken p.0 (rules.taken p.0 p.1)) result }
 {
     let Some(place) = place_of(replicas, replica) else {
         return Ok(Told::Refused(Refusal::NoSuch));
@@ -41,7 +41,7 @@ pub(crate) fn prune(
     replica: u16,
     horizon: Time,
 ) -> Result<Told, Refusal>
-    ensures { Gives (acted_among replicas.old replica (numbered replicas.old replica) (λ r. told_by r (rules.pruned r horizon))) replicas.old replicas.new result }
+    ensures { Acts replicas.old replicas.new replica (numbered replicas.old replica) (λ r. told_by r (rules.pruned r horizon)) result }
 {
     let Some(place) = place_of(replicas, replica) else {
         return Ok(Told::Refused(Refusal::NoSuch));
@@ -58,7 +58,7 @@ pub(crate) fn batch(
     items: &[Item],
     numbers: &[u64],
 ) -> Result<Told, Refusal>
-    ensures { Gives (acted_among replicas.old replica (both (numbered replicas.old replica) (all_numbered items.now numbers.now)) (λ p. told_batch p.0 (rules.gathered config p.1))) replicas.old replicas.new result }
+    ensures { Acts replicas.old replicas.new replica (both (numbered replicas.old replica) (all_numbered items.now numbers.now)) (λ p. told_batch p.0 (rules.gathered config p.1)) result }
 {
     let Some(place) = place_of(replicas, replica) else {
         return Ok(Told::Refused(Refusal::NoSuch));
@@ -66,7 +66,10 @@ pub(crate) fn batch(
     if !all_there(items, numbers) {
         return Ok(Told::Refused(Refusal::NoSuch));
     }
-    let items = copies(alloc, items, numbers)?;
+    let items = match copies(alloc, items, numbers) {
+        Ok(items) => items,
+        Err(_lack) => return Err(Refusal::Memory),
+    };
     joining::batch(alloc, config, &mut replicas[place], &items)
 }
 
@@ -78,7 +81,7 @@ pub(crate) fn delta(
     from: u16,
     base: Time,
 ) -> Result<Told, Refusal>
-    ensures { Gives (acted_among replicas.old to (both (numbered replicas.old to) (numbered replicas.old from)) (λ p. delta_join p.0 p.1 base)) replicas.old replicas.new result }
+    ensures { Acts replicas.old replicas.new to (both (numbered replicas.old to) (numbered replicas.old from)) (λ p. delta_join p.0 p.1 base) result }
 {
     let Some(taker) = place_of(replicas, to) else {
         return Ok(Told::Refused(Refusal::NoSuch));
@@ -97,7 +100,7 @@ fn merge_apart(replicas: &mut [ReplicaState], to: usize, from: usize) -> Result<
     requires taker { to < length replicas.old }
     requires source { from < length replicas.old }
     requires apart { to ≢ from }
-    ensures { Gives (acted_among replicas.old (to + 1) (both (numbered replicas.old (to + 1)) (numbered replicas.old (from + 1))) (λ p. told_by p.0 (rules.merged p.0 p.1))) replicas.old replicas.new result }
+    ensures { Acts replicas.old replicas.new (to + 1) (both (numbered replicas.old (to + 1)) (numbered replicas.old (from + 1))) (λ p. told_by p.0 (rules.merged p.0 p.1)) result }
 {
     if to < from {
         let (low, high) = replicas.split_at_mut(from);
@@ -109,7 +112,7 @@ fn merge_apart(replicas: &mut [ReplicaState], to: usize, from: usize) -> Result<
 
 /// A replica is merged into another one. Merged into itself it stays as it is.
 pub(crate) fn merge(replicas: &mut [ReplicaState], to: u16, from: u16) -> Result<Told, Refusal>
-    ensures { Gives (acted_among replicas.old to (both (numbered replicas.old to) (numbered replicas.old from)) (λ p. told_by p.0 (rules.merged p.0 p.1))) replicas.old replicas.new result }
+    ensures { Acts replicas.old replicas.new to (both (numbered replicas.old to) (numbered replicas.old from)) (λ p. told_by p.0 (rules.merged p.0 p.1)) result }
 {
     let Some(taker) = place_of(replicas, to) else {
         return Ok(Told::Refused(Refusal::NoSuch));

@@ -6,7 +6,7 @@ ghost use Rattle.hk_model.specs.Events.{told_seen};
 ghost use Rattle.hk_model.specs.Worlds.{asked_primary};
 ghost use Rattle.hk_model.specs.Worlds.EventValue.{Commit, MarkOf, Absorb, Batch, Prune, Merge, Delta, Ask, FrontOf};
 ghost use Rattle.hk_laws.specs.Running.{stepped};
-ghost use Rattle.hk_laws.specs.Calls.{Gives, tells_lack};
+ghost use Rattle.hk_laws.specs.Calls.{Happens, tells_lack};
 
 use crate::acting::{self, refused};
 use crate::among;
@@ -37,7 +37,7 @@ impl World {
         read_at: Time,
         writes: Vec<WriteOp>,
     ) -> Result<Told, Refusal>
-        ensures { Gives (stepped self.old (Commit stream read_at writes.items)) self.old self.new result }
+        ensures { Happens self.old self.new (Commit stream read_at writes.items) result }
     {
         let txn = match transaction(self.alloc, read_at, writes) {
             Ok(txn) => txn,
@@ -51,7 +51,7 @@ impl World {
 
     /// The primary emits a mark of a stream.
     pub(crate) fn mark_of(&mut self, stream: StreamNo) -> Result<Told, Refusal>
-        ensures { Gives (stepped self.old (MarkOf stream)) self.old self.new result }
+        ensures { Happens self.old self.new (MarkOf stream) result }
     {
         match self.primary.mark(stream) {
             Ok(mark) => Ok(Told::Marked(mark)),
@@ -62,21 +62,21 @@ impl World {
 
     /// A replica absorbs an item.
     pub(crate) fn absorb(&mut self, replica: u16, item: u64) -> Result<Told, Refusal>
-        ensures { Gives (stepped self.old (Absorb replica item)) self.old self.new result }
+        ensures { Happens self.old self.new (Absorb replica item) result }
     {
         among::absorb(&mut self.replicas, replica, self.primary.log(), item)
     }
 
     /// A replica is pruned to a time.
     pub(crate) fn prune(&mut self, replica: u16, horizon: Time) -> Result<Told, Refusal>
-        ensures { Gives (stepped self.old (Prune replica horizon)) self.old self.new result }
+        ensures { Happens self.old self.new (Prune replica horizon) result }
     {
         among::prune(&mut self.replicas, replica, horizon)
     }
 
     /// A replica joins the fragment of some items.
     pub(crate) fn batch(&mut self, replica: u16, items: &[u64]) -> Result<Told, Refusal>
-        ensures { Gives (stepped self.old (Batch replica items.now)) self.old self.new result }
+        ensures { Happens self.old self.new (Batch replica items.now) result }
     {
         let config = self.primary.config();
         let log = self.primary.log();
@@ -85,21 +85,21 @@ impl World {
 
     /// A replica is merged into another one, or into itself, which leaves it as it is.
     pub(crate) fn merge(&mut self, to: u16, from: u16) -> Result<Told, Refusal>
-        ensures { Gives (stepped self.old (Merge to from)) self.old self.new result }
+        ensures { Happens self.old self.new (Merge to from) result }
     {
         among::merge(&mut self.replicas, to, from)
     }
 
     /// A replica joins what another has learnt since a time.
     pub(crate) fn delta(&mut self, to: u16, from: u16, base: Time) -> Result<Told, Refusal>
-        ensures { Gives (stepped self.old (Delta to from base)) self.old self.new result }
+        ensures { Happens self.old self.new (Delta to from base) result }
     {
         among::delta(self.alloc, &mut self.replicas, to, from, base)
     }
 
     /// The primary, which is replica 0, or a replica is asked at a time.
     pub(crate) fn ask(&self, replica: u16, time: Time, query: &Query) -> Result<Told, Refusal>
-        ensures { Gives (stepped self.now (Ask replica time query.now)) self.now self.now result }
+        ensures { Happens self.now self.now (Ask replica time query.now) result }
     {
         if replica == 0 {
             return ask_primary(&self.primary, time, query);

@@ -1,4 +1,4 @@
-//! The laws of replicas of one log, over the definitions.
+//! A world of one primary and its replicas, moved by events, and the laws of replicas of one log.
 #![tactic(auto)]
 
 mod acting;
@@ -12,6 +12,10 @@ mod running;
 mod step;
 mod world;
 
+pub use hk_model::{Event, Told};
 pub use laws::{deliver_law, merge_law, world_law};
 pub use running::run;
 pub use world::{MOST_REPLICAS, World};
+
+#[cfg(test)]
+mod tests;

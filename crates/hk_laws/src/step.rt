@@ -1,8 +1,7 @@
 //! One event of a world.
 
 ghost use Rattle.hk_model.specs.Events.{event_seen, told_seen};
-ghost use Rattle.hk_laws.specs.Running.{stepped};
-ghost use Rattle.hk_laws.specs.Calls.{Gives, Steps, StepsOf};
+ghost use Rattle.hk_laws.specs.Calls.{Happens, Steps, StepsOf};
 
 use crate::world::World;
 use hk_model::{Event, Told};
@@ -10,7 +9,7 @@ use hk_types::Refusal;
 
 impl World {
     fn act(&mut self, event: Event) -> Result<Told, Refusal>
-        ensures { Gives (stepped self.old (event_seen event)) self.old self.new result }
+        ensures { Happens self.old self.new (event_seen event) result }
     {
         match event {
             Event::Commit {

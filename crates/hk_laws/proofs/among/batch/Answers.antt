@@ -1,10 +1,11 @@
 use Rattle.std.proofs.Common.{◌≡◌, refl, sym, ap, ◌∙◌, None, Some, List}
 use Rattle.hk_log.specs.declared.item.Item.{Item}
 use Rattle.hk_model.specs.Worlds.{both, numbered, all_numbered, told_batch}
+use Rattle.hk_model.specs.Replicas.{nothing}
 use Rattle.hk_model.specs.Rules.{gathered}
 use Rattle.hk_laws.specs.Calls.{acted_among}
 use Rattle.hk_laws.proofs.Numbered.{all_found, one_missing, both_none}
-use Rattle.hk_laws.proofs.Acted.{acts_on}
+use Rattle.hk_laws.proofs.Acted.{acts_on, both_there}
 use Rattle.hk_laws.proofs.among.batch.Goals as goal
 
 pub returns-then-not-all_there : goal.returns-then-not-all_there
@@ -22,4 +23,9 @@ returns c =
     acts_on c.args.replicas.now c.args.replica c.in-Some.place c.in-Some.ensures.0 c.in-Some.ensures.1
     (all_numbered c.args.items.now c.args.numbers.now) c.deref.result.now (λ p. told_batch p.0 (gathered c.args.config p.1))
     c.index-replicas-place.result c.batch.new.state c.batch.result
-    (all ∙ ap (λ (xs : List Item). Some xs) (sym c.in_ok-items.ensures ∙ sym c.deref.ensures.value)) c.batch.ensures
+    (all ∙ ap (λ (xs : List Item). Some xs) (sym c.in-Ok.ensures ∙ sym c.deref.ensures.value)) c.batch.ensures
+
+pub returns-in-Err : goal.returns-in-Err
+returns-in-Err c =
+    let all = all_found c.args.items.now c.args.numbers.now (sym c.if-not-all_there.ensures) in
+    (refl, refl, both_there c.args.replicas.now c.args.replica c.in-Some.place c.in-Some.ensures.0 c.in-Some.ensures.1 (all_numbered c.args.items.now c.args.numbers.now) _ (nothing c.args.config) all)
