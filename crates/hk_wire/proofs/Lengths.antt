@@ -12,11 +12,12 @@ use Rattle.hk_model.specs.declared.query.Query.TheVariants.{Get, Range, ByTag, C
 use Rattle.hk_codec.proofs.Lengths.{len16, len32, len64}
 use Rattle.hk_types.specs.declared.faults.Refusal.{Refusal}
 use Rattle.hk_wire.specs.Refusals.{refusal_text}
-use Rattle.hk_wire.specs.Replies.{Done, Front as Told, Answer, Refused, reply_rest}
+use Rattle.hk_wire.specs.Replies.{Done, Front as Told, Fragment, Answer, Refused, reply_rest}
 use Rattle.hk_wire.specs.Queries.{query_text}
 use Rattle.hk_log.specs.declared.item.Item.{Item}
 use Rattle.hk_codec.specs.Frames.{spelling}
-use Rattle.hk_wire.specs.Requests.{Items, Front as AskFront, Delta, Full, Ask, Prune, request_rest}
+use Rattle.hk_wire.specs.Requests.{Items, Front as AskFront, Delta, Full, Ask, JoinThis, MergeThis, Prune, request_rest}
+use Rattle.hk_wire.specs.Fragments.{FragmentTold, fragment_text}
 
 pub get_len : (table key : ℕ) → length (query_text (Get table key)) ≡ 11
 unfolding query_text
@@ -108,6 +109,20 @@ number_answer_len n = simp (len64) refl
 pub answer_rest_len : (a : AnswerValue) → length (reply_rest (Answer a)) ≡ 2 + length (answer_text a)
 unfolding reply_rest
 answer_rest_len a = omega arith
+
+-- ---- fragments
+
+pub join_this_len : (f : FragmentTold) → length (request_rest (JoinThis f)) ≡ 2 + length (fragment_text f)
+unfolding request_rest
+join_this_len f = omega arith
+
+pub merge_this_len : (f : FragmentTold) → length (request_rest (MergeThis f)) ≡ 2 + length (fragment_text f)
+unfolding request_rest
+merge_this_len f = omega arith
+
+pub fragment_rest_len : (f : FragmentTold) → length (reply_rest (Fragment f)) ≡ 2 + length (fragment_text f)
+unfolding reply_rest
+fragment_rest_len f = omega arith
 
 -- ---- items
 
