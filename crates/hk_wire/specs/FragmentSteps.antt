@@ -1,9 +1,9 @@
 -- The steps of reading a fragment: what is known of a stream while its bytes are read.
-use Rattle.std.specs.Prelude.{◌≡◌, ◌≤◌, ◌^◌, ℕ, List, [], Option, None, Ok}
+use Rattle.std.specs.Prelude.{◌≡◌, ℕ, nat_le, List, [], Option, None, Ok}
 use Rattle.std.specs.FinMap as finmap
 use Rattle.std.specs.FinSet as set
 use Rattle.hk_types.specs.declared.version_key.VersionKey.{VersionKey}
-use Rattle.hk_model.specs.Streams.{StreamContent}
+use Rattle.hk_model.specs.Streams.{StreamContent, covers}
 use Rattle.hk_marks.specs.Seen.{up_to}
 use Rattle.hk_delta.specs.Parts.{Known}
 use Rattle.hk_codec.specs.Fields.{list_at}
@@ -41,12 +41,10 @@ pub record TakesExtra (prefix count closed : ℕ) (bytes rest : List ℕ) (after
   pub fit : Chained (λ n. n) (ExtraFits prefix) None extra
   pub made : after ≡ stream_made (record { prefix = prefix; closed = closed; extra = extra; waiting = [] })
 
--- a stream with a prefix and extra numbers in which no mark waits
-pub record HasExtra (prefix : ℕ) (s : StreamContent) : Type 0 where
-  pub most : prefix ≤ 2 ^ 62
-  pub extra : List ℕ
-  pub fit : Chained (λ n. n) (ExtraFits prefix) None extra
-  pub made : s ≡ stream_made (record { prefix = prefix; closed = s.closed; extra = extra; waiting = [] })
+-- a stream with this prefix in which no mark waits
+pub record IsReady (prefix : ℕ) (s : StreamContent) : Type 0 where
+  pub covers_all : (n : ℕ) → covers s.taken n ≡ nat_le n prefix
+  pub none : s ≡ record s { waiting = finmap.from_entries [] }
 
 -- such a stream has taken the waiting marks that the bytes have
 pub record TakesWaits (prefix count : ℕ) (before : StreamContent) (bytes rest : List ℕ) (after : StreamContent) : Type 0 where

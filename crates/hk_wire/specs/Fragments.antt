@@ -38,13 +38,17 @@ abbrev pub greatest_reached : set.FinSet nat_cmp → List ℕ → ℕ
 greatest_reached taken [] = 0
 greatest_reached taken (q ∷ numbers) = if covers taken q then max q (greatest_reached taken numbers) else greatest_reached taken numbers
 
+-- these numbers in rising order, each once
+abbrev pub rising : List ℕ → List ℕ
+rising numbers = finmap.keys (finmap.from_entries {R = nat_cmp} (map (λ n. (n, n)) numbers))
+
 -- what is told of a stream
 abbrev pub stream_seen : StreamContent → StreamTold
 stream_seen s =
     record {
       prefix = greatest_reached s.taken (set.items s.taken);
       closed = s.closed;
-      extra = set.items (extra_numbers s);
+      extra = rising (set.items (extra_numbers s));
       waiting = finmap.entries s.waiting;
     }
 

@@ -45,8 +45,8 @@ fn stream_is_counted(got: &Got, s: StreamNo) -> bool
 fn streams_are_counted(got: &Got) -> bool
     ensures { result ≡ spec.streams_are_counted (map spec.stream_seen got.now) }
 {
-    for number in 1..=got.streams() {
-        let Ok(s) = StreamNo::new(number) else {
+    for index in 0..got.streams() {
+        let Ok(s) = StreamNo::new(index + 1) else {
             return false;
         };
         if !stream_is_counted(got, s) {
@@ -80,8 +80,8 @@ fn streams_len(got: &Got) -> u64
     ensures bound { result ≤ 2 ^ 43 }
 {
     let mut total = 0;
-    for number in 1..=got.streams() {
-        let Ok(s) = StreamNo::new(number) else {
+    for index in 0..got.streams() {
+        let Ok(s) = StreamNo::new(index + 1) else {
             return total;
         };
         total += stream_len(got, s);
@@ -187,8 +187,8 @@ fn put_streams(out: &mut Vec<u8>, got: &Got) -> Result<(), AllocError>
     ensures ok { OnOk result (out.new.items ≡ out.old.items ++ flat_map spec.stream_text (map spec.stream_seen got.now)) }
     ensures kept { OnErr result (take (length out.old.items) out.new.items ≡ out.old.items) }
 {
-    for number in 1..=got.streams() {
-        let Ok(s) = StreamNo::new(number) else {
+    for index in 0..got.streams() {
+        let Ok(s) = StreamNo::new(index + 1) else {
             return Err(AllocError);
         };
         put_stream(out, got, s)?;

@@ -1,8 +1,9 @@
 //! Fragments, read from the front of bytes.
 
-ghost use Rattle.std.specs.Prelude.{◌≡◌, ◌≤◌, ◌^◌, ◌<◌, ◌-◌, None, true, length, map, replicate, slice_set, OnOk, IfOk, IfErr};
+ghost use Rattle.std.specs.Prelude.{◌≡◌, ◌≤◌, ◌^◌, ◌<◌, ◌-◌, ◌==◌, ◌||◌, nat_le, None, Ok, true, length, map, replicate, slice_set, OnOk, IfOk, IfErr};
 ghost use Rattle.hk_codec.specs.Fields.{Gives, GivesOrRunsOut, Fails, list_at};
 ghost use Rattle.hk_model.specs.Streams.{stream_at, unknown};
+ghost use Rattle.hk_model.specs.Content.{least_closed};
 ghost use Rattle.hk_delta.specs.Parts as parts;
 ghost use Rattle.hk_wire.specs.Fragments as spec;
 ghost use Rattle.hk_wire.specs.FragmentSteps as steps;
@@ -38,7 +39,8 @@ struct Head {
 /// Reads the base and the horizon.
 #[tactic(auto, unfolding(crate::specs::Fragments::bounds_at))]
 fn read_bounds(cursor: &mut Cursor) -> Result<(Time, Time), FormFault>
-    ensures { Gives (λ x. (x, cursor.new)) result (spec.bounds_at cursor.old) }
+    ensures read { Gives (λ x. (x, cursor.new)) result (spec.bounds_at cursor.old) }
+    ensures above { IfOk result (λ x. ((x.0 == 0) || nat_le x.1 x.0) ≡ true) }
 {
     let base = read_time(cursor)?;
     let horizon = read_time(cursor)?;
@@ -51,7 +53,8 @@ fn read_bounds(cursor: &mut Cursor) -> Result<(Time, Time), FormFault>
 /// Reads the log, the number of its streams, the base and the horizon.
 #[tactic(auto, unfolding(crate::specs::Fragments::stream_count_at))]
 fn read_fragment_head(cursor: &mut Cursor) -> Result<Head, FormFault>
-    ensures { Gives (λ x. ((x.config.log, (x.config.streams, (x.base, x.horizon))), cursor.new)) result (spec.fragment_head_at cursor.old) }
+    ensures read { Gives (λ x. ((x.config.log, (x.config.streams, (x.base, x.horizon))), cursor.new)) result (spec.fragment_head_at cursor.old) }
+    ensures above { IfOk result (λ x. ((x.base == 0) || nat_le x.horizon x.base) ≡ true) }
 {
     let log = cursor.u64()?;
     let streams = cursor.u16()?;
@@ -99,6 +102,7 @@ fn read_extras(
     prefix: u64,
     count: u32,
 ) -> Result<(), ReadError>
+    requires least { 1 ≤ s }
     requires known { s ≤ length got.old }
     requires most { prefix ≤ 2 ^ 62 }
     requires starts { stream_at got.old s ≡ steps.begun prefix (stream_at got.old s).closed }
@@ -163,8 +167,9 @@ fn read_waits(
     prefix: u64,
     count: u32,
 ) -> Result<(), ReadError>
+    requires least { 1 ≤ s }
     requires known { s ≤ length got.old }
-    requires starts { steps.HasExtra prefix (stream_at got.old s) }
+    requires starts { steps.IsReady prefix (stream_at got.old s) }
     ensures ok { OnOk result (steps.TakesWaits prefix count (stream_at got.old s) cursor.old cursor.new (stream_at got.new s)) }
     ensures only { OnOk result (got.new ≡ slice_set got.old (s - 1) (stream_at got.new s)) }
     ensures err { IfErr result (λ e. Fails e (steps.waits_at prefix count None cursor.old)) }
@@ -183,9 +188,11 @@ fn read_waits(
 /// Reads what is told of a stream of which nothing is known yet.
 #[tactic(auto, unfolding(crate::specs::Fragments::stream_at))]
 fn read_stream(cursor: &mut Cursor, got: &mut Got, s: StreamNo) -> Result<(), ReadError>
+    requires least { 1 ≤ s }
     requires known { s ≤ length got.old }
     requires starts { stream_at got.old s ≡ unknown }
-    ensures read { GivesOrRunsOut (λ _. (spec.stream_seen (stream_at got.new s), cursor.new)) result (spec.stream_at cursor.old) }
+    ensures ok { OnOk result (spec.stream_at cursor.old ≡ Ok (spec.stream_seen (stream_at got.new s), cursor.new)) }
+    ensures err { IfErr result (λ e. Fails e (spec.stream_at cursor.old)) }
     ensures only { OnOk result (got.new ≡ slice_set got.old (s - 1) (stream_at got.new s)) }
 {
     let prefix = read_time(cursor)?.number();
@@ -202,12 +209,14 @@ fn read_stream(cursor: &mut Cursor, got: &mut Got, s: StreamNo) -> Result<(), Re
 /// Reads what is told of so many streams of which nothing is known yet.
 fn read_streams(cursor: &mut Cursor, got: &mut Got, count: u16) -> Result<(), ReadError>
     requires all { count ≡ length got.old }
+    requires most { count ≤ 64 }
     requires starts { got.old ≡ replicate (length got.old) unknown }
-    ensures read { GivesOrRunsOut (λ _. (map spec.stream_seen got.new, cursor.new)) result (steps.streams_at count None cursor.old) }
+    ensures ok { OnOk result (steps.streams_at count None cursor.old ≡ Ok (map spec.stream_seen got.new, cursor.new)) }
+    ensures err { IfErr result (λ e. Fails e (steps.streams_at count None cursor.old)) }
     ensures all { OnOk result (length got.new ≡ length got.old) }
 {
-    for number in 1..=count {
-        let s = StreamNo::new(number)?;
+    for index in 0..count {
+        let s = StreamNo::new(index + 1)?;
         read_stream(cursor, got, s)?;
     }
     Ok(())
@@ -223,6 +232,7 @@ fn read_got(
 ) -> Result<Got, ReadError>
     ensures read { GivesOrRunsOut (λ x. (map spec.stream_seen x, cursor.new)) result (spec.streams_at horizon config.streams cursor.old) }
     ensures all { IfOk result (λ x. length x ≡ config.streams) }
+    ensures reach { IfOk result (λ x. horizon ≤ least_closed x) }
 {
     let Ok(mut got) = Got::new(alloc, config) else {
         return Err(ReadError::Memory);
