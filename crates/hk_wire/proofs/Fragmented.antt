@@ -1,5 +1,5 @@
 -- Fragments: what is read is spelled so, and what is spelled so is read again.
-use Rattle.std.proofs.Common.{◌≡◌, ℕ, zero, suc, ◌+◌, ◌^◌, ◌<◌, ◌≤◌, Bool, true, false, cond, not, ◌&&◌, ◌||◌, ◌⊎◌, inl, inr, ltb, leb, eqb, List, [], ◌∷◌, ◌++◌, length, Option, Some, None, Result, Ok, Err, refl, sym, ap, subst, ◌∙◌, append_assoc, arith}
+use Rattle.std.proofs.Common.{◌≡◌, ℕ, ◌+◌, ◌^◌, ◌<◌, ◌≤◌, Bool, true, false, cond, not, ◌&&◌, ◌||◌, ◌⊎◌, inl, inr, ltb, leb, eqb, List, [], ◌∷◌, ◌++◌, length, Option, Some, None, Result, Ok, Err, refl, sym, ap, subst, ◌∙◌, append_assoc, arith}
 use Rattle.std.specs.Int.{w16, w32, w64}
 use Rattle.std.specs.List.{flat_map, AllByRecursion}
 use Rattle.std.proofs.lemmas.Bool.{ltb-true, lt-ltb, ltb-false, le-ltb, leb-true, leb-false, le-leb, lt-leb, eqb-true}
@@ -14,7 +14,7 @@ use Rattle.hk_codec.proofs.Steps.{bind_ok, ok_is, neither, both as both_true, Ta
 use Rattle.hk_wire.specs.Readers.{Reader, both, after, barred, made, kinded, counted, time_at, Chained}
 use Rattle.hk_wire.specs.Answers.{row_text, row_at, RowFits}
 use Rattle.hk_wire.specs.Fragments.{StreamTold, FragmentTold, mark_text, extras_text, waits_text, stream_text, known_flags, known_parts, version_text, fact_text, fragment_text, number_follows, extra_at, waiting_count_at, waiting_at, stream_of, stream_at, version_at, died_at, known_of, fact_at, least_told, no_stream, bounds_at, streams_at, stream_count_at, fragment_head_at, facts_at, fragment_at, ExtraFits, WaitingFits, StreamFits, VersionFits, EndFits, PartsFit, FactFits, FragmentFits, stream_is_counted, streams_are_counted, is_counted}
-use Rattle.hk_wire.proofs.Parsing.{IsField, AreKinds, field16, field32, field64, time_field, both_field, barred_field, same_field, made_field, kinded_field, counted_field, many_field, this_or, made_takes, made_again}
+use Rattle.hk_wire.proofs.Parsing.{IsField, field16, field64, time_field, both_field, barred_field, same_field, made_field, kinded_field, counted_field, many_field, this_or, made_takes, made_again}
 use Rattle.hk_wire.proofs.Answered.{row_field, not_false, true_not}
 
 -- one after the other, where how the second is read depends on the first

@@ -1,13 +1,11 @@
 -- Streams, read one after the other.
-use Rattle.std.proofs.Common.{◌≡◌, refl, sym, ap, subst, ◌∙◌, ℕ, zero, suc, ◌+◌, ◌-◌, ◌<◌, ◌≤◌, ◌||◌, Bool, true, false, cond, ltb, leb, min, List, [], ◌∷◌, ◌++◌, length, map, take, replicate, get_or, set as set_at, Option, Some, None, Result, Ok, Err, arith}
+use Rattle.std.proofs.Common.{◌≡◌, refl, sym, ap, ◌∙◌, ℕ, zero, suc, ◌+◌, ◌-◌, ◌<◌, ◌≤◌, min, List, [], ◌∷◌, ◌++◌, length, map, take, replicate, get_or, set as set_at, Some, None, Result, Ok, Err, arith}
 use Rattle.std.specs.Int.{w32}
-use Rattle.std.specs.FinMap as finmap
-use Rattle.std.proofs.lemmas.List.{get_or-set_other, set-set, length-set, length-replicate, take_all, map-append}
+use Rattle.std.proofs.lemmas.List.{get_or-set_other, set-set, length-set, take_all, map-append}
 use Rattle.std.proofs.lemmas.Grind.{take-set_at}
 use Rattle.std.proofs.lemmas.Bool.{le-ltb}
 use Rattle.hk_types.specs.Numbers.{checked_stream}
 use Rattle.hk_types.specs.declared.faults.FormFault.{FormFault}
-use Rattle.hk_types.specs.declared.faults.FormFault.TheVariants.{BadStream}
 use Rattle.hk_model.specs.Streams.{StreamContent, stream_at as content_at, unknown, covers}
 use Rattle.hk_model.specs.Content.{least_closed}
 use Rattle.hk_marks.specs.Steps.{raised}
@@ -15,9 +13,9 @@ use Rattle.hk_codec.specs.declared.cursor.ReadError.{ReadError}
 use Rattle.hk_codec.specs.declared.cursor.ReadError.TheVariants.{Memory, Fault}
 use Rattle.hk_codec.specs.Fields.{Fails, number_at, list_at}
 use Rattle.hk_codec.proofs.Loop.{with_front, goes_on, ends, is_done}
-use Rattle.hk_wire.specs.Readers.{time_at, Chained}
-use Rattle.hk_wire.specs.Fragments.{StreamTold, stream_seen, stream_at, no_stream, least_told, ExtraFits, WaitingFits}
-use Rattle.hk_wire.specs.FragmentSteps.{stream_made, begun, extras_at, waits_at, streams_at, TakesExtra, TakesWaits, IsReady}
+use Rattle.hk_wire.specs.Readers.{time_at}
+use Rattle.hk_wire.specs.Fragments.{stream_seen, stream_at, no_stream, least_told}
+use Rattle.hk_wire.specs.FragmentSteps.{begun, extras_at, waits_at, streams_at, TakesExtra, TakesWaits, IsReady}
 use Rattle.hk_wire.proofs.Streaming.{raised_unknown, covers_taken, told_back}
 use Rattle.hk_wire.proofs.Taking.{at_its_place, front_none, less_none}
 
@@ -49,8 +47,8 @@ unfolding stream_at
 stream_read prefix closed count many b0 b1 b2 b3 b4 b5 b6 x y z is first second third h fourth k =
     let time : z.closed ≡ closed = ap (λ (u : StreamContent). u.closed) k.made ∙ ap (λ (u : StreamContent). u.closed) h.made ∙ ap (λ (u : StreamContent). u.closed) is in
     let told : stream_seen z ≡ record { prefix = prefix; closed = closed; extra = h.extra; waiting = k.waiting } =
-        told_back z prefix h.extra k.waiting (ap (λ (u : StreamContent). u.taken) k.made ∙ ap (λ (u : StreamContent). u.taken) h.made) (ap (λ (u : StreamContent). u.waiting) k.made) h.fit k.fit
-        ∙ ap (λ (c : ℕ). record { prefix = prefix; closed = c; extra = h.extra; waiting = k.waiting }) time in
+    told_back z prefix h.extra k.waiting (ap (λ (u : StreamContent). u.taken) k.made ∙ ap (λ (u : StreamContent). u.taken) h.made) (ap (λ (u : StreamContent). u.waiting) k.made) h.fit k.fit
+    ∙ ap (λ (c : ℕ). record { prefix = prefix; closed = c; extra = h.extra; waiting = k.waiting }) time in
     rw (told, first, second, third, h.read, fourth, k.read) refl
 
 -- where its bytes have a fault
@@ -106,7 +104,7 @@ module _ (count i : ℕ) (got : List StreamContent) (bytes rest : List ℕ) (h :
   streams_go x after next lt e is =
       let within : i < length got = omega (arith, h.len) in
       let front : map stream_seen (take (i + 1) next) ≡ map stream_seen (take i got) ++ stream_seen x ∷ [] =
-          ap (λ (g : List StreamContent). map stream_seen (take (i + 1) g)) is ∙ ap (map stream_seen) (take-set_at got i (i + 1) x refl within) ∙ map-append stream_seen (take i got) (x ∷ []) in
+      ap (λ (g : List StreamContent). map stream_seen (take (i + 1) g)) is ∙ ap (map stream_seen) (take-set_at got i (i + 1) x refl within) ∙ map-append stream_seen (take i got) (x ∷ []) in
       record {
         len = ap length is ∙ length-set got i x ∙ h.len;
         others = λ j le. ap (λ (g : List StreamContent). get_or g j unknown) is ∙ get_or-set_other got i j x unknown (apart i j le) ∙ h.others j (omega (arith, le));

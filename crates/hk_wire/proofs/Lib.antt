@@ -10,3 +10,4 @@ pub mod Streaming
 pub mod Taking
 pub mod Gathering
 pub mod Standing
+pub mod Putting

@@ -1,5 +1,5 @@
 -- Facts that were read may stand in a fragment.
-use Rattle.std.proofs.Common.{◌≡◌, refl, sym, ap, subst, ◌∙◌, ℕ, zero, suc, ◌^◌, ◌<◌, ◌≤◌, Bool, true, false, cond, not, ◌||◌, ◌&&◌, ltb, leb, eqb, List, [], ◌∷◌, map, length, Option, Some, None, Result, Ok, Err}
+use Rattle.std.proofs.Common.{◌≡◌, refl, sym, ap, subst, ◌∙◌, ℕ, zero, suc, ◌^◌, ◌<◌, ◌≤◌, Bool, true, false, cond, not, ◌||◌, ltb, leb, eqb, List, [], ◌∷◌, map, Option, Some, None, Result, Ok, Err}
 use Rattle.std.specs.Int.{w16, w32, w64}
 use Rattle.std.proofs.lemmas.Bool.{leb-false, lt-ltb, ltb-false, le-ltb}
 use Rattle.hk_types.specs.Values.{RowValue, ConfigValue}
@@ -14,13 +14,10 @@ use Rattle.hk_delta.specs.Parts.{Known, follows, stands, end_stands, facts_fault
 use Rattle.hk_delta.specs.Parts as parts
 use Rattle.hk_delta.proofs.Sound.{listed}
 use Rattle.hk_codec.specs.Fields.{◌>>=◌, check, byte_at, number_at, list_at}
-use Rattle.hk_codec.specs.declared.cursor.ReadError.{ReadError}
-use Rattle.hk_codec.specs.declared.cursor.ReadError.TheVariants.{Memory, Fault}
-use Rattle.hk_codec.specs.Fields.{Fails}
 use Rattle.hk_codec.proofs.Steps.{bind_ok, check_ok, ok_is, neither}
 use Rattle.hk_wire.specs.Readers.{Reader, both, barred, made, kinded, time_at}
 use Rattle.hk_wire.specs.Answers.{row_at}
-use Rattle.hk_wire.specs.Fragments.{FragmentTold, StreamTold, version_at, died_at, known_of, fact_at, bounds_at, streams_at, fragment_head_at, fragment_at, fragment_seen, stream_seen, least_told}
+use Rattle.hk_wire.specs.Fragments.{version_at, died_at, known_of, fact_at, streams_at, fragment_head_at, fragment_at, fragment_seen, stream_seen, least_told}
 use Rattle.hk_wire.specs.FragmentSteps.{facts_at, streams_at as several_at}
 use Rattle.hk_wire.proofs.Parsing.{this_or}
 use Rattle.hk_wire.proofs.Answered.{not_false}
@@ -159,7 +156,7 @@ pub fragment_read : (config : ConfigValue) (base horizon : ℕ) (got : List Stre
 unfolding fragment_at
 fragment_read config base horizon got count facts fragment b0 b1 b2 b3 b4 head streams counts known none e =
     let same : fragment ≡ parts.fragment_seen config base horizon got facts =
-        same_fragment _ _ (e ∙ ap (λ (o : Option FormFault). unless o (parts.fragment_seen config base horizon got facts)) none) in
+    same_fragment _ _ (e ∙ ap (λ (o : Option FormFault). unless o (parts.fragment_seen config base horizon got facts)) none) in
     let told : fragment_seen (parts.fragment_seen config base horizon got facts) ≡ record { log = config.log; base = base; horizon = horizon; streams = map stream_seen got; facts = facts } =
-        ap (λ (fs : List Known). record { log = config.log; base = base; horizon = horizon; streams = map stream_seen got; facts = fs }) (listed config base horizon got facts (facts_stand base horizon count None b3 (facts, b4) known)) in
+    ap (λ (fs : List Known). record { log = config.log; base = base; horizon = horizon; streams = map stream_seen got; facts = fs }) (listed config base horizon got facts (facts_stand base horizon count None b3 (facts, b4) known)) in
     rw (same, told, head, streams, counts, known) refl

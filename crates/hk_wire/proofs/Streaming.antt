@@ -1,27 +1,27 @@
 -- What a stream has taken while its bytes are read, and what is told of it then.
 use Rattle.std.proofs.Common.{◌≡◌, refl, sym, ap, subst, ◌∙◌, ℕ, zero, suc, ◌+◌, ◌<◌, ◌≤◌, ◌^◌, Bool, true, false, cond, not, ◌||◌, ◌&&◌, ltb, leb, max, nat_cmp, true≢false, List, [], ◌∷◌, ◌++◌, map, Option, Some, None, arith}
 use Rattle.std.specs.List.{list_any}
-use Rattle.std.specs.List.Sorted.{IsStrictlySortedBy}
+use Rattle.std.specs.List.Sorted.{IsStrictlySortedBy, IsStrictlyIncreasing}
+use Rattle.std.proofs.lemmas.Map.Keys.{sorted_from_strictly_increasing}
 use Rattle.std.specs.Map.{keys_of}
-use Rattle.std.specs.Cmp.{nat_cmp_total, tied_itself}
-use Rattle.std.specs.Ordering.{eq_by_cmp, is_eq}
+use Rattle.std.specs.Cmp.{nat_cmp_total}
+use Rattle.std.specs.Ordering.{eq_by_cmp}
 use Rattle.std.specs.FinMap as finmap
 use Rattle.std.specs.FinMap.{find}
 use Rattle.std.specs.FinSet as set
 use Rattle.std.specs.BTreeSet.{BTreeSet}
-use Rattle.std.specs.BTreeSet as sorted
-use Rattle.std.proofs.lemmas.Bool.{ltb-false, lt-leb, le-leb, leb-true}
+use Rattle.std.proofs.lemmas.Bool.{lt-leb, le-leb, leb-true}
 use Rattle.std.proofs.lemmas.Bool.Decides.{nat_tests}
-use Rattle.hk_model.specs.Streams.{StreamContent, covers, settled, unknown}
+use Rattle.hk_model.specs.Streams.{StreamContent, covers, unknown}
 use Rattle.hk_model.proofs.Streams.{later, told, latest, latest-entries, latest-append, tied_counts}
 use Rattle.hk_marks.specs.Seen.{up_to, taken_seen, IsExtra}
 use Rattle.hk_marks.specs.Steps.{with_number, with_mark, raised, extra_numbers}
 use Rattle.hk_marks.proofs.Settled.{settled-done, mark_waits}
 use Rattle.hk_marks.proofs.Told.{later_comm}
-use Rattle.hk_marks.proofs.Trees.{contains-up_to, contains-taken_seen, covers_seen}
+use Rattle.hk_marks.proofs.Trees.{contains-up_to, covers_seen}
 use Rattle.hk_marks.proofs.Readers.{entries-from_sorted}
 use Rattle.hk_wire.specs.Readers.{Chained}
-use Rattle.hk_wire.specs.Fragments.{StreamTold, greatest_reached, rising, stream_seen, ExtraFits, WaitingFits}
+use Rattle.hk_wire.specs.Fragments.{greatest_reached, rising, stream_seen, ExtraFits, WaitingFits}
 use Rattle.hk_wire.specs.FragmentSteps.{stream_made, begun}
 use Rattle.hk_wire.proofs.Behind.{places_rise, chained_more, last_of}
 
@@ -249,3 +249,8 @@ told_back s prefix extra waiting is_taken is_waiting h k =
     let e : rising (set.items (extra_numbers s)) ≡ extra = rising_items extra (extra_numbers s) rise (extras_are prefix extra s is_taken h) in
     let w : finmap.entries s.waiting ≡ waiting = ap finmap.entries is_waiting ∙ entries-from_sorted waiting (counts_rise prefix waiting k) in
     λ i. record { prefix = p i; closed = s.closed; extra = e i; waiting = w i }
+
+-- ---- what a stream's readers give
+
+pub extras_listed : (xs : List ℕ) (s : StreamContent) → IsStrictlyIncreasing xs → set.from_list xs ≡ extra_numbers s → (stream_seen s).extra ≡ xs
+extras_listed xs s rise is = rising_items xs (extra_numbers s) (sorted_from_strictly_increasing xs rise) is

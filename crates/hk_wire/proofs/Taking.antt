@@ -1,11 +1,9 @@
 -- What a loop that reads numbers or marks into a stream has done so far.
-use Rattle.std.proofs.Common.{◌≡◌, refl, sym, ap, subst, ◌∙◌, ℕ, ◌+◌, ◌-◌, ◌<◌, ◌≤◌, List, [], ◌∷◌, ◌++◌, length, get_or, set as set_at, leb, Option, Some, None, Result, Ok, Err, OnOk, IfErr, false, arith}
-use Rattle.std.specs.Ordering.{nat_cmp}
+use Rattle.std.proofs.Common.{◌≡◌, refl, sym, ap, subst, ◌∙◌, ℕ, ◌+◌, ◌-◌, ◌<◌, ◌≤◌, List, [], ◌∷◌, ◌++◌, length, set as set_at, Option, Some, None, Result, Ok, Err, OnOk, IfErr, false, arith}
 use Rattle.std.specs.Result.{is_err}
 use Rattle.std.specs.FinMap as finmap
-use Rattle.std.specs.FinSet as set
 use Rattle.std.proofs.lemmas.List.{get_or-set_same, set-set, set-get_or}
-use Rattle.hk_model.specs.Streams.{StreamContent, covers, stream_at, unknown}
+use Rattle.hk_model.specs.Streams.{StreamContent, stream_at, unknown}
 use Rattle.hk_marks.specs.Steps.{with_number, with_mark}
 use Rattle.hk_codec.specs.declared.cursor.ReadError.{ReadError}
 use Rattle.hk_codec.specs.Fields.{Fails}
@@ -15,7 +13,7 @@ use Rattle.hk_wire.specs.Readers.{Chained}
 use Rattle.hk_wire.specs.Fragments.{extra_at, waiting_at, ExtraFits, WaitingFits}
 use Rattle.hk_wire.specs.FragmentSteps.{stream_made, extras_at, waits_at, TakesExtra, TakesWaits, IsReady}
 use Rattle.hk_wire.proofs.Behind.{last_of, last_more, chained_more}
-use Rattle.hk_wire.proofs.Streaming.{extra_more, waits_more, covers_taken, taken_of}
+use Rattle.hk_wire.proofs.Streaming.{extra_more, waits_more}
 
 -- a stream set in its place
 pub at_its_place : (got : List StreamContent) (s : ℕ) (x : StreamContent) → 1 ≤ s → s ≤ length got → stream_at (set_at got (s - 1) x) s ≡ x

@@ -1,5 +1,5 @@
 -- Fragments: what their bytes tell, their spelling and their reading.
-use Rattle.std.specs.Prelude.{◌≡◌, ◌⊎◌, ℕ, ◌+◌, ◌^◌, ◌<◌, ◌≤◌, Bool, true, false, not, ◌&&◌, ◌||◌, max, min, nat_lt, nat_le, ◌==◌, if◌then◌else◌, List, [], ◌∷◌, ◌++◌, length, map, Option, Some, None, Ok, Err}
+use Rattle.std.specs.Prelude.{◌≡◌, ◌⊎◌, ℕ, ◌+◌, ◌^◌, ◌<◌, ◌≤◌, Bool, true, not, ◌&&◌, ◌||◌, max, min, nat_lt, nat_le, ◌==◌, if◌then◌else◌, List, [], ◌∷◌, ◌++◌, length, map, Option, Some, None, Err}
 use Rattle.std.specs.Int.{w16, w32, w64}
 use Rattle.std.specs.List.{flat_map, AllByRecursion}
 use Rattle.std.specs.Ordering.{nat_cmp}
@@ -12,8 +12,8 @@ use Rattle.hk_log.specs.Versions.{VersionValue}
 use Rattle.hk_model.specs.Streams.{StreamContent, covers}
 use Rattle.hk_model.specs.Fragments.{FragmentValue}
 use Rattle.hk_marks.specs.Steps.{extra_numbers}
-use Rattle.hk_delta.specs.Parts.{Known, versions_listed, follows, row_stands, end_stands}
-use Rattle.hk_codec.specs.Fields.{◌>>=◌, check, number, byte_at, number_at, list_at}
+use Rattle.hk_delta.specs.Parts.{Known, versions_listed, follows, end_stands}
+use Rattle.hk_codec.specs.Fields.{number, number_at, list_at}
 use Rattle.hk_wire.specs.Readers.{Reader, both, after, barred, made, kinded, counted, time_at, Chained}
 use Rattle.hk_wire.specs.Answers.{row_text, row_at, RowFits}
 

@@ -1,6 +1,6 @@
 //! Fragments, written at the end of bytes.
 
-ghost use Rattle.std.specs.Prelude.{◌≡◌, ◌≤◌, ◌*◌, ◌++◌, ◌^◌, true, length, map, take, OnOk, OnErr};
+ghost use Rattle.std.specs.Prelude.{◌≡◌, ◌≤◌, ◌*◌, ◌++◌, ◌^◌, None, true, length, map, take, OnOk, OnErr};
 ghost use Rattle.std.specs.Int.{w32};
 ghost use Rattle.std.specs.List.{flat_map};
 ghost use Rattle.hk_codec.specs.Fields.{number};
@@ -64,6 +64,7 @@ pub(crate) fn is_counted(fragment: &Fragment) -> bool
 }
 
 /// How many bytes a stream that can be counted has.
+#[tactic(auto, using(crate::proofs::Lengths::stream_text_len))]
 fn stream_len(got: &Got, s: StreamNo) -> u64
     requires known { s ≤ length got.now }
     requires counted { spec.stream_is_counted (spec.stream_seen (stream_at got.now s)) ≡ true }
@@ -89,19 +90,37 @@ fn streams_len(got: &Got) -> u64
     total
 }
 
-/// How many bytes what is known of a version has, with the version and the flags.
+/// How many bytes the row has, where it is known.
+#[tactic(auto, using(crate::proofs::Lengths::row_len))]
+fn row_len(known: &Version) -> u64
+    ensures len { result ≡ length (spec.parts_text known.now.row None) }
+    ensures bound { result ≤ 4102 }
+{
+    match known.row() {
+        None => 0,
+        Some(row) => 6 + row.body().len() as u64,
+    }
+}
+
+/// How many bytes the end has, where it is known.
+#[tactic(auto, using(hk_codec::proofs::Lengths::len64))]
+fn died_len(known: &Version) -> u64
+    ensures len { result ≡ length (spec.parts_text None known.now.died) }
+    ensures bound { result ≤ 8 }
+{
+    match known.died() {
+        None => 0,
+        Some(_died) => 8,
+    }
+}
+
+/// How many bytes a version has with what is known of it.
+#[tactic(auto, using(crate::proofs::Lengths::fact_text_len))]
 fn fact_len(known: &Version) -> u64
     ensures len { (v : VersionKey) → result ≡ length (spec.fact_text (v, known.now)) }
     ensures bound { result ≤ 4129 }
 {
-    let mut len = 19;
-    if let Some(row) = known.row() {
-        len += 6 + row.body().len() as u64;
-    }
-    if known.died().is_some() {
-        len += 8;
-    }
-    len
+    19 + row_len(known) + died_len(known)
 }
 
 /// How many bytes the facts have, without their count.
@@ -118,6 +137,7 @@ fn facts_len(facts: &[(VersionKey, Version)]) -> u64
 }
 
 /// How many bytes a fragment that can be counted has.
+#[tactic(auto, using(crate::proofs::Lengths::fragment_text_len))]
 pub(crate) fn fragment_len(fragment: &Fragment) -> u64
     requires { spec.is_counted (spec.fragment_seen fragment.now) ≡ true }
     ensures len { result ≡ length (spec.fragment_text (spec.fragment_seen fragment.now)) }
@@ -166,6 +186,14 @@ fn put_waits(out: &mut Vec<u8>, got: &Got, s: StreamNo) -> Result<(), AllocError
     Ok(())
 }
 
+/// The number up to which all are taken.
+fn prefix(got: &Got, s: StreamNo) -> u64
+    requires { s ≤ length got.now }
+    ensures { result ≡ (spec.stream_seen (stream_at got.now s)).prefix }
+{
+    got.prefix(s)
+}
+
 /// Adds what is told of a stream.
 #[tactic(auto, using(std::proofs::Common::append_assoc, hk_codec::proofs::Prefix::kept_all, hk_codec::proofs::Prefix::kept_before, hk_codec::proofs::Prefix::kept_both), unfolding(crate::specs::Fragments::stream_text))]
 fn put_stream(out: &mut Vec<u8>, got: &Got, s: StreamNo) -> Result<(), AllocError>
@@ -174,7 +202,7 @@ fn put_stream(out: &mut Vec<u8>, got: &Got, s: StreamNo) -> Result<(), AllocErro
     ensures ok { OnOk result (out.new.items ≡ out.old.items ++ spec.stream_text (spec.stream_seen (stream_at got.now s))) }
     ensures kept { OnErr result (take (length out.old.items) out.new.items ≡ out.old.items) }
 {
-    put_u64(out, got.prefix(s))?;
+    put_u64(out, prefix(got, s))?;
     put_u64(out, got.closed(s).number())?;
     put_extras(out, got, s)?;
     put_waits(out, got, s)

@@ -1,13 +1,7 @@
-use Rattle.std.proofs.Common.{rules, ◌≡◌, ◌≤◌, ◌*◌, ◌++◌, ◌^◌, true, length, map, take, OnOk, OnErr, ℕ, ◌+◌, ◌-◌, ◌<◌, ◌/◌, ◌%◌, Bool, false, nat_eq, nat_lt, List, [], ◌∷◌, slice_index_or, slice_set, bit_and, bit_or, Fits, w8, w64, Bor, MutBor}
-use Rattle.std.specs.Int.{w32}
-use Rattle.std.specs.List.{flat_map}
-use Rattle.hk_codec.specs.Fields.{number}
-use Rattle.hk_log.specs.Versions.{VersionValue}
-use Rattle.hk_types.specs.declared.version_key.VersionKey.{VersionKey}
+use Rattle.std.proofs.Common.{sym, ap, ◌∙◌, length}
 use Rattle.hk_model.specs.Streams.{stream_at}
-use Rattle.hk_wire.specs.Fragments as spec
+use Rattle.hk_wire.proofs.Streaming.{extras_listed}
 use Rattle.hk_wire.proofs.fragment_encoding.extra_count.Goals as goal
 
--- src/fragment_encoding.rt:21:1
 pub returns : goal.returns
-returns c = ?
+returns c = c.len.ensures.value ∙ sym (ap length (extras_listed c.extra_numbers.result (stream_at c.args.got.now c.args.s) c.extra_numbers.ensures.rising c.extra_numbers.ensures.value))

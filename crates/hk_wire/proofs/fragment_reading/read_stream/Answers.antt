@@ -1,6 +1,5 @@
-use Rattle.std.proofs.Common.{◌≡◌, sym, ap, ◌∙◌, ◌≤◌, Ok, length, length-set, arith}
+use Rattle.std.proofs.Common.{sym, ap, ◌∙◌, Ok}
 use Rattle.std.proofs.lemmas.Result.{err_from_is_err_and}
-use Rattle.hk_codec.specs.declared.cursor.ReadError.TheVariants.{Fault}
 use Rattle.hk_model.specs.Streams.{stream_at}
 use Rattle.hk_wire.proofs.Taking.{map_ok, map_err}
 use Rattle.hk_wire.proofs.Gathering.{just_begun, begun_itself, is_ready, stream_read, fails_in_extras, fails_at_count, fails_in_waits, set_again}
