@@ -7,6 +7,7 @@ mod frames;
 mod items;
 mod line;
 mod output;
+mod reply;
 mod script;
 mod stop;
 #[cfg(test)]

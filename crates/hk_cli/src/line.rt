@@ -12,8 +12,8 @@ use hk_model::{Answer, Front, Told, Took};
 use hk_types::{Key, Refusal, Row};
 use std::alloc::{AllocError, Global};
 
-/// What has lines of its own in the program's output: answers, refusals, items, and what a world is told. Numbers
-/// are decimal; a body is lower-case hexadecimal, or `-` where it is empty. Each line ends with a line feed.
+/// What has lines of its own in the program's output: answers, refusals, items, replies, and what a world is told.
+/// Numbers are decimal; a body is lower-case hexadecimal, or `-` where it is empty. Each line ends with a line feed.
 pub trait Printed {
     ghost text: { Self → List ℕ };
 
@@ -164,7 +164,7 @@ fn put_emitted(mark: &Mark, out: &mut String) -> Result<(), AllocError>
     writeln!(out, "mark stream {stream} n {n} m {m}")
 }
 
-fn put_front(front: Front, out: &mut String) -> Result<(), AllocError>
+pub(crate) fn put_front(front: Front, out: &mut String) -> Result<(), AllocError>
     ensures { OnOk result (string_bytes out.new ≡ string_bytes out.old ++ spec.front_line front.horizon front.readable) }
 {
     let horizon = front.horizon;

@@ -7,6 +7,7 @@ use std::io;
 use std::io::{ErrorKind, Read, Write};
 use std::test::*;
 
+mod replies;
 mod worlds;
 
 /// Log 7, stream 1, number 1, time 1, with a row at table 1, key 5; and the mark of the first entry up to time 1.
