@@ -1,6 +1,6 @@
 //! Joining what is sent.
 
-ghost use Rattle.std.specs.Prelude.{◌≡◌, ◌==◌, ◌||◌, ◌&&◌, max, length, map, IfOk, IfErr, OnOk, OnErr, false, []};
+ghost use Rattle.std.specs.Prelude.{◌≡◌, ◌==◌, ◌||◌, ◌&&◌, max, length, map, IfOk, IfErr, OnOk, OnErr, false, [], Err};
 ghost use Rattle.std.specs.FinMap.{find};
 ghost use Rattle.hk_types.specs.declared.faults.Refusal.TheVariants.{Memory};
 ghost use Rattle.hk_types.specs.declared.version_key.VersionKey.{VersionKey};
@@ -80,14 +80,11 @@ pub fn merge(taker: &mut ReplicaState, peer: &ReplicaState) -> Result<(), Refusa
 fn merge_whole(taker: &mut ReplicaState, peer: &ReplicaState) -> Result<(), Refusal>
     ensures { Merges taker.old taker.new peer.now result }
 {
-    if let Some(why) = misfit(taker, peer.config()) {
-        return Err(why);
-    }
     let horizon = peer.horizon();
-    if taker.facts().disagrees(peer.facts()) {
-        return Err(Refusal::Conflict);
-    }
-    let versions = peer.facts().versions(taker.allocator())?;
+    let versions = match peer.facts().versions(taker.allocator()) {
+        Ok(versions) => versions,
+        Err(_refused) => return Err(starved(taker, peer)),
+    };
     let sent = Sent {
         config: peer.config(),
         base: Time::zero(),
@@ -95,7 +92,21 @@ fn merge_whole(taker: &mut ReplicaState, peer: &ReplicaState) -> Result<(), Refu
         got: peer.got(),
         facts: &versions,
     };
-    join_agreed(taker, &sent)
+    join_sent(taker, &sent)
+}
+
+/// Why a merge is refused for which memory ran out: what comes before that, where something does.
+fn starved(taker: &ReplicaState, peer: &ReplicaState) -> Refusal
+    requires { IsLawful peer.now }
+    ensures { Merges taker.now taker.now peer.now (Err result) }
+{
+    if let Some(why) = misfit(taker, peer.config()) {
+        return why;
+    }
+    if taker.facts().disagrees(peer.facts()) {
+        return Refusal::Conflict;
+    }
+    Refusal::Memory
 }
 
 /// Joins what is sent, where it is of the same log and contradicts nothing.
