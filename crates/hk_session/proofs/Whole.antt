@@ -1,6 +1,7 @@
 -- No reader of a request's rest answers that the input ends inside a frame: a feeder alone does, at the end.
-use Rattle.std.proofs.Common.{◌≡◌, ℕ, zero, suc, ◌+◌, ◌^◌, ◌||◌, ◌&&◌, Bool, true, false, cond, eqb, ltb, List, [], ◌∷◌, length, Option, Some, None, Result, Ok, Err, refl, ap}
+use Rattle.std.proofs.Common.{not, leb, ◌≡◌, ℕ, zero, suc, ◌+◌, ◌^◌, ◌||◌, ◌&&◌, Bool, true, false, cond, eqb, ltb, List, [], ◌∷◌, length, Option, Some, None, Result, Ok, Err, refl, ap}
 use Rattle.std.specs.Int.{Width, w16, w32, w64, byte_len}
+use Rattle.hk_types.specs.declared.version_key.VersionKey.{VersionKey}
 use Rattle.hk_types.specs.declared.faults.FormFault.{FormFault}
 use Rattle.hk_types.specs.declared.faults.FormFault.TheVariants.{Truncated, BadVersion, BadKind, BadStream, BadNumber, BadOrder, BadCount, BadBody, WrongLength}
 use Rattle.hk_log.specs.Items.{end_place, row_place, is_after}
@@ -10,6 +11,9 @@ use Rattle.hk_codec.specs.Reading.{end_at, row_at, moment_at, counted_ends_at, c
 use Rattle.hk_codec.specs.Framing.{len_of, rest_at, framed, value_of}
 use Rattle.hk_codec.specs.Frames.{frame_at}
 use Rattle.hk_wire.specs.Readers.{Reader, both, after, barred, made, kinded, listed, counted, time_at}
+use Rattle.hk_wire.specs.Answers.{row_at as value_row_at}
+use Rattle.hk_delta.specs.Parts.{follows, end_stands}
+use Rattle.hk_wire.specs.Fragments.{number_follows, extra_at, waiting_count_at, waiting_at, stream_of, stream_at, version_at, died_at, known_of, fact_at, least_told, no_stream, bounds_at, streams_at, stream_count_at, fragment_head_at, facts_at, fragment_at}
 use Rattle.hk_wire.specs.Messages.{head_at as message_head_at, message_at}
 use Rattle.hk_wire.specs.Queries.{query_of, query_at}
 use Rattle.hk_wire.specs.declared.request.Request.{Request}
@@ -183,6 +187,88 @@ item_whole bytes =
     bind_whole (head_at bytes) _ (head_whole bytes) (λ head.
     bind_whole (kind_at head.0 head.1) _ (kind_whole head.0 head.1) (λ item.
     bind_whole (check (ltb 0 (length item.1)) WrongLength) _ (check_whole _ WrongLength refl) (λ _. refl)))
+
+-- ---- fragments
+
+row_value_whole : Whole value_row_at
+unfolding value_row_at
+row_value_whole bytes = made_whole _ (both (number_at w32) body_at) (both_whole (number_at w32) body_at (number_whole w32) body_whole) bytes
+
+extra_whole : (prefix : ℕ) (before : Option ℕ) → Whole (extra_at prefix before)
+unfolding extra_at
+extra_whole prefix before bytes =
+    barred_whole (barred (number_at w64) (λ n. not (number_follows before n)) BadOrder) (λ n. leb n (prefix + 1) || ltb (2 ^ 62) n) BadNumber refl
+    (barred_whole (number_at w64) (λ n. not (number_follows before n)) BadOrder refl (number_whole w64)) bytes
+
+waiting_whole : (prefix : ℕ) (before : Option ℕ) → Whole (waiting_at prefix before)
+unfolding waiting_at
+waiting_whole prefix before bytes =
+    barred_whole (both (waiting_count_at prefix before) time_at) (λ m. ltb m.1 m.0) BadNumber refl
+    (both_whole (waiting_count_at prefix before) time_at
+    (barred_whole (barred (number_at w64) (λ n. not (number_follows before n)) BadOrder) (λ n. leb n prefix) BadNumber refl
+    (barred_whole (number_at w64) (λ n. not (number_follows before n)) BadOrder refl (number_whole w64)))
+    time_whole) bytes
+
+stream_of_whole : (prefix : ℕ) → Whole (stream_of prefix)
+stream_of_whole prefix =
+    both_whole time_at (both (counted (λ n. n) (extra_at prefix)) (counted (λ m. m.0) (waiting_at prefix))) time_whole
+    (both_whole (counted (λ n. n) (extra_at prefix)) (counted (λ m. m.0) (waiting_at prefix))
+    (counted_whole (λ n. n) (extra_at prefix) (extra_whole prefix)) (counted_whole (λ m. m.0) (waiting_at prefix) (waiting_whole prefix)))
+
+stream_whole : Whole stream_at
+unfolding stream_at
+stream_whole bytes = made_whole _ (after time_at stream_of) (after_whole time_at stream_of time_whole stream_of_whole) bytes
+
+version_whole : (before : Option VersionKey) → Whole (version_at before)
+unfolding version_at
+version_whole before bytes =
+    barred_whole (barred (made _ (both (number_at w16) (both (number_at w64) (number_at w64)))) (λ v. not (follows before v)) BadOrder) (λ v. ltb v.born 1 || ltb (2 ^ 62) v.born) BadNumber refl
+    (barred_whole (made _ (both (number_at w16) (both (number_at w64) (number_at w64)))) (λ v. not (follows before v)) BadOrder refl
+    (made_whole _ (both (number_at w16) (both (number_at w64) (number_at w64)))
+    (both_whole (number_at w16) (both (number_at w64) (number_at w64)) (number_whole w16) (both_whole (number_at w64) (number_at w64) (number_whole w64) (number_whole w64))))) bytes
+
+died_whole : (base horizon born : ℕ) → Whole (died_at base horizon born)
+died_whole base horizon born = barred_whole time_at (λ died. not (end_stands base horizon born (Some died))) BadNumber refl time_whole
+
+known_whole : (base horizon born flags : ℕ) → Whole (known_of base horizon born flags)
+unfolding known_of
+known_whole base horizon born flags bytes =
+    cond_whole (eqb flags 2) _ _ (made_whole _ (died_at base horizon born) (died_whole base horizon born) bytes)
+    (cond_whole (leb born base) _ _ refl
+    (cond_whole (eqb flags 1) _ _ (made_whole _ value_row_at row_value_whole bytes)
+    (cond_whole (eqb flags 3) _ _ (made_whole _ (both value_row_at (died_at base horizon born)) (both_whole value_row_at (died_at base horizon born) row_value_whole (died_whole base horizon born)) bytes) refl)))
+
+fact_whole : (base horizon : ℕ) (before : Option VersionKey) → Whole (fact_at base horizon before)
+unfolding fact_at
+fact_whole base horizon before bytes =
+    after_whole (version_at before) (λ v. kinded (known_of base horizon v.born)) (version_whole before) (λ v. kinded_whole (known_of base horizon v.born) (known_whole base horizon v.born)) bytes
+
+bounds_whole : Whole bounds_at
+unfolding bounds_at
+bounds_whole bytes = barred_whole (both time_at time_at) (λ p. not ((eqb p.0 0) || leb p.1 p.0)) BadNumber refl (both_whole time_at time_at time_whole time_whole) bytes
+
+stream_count_whole : Whole stream_count_at
+unfolding stream_count_at
+stream_count_whole bytes = barred_whole (number_at w16) (λ n. ltb n 1 || ltb 64 n) BadStream refl (number_whole w16) bytes
+
+streams_whole : (horizon count : ℕ) → Whole (streams_at horizon count)
+unfolding streams_at
+streams_whole horizon count bytes =
+    barred_whole (list_at no_stream (λ _. stream_at) count None) (λ streams. ltb (least_told streams) horizon) BadNumber refl (list_whole no_stream (λ _. stream_at) (λ _. stream_whole) count None) bytes
+
+fragment_head_whole : Whole fragment_head_at
+fragment_head_whole = both_whole (number_at w64) (both stream_count_at bounds_at) (number_whole w64) (both_whole stream_count_at bounds_at stream_count_whole bounds_whole)
+
+facts_whole : (base horizon : ℕ) → Whole (facts_at base horizon)
+facts_whole base horizon = counted_whole (λ e. e.0) (fact_at base horizon) (fact_whole base horizon)
+
+pub fragment_whole : Whole fragment_at
+unfolding fragment_at
+fragment_whole bytes =
+    made_whole _ (after (after fragment_head_at (λ h. streams_at h.1.1.1 h.1.0)) (λ p. facts_at p.0.1.1.0 p.0.1.1.1))
+    (after_whole (after fragment_head_at (λ h. streams_at h.1.1.1 h.1.0)) (λ p. facts_at p.0.1.1.0 p.0.1.1.1)
+    (after_whole fragment_head_at (λ h. streams_at h.1.1.1 h.1.0) fragment_head_whole (λ h. streams_whole h.1.1.1 h.1.0))
+    (λ p. facts_whole p.0.1.1.0 p.0.1.1.1)) bytes
 
 -- ---- requests
 

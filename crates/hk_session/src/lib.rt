@@ -9,8 +9,14 @@ mod ended;
 mod host;
 mod sending;
 mod serving;
+mod state_host;
 
 pub use counted::Counted;
 pub use ended::Ended;
 pub use host::Host;
 pub use serving::serve;
+#[cfg(test)]
+use state_host::StateHost;
+
+#[cfg(test)]
+mod tests;
