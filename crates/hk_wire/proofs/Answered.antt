@@ -10,9 +10,9 @@ use Rattle.hk_codec.specs.Fields.{IsBytes, number, number_at, body_at}
 use Rattle.hk_codec.proofs.Steps.{Takes, both as both_true}
 use Rattle.hk_codec.proofs.Found.{body_takes}
 use Rattle.hk_codec.proofs.Again.{body_again}
-use Rattle.hk_wire.specs.Readers.{both, kinded, counted}
+use Rattle.hk_wire.specs.Readers.{both, kinded, counted, Chained}
 use Rattle.hk_wire.specs.Answers.{row_text, keyed_text, presence, present_text, answer_kind, answer_fields, answer_text, key_follows, keys_rise, answer_keeps_rules, RowFits, PresentFits, KeyedFits, AnswerFits, row_at, key_at, keyed_at, rows_at, present_of, answer_of, answer_at}
-use Rattle.hk_wire.proofs.Parsing.{IsField, Chained, field32, field64, both_field, barred_field, made_field, same_field, counted_field, this_or, made_takes, nothing_takes, made_again, kinded_field}
+use Rattle.hk_wire.proofs.Parsing.{IsField, field32, field64, both_field, barred_field, made_field, same_field, counted_field, this_or, made_takes, nothing_takes, made_again, kinded_field}
 
 and_true : (a b : Bool) → a ≡ true → b ≡ true → (a && b) ≡ true
 and_true true b p q = q

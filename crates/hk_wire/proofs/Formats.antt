@@ -1,11 +1,11 @@
 -- Queries and requests: what is read is spelled so, and what is spelled so is read again.
-use Rattle.std.proofs.Common.{◌≡◌, ℕ, zero, suc, ◌^◌, ◌<◌, ◌≤◌, Bool, true, false, ◌&&◌, ltb, leb, List, [], ◌∷◌, ◌++◌, length, take, drop, Option, Some, None, Result, Ok, refl, sym, ap, subst, ◌∙◌, arith}
+use Rattle.std.proofs.Common.{◌≡◌, ℕ, zero, suc, ◌^◌, ◌<◌, ◌≤◌, Bool, true, false, not, ◌&&◌, eqb, ltb, leb, List, [], ◌∷◌, ◌++◌, length, take, drop, Option, Some, None, Result, Ok, refl, sym, ap, subst, ◌∙◌, arith}
 use Rattle.std.specs.Int.{w16, w32, w64}
 use Rattle.std.specs.List.{flat_map, AllByRecursion}
 use Rattle.std.proofs.lemmas.Bool.{ltb-false, le-ltb, leb-true, le-leb}
 use Rattle.std.proofs.lemmas.List.{length-append, drop_at}
 use Rattle.hk_types.specs.declared.faults.FormFault.{FormFault}
-use Rattle.hk_types.specs.declared.faults.FormFault.TheVariants.{BadCount, WrongLength}
+use Rattle.hk_types.specs.declared.faults.FormFault.TheVariants.{BadNumber, BadCount, WrongLength}
 use Rattle.hk_log.specs.declared.item.Item.{Item}
 use Rattle.hk_model.specs.declared.query.Query.{Query}
 use Rattle.hk_model.specs.declared.query.Query.TheVariants.{Get, Range, ByTag, Count}
@@ -18,11 +18,18 @@ use Rattle.hk_codec.proofs.Steps.{IsBytes-drop, bind_ok, ok_is, Takes, both as b
 use Rattle.hk_codec.proofs.Numbers.{guard_ok}
 use Rattle.hk_codec.proofs.InFrames.{frame_takes, frame_again}
 use Rattle.hk_codec.proofs.Items.{item_format}
-use Rattle.hk_wire.specs.Readers.{both, barred, listed, time_at}
+use Rattle.hk_wire.specs.Readers.{both, barred, listed, time_at, Chained}
 use Rattle.hk_wire.specs.Messages.{message_at}
 use Rattle.hk_wire.specs.Queries.{query_kind, query_fields, query_text, QueryFits, query_of, query_at}
-use Rattle.hk_wire.specs.Requests.{RequestValue, Items, Front, Delta, Full, Ask, Prune, frame_taken, item_frame_at, item_count_at, item_frames_at, no_place, items_at, keeps_rules, request_kind, request_body, request_rest, RequestFits, IsRequest, request_of, request_at}
-use Rattle.hk_wire.proofs.Parsing.{IsField, Chained, field16, field32, field64, time_field, both_field, barred_field, same_field, listed_field, this_or, made_takes, nothing_takes, made_again, kinded_field, message_format, same_format}
+use Rattle.hk_wire.specs.Requests.{RequestValue, Items, Front, Delta, Full, Ask, JoinThis, MergeThis, Prune, whole_at, frame_taken, item_frame_at, item_count_at, item_frames_at, no_place, items_at, keeps_rules, request_kind, request_body, request_rest, RequestFits, IsRequest, request_of, request_at}
+use Rattle.hk_wire.specs.Fragments.{FragmentTold, fragment_text, fragment_at, FragmentFits, is_counted}
+use Rattle.hk_wire.proofs.Answered.{not_false, true_not}
+use Rattle.hk_wire.proofs.Fragmented.{fragment_field}
+use Rattle.hk_wire.proofs.Parsing.{IsField, field16, field32, field64, time_field, both_field, barred_field, same_field, listed_field, this_or, made_takes, nothing_takes, made_again, kinded_field, message_format, same_format}
+
+and_true : (a b : Bool) → a ≡ true → b ≡ true → (a && b) ≡ true
+and_true true b p q = q
+and_true false b p q = absurd cc
 
 -- ---- queries
 
@@ -81,6 +88,18 @@ query_field = kinded_field query_of query_kind query_fields QueryFits (record { 
 
 ask_field : IsField (both time_at query_at) (λ p. number w64 p.0 ++ query_text p.1) (λ p. (p.0 ≤ 2 ^ 62) × QueryFits p.1)
 ask_field = both_field time_at query_at (number w64) query_text (λ n. n ≤ 2 ^ 62) QueryFits time_field query_field
+
+-- fragments of base 0
+abbrev IsWhole : FragmentTold → Type 0
+IsWhole f = FragmentFits f × ((eqb f.base 0 && is_counted f) ≡ true)
+
+whole_field : IsField whole_at fragment_text IsWhole
+unfolding whole_at
+whole_field =
+    same_field (barred fragment_at (λ f. not (eqb f.base 0)) BadNumber) fragment_text (λ f. (FragmentFits f × (is_counted f ≡ true)) × (not (eqb f.base 0) ≡ false)) IsWhole
+    (λ f h. (h.0.0, and_true (eqb f.base 0) (is_counted f) (not_false (eqb f.base 0) h.1) h.0.1))
+    (λ f h. let b = both_true (eqb f.base 0) (is_counted f) h.1 in ((h.0, b.1), true_not (eqb f.base 0) b.0))
+    (barred_field fragment_at (λ f. not (eqb f.base 0)) BadNumber fragment_text (λ f. FragmentFits f × (is_counted f ≡ true)) fragment_field)
 
 -- item frames
 frame_is : (frame : Option (Item × ℕ)) (bytes : List ℕ) (x : Item × List ℕ) → frame_taken frame bytes ≡ Ok x → (n : ℕ) × (frame ≡ Some (x.0, n)) × (x.1 ≡ drop n bytes)
@@ -150,6 +169,12 @@ ask_of p = Ask p.0 p.1
 abbrev prune_of : ℕ → RequestValue
 prune_of horizon = Prune horizon
 
+abbrev join_of : FragmentTold → RequestValue
+join_of fragment = JoinThis fragment
+
+abbrev merge_of : FragmentTold → RequestValue
+merge_of fragment = MergeThis fragment
+
 abbrev items_of : List Item → RequestValue
 items_of items = Items items
 
@@ -172,9 +197,13 @@ request_takes k bytes x fits e =
     (λ is f. nothing_takes Full request_kind request_body Keeps k (sym is) refl (tt, refl) bytes x fits f)
     (λ e4. this_or k 20 _ _ x (IsRequestOf k bytes x) e4
     (λ is f. made_takes ask_of (both time_at query_at) _ _ ask_field request_kind request_body Keeps k (λ a. sym is) (λ a. refl) (λ a h. (h, refl)) bytes x fits f)
-    (λ e5. this_or k 23 _ _ x (IsRequestOf k bytes x) e5
+    (λ e5. this_or k 21 _ _ x (IsRequestOf k bytes x) e5
+    (λ is f. made_takes join_of fragment_at _ _ fragment_field request_kind request_body Keeps k (λ a. sym is) (λ a. refl) (λ a h. h) bytes x fits f)
+    (λ e6. this_or k 22 _ _ x (IsRequestOf k bytes x) e6
+    (λ is f. made_takes merge_of whole_at _ _ whole_field request_kind request_body Keeps k (λ a. sym is) (λ a. refl) (λ a h. h) bytes x fits f)
+    (λ e7. this_or k 23 _ _ x (IsRequestOf k bytes x) e7
     (λ is f. made_takes prune_of time_at _ _ time_field request_kind request_body Keeps k (λ a. sym is) (λ a. refl) (λ a h. (h, refl)) bytes x fits f)
-    (λ e6. absurd cc))))))
+    (λ e8. absurd cc))))))))
 
 request_again : (r : RequestValue) (rest : List ℕ) → Keeps r → request_of (request_kind r) (request_body r ++ rest) ≡ Ok (r, rest)
 unfolding request_of
@@ -183,11 +212,9 @@ request_again Front rest h = refl
 request_again (Delta base) rest h = made_again delta_of time_at _ _ time_field base rest h.0
 request_again Full rest h = refl
 request_again (Ask t query) rest h = made_again ask_of (both time_at query_at) _ _ ask_field (t, query) rest h.0
+request_again (JoinThis fragment) rest h = made_again join_of fragment_at _ _ fragment_field fragment rest h
+request_again (MergeThis fragment) rest h = made_again merge_of whole_at _ _ whole_field fragment rest h
 request_again (Prune horizon) rest h = made_again prune_of time_at _ _ time_field horizon rest h.0
-
-and_true : (a b : Bool) → a ≡ true → b ≡ true → (a && b) ≡ true
-and_true true b p q = q
-and_true false b p q = absurd cc
 
 pub request_format : IsFormat 2 268435456 request_at request_rest IsRequest
 unfolding request_at request_rest

@@ -1,8 +1,8 @@
 -- Fragments: what is read is spelled so, and what is spelled so is read again.
-use Rattle.std.proofs.Common.{◌≡◌, ℕ, zero, suc, ◌+◌, ◌^◌, ◌<◌, ◌≤◌, Bool, true, false, cond, not, ◌||◌, ltb, leb, eqb, List, [], ◌∷◌, ◌++◌, length, Option, Some, None, Result, Ok, Err, refl, sym, ap, subst, ◌∙◌, append_assoc, arith}
+use Rattle.std.proofs.Common.{◌≡◌, ℕ, ◌+◌, ◌^◌, ◌<◌, ◌≤◌, Bool, true, false, cond, not, ◌&&◌, ◌||◌, ◌⊎◌, inl, inr, ltb, leb, eqb, List, [], ◌∷◌, ◌++◌, length, Option, Some, None, Result, Ok, Err, refl, sym, ap, subst, ◌∙◌, append_assoc, arith}
 use Rattle.std.specs.Int.{w16, w32, w64}
-use Rattle.std.specs.List.{flat_map}
-use Rattle.std.proofs.lemmas.Bool.{ltb-false, le-ltb, leb-true, leb-false, le-leb, lt-leb}
+use Rattle.std.specs.List.{flat_map, AllByRecursion}
+use Rattle.std.proofs.lemmas.Bool.{ltb-true, lt-ltb, ltb-false, le-ltb, leb-true, leb-false, le-leb, lt-leb, eqb-true}
 use Rattle.hk_types.specs.Values.{RowValue}
 use Rattle.hk_types.specs.declared.version_key.VersionKey.{VersionKey}
 use Rattle.hk_types.specs.declared.faults.FormFault.{FormFault}
@@ -10,11 +10,11 @@ use Rattle.hk_types.specs.declared.faults.FormFault.TheVariants.{BadStream, BadN
 use Rattle.hk_log.specs.Versions.{VersionValue}
 use Rattle.hk_delta.specs.Parts.{Known, follows, end_stands}
 use Rattle.hk_codec.specs.Fields.{IsBytes, ◌>>=◌, number, number_at, list_at}
-use Rattle.hk_codec.proofs.Steps.{bind_ok, ok_is, neither, Takes, Takes-then}
-use Rattle.hk_wire.specs.Readers.{Reader, both, after, barred, made, kinded, counted, time_at}
+use Rattle.hk_codec.proofs.Steps.{bind_ok, ok_is, neither, both as both_true, Takes, Takes-then}
+use Rattle.hk_wire.specs.Readers.{Reader, both, after, barred, made, kinded, counted, time_at, Chained}
 use Rattle.hk_wire.specs.Answers.{row_text, row_at, RowFits}
-use Rattle.hk_wire.specs.Fragments.{StreamTold, FragmentTold, mark_text, stream_text, known_flags, known_parts, version_text, fact_text, fragment_text, number_follows, extra_at, waiting_count_at, waiting_at, stream_of, stream_at, version_at, died_at, known_of, fact_at, least_told, no_stream, bounds_at, streams_at, stream_count_at, fragment_head_at, facts_at, fragment_at, ExtraFits, WaitingFits}
-use Rattle.hk_wire.proofs.Parsing.{IsField, AreKinds, Chained, field16, field32, field64, time_field, both_field, barred_field, same_field, made_field, kinded_field, counted_field, many_field, this_or, made_takes, made_again}
+use Rattle.hk_wire.specs.Fragments.{StreamTold, FragmentTold, mark_text, extras_text, waits_text, stream_text, known_flags, known_parts, version_text, fact_text, fragment_text, number_follows, extra_at, waiting_count_at, waiting_at, stream_of, stream_at, version_at, died_at, known_of, fact_at, least_told, no_stream, bounds_at, streams_at, stream_count_at, fragment_head_at, facts_at, fragment_at, ExtraFits, WaitingFits, StreamFits, VersionFits, EndFits, PartsFit, FactFits, FragmentFits, stream_is_counted, streams_are_counted, is_counted}
+use Rattle.hk_wire.proofs.Parsing.{IsField, field16, field64, time_field, both_field, barred_field, same_field, made_field, kinded_field, counted_field, many_field, this_or, made_takes, made_again}
 use Rattle.hk_wire.proofs.Answered.{row_field, not_false, true_not}
 
 -- one after the other, where how the second is read depends on the first
@@ -80,20 +80,14 @@ waiting_field prefix before =
     (barred_field (both (waiting_count_at prefix before) time_at) (λ m. ltb m.1 m.0) BadNumber mark_text (λ m. IsCount prefix before m.0 × (m.1 ≤ 2 ^ 62))
     (both_field (waiting_count_at prefix before) time_at (number w64) (number w64) (IsCount prefix before) (λ n. n ≤ 2 ^ 62) (count_field prefix before) time_field))
 
-abbrev extras_text : List ℕ → List ℕ
-extras_text extra = number w32 (length extra) ++ flat_map (number w64) extra
-
-abbrev waits_text : List (ℕ × ℕ) → List ℕ
-waits_text waiting = number w32 (length waiting) ++ flat_map mark_text waiting
-
 abbrev pub AreExtras : ℕ → List ℕ → Type 0
 AreExtras prefix extra = (length extra < 2 ^ 32) × Chained (λ (n : ℕ). n) (ExtraFits prefix) None extra
 
 abbrev pub AreWaiting : ℕ → List (ℕ × ℕ) → Type 0
 AreWaiting prefix waiting = (length waiting < 2 ^ 32) × Chained (λ (m : ℕ × ℕ). m.0) (WaitingFits prefix) None waiting
 
--- what can be told of a stream
-pub record StreamFits (s : StreamTold) : Type 0 where
+-- what can be told of a stream and counted
+pub record StreamIs (s : StreamTold) : Type 0 where
   pub prefix : s.prefix ≤ 2 ^ 62
   pub closed : s.closed ≤ 2 ^ 62
   pub extra : AreExtras s.prefix s.extra
@@ -115,18 +109,15 @@ behind_field prefix =
 abbrev stream_told : ℕ × (ℕ × (List ℕ × List (ℕ × ℕ))) → StreamTold
 stream_told p = record { prefix = p.0; closed = p.1.0; extra = p.1.1.0; waiting = p.1.1.1 }
 
-pub stream_field : IsField stream_at stream_text StreamFits
+pub stream_field : IsField stream_at stream_text StreamIs
 unfolding stream_at stream_text
 stream_field =
-    made_field stream_told (λ s. (s.prefix, (s.closed, (s.extra, s.waiting)))) (after time_at stream_of) (λ p. number w64 p.0 ++ behind_text p.1) _ (λ p. (p.0 ≤ 2 ^ 62) × BehindFits p.0 p.1) StreamFits
+    made_field stream_told (λ s. (s.prefix, (s.closed, (s.extra, s.waiting)))) (after time_at stream_of) (λ p. number w64 p.0 ++ behind_text p.1) _ (λ p. (p.0 ≤ 2 ^ 62) × BehindFits p.0 p.1) StreamIs
     (after_field time_at stream_of (number w64) behind_text (λ n. n ≤ 2 ^ 62) BehindFits time_field behind_field)
     (λ p h. (refl, record { prefix = h.0; closed = h.1.0; extra = h.1.1.0; waiting = h.1.1.1 }))
     (λ s h. (refl, (refl, (h.prefix, (h.closed, (h.extra, h.waiting))))))
 
 -- ---- facts
-
-abbrev VersionFits : Option VersionKey → VersionKey → Type 0
-VersionFits before v = (follows before v ≡ true) × ((v.table < 2 ^ 16) × ((v.key < 2 ^ 64) × ((0 < v.born) × (v.born ≤ 2 ^ 62))))
 
 abbrev version_of : ℕ × (ℕ × ℕ) → VersionKey
 version_of p = record { table = p.0; key = p.1.0; born = p.1.1 }
@@ -157,18 +148,11 @@ version_field before =
     (barred_field (barred (made version_of (both (number_at w16) (both (number_at w64) (number_at w64)))) (λ v. not (follows before v)) BadOrder) (λ v. ltb v.born 1 || ltb (2 ^ 62) v.born) BadNumber version_text (λ v. IsNamed v × (not (follows before v) ≡ false))
     (barred_field (made version_of (both (number_at w16) (both (number_at w64) (number_at w64)))) (λ v. not (follows before v)) BadOrder version_text IsNamed name_field))
 
-abbrev EndFits : ℕ → ℕ → ℕ → ℕ → Type 0
-EndFits base horizon born died = (died ≤ 2 ^ 62) × (not (end_stands base horizon born (Some died)) ≡ false)
-
 died_field : (base horizon born : ℕ) → IsField (died_at base horizon born) (number w64) (EndFits base horizon born)
-died_field base horizon born = barred_field time_at (λ died. not (end_stands base horizon born (Some died))) BadNumber (number w64) (λ n. n ≤ 2 ^ 62) time_field
-
--- what can be told of a version's row and end
-abbrev pub PartsFit : ℕ → ℕ → ℕ → Option RowValue → Option ℕ → Type 0
-PartsFit base horizon born None None = ⊥
-PartsFit base horizon born (Some row) None = (leb born base ≡ false) × RowFits row
-PartsFit base horizon born None (Some died) = EndFits base horizon born died
-PartsFit base horizon born (Some row) (Some died) = (leb born base ≡ false) × (RowFits row × EndFits base horizon born died)
+died_field base horizon born =
+    same_field (barred time_at (λ died. not (end_stands base horizon born (Some died))) BadNumber) (number w64) (λ died. (died ≤ 2 ^ 62) × (not (end_stands base horizon born (Some died)) ≡ false)) (EndFits base horizon born)
+    (λ died h. (h.0, not_false (end_stands base horizon born (Some died)) h.1)) (λ died h. (h.0, true_not (end_stands base horizon born (Some died)) h.1))
+    (barred_field time_at (λ died. not (end_stands base horizon born (Some died))) BadNumber (number w64) (λ n. n ≤ 2 ^ 62) time_field)
 
 abbrev pub KnownFits : ℕ → ℕ → ℕ → VersionValue → Type 0
 KnownFits base horizon born x = PartsFit base horizon born x.row x.died
@@ -200,24 +184,20 @@ known_takes base horizon born k bytes x fits e =
     (λ is f. made_takes end_only (died_at base horizon born) _ _ (died_field base horizon born) known_flags known_parts (KnownFits base horizon born) k (λ a. sym is) (λ a. refl) (λ a h. h) bytes x fits f)
     (λ e2. let p = passed (leb born base) _ x e2 in
     this_or k 1 _ _ x (IsKnownOf base horizon born k bytes x) p.1
-    (λ is f. made_takes row_only row_at _ _ row_field known_flags known_parts (KnownFits base horizon born) k (λ a. sym is) (λ a. refl) (λ a h. (p.0, h)) bytes x fits f)
+    (λ is f. made_takes row_only row_at _ _ row_field known_flags known_parts (KnownFits base horizon born) k (λ a. sym is) (λ a. refl) (λ a h. (leb-false born base p.0, h)) bytes x fits f)
     (λ e3. this_or k 3 _ _ x (IsKnownOf base horizon born k bytes x) e3
-    (λ is f. made_takes row_and_end (both row_at (died_at base horizon born)) _ _ (both_parts base horizon born) known_flags known_parts (KnownFits base horizon born) k (λ a. sym is) (λ a. refl) (λ a h. (p.0, h)) bytes x fits f)
+    (λ is f. made_takes row_and_end (both row_at (died_at base horizon born)) _ _ (both_parts base horizon born) known_flags known_parts (KnownFits base horizon born) k (λ a. sym is) (λ a. refl) (λ a h. (leb-false born base p.0, h)) bytes x fits f)
     (λ e4. absurd cc)))
 
 known_again : (base horizon born : ℕ) (row : Option RowValue) (died : Option ℕ) (rest : List ℕ) → PartsFit base horizon born row died → known_of base horizon born (known_flags (record { row = row; died = died })) (known_parts (record { row = row; died = died }) ++ rest) ≡ Ok (record { row = row; died = died }, rest)
 unfolding known_of
 known_again base horizon born None None rest h = absurd h
 known_again base horizon born None (Some died) rest h = made_again end_only (died_at base horizon born) _ _ (died_field base horizon born) died rest h
-known_again base horizon born (Some row) None rest h = rw h.0 (made_again row_only row_at _ _ row_field row rest h.1)
-known_again base horizon born (Some row) (Some died) rest h = rw h.0 (made_again row_and_end (both row_at (died_at base horizon born)) _ _ (both_parts base horizon born) (row, died) rest h.1)
+known_again base horizon born (Some row) None rest h = rw (lt-leb born base h.0) (made_again row_only row_at _ _ row_field row rest h.1)
+known_again base horizon born (Some row) (Some died) rest h = rw (lt-leb born base h.0) (made_again row_and_end (both row_at (died_at base horizon born)) _ _ (both_parts base horizon born) (row, died) rest h.1)
 
 known_field : (base horizon born : ℕ) → IsField (kinded (known_of base horizon born)) (λ x. known_flags x ∷ known_parts x) (KnownFits base horizon born)
 known_field base horizon born = kinded_field (known_of base horizon born) known_flags known_parts (KnownFits base horizon born) (record { takes = known_takes base horizon born; again = λ x rest h. known_again base horizon born x.row x.died rest h })
-
--- what can be told of a version in its place
-abbrev pub FactFits : ℕ → ℕ → Option VersionKey → Known → Type 0
-FactFits base horizon before e = VersionFits before e.0 × KnownFits base horizon e.0.born e.1
 
 fact_field : (base horizon : ℕ) (before : Option VersionKey) → IsField (fact_at base horizon before) fact_text (FactFits base horizon before)
 unfolding fact_at fact_text
@@ -266,16 +246,16 @@ head_field =
     (both_field stream_count_at bounds_at (number w16) bounds_text StreamCount BoundsFit stream_count_field bounds_field)
 
 abbrev AreStreams : ℕ → ℕ → List StreamTold → Type 0
-AreStreams horizon n streams = ((length streams ≡ n) × Chained no_stream (λ _. StreamFits) None streams) × (ltb (least_told streams) horizon ≡ false)
+AreStreams horizon n streams = ((length streams ≡ n) × Chained no_stream (λ _. StreamIs) None streams) × (ltb (least_told streams) horizon ≡ false)
 
 streams_field : (horizon n : ℕ) → IsField (streams_at horizon n) (flat_map stream_text) (AreStreams horizon n)
 unfolding streams_at
 streams_field horizon n =
-    barred_field (list_at no_stream (λ _. stream_at) n None) (λ streams. ltb (least_told streams) horizon) BadNumber (flat_map stream_text) (λ streams. (length streams ≡ n) × Chained no_stream (λ _. StreamFits) None streams)
-    (many_field no_stream (λ _. stream_at) stream_text (λ _. StreamFits) (λ _. stream_field) n)
+    barred_field (list_at no_stream (λ _. stream_at) n None) (λ streams. ltb (least_told streams) horizon) BadNumber (flat_map stream_text) (λ streams. (length streams ≡ n) × Chained no_stream (λ _. StreamIs) None streams)
+    (many_field no_stream (λ _. stream_at) stream_text (λ _. StreamIs) (λ _. stream_field) n)
 
--- what can be told of a fragment
-pub record FragmentFits (f : FragmentTold) : Type 0 where
+-- what can be told of a fragment and counted
+record FragmentIs (f : FragmentTold) : Type 0 where
   pub head : HeadFits (f.log, (length f.streams, (f.base, f.horizon)))
   pub streams : AreStreams f.horizon (length f.streams) f.streams
   pub facts : AreFacts f.base f.horizon f.facts
@@ -305,10 +285,10 @@ same_text : (f : FragmentTold) → read_text (read_of f) ≡ fragment_text f
 unfolding fragment_text
 same_text f = simp append_assoc
 
-pub fragment_field : IsField fragment_at fragment_text FragmentFits
+told_field : IsField fragment_at fragment_text FragmentIs
 unfolding fragment_at
-fragment_field =
-    made_field told_of read_of (after (after fragment_head_at (λ h. streams_at h.1.1.1 h.1.0)) (λ p. facts_at p.0.1.1.0 p.0.1.1.1)) read_text fragment_text ReadFits FragmentFits read_field
+told_field =
+    made_field told_of read_of (after (after fragment_head_at (λ h. streams_at h.1.1.1 h.1.0)) (λ p. facts_at p.0.1.1.0 p.0.1.1.1)) read_text fragment_text ReadFits FragmentIs read_field
     (λ p h.
     let len : length p.0.1 ≡ p.0.0.1.0 = h.0.1.0.0 in
     let same : read_text p ≡ read_text (read_of (told_of p)) = ap (λ (n : ℕ). (head_text (p.0.0.0, (n, p.0.0.1.1)) ++ flat_map stream_text p.0.1) ++ facts_text p.1) (sym len) in (
@@ -320,3 +300,76 @@ fragment_field =
       },
     ))
     (λ f h. (refl, (sym (same_text f), ((h.head, h.streams), h.facts))))
+
+-- ---- counts apart
+
+and_true : (a b : Bool) → a ≡ true → b ≡ true → (a && b) ≡ true
+and_true true b p q = q
+and_true false b p q = absurd cc
+
+counted_there : (s : StreamTold) → StreamIs s → StreamFits s × (stream_is_counted s ≡ true)
+counted_there s h =
+    (record { prefix = h.prefix; closed = h.closed; extra = h.extra.1; waiting = h.waiting.1 }, and_true (ltb (length s.extra) (2 ^ 32)) (ltb (length s.waiting) (2 ^ 32)) (lt-ltb _ _ h.extra.0) (lt-ltb _ _ h.waiting.0))
+
+counted_back : (s : StreamTold) → StreamFits s → stream_is_counted s ≡ true → StreamIs s
+counted_back s h c =
+    let b = both_true (ltb (length s.extra) (2 ^ 32)) (ltb (length s.waiting) (2 ^ 32)) c in
+    record { prefix = h.prefix; closed = h.closed; extra = (ltb-true _ _ b.0, h.extra); waiting = (ltb-true _ _ b.1, h.waiting) }
+
+streams_there : (before : Option (Unit {0})) (streams : List StreamTold) → Chained no_stream (λ _. StreamIs) before streams → AllByRecursion StreamFits streams × (streams_are_counted streams ≡ true)
+streams_there before [] h = (tt, refl)
+streams_there before (s ∷ streams) h =
+    let first = counted_there s h.0 in
+    let others = streams_there (Some tt) streams h.1 in
+    ((first.0, others.0), and_true (stream_is_counted s) (streams_are_counted streams) first.1 others.1)
+
+streams_back : (before : Option (Unit {0})) (streams : List StreamTold) → AllByRecursion StreamFits streams → streams_are_counted streams ≡ true → Chained no_stream (λ _. StreamIs) before streams
+streams_back before [] h c = tt
+streams_back before (s ∷ streams) h c =
+    let b = both_true (stream_is_counted s) (streams_are_counted streams) c in
+    (counted_back s h.0 b.0, streams_back (Some tt) streams h.1 b.1)
+
+base_there : (base horizon : ℕ) → not (eqb base 0 || leb horizon base) ≡ false → (base ≡ 0) ⊎ (horizon ≤ base)
+base_there base horizon e = by (eqb base 0) refl (not_false (eqb base 0 || leb horizon base) e)
+  where
+    by : (b : Bool) → eqb base 0 ≡ b → (b || leb horizon base) ≡ true → (base ≡ 0) ⊎ (horizon ≤ base)
+    by true t f = inl (eqb-true base 0 t)
+    by false t f = inr (leb-true horizon base f)
+
+base_back : (base horizon : ℕ) → (base ≡ 0) ⊎ (horizon ≤ base) → not (eqb base 0 || leb horizon base) ≡ false
+base_back base horizon (inl is) = ap (λ (b : ℕ). not (eqb b 0 || leb horizon b)) is
+base_back base horizon (inr le) = true_not (eqb base 0 || leb horizon base) (or_true (eqb base 0) (leb horizon base) (le-leb horizon base le))
+  where
+    or_true : (a b : Bool) → b ≡ true → (a || b) ≡ true
+    or_true true b e = refl
+    or_true false b e = e
+
+pub fragment_field : IsField fragment_at fragment_text (λ f. FragmentFits f × (is_counted f ≡ true))
+fragment_field =
+    same_field fragment_at fragment_text FragmentIs (λ f. FragmentFits f × (is_counted f ≡ true))
+    (λ f h.
+    let s = streams_there None f.streams h.streams.0.1 in
+    let n = neither (ltb (length f.streams) 1) (ltb 64 (length f.streams)) h.head.1.0.1 in (
+      record {
+        log = h.head.0;
+        least = ltb-false _ _ n.0;
+        most = ltb-false _ _ n.1;
+        base = h.head.1.1.0.0;
+        horizon = h.head.1.1.0.1;
+        base_above = base_there f.base f.horizon h.head.1.1.1;
+        within = ltb-false _ _ h.streams.1;
+        streams = s.0;
+        facts = h.facts.1;
+      },
+      and_true (streams_are_counted f.streams) (ltb (length f.facts) (2 ^ 32)) s.1 (lt-ltb _ _ h.facts.0),
+    ))
+    (λ f h.
+    let k : FragmentFits f = h.0 in
+    let b = both_true (streams_are_counted f.streams) (ltb (length f.facts) (2 ^ 32)) h.1 in
+    let few : length f.streams < 2 ^ 16 = omega (arith, k.most) in
+    record {
+      head = (k.log, ((few, or_false (ltb (length f.streams) 1) (ltb 64 (length f.streams)) (le-ltb _ _ k.least) (le-ltb _ _ k.most)), ((k.base, k.horizon), base_back f.base f.horizon k.base_above)));
+      streams = ((refl, streams_back None f.streams k.streams b.0), le-ltb _ _ k.within);
+      facts = (ltb-true _ _ b.1, k.facts);
+    })
+    told_field

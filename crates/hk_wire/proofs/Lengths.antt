@@ -1,5 +1,5 @@
 -- How long the spellings are.
-use Rattle.std.proofs.Common.{◌≡◌, ℕ, ◌+◌, ◌<◌, List, [], ◌∷◌, Some, None, length, take, get_or, refl, ap, ◌∙◌, arith}
+use Rattle.std.proofs.Common.{◌≡◌, ℕ, suc, ◌+◌, ◌*◌, ◌<◌, List, [], ◌∷◌, Option, Some, None, length, take, get_or, refl, ap, ◌∙◌, arith}
 use Rattle.std.specs.List.{flat_map}
 use Rattle.std.proofs.lemmas.List.{length-append, append-nil, take_more}
 use Rattle.std.proofs.lemmas.Grind.{flat_map-append}
@@ -12,11 +12,16 @@ use Rattle.hk_model.specs.declared.query.Query.TheVariants.{Get, Range, ByTag, C
 use Rattle.hk_codec.proofs.Lengths.{len16, len32, len64}
 use Rattle.hk_types.specs.declared.faults.Refusal.{Refusal}
 use Rattle.hk_wire.specs.Refusals.{refusal_text}
-use Rattle.hk_wire.specs.Replies.{Done, Front as Told, Answer, Refused, reply_rest}
+use Rattle.hk_wire.specs.Replies.{Done, Front as Told, Fragment, Answer, Refused, reply_rest}
 use Rattle.hk_wire.specs.Queries.{query_text}
 use Rattle.hk_log.specs.declared.item.Item.{Item}
 use Rattle.hk_codec.specs.Frames.{spelling}
-use Rattle.hk_wire.specs.Requests.{Items, Front as AskFront, Delta, Full, Ask, Prune, request_rest}
+use Rattle.hk_wire.specs.Requests.{Items, Front as AskFront, Delta, Full, Ask, JoinThis, MergeThis, Prune, request_rest}
+use Rattle.hk_wire.specs.Fragments.{StreamTold, FragmentTold, mark_text, stream_text, parts_text, fact_text, fragment_text}
+use Rattle.hk_log.specs.Versions.{VersionValue}
+use Rattle.hk_types.specs.declared.version_key.VersionKey.{VersionKey}
+use Rattle.hk_codec.specs.Fields.{number}
+use Rattle.std.specs.Int.{w64}
 
 pub get_len : (table key : ℕ) → length (query_text (Get table key)) ≡ 11
 unfolding query_text
@@ -108,6 +113,55 @@ number_answer_len n = simp (len64) refl
 pub answer_rest_len : (a : AnswerValue) → length (reply_rest (Answer a)) ≡ 2 + length (answer_text a)
 unfolding reply_rest
 answer_rest_len a = omega arith
+
+-- ---- fragments
+
+-- elements of one length
+each_len : {X : Type 0} (text : X → List ℕ) (n : ℕ) → ((x : X) → length (text x) ≡ n) → (xs : List X) → length (flat_map text xs) ≡ n * length xs
+each_len text n each [] = omega arith
+each_len text n each (x ∷ xs) =
+    let rest = each_len text n each xs in
+    let first = each x in
+    ap length (flat_map-cons text x xs) ∙ length-append (text x) (flat_map text xs) ∙ (λ i. first i + rest i) ∙ times n (length xs)
+  where
+    times : (n k : ℕ) → n + n * k ≡ n * suc k
+    times n k = omega arith
+
+mark_len : (m : ℕ × ℕ) → length (mark_text m) ≡ 16
+mark_len m = simp (length-append, len64) refl
+
+pub stream_text_len : (s : StreamTold) → length (stream_text s) ≡ 24 + 8 * length s.extra + 16 * length s.waiting
+unfolding stream_text
+stream_text_len s =
+    let e = each_len (number w64) 8 (λ n. len64 n) s.extra in
+    let w = each_len mark_text 16 mark_len s.waiting in
+    simp (length-append, len64, len32) (omega (arith, e, w))
+
+pub fact_text_len : (v : VersionKey) (x : VersionValue) → length (fact_text (v, x)) ≡ 19 + (length (parts_text x.row None) + length (parts_text None x.died))
+unfolding fact_text
+fact_text_len v x = simp (length-append, len64, len16) (parts x.row x.died)
+  where
+    parts : (row : Option RowValue) (died : Option ℕ) → 18 + suc (length (parts_text row died)) ≡ 19 + (length (parts_text row None) + length (parts_text None died))
+    parts None None = refl
+    parts None (Some d) = omega arith
+    parts (Some r) None = omega arith
+    parts (Some r) (Some d) = simp length-append (omega arith)
+
+pub fragment_text_len : (f : FragmentTold) → length (fragment_text f) ≡ 30 + (length (flat_map stream_text f.streams) + length (flat_map fact_text f.facts))
+unfolding fragment_text
+fragment_text_len f = simp (length-append, len64, len32, len16) (omega arith)
+
+pub join_this_len : (f : FragmentTold) → length (request_rest (JoinThis f)) ≡ 2 + length (fragment_text f)
+unfolding request_rest
+join_this_len f = omega arith
+
+pub merge_this_len : (f : FragmentTold) → length (request_rest (MergeThis f)) ≡ 2 + length (fragment_text f)
+unfolding request_rest
+merge_this_len f = omega arith
+
+pub fragment_rest_len : (f : FragmentTold) → length (reply_rest (Fragment f)) ≡ 2 + length (fragment_text f)
+unfolding reply_rest
+fragment_rest_len f = omega arith
 
 -- ---- items
 

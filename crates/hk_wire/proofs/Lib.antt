@@ -5,3 +5,9 @@ pub mod Answered
 pub mod Fragmented
 pub mod Replied
 pub mod Lengths
+pub mod Behind
+pub mod Streaming
+pub mod Taking
+pub mod Gathering
+pub mod Standing
+pub mod Putting

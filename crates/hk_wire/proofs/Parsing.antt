@@ -12,7 +12,7 @@ use Rattle.hk_codec.specs.Framing.{IsFormat}
 use Rattle.hk_codec.proofs.Steps.{bind_ok, check_ok, ok_is, passes, Takes, Takes-then}
 use Rattle.hk_codec.proofs.Numbers.{IsWide, wide16, wide32, wide64, number_takes, number_again}
 use Rattle.hk_codec.proofs.Found.{byte_takes}
-use Rattle.hk_wire.specs.Readers.{Reader, both, barred, made, kinded, listed, counted, time_at}
+use Rattle.hk_wire.specs.Readers.{Reader, both, barred, made, kinded, listed, counted, time_at, Chained}
 use Rattle.hk_wire.specs.Messages.{message_text, head_at, message_at}
 
 -- what is read is spelled so, and what is spelled so is read again
@@ -193,11 +193,6 @@ same_format least most read rest_text P Q there back f =
     }
 
 -- ---- lists
-
--- each element fits behind the place of the element before it
-abbrev pub Chained : {X P : Type 0} → (X → P) → (Option P → X → Type 0) → Option P → List X → Type 0
-Chained place Fit before [] = Unit {0}
-Chained place Fit before (x ∷ xs) = Fit before x × Chained place Fit (Some (place x)) xs
 
 pub record ListIs {X P : Type 0} (place : X → P) (text : X → List ℕ) (Fit : Option P → X → Type 0) (n : ℕ) (before : Option P) (bytes : List ℕ) (xs : List X) (rest : List ℕ) : Type 0 where
   pub takes : Takes bytes (flat_map text xs) rest

@@ -9,11 +9,13 @@ use Rattle.hk_codec.specs.Framing.{IsFormat}
 use Rattle.hk_codec.proofs.Steps.{Takes, neither, both as both_true}
 use Rattle.hk_model.specs.Answers.{AnswerValue}
 use Rattle.hk_wire.specs.Answers.{answer_at}
+use Rattle.hk_wire.specs.Fragments.{FragmentTold, fragment_at}
+use Rattle.hk_wire.proofs.Fragmented.{fragment_field}
 use Rattle.hk_wire.proofs.Answered.{answer_field}
 use Rattle.hk_wire.specs.Readers.{both, barred, time_at}
 use Rattle.hk_wire.specs.Messages.{message_at}
 use Rattle.hk_wire.specs.Refusals.{refusal_at}
-use Rattle.hk_wire.specs.Replies.{ReplyValue, Done, Front as Told, Answer, Refused, reply_kind, reply_body, reply_rest, keeps_rules, ReplyFits, IsReply, ops_at, front_at, reply_of, reply_at}
+use Rattle.hk_wire.specs.Replies.{ReplyValue, Done, Front as Told, Fragment, Answer, Refused, reply_kind, reply_body, reply_rest, keeps_rules, ReplyFits, IsReply, ops_at, front_at, reply_of, reply_at}
 use Rattle.hk_wire.proofs.Parsing.{IsField, field64, time_field, both_field, barred_field, same_field, this_or, made_takes, made_again, message_format, same_format}
 use Rattle.hk_wire.proofs.Refused.{refusal_field}
 
@@ -79,6 +81,9 @@ done_of ops = Done ops
 abbrev told_of : ℕ × ℕ → ReplyValue
 told_of p = Told p.0 p.1
 
+abbrev fragment_of : FragmentTold → ReplyValue
+fragment_of f = Fragment f
+
 abbrev answered_of : AnswerValue → ReplyValue
 answered_of a = Answer a
 
@@ -98,16 +103,19 @@ reply_takes k bytes x fits e =
     (λ is f. made_takes done_of ops_at _ _ ops_field reply_kind reply_body Keeps k (λ a. sym is) (λ a. refl) (λ a h. h) bytes x fits f)
     (λ e2. this_or k 33 _ _ x (IsReplyOf k bytes x) e2
     (λ is f. made_takes told_of front_at _ _ front_field reply_kind reply_body Keeps k (λ a. sym is) (λ a. refl) (λ a h. h) bytes x fits f)
-    (λ e3. this_or k 35 _ _ x (IsReplyOf k bytes x) e3
+    (λ e3. this_or k 34 _ _ x (IsReplyOf k bytes x) e3
+    (λ is f. made_takes fragment_of fragment_at _ _ fragment_field reply_kind reply_body Keeps k (λ a. sym is) (λ a. refl) (λ a h. h) bytes x fits f)
+    (λ e6. this_or k 35 _ _ x (IsReplyOf k bytes x) e6
     (λ is f. made_takes answered_of answer_at _ _ answer_field reply_kind reply_body Keeps k (λ a. sym is) (λ a. refl) (λ a h. h) bytes x fits f)
     (λ e5. this_or k 36 _ _ x (IsReplyOf k bytes x) e5
     (λ is f. made_takes refused_of refusal_at _ _ refusal_field reply_kind reply_body Keeps k (λ a. sym is) (λ a. refl) (λ a h. h) bytes x fits f)
-    (λ e4. absurd cc))))
+    (λ e4. absurd cc)))))
 
 reply_again : (r : ReplyValue) (rest : List ℕ) → Keeps r → reply_of (reply_kind r) (reply_body r ++ rest) ≡ Ok (r, rest)
 unfolding reply_of
 reply_again (Done ops) rest h = made_again done_of ops_at _ _ ops_field ops rest h
 reply_again (Told horizon readable) rest h = made_again told_of front_at _ _ front_field (horizon, readable) rest h
+reply_again (Fragment f) rest h = made_again fragment_of fragment_at _ _ fragment_field f rest h
 reply_again (Answer a) rest h = made_again answered_of answer_at _ _ answer_field a rest h
 reply_again (Refused why) rest h = made_again refused_of refusal_at _ _ refusal_field why rest h
 

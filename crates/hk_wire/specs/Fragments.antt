@@ -1,5 +1,5 @@
 -- Fragments: what their bytes tell, their spelling and their reading.
-use Rattle.std.specs.Prelude.{◌≡◌, ℕ, ◌+◌, ◌^◌, ◌<◌, ◌≤◌, Bool, true, false, not, ◌&&◌, ◌||◌, max, min, nat_lt, nat_le, ◌==◌, if◌then◌else◌, List, [], ◌∷◌, ◌++◌, length, map, Option, Some, None, Ok, Err}
+use Rattle.std.specs.Prelude.{◌≡◌, ◌⊎◌, ℕ, ◌+◌, ◌^◌, ◌<◌, ◌≤◌, Bool, true, not, ◌&&◌, ◌||◌, max, min, nat_lt, nat_le, ◌==◌, if◌then◌else◌, List, [], ◌∷◌, ◌++◌, length, map, Option, Some, None, Err}
 use Rattle.std.specs.Int.{w16, w32, w64}
 use Rattle.std.specs.List.{flat_map, AllByRecursion}
 use Rattle.std.specs.Ordering.{nat_cmp}
@@ -12,9 +12,9 @@ use Rattle.hk_log.specs.Versions.{VersionValue}
 use Rattle.hk_model.specs.Streams.{StreamContent, covers}
 use Rattle.hk_model.specs.Fragments.{FragmentValue}
 use Rattle.hk_marks.specs.Steps.{extra_numbers}
-use Rattle.hk_delta.specs.Parts.{Known, versions_listed, follows, row_stands, end_stands}
-use Rattle.hk_codec.specs.Fields.{◌>>=◌, check, number, byte_at, number_at, list_at}
-use Rattle.hk_wire.specs.Readers.{Reader, both, after, barred, made, kinded, counted, time_at}
+use Rattle.hk_delta.specs.Parts.{Known, versions_listed, follows, end_stands}
+use Rattle.hk_codec.specs.Fields.{number, number_at, list_at}
+use Rattle.hk_wire.specs.Readers.{Reader, both, after, barred, made, kinded, counted, time_at, Chained}
 use Rattle.hk_wire.specs.Answers.{row_text, row_at, RowFits}
 
 -- what is told of a stream: the number up to which all are taken, the closed time, the taken numbers above it,
@@ -38,13 +38,17 @@ abbrev pub greatest_reached : set.FinSet nat_cmp → List ℕ → ℕ
 greatest_reached taken [] = 0
 greatest_reached taken (q ∷ numbers) = if covers taken q then max q (greatest_reached taken numbers) else greatest_reached taken numbers
 
+-- these numbers in rising order, each once
+abbrev pub rising : List ℕ → List ℕ
+rising numbers = finmap.keys (finmap.from_entries {R = nat_cmp} (map (λ n. (n, n)) numbers))
+
 -- what is told of a stream
 abbrev pub stream_seen : StreamContent → StreamTold
 stream_seen s =
     record {
       prefix = greatest_reached s.taken (set.items s.taken);
       closed = s.closed;
-      extra = set.items (extra_numbers s);
+      extra = rising (set.items (extra_numbers s));
       waiting = finmap.entries s.waiting;
     }
 
@@ -65,11 +69,16 @@ fragment_seen f =
 abbrev pub mark_text : ℕ × ℕ → List ℕ
 mark_text m = number w64 m.0 ++ number w64 m.1
 
+-- numbers behind their count
+abbrev pub extras_text : List ℕ → List ℕ
+extras_text extra = number w32 (length extra) ++ flat_map (number w64) extra
+
+-- marks behind their count
+abbrev pub waits_text : List (ℕ × ℕ) → List ℕ
+waits_text waiting = number w32 (length waiting) ++ flat_map mark_text waiting
+
 unfoldable pub stream_text : StreamTold → List ℕ
-stream_text s =
-    number w64 s.prefix ++ (number w64 s.closed
-    ++ ((number w32 (length s.extra) ++ flat_map (number w64) s.extra)
-    ++ (number w32 (length s.waiting) ++ flat_map mark_text s.waiting)))
+stream_text s = number w64 s.prefix ++ (number w64 s.closed ++ (extras_text s.extra ++ waits_text s.waiting))
 
 -- 1 with a row, 2 with an end, 3 with both
 abbrev pub flags_of : Option RowValue → Option ℕ → ℕ
@@ -201,3 +210,55 @@ ExtraFits prefix before n = (number_follows before n ≡ true) × ((prefix + 1 <
 -- a waiting mark in its place
 abbrev pub WaitingFits : ℕ → Option ℕ → ℕ × ℕ → Type 0
 WaitingFits prefix before m = (number_follows before m.0 ≡ true) × ((prefix < m.0) × ((m.0 ≤ m.1) × (m.1 ≤ 2 ^ 62)))
+
+-- a stream: its times are times, and its numbers and marks stand in their places
+pub record StreamFits (s : StreamTold) : Type 0 where
+  pub prefix : s.prefix ≤ 2 ^ 62
+  pub closed : s.closed ≤ 2 ^ 62
+  pub extra : Chained (λ n. n) (ExtraFits s.prefix) None s.extra
+  pub waiting : Chained (λ m. m.0) (WaitingFits s.prefix) None s.waiting
+
+-- a version in its place
+abbrev pub VersionFits : Option VersionKey → VersionKey → Type 0
+VersionFits before v = (follows before v ≡ true) × ((v.table < 2 ^ 16) × ((v.key < 2 ^ 64) × ((0 < v.born) × (v.born ≤ 2 ^ 62))))
+
+-- an end above the base, the horizon and the birth of its version
+abbrev pub EndFits : ℕ → ℕ → ℕ → ℕ → Type 0
+EndFits base horizon born died = (died ≤ 2 ^ 62) × (end_stands base horizon born (Some died) ≡ true)
+
+-- a row, an end or both, the row of a version that was born above the base
+abbrev pub PartsFit : ℕ → ℕ → ℕ → Option RowValue → Option ℕ → Type 0
+PartsFit base horizon born None None = ⊥
+PartsFit base horizon born (Some row) None = (base < born) × RowFits row
+PartsFit base horizon born None (Some died) = EndFits base horizon born died
+PartsFit base horizon born (Some row) (Some died) = (base < born) × (RowFits row × EndFits base horizon born died)
+
+-- what is known of a version, in its place
+abbrev pub FactFits : ℕ → ℕ → Option VersionKey → Known → Type 0
+FactFits base horizon before e = VersionFits before e.0 × PartsFit base horizon e.0.born e.1.row e.1.died
+
+-- a fragment whose parts fit their fields and keep the rules of fragments
+pub record FragmentFits (f : FragmentTold) : Type 0 where
+  pub log : f.log < 2 ^ 64
+  pub least : 1 ≤ length f.streams
+  pub most : length f.streams ≤ 64
+  pub base : f.base ≤ 2 ^ 62
+  pub horizon : f.horizon ≤ 2 ^ 62
+  pub base_above : (f.base ≡ 0) ⊎ (f.horizon ≤ f.base)
+  pub within : f.horizon ≤ least_told f.streams
+  pub streams : AllByRecursion StreamFits f.streams
+  pub facts : Chained (λ e. e.0) (FactFits f.base f.horizon) None f.facts
+
+-- ---- what can be counted
+
+-- whether the numbers and the marks of a stream can be counted
+abbrev pub stream_is_counted : StreamTold → Bool
+stream_is_counted s = nat_lt (length s.extra) (2 ^ 32) && nat_lt (length s.waiting) (2 ^ 32)
+
+abbrev pub streams_are_counted : List StreamTold → Bool
+streams_are_counted [] = true
+streams_are_counted (s ∷ streams) = stream_is_counted s && streams_are_counted streams
+
+-- whether all of a fragment can be counted
+abbrev pub is_counted : FragmentTold → Bool
+is_counted f = streams_are_counted f.streams && nat_lt (length f.facts) (2 ^ 32)

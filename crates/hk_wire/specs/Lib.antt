@@ -5,4 +5,5 @@ pub mod Requests
 pub mod Refusals
 pub mod Answers
 pub mod Fragments
+pub mod FragmentSteps
 pub mod Replies

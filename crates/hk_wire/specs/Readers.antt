@@ -1,5 +1,5 @@
 -- Readers of fields, and what is made of them.
-use Rattle.std.specs.Prelude.{ℕ, ◌^◌, Bool, nat_lt, List, Option, None, Result, Ok}
+use Rattle.std.specs.Prelude.{ℕ, ◌^◌, Bool, nat_lt, List, [], ◌∷◌, Option, Some, None, Result, Ok}
 use Rattle.std.specs.Int.{w32, w64}
 use Rattle.hk_types.specs.declared.faults.FormFault.{FormFault}
 use Rattle.hk_types.specs.declared.faults.FormFault.TheVariants.{BadNumber}
@@ -44,3 +44,8 @@ listed count_at place one bytes = count_at bytes >>= λ count. list_at place one
 -- a list behind a count of four bytes
 abbrev pub counted : {X P : Type 0} → (X → P) → (Option P → Reader X) → Reader (List X)
 counted place one bytes = listed (number_at w32) place one bytes
+
+-- each element fits behind the place of the element before it
+abbrev pub Chained : {X P : Type 0} → (X → P) → (Option P → X → Type 0) → Option P → List X → Type 0
+Chained place Fit before [] = Unit {0}
+Chained place Fit before (x ∷ xs) = Fit before x × Chained place Fit (Some (place x)) xs

@@ -10,6 +10,7 @@ use Rattle.hk_wire.specs.declared.reply.Reply.TheVariants as replied
 use Rattle.hk_types.specs.declared.faults.Refusal.{Refusal}
 use Rattle.hk_model.specs.Answers.{AnswerValue, answer_seen}
 use Rattle.hk_wire.specs.Answers.{answer_text, answer_at, answer_keeps_rules, AnswerFits}
+use Rattle.hk_wire.specs.Fragments.{FragmentTold, fragment_seen, fragment_text, fragment_at, FragmentFits, is_counted}
 use Rattle.hk_wire.specs.Readers.{Reader, both, barred, made, time_at}
 use Rattle.hk_wire.specs.Messages.{message_text, message_at}
 use Rattle.hk_wire.specs.Refusals.{refusal_text, refusal_at, RefusalFits, is_sent}
@@ -18,6 +19,7 @@ use Rattle.hk_wire.specs.Refusals.{refusal_text, refusal_at, RefusalFits, is_sen
 pub data ReplyValue : Type 0 where
   Done : ℕ → ReplyValue
   Front : ℕ → ℕ → ReplyValue
+  Fragment : FragmentTold → ReplyValue
   Answer : AnswerValue → ReplyValue
   Refused : Refusal → ReplyValue
 
@@ -25,6 +27,7 @@ pub data ReplyValue : Type 0 where
 abbrev pub reply_seen : Reply → ReplyValue
 reply_seen (replied.Done ops) = Done ops
 reply_seen (replied.Front front) = Front front.horizon front.readable
+reply_seen (replied.Fragment fragment) = Fragment (fragment_seen fragment)
 reply_seen (replied.Answer a) = Answer (answer_seen a)
 reply_seen (replied.Refused why) = Refused why
 
@@ -32,6 +35,7 @@ reply_seen (replied.Refused why) = Refused why
 abbrev pub reply_kind : ReplyValue → ℕ
 reply_kind (Done ops) = 32
 reply_kind (Front horizon readable) = 33
+reply_kind (Fragment fragment) = 34
 reply_kind (Answer a) = 35
 reply_kind (Refused why) = 36
 
@@ -39,6 +43,7 @@ reply_kind (Refused why) = 36
 abbrev pub reply_body : ReplyValue → List ℕ
 reply_body (Done ops) = number w64 ops
 reply_body (Front horizon readable) = number w64 horizon ++ number w64 readable
+reply_body (Fragment fragment) = fragment_text fragment
 reply_body (Answer a) = answer_text a
 reply_body (Refused why) = refusal_text why
 
@@ -54,6 +59,7 @@ reply_text r = spelled reply_rest r
 abbrev pub keeps_rules : ReplyValue → Bool
 keeps_rules (Done ops) = nat_lt 0 ops && nat_le ops (2 ^ 62)
 keeps_rules (Front horizon readable) = nat_le horizon readable
+keeps_rules (Fragment fragment) = is_counted fragment
 keeps_rules (Answer a) = answer_keeps_rules a
 keeps_rules (Refused why) = is_sent why
 
@@ -65,6 +71,7 @@ has_spelling r = keeps_rules r && nat_le (length (reply_rest r)) 268435456
 abbrev pub ReplyFits : ReplyValue → Type 0
 ReplyFits (Done ops) = ops < 2 ^ 64
 ReplyFits (Front horizon readable) = (horizon ≤ 2 ^ 62) × (readable ≤ 2 ^ 62)
+ReplyFits (Fragment fragment) = FragmentFits fragment
 ReplyFits (Answer a) = AnswerFits a
 ReplyFits (Refused why) = RefusalFits why
 
@@ -85,6 +92,7 @@ unfoldable pub reply_of : ℕ → Reader ReplyValue
 reply_of kind bytes =
     if kind == 32 then made (λ ops. Done ops) ops_at bytes
     else if kind == 33 then made (λ p. Front p.0 p.1) front_at bytes
+    else if kind == 34 then made (λ fragment. Fragment fragment) fragment_at bytes
     else if kind == 35 then made (λ a. Answer a) answer_at bytes
     else if kind == 36 then made (λ why. Refused why) refusal_at bytes
     else Err BadKind

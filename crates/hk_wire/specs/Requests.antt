@@ -1,9 +1,9 @@
 -- Requests: their spelling and their reading.
-use Rattle.std.specs.Prelude.{◌≡◌, ℕ, ◌^◌, ◌≤◌, Bool, true, ◌&&◌, nat_le, nat_lt, ◌==◌, if◌then◌else◌, List, [], ◌++◌, length, Option, Some, None, Result, Ok, Err}
+use Rattle.std.specs.Prelude.{◌≡◌, ℕ, ◌^◌, ◌≤◌, Bool, true, not, ◌&&◌, nat_le, nat_lt, ◌==◌, if◌then◌else◌, List, [], ◌++◌, length, Option, Some, None, Result, Ok, Err}
 use Rattle.std.specs.List.{flat_map, AllByRecursion}
 use Rattle.std.specs.Int.{w32, w64}
 use Rattle.hk_types.specs.declared.faults.FormFault.{FormFault}
-use Rattle.hk_types.specs.declared.faults.FormFault.TheVariants.{BadKind, BadCount, WrongLength}
+use Rattle.hk_types.specs.declared.faults.FormFault.TheVariants.{BadKind, BadNumber, BadCount, WrongLength}
 use Rattle.hk_log.specs.declared.item.Item.{Item}
 use Rattle.hk_model.specs.declared.query.Query.{Query}
 use Rattle.hk_codec.specs.Fields.{◌>>=◌, number, number_at, bytes_at, list_at}
@@ -14,6 +14,7 @@ use Rattle.hk_wire.specs.declared.request.Request.{Request}
 use Rattle.hk_wire.specs.declared.request.Request.TheVariants as asked
 use Rattle.hk_wire.specs.Readers.{Reader, both, barred, made, nothing, listed, time_at}
 use Rattle.hk_wire.specs.Messages.{message_text, message_at}
+use Rattle.hk_wire.specs.Fragments.{FragmentTold, fragment_seen, fragment_text, fragment_at, FragmentFits, is_counted}
 use Rattle.hk_wire.specs.Queries.{query_text, query_at, QueryFits}
 
 -- the value of a `Request`
@@ -23,6 +24,8 @@ pub data RequestValue : Type 0 where
   Delta : ℕ → RequestValue
   Full : RequestValue
   Ask : ℕ → Query → RequestValue
+  JoinThis : FragmentTold → RequestValue
+  MergeThis : FragmentTold → RequestValue
   Prune : ℕ → RequestValue
 
 -- the value that a `Request` has
@@ -32,6 +35,8 @@ request_seen asked.Front = Front
 request_seen (asked.Delta base) = Delta base
 request_seen asked.Full = Full
 request_seen (asked.Ask t query) = Ask t query
+request_seen (asked.JoinThis fragment) = JoinThis (fragment_seen fragment)
+request_seen (asked.MergeThis fragment) = MergeThis (fragment_seen fragment)
 request_seen (asked.Prune horizon) = Prune horizon
 
 -- the kind byte of a request
@@ -41,6 +46,8 @@ request_kind Front = 17
 request_kind (Delta base) = 18
 request_kind Full = 19
 request_kind (Ask t query) = 20
+request_kind (JoinThis fragment) = 21
+request_kind (MergeThis fragment) = 22
 request_kind (Prune horizon) = 23
 
 -- its body
@@ -50,6 +57,8 @@ request_body Front = []
 request_body (Delta base) = number w64 base
 request_body Full = []
 request_body (Ask t query) = number w64 t ++ query_text query
+request_body (JoinThis fragment) = fragment_text fragment
+request_body (MergeThis fragment) = fragment_text fragment
 request_body (Prune horizon) = number w64 horizon
 
 -- the rest of its frame
@@ -67,6 +76,8 @@ keeps_rules Front = true
 keeps_rules (Delta base) = true
 keeps_rules Full = true
 keeps_rules (Ask t query) = true
+keeps_rules (JoinThis fragment) = is_counted fragment
+keeps_rules (MergeThis fragment) = (fragment.base == 0) && is_counted fragment
 keeps_rules (Prune horizon) = true
 
 -- whether a request has a spelling: it keeps its rules, and its rest has at most 2^28 bytes
@@ -80,6 +91,8 @@ RequestFits Front = Unit {0}
 RequestFits (Delta base) = base ≤ 2 ^ 62
 RequestFits Full = Unit {0}
 RequestFits (Ask t query) = (t ≤ 2 ^ 62) × QueryFits query
+RequestFits (JoinThis fragment) = FragmentFits fragment
+RequestFits (MergeThis fragment) = FragmentFits fragment
 RequestFits (Prune horizon) = horizon ≤ 2 ^ 62
 
 -- what has a spelling
@@ -111,6 +124,10 @@ item_frames_at count before bytes = list_at no_place (λ _. item_frame_at) count
 unfoldable pub items_at : Reader (List Item)
 items_at bytes = listed item_count_at no_place (λ _. item_frame_at) bytes
 
+-- a fragment of base 0
+unfoldable pub whole_at : Reader FragmentTold
+whole_at bytes = barred fragment_at (λ fragment. not (fragment.base == 0)) BadNumber bytes
+
 -- the body of a kind
 unfoldable pub request_of : ℕ → Reader RequestValue
 request_of kind bytes =
@@ -119,6 +136,8 @@ request_of kind bytes =
     else if kind == 18 then made (λ base. Delta base) time_at bytes
     else if kind == 19 then nothing Full bytes
     else if kind == 20 then made (λ p. Ask p.0 p.1) (both time_at query_at) bytes
+    else if kind == 21 then made (λ fragment. JoinThis fragment) fragment_at bytes
+    else if kind == 22 then made (λ fragment. MergeThis fragment) whole_at bytes
     else if kind == 23 then made (λ horizon. Prune horizon) time_at bytes
     else Err BadKind
 

@@ -8,10 +8,11 @@ ghost use Rattle.hk_codec.specs.Fields.{number};
 ghost use Rattle.hk_wire.specs.Messages.{message_text};
 ghost use Rattle.hk_wire.specs.Requests as requests;
 
+use crate::fragment_encoding::{fragment_len, is_counted, put_fragment};
 use crate::head::{MOST_REST_BYTES, VERSION};
 use crate::items::{MOST_ITEMS, items_len, put_items};
 use crate::query::{put_query, query_len};
-use crate::request::{ASK, DELTA, FRONT, FULL, ITEMS, PRUNE, Request};
+use crate::request::{ASK, DELTA, FRONT, FULL, ITEMS, JOIN_THIS, MERGE_THIS, PRUNE, Request};
 use hk_codec::{put_u32, put_u64};
 use hk_types::{FormFault, Refusal};
 use std::alloc::AllocError;
@@ -35,12 +36,14 @@ fn keeps_rules(request: &Request) -> bool
 {
     match request {
         Request::Items(items) => items.len() <= MOST_ITEMS,
+        Request::JoinThis(fragment) => is_counted(fragment),
+        Request::MergeThis(fragment) => fragment.base().number() == 0 && is_counted(fragment),
         _ => true,
     }
 }
 
 /// How many bytes the rest of the frame of a request that keeps its rules has.
-#[tactic(auto, using(crate::proofs::Lengths::items_rest_len, crate::proofs::Lengths::front_len, crate::proofs::Lengths::delta_len, crate::proofs::Lengths::full_len, crate::proofs::Lengths::ask_len, crate::proofs::Lengths::prune_len))]
+#[tactic(auto, using(crate::proofs::Lengths::items_rest_len, crate::proofs::Lengths::front_len, crate::proofs::Lengths::delta_len, crate::proofs::Lengths::full_len, crate::proofs::Lengths::ask_len, crate::proofs::Lengths::prune_len, crate::proofs::Lengths::join_this_len, crate::proofs::Lengths::merge_this_len))]
 fn rest_len(request: &Request) -> u64
     requires { requests.keeps_rules (requests.request_seen request.now) ≡ true }
     ensures { result ≡ length (requests.request_rest (requests.request_seen request.now)) }
@@ -50,6 +53,7 @@ fn rest_len(request: &Request) -> u64
         Request::Front | Request::Full => 2,
         Request::Delta { base: _ } => 10,
         Request::Ask { t: _, query } => 10 + query_len(query) as u64,
+        Request::JoinThis(fragment) | Request::MergeThis(fragment) => 2 + fragment_len(fragment),
         Request::Prune { horizon: _ } => 10,
     }
 }
@@ -93,6 +97,14 @@ fn put_request(out: &mut Vec<u8>, request: &Request, rest: u32) -> Result<(), Al
             put_u64(out, t.number())?;
             put_query(out, query)
         }
+        Request::JoinThis(fragment) => {
+            put_head(out, rest, JOIN_THIS)?;
+            put_fragment(out, fragment)
+        }
+        Request::MergeThis(fragment) => {
+            put_head(out, rest, MERGE_THIS)?;
+            put_fragment(out, fragment)
+        }
         Request::Prune { horizon } => {
             put_head(out, rest, PRUNE)?;
             put_u64(out, horizon.number())
@@ -101,9 +113,10 @@ fn put_request(out: &mut Vec<u8>, request: &Request, rest: u32) -> Result<(), Al
 }
 
 /// Adds a request's one spelling at the end. A request without a spelling is refused `Form(TooLong)`: more
-/// than 65,536 items, and a rest of more than 2^28 bytes. After that comes `Memory`. On a refusal the output is as before. The
-/// whole frame is reserved at once; the cost is one growth of the output at most and two passes over the
-/// request, one that counts its bytes and one that writes them.
+/// than 65,536 items, a fragment with more than 2^32 - 1 of a counted thing, a fragment to merge whose base is
+/// not 0, and a rest of more than 2^28 bytes. After that comes `Memory`. On a refusal the output is as before.
+/// The whole frame is reserved at once; the cost is one growth of the output at most and three passes over the
+/// request: one that tests it, one that counts its bytes and one that writes them.
 pub fn encode_request(request: &Request, out: &mut Vec<u8>) -> Result<(), Refusal>
     ensures ok { OnOk result ((requests.has_spelling (requests.request_seen request.now) ≡ true) × (out.new.items ≡ out.old.items ++ requests.request_text (requests.request_seen request.now))) }
     ensures err { OnErr result (out.new.items ≡ out.old.items) }

@@ -5,14 +5,13 @@
 //! and `encode_reply` add at the end of bytes. A `RequestFeeder` and a `ReplyFeeder` read the messages of a
 //! stream that comes in any pieces, and give exactly those whose spellings the bytes begin with, and the first
 //! fault of what follows them.
-//!
-//! Fragments are not sent yet: the requests to join and to merge one, kinds 21 and 22, and the reply that hands
-//! one out, kind 34, are missing, and their kinds are read as `BadKind`.
 #![tactic(auto)]
 
 mod answer;
 mod encoding;
 mod feeder;
+mod fragment_encoding;
+mod fragment_reading;
 mod head;
 mod items;
 mod laws;

@@ -4,20 +4,24 @@ ghost use Rattle.hk_codec.specs.Fields.{Gives, GivesOrRunsOut};
 ghost use Rattle.hk_wire.specs.Replies as spec;
 
 use crate::answer::read_answer;
+use crate::fragment_reading::read_fragment;
 use crate::head::{read_end, read_head, read_time};
 use crate::refusal::read_refusal;
 use hk_codec::{Cursor, Framed, ReadError};
+use hk_delta::Fragment;
 use hk_model::{Answer, Front};
 use hk_types::{FormFault, LAST_TIME, Refusal};
 use std::alloc::Global;
 
 /// What a replica replies.
-#[derive(Debug, PartialEq, Eq, Drop)]
+#[derive(Drop)]
 pub enum Reply {
     /// The change took effect; the replica has had so many operations, 1 to 2^62.
     Done { ops: u64 },
     /// From where to where the replica can be read.
     Front(Front),
+    /// A part of what the replica holds, or all of it.
+    Fragment(Fragment),
     /// The answer to a query.
     Answer(Answer),
     /// Why nothing happened.
@@ -28,6 +32,8 @@ pub enum Reply {
 pub(crate) const DONE: u8 = 32;
 
 pub(crate) const FRONT: u8 = 33;
+
+pub(crate) const FRAGMENT: u8 = 34;
 
 pub(crate) const ANSWER: u8 = 35;
 
@@ -71,6 +77,10 @@ fn read_body(alloc: Global, cursor: &mut Cursor, kind: u8) -> Result<Reply, Read
         FRONT => {
             let front = read_front(cursor)?;
             Ok(Reply::Front(front))
+        }
+        FRAGMENT => {
+            let fragment = read_fragment(alloc, cursor)?;
+            Ok(Reply::Fragment(fragment))
         }
         ANSWER => {
             let answer = read_answer(alloc, cursor)?;

@@ -7,9 +7,10 @@ ghost use Rattle.hk_wire.specs.Replies as replies;
 
 use crate::answer::{answer_len, keeps_answer_rules, put_answer};
 use crate::encoding::put_head;
+use crate::fragment_encoding::{fragment_len, is_counted, put_fragment};
 use crate::head::MOST_REST_BYTES;
 use crate::refusal::{is_sent, put_refusal};
-use crate::reply::{ANSWER, DONE, FRONT, REFUSED, Reply};
+use crate::reply::{ANSWER, DONE, FRAGMENT, FRONT, REFUSED, Reply};
 use hk_codec::put_u64;
 use hk_types::{FormFault, LAST_TIME, Refusal};
 use std::alloc::AllocError;
@@ -21,13 +22,14 @@ fn keeps_rules(reply: &Reply) -> bool
     match reply {
         Reply::Done { ops } => 0 < *ops && *ops <= LAST_TIME,
         Reply::Front(front) => front.horizon.number() <= front.readable.number(),
+        Reply::Fragment(fragment) => is_counted(fragment),
         Reply::Answer(answer) => keeps_answer_rules(answer),
         Reply::Refused(why) => is_sent(*why),
     }
 }
 
 /// How many bytes the rest of the frame of a reply that keeps its rules has.
-#[tactic(auto, using(crate::proofs::Lengths::done_len, crate::proofs::Lengths::told_len, crate::proofs::Lengths::answer_rest_len, crate::proofs::Lengths::refused_len))]
+#[tactic(auto, using(crate::proofs::Lengths::done_len, crate::proofs::Lengths::told_len, crate::proofs::Lengths::fragment_rest_len, crate::proofs::Lengths::answer_rest_len, crate::proofs::Lengths::refused_len))]
 fn rest_len(reply: &Reply) -> u64
     requires { replies.keeps_rules (replies.reply_seen reply.now) ≡ true }
     ensures { result ≡ length (replies.reply_rest (replies.reply_seen reply.now)) }
@@ -35,6 +37,7 @@ fn rest_len(reply: &Reply) -> u64
     match reply {
         Reply::Done { ops: _ } => 10,
         Reply::Front(_front) => 18,
+        Reply::Fragment(fragment) => 2 + fragment_len(fragment),
         Reply::Answer(answer) => 2 + answer_len(answer),
         Reply::Refused(_why) => 19,
     }
@@ -72,6 +75,10 @@ fn put_reply(out: &mut Vec<u8>, reply: &Reply, rest: u32) -> Result<(), AllocErr
             put_u64(out, front.horizon.number())?;
             put_u64(out, front.readable.number())
         }
+        Reply::Fragment(fragment) => {
+            put_head(out, rest, FRAGMENT)?;
+            put_fragment(out, fragment)
+        }
         Reply::Answer(answer) => {
             put_head(out, rest, ANSWER)?;
             put_answer(out, answer)
@@ -84,9 +91,10 @@ fn put_reply(out: &mut Vec<u8>, reply: &Reply, rest: u32) -> Result<(), AllocErr
 }
 
 /// Adds a reply's one spelling at the end. A reply without a spelling is refused `Form(TooLong)`: a number of
-/// operations that is 0 or above 2^62, a horizon above the readable mark, rows whose keys do not rise
-/// strictly, a refusal of a transaction, and a rest of more than 2^28 bytes. After that comes `Memory`. On a refusal the output is as before. The whole
-/// frame is reserved at once; the cost is one growth of the output at most and two passes over the reply, one
+/// operations that is 0 or above 2^62, a horizon above the readable mark, a fragment with more than 2^32 - 1 of
+/// a counted thing, rows whose keys do not rise strictly, a refusal of a transaction, and a rest of more than
+/// 2^28 bytes. After that comes `Memory`. On a refusal the output is as before. The whole frame is reserved at
+/// once; the cost is one growth of the output at most and three passes over the reply: one that tests it, one
 /// that counts its bytes and one that writes them.
 pub fn encode_reply(reply: &Reply, out: &mut Vec<u8>) -> Result<(), Refusal>
     ensures ok { OnOk result ((replies.has_spelling (replies.reply_seen reply.now) ≡ true) × (out.new.items ≡ out.old.items ++ replies.reply_text (replies.reply_seen reply.now))) }

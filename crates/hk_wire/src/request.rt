@@ -3,17 +3,19 @@
 ghost use Rattle.hk_codec.specs.Fields.{GivesOrRunsOut};
 ghost use Rattle.hk_wire.specs.Requests as spec;
 
+use crate::fragment_reading::{read_fragment, read_whole};
 use crate::head::{read_end, read_head, read_time};
 use crate::items::read_items;
 use crate::query::read_query;
 use hk_codec::{Cursor, Framed, ReadError};
+use hk_delta::Fragment;
 use hk_log::Item;
 use hk_model::Query;
 use hk_types::{FormFault, Time};
 use std::alloc::Global;
 
 /// What a replica is asked.
-#[derive(Debug, PartialEq, Eq, Drop)]
+#[derive(Drop)]
 pub enum Request {
     /// To take items, at most 65,536.
     Items(Vec<Item>),
@@ -25,6 +27,10 @@ pub enum Request {
     Full,
     /// The answer to a query at a time.
     Ask { t: Time, query: Query },
+    /// To take a fragment.
+    JoinThis(Fragment),
+    /// To take a whole: a fragment of base 0.
+    MergeThis(Fragment),
     /// To forget what no one reads from a horizon on.
     Prune { horizon: Time },
 }
@@ -39,6 +45,10 @@ pub(crate) const DELTA: u8 = 18;
 pub(crate) const FULL: u8 = 19;
 
 pub(crate) const ASK: u8 = 20;
+
+pub(crate) const JOIN_THIS: u8 = 21;
+
+pub(crate) const MERGE_THIS: u8 = 22;
 
 pub(crate) const PRUNE: u8 = 23;
 
@@ -62,6 +72,14 @@ fn read_body(alloc: Global, cursor: &mut Cursor, kind: u8) -> Result<Request, Re
             let t = read_time(cursor)?;
             let query = read_query(cursor)?;
             Ok(Request::Ask { t, query })
+        }
+        JOIN_THIS => {
+            let fragment = read_fragment(alloc, cursor)?;
+            Ok(Request::JoinThis(fragment))
+        }
+        MERGE_THIS => {
+            let fragment = read_whole(alloc, cursor)?;
+            Ok(Request::MergeThis(fragment))
         }
         PRUNE => {
             let horizon = read_time(cursor)?;

@@ -97,8 +97,8 @@ fn request(alloc: Global, which: usize) -> Result<Request, Fail> {
     }
 }
 
-/// The requests of bytes that come in two pieces.
-fn fed(alloc: Global, bytes: &[u8], cut: usize) -> Result<Vec<Request>, Fail> {
+/// The requests of bytes that come in two pieces, spelled again.
+pub(super) fn fed(alloc: Global, bytes: &[u8], cut: usize) -> Result<Vec<u8>, Fail> {
     let cut = cut.min(bytes.len());
     let (first, second) = bytes.split_at(cut);
     let mut feeder = RequestFeeder::new(alloc);
@@ -106,7 +106,11 @@ fn fed(alloc: Global, bytes: &[u8], cut: usize) -> Result<Vec<Request>, Fail> {
     feeder.feed(first, &mut requests)?;
     feeder.feed(second, &mut requests)?;
     feeder.finish()?;
-    Ok(requests)
+    let mut again = Vec::new(alloc);
+    for request in &requests {
+        encode_request(request, &mut again)?;
+    }
+    Ok(again)
 }
 
 #[test]
@@ -117,10 +121,9 @@ fn spells_and_reads_each_request_cut_anywhere(rt: HostRuntime) -> Result<(), Fai
         let mut bytes = Vec::new(alloc);
         encode_request(&request(alloc, which)?, &mut bytes)?;
         assert!(rt; bytes == want, "request {which}");
-        let requests = vec![in alloc; request(alloc, which)?]?;
         for cut in 0..want.len() {
             assert!(rt;
-                fed(alloc, &want, cut)? == requests,
+                fed(alloc, &want, cut)? == want,
                 "request {which} cut at {cut}"
             );
         }
@@ -185,8 +188,8 @@ fn reply(alloc: Global, which: usize) -> Result<Reply, Fail> {
     }
 }
 
-/// The replies of bytes that come in two pieces.
-fn heard(alloc: Global, bytes: &[u8], cut: usize) -> Result<Vec<Reply>, Fail> {
+/// The replies of bytes that come in two pieces, spelled again.
+pub(super) fn heard(alloc: Global, bytes: &[u8], cut: usize) -> Result<Vec<u8>, Fail> {
     let cut = cut.min(bytes.len());
     let (first, second) = bytes.split_at(cut);
     let mut feeder = ReplyFeeder::new(alloc);
@@ -194,7 +197,11 @@ fn heard(alloc: Global, bytes: &[u8], cut: usize) -> Result<Vec<Reply>, Fail> {
     feeder.feed(first, &mut replies)?;
     feeder.feed(second, &mut replies)?;
     feeder.finish()?;
-    Ok(replies)
+    let mut again = Vec::new(alloc);
+    for reply in &replies {
+        encode_reply(reply, &mut again)?;
+    }
+    Ok(again)
 }
 
 #[test]
@@ -205,10 +212,9 @@ fn spells_and_reads_each_reply_cut_anywhere(rt: HostRuntime) -> Result<(), Fail>
         let mut bytes = Vec::new(alloc);
         encode_reply(&reply(alloc, which)?, &mut bytes)?;
         assert!(rt; bytes == want, "reply {which}");
-        let replies = vec![in alloc; reply(alloc, which)?]?;
         for cut in 0..want.len() {
             assert!(rt;
-                heard(alloc, &want, cut)? == replies,
+                heard(alloc, &want, cut)? == want,
                 "reply {which} cut at {cut}"
             );
         }

@@ -1,0 +1,11 @@
+use Rattle.std.proofs.Common.{◌≡◌, ◌++◌, ℕ, length, map}
+use Rattle.std.specs.Int.{w32, w64}
+use Rattle.std.specs.List.{flat_map}
+use Rattle.std.specs.Map.Iter.{deref}
+use Rattle.hk_codec.specs.Fields.{number}
+use Rattle.hk_model.specs.Streams.{stream_at}
+use Rattle.hk_wire.specs.Fragments as spec
+use Rattle.hk_wire.proofs.fragment_encoding.put_extras.Given as goal
+
+abbrev pub invariant-loop-number : goal.invariant-loop-number
+invariant-loop-number l = l.out.items ≡ l.fn.out.items ++ (number w32 (length (spec.stream_seen (stream_at l.fn.got l.fn.s)).extra) ++ flat_map (number w64) (map (deref {X = ℕ}) l.yielded))
