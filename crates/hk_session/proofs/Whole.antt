@@ -17,7 +17,7 @@ use Rattle.hk_wire.specs.Fragments.{number_follows, extra_at, waiting_count_at, 
 use Rattle.hk_wire.specs.Messages.{head_at as message_head_at, message_at}
 use Rattle.hk_wire.specs.Queries.{query_of, query_at}
 use Rattle.hk_wire.specs.declared.request.Request.{Request}
-use Rattle.hk_wire.specs.Requests.{frame_taken, item_frame_at, item_count_at, no_place, items_at, request_of, request_at, ReadsRequests}
+use Rattle.hk_wire.specs.Requests.{frame_taken, item_frame_at, item_count_at, no_place, items_at, whole_at, request_of, request_at, ReadsRequests}
 
 -- is the fault another one
 abbrev pub is_other : FormFault → Bool
@@ -296,6 +296,10 @@ pub items_whole : Whole items_at
 unfolding items_at item_count_at
 items_whole bytes = listed_whole item_count_at no_place (λ _. item_frame_at) (barred_whole (number_at w32) (λ count. ltb 65536 count) BadCount refl (number_whole w32)) (λ _. item_frame_whole) bytes
 
+whole_whole : Whole whole_at
+unfolding whole_at
+whole_whole bytes = barred_whole fragment_at (λ f. not (eqb f.base 0)) BadNumber refl fragment_whole bytes
+
 pub of_kind_whole : (kind : ℕ) → Whole (request_of kind)
 unfolding request_of
 of_kind_whole kind bytes =
@@ -304,7 +308,9 @@ of_kind_whole kind bytes =
     (cond_whole (eqb kind 18) _ _ (made_whole _ time_at time_whole bytes)
     (cond_whole (eqb kind 19) _ _ refl
     (cond_whole (eqb kind 20) _ _ (made_whole _ (both time_at query_at) (both_whole time_at query_at time_whole query_whole) bytes)
-    (cond_whole (eqb kind 23) _ _ (made_whole _ time_at time_whole bytes) refl)))))
+    (cond_whole (eqb kind 21) _ _ (made_whole _ fragment_at fragment_whole bytes)
+    (cond_whole (eqb kind 22) _ _ (made_whole _ whole_at whole_whole bytes)
+    (cond_whole (eqb kind 23) _ _ (made_whole _ time_at time_whole bytes) refl)))))))
 
 pub message_head_whole : Whole message_head_at
 unfolding message_head_at

@@ -1,16 +1,17 @@
 -- What a host over a state answers, and what state it is left in.
-use Rattle.std.specs.Prelude.{◌≡◌, ◌⊎◌, ◌+◌, ◌^◌, length, nat_lt, if◌then◌else◌, Result, Ok, Err}
+use Rattle.std.specs.Prelude.{ℕ, ◌≡◌, ◌⊎◌, ◌+◌, ◌^◌, length, nat_lt, if◌then◌else◌, Result, Ok, Err}
 use Rattle.hk_types.specs.Values.{ConfigValue}
 use Rattle.hk_types.specs.declared.faults.Refusal.{Refusal}
 use Rattle.hk_types.specs.declared.faults.Refusal.TheVariants as refusals
 use Rattle.hk_model.specs.Answers.{AnswerValue, reply}
 use Rattle.hk_model.specs.Content.{Content, readable}
-use Rattle.hk_model.specs.Fragments.{FragmentValue}
+use Rattle.hk_model.specs.Fragments.{FragmentValue, cut}
 use Rattle.hk_model.specs.Rules.{gathered, joined, pruned}
 use Rattle.hk_wire.specs.declared.reply.Reply.{Reply}
 use Rattle.hk_wire.specs.declared.request.Request.{Request}
 use Rattle.hk_wire.specs.declared.request.Request.TheVariants as asked
-use Rattle.hk_wire.specs.Replies.{ReplyValue, Done, Front, Answer, Refused, reply_seen}
+use Rattle.hk_wire.specs.Fragments.{fragment_seen}
+use Rattle.hk_wire.specs.Replies.{ReplyValue, Done, Front, Fragment, Answer, Refused, reply_seen}
 use Rattle.hk_session.specs.declared.state_host.StateHost.{StateHost}
 
 -- the log of a content, and how many streams it has
@@ -36,13 +37,24 @@ abbrev pub told : Result AnswerValue Refusal → ReplyValue
 told (Ok a) = Answer a
 told (Err why) = Refused why
 
+-- what a content knows since a time, where its horizon is not above it
+abbrev pub since : Content → ℕ → Result FragmentValue Refusal
+since c base = if nat_lt base c.horizon then Err (refusals.TooOld c.horizon) else Ok (cut c base)
+
+-- a fragment that is handed out, or why there is none
+abbrev pub handed : Result FragmentValue Refusal → ReplyValue
+handed (Ok f) = Fragment (fragment_seen f)
+handed (Err why) = Refused why
+
 -- the reply to a request, and the host after it
 abbrev pub answered : StateHost → Request → ReplyValue × StateHost
 answered h (asked.Items items) = changed h (joined_if h.state (gathered (config_of h.state) items.items))
 answered h asked.Front = (Front h.state.horizon (readable h.state), h)
-answered h (asked.Delta base) = (Refused refusals.Memory, h)
-answered h asked.Full = (Refused refusals.Memory, h)
+answered h (asked.Delta base) = (handed (since h.state base), h)
+answered h asked.Full = (handed (Ok (cut h.state 0)), h)
 answered h (asked.Ask t query) = (told (reply h.state t query), h)
+answered h (asked.JoinThis fragment) = changed h (joined h.state fragment)
+answered h (asked.MergeThis fragment) = changed h (joined h.state fragment)
 answered h (asked.Prune horizon) = changed h (pruned h.state horizon)
 
 -- a host replied and was left so: as it is told, or it refused for want of memory and nothing changed

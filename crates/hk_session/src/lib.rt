@@ -15,8 +15,7 @@ pub use counted::Counted;
 pub use ended::Ended;
 pub use host::Host;
 pub use serving::serve;
-#[cfg(test)]
-use state_host::StateHost;
+pub use state_host::StateHost;
 
 #[cfg(test)]
 mod tests;

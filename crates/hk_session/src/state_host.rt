@@ -5,11 +5,12 @@ ghost use Rattle.hk_types.specs.declared.faults.Refusal.{Refusal};
 ghost use Rattle.hk_types.specs.declared.faults.Refusal.TheVariants.{Memory};
 ghost use Rattle.hk_model.specs.Content.{Content};
 ghost use Rattle.hk_model.specs.Answers.{reply};
-ghost use Rattle.hk_model.specs.Rules.{gathered, pruned};
-ghost use Rattle.hk_session.specs.Steps.{config_of, joined_if, settled, changed, told, IsGiven, Step, Changes};
+ghost use Rattle.hk_model.specs.Fragments.{cut};
+ghost use Rattle.hk_model.specs.Rules.{gathered, joined, pruned};
+ghost use Rattle.hk_session.specs.Steps.{config_of, joined_if, settled, changed, told, since, handed, IsGiven, Step, Changes};
 
 use crate::host::Host;
-use hk_delta::{fragment_of, join};
+use hk_delta::{Fragment, delta_since, fragment_of, join, whole_of};
 use hk_log::Item;
 use hk_model::Query;
 use hk_query::ask;
@@ -86,6 +87,16 @@ impl StateHost {
         self.settle(outcome)
     }
 
+    fn join_this(&mut self, fragment: &Fragment) -> Reply
+        ensures { IsGiven self.old (changed self.old (joined self.old.state fragment.now)) result self.new }
+    {
+        if self.is_full() {
+            return Reply::Refused(Refusal::NodeFull);
+        }
+        let outcome = join(&mut self.state, fragment);
+        self.settle(outcome)
+    }
+
     fn prune(&mut self, horizon: Time) -> Reply
         ensures { IsGiven self.old (changed self.old (pruned self.old.state horizon)) result self.new }
     {
@@ -94,6 +105,24 @@ impl StateHost {
         }
         let outcome = self.state.prune(horizon);
         self.settle(outcome)
+    }
+
+    fn whole(&self) -> Reply
+        ensures { IsGiven self.now (handed (Ok (cut self.now.state 0)), self.now) result self.now }
+    {
+        match whole_of(self.alloc, &self.state) {
+            Ok(fragment) => Reply::Fragment(fragment),
+            Err(why) => Reply::Refused(why),
+        }
+    }
+
+    fn delta(&self, base: Time) -> Reply
+        ensures { IsGiven self.now (handed (since self.now.state base), self.now) result self.now }
+    {
+        match delta_since(self.alloc, &self.state, base) {
+            Ok(fragment) => Reply::Fragment(fragment),
+            Err(why) => Reply::Refused(why),
+        }
     }
 
     fn ask(&self, time: Time, query: &Query) -> Reply
@@ -113,8 +142,10 @@ impl Host for StateHost {
         match request {
             Request::Items(items) => self.take_items(&items),
             Request::Front => Reply::Front(front_of(&self.state)),
-            Request::Delta { base: _ } | Request::Full => Reply::Refused(Refusal::Memory),
+            Request::Delta { base } => self.delta(base),
+            Request::Full => self.whole(),
             Request::Ask { t, query } => self.ask(t, &query),
+            Request::JoinThis(fragment) | Request::MergeThis(fragment) => self.join_this(&fragment),
             Request::Prune { horizon } => self.prune(horizon),
         }
     }

@@ -1,6 +1,7 @@
 //! Sessions whose bytes are written out.
 
 mod devices;
+mod fragments;
 mod hosts;
 mod worked;
 
