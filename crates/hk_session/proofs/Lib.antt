@@ -1,0 +1,4 @@
+pub mod Talking
+pub mod Pieces
+pub mod Whole
+pub mod Settling

@@ -1,0 +1,336 @@
+-- No reader of a request's rest answers that the input ends inside a frame: a feeder alone does, at the end.
+use Rattle.std.proofs.Common.{not, leb, ◌≡◌, ℕ, zero, suc, ◌+◌, ◌^◌, ◌||◌, ◌&&◌, Bool, true, false, cond, eqb, ltb, List, [], ◌∷◌, length, Option, Some, None, Result, Ok, Err, refl, ap}
+use Rattle.std.specs.Int.{Width, w16, w32, w64, byte_len}
+use Rattle.hk_types.specs.declared.version_key.VersionKey.{VersionKey}
+use Rattle.hk_types.specs.declared.faults.FormFault.{FormFault}
+use Rattle.hk_types.specs.declared.faults.FormFault.TheVariants.{Truncated, BadVersion, BadKind, BadStream, BadNumber, BadOrder, BadCount, BadBody, WrongLength}
+use Rattle.hk_log.specs.Items.{end_place, row_place, is_after}
+use Rattle.hk_log.specs.declared.item.Item.{Item}
+use Rattle.hk_codec.specs.Fields.{◌>>=◌, check, byte_at, number_at, bytes_at, body_at, list_at}
+use Rattle.hk_codec.specs.Reading.{end_at, row_at, moment_at, counted_ends_at, counted_rows_at, entry_at, mark_at, HeadValue, head_at, kind_at, item_at}
+use Rattle.hk_codec.specs.Framing.{len_of, rest_at, framed, value_of}
+use Rattle.hk_codec.specs.Frames.{frame_at}
+use Rattle.hk_wire.specs.Readers.{Reader, both, after, barred, made, kinded, listed, counted, time_at}
+use Rattle.hk_wire.specs.Answers.{row_at as value_row_at}
+use Rattle.hk_delta.specs.Parts.{follows, end_stands}
+use Rattle.hk_wire.specs.Fragments.{number_follows, extra_at, waiting_count_at, waiting_at, stream_of, stream_at, version_at, died_at, known_of, fact_at, least_told, no_stream, bounds_at, streams_at, stream_count_at, fragment_head_at, facts_at, fragment_at}
+use Rattle.hk_wire.specs.Messages.{head_at as message_head_at, message_at}
+use Rattle.hk_wire.specs.Queries.{query_of, query_at}
+use Rattle.hk_wire.specs.declared.request.Request.{Request}
+use Rattle.hk_wire.specs.Requests.{frame_taken, item_frame_at, item_count_at, no_place, items_at, whole_at, request_of, request_at, ReadsRequests}
+
+-- is the fault another one
+abbrev pub is_other : FormFault → Bool
+is_other Truncated = false
+is_other fault = true
+
+-- is the fault another one, if there is one
+abbrev pub is_whole : {A : Type 0} → Result A FormFault → Bool
+is_whole (Ok x) = true
+is_whole (Err fault) = is_other fault
+
+-- ---- steps
+
+pub bind_whole : {A B : Type 0} (r : Result A FormFault) (f : A → Result B FormFault) → is_whole r ≡ true → ((x : A) → is_whole (f x) ≡ true) → is_whole (r >>= f) ≡ true
+bind_whole (Ok x) f h k = k x
+bind_whole (Err fault) f h k = h
+
+pub cond_whole : {A : Type 0} (b : Bool) (x y : Result A FormFault) → is_whole x ≡ true → is_whole y ≡ true → is_whole (cond b x y) ≡ true
+cond_whole true x y h k = h
+cond_whole false x y h k = k
+
+pub check_whole : (b : Bool) (fault : FormFault) → is_other fault ≡ true → is_whole (check b fault) ≡ true
+check_whole true fault h = h
+check_whole false fault h = refl
+
+-- ---- readers
+
+abbrev pub Whole : {A : Type 0} → (List ℕ → Result A FormFault) → Type 0
+Whole read = (bytes : List ℕ) → is_whole (read bytes) ≡ true
+
+pub number_whole : (w : Width) → Whole (number_at w)
+unfolding number_at
+number_whole w bytes = cond_whole (ltb (length bytes) (byte_len w)) _ _ refl refl
+
+pub byte_whole : Whole byte_at
+unfolding byte_at
+byte_whole [] = refl
+byte_whole (b ∷ bytes) = refl
+
+pub bytes_whole : (n : ℕ) → Whole (bytes_at n)
+unfolding bytes_at
+bytes_whole n bytes = cond_whole (ltb (length bytes) n) _ _ refl refl
+
+pub body_whole : Whole body_at
+unfolding body_at
+body_whole bytes = bind_whole (number_at w16 bytes) _ (number_whole w16 bytes) (λ len. bind_whole (check (ltb 4096 len.0) BadBody) _ (check_whole (ltb 4096 len.0) BadBody refl) (λ _. bytes_whole len.0 len.1))
+
+pub list_whole : {X P : Type 0} (place : X → P) (one : Option P → Reader X) → ((before : Option P) → Whole (one before)) → (n : ℕ) (before : Option P) → Whole (list_at place one n before)
+unfolding list_at
+list_whole place one h zero before bytes = refl
+list_whole place one h (suc n) before bytes =
+    bind_whole (one before bytes) _ (h before bytes) (λ x. bind_whole (list_at place one n (Some (place x.0)) x.1) _ (list_whole place one h n (Some (place x.0)) x.1) (λ _. refl))
+
+pub both_whole : {A B : Type 0} (a : Reader A) (b : Reader B) → Whole a → Whole b → Whole (both a b)
+both_whole a b h k bytes = bind_whole (a bytes) _ (h bytes) (λ x. bind_whole (b x.1) _ (k x.1) (λ _. refl))
+
+pub after_whole : {A B : Type 0} (a : Reader A) (b : A → Reader B) → Whole a → ((x : A) → Whole (b x)) → Whole (after a b)
+after_whole a b h k bytes = bind_whole (a bytes) _ (h bytes) (λ x. bind_whole (b x.0 x.1) _ (k x.0 x.1) (λ _. refl))
+
+pub barred_whole : {A : Type 0} (a : Reader A) (bad : A → Bool) (fault : FormFault) → is_other fault ≡ true → Whole a → Whole (barred a bad fault)
+barred_whole a bad fault other h bytes = bind_whole (a bytes) _ (h bytes) (λ x. bind_whole (check (bad x.0) fault) _ (check_whole (bad x.0) fault other) (λ _. refl))
+
+pub made_whole : {A B : Type 0} (f : A → B) (r : Reader A) → Whole r → Whole (made f r)
+made_whole f r h bytes = bind_whole (r bytes) _ (h bytes) (λ _. refl)
+
+pub kinded_whole : {A : Type 0} (of : ℕ → Reader A) → ((k : ℕ) → Whole (of k)) → Whole (kinded of)
+kinded_whole of h bytes = bind_whole (byte_at bytes) _ (byte_whole bytes) (λ k. h k.0 k.1)
+
+pub listed_whole : {X P : Type 0} (count_at : Reader ℕ) (place : X → P) (one : Option P → Reader X) → Whole count_at → ((before : Option P) → Whole (one before)) → Whole (listed count_at place one)
+listed_whole count_at place one h k bytes = bind_whole (count_at bytes) _ (h bytes) (λ count. list_whole place one k count.0 None count.1)
+
+pub counted_whole : {X P : Type 0} (place : X → P) (one : Option P → Reader X) → ((before : Option P) → Whole (one before)) → Whole (counted place one)
+counted_whole place one k bytes = listed_whole (number_at w32) place one (number_whole w32) k bytes
+
+pub time_whole : Whole time_at
+unfolding time_at
+time_whole bytes = barred_whole (number_at w64) (λ n. ltb (2 ^ 62) n) BadNumber refl (number_whole w64) bytes
+
+pub framed_whole : {X : Type 0} (least most : ℕ) (read : List ℕ → Result X FormFault) → Whole read → Whole (framed least most read)
+unfolding framed rest_at
+framed_whole least most read h bytes =
+    bind_whole (rest_at least most bytes) _
+    (cond_whole (ltb (length bytes) 4) _ _ refl
+    (cond_whole (ltb most (len_of bytes)) _ _ refl
+    (cond_whole (ltb (len_of bytes) least) _ _ refl
+    (cond_whole (ltb (length bytes) (4 + len_of bytes)) _ _ refl refl))))
+    (value_whole read h)
+  where
+    value_whole : {X : Type 0} (read : List ℕ → Result X FormFault) → Whole read → (rest : Option (List ℕ)) → is_whole (value_of read rest) ≡ true
+    value_whole read h None = refl
+    value_whole read h (Some rest) = bind_whole (read rest) _ (h rest) (λ _. refl)
+
+-- ---- items
+
+pub end_whole : (time : ℕ) (before : Option (ℕ × ℕ)) → Whole (end_at time before)
+unfolding end_at
+end_whole time before bytes =
+    bind_whole (number_at w16 bytes) _ (number_whole w16 bytes) (λ table.
+    bind_whole (number_at w64 table.1) _ (number_whole w64 table.1) (λ key.
+    bind_whole (number_at w64 key.1) _ (number_whole w64 key.1) (λ born.
+    bind_whole (check (cond (is_after before (table.0, key.0)) false true) BadOrder) _ (check_whole _ BadOrder refl) (λ _.
+    bind_whole (check (cond (ltb 0 born.0 && ltb born.0 time) false true) BadNumber) _ (check_whole _ BadNumber refl) (λ _. refl)))))
+
+pub row_whole : (before : Option (ℕ × ℕ)) → Whole (row_at before)
+unfolding row_at
+row_whole before bytes =
+    bind_whole (number_at w16 bytes) _ (number_whole w16 bytes) (λ table.
+    bind_whole (number_at w64 table.1) _ (number_whole w64 table.1) (λ key.
+    bind_whole (check (cond (is_after before (table.0, key.0)) false true) BadOrder) _ (check_whole _ BadOrder refl) (λ _.
+    bind_whole (number_at w32 key.1) _ (number_whole w32 key.1) (λ tag.
+    bind_whole (body_at tag.1) _ (body_whole tag.1) (λ _. refl)))))
+
+pub moment_whole : Whole moment_at
+unfolding moment_at
+moment_whole bytes =
+    bind_whole (number_at w64 bytes) _ (number_whole w64 bytes) (λ number.
+    bind_whole (number_at w64 number.1) _ (number_whole w64 number.1) (λ time.
+    bind_whole (check (ltb number.0 1 || ltb time.0 number.0 || ltb (2 ^ 62) time.0) BadNumber) _ (check_whole _ BadNumber refl) (λ _. refl)))
+
+pub counted_ends_whole : (time : ℕ) → Whole (counted_ends_at time)
+unfolding counted_ends_at
+counted_ends_whole time bytes =
+    bind_whole (number_at w16 bytes) _ (number_whole w16 bytes) (λ count.
+    bind_whole (check (ltb 1024 count.0) BadCount) _ (check_whole _ BadCount refl) (λ _. list_whole end_place (end_at time) (end_whole time) count.0 None count.1))
+
+pub counted_rows_whole : (ends : ℕ) → Whole (counted_rows_at ends)
+unfolding counted_rows_at
+counted_rows_whole ends bytes =
+    bind_whole (number_at w16 bytes) _ (number_whole w16 bytes) (λ count.
+    bind_whole (check (ltb 1024 count.0 || ltb (ends + count.0) 1) BadCount) _ (check_whole _ BadCount refl) (λ _. list_whole row_place row_at row_whole count.0 None count.1))
+
+pub entry_whole : (log stream : ℕ) → Whole (entry_at log stream)
+unfolding entry_at
+entry_whole log stream bytes =
+    bind_whole (moment_at bytes) _ (moment_whole bytes) (λ moment.
+    bind_whole (counted_ends_at moment.0.1 moment.1) _ (counted_ends_whole moment.0.1 moment.1) (λ ends.
+    bind_whole (counted_rows_at (length ends.0) ends.1) _ (counted_rows_whole (length ends.0) ends.1) (λ _. refl)))
+
+pub mark_whole : (log stream : ℕ) → Whole (mark_at log stream)
+unfolding mark_at
+mark_whole log stream bytes =
+    bind_whole (number_at w64 bytes) _ (number_whole w64 bytes) (λ count.
+    bind_whole (number_at w64 count.1) _ (number_whole w64 count.1) (λ upto.
+    bind_whole (check (ltb upto.0 count.0 || ltb (2 ^ 62) upto.0) BadNumber) _ (check_whole _ BadNumber refl) (λ _. refl)))
+
+pub head_whole : Whole head_at
+unfolding head_at
+head_whole bytes =
+    bind_whole (byte_at bytes) _ (byte_whole bytes) (λ version.
+    bind_whole (check (cond (eqb version.0 1) false true) BadVersion) _ (check_whole _ BadVersion refl) (λ _.
+    bind_whole (byte_at version.1) _ (byte_whole version.1) (λ kind.
+    bind_whole (check (cond (eqb kind.0 1 || eqb kind.0 2) false true) BadKind) _ (check_whole _ BadKind refl) (λ _.
+    bind_whole (number_at w64 kind.1) _ (number_whole w64 kind.1) (λ log.
+    bind_whole (number_at w16 log.1) _ (number_whole w16 log.1) (λ stream.
+    bind_whole (check (ltb stream.0 1 || ltb 64 stream.0) BadStream) _ (check_whole _ BadStream refl) (λ _. refl)))))))
+
+pub kind_whole : (head : HeadValue) → Whole (kind_at head)
+unfolding kind_at
+kind_whole head bytes =
+    cond_whole (eqb head.kind 1) _ _
+    (bind_whole (entry_at head.log head.stream bytes) _ (entry_whole head.log head.stream bytes) (λ _. refl))
+    (bind_whole (mark_at head.log head.stream bytes) _ (mark_whole head.log head.stream bytes) (λ _. refl))
+
+pub item_whole : Whole item_at
+unfolding item_at
+item_whole bytes =
+    bind_whole (head_at bytes) _ (head_whole bytes) (λ head.
+    bind_whole (kind_at head.0 head.1) _ (kind_whole head.0 head.1) (λ item.
+    bind_whole (check (ltb 0 (length item.1)) WrongLength) _ (check_whole _ WrongLength refl) (λ _. refl)))
+
+-- ---- fragments
+
+row_value_whole : Whole value_row_at
+unfolding value_row_at
+row_value_whole bytes = made_whole _ (both (number_at w32) body_at) (both_whole (number_at w32) body_at (number_whole w32) body_whole) bytes
+
+extra_whole : (prefix : ℕ) (before : Option ℕ) → Whole (extra_at prefix before)
+unfolding extra_at
+extra_whole prefix before bytes =
+    barred_whole (barred (number_at w64) (λ n. not (number_follows before n)) BadOrder) (λ n. leb n (prefix + 1) || ltb (2 ^ 62) n) BadNumber refl
+    (barred_whole (number_at w64) (λ n. not (number_follows before n)) BadOrder refl (number_whole w64)) bytes
+
+waiting_whole : (prefix : ℕ) (before : Option ℕ) → Whole (waiting_at prefix before)
+unfolding waiting_at
+waiting_whole prefix before bytes =
+    barred_whole (both (waiting_count_at prefix before) time_at) (λ m. ltb m.1 m.0) BadNumber refl
+    (both_whole (waiting_count_at prefix before) time_at
+    (barred_whole (barred (number_at w64) (λ n. not (number_follows before n)) BadOrder) (λ n. leb n prefix) BadNumber refl
+    (barred_whole (number_at w64) (λ n. not (number_follows before n)) BadOrder refl (number_whole w64)))
+    time_whole) bytes
+
+stream_of_whole : (prefix : ℕ) → Whole (stream_of prefix)
+stream_of_whole prefix =
+    both_whole time_at (both (counted (λ n. n) (extra_at prefix)) (counted (λ m. m.0) (waiting_at prefix))) time_whole
+    (both_whole (counted (λ n. n) (extra_at prefix)) (counted (λ m. m.0) (waiting_at prefix))
+    (counted_whole (λ n. n) (extra_at prefix) (extra_whole prefix)) (counted_whole (λ m. m.0) (waiting_at prefix) (waiting_whole prefix)))
+
+stream_whole : Whole stream_at
+unfolding stream_at
+stream_whole bytes = made_whole _ (after time_at stream_of) (after_whole time_at stream_of time_whole stream_of_whole) bytes
+
+version_whole : (before : Option VersionKey) → Whole (version_at before)
+unfolding version_at
+version_whole before bytes =
+    barred_whole (barred (made _ (both (number_at w16) (both (number_at w64) (number_at w64)))) (λ v. not (follows before v)) BadOrder) (λ v. ltb v.born 1 || ltb (2 ^ 62) v.born) BadNumber refl
+    (barred_whole (made _ (both (number_at w16) (both (number_at w64) (number_at w64)))) (λ v. not (follows before v)) BadOrder refl
+    (made_whole _ (both (number_at w16) (both (number_at w64) (number_at w64)))
+    (both_whole (number_at w16) (both (number_at w64) (number_at w64)) (number_whole w16) (both_whole (number_at w64) (number_at w64) (number_whole w64) (number_whole w64))))) bytes
+
+died_whole : (base horizon born : ℕ) → Whole (died_at base horizon born)
+died_whole base horizon born = barred_whole time_at (λ died. not (end_stands base horizon born (Some died))) BadNumber refl time_whole
+
+known_whole : (base horizon born flags : ℕ) → Whole (known_of base horizon born flags)
+unfolding known_of
+known_whole base horizon born flags bytes =
+    cond_whole (eqb flags 2) _ _ (made_whole _ (died_at base horizon born) (died_whole base horizon born) bytes)
+    (cond_whole (leb born base) _ _ refl
+    (cond_whole (eqb flags 1) _ _ (made_whole _ value_row_at row_value_whole bytes)
+    (cond_whole (eqb flags 3) _ _ (made_whole _ (both value_row_at (died_at base horizon born)) (both_whole value_row_at (died_at base horizon born) row_value_whole (died_whole base horizon born)) bytes) refl)))
+
+fact_whole : (base horizon : ℕ) (before : Option VersionKey) → Whole (fact_at base horizon before)
+unfolding fact_at
+fact_whole base horizon before bytes =
+    after_whole (version_at before) (λ v. kinded (known_of base horizon v.born)) (version_whole before) (λ v. kinded_whole (known_of base horizon v.born) (known_whole base horizon v.born)) bytes
+
+bounds_whole : Whole bounds_at
+unfolding bounds_at
+bounds_whole bytes = barred_whole (both time_at time_at) (λ p. not ((eqb p.0 0) || leb p.1 p.0)) BadNumber refl (both_whole time_at time_at time_whole time_whole) bytes
+
+stream_count_whole : Whole stream_count_at
+unfolding stream_count_at
+stream_count_whole bytes = barred_whole (number_at w16) (λ n. ltb n 1 || ltb 64 n) BadStream refl (number_whole w16) bytes
+
+streams_whole : (horizon count : ℕ) → Whole (streams_at horizon count)
+unfolding streams_at
+streams_whole horizon count bytes =
+    barred_whole (list_at no_stream (λ _. stream_at) count None) (λ streams. ltb (least_told streams) horizon) BadNumber refl (list_whole no_stream (λ _. stream_at) (λ _. stream_whole) count None) bytes
+
+fragment_head_whole : Whole fragment_head_at
+fragment_head_whole = both_whole (number_at w64) (both stream_count_at bounds_at) (number_whole w64) (both_whole stream_count_at bounds_at stream_count_whole bounds_whole)
+
+facts_whole : (base horizon : ℕ) → Whole (facts_at base horizon)
+facts_whole base horizon = counted_whole (λ e. e.0) (fact_at base horizon) (fact_whole base horizon)
+
+pub fragment_whole : Whole fragment_at
+unfolding fragment_at
+fragment_whole bytes =
+    made_whole _ (after (after fragment_head_at (λ h. streams_at h.1.1.1 h.1.0)) (λ p. facts_at p.0.1.1.0 p.0.1.1.1))
+    (after_whole (after fragment_head_at (λ h. streams_at h.1.1.1 h.1.0)) (λ p. facts_at p.0.1.1.0 p.0.1.1.1)
+    (after_whole fragment_head_at (λ h. streams_at h.1.1.1 h.1.0) fragment_head_whole (λ h. streams_whole h.1.1.1 h.1.0))
+    (λ p. facts_whole p.0.1.1.0 p.0.1.1.1)) bytes
+
+-- ---- requests
+
+pub query_of_whole : (kind : ℕ) → Whole (query_of kind)
+unfolding query_of
+query_of_whole kind bytes =
+    cond_whole (eqb kind 1) _ _ (made_whole _ (both (number_at w16) (number_at w64)) (both_whole (number_at w16) (number_at w64) (number_whole w16) (number_whole w64)) bytes)
+    (cond_whole (eqb kind 2) _ _ (made_whole _ (both (number_at w16) (both (number_at w64) (number_at w64))) (both_whole (number_at w16) (both (number_at w64) (number_at w64)) (number_whole w16) (both_whole (number_at w64) (number_at w64) (number_whole w64) (number_whole w64))) bytes)
+    (cond_whole (eqb kind 3) _ _ (made_whole _ (both (number_at w16) (number_at w32)) (both_whole (number_at w16) (number_at w32) (number_whole w16) (number_whole w32)) bytes)
+    (cond_whole (eqb kind 4) _ _ (made_whole _ (number_at w16) (number_whole w16) bytes) refl)))
+
+pub query_whole : Whole query_at
+unfolding query_at
+query_whole = kinded_whole query_of query_of_whole
+
+taken_whole : (frame : Option (Item × ℕ)) → Whole (frame_taken frame)
+taken_whole None bytes = refl
+taken_whole (Some frame) bytes = bind_whole (bytes_at frame.1 bytes) _ (bytes_whole frame.1 bytes) (λ _. refl)
+
+pub item_frame_whole : Whole item_frame_at
+unfolding item_frame_at
+item_frame_whole bytes = bind_whole (frame_at bytes) _ (framed_whole 28 4229152 item_at item_whole bytes) (λ frame. taken_whole frame bytes)
+
+pub items_whole : Whole items_at
+unfolding items_at item_count_at
+items_whole bytes = listed_whole item_count_at no_place (λ _. item_frame_at) (barred_whole (number_at w32) (λ count. ltb 65536 count) BadCount refl (number_whole w32)) (λ _. item_frame_whole) bytes
+
+whole_whole : Whole whole_at
+unfolding whole_at
+whole_whole bytes = barred_whole fragment_at (λ f. not (eqb f.base 0)) BadNumber refl fragment_whole bytes
+
+pub of_kind_whole : (kind : ℕ) → Whole (request_of kind)
+unfolding request_of
+of_kind_whole kind bytes =
+    cond_whole (eqb kind 16) _ _ (made_whole _ items_at items_whole bytes)
+    (cond_whole (eqb kind 17) _ _ refl
+    (cond_whole (eqb kind 18) _ _ (made_whole _ time_at time_whole bytes)
+    (cond_whole (eqb kind 19) _ _ refl
+    (cond_whole (eqb kind 20) _ _ (made_whole _ (both time_at query_at) (both_whole time_at query_at time_whole query_whole) bytes)
+    (cond_whole (eqb kind 21) _ _ (made_whole _ fragment_at fragment_whole bytes)
+    (cond_whole (eqb kind 22) _ _ (made_whole _ whole_at whole_whole bytes)
+    (cond_whole (eqb kind 23) _ _ (made_whole _ time_at time_whole bytes) refl)))))))
+
+pub message_head_whole : Whole message_head_at
+unfolding message_head_at
+message_head_whole bytes =
+    bind_whole (byte_at bytes) _ (byte_whole bytes) (λ version.
+    bind_whole (check (cond (eqb version.0 1) false true) BadVersion) _ (check_whole _ BadVersion refl) (λ _. byte_whole version.1))
+
+pub message_whole : {X : Type 0} (body : ℕ → Reader X) → ((kind : ℕ) → Whole (body kind)) → Whole (message_at body)
+unfolding message_at
+message_whole body h bytes =
+    bind_whole (message_head_at bytes) _ (message_head_whole bytes) (λ kind.
+    bind_whole (body kind.0 kind.1) _ (h kind.0 kind.1) (λ x.
+    bind_whole (check (ltb 0 (length x.1)) WrongLength) _ (check_whole _ WrongLength refl) (λ _. refl)))
+
+pub request_whole : Whole request_at
+unfolding request_at
+request_whole = message_whole request_of of_kind_whole
+
+pub never_cut : (text : List ℕ) (qs : List Request) → ReadsRequests text qs (Err Truncated) → ⊥
+never_cut text qs h =
+    let w : is_whole (framed 2 268435456 request_at h.0) ≡ true = framed_whole 2 268435456 request_at request_whole h.0 in
+    let v : is_whole (framed 2 268435456 request_at h.0) ≡ false = ap is_whole h.3 in
+    absurd cc

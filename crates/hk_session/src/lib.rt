@@ -1,0 +1,21 @@
+//! A session: requests are read from a reader, and their replies written to a writer.
+//!
+//! `serve` is the session. Who answers is a `Host`; its `may` says which replies it may give, and the session
+//! promises that what it writes is what the host may answer to what was read.
+#![tactic(auto)]
+
+mod counted;
+mod ended;
+mod host;
+mod sending;
+mod serving;
+mod state_host;
+
+pub use counted::Counted;
+pub use ended::Ended;
+pub use host::Host;
+pub use serving::serve;
+pub use state_host::StateHost;
+
+#[cfg(test)]
+mod tests;

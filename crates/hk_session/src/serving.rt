@@ -1,0 +1,222 @@
+//! A whole session.
+
+ghost use Rattle.std.specs.Prelude.{◌≡◌, ◌≢◌, ◌<◌, ◌≤◌, ◌+◌, ◌-◌, ◌^◌, ◌++◌, ◌⊎◌, ℕ, List, [], Result, Ok, Some, None, min, IfSome, IfNone, IfOk};
+ghost use Rattle.std.specs.Io.KnownBytes.{Appends, Consumes, IsAtEnd};
+ghost use Rattle.hk_types.specs.declared.faults.FormFault.TheVariants as faults;
+ghost use Rattle.hk_wire.specs.declared.request.Request.{Request};
+ghost use Rattle.hk_wire.specs.declared.reply.Reply.{Reply};
+ghost use Rattle.hk_wire.specs.Requests.{ReadsRequests};
+ghost use Rattle.hk_session.specs.declared.ended.Ended.TheVariants as ends;
+ghost use Rattle.hk_session.specs.Talk.{Answers, said, Sends, all_said, fault_met, Refuses, Stops, Spoke, GoesOn, Ends, IsMidway, IsDone, IsStopped, Talk, TalksInPart};
+
+use crate::counted::Counted;
+use crate::ended::Ended;
+use crate::host::Host;
+use crate::sending::send;
+use hk_types::{FormFault, Refusal};
+use hk_wire::{Reply, Request, RequestFeeder};
+use std::alloc::{AllocError, Global};
+use std::io::{Read, Write};
+
+/// Answers one request, and writes the reply. The buffer is for its text.
+fn answer_one<W: Write, H: Host>(
+    request: Request,
+    text: &mut Vec<u8>,
+    writer: &mut Counted<W>,
+    host: &mut H,
+) -> Option<Ended>
+    requires { writer.old.faults ≡ 0 }
+    ensures says { (reply : Reply) × H.may host.old request reply host.new × Sends (said reply) (W.contents writer.old.device) (W.contents writer.new.device) result }
+    ensures quiet { result ≢ Some ends.WriteFault → writer.new.faults ≡ 0 }
+    ensures fault { result ≡ Some ends.WriteFault → 0 < writer.new.faults }
+{
+    let reply = host.answer(request);
+    send(&reply, text, writer)
+}
+
+/// Answers the requests in order, and writes the replies.
+fn answer_all<W: Write, H: Host>(
+    alloc: Global,
+    requests: Vec<Request>,
+    writer: &mut Counted<W>,
+    host: &mut H,
+) -> Option<Ended>
+    requires { writer.old.faults ≡ 0 }
+    ensures all { IfNone result ((replies : List Reply) × Answers H.may host.old requests.items replies host.new
+        × Appends (W.contents writer.old.device) (W.contents writer.new.device) (all_said replies)) }
+    ensures part { IfSome result (Stops H.may host.old host.new (W.contents writer.old.device) (W.contents writer.new.device) requests.items) }
+    ensures quiet { result ≢ Some ends.WriteFault → writer.new.faults ≡ 0 }
+    ensures fault { result ≡ Some ends.WriteFault → 0 < writer.new.faults }
+{
+    let mut text = Vec::new(alloc);
+    let mut rest = requests.into_iter();
+    'requests: loop {
+        match rest.next() {
+            None => return None,
+            Some(request) => {
+                if let Some(ended) = answer_one(request, &mut text, writer, host) {
+                    return Some(ended);
+                }
+            }
+        }
+    }
+}
+
+/// Says which fault the session ends with.
+fn refuse<W: Write>(alloc: Global, fault: FormFault, writer: &mut Counted<W>) -> Ended
+    requires { writer.old.faults ≡ 0 }
+    ensures sends { Refuses fault (W.contents writer.old.device) (W.contents writer.new.device) result }
+    ensures quiet { result ≢ ends.WriteFault → writer.new.faults ≡ 0 }
+    ensures fault { result ≡ ends.WriteFault → 0 < writer.new.faults }
+{
+    let mut text = Vec::new(alloc);
+    match send(&Reply::Refused(Refusal::Form(fault)), &mut text, writer) {
+        None => Ended::Fault(fault),
+        Some(ended) => ended,
+    }
+}
+
+/// Takes the next piece of the stream into an empty list, and gives the fault that follows the requests, if one does.
+fn take_in(
+    feeder: &mut RequestFeeder,
+    piece: &[u8],
+    requests: &mut Vec<Request>,
+) -> Result<Option<FormFault>, AllocError>
+    requires { requests.old.items ≡ [] }
+    ensures reads { (left : List ℕ) → feeder.old ≡ Ok left → IfOk result (λ f. ReadsRequests (left ++ piece.now) requests.new.items feeder.new × (f ≡ fault_met feeder.new)) }
+{
+    match feeder.feed(piece, requests) {
+        Ok(()) => Ok(None),
+        Err(Refusal::Form(fault)) => Ok(Some(fault)),
+        Err(_refusal) => Err(AllocError),
+    }
+}
+
+/// Takes the next piece of the stream, and answers the requests that are whole now. `None` goes on.
+fn hear<W: Write, H: Host>(
+    alloc: Global,
+    piece: &[u8],
+    feeder: &mut RequestFeeder,
+    writer: &mut Counted<W>,
+    host: &mut H,
+) -> Option<Ended>
+    requires quiet { writer.old.faults ≡ 0 }
+    requires open { (left : List ℕ) × (feeder.old ≡ Ok left) }
+    ensures goes_on { (left : List ℕ) → feeder.old ≡ Ok left → IfNone result ((after : List ℕ) × (feeder.new ≡ Ok after)
+        × Spoke H.may host.old host.new (W.contents writer.old.device) (W.contents writer.new.device) (left ++ piece.now) (GoesOn after)) }
+    ensures ends { (left : List ℕ) → feeder.old ≡ Ok left → IfSome result (λ e.
+        Spoke H.may host.old host.new (W.contents writer.old.device) (W.contents writer.new.device) (left ++ piece.now) (Ends e)) }
+    ensures midway { IfSome result IsMidway }
+    ensures quiet { result ≢ Some ends.WriteFault → writer.new.faults ≡ 0 }
+    ensures fault { result ≡ Some ends.WriteFault → 0 < writer.new.faults }
+{
+    let mut requests = Vec::new(alloc);
+    let fault = match take_in(feeder, piece, &mut requests) {
+        Ok(fault) => fault,
+        Err(_e) => return Some(Ended::Memory),
+    };
+    if let Some(ended) = answer_all(alloc, requests, writer, host) {
+        return Some(ended);
+    }
+    match fault {
+        None => None,
+        Some(fault) => Some(refuse(alloc, fault, writer)),
+    }
+}
+
+/// Ends a session whose reader is at its end.
+fn finish<W: Write>(alloc: Global, feeder: RequestFeeder, writer: &mut Counted<W>) -> Ended
+    requires quiet { writer.old.faults ≡ 0 }
+    ensures clean { feeder ≡ Ok [] → (result ≡ ends.Clean) × Appends (W.contents writer.old.device) (W.contents writer.new.device) [] }
+    ensures cut { (left : List ℕ) → feeder ≡ Ok left → left ≢ [] → Refuses faults.Truncated (W.contents writer.old.device) (W.contents writer.new.device) result }
+    ensures quiet { result ≢ ends.WriteFault → writer.new.faults ≡ 0 }
+    ensures fault { result ≡ ends.WriteFault → 0 < writer.new.faults }
+{
+    match feeder.finish() {
+        Err(Refusal::Form(fault)) => refuse(alloc, fault, writer),
+        _ => Ended::Clean,
+    }
+}
+
+/// How often a session reads at most.
+const MOST_READS: u64 = 4_294_967_296;
+
+/// The session, by its parts.
+fn run<R: Read, W: Write, H: Host>(
+    alloc: Global,
+    reader: &mut Counted<R>,
+    writer: &mut Counted<W>,
+    host: &mut H,
+) -> Ended
+    requires reader { reader.old.faults ≡ 0 }
+    requires writer { writer.old.faults ≡ 0 }
+    // The bytes read, and what was done and written for them.
+    ensures talk { (bytes : List ℕ) × Consumes (R.remaining reader.old.device) (R.remaining reader.new.device) bytes
+        × Spoke H.may host.old host.new (W.contents writer.old.device) (W.contents writer.new.device) bytes (Ends result) }
+    // All bytes were read.
+    ensures clean { result ≡ ends.Clean → IsAtEnd (R.remaining reader.new.device) }
+    ensures cut { result ≡ ends.Fault faults.Truncated → IsAtEnd (R.remaining reader.new.device) }
+    // A read failed, or there were as many as a session may have.
+    ensures read_fault { result ≡ ends.ReadFault → (0 < reader.new.faults) ⊎ (reader.new.calls ≡ min (reader.old.calls + 2 ^ 32) (2 ^ 64 - 1)) }
+    ensures write_fault { result ≡ ends.WriteFault → 0 < writer.new.faults }
+    // Else none failed.
+    ensures reads { result ≢ ends.ReadFault → reader.new.faults ≡ 0 }
+    ensures writes { result ≢ ends.WriteFault → writer.new.faults ≡ 0 }
+{
+    let mut feeder = RequestFeeder::new(alloc);
+    let mut buffer = [0; 4096];
+    for _ in 0..MOST_READS {
+        match reader.read(&mut buffer) {
+            Err(_e) => return Ended::ReadFault,
+            Ok(count) => {
+                if count == 0 {
+                    return finish(alloc, feeder, writer);
+                }
+                if let Some(ended) = hear(alloc, &buffer[..count], &mut feeder, writer, host) {
+                    return ended;
+                }
+            }
+        }
+    }
+    Ended::ReadFault
+}
+
+/// Answers the requests that a reader gives, one after the other, and writes the replies.
+///
+/// `Clean` is an end of the input between requests. A form fault, an end inside a frame included, is told by
+/// `Refused` with its number, after the replies to the requests before it, and ends the session. A reply without
+/// a spelling is told as `Refused` with 2. Where memory for the session's own buffers runs out nothing more is
+/// written, and the last requests may stay unanswered. A failed write, or one that takes 0 bytes, ends it, and so
+/// does a failed read, an interrupted one too; so does the read number 2^32.
+///
+/// The host is left as the last request that it answered left it. The cost is that of the answers, a copy of each
+/// reply, and a pass over what is read; 4,096 bytes are read at a time.
+pub fn serve<R: Read, W: Write, H: Host>(
+    alloc: Global,
+    reader: &mut Counted<R>,
+    writer: &mut Counted<W>,
+    host: &mut H,
+) -> Ended
+    requires reader { reader.old.faults ≡ 0 }
+    requires writer { writer.old.faults ≡ 0 }
+    // What was written talks of what was read.
+    ensures whole { IsDone result → (bytes text : List ℕ) × Consumes (R.remaining reader.old.device) (R.remaining reader.new.device) bytes
+        × Appends (W.contents writer.old.device) (W.contents writer.new.device) text × Talk H.may host.old host.new bytes text }
+    // What was written is a front of what talks of a front of what was read: of the requests that were answered.
+    ensures stopped { IsStopped result → (bytes part : List ℕ) × Consumes (R.remaining reader.old.device) (R.remaining reader.new.device) bytes
+        × Appends (W.contents writer.old.device) (W.contents writer.new.device) part × TalksInPart H.may host.old host.new bytes part }
+    // The bytes read, and what was done and written for them.
+    ensures talk { (bytes : List ℕ) × Consumes (R.remaining reader.old.device) (R.remaining reader.new.device) bytes
+        × Spoke H.may host.old host.new (W.contents writer.old.device) (W.contents writer.new.device) bytes (Ends result) }
+    // All bytes were read.
+    ensures clean { result ≡ ends.Clean → IsAtEnd (R.remaining reader.new.device) }
+    ensures cut { result ≡ ends.Fault faults.Truncated → IsAtEnd (R.remaining reader.new.device) }
+    // A read failed, or there were as many as a session may have.
+    ensures read_fault { result ≡ ends.ReadFault → (0 < reader.new.faults) ⊎ (reader.new.calls ≡ min (reader.old.calls + 2 ^ 32) (2 ^ 64 - 1)) }
+    ensures write_fault { result ≡ ends.WriteFault → 0 < writer.new.faults }
+    // Else none failed.
+    ensures reads { result ≢ ends.ReadFault → reader.new.faults ≡ 0 }
+    ensures writes { result ≢ ends.WriteFault → writer.new.faults ≡ 0 }
+{
+    run(alloc, reader, writer, host)
+}

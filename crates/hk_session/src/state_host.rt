@@ -1,0 +1,152 @@
+//! A host over the state of a replica.
+
+ghost use Rattle.std.specs.Prelude.{◌≡◌, ◌⊎◌, ◌<◌, ◌+◌, ◌^◌, ℕ, Ok, Err, Result, nat_lt, MatchResult};
+ghost use Rattle.hk_types.specs.declared.faults.Refusal.{Refusal};
+ghost use Rattle.hk_types.specs.declared.faults.Refusal.TheVariants.{Memory};
+ghost use Rattle.hk_model.specs.Content.{Content};
+ghost use Rattle.hk_model.specs.Answers.{reply};
+ghost use Rattle.hk_model.specs.Fragments.{cut};
+ghost use Rattle.hk_model.specs.Rules.{gathered, joined, pruned};
+ghost use Rattle.hk_session.specs.Steps.{config_of, joined_if, settled, changed, told, since, handed, IsGiven, Step, Changes};
+
+use crate::host::Host;
+use hk_delta::{Fragment, delta_since, fragment_of, join, whole_of};
+use hk_log::Item;
+use hk_model::Query;
+use hk_query::ask;
+use hk_state::{ReplicaState, front_of};
+use hk_types::{Refusal, Time};
+use hk_wire::{Reply, Request};
+use std::alloc::Global;
+
+/// The number of the last operation, 2^62.
+const LAST_OP: u64 = 4_611_686_018_427_387_904;
+
+/// A host over the state of a replica, with the number of its operations. Making it is the first one, and each
+/// change that it accepts is another, also one that leaves the content as it was.
+///
+/// It takes items all or nothing, as one fragment; joins fragments; prunes; and tells what the state holds. A
+/// change is refused `NodeFull` after operation 2^62, before any other test; else each request is refused as the
+/// call on the state is, and `Memory` comes last. A refused request changes nothing. Costs as the calls do.
+#[derive(Drop)]
+pub struct StateHost {
+    alloc: Global,
+    state: ReplicaState,
+    ops: u64,
+}
+
+impl StateHost {
+    /// A host over this state, with one operation.
+    pub fn new(alloc: Global, state: ReplicaState) -> StateHost
+        ensures state { result.state ≡ state }
+        ensures ops { result.ops ≡ 1 }
+    {
+        StateHost {
+            alloc,
+            state,
+            ops: 1,
+        }
+    }
+
+    fn is_full(&self) -> bool
+        ensures { result ≡ nat_lt (2 ^ 62) (self.now.ops + 1) }
+    {
+        self.ops >= LAST_OP
+    }
+
+    /// Counts a change that was accepted.
+    fn settle(&mut self, outcome: Result<(), Refusal>) -> Reply
+        requires { self.old.ops < 2 ^ 62 }
+        ensures { (before : Content) (given : Result Content Refusal) → Changes before self.old.state given outcome
+            → IsGiven (record self.old { state = before }) (settled (record self.old { state = before }) given) result self.new }
+    {
+        match outcome {
+            Ok(()) => {
+                self.ops += 1;
+                Reply::Done { ops: self.ops }
+            }
+            Err(why) => Reply::Refused(why),
+        }
+    }
+
+    fn join_items(&mut self, items: &[Item]) -> Result<(), Refusal>
+        ensures ops { self.new ≡ record self.old { state = self.new.state } }
+        ensures gives { Changes self.old.state self.new.state (joined_if self.old.state (gathered (config_of self.old.state) items.now)) result }
+    {
+        let fragment = fragment_of(self.alloc, self.state.config(), items)?;
+        join(&mut self.state, &fragment)
+    }
+
+    fn take_items(&mut self, items: &[Item]) -> Reply
+        ensures { IsGiven self.old (changed self.old (joined_if self.old.state (gathered (config_of self.old.state) items.now))) result self.new }
+    {
+        if self.is_full() {
+            return Reply::Refused(Refusal::NodeFull);
+        }
+        let outcome = self.join_items(items);
+        self.settle(outcome)
+    }
+
+    fn join_this(&mut self, fragment: &Fragment) -> Reply
+        ensures { IsGiven self.old (changed self.old (joined self.old.state fragment.now)) result self.new }
+    {
+        if self.is_full() {
+            return Reply::Refused(Refusal::NodeFull);
+        }
+        let outcome = join(&mut self.state, fragment);
+        self.settle(outcome)
+    }
+
+    fn prune(&mut self, horizon: Time) -> Reply
+        ensures { IsGiven self.old (changed self.old (pruned self.old.state horizon)) result self.new }
+    {
+        if self.is_full() {
+            return Reply::Refused(Refusal::NodeFull);
+        }
+        let outcome = self.state.prune(horizon);
+        self.settle(outcome)
+    }
+
+    fn whole(&self) -> Reply
+        ensures { IsGiven self.now (handed (Ok (cut self.now.state 0)), self.now) result self.now }
+    {
+        match whole_of(self.alloc, &self.state) {
+            Ok(fragment) => Reply::Fragment(fragment),
+            Err(why) => Reply::Refused(why),
+        }
+    }
+
+    fn delta(&self, base: Time) -> Reply
+        ensures { IsGiven self.now (handed (since self.now.state base), self.now) result self.now }
+    {
+        match delta_since(self.alloc, &self.state, base) {
+            Ok(fragment) => Reply::Fragment(fragment),
+            Err(why) => Reply::Refused(why),
+        }
+    }
+
+    fn ask(&self, time: Time, query: &Query) -> Reply
+        ensures { IsGiven self.now (told (reply self.now.state time query.now), self.now) result self.now }
+    {
+        match ask(self.alloc, &self.state, time, query) {
+            Ok(answer) => Reply::Answer(answer),
+            Err(why) => Reply::Refused(why),
+        }
+    }
+}
+
+impl Host for StateHost {
+    ghost may = { Step };
+
+    fn answer(&mut self, request: Request) -> Reply {
+        match request {
+            Request::Items(items) => self.take_items(&items),
+            Request::Front => Reply::Front(front_of(&self.state)),
+            Request::Delta { base } => self.delta(base),
+            Request::Full => self.whole(),
+            Request::Ask { t, query } => self.ask(t, &query),
+            Request::JoinThis(fragment) | Request::MergeThis(fragment) => self.join_this(&fragment),
+            Request::Prune { horizon } => self.prune(horizon),
+        }
+    }
+}
