@@ -1,3 +1,4 @@
 pub mod Running
 pub mod Calls
 pub mod Runs
+pub mod Codes

@@ -26,13 +26,12 @@ pub struct World {
 
 impl Model for World {
     ghost use Rattle.std.specs.Prelude.{◌≡◌};
-    ghost use Rattle.std.specs.Coded.{codes};
-    ghost use Rattle.hk_model.specs.Codes.{content_code};
+    ghost use Rattle.hk_laws.specs.Codes.{running_code};
     ghost use Rattle.hk_laws.specs.Running.{Running};
 
     ghost Value = { Running };
 
-    ghost coded = { Prim.hlevel (codes, content_code) };
+    ghost coded = { running_code };
 
     ghost view = { λ a. record { config = a.primary.config; world = record { history = a.primary.history; emitted = a.primary.items; replicas = a.replicas.items } } };
 
