@@ -1,4 +1,6 @@
 //! Worked messages.
 
 mod faults;
+mod fragment_faults;
+mod fragments;
 mod worked;

@@ -29,7 +29,7 @@ pub(super) fn bytes_of(alloc: Global, text: &str) -> Result<Vec<u8>, Fail> {
     Ok(bytes)
 }
 
-fn row(alloc: Global, byte: u8) -> Result<Row, Fail> {
+pub(super) fn row(alloc: Global, byte: u8) -> Result<Row, Fail> {
     let body = Vec::from_slice(alloc, &[byte])?;
     match Row::new(Tag::new(9), body) {
         Ok(row) => Ok(row),
@@ -97,6 +97,15 @@ fn request(alloc: Global, which: usize) -> Result<Request, Fail> {
     }
 }
 
+/// Requests, spelled again.
+fn asked_again(alloc: Global, requests: &[Request]) -> Result<Vec<u8>, Fail> {
+    let mut again = Vec::new(alloc);
+    for request in requests {
+        encode_request(request, &mut again)?;
+    }
+    Ok(again)
+}
+
 /// The requests of bytes that come in two pieces, spelled again.
 pub(super) fn fed(alloc: Global, bytes: &[u8], cut: usize) -> Result<Vec<u8>, Fail> {
     let cut = cut.min(bytes.len());
@@ -106,11 +115,18 @@ pub(super) fn fed(alloc: Global, bytes: &[u8], cut: usize) -> Result<Vec<u8>, Fa
     feeder.feed(first, &mut requests)?;
     feeder.feed(second, &mut requests)?;
     feeder.finish()?;
-    let mut again = Vec::new(alloc);
-    for request in &requests {
-        encode_request(request, &mut again)?;
+    asked_again(alloc, &requests)
+}
+
+/// The requests of bytes that come one by one, spelled again.
+pub(super) fn fed_bytes(alloc: Global, bytes: &[u8]) -> Result<Vec<u8>, Fail> {
+    let mut feeder = RequestFeeder::new(alloc);
+    let mut requests = Vec::new(alloc);
+    for byte in bytes {
+        feeder.feed(&[*byte], &mut requests)?;
     }
-    Ok(again)
+    feeder.finish()?;
+    asked_again(alloc, &requests)
 }
 
 #[test]
@@ -127,6 +143,7 @@ fn spells_and_reads_each_request_cut_anywhere(rt: HostRuntime) -> Result<(), Fai
                 "request {which} cut at {cut}"
             );
         }
+        assert!(rt; fed_bytes(alloc, &want)? == want, "request {which}");
     }
     Ok(())
 }
@@ -188,6 +205,15 @@ fn reply(alloc: Global, which: usize) -> Result<Reply, Fail> {
     }
 }
 
+/// Replies, spelled again.
+fn replied_again(alloc: Global, replies: &[Reply]) -> Result<Vec<u8>, Fail> {
+    let mut again = Vec::new(alloc);
+    for reply in replies {
+        encode_reply(reply, &mut again)?;
+    }
+    Ok(again)
+}
+
 /// The replies of bytes that come in two pieces, spelled again.
 pub(super) fn heard(alloc: Global, bytes: &[u8], cut: usize) -> Result<Vec<u8>, Fail> {
     let cut = cut.min(bytes.len());
@@ -197,11 +223,18 @@ pub(super) fn heard(alloc: Global, bytes: &[u8], cut: usize) -> Result<Vec<u8>, 
     feeder.feed(first, &mut replies)?;
     feeder.feed(second, &mut replies)?;
     feeder.finish()?;
-    let mut again = Vec::new(alloc);
-    for reply in &replies {
-        encode_reply(reply, &mut again)?;
+    replied_again(alloc, &replies)
+}
+
+/// The replies of bytes that come one by one, spelled again.
+pub(super) fn heard_bytes(alloc: Global, bytes: &[u8]) -> Result<Vec<u8>, Fail> {
+    let mut feeder = ReplyFeeder::new(alloc);
+    let mut replies = Vec::new(alloc);
+    for byte in bytes {
+        feeder.feed(&[*byte], &mut replies)?;
     }
-    Ok(again)
+    feeder.finish()?;
+    replied_again(alloc, &replies)
 }
 
 #[test]
@@ -218,6 +251,7 @@ fn spells_and_reads_each_reply_cut_anywhere(rt: HostRuntime) -> Result<(), Fail>
                 "reply {which} cut at {cut}"
             );
         }
+        assert!(rt; heard_bytes(alloc, &want)? == want, "reply {which}");
     }
     Ok(())
 }
