@@ -50,7 +50,8 @@ prints
   mark log 7 stream 1 n 1 m 1
 A fault of the input is printed after the items before it, as 'refused NUMBER'.";
 
-const WORLD_ABOUT: &str = "Play the script of standard input: a primary, and replicas that take its items";
+const WORLD_ABOUT: &str =
+    "Play the script of standard input: a primary, and replicas that take its items";
 
 const WORLD_EXAMPLE: &str = "Example:
   hkrep world < examples/world/half_fed.script
