@@ -11,3 +11,4 @@ pub mod Taking
 pub mod Gathering
 pub mod Standing
 pub mod Putting
+pub mod Telling

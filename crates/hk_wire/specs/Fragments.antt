@@ -1,5 +1,5 @@
 -- Fragments: what their bytes tell, their spelling and their reading.
-use Rattle.std.specs.Prelude.{◌≡◌, ◌⊎◌, ℕ, ◌+◌, ◌^◌, ◌<◌, ◌≤◌, Bool, true, not, ◌&&◌, ◌||◌, max, min, nat_lt, nat_le, ◌==◌, if◌then◌else◌, List, [], ◌∷◌, ◌++◌, length, map, Option, Some, None, Err}
+use Rattle.std.specs.Prelude.{◌≡◌, ◌⊎◌, ℕ, ◌+◌, ◌^◌, ◌<◌, ◌≤◌, Bool, true, false, not, ◌&&◌, ◌||◌, max, min, nat_lt, nat_le, ◌==◌, if◌then◌else◌, List, [], ◌∷◌, ◌++◌, length, map, Option, Some, None, Err}
 use Rattle.std.specs.Int.{w16, w32, w64}
 use Rattle.std.specs.List.{flat_map, AllByRecursion}
 use Rattle.std.specs.Ordering.{nat_cmp}
@@ -62,6 +62,13 @@ fragment_seen f =
       streams = map stream_seen f.content.streams;
       facts = versions_listed f.content;
     }
+
+-- entries are numbered from 1
+abbrev pub IsFromOne : StreamContent → Type 0
+IsFromOne s = set.contains s.taken 0 ≡ false
+
+abbrev pub AreFromOne : FragmentValue → Type 0
+AreFromOne f = AllByRecursion IsFromOne f.content.streams
 
 -- ---- spelling
 

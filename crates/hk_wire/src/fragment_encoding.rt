@@ -4,7 +4,6 @@ ghost use Rattle.std.specs.Prelude.{◌≡◌, ◌≤◌, ◌*◌, ◌++◌, ◌
 ghost use Rattle.std.specs.Int.{w32};
 ghost use Rattle.std.specs.List.{flat_map};
 ghost use Rattle.hk_codec.specs.Fields.{number};
-ghost use Rattle.hk_log.specs.Versions.{VersionValue};
 ghost use Rattle.hk_types.specs.declared.version_key.VersionKey.{VersionKey};
 ghost use Rattle.hk_model.specs.Streams.{stream_at};
 ghost use Rattle.hk_wire.specs.Fragments as spec;

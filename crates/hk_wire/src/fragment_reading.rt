@@ -1,7 +1,7 @@
 //! Fragments, read from the front of bytes.
 
 ghost use Rattle.std.specs.Prelude.{◌≡◌, ◌≤◌, ◌^◌, ◌<◌, ◌-◌, ◌==◌, ◌||◌, nat_le, None, Ok, true, length, map, replicate, slice_set, OnOk, IfOk, IfErr};
-ghost use Rattle.hk_codec.specs.Fields.{Gives, GivesOrRunsOut, Fails, list_at};
+ghost use Rattle.hk_codec.specs.Fields.{Gives, GivesOrRunsOut, Fails};
 ghost use Rattle.hk_model.specs.Streams.{stream_at, unknown};
 ghost use Rattle.hk_model.specs.Content.{least_closed};
 ghost use Rattle.hk_delta.specs.Parts as parts;

@@ -4,6 +4,8 @@ ghost use Rattle.std.specs.Prelude.{◌≡◌, ◌++◌, List, ℕ, Result, Ok};
 ghost use Rattle.hk_types.specs.declared.faults.FormFault.{FormFault};
 ghost use Rattle.hk_wire.specs.declared.request.Request.{Request};
 ghost use Rattle.hk_wire.specs.declared.reply.Reply.{Reply};
+ghost use Rattle.hk_model.specs.Fragments.{FragmentValue};
+ghost use Rattle.hk_wire.specs.Fragments.{AreFromOne, fragment_seen};
 ghost use Rattle.hk_wire.specs.Requests.{RequestValue, IsRequest, request_text, ReadsRequests};
 ghost use Rattle.hk_wire.specs.Replies.{ReplyValue, IsReply, reply_text, ReadsReplies};
 
@@ -25,4 +27,10 @@ pub fn request_pieces_join()
 /// Pieces of replies that are read one after the other are read as the whole is.
 pub fn reply_pieces_join()
     ensures { (text more left : List ℕ) (xs ys : List Reply) (r : Result (List ℕ) FormFault) → ReadsReplies text xs (Ok left) → ReadsReplies (left ++ more) ys r → ReadsReplies (text ++ more) (xs ++ ys) r }
+{}
+
+/// What the bytes of a fragment tell is the whole of it: no two fragments, of which the entries are numbered from
+/// 1, are told alike.
+pub fn one_fragment_told()
+    ensures { (f g : FragmentValue) → AreFromOne f → AreFromOne g → fragment_seen f ≡ fragment_seen g → f ≡ g }
 {}

@@ -24,7 +24,10 @@ mod request;
 
 pub use encoding::encode_request;
 pub use feeder::RequestFeeder;
-pub use laws::{one_reply_spelling, one_request_spelling, reply_pieces_join, request_pieces_join};
+pub use laws::{
+    one_fragment_told, one_reply_spelling, one_request_spelling, reply_pieces_join,
+    request_pieces_join,
+};
 pub use reply::Reply;
 pub use reply_encoding::encode_reply;
 pub use reply_feeder::ReplyFeeder;

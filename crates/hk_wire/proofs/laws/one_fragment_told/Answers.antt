@@ -1,0 +1,5 @@
+use Rattle.hk_wire.proofs.Telling.{fragment_same}
+use Rattle.hk_wire.proofs.laws.one_fragment_told.Goals as goal
+
+pub returns : goal.returns
+returns c = fragment_same
