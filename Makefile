@@ -1,25 +1,37 @@
+# make try    runs the first example without any proof, in about a minute
 # make        proves and builds bin/hkrep
+# make demo   the same, and runs the first example
 # make test   the one test command: every proof from nothing, the must-fail edits, the tests, then the end-to-end checks
-# make demo   runs the first example
+# make compare CASES=100000 SEED=7   that many random cases beside tests/reference.py, once bin/hkrep is built
 # make bench  times the built program (by hand; never part of the gate's verdict)
 
-.PHONY: all test demo bench clean
+.PHONY: all try test demo compare bench clean
+
+CASES = 10000
+SEED = 1
 
 all: bin/hkrep
 
+# what hkrep stands on and no more, each crate by as many processes as there are processors
 bin/hkrep: FORCE
-	cd crates/hkrep && rt check
+	cd crates/hkrep && rt check --jobs $$(nproc)
 	cd crates/hkrep && rt run -- --version > /dev/null
 	mkdir -p bin
 	cp crates/hkrep/out/hkrep bin/hkrep
 
 FORCE:
 
+try:
+	cd crates/hkrep && rt try -- at --log 7 --streams 1 1 1 5 < ../../examples/first.bin
+
 test:
 	tests/all
 
 demo: bin/hkrep
 	bin/hkrep at --log 7 --streams 1 1 1 5 < examples/first.bin
+
+compare:
+	tests/reference.py compare $(CASES) $(SEED)
 
 bench: bin/hkrep
 	bench/run

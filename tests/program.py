@@ -8,6 +8,7 @@ import random
 import subprocess
 import sys
 import tempfile
+import time
 
 ROOT = pathlib.Path(__file__).resolve().parent.parent
 PROGRAM = ROOT / "bin" / "hkrep"
@@ -141,6 +142,75 @@ def bytes_of_all_kinds():
           "".join(f"commit log 7 stream 1 number {n} time {n} ends 0 rows 1\n" for n in range(1, 3001)))
 
 
+# A place of E2, the byte there, and the number that is printed, or 0 where an item is.
+FAULTS_OF_AN_ENTRY = [
+    (0, 1, 2), (3, 27, 10), (3, 0x42, 10), (3, 0x44, 1), (4, 0, 3), (4, 2, 3), (5, 0, 4), (5, 2, 10), (5, 3, 4), (6, 0xff, 0),
+    (14, 1, 5), (15, 0, 5), (15, 64, 0), (15, 65, 5), (23, 0, 6), (23, 1, 0), (23, 3, 6), (24, 0x40, 6), (31, 1, 6), (32, 4, 8),
+    (33, 0, 10), (34, 0xff, 0), (36, 0xff, 0), (44, 0x40, 6), (51, 0, 6), (51, 2, 6), (52, 4, 8), (53, 0, 10), (53, 2, 10),
+    (54, 0xff, 0), (56, 0xff, 0), (64, 0xff, 0), (68, 0x10, 9), (69, 0, 10), (69, 2, 10), (70, 0xff, 0)]
+
+# The same of the mark (1, 2, 2).
+FAULTS_OF_A_MARK = [
+    (0, 1, 2), (3, 27, 10), (3, 29, 1), (4, 0, 3), (4, 2, 3), (5, 0, 4), (5, 1, 10), (5, 3, 4), (13, 0xff, 0), (15, 0, 5),
+    (15, 64, 0), (15, 65, 5), (16, 1, 6), (23, 0, 0), (23, 3, 6), (24, 0x40, 6), (31, 1, 6), (31, 3, 0)]
+
+# The same of an entry with the ends of keys 5 and 7 and rows there: the low bytes of tables, keys and births.
+FAULTS_OF_LISTS = [(61, 4, 7), (61, 5, 7), (61, 6, 0), (53, 0, 7), (69, 2, 6), (35, 2, 7), (97, 4, 7), (97, 5, 7), (97, 6, 0), (89, 0, 7),
+                   (73, 2, 7)]
+
+
+def patched(data, *changes):
+    data = bytearray(data)
+    for at, byte in changes:
+        data[at] = byte
+    return bytes(data)
+
+
+def fault_of(data):
+    """The number of the fault that `items` prints last, or 0."""
+    lines = run(["items"], data).stdout.decode().splitlines()
+    return int(lines[-1].split()[1]) if lines and lines[-1].startswith("refused") else 0
+
+
+def check_faults(name, cases):
+    problems = [f"{what}: {fault_of(data)}, wanted {want}" for what, data, want in cases if fault_of(data) != want]
+    report(name, problems[:5])
+
+
+def faults_of_frames():
+    lists = entry(2, 2, [(1, 5, 9, b""), (1, 7, 9, b"")], [(1, 5, 1), (1, 7, 1)])
+    for name, data, table in (("an entry", E2, FAULTS_OF_AN_ENTRY), ("a mark", mark(1, 2, 2), FAULTS_OF_A_MARK),
+                              ("lists", lists, FAULTS_OF_LISTS)):
+        check_faults(f"each fault of {name}", [(f"byte {at} is {byte}", patched(data, (at, byte)), want) for at, byte, want in table])
+    check_faults("order before birth", [("both", patched(lists, (61, 5), (69, 2)), 7)])
+    check_faults("a byte after a mark", [("one", patched(mark(1, 2, 2), (3, 29)) + b"\0", 10)])
+    of = lambda ends, rows, body: entry(2, 2, [(1, 5 + 2 * k, 9, b"A" * body) for k in range(rows)],
+                                        [(1, 5 + 2 * k, 1) for k in range(ends)])
+    check_faults("counts and bodies", [(f"{ends} ends, {rows} rows of {body} bytes", of(ends, rows, body), want) for ends, rows, body, want in (
+        (0, 0, 0, 8), (1, 0, 0, 0), (0, 1, 0, 0), (0, 1, 4096, 0), (0, 1, 4097, 9), (1024, 1024, 0, 0), (1025, 1, 0, 8), (1, 1025, 0, 8))])
+    check_faults("each cut of an entry", [(f"cut at {end}", E1[:end], 1) for end in range(1, len(E1))])
+    check_faults("numbers and times", [(f"number {n}, time {at}", entry(n, at, [(1, 5, 9, b"")]), want) for n, at, want in (
+        (0, 5, 6), (1, 5, 0), (5, 5, 0), (6, 5, 6), (1, 0, 6), (1, 2 ** 62, 0), (1, 2 ** 62 + 1, 6))])
+    check("the items before a fault are printed", ["items"], E1 + patched(E2, (4, 2)) + E1,
+          "commit log 7 stream 1 number 1 time 1 ends 0 rows 1\nrefused 3\n", 1)
+
+
+def pieces():
+    """What comes in pieces, through a pipe, is read as the whole is."""
+    for args, data, wanted in ((["items"], E1 + mark(1, 1, 1), "commit log 7 stream 1 number 1 time 1 ends 0 rows 1\nmark log 7 stream 1 n 1 m 1\n"),
+                               (["world"], b"world 7 1 1\nfront 1\nfront 1\n", "front horizon 0 readable 0\n" * 2)):
+        problems = []
+        for step in (1, 7):
+            child = subprocess.Popen([str(PROGRAM), *args], stdin=subprocess.PIPE, stdout=subprocess.PIPE, stderr=subprocess.PIPE, bufsize=0)
+            for at in range(0, len(data), step):
+                child.stdin.write(data[at:at + step])
+                time.sleep(0.001)
+            got = child.communicate(timeout=60)[0].decode()
+            if got != wanted:
+                problems.append(f"pieces of {step}: {got!r}")
+        report(f"{args[0]} read in pieces", problems)
+
+
 def deliveries():
     late = E2 + E1 + mark(1, 2, 2)
     check("an end may come before its row: before the end", at(1, 1, 5), late, "9 41\n")
@@ -227,8 +297,14 @@ def refusals():
 
 
 def world_scripts():
-    for script in sorted((ROOT / "examples" / "world").glob("*.script")):
-        check(f"the script {script.stem}", ["world"], script.read_bytes(), script.with_suffix(".out").read_text(), 1)
+    scripts = [*(ROOT / "examples" / "world").glob("*.script"), *(ROOT / "tests" / "scripts").glob("*.script")]
+    for script in sorted(scripts):
+        out = script.with_suffix(".out").read_text()
+        check(f"the script {script.stem}", ["world"], script.read_bytes(), out, 1 if "refused" in out else 0)
+    full = "".join(f"put 1 1 {key} 9 41\n" for key in range(1024))
+    check("a transaction has 1,024 writes", ["world"],
+          f"world 7 1 1\nbegin 1\n{full}put 1 1 1024 9 41\nremove 1 1 1024\nput 1 1 5 9 41\ncommit 1 1\n".encode(),
+          "begun 1 at 0\n" + "ok\n" * 1024 + "refused 33\nrefused 33\nrefused 32\ncommitted 1\n", 1)
     check("no script", ["world"], b"", "")
     check("empty lines alone", ["world"], b"\n\n", "")
     check("a world alone", ["world"], b"world 7 1 1", "")
@@ -377,7 +453,7 @@ def main():
         print(f"FAILED {PROGRAM} is not built")
         print("0 passed, 1 failed")
         return 1
-    for group in (worked_rows, bytes_of_all_kinds, deliveries, generated_histories, refusals, world_scripts, bad_scripts, long_scripts, command_lines, failing_devices, refused_memory):
+    for group in (worked_rows, bytes_of_all_kinds, faults_of_frames, pieces, deliveries, generated_histories, refusals, world_scripts, bad_scripts, long_scripts, command_lines, failing_devices, refused_memory):
         group()
     print(f"{passed} passed, {failed} failed")
     return 1 if failed else 0

@@ -2,7 +2,7 @@
 use Rattle.std.specs.Prelude.{ℕ, List, ◌++◌, codes}
 use Rattle.std.specs.Fmt.{decimal}
 use Rattle.hk_model.specs.Events.{told_seen}
-use Rattle.hk_cli.specs.Lines.{line_end, told_lines}
+use Rattle.hk_lines.specs.Lines.{line_end, told_lines}
 use Rattle.hk_cli.specs.declared.script.Reply.{Reply}
 use Rattle.hk_cli.specs.declared.script.Reply.TheVariants.{Begun, Told}
 

@@ -14,14 +14,14 @@ pub(crate) const SLOTS: usize = 16;
 const MOST_ITEMS: usize = 64;
 
 /// The first line of a script: the log, and how many replicas there are.
-#[derive(Clone, Copy, Debug, PartialEq, Eq)]
+#[derive(Clone, Copy)]
 pub(crate) struct Opening {
     pub(crate) config: Config,
     pub(crate) replicas: u16,
 }
 
 /// A command; slots are counted from 0.
-#[derive(Debug, Drop)]
+#[derive(Drop)]
 pub(crate) enum Command {
     /// A transaction begins in a slot.
     Begin {

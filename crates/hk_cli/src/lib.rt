@@ -5,17 +5,13 @@ mod at;
 mod command;
 mod frames;
 mod items;
-mod line;
 mod output;
-mod reply;
 mod script;
 mod stop;
-#[cfg(test)]
-mod tests;
 mod words;
 mod world;
 
 pub use at::run_at;
+pub use hk_lines::{Printed, line_of};
 pub use items::run_items;
-pub use line::{Printed, line_of};
 pub use world::run_world;

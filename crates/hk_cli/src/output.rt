@@ -2,8 +2,8 @@
 
 ghost use Rattle.std.specs.Prelude.{◌≡◌};
 
-use crate::line::Printed;
 use crate::stop::Stop;
+use hk_lines::Printed;
 use hk_types::Refusal;
 use std::alloc::Global;
 use std::io::Write;

@@ -4,16 +4,16 @@ ghost use Rattle.std.specs.Prelude.{◌≤◌};
 ghost use Rattle.hk_cli.specs.Scripts as spec;
 
 use crate::command::{Command, Opening, SLOTS};
-use crate::line::Printed;
 use crate::words::Unread;
 use hk_laws::World;
+use hk_lines::Printed;
 use hk_model::{Event, Told};
 use hk_primary::Txn;
 use hk_types::{Key, Refusal, Row, StreamNo, Table, Time};
 use std::alloc::{AllocError, Global};
 
 /// What a command is told.
-#[derive(Debug, Drop)]
+#[derive(Drop)]
 pub(crate) enum Reply {
     /// A transaction that reads at a time began in a slot, which is counted from 1.
     Begun { slot: usize, at: Time },

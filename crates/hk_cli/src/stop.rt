@@ -8,7 +8,7 @@ use hk_types::{FormFault, Refusal};
 use std::alloc::AllocError;
 
 /// Why a command stops.
-#[derive(Clone, Copy, Debug, PartialEq, Eq)]
+#[derive(Clone, Copy)]
 pub(crate) enum Stop {
     /// A fault of the input, or a refusal, want of memory included.
     Refused(Refusal),

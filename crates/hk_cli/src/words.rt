@@ -10,7 +10,7 @@ use std::alloc::{AllocError, Global};
 const MOST_BODY_BYTES: usize = 4_096;
 
 /// Why a line is no command.
-#[derive(Clone, Copy, Debug, PartialEq, Eq)]
+#[derive(Clone, Copy)]
 pub(crate) enum Unread {
     /// The line has another form.
     BadCommand,

@@ -27,6 +27,3 @@ pub use frame_feeder::FrameFeeder;
 pub use framed::Framed;
 pub use frames::{frame_rest, next_frame};
 pub use laws::{one_reading, one_spelling, pieces_join};
-
-#[cfg(test)]
-mod tests;

@@ -11,6 +11,3 @@ pub use cutting::{delta_since, whole_of};
 pub use fragment::Fragment;
 pub use gathering::fragment_of;
 pub use joining::join;
-
-#[cfg(test)]
-mod tests;

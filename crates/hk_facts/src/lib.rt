@@ -8,6 +8,3 @@ mod keyed;
 pub use chain::Chain;
 pub use fact::{Fact, Part};
 pub use keyed::Keyed;
-
-#[cfg(test)]
-mod tests;

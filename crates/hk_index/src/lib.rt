@@ -4,8 +4,6 @@
 mod key_index;
 mod label;
 mod tag_index;
-#[cfg(test)]
-mod tests;
 
 pub use key_index::KeyIndex;
 pub use tag_index::TagIndex;

@@ -16,6 +16,3 @@ pub use hk_model::{Event, Told};
 pub use laws::{deliver_law, merge_law, world_law};
 pub use running::run;
 pub use world::{MOST_REPLICAS, World};
-
-#[cfg(test)]
-mod tests;

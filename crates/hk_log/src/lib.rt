@@ -5,8 +5,6 @@ mod entry;
 mod item;
 mod mark;
 mod places;
-#[cfg(test)]
-mod tests;
 mod version;
 
 pub use entry::Entry;

@@ -9,6 +9,3 @@ mod sent;
 pub use join::{join_agreed, join_sent, merge};
 pub use refusals::misfit;
 pub use sent::Sent;
-
-#[cfg(test)]
-mod tests;

@@ -19,8 +19,6 @@ mod stream;
 mod streams;
 mod tables;
 mod taking;
-#[cfg(test)]
-mod tests;
 mod world;
 
 pub use committing::committed;

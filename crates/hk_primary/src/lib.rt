@@ -23,6 +23,3 @@ pub fn verdict_law()
     ensures from_zero { FromZeroLaw }
     ensures accepted { AcceptedLaw }
 {}
-
-#[cfg(test)]
-mod tests;

@@ -8,6 +8,3 @@ mod rows;
 pub use answers::answer_at;
 pub use hk_model::{Answer, Query};
 pub use reply::ask;
-
-#[cfg(test)]
-mod tests;

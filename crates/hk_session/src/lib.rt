@@ -16,6 +16,3 @@ pub use ended::Ended;
 pub use host::Host;
 pub use serving::serve;
 pub use state_host::StateHost;
-
-#[cfg(test)]
-mod tests;

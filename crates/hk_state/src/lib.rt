@@ -18,6 +18,3 @@ pub use apply::Change;
 pub use facts::Facts;
 pub use prune::front_of;
 pub use replica::ReplicaState;
-
-#[cfg(test)]
-mod tests;

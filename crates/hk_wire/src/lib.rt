@@ -32,6 +32,3 @@ pub use reply::Reply;
 pub use reply_encoding::encode_reply;
 pub use reply_feeder::ReplyFeeder;
 pub use request::Request;
-
-#[cfg(test)]
-mod tests;

@@ -62,65 +62,85 @@ script.";
 /// The names of the arguments of `at`, which are all numbers.
 const AT_NUMBERS: [&str; 5] = ["log", "streams", "time", "table", "key"];
 
-fn at_command<'a>(alloc: Global) -> Result<Command<'a>, AllocError> {
-    let log = Arg::new(alloc, "log")
-        .long("log")
-        .value_name("L")
-        .help("The id of the log: a number up to 18446744073709551615")
+/// An argument that has to be given.
+fn wanted<'a>(alloc: Global, name: &'a str, value: &'a str, help: &'a str) -> Arg<'a> {
+    Arg::new(alloc, name)
+        .value_name(value)
+        .help(help)
         .required(true)
         .action(ArgAction::Set)
-        .value_parser(value_parser!(u64));
-    let streams = Arg::new(alloc, "streams")
-        .long("streams")
-        .value_name("S")
-        .help("How many streams the log has: 1 to 64")
-        .required(true)
-        .action(ArgAction::Set)
-        .value_parser(value_parser!(u16).range(1..=64));
-    let time = Arg::new(alloc, "time")
-        .value_name("T")
-        .help("The time to read at: 0 to 4611686018427387904")
-        .required(true)
-        .action(ArgAction::Set)
-        .value_parser(value_parser!(u64).range(0..=LAST_TIME as i64));
-    let table = Arg::new(alloc, "table")
-        .value_name("TABLE")
-        .help("The number of the table: 0 to 65535")
-        .required(true)
-        .action(ArgAction::Set)
-        .value_parser(value_parser!(u16));
-    let key = Arg::new(alloc, "key")
-        .value_name("KEY")
-        .help("The key of the row: 0 to 18446744073709551615")
-        .required(true)
-        .action(ArgAction::Set)
-        .value_parser(value_parser!(u64));
-    Command::new(alloc, "at")
-        .about(AT_ABOUT)
-        .after_help(AT_EXAMPLE)
-        .arg(log)?
-        .arg(streams)?
-        .arg(time)?
-        .arg(table)?
-        .arg(key)
 }
 
-fn program<'a>(alloc: Global) -> Result<Command<'a>, AllocError> {
-    let items = Command::new(alloc, "items")
-        .about(ITEMS_ABOUT)
-        .after_help(ITEMS_EXAMPLE);
-    let world = Command::new(alloc, "world")
-        .about(WORLD_ABOUT)
-        .after_help(WORLD_EXAMPLE);
+fn with_log<'a>(alloc: Global, command: Command<'a>) -> Result<Command<'a>, AllocError> {
+    let help = "The id of the log: a number up to 18446744073709551615";
+    let log = wanted(alloc, "log", "L", help).long("log");
+    command.arg(log.value_parser(value_parser!(u64)))
+}
+
+fn with_streams<'a>(alloc: Global, command: Command<'a>) -> Result<Command<'a>, AllocError> {
+    let help = "How many streams the log has: 1 to 64";
+    let streams = wanted(alloc, "streams", "S", help).long("streams");
+    command.arg(streams.value_parser(value_parser!(u16).range(1..=64)))
+}
+
+fn with_time<'a>(alloc: Global, command: Command<'a>) -> Result<Command<'a>, AllocError> {
+    let time = wanted(
+        alloc,
+        "time",
+        "T",
+        "The time to read at: 0 to 4611686018427387904",
+    );
+    command.arg(time.value_parser(value_parser!(u64).range(0..=LAST_TIME as i64)))
+}
+
+fn with_table<'a>(alloc: Global, command: Command<'a>) -> Result<Command<'a>, AllocError> {
+    let table = wanted(
+        alloc,
+        "table",
+        "TABLE",
+        "The number of the table: 0 to 65535",
+    );
+    command.arg(table.value_parser(value_parser!(u16)))
+}
+
+fn with_key<'a>(alloc: Global, command: Command<'a>) -> Result<Command<'a>, AllocError> {
+    let key = wanted(
+        alloc,
+        "key",
+        "KEY",
+        "The key of the row: 0 to 18446744073709551615",
+    );
+    command.arg(key.value_parser(value_parser!(u64)))
+}
+
+fn at_command<'a>(alloc: Global) -> Result<Command<'a>, AllocError> {
+    let command = Command::new(alloc, "at")
+        .about(AT_ABOUT)
+        .after_help(AT_EXAMPLE);
+    let command = with_log(alloc, command)?;
+    let command = with_streams(alloc, command)?;
+    let command = with_time(alloc, command)?;
+    let command = with_table(alloc, command)?;
+    with_key(alloc, command)
+}
+
+fn plain<'a>(alloc: Global, name: &'a str, about: &'a str, example: &'a str) -> Command<'a> {
+    Command::new(alloc, name).about(about).after_help(example)
+}
+
+fn whole<'a>(alloc: Global) -> Command<'a> {
     Command::new(alloc, "hkrep")
         .about(ABOUT)
         .long_about(LONG_ABOUT)
         .version("0.1.0")
         .subcommand_required(true)
         .arg_required_else_help(true)
-        .subcommand(at_command(alloc)?)?
-        .subcommand(items)?
-        .subcommand(world)
+}
+
+fn program<'a>(alloc: Global) -> Result<Command<'a>, AllocError> {
+    let command = whole(alloc).subcommand(at_command(alloc)?)?;
+    let command = command.subcommand(plain(alloc, "items", ITEMS_ABOUT, ITEMS_EXAMPLE))?;
+    command.subcommand(plain(alloc, "world", WORLD_ABOUT, WORLD_EXAMPLE))
 }
 
 fn is_decimal(word: &str) -> bool {

@@ -1,0 +1,7 @@
+//! The lines that the program prints of values.
+#![tactic(auto)]
+
+mod line;
+mod reply;
+
+pub use line::{Printed, line_of};

@@ -1,0 +1,6 @@
+mod chains;
+mod frames;
+mod indexes;
+mod items;
+mod numbers;
+mod streams;

@@ -1,0 +1,175 @@
+//! The worked frames.
+
+use hk_codec::{Cursor, Feeder, decode_all, encode, frame_rest, put_body};
+use hk_log::{Entry, Item, Mark};
+use hk_types::{FormFault, Key, Refusal, Row, StreamNo, Table, Tag, Time, VersionKey};
+use std::alloc::Global;
+use std::test::*;
+
+/// Log 7, stream 1, number 1, time 1: inserts key 5 of table 1, tag 9, body 41.
+const E1: [u8; 53] = [
+    0, 0, 0, 0x31, 1, 1, 0, 0, 0, 0, 0, 0, 0, 7, 0, 1, 0, 0, 0, 0, 0, 0, 0, 1, 0, 0, 0, 0, 0, 0, 0,
+    1, 0, 0, 0, 1, 0, 1, 0, 0, 0, 0, 0, 0, 0, 5, 0, 0, 0, 9, 0, 1, 0x41,
+];
+
+/// Log 7, stream 1, number 2, time 2: ends key 5 born at 1, and inserts it with body 42.
+const E2: [u8; 71] = [
+    0, 0, 0, 0x43, 1, 1, 0, 0, 0, 0, 0, 0, 0, 7, 0, 1, 0, 0, 0, 0, 0, 0, 0, 2, 0, 0, 0, 0, 0, 0, 0,
+    2, 0, 1, 0, 1, 0, 0, 0, 0, 0, 0, 0, 5, 0, 0, 0, 0, 0, 0, 0, 1, 0, 1, 0, 1, 0, 0, 0, 0, 0, 0, 0,
+    5, 0, 0, 0, 9, 0, 1, 0x42,
+];
+
+/// Log 7, stream 1: the first entry is all up to time 1.
+const MARK_1: [u8; 32] = [
+    0, 0, 0, 0x1c, 1, 2, 0, 0, 0, 0, 0, 0, 0, 7, 0, 1, 0, 0, 0, 0, 0, 0, 0, 1, 0, 0, 0, 0, 0, 0, 0,
+    1,
+];
+
+/// Log 7, stream 1: the first two entries are all up to time 2.
+const MARK_2: [u8; 32] = [
+    0, 0, 0, 0x1c, 1, 2, 0, 0, 0, 0, 0, 0, 0, 7, 0, 1, 0, 0, 0, 0, 0, 0, 0, 2, 0, 0, 0, 0, 0, 0, 0,
+    2,
+];
+
+/// The number of the refusal, or 0.
+fn refused<T: Drop>(outcome: Result<T, Refusal>) -> u8 {
+    outcome.err().map_or(0, |refusal| refusal.number())
+}
+
+fn row(alloc: Global, body: &[u8]) -> Result<Row, Fail> {
+    let body = Vec::from_slice(alloc, body)?;
+    match Row::new(Tag::new(9), body) {
+        Ok(row) => Ok(row),
+        Err((_body, fault)) => Err(fault)?,
+    }
+}
+
+/// An entry of stream 1 whose number is its time: it ends key 5, if it was born, and inserts it.
+fn entry(alloc: Global, time: u64, born: Option<u64>, body: &[u8]) -> Result<Item, Fail> {
+    let table = Table::new(1);
+    let key = Key::new(5);
+    let mut ends = Vec::new(alloc);
+    if let Some(born) = born {
+        ends.push(VersionKey {
+            table,
+            key,
+            born: Time::new(born)?,
+        })?;
+    }
+    let rows = vec![in alloc; (table, key, row(alloc, body)?)]?;
+    let entry = Entry::new(7, StreamNo::new(1)?, time, Time::new(time)?, ends, rows)?;
+    Ok(Item::Commit(entry))
+}
+
+fn mark(count: u64) -> Result<Item, Fail> {
+    let mark = Mark::new(7, StreamNo::new(1)?, count, Time::new(count)?)?;
+    Ok(Item::Closed(mark))
+}
+
+/// The items whose frames `stream` gives.
+fn worked(alloc: Global) -> Result<Vec<Item>, Fail> {
+    let second = entry(alloc, 2, Some(1), &[0x42])?;
+    let first = entry(alloc, 1, None, &[0x41])?;
+    Ok(vec![in alloc; second, first, mark(2)?]?)
+}
+
+/// The frames of E2, E1 and the mark up to time 2.
+fn stream(alloc: Global) -> Result<Vec<u8>, Fail> {
+    let mut bytes = Vec::from_slice(alloc, &E2)?;
+    bytes.extend_from_slice(&E1)?;
+    bytes.extend_from_slice(&MARK_2)?;
+    Ok(bytes)
+}
+
+/// The bytes with another one at a place.
+fn patched(alloc: Global, bytes: &[u8], at: usize, byte: u8) -> Result<Vec<u8>, Fail> {
+    let mut bytes = Vec::from_slice(alloc, bytes)?;
+    if at < bytes.len() {
+        bytes[at] = byte;
+    }
+    Ok(bytes)
+}
+
+#[test]
+fn spells_and_reads_the_worked_frames(rt: HostRuntime) -> Result<(), Fail> {
+    let alloc = rt.alloc();
+    let mut bytes = Vec::new(alloc);
+    encode(&entry(alloc, 1, None, &[0x41])?, &mut bytes)?;
+    assert_eq!(rt; bytes.as_slice(), E1.as_slice());
+    encode(&mark(1)?, &mut bytes)?;
+    assert_eq!(rt; bytes.len(), 85);
+    assert_eq!(rt; &bytes[53..], MARK_1.as_slice());
+    let mut bytes = Vec::new(alloc);
+    for item in &worked(alloc)? {
+        encode(item, &mut bytes)?;
+    }
+    assert_eq!(rt; bytes.as_slice(), stream(alloc)?.as_slice());
+    assert!(rt; decode_all(alloc, &bytes)? == worked(alloc)?);
+    assert!(rt; decode_all(alloc, &[])?.is_empty());
+    Ok(())
+}
+
+#[test]
+fn reads_the_same_items_however_cut(rt: HostRuntime) -> Result<(), Fail> {
+    let alloc = rt.alloc();
+    let bytes = stream(alloc)?;
+    let want = worked(alloc)?;
+    for cut in 0..bytes.len() {
+        let (first, second) = bytes.split_at(cut);
+        let mut feeder = Feeder::new(alloc);
+        let mut items = Vec::new(alloc);
+        feeder.feed(first, &mut items)?;
+        feeder.feed(second, &mut items)?;
+        feeder.finish()?;
+        assert!(rt; items == want, "cut at {cut}");
+    }
+    let mut feeder = Feeder::new(alloc);
+    let mut items = Vec::new(alloc);
+    for byte in &bytes {
+        feeder.feed(&[*byte], &mut items)?;
+    }
+    feeder.finish()?;
+    assert!(rt; items == want);
+    Ok(())
+}
+
+#[test]
+fn keeps_the_items_before_a_fault_and_the_fault(rt: HostRuntime) -> Result<(), Fail> {
+    let alloc = rt.alloc();
+    let mut feeder = Feeder::new(alloc);
+    let mut items = Vec::new(alloc);
+    let mut bytes = Vec::from_slice(alloc, &E1)?;
+    bytes.extend_from_slice(&patched(alloc, &E2, 4, 2)?)?;
+    bytes.extend_from_slice(&MARK_2)?;
+    assert_eq!(rt; refused(feeder.feed(&bytes, &mut items)), 3);
+    assert_eq!(rt; items.len(), 1);
+    assert_eq!(rt; refused(feeder.feed(&E1, &mut items)), 3);
+    assert_eq!(rt; refused(feeder.feed(&[], &mut items)), 3);
+    assert_eq!(rt; items.len(), 1);
+    assert_eq!(rt; refused(feeder.finish()), 3);
+    assert_eq!(rt; refused(decode_all(alloc, &bytes)), 3);
+    Ok(())
+}
+
+#[test]
+fn reads_fields(rt: HostRuntime) -> Result<(), Fail> {
+    let alloc = rt.alloc();
+    let bytes: [u8; 20] = [
+        1, 2, 3, 4, 5, 6, 7, 0, 0, 0, 0, 0, 0, 1, 0, 0, 2, 0x41, 0x42, 9,
+    ];
+    let mut cursor = Cursor::new(&bytes);
+    assert_eq!(rt; cursor.u8()?, 1);
+    assert_eq!(rt; cursor.u16()?, 0x203);
+    assert_eq!(rt; cursor.u32()?, 0x405_0607);
+    assert_eq!(rt; cursor.u64()?, 0x100);
+    assert_eq!(rt; cursor.body(alloc)?.as_slice(), [0x41, 0x42].as_slice());
+    assert_eq!(rt; cursor.len(), 1);
+    assert!(rt; cursor.u16() == Err(FormFault::WrongLength));
+    assert_eq!(rt; cursor.bytes(1)?, [9].as_slice());
+    assert!(rt; cursor.is_empty());
+    let mut out = Vec::new(alloc);
+    put_body(&mut out, &[0x41, 0x42])?;
+    assert_eq!(rt; out.as_slice(), &bytes[15..19]);
+    assert!(rt; frame_rest(&MARK_1, 28, 28)? == Some(&MARK_1[4..]));
+    Ok(())
+}

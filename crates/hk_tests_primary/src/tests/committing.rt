@@ -1,0 +1,110 @@
+//! Commits, and why they are refused.
+
+use super::{Outcome, Write, commit, time, transaction, two_streams, write};
+use hk_primary::Primary;
+use hk_types::{Config, LAST_TIME};
+use std::alloc::Global;
+use std::test::Fail;
+
+/// A commit: when it reads, its stream, its writes, and what it is to tell, with the number of items after it.
+type Call<'a> = (u64, u16, &'a [Write], Outcome, u64);
+
+fn play(alloc: Global, primary: &mut Primary, call: Call<'_>) -> Result<(Outcome, u64), Fail> {
+    let (read_at, number, writes, _, _) = call;
+    let txn = transaction(alloc, read_at, writes)?;
+    let (outcome, back) = commit(primary, txn, number)?;
+    if let Some(txn) = back
+        && (txn.len() != writes.len() || txn.read_at() != time(read_at)?)
+    {
+        return Ok(((0, 0, 0), 0));
+    }
+    Ok((outcome, primary.item_count()))
+}
+
+fn plays(rt: &HostRuntime, primary: &mut Primary, calls: &[Call<'_>]) -> Result<bool, Fail> {
+    for call in calls {
+        let (_, _, _, outcome, items) = *call;
+        if play(rt.alloc(), primary, *call)? != (outcome, items) {
+            return Ok(false);
+        }
+    }
+    Ok(true)
+}
+
+#[test]
+fn the_first_committer_wins(rt: HostRuntime) -> Result<(), Fail> {
+    let mut primary = two_streams(rt.alloc())?;
+    let calls: [Call<'_>; 7] = [
+        (0, 1, &[(5, 0x41)], (0, 0, 1), 1),
+        (1, 2, &[(5, 0x42)], (0, 0, 2), 2),
+        (1, 1, &[(5, 0x43)], (30, 5, 2), 2),
+        (1, 1, &[], (0, 0, 0), 2),
+        (2, 1, &[(9, 0)], (31, 9, 0), 2),
+        (2, 1, &[(5, 0), (9, 0)], (31, 9, 0), 2),
+        (1, 1, &[(6, 0x44)], (0, 0, 3), 3),
+    ];
+    assert!(rt; plays(&rt, &mut primary, &calls)?);
+    assert_eq!(rt; primary.last().number(), 3);
+    Ok(())
+}
+
+#[test]
+fn the_first_refusal_is_told(rt: HostRuntime) -> Result<(), Fail> {
+    let mut primary = two_streams(rt.alloc())?;
+    let calls: [Call<'_>; 8] = [
+        (0, 1, &[(5, 0x41), (6, 0x41)], (0, 0, 1), 1),
+        (1, 2, &[(5, 0), (6, 0x42)], (0, 0, 2), 2),
+        (0, 1, &[(4, 0), (6, 0x43), (7, 0)], (30, 6, 2), 2),
+        (2, 1, &[(4, 0), (5, 0)], (31, 4, 0), 2),
+        (0, 2, &[(5, 0x43)], (30, 5, 2), 2),
+        (3, 3, &[(4, 0)], (34, 0, 0), 2),
+        (3, 2, &[(4, 0)], (26, 0, 2), 2),
+        (3, 2, &[], (26, 0, 2), 2),
+    ];
+    assert!(rt; plays(&rt, &mut primary, &calls)?);
+    Ok(())
+}
+
+#[test]
+fn a_refused_transaction_is_used_again(rt: HostRuntime) -> Result<(), Fail> {
+    let mut primary = two_streams(rt.alloc())?;
+    let txn = transaction(rt.alloc(), 0, &[(5, 0x41)])?;
+    let (told, back) = commit(&mut primary, txn, 3)?;
+    assert_eq!(rt; told, (34, 0, 0));
+    let Some(mut txn) = back else {
+        return Ok(());
+    };
+    assert_eq!(rt; write(rt.alloc(), &mut txn, (6, 0x42))?, 0);
+    assert_eq!(rt; commit(&mut primary, txn, 2)?.0, (0, 0, 1));
+    assert_eq!(rt; primary.item_count(), 1);
+    Ok(())
+}
+
+#[test]
+fn the_last_time_is_given_out_once(rt: HostRuntime) -> Result<(), Fail> {
+    let config = Config::new(7, 2)?;
+    let mut primary = Primary::starting_after(rt.alloc(), config, time(LAST_TIME - 1)?)?;
+    let calls: [Call<'_>; 4] = [
+        (1, 1, &[(5, 0x41)], (26, 0, 0), 0),
+        (0, 1, &[(5, 0x41)], (0, 0, LAST_TIME), 1),
+        (0, 1, &[(6, 0x41)], (35, 0, 0), 1),
+        (0, 1, &[(5, 0x41)], (30, 5, LAST_TIME), 1),
+    ];
+    assert!(rt; plays(&rt, &mut primary, &calls)?);
+    Ok(())
+}
+
+#[test]
+fn the_clock_starts_after_a_time(rt: HostRuntime) -> Result<(), Fail> {
+    let mut primary = Primary::starting_after(rt.alloc(), Config::new(7, 2)?, time(10)?)?;
+    assert_eq!(rt; primary.begin().read_at().number(), 0);
+    let calls: [Call<'_>; 2] = [
+        (0, 1, &[(5, 0x41)], (0, 0, 11), 1),
+        (11, 2, &[(5, 0x42)], (0, 0, 12), 2),
+    ];
+    assert!(rt; plays(&rt, &mut primary, &calls)?);
+    assert_eq!(rt; primary.begin().read_at().number(), 12);
+    assert_eq!(rt; primary.last().number(), 12);
+    assert_eq!(rt; primary.config().streams(), 2);
+    Ok(())
+}

@@ -1,0 +1,7 @@
+mod fragments;
+mod gathering;
+mod joins;
+mod merging;
+mod played;
+mod queries;
+mod states;

@@ -1,6 +1,0 @@
-//! Worked messages.
-
-mod faults;
-mod fragment_faults;
-mod fragments;
-mod worked;
