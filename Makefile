@@ -31,7 +31,7 @@ demo: bin/hkrep
 	bin/hkrep at --log 7 --streams 1 1 1 5 < examples/first.bin
 
 compare:
-	tests/reference.py compare $(CASES) $(SEED)
+	tests/compare random $(CASES) $(SEED)
 
 bench: bin/hkrep
 	bench/run

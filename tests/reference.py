@@ -1,20 +1,11 @@
 #!/usr/bin/env python3
-"""A second replica, written from docs/DEFINITIONS.md and docs/FORMATS.md alone, to compare the program with.
+"""A second replica, written from docs/DEFINITIONS.md and docs/FORMATS.md alone, to compare the program with (tests/compare).
 
-It keeps whole sets of items and looks at all of them for each answer; nothing is pruned or merged step by step. Random
-world scripts and random item frames (late, twice, in any order, with conflicts and faulty bytes) go through it and through
-`hkrep world`, `items` and `at`; each must print the same and end with the same status.
-
-    tests/reference.py compare CASES SEED [PROGRAM]    that many cases; of one that differs: its seed, and the smallest input
-    tests/reference.py planted CASES SEED [PROGRAM]    each bug of PLANTED below, put into this reference, must be noticed
-
-Prints a line for each check and ends with 'N passed, M failed'. Standard library only."""
-import pathlib
-import random
-import subprocess
+It keeps whole sets of items and looks at all of them for each answer; nothing is pruned or merged step by step: `played` is
+what `hkrep world` prints of a script, `printed` what `items` prints of frames, `asked` what `at` does. By hand: `tests/reference.py world|items|at ..`.
+Standard library only."""
 import sys
 
-ROOT = pathlib.Path(__file__).resolve().parent.parent
 LAST_TIME = 2 ** 62
 LARGEST_REST = 4_229_152
 
@@ -517,284 +508,19 @@ def asked(data, log, streams, time, table, key):
         return [str(refused)], 1
 
 
-# ---------------------------------------------------------------- random cases
-
-class Script:
-    """A world script."""
-
-    def __init__(self, lines):
-        self.parts = lines
-
-    def runs(self):
-        text = "\n".join(self.parts) + "\n"
-        return [(["world"], text.encode(), played(text))]
-
-    def shown(self):
-        return "\n".join(self.parts)
-
-    @staticmethod
-    def random(source):
-        streams, replicas = source.choice([1, 1, 2, 3, 64]), source.randint(1, 4)
-        lines, commits, items = [f"world 7 {streams} {replicas}"], 0, 0
-        a_replica = lambda: source.randint(1, replicas) if source.random() < 0.98 else source.choice([0, replicas + 1])
-        a_stream = lambda: min(source.randint(1, streams), 5) if source.random() < 0.97 else source.choice([streams, 64])
-        a_time = lambda: source.randint(0, commits + 1)
-        an_item = lambda: source.randint(1, max(items, 1)) if source.random() < 0.98 else source.choice([0, items + 1])
-        for _ in range(source.randint(4, 14)):
-            slot = source.randint(1, 2)
-            lines.append(f"begin {slot}")
-            for _ in range(source.choice([0, 1, 1, 1, 2, 3])):
-                key = f"{source.randint(1, 2)} {source.randint(1, 4)}"
-                body = source.choice(["-", "41", "42", "4142"])
-                is_put = source.random() < 0.75
-                lines.append(f"put {slot} {key} {source.randint(8, 9)} {body}" if is_put else f"remove {slot} {key}")
-                if source.random() < 0.1:
-                    lines.append("begin 2")
-            lines.append(f"commit {slot} {a_stream()}")
-            commits, items = commits + 1, items + 1
-            for _ in range(source.choice([0, 0, 1, 2])):
-                lines.append(f"mark {a_stream()}")
-                items += 1
-        if streams < 4 or source.random() < 0.5:
-            lines += [f"mark {it}" for it in range(1, streams + 1)]
-            items += streams
-        for _ in range(source.randint(8, 50)):
-            lines.append(source.choice([
-                lambda: f"absorb {a_replica()} {an_item()}",
-                lambda: f"absorb {a_replica()} {an_item()}",
-                lambda: " ".join([f"batch {a_replica()}", *[str(an_item()) for _ in range(source.randint(1, 12))]]),
-                lambda: f"batch {a_replica()} " + " ".join(map(str, source.sample(range(1, items + 1), min(items, source.randint(1, 64))))),
-                lambda: f"prune {a_replica()} {a_time()}",
-                lambda: f"merge {a_replica()} {a_replica()}",
-                lambda: f"delta {a_replica()} {a_replica()} {a_time()}",
-                lambda: f"front {a_replica()}",
-                lambda: f"ask {source.randint(0, replicas)} {a_time()} get {source.randint(1, 2)} {source.randint(1, 4)}",
-                lambda: f"ask {source.randint(0, replicas)} {a_time()} range 1 {source.randint(0, 3)} {source.randint(1, 5)}",
-                lambda: f"ask {source.randint(0, replicas)} {a_time()} tag {source.randint(1, 2)} 9",
-                lambda: f"ask {source.randint(0, replicas)} {a_time()} count {source.randint(1, 2)}",
-                lambda: f"begin {source.randint(1, 2)}",
-            ])())
-        if source.random() < 0.04:
-            bad = ["front", "prune 1 4611686018427387905", "put 3 1 1 9 41", "put 1 1 1 9 4", "absorb 1 x", " front 1", "front 1 "]
-            lines.insert(source.randint(0, len(lines)), source.choice(bad))
-        if source.random() < 0.1:
-            lines.insert(source.randint(0, len(lines)), "")
-        return Script(lines)
-
-
-class Frames:
-    """Item frames, and a question about them."""
-
-    def __init__(self, frames, question):
-        self.parts, self.question = frames, question
-
-    def runs(self):
-        data = b"".join(self.parts)
-        log, streams, *more = self.question
-        words = ["at", "--log", str(log), "--streams", str(streams), *map(str, more)]
-        return [(["items"], data, printed(data)), (words, data, asked(data, *self.question))]
-
-    def shown(self):
-        return "\n".join([f"at --log {self.question[0]} --streams {self.question[1]} .. {self.question[2:]}",
-                          *[it.hex() for it in self.parts]])
-
-    @staticmethod
-    def random(source):
-        streams = source.choice([1, 1, 2, 3])
-        primary = Primary(7, streams)
-        for _ in range(source.randint(1, 10)):
-            tables = primary.tables_at(primary.last())
-            writes = {}
-            for place in source.sample([(t, k) for t in (1, 2) for k in (1, 2, 3)], source.randint(1, 3)):
-                is_put = place not in tables or source.random() < 0.6
-                writes[place] = (9, source.choice([b"", b"\x41", b"\x42"])) if is_put else None
-            primary.commit(primary.last(), writes, source.randint(1, streams))
-            if source.random() < 0.3:
-                primary.mark(source.randint(1, streams))
-        for stream in range(1, streams + 1):
-            if source.random() < 0.85:
-                primary.mark(stream)
-        items = primary.items + source.choices(primary.items, k=source.randint(0, 4))
-        if source.random() < 0.8:
-            source.shuffle(items)
-        if source.random() < 0.2:
-            items.remove(source.choice(items))
-        frames = [frame(Frames.turned(source, it, streams) if source.random() < 0.02 else it) for it in items]
-        if source.random() < 0.35:
-            Frames.spoil(source, frames)
-        last = primary.last()
-        return Frames(frames, (7, streams, source.randint(0, last + 1), source.randint(1, 2), source.randint(1, 3)))
-
-    @staticmethod
-    def turned(source, item, streams):
-        """The item with one field turned, mostly one that may conflict."""
-        if isinstance(item, Mark):
-            n = max(item.n + source.randint(-1, 1), 0)
-            return Mark(source.choice([7, 7, 8]), source.randint(1, streams + 1), n, max(item.m + source.randint(-1, 1), 0))
-        kind = source.randint(0, 5)
-        rows = [(place, (tag, b"\x99")) for place, (tag, _) in item.rows] if kind == 0 else item.rows
-        time = max(item.time + source.randint(-2, 2), item.number) if kind == 1 else item.time
-        number = item.number + source.randint(0, 2) if kind == 2 else item.number
-        stream = source.randint(1, streams + 1) if kind == 3 else item.stream
-        log = 8 if kind == 4 else 7
-        ends = [(t, k, max(b - 1, 1)) for t, k, b in item.ends] if kind == 5 else item.ends
-        return Entry(log, stream, number, time, ends, rows)
-
-    @staticmethod
-    def spoil(source, frames):
-        """Cuts, drops or turns bytes of one frame."""
-        at = source.randrange(len(frames))
-        data = bytearray(frames[at])
-        kind = source.randint(0, 3)
-        if kind == 0:
-            data = data[:source.randrange(len(data))]
-        elif kind == 1:
-            place = source.randrange(len(data))
-            data[place] = source.choice([0, 1, 2, 3, 64, 65, 128, 255, data[place] ^ 1])
-        elif kind == 2:
-            place = source.randrange(len(data))
-            data[place:place] = bytes(source.choices([0, 1, 255], k=source.randint(1, 3)))
-        else:
-            longer = source.choice([-1, 1, 2])
-            data[0:4] = num(max(int.from_bytes(data[0:4], "big") + longer, 0), 4)
-        frames[at] = bytes(data)
-
-
-def case_of(seed):
-    source = random.Random(seed)
-    return (Script if source.random() < 0.6 else Frames).random(source)
-
-
-# ---------------------------------------------------------------- comparing
-
-def said_by(program, words, data):
-    ran = subprocess.run([program, *words], input=data, stdout=subprocess.PIPE, stderr=subprocess.DEVNULL, timeout=60)
-    return ran.stdout.decode().splitlines(), ran.returncode
-
-
-def difference(program, case):
-    """The first run of a case in which the program says something else."""
-    for words, data, wanted in case.runs():
-        got = said_by(program, words, data)
-        if got != wanted:
-            return words, wanted, got
-    return None
-
-
-def smallest(program, case):
-    """The case with as many parts taken out as the difference lets go."""
-    size = max(len(case.parts) // 2, 1)
-    while True:
-        at = 0
-        while at < len(case.parts):
-            less = type(case)(*([case.parts[:at] + case.parts[at + size:]] + list(vars(case).values())[1:]))
-            if less.parts and difference(program, less):
-                case = less
-            else:
-                at += size
-        if size == 1:
-            return case
-        size = max(size // 2, 1)
-
-
-def compare(cases, seed, program):
-    for number in range(cases):
-        case = case_of(f"{seed} {number}")
-        if difference(program, case):
-            case = smallest(program, case)
-            words, wanted, got = difference(program, case)
-            print(f"FAILED case {number} of seed {seed} ({' '.join(words)}): the smallest input that shows it:")
-            print(case.shown())
-            at = next((i for i, (a, b) in enumerate(zip(*map(list, (wanted[0], got[0])))) if a != b), None)
-            print(f"line {'count' if at is None else at + 1}: the program says {got[0][at or -1:][:1]} (status {got[1]}), "
-                  f"the reference {wanted[0][at or -1:][:1]} (status {wanted[1]})")
-            return False
-    print(f"ok {cases} random cases of seed {seed} say what the reference says")
-    return True
-
-
-# Bugs put into this reference, by their lines: what is right, and what stands there instead.
-PLANTED = [
-    ("a version shows at its end", "tables_at(time), query)", "tables_at(time - 1), query)"),
-    ("a row shows at its end in frames", "time + 1) <= time}", "time + 1) < time}"),
-    ("a row hides at its birth", "if born <= time and", "if born < time and"),
-    ("the oldest row shows", "born > newest.get((table, key), (0, None))[0]", "born < newest.get((table, key), (LAST_TIME, None))[0]"),
-    ("a mark closes with entries missing", "for it in marks_of(items, stream) if is_covered(taken, it.n)]", "for it in marks_of(items, stream)]"),
-    ("readable is the greatest closed time", "return min(closed(items, stream)", "return max(closed(items, stream)"),
-    ("a merge keeps its own horizon", "if it not in items], max(horizon, other))", "if it not in items], horizon)"),
-    ("a merge forgets its own items", "(items + [it for it in others if it not in items]", "(list(others)"),
-    ("a prune lowers the horizon", "(items, max(horizon, time))", "(items, time)"),
-    ("a prune to the readable mark is refused", "if time > mark:\n            raise Refused(24", "if time >= mark:\n            raise Refused(24"),
-    ("a delta may begin above the readable mark", "if base > mark:", "if base > mark + 1:"),
-    ("a delta may begin below the horizon", "if base < horizon:", "if base + 1 < horizon:"),
-    ("an entry at a closed time is taken", "or entry.time <= closed(items, entry.stream)", "or entry.time < closed(items, entry.stream)"),
-    ("another row is no conflict", "any(rows.get((*place, entry.time), row) != row", "any(rows.get((*place, entry.time), row) is None"),
-    ("another end is no conflict", "any(ends.get(version, entry.time) != entry.time", "any(ends.get(version, entry.time) is None"),
-    ("a conflict is told with the read time", '"at", at)', '"at", read_at)'),
-    ("a commit at the read time is a conflict", "if at > read_at:", "if at >= read_at > 0:"),
-    ("an absent key is removed", "row is None and (table, key) not in tables", "row is None and (table, key) in ()"),
-    ("an update leaves its end out", "for place, _ in writes if place in tables]", "for place, row in writes if place in tables and row is None]"),
-    ("a mark counts all streams", "sum(1 for _, of, _ in self.history if of == stream), self.last()", "len(self.history), self.last()"),
-    ("a known mark is taken again", "is_same = content_of(after", "is_same = isinstance(self.item(item), Entry) and content_of(after"),
-    ("a range leaves its upper bound out", "<= key <= int(words[3])", "<= key < int(words[3])"),
-    ("a list of keys may repeat one", "rows[-1][0] < place, 7)", "rows[-1][0] <= place, 7)"),
-    ("bytes may follow", "check(rest.place == len(data), 10)", "check(rest.place <= len(data), 10)"),
-]
-
-
-def planted(cases, seed, program):
-    """Each planted bug must change what this reference says of some case; what the program says is taken once."""
-    source = pathlib.Path(__file__).read_text(encoding="utf-8")
-    code, marker = source.split("# Bugs put into this reference", 1)[0], "PLANTED"
-    said, failed = {}, 0
-    for name, right, wrong in PLANTED:
-        if code.count(right) != 1:
-            print(f"FAILED planted: {name}: its line stands {code.count(right)} times in this reference, and not once")
-            failed += 1
-            continue
-        turned = {"__name__": marker, "__file__": __file__}
-        exec(compile(code.replace(right, wrong), name, "exec"), turned)
-        if is_noticed(turned, cases, seed, program, said):
-            print(f"ok planted and noticed: {name}")
-        else:
-            print(f"FAILED planted: {name}: {cases} cases don't show it")
-            failed += 1
-    return failed
-
-
-def is_noticed(turned, cases, seed, program, said):
-    for number in range(cases):
-        try:
-            runs = turned["case_of"](f"{seed} {number}").runs()
-        except Exception:
-            return True
-        for words, data, wanted in runs:
-            key = (tuple(words), data)
-            if key not in said:
-                said[key] = said_by(program, words, data)
-            if said[key] != wanted:
-                return True
-    return False
-
-
 def main(words):
-    usage = "usage: tests/reference.py compare|planted CASES SEED [PROGRAM]"
-    if len(words) not in (3, 4) or words[0] not in ("compare", "planted") or not all(it.isascii() and it.isdigit() for it in words[1:3]):
-        print(usage, file=sys.stderr)
+    """`world`, `items`, or `at LOG STREAMS TIME TABLE KEY` over standard input: prints what the program is to print."""
+    is_at = len(words) == 6 and words[0] == "at" and all(it.isascii() and it.isdigit() for it in words[1:])
+    if not is_at and words not in (["world"], ["items"]):
+        print("usage: tests/reference.py world | items | at LOG STREAMS TIME TABLE KEY", file=sys.stderr)
         return 2
-    program = pathlib.Path(words[3]) if len(words) == 4 else ROOT / "bin" / "hkrep"
-    if not program.is_file():
-        print(f"FAILED {program} is not built")
-        print("0 passed, 1 failed")
-        return 1
-    cases, seed = int(words[1]), int(words[2])
-    if words[0] == "compare":
-        failed = 0 if compare(cases, seed, str(program)) else 1
-        count = 1
+    data = sys.stdin.buffer.read()
+    if is_at:
+        lines, status = asked(data, *map(int, words[1:]))
     else:
-        failed, count = planted(cases, seed, str(program)), len(PLANTED)
-    print(f"{count - failed} passed, {failed} failed")
-    return 1 if failed else 0
+        lines, status = played(data.decode()) if words == ["world"] else printed(data)
+    print("".join(f"{line}\n" for line in lines), end="")
+    return status
 
 
 if __name__ == "__main__":

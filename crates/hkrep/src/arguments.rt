@@ -6,7 +6,7 @@ use hk_types::{Config, Key, LAST_TIME, Table, Time};
 use std::alloc::{AllocError, Global};
 
 /// What the program is asked to do.
-#[derive(Clone, Copy, Debug)]
+#[derive(Clone, Copy)]
 pub enum Call {
     /// Absorb item frames, and print the row at a table and a key at a time.
     At {
