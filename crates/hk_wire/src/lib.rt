@@ -15,6 +15,7 @@ mod fragment_reading;
 mod head;
 mod items;
 mod laws;
+mod lengths;
 mod query;
 mod refusal;
 mod reply;
@@ -25,7 +26,7 @@ mod request;
 pub use encoding::encode_request;
 pub use feeder::RequestFeeder;
 pub use laws::{
-    one_fragment_told, one_reply_spelling, one_request_spelling, reply_pieces_join,
+    one_fragment_told, one_reply_reading, one_reply_spelling, one_request_reading, one_request_spelling, reply_pieces_join,
     request_pieces_join,
 };
 pub use reply::Reply;
