@@ -3,7 +3,7 @@ use Rattle.std.proofs.Common.{◌≡◌, refl, sym, ap, ◌∙◌, ℕ, zero, su
 use Rattle.std.proofs.lemmas.Bool.{ltb-true, leb-false, leb-true}
 use Rattle.std.proofs.lemmas.Bool.Decides.{nat_tests}
 use Rattle.std.proofs.lemmas.List.Elements.{All-head, All-tail}
-use Rattle.std.specs.List.{list_any, AllByRecursion}
+use Rattle.std.specs.List.{AllByRecursion}
 use Rattle.std.specs.Cmp.{nat_cmp_total, tied_itself}
 use Rattle.std.specs.Ordering.{eq_by_cmp}
 use Rattle.std.specs.FinMap as finmap
@@ -14,7 +14,7 @@ use Rattle.hk_types.specs.Values.{RowValue}
 use Rattle.hk_types.specs.declared.version_key.VersionKey.{VersionKey}
 use Rattle.hk_types.specs.declared.faults.FormFault.{FormFault}
 use Rattle.hk_types.specs.declared.faults.FormFault.TheVariants.{BadNumber, BadOrder}
-use Rattle.hk_log.specs.Versions.{VersionValue, is_known}
+use Rattle.hk_log.specs.Versions.{is_known}
 use Rattle.hk_model.specs.Streams.{StreamContent, covers}
 use Rattle.hk_model.specs.Content.{least_closed}
 use Rattle.hk_model.specs.Lawful.{IsLawfulStream, IsLawfulFragment}
@@ -24,8 +24,8 @@ use Rattle.hk_marks.specs.Seen.{IsNumbered}
 use Rattle.hk_marks.specs.Steps.{extra_numbers}
 use Rattle.hk_delta.specs.Parts.{Known, versions_listed, follows, row_stands, end_stands, stands, facts_fault}
 use Rattle.hk_wire.specs.Readers.{Chained}
-use Rattle.hk_wire.specs.Answers.{RowFits, PresentFits}
-use Rattle.hk_wire.specs.Fragments.{StreamTold, greatest_reached, rising, stream_seen, fragment_seen, number_follows, least_told, ExtraFits, WaitingFits, StreamFits, FactFits, PartsFit, DiedFits, KnownFits, FragmentFits}
+use Rattle.hk_wire.specs.Answers.{PresentFits}
+use Rattle.hk_wire.specs.Fragments.{greatest_reached, stream_seen, fragment_seen, number_follows, least_told, ExtraFits, WaitingFits, StreamFits, FactFits, PartsFit, DiedFits, KnownFits, FragmentFits}
 use Rattle.hk_wire.proofs.Telling.{greatest_covered_too, reached_law, extra_told}
 
 first : (a b : Bool) → (a && b) ≡ true → a ≡ true
@@ -115,30 +115,30 @@ beyond t p q c law there un =
         let next : set.contains t (suc p) ≡ true = ap (set.contains t) is ∙ there in
         absurd (true≢false (sym ((λ i. next i && c i)) ∙ ap (covers t) is ∙ un))
 
+abbrev prefix_of : StreamContent → ℕ
+prefix_of s = greatest_reached s.taken (set.items s.taken)
+
+abbrev extras_of : StreamContent → finmap.FinMap nat_cmp ℕ
+extras_of s = finmap.from_entries {R = nat_cmp} (map (λ n. (n, n)) (set.items (extra_numbers s)))
+
 stream_fits : (s : StreamContent) → IsLawfulStream s → IsNumbered s → StreamFits (stream_seen s)
 stream_fits s lawful is =
     record {
-      prefix = covered_most s.taken is.numbers p all;
+      prefix = covered_most s.taken is.numbers (prefix_of s) all;
       closed = is.closed;
-      extra = extras_chained p None (finmap.entries extras) (finmap.entries_sorted extras) (none_before (finmap.entries extras)) (λ q m f.
-      let told = sym (extra_told s q) ∙ sym (finmap.contains_key-keys extras q) ∙ ap is_some (finmap.get-entries extras q ∙ f) in
-      let there = first (set.contains s.taken q) (not (covers s.taken q)) told in
-      (beyond s.taken p q all law there (is_false (covers s.taken q) (second (set.contains s.taken q) (not (covers s.taken q)) told)), is.numbers q there));
-      waiting = waits_chained p None (finmap.entries s.waiting) (finmap.entries_sorted s.waiting) (none_before (finmap.entries s.waiting)) (λ q m f.
-      let e = finmap.get-entries s.waiting q ∙ f in
-      (leb-false q p (sym (law q) ∙ lawful q m e), is.marks q m e));
+      extra = extras_chained (prefix_of s) None (finmap.entries (extras_of s)) (finmap.entries_sorted (extras_of s)) (none_before (finmap.entries (extras_of s))) (λ q m f.
+          let told = sym (extra_told s q) ∙ sym (finmap.contains_key-keys (extras_of s) q) ∙ ap is_some (finmap.get-entries (extras_of s) q ∙ f) in
+          let there = first (set.contains s.taken q) (not (covers s.taken q)) told in
+          (beyond s.taken (prefix_of s) q all law there (is_false (covers s.taken q) (second (set.contains s.taken q) (not (covers s.taken q)) told)), is.numbers q there));
+      waiting = waits_chained (prefix_of s) None (finmap.entries s.waiting) (finmap.entries_sorted s.waiting) (none_before (finmap.entries s.waiting)) (λ q m f.
+          let e = finmap.get-entries s.waiting q ∙ f in
+          (leb-false q (prefix_of s) (sym (law q) ∙ lawful q m e), is.marks q m e));
     }
   where
-    abbrev p : ℕ
-    p = greatest_reached s.taken (set.items s.taken)
-
-    abbrev extras : finmap.FinMap nat_cmp ℕ
-    extras = finmap.from_entries {R = nat_cmp} (map (λ n. (n, n)) (set.items (extra_numbers s)))
-
-    all : covers s.taken p ≡ true
+    all : covers s.taken (prefix_of s) ≡ true
     all = greatest_covered_too s.taken (set.items s.taken)
 
-    law : (n : ℕ) → covers s.taken n ≡ leb n p
+    law : (n : ℕ) → covers s.taken n ≡ leb n (prefix_of s)
     law n = reached_law s.taken n
 
 streams_fit : (ss : List StreamContent) → All IsLawfulStream ss → All IsNumbered ss → AllByRecursion StreamFits (map stream_seen ss)
@@ -174,10 +174,13 @@ facts_chained base horizon before (e ∷ facts) h fit =
     let rest = passed (stands base horizon e) BadNumber _ order.1 in
     let a : (nat_lt 0 e.0.born && is_known e.1 && row_stands base e.0.born e.1.row && end_stands base horizon e.0.born e.1.died) ≡ true = rest.0 in
     let b = first (nat_lt 0 e.0.born && is_known e.1 && row_stands base e.0.born e.1.row) (end_stands base horizon e.0.born e.1.died) a in
-    let c = first (nat_lt 0 e.0.born && is_known e.1) (row_stands base e.0.born e.1.row) b in
-    ((((order.0, (fit.0.name.table, (fit.0.name.key, (ltb-true 0 e.0.born (first (nat_lt 0 e.0.born) (is_known e.1) c), fit.0.name.born))))),
-    parts_fit base horizon e.0.born e.1.row e.1.died (second (nat_lt 0 e.0.born) (is_known e.1) c) (second (nat_lt 0 e.0.born && is_known e.1) (row_stands base e.0.born e.1.row) b) (second (nat_lt 0 e.0.born && is_known e.1 && row_stands base e.0.born e.1.row) (end_stands base horizon e.0.born e.1.died) a) fit.0.row fit.0.died),
-    facts_chained base horizon (Some e.0) facts rest.1 fit.1)
+    let c = first (nat_lt 0 e.0.born && is_known e.1) (row_stands base e.0.born e.1.row) b in (
+      (
+        ((order.0, (fit.0.name.table, (fit.0.name.key, (ltb-true 0 e.0.born (first (nat_lt 0 e.0.born) (is_known e.1) c), fit.0.name.born))))),
+        parts_fit base horizon e.0.born e.1.row e.1.died (second (nat_lt 0 e.0.born) (is_known e.1) c) (second (nat_lt 0 e.0.born && is_known e.1) (row_stands base e.0.born e.1.row) b) (second (nat_lt 0 e.0.born && is_known e.1 && row_stands base e.0.born e.1.row) (end_stands base horizon e.0.born e.1.died) a) fit.0.row fit.0.died,
+      ),
+      facts_chained base horizon (Some e.0) facts rest.1 fit.1,
+    )
 
 -- ---- fragments
 

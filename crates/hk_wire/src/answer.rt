@@ -7,7 +7,7 @@ ghost use Rattle.hk_codec.specs.Fields.{Gives, GivesOrRunsOut, number};
 ghost use Rattle.hk_model.specs.Answers.{answer_seen};
 ghost use Rattle.hk_wire.specs.Answers as spec;
 
-use crate::lengths::{key_len, number_len, tag_len};
+use crate::field_len::{key_len, number_len, tag_len};
 use hk_codec::{Cursor, ReadError, put_body, put_u32, put_u64};
 use hk_model::Answer;
 use hk_types::{FormFault, Key, Row, Tag};

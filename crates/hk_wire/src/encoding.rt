@@ -8,9 +8,9 @@ ghost use Rattle.hk_codec.specs.Fields.{number};
 ghost use Rattle.hk_wire.specs.Messages.{message_text};
 ghost use Rattle.hk_wire.specs.Requests as requests;
 
+use crate::field_len::time_len;
 use crate::fragment_encoding::{fragment_len, is_counted, put_fragment};
 use crate::head::{MOST_REST_BYTES, VERSION};
-use crate::lengths::time_len;
 use crate::items::{MOST_ITEMS, items_len, put_items};
 use crate::query::{put_query, query_len};
 use crate::request::{ASK, DELTA, FRONT, FULL, ITEMS, JOIN_THIS, MERGE_THIS, PRUNE, Request};

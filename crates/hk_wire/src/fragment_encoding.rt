@@ -10,7 +10,7 @@ ghost use Rattle.hk_wire.specs.Answers.{PresentFits};
 ghost use Rattle.hk_wire.specs.Fragments as spec;
 
 use crate::answer::{put_row, row_len};
-use crate::lengths::{key_len, number_len, table_len, time_len};
+use crate::field_len::{key_len, number_len, table_len, time_len};
 use hk_codec::{put_u16, put_u32, put_u64};
 use hk_delta::Fragment;
 use hk_log::Version;
@@ -149,13 +149,15 @@ fn facts_len(facts: &[(VersionKey, Version)]) -> u64
     total
 }
 
-/// How many bytes stand before the streams.
+/// How many bytes stand before the streams. The number of streams is read for what its type says of it.
 fn head_len(config: Config, base: Time, horizon: Time) -> u64
     ensures len { result ≡ 26 }
     ensures log { config.log < 2 ^ 64 }
+    ensures streams { (1 ≤ config.streams) × (config.streams ≤ 64) }
     ensures base { base ≤ 2 ^ 62 }
     ensures horizon { horizon ≤ 2 ^ 62 }
 {
+    let _streams = config.streams();
     number_len(config.log()) + 2 + time_len(base) + time_len(horizon)
 }
 

@@ -4,7 +4,7 @@ ghost use Rattle.std.specs.Prelude.{◌≡◌, ◌≤◌, ◌++◌, length, take
 ghost use Rattle.hk_codec.specs.Fields.{Gives};
 ghost use Rattle.hk_wire.specs.Queries as spec;
 
-use crate::lengths::{key_len, table_len, tag_len};
+use crate::field_len::{key_len, table_len, tag_len};
 use hk_codec::{Cursor, put_u16, put_u32, put_u64};
 use hk_model::Query;
 use hk_types::{FormFault, Key, Table, Tag};

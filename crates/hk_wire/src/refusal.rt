@@ -4,8 +4,8 @@ ghost use Rattle.std.specs.Prelude.{◌≡◌, ◌≤◌, ◌++◌, length, take
 ghost use Rattle.hk_codec.specs.Fields.{Gives};
 ghost use Rattle.hk_wire.specs.Refusals as spec;
 
+use crate::field_len::{number_len, time_len};
 use crate::head::read_time;
-use crate::lengths::{number_len, time_len};
 use hk_codec::{Cursor, put_u64};
 use hk_types::{FormFault, Refusal};
 use std::alloc::AllocError;

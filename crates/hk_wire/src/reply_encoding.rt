@@ -7,9 +7,9 @@ ghost use Rattle.hk_wire.specs.Replies as replies;
 
 use crate::answer::{answer_len, keeps_answer_rules, put_answer};
 use crate::encoding::put_head;
+use crate::field_len::{number_len, time_len};
 use crate::fragment_encoding::{fragment_len, is_counted, put_fragment};
 use crate::head::MOST_REST_BYTES;
-use crate::lengths::{number_len, time_len};
 use crate::refusal::{is_sent, put_refusal, refusal_len};
 use crate::reply::{ANSWER, DONE, FRAGMENT, FRONT, REFUSED, Reply};
 use hk_codec::put_u64;
