@@ -193,3 +193,8 @@ module _ {X Y : Type 0} (seen : X → Y) (least most : ℕ) (read : List ℕ →
 
   pub values_fault : (text : List ℕ) (before after : List X) (used : ℕ) (f : FormFault) → SoFar (λ x. text_of (seen x)) (λ x. IsY (seen x)) text before after used → framed least most read (from_place used text) ≡ Err f → AddsValues least most read (λ x. text_of (seen x)) (λ x. IsY (seen x)) before after text (Err f)
   values_fault text before after used f s e = faults seen least most read text_of IsY format text before after used f s (ap (framed least most read) (sym (tail_is used text)) ∙ e)
+
+-- the spelling of one value is read as that value
+pub one_value_begins : {X Y : Type 0} (least most : ℕ) (read : List ℕ → Result Y FormFault) (rest_text : X → List ℕ) (IsValue : X → Type 0) (x : X) → IsValue x → Begins least most read rest_text IsValue (spelled rest_text x) (x ∷ []) (Ok [])
+one_value_begins least most read rest_text IsValue x fits =
+    (sym (append-nil (flat_map (spelled rest_text) (x ∷ [])) ∙ flat_map-cons (spelled rest_text) x [] ∙ append-nil (spelled rest_text x)), (fits, tt), inl (omega arith))

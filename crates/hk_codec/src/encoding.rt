@@ -1,12 +1,13 @@
 //! The one spelling of an item.
 
-ghost use Rattle.std.specs.Prelude.{◌≡◌, ◌≤◌, ◌*◌, ◌++◌, length, take, OnOk, OnErr, IfErr};
+ghost use Rattle.std.specs.Prelude.{◌≡◌, ◌≤◌, ◌+◌, ◌*◌, ◌++◌, ◌∷◌, [], Ok, All, length, take, OnOk, OnErr, IfErr};
 ghost use Rattle.std.specs.Int.{w16};
 ghost use Rattle.std.specs.List.{flat_map};
+ghost use Rattle.hk_log.specs.Items.{IsMark};
 ghost use Rattle.hk_types.specs.declared.faults.Refusal.TheVariants as refusals;
 ghost use Rattle.hk_codec.specs.Fields.{number};
 ghost use Rattle.hk_codec.specs.Spelling as spec;
-ghost use Rattle.hk_codec.specs.Frames.{spelling};
+ghost use Rattle.hk_codec.specs.Frames.{spelling, Reads};
 
 use crate::fields::{put_body, put_u16, put_u32, put_u64};
 use crate::frames::LENGTH_BYTES;
@@ -73,15 +74,50 @@ fn put_rows(out: &mut Vec<u8>, rows: &[(Table, Key, Row)]) -> Result<(), AllocEr
     Ok(())
 }
 
+/// How many bytes an end has. Its numbers are read for what their types say of them.
+fn end_len(end: &VersionKey) -> u32
+    ensures len { result ≡ 18 }
+    ensures fits { spec.EndFits end.now }
+{
+    let _table = end.table.number();
+    let _key = end.key.number();
+    18
+}
+
+/// How many bytes the ends have, without their count.
+fn ends_len(ends: &[VersionKey]) -> u32
+    requires { length ends.now ≤ 1024 }
+    ensures len { result ≡ 18 * length ends.now }
+    ensures fits { All spec.EndFits ends.now }
+{
+    let mut total = 0;
+    for end in ends {
+        total += end_len(end);
+    }
+    total
+}
+
+/// How many bytes a row has. Its numbers are read for what their types say of them.
+fn row_len(row: &(Table, Key, Row)) -> u32
+    ensures len { result ≡ 16 + length row.now.2.body }
+    ensures fits { spec.RowFits row.now }
+{
+    let _table = row.0.number();
+    let _key = row.1.number();
+    let _tag = row.2.tag().number();
+    16 + row.2.body().len() as u32
+}
+
 /// How many bytes the rows have, without their count.
 fn rows_len(rows: &[(Table, Key, Row)]) -> u32
     requires { length rows.now ≤ 1024 }
     ensures len { result ≡ length (flat_map spec.row_text rows.now) }
     ensures bound { result ≤ 4112 * length rows.now }
+    ensures fits { All spec.RowFits rows.now }
 {
     let mut total = 0;
     for row in rows {
-        total += 16 + row.2.body().len() as u32;
+        total += row_len(row);
     }
     total
 }
@@ -106,14 +142,24 @@ fn put_mark(out: &mut Vec<u8>, mark: &Mark) -> Result<(), AllocError>
     put_u64(out, mark.m().number())
 }
 
+/// How many bytes the rest of a mark's frame has.
+fn mark_len(mark: &Mark) -> u32
+    ensures len { result ≡ 28 }
+    ensures fits { IsMark mark.now }
+{
+    let _count = mark.n();
+    28
+}
+
 /// How many bytes follow the length.
 fn rest_len(item: &Item) -> u32
     ensures len { result ≡ length (spec.rest_text item.now) }
     ensures bound { result ≤ 4229152 }
+    ensures fits { spec.IsItem item.now }
 {
     match item {
-        Item::Commit(entry) => 32 + 18 * entry.ends().len() as u32 + rows_len(entry.rows()),
-        Item::Closed(_mark) => 28,
+        Item::Commit(entry) => 32 + ends_len(entry.ends()) + rows_len(entry.rows()),
+        Item::Closed(mark) => mark_len(mark),
     }
 }
 
@@ -139,6 +185,8 @@ fn put_rest(out: &mut Vec<u8>, item: &Item) -> Result<(), AllocError>
 pub fn frame_len(item: &Item) -> u32
     ensures len { result ≡ length (spelling item.now) }
     ensures bound { result ≤ 4229156 }
+    // Each part of an item fits its field.
+    ensures fits { spec.IsItem item.now }
 {
     4 + rest_len(item)
 }
@@ -149,6 +197,8 @@ pub fn frame_len(item: &Item) -> u32
 pub fn put_frame(out: &mut Vec<u8>, item: &Item) -> Result<(), AllocError>
     ensures ok { OnOk result (out.new.items ≡ out.old.items ++ spelling item.now) }
     ensures kept { OnErr result (take (length out.old.items) out.new.items ≡ out.old.items) }
+    // Each part of an item fits its field.
+    ensures fits { spec.IsItem item.now }
 {
     let rest = rest_len(item);
     out.reserve(LENGTH_BYTES + rest as usize)?;
@@ -156,11 +206,15 @@ pub fn put_frame(out: &mut Vec<u8>, item: &Item) -> Result<(), AllocError>
     put_rest(out, item)
 }
 
-/// Adds the item's one spelling at the end. The whole frame is reserved at once, so the cost is one growth
-/// of the output at most, and one pass over the item. The only refusal is `Memory`, and then the output
-/// is as before.
+/// Adds the item's one spelling at the end. A feeder that is given it gives the item back, and holds nothing.
+/// The whole frame is reserved at once, so the cost is one growth of the output at most, and two passes over
+/// the item: one that counts its bytes and one that writes them. The only refusal is `Memory`, and then the
+/// output is as before.
 pub fn encode(item: &Item, out: &mut Vec<u8>) -> Result<(), Refusal>
     ensures ok { OnOk result (out.new.items ≡ out.old.items ++ spelling item.now) }
+    // What is added is the spelling of an item, and is read as that item.
+    ensures fits { spec.IsItem item.now }
+    ensures reads { Reads (spelling item.now) (item.now ∷ []) (Ok []) }
     ensures err { OnErr result (out.new.items ≡ out.old.items) }
     ensures memory { IfErr result (λ e. e ≡ refusals.Memory) }
 {

@@ -13,6 +13,7 @@ use Rattle.hk_model.specs.Streams.{StreamContent}
 use Rattle.hk_model.specs.Content.{Content, least_closed}
 use Rattle.hk_model.specs.Lawful.{IsLawfulStream}
 use Rattle.hk_model.specs.Fragments.{FragmentValue}
+use Rattle.hk_marks.specs.Seen.{IsNumbered}
 
 -- a version and what is known of it
 abbrev pub Known : Type 0
@@ -87,4 +88,5 @@ checked_fragment config base horizon streams facts =
 pub record IsFragment (config : ConfigValue) (base horizon : ℕ) (streams : List StreamContent) (facts : List Known) : Type 0 where
   pub as_many : length streams ≡ config.streams
   pub lawful_streams : All IsLawfulStream streams
+  pub numbered_streams : All IsNumbered streams
   pub faultless : fragment_fault base horizon streams facts ≡ None

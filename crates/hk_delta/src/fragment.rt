@@ -3,6 +3,7 @@
 ghost use Rattle.std.specs.Prelude.{◌≡◌, length, nat_lt, ◌&&◌, Some, None, All, IfOk, IfErr};
 ghost use Rattle.hk_types.specs.declared.faults.Refusal.TheVariants.{Memory};
 ghost use Rattle.hk_model.specs.Lawful.{IsLawfulFragment};
+ghost use Rattle.hk_marks.specs.Seen.{IsNumbered};
 ghost use Rattle.hk_delta.specs.Parts as spec;
 
 use hk_log::Version;
@@ -180,9 +181,11 @@ impl Fragment {
         self.horizon
     }
 
-    /// The numbers and marks of the streams.
+    /// The numbers and marks of the streams: numbers are 1 to 2^62, times at most 2^62, and a waiting mark's
+    /// count is at most its time.
     pub fn got(&self) -> &Got
-        ensures { result.now ≡ self.now.content.streams }
+        ensures value { result.now ≡ self.now.content.streams }
+        ensures numbered { All IsNumbered self.now.content.streams }
     {
         &self.got
     }

@@ -20,6 +20,7 @@ use Rattle.hk_marks.proofs.Settled.{settled_same}
 use Rattle.hk_marks.proofs.Told.{settled_alike, later_comm}
 use Rattle.hk_marks.proofs.Trees.{contains-taken_seen, contains-up_to, covers_seen, get-waiting_seen}
 use Rattle.hk_marks.proofs.Readers.{entries-waiting_seen}
+use Rattle.hk_marks.proofs.Numbered.{all_numbered}
 use Rattle.hk_marks.proofs.Rooms.{widened_back}
 use Rattle.hk_marks.specs.Seen.{up_to, taken_seen, waiting_seen, IsExtra, IsStored, AreStreams, stream_seen}
 use Rattle.hk_marks.specs.Room.{among, HasRoom, Widens, Without}
@@ -366,8 +367,8 @@ all_lawful (x ∷ xs) [] = All-nil IsLawfulStream
 all_lawful (x ∷ xs) (y ∷ ys) =
     All-cons IsLawfulStream (together x y) (all_together xs ys) (settled_lawful (set.union x.taken y.taken) (max x.closed y.closed) (finmap.entries x.waiting ++ finmap.entries y.waiting)) (all_lawful xs ys)
 
-pub joined_kept : (n : ℕ) (xs ys zs : List StreamContent) → AreStreams xs → length xs ≡ length ys → zs ≡ all_together xs ys → n ≡ length xs → AreStreams (take n (zs ++ drop (length zs) xs))
-joined_kept n xs ys zs are same is count =
+pub joined_kept : (n : ℕ) (xs ys zs : List StreamContent) → AreStreams xs → AreStreams ys → length xs ≡ length ys → zs ≡ all_together xs ys → n ≡ length xs → AreStreams (take n (zs ++ drop (length zs) xs))
+joined_kept n xs ys zs are others same is count =
     let joined = length-all_together xs ys same in
     let long : n ≡ length zs = count ∙ sym joined ∙ ap length (sym is) in
     subst AreStreams (sym (ap (λ k. take k (zs ++ drop (length zs) xs)) long ∙ take-append_seam zs (drop (length zs) xs) ∙ is))
@@ -375,4 +376,5 @@ joined_kept n xs ys zs are same is count =
       least = omega (arith, are.least);
       most = omega (arith, are.most);
       lawful = all_lawful xs ys;
+      numbered = all_numbered xs ys are.numbered others.numbered;
     })

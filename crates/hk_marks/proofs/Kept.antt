@@ -7,16 +7,18 @@ use Rattle.hk_model.proofs.Lawful.{settled_lawful}
 use Rattle.hk_model.specs.Streams.{StreamContent, unknown}
 use Rattle.hk_model.specs.Content.{least_closed}
 use Rattle.hk_model.specs.Lawful.{IsLawfulStream}
-use Rattle.hk_marks.specs.Seen.{AreStreams, up_to}
+use Rattle.hk_marks.proofs.Numbered.{unknown_numbered}
+use Rattle.hk_marks.specs.Seen.{AreStreams, IsNumbered, up_to}
 use Rattle.hk_marks.specs.Steps.{with_number, with_mark, raised}
 use Rattle.std.specs.FinSet as set
 
-pub AreStreams-set : (streams : List StreamContent) (i : ℕ) (s : StreamContent) → AreStreams streams → IsLawfulStream s → AreStreams (set_at streams i s)
-AreStreams-set streams i s are lawful =
+pub AreStreams-set : (streams : List StreamContent) (i : ℕ) (s : StreamContent) → AreStreams streams → IsLawfulStream s → IsNumbered s → AreStreams (set_at streams i s)
+AreStreams-set streams i s are lawful numbered =
     record {
       least = omega (arith, length-set {A = StreamContent}, are.least);
       most = omega (arith, length-set {A = StreamContent}, are.most);
       lawful = All-set IsLawfulStream streams i s lawful are.lawful;
+      numbered = All-set IsNumbered streams i s numbered are.numbered;
     }
 
 pub AreStreams-unknown : (n : ℕ) → 1 ≤ n → n ≤ 64 → AreStreams (replicate n unknown)
@@ -26,6 +28,7 @@ AreStreams-unknown n above within =
       least = omega arith;
       most = omega arith;
       lawful = All-replicate IsLawfulStream n unknown (settled_lawful set.empty 0 []);
+      numbered = All-replicate IsNumbered n unknown unknown_numbered;
     }
 
 -- the least of a time and the closed times

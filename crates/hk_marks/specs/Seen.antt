@@ -1,5 +1,5 @@
 -- How the stored parts of a stream are seen.
-use Rattle.std.specs.Prelude.{◌≡◌, ℕ, zero, suc, ◌^◌, ◌+◌, ◌<◌, ◌≤◌, List, length, All, true, Some}
+use Rattle.std.specs.Prelude.{◌≡◌, ℕ, zero, suc, ◌^◌, ◌+◌, ◌<◌, ◌≤◌, List, length, All, true, false, Some}
 use Rattle.std.specs.Ordering.{nat_cmp}
 use Rattle.std.specs.FinMap as finmap
 use Rattle.std.specs.FinSet as set
@@ -41,8 +41,17 @@ pub record IsStored (prefix : ℕ) (extra : BTreeSet ℕ) (waiting : BTreeMap �
   pub extras : IsExtra prefix extra
   pub waits : WaitsAbove prefix waiting
 
+-- a stream as items make it: its entries are numbered from 1 to 2^62, its times are at most 2^62, and a mark that
+-- waits is of no more entries than its time
+pub record IsNumbered (s : StreamContent) : Type 0 where
+  pub from_one : set.contains s.taken 0 ≡ false
+  pub numbers : (q : ℕ) → set.contains s.taken q ≡ true → q ≤ 2 ^ 62
+  pub closed : s.closed ≤ 2 ^ 62
+  pub marks : (count upto : ℕ) → finmap.get s.waiting count ≡ Some upto → (count ≤ upto) × (upto ≤ 2 ^ 62)
+
 -- what the streams of every `Got` are
 pub record AreStreams (streams : List StreamContent) : Type 0 where
   pub least : 1 ≤ length streams
   pub most : length streams ≤ 64
   pub lawful : All IsLawfulStream streams
+  pub numbered : All IsNumbered streams

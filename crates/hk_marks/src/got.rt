@@ -4,6 +4,7 @@ ghost use Rattle.std.specs.Prelude.{◌≡◌, ◌≤◌, ◌<◌, ◌^◌, ◌-
 ghost use Rattle.std.specs.FinMap as finmap;
 ghost use Rattle.std.specs.FinSet as set;
 ghost use Rattle.std.specs.List.Sorted.{IsStrictlyIncreasing};
+ghost use Rattle.std.specs.Map.{keys_of};
 ghost use Rattle.std.specs.Map.Iter.{ShowsInOrder, deref, deref_pair};
 ghost use Rattle.hk_types.specs.declared.faults.Refusal.TheVariants.{Memory};
 ghost use Rattle.hk_log.specs.Items.{EntryValue, MarkValue};
@@ -11,6 +12,7 @@ ghost use Rattle.hk_log.specs.declared.item.Item.TheVariants.{Commit, Closed};
 ghost use Rattle.hk_model.specs.Content.{least_closed};
 ghost use Rattle.hk_model.specs.Lawful.{IsLawfulStream};
 ghost use Rattle.hk_model.specs.Streams.{StreamContent, all_together, covers, is_told, stream_at, streams_of, unknown};
+ghost use Rattle.hk_marks.specs.Seen.{IsNumbered};
 ghost use Rattle.hk_marks.specs.Steps.{with_number, with_mark, raised, extra_numbers};
 
 use crate::stream::{Stream, join_streams};
@@ -26,7 +28,8 @@ use std::marker::Model;
 /// comes in order costs no memory, and one that comes out of order a tree node an extra number.
 /// A mark says that the first `n` entries of its stream are all those with time at most `m`. It
 /// closes the stream up to `m` as soon as 1 to `n` are taken; until then it waits, and of several
-/// for one `n` the one with the greatest `m`.
+/// for one `n` the one with the greatest `m`. Entries are numbered from 1 to 2^62, so number 0 is never taken;
+/// times are at most 2^62, and no mark waits whose `n` is above its `m`.
 #[derive(Drop)]
 pub struct Got {
     streams: Vec<Stream>,
@@ -154,6 +157,9 @@ impl Got {
         ensures least { 1 ≤ length self.now }
         ensures most { length self.now ≤ 64 }
         ensures lawful { All IsLawfulStream self.now }
+
+        // Numbers are 1 to 2^62, times at most 2^62, and a waiting mark's count is at most its time.
+        ensures numbered { All IsNumbered self.now }
     {
         self.streams.len() as u16
     }
@@ -203,6 +209,7 @@ impl Got {
     pub fn readable(&self) -> Time
         ensures value { result ≡ least_closed self.now }
         ensures lawful { All IsLawfulStream self.now }
+        ensures numbered { All IsNumbered self.now }
     {
         let mut least = self.streams[0].closed();
         for stream in &self.streams {
@@ -225,6 +232,7 @@ impl Got {
     pub fn waiting_marks(&self, s: StreamNo) -> btree_map::Iter<'_, u64, Time>
         requires { s ≤ length self.now }
         ensures value { result ≡ finmap.entries (stream_at self.now s).waiting }
+        ensures rising { IsStrictlyIncreasing (keys_of result) }
         ensures runs { ShowsInOrder (deref_pair {K = ℕ} {X = ℕ}) }
     {
         self.streams[place(s)].waiting_marks()

@@ -3,6 +3,7 @@
 ghost use Rattle.std.specs.Prelude.{◌≡◌, ◌≤◌, ◌<◌, ◌^◌, ◌+◌, ℕ, true, max, nat_le, is_some, Some, IsSome, IfSome, IfNone, IfOk, OnOk, OnErr};
 ghost use Rattle.std.specs.Bool.{OnTrue, OnFalse};
 ghost use Rattle.std.specs.List.Sorted.{IsStrictlyIncreasing};
+ghost use Rattle.std.specs.Map.{keys_of};
 ghost use Rattle.std.specs.Ordering.{nat_cmp};
 ghost use Rattle.std.specs.FinMap as finmap;
 ghost use Rattle.std.specs.BTreeMap as tree;
@@ -263,6 +264,7 @@ impl Stream {
     /// The waiting marks, in rising order of their counts.
     pub fn waiting_marks(&self) -> btree_map::Iter<'_, u64, Time>
         ensures value { result ≡ finmap.entries self.now.waiting }
+        ensures rising { IsStrictlyIncreasing (keys_of result) }
         ensures runs { ShowsInOrder (deref_pair {K = ℕ} {X = ℕ}) }
     {
         self.waiting.iter()

@@ -19,19 +19,19 @@ impl ReplicaState {
     /// Drops each version that ended at a time or before, and makes that time the horizon.
     ///
     /// A time above the readable mark is refused `AheadOfMark` with that mark. One at most the horizon
-    /// changes nothing and takes no memory. `Memory` comes where the list of what goes could not be made. A
+    /// is never refused, changes nothing and takes no memory. `Memory` comes where the list of what goes could not be made. A
     /// refusal changes nothing. Costs by the facts that are held, and by those that go times the logarithm.
     pub fn prune(&mut self, time: Time) -> Result<(), Refusal>
         ensures gives { Prunes self.old self.new time result }
         ensures stands { PrunesOf self.old self.new time result }
-        ensures below { time ≤ self.old.horizon → time ≤ readable self.old → IsOk result }
+        ensures below { time ≤ self.old.horizon → IsOk result }
     {
         self.raise_horizon(time)
     }
 
     fn raise_horizon(&mut self, time: Time) -> Result<(), Refusal>
         ensures gives { Prunes self.old self.new time result }
-        ensures below { time ≤ self.old.horizon → time ≤ readable self.old → IsOk result }
+        ensures below { time ≤ self.old.horizon → IsOk result }
     {
         let readable = self.got.readable();
         if readable < time {

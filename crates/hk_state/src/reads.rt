@@ -1,6 +1,6 @@
 //! Reading a state at a time.
 
-ghost use Rattle.std.specs.Prelude.{◌≡◌, IfSome, IfNone, None, ◌==◌, ◌||◌, ℕ, is_some, length};
+ghost use Rattle.std.specs.Prelude.{◌≡◌, ◌<◌, IfSome, IfNone, None, ◌==◌, ◌||◌, ℕ, is_some, length};
 ghost use Rattle.std.specs.Option.{option_copied};
 ghost use Rattle.std.specs.FinMap as finmap;
 ghost use Rattle.std.specs.FinSet as set;
@@ -28,11 +28,13 @@ impl ReplicaState {
         &self.facts
     }
 
-    /// The chain of a key of a table: what is known of each of its versions. It takes no memory. The cost
-    /// grows as the logarithm of the number of tables and keys.
+    /// The chain of a key of a table: what is known of each of its versions, of which there is at least one.
+    /// `None` where nothing is known of the key. It takes no memory. The cost grows as the logarithm of the
+    /// number of tables and keys.
     pub fn chain(&self, table: Table, key: Key) -> Option<&Chain>
         ensures some { IfSome result (λ chain. (born : ℕ) → finmap.get chain.now born ≡ known_at (facts_of_content self.now) (record { table = table; key = key; born = born })) }
         ensures none { IfNone result ((born : ℕ) → known_at (facts_of_content self.now) (record { table = table; key = key; born = born }) ≡ None) }
+        ensures filled { IfSome result (λ chain. 0 < finmap.len chain.now) }
     {
         self.facts.chain(table, key)
     }

@@ -132,8 +132,8 @@ impl Tables {
         self.tables.remove(&version.table);
     }
 
-    /// The versions whose end is known and at most `until`, in rising order. The only error is want of
-    /// memory. The cost grows with the number of facts.
+    /// The versions whose end is known and at most `until`. The only error is want of memory. The cost grows
+    /// with the number of facts.
     pub fn ended(&self, until: Time) -> Result<Vec<VersionKey>, AllocError>
         ensures { IfOk result (λ versions. (q : VersionKey) → is_among versions.items q ≡ ended_by self.now.ends until q) }
     {

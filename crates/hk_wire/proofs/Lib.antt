@@ -12,3 +12,5 @@ pub mod Gathering
 pub mod Standing
 pub mod Putting
 pub mod Telling
+pub mod Fitting
+pub mod Spelled

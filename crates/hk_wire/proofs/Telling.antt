@@ -1,6 +1,7 @@
 -- What is told of a fragment is the whole of it.
-use Rattle.std.proofs.Common.{◌≡◌, refl, sym, ap, ◌∙◌, ℕ, zero, suc, ◌≤◌, Bool, true, false, cond, not, ◌||◌, ◌&&◌, ltb, leb, max, nat_cmp, true≢false, List, [], ◌∷◌, map, Option, Some, None, is_some, arith}
-use Rattle.std.specs.List.{list_any, AllByRecursion}
+use Rattle.std.proofs.Common.{◌≡◌, refl, sym, ap, ◌∙◌, ℕ, zero, suc, ◌≤◌, Bool, true, false, cond, not, ◌||◌, ◌&&◌, ltb, leb, max, nat_cmp, true≢false, List, [], ◌∷◌, map, Option, Some, None, is_some, arith, All}
+use Rattle.std.specs.List.{list_any}
+use Rattle.std.proofs.lemmas.List.Elements.{All-head, All-tail}
 use Rattle.std.specs.Cmp.{nat_cmp_total}
 use Rattle.std.specs.Ordering.{eq_by_cmp}
 use Rattle.std.specs.FinMap as finmap
@@ -15,10 +16,11 @@ use Rattle.hk_model.specs.Streams.{StreamContent, covers}
 use Rattle.hk_model.specs.Content.{Content}
 use Rattle.hk_model.specs.Fragments.{FragmentValue}
 use Rattle.hk_model.proofs.Maps.{version_key_total, version_key_same}
+use Rattle.hk_marks.specs.Seen.{IsNumbered}
 use Rattle.hk_marks.specs.Steps.{extra_numbers}
 use Rattle.hk_delta.specs.Parts.{known_of, versions_listed}
 use Rattle.hk_delta.proofs.Listed.{listed_of, pairs}
-use Rattle.hk_wire.specs.Fragments.{FragmentTold, StreamTold, greatest_reached, rising, stream_seen, fragment_seen, IsFromOne, AreFromOne}
+use Rattle.hk_wire.specs.Fragments.{FragmentTold, StreamTold, greatest_reached, rising, stream_seen, fragment_seen}
 use Rattle.hk_wire.proofs.Streaming.{reached_there, paired, find_paired}
 
 -- ---- streams
@@ -41,7 +43,7 @@ covers_less t (suc m) n le c = by (leb n m) refl (λ l. covers_less t m n l (sec
     by true e less = less (leb-true n m e)
     by false e less = let is : suc m ≡ n = (let l = leb-false n m e in omega arith) in ap (covers t) (sym is) ∙ c
 
-greatest_covered_too : (t : set.FinSet nat_cmp) (ks : List ℕ) → covers t (greatest_reached t ks) ≡ true
+pub greatest_covered_too : (t : set.FinSet nat_cmp) (ks : List ℕ) → covers t (greatest_reached t ks) ≡ true
 greatest_covered_too t [] = refl
 greatest_covered_too t (k ∷ ks) = by (covers t k) refl (greatest_covered_too t ks)
   where
@@ -54,7 +56,7 @@ greatest_covered_too t (k ∷ ks) = by (covers t k) refl (greatest_covered_too t
     by false c rest = rest
 
 -- the numbers up to the greatest that is reached are those that are covered
-reached_law : (t : set.FinSet nat_cmp) (n : ℕ) → covers t n ≡ leb n (greatest_reached t (set.items t))
+pub reached_law : (t : set.FinSet nat_cmp) (n : ℕ) → covers t n ≡ leb n (greatest_reached t (set.items t))
 reached_law t zero = sym (le-leb 0 (greatest_reached t (set.items t)) (omega arith))
 reached_law t (suc n) = by (covers t (suc n)) refl (leb (suc n) (greatest_reached t (set.items t))) refl
   where
@@ -78,18 +80,19 @@ rising_has ks q =
     ∙ ap is_some (finmap.get-from_entries nat_cmp_total (paired ks) q ∙ find_paired q ks)
     ∙ is_some-cond (list_any (eq_by_cmp nat_cmp q) ks) q
 
+-- the extra numbers are those that are taken and not covered
+pub extra_told : (s : StreamContent) (q : ℕ) → list_any (eq_by_cmp nat_cmp q) (stream_seen s).extra ≡ (set.contains s.taken q && not (covers s.taken q))
+extra_told s q =
+    rising_has (set.items (extra_numbers s)) q
+    ∙ sym (set.contains-items (extra_numbers s) q)
+    ∙ set.contains-retain s.taken (λ n. not (covers s.taken n)) q (λ x t. ap (λ n. not (covers s.taken n)) (sym (finmap.nat_cmp-IsAntisymmetric q x t)))
+
 -- a number is taken where it is told: up to the prefix, or as an extra one
-taken_told : (s : StreamContent) → IsFromOne s → (q : ℕ) → set.contains s.taken q ≡ ((ltb 0 q && leb q (stream_seen s).prefix) || list_any (eq_by_cmp nat_cmp q) (stream_seen s).extra)
+taken_told : (s : StreamContent) → set.contains s.taken 0 ≡ false → (q : ℕ) → set.contains s.taken q ≡ ((ltb 0 q && leb q (stream_seen s).prefix) || list_any (eq_by_cmp nat_cmp q) (stream_seen s).extra)
 taken_told s one q =
     by q (set.contains s.taken q) refl (covers s.taken q) refl
-    ∙ (λ i. (ltb 0 q && reached_law s.taken q i) || sym extras i)
+    ∙ (λ i. (ltb 0 q && reached_law s.taken q i) || sym (extra_told s q) i)
   where
-    extras : list_any (eq_by_cmp nat_cmp q) (stream_seen s).extra ≡ (set.contains s.taken q && not (covers s.taken q))
-    extras =
-        rising_has (set.items (extra_numbers s)) q
-        ∙ sym (set.contains-items (extra_numbers s) q)
-        ∙ set.contains-retain s.taken (λ n. not (covers s.taken n)) q (λ x t. ap (λ n. not (covers s.taken n)) (sym (finmap.nat_cmp-IsAntisymmetric q x t)))
-
     positive : (n : ℕ) → ltb 0 (suc n) ≡ true
     positive n = lt-ltb 0 (suc n) (omega arith)
 
@@ -101,22 +104,22 @@ taken_told s one q =
     by (suc n) false e true c = absurd (true≢false (sym (first (set.contains s.taken (suc n)) (covers s.taken n) c) ∙ e))
     by (suc n) false e false c = rw (positive n) refl
 
-stream_same : (s t : StreamContent) → IsFromOne s → IsFromOne t → stream_seen s ≡ stream_seen t → s ≡ t
+stream_same : (s t : StreamContent) → IsNumbered s → IsNumbered t → stream_seen s ≡ stream_seen t → s ≡ t
 stream_same s t one other e =
     let taken : s.taken ≡ t.taken = set.same_set nat_cmp_total finmap.nat_cmp-IsAntisymmetric s.taken t.taken (λ q.
-    taken_told s one q ∙ ap (λ (u : StreamTold). (ltb 0 q && leb q u.prefix) || list_any (eq_by_cmp nat_cmp q) u.extra) e ∙ sym (taken_told t other q)) in
+    taken_told s one.from_one q ∙ ap (λ (u : StreamTold). (ltb 0 q && leb q u.prefix) || list_any (eq_by_cmp nat_cmp q) u.extra) e ∙ sym (taken_told t other.from_one q)) in
     let closed : s.closed ≡ t.closed = ap (λ (u : StreamTold). u.closed) e in
     let waiting : s.waiting ≡ t.waiting = finmap.same_entries_map s.waiting t.waiting (ap (λ (u : StreamTold). u.waiting) e) in
     λ i. record { taken = taken i; closed = closed i; waiting = waiting i }
 
-streams_same : (ss ts : List StreamContent) → AllByRecursion IsFromOne ss → AllByRecursion IsFromOne ts → map stream_seen ss ≡ map stream_seen ts → ss ≡ ts
+streams_same : (ss ts : List StreamContent) → All IsNumbered ss → All IsNumbered ts → map stream_seen ss ≡ map stream_seen ts → ss ≡ ts
 streams_same [] [] h k e = refl
 streams_same [] (t ∷ ts) h k e = absurd cc
 streams_same (s ∷ ss) [] h k e = absurd cc
 streams_same (s ∷ ss) (t ∷ ts) h k e =
     let here : stream_seen s ≡ stream_seen t = cc in
     let rest : map stream_seen ss ≡ map stream_seen ts = cc in
-    (λ i. stream_same s t h.0 k.0 here i ∷ streams_same ss ts h.1 k.1 rest i)
+    (λ i. stream_same s t (All-head IsNumbered s ss h) (All-head IsNumbered t ts k) here i ∷ streams_same ss ts (All-tail IsNumbered s ss h) (All-tail IsNumbered t ts k) rest i)
 
 -- ---- facts
 
@@ -137,7 +140,7 @@ known_told c v =
 
 -- ---- fragments
 
-pub fragment_same : (f g : FragmentValue) → AreFromOne f → AreFromOne g → fragment_seen f ≡ fragment_seen g → f ≡ g
+pub fragment_same : (f g : FragmentValue) → All IsNumbered f.content.streams → All IsNumbered g.content.streams → fragment_seen f ≡ fragment_seen g → f ≡ g
 fragment_same f g one other e =
     let known : (v : VersionKey) → known_of f.content v ≡ known_of g.content v =
     λ v. known_told f.content v ∙ ap (λ (t : FragmentTold). found_known (find version_key_cmp v t.facts)) e ∙ sym (known_told g.content v) in

@@ -1,5 +1,5 @@
 -- Fragments: what their bytes tell, their spelling and their reading.
-use Rattle.std.specs.Prelude.{◌≡◌, ◌⊎◌, ℕ, ◌+◌, ◌^◌, ◌<◌, ◌≤◌, Bool, true, false, not, ◌&&◌, ◌||◌, max, min, nat_lt, nat_le, ◌==◌, if◌then◌else◌, List, [], ◌∷◌, ◌++◌, length, map, Option, Some, None, Err}
+use Rattle.std.specs.Prelude.{◌≡◌, ◌⊎◌, ℕ, ◌+◌, ◌^◌, ◌<◌, ◌≤◌, Bool, true, not, ◌&&◌, ◌||◌, max, min, nat_lt, nat_le, ◌==◌, if◌then◌else◌, List, [], ◌∷◌, ◌++◌, length, map, Option, Some, None, Err}
 use Rattle.std.specs.Int.{w16, w32, w64}
 use Rattle.std.specs.List.{flat_map, AllByRecursion}
 use Rattle.std.specs.Ordering.{nat_cmp}
@@ -15,7 +15,7 @@ use Rattle.hk_marks.specs.Steps.{extra_numbers}
 use Rattle.hk_delta.specs.Parts.{Known, versions_listed, follows, end_stands}
 use Rattle.hk_codec.specs.Fields.{number, number_at, list_at}
 use Rattle.hk_wire.specs.Readers.{Reader, both, after, barred, made, kinded, counted, time_at, Chained}
-use Rattle.hk_wire.specs.Answers.{row_text, row_at, RowFits}
+use Rattle.hk_wire.specs.Answers.{row_text, row_at, RowFits, PresentFits}
 
 -- what is told of a stream: the number up to which all are taken, the closed time, the taken numbers above it,
 -- and the waiting marks by their counts
@@ -62,13 +62,6 @@ fragment_seen f =
       streams = map stream_seen f.content.streams;
       facts = versions_listed f.content;
     }
-
--- entries are numbered from 1
-abbrev pub IsFromOne : StreamContent → Type 0
-IsFromOne s = set.contains s.taken 0 ≡ false
-
-abbrev pub AreFromOne : FragmentValue → Type 0
-AreFromOne f = AllByRecursion IsFromOne f.content.streams
 
 -- ---- spelling
 
@@ -243,6 +236,23 @@ PartsFit base horizon born (Some row) (Some died) = (base < born) × (RowFits ro
 -- what is known of a version, in its place
 abbrev pub FactFits : ℕ → ℕ → Option VersionKey → Known → Type 0
 FactFits base horizon before e = VersionFits before e.0 × PartsFit base horizon e.0.born e.1.row e.1.died
+
+-- a version whose numbers fit their fields
+pub record NameFits (v : VersionKey) : Type 0 where
+  pub table : v.table < 2 ^ 16
+  pub key : v.key < 2 ^ 64
+  pub born : v.born ≤ 2 ^ 62
+
+-- a time, if there is one
+abbrev pub DiedFits : Option ℕ → Type 0
+DiedFits None = Unit {0}
+DiedFits (Some died) = died ≤ 2 ^ 62
+
+-- a version and what is known of it, whose numbers and body fit their fields
+pub record KnownFits (e : Known) : Type 0 where
+  pub name : NameFits e.0
+  pub row : PresentFits e.1.row
+  pub died : DiedFits e.1.died
 
 -- a fragment whose parts fit their fields and keep the rules of fragments
 pub record FragmentFits (f : FragmentTold) : Type 0 where

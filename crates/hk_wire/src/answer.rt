@@ -1,12 +1,13 @@
 //! Answers as bytes.
 
-ghost use Rattle.std.specs.Prelude.{◌≡◌, ◌≤◌, ◌<◌, ◌*◌, ◌^◌, ◌++◌, None, true, length, take, OnOk, OnErr};
+ghost use Rattle.std.specs.Prelude.{◌≡◌, ◌≤◌, ◌<◌, ◌*◌, ◌^◌, ◌+◌, ◌++◌, None, true, All, length, take, OnOk, OnErr};
 ghost use Rattle.std.specs.Int.{w32};
 ghost use Rattle.std.specs.List.{flat_map};
 ghost use Rattle.hk_codec.specs.Fields.{Gives, GivesOrRunsOut, number};
 ghost use Rattle.hk_model.specs.Answers.{answer_seen};
 ghost use Rattle.hk_wire.specs.Answers as spec;
 
+use crate::field_len::{key_len, number_len, tag_len};
 use hk_codec::{Cursor, ReadError, put_body, put_u32, put_u64};
 use hk_model::Answer;
 use hk_types::{FormFault, Key, Row, Tag};
@@ -166,15 +167,32 @@ pub(crate) fn keeps_answer_rules(answer: &Answer) -> bool
     }
 }
 
+/// How many bytes a row has.
+pub(crate) fn row_len(row: &Row) -> u64
+    ensures len { result ≡ 6 + length row.now.body }
+    ensures fits { spec.RowFits row.now }
+{
+    tag_len(row.tag()) + 2 + row.body().len() as u64
+}
+
+/// How many bytes a key and its row have.
+fn keyed_len(keyed: &(Key, Row)) -> u64
+    ensures len { result ≡ 14 + length keyed.now.1.body }
+    ensures fits { spec.KeyedFits keyed.now }
+{
+    key_len(keyed.0) + row_len(&keyed.1)
+}
+
 /// How many bytes the rows have, without their count.
 fn rows_len(rows: &[(Key, Row)]) -> u64
     requires { length rows.now < 2 ^ 32 }
     ensures len { result ≡ length (flat_map spec.keyed_text rows.now) }
     ensures bound { result ≤ 4110 * length rows.now }
+    ensures fits { All spec.KeyedFits rows.now }
 {
     let mut total = 0;
     for row in rows {
-        total += 14 + row.1.body().len() as u64;
+        total += keyed_len(row);
     }
     total
 }
@@ -185,12 +203,13 @@ pub(crate) fn answer_len(answer: &Answer) -> u64
     requires { spec.answer_keeps_rules (answer_seen answer.now) ≡ true }
     ensures len { result ≡ length (spec.answer_text (answer_seen answer.now)) }
     ensures bound { result ≤ 2 ^ 60 }
+    ensures fits { spec.AnswerFits (answer_seen answer.now) }
 {
     match answer {
         Answer::One(None) => 2,
-        Answer::One(Some(row)) => 8 + row.body().len() as u64,
+        Answer::One(Some(row)) => 2 + row_len(row),
         Answer::Rows(rows) => 5 + rows_len(rows),
-        Answer::Number(_n) => 9,
+        Answer::Number(n) => 1 + number_len(*n),
     }
 }
 

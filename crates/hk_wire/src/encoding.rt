@@ -1,6 +1,6 @@
 //! The one spelling of a message.
 
-ghost use Rattle.std.specs.Prelude.{◌≡◌, ◌≤◌, ◌⊎◌, ◌++◌, ℕ, true, false, [], length, take, OnOk, OnErr, IfErr, IfSome, MatchOption};
+ghost use Rattle.std.specs.Prelude.{◌≡◌, ◌≤◌, ◌⊎◌, ◌++◌, ℕ, true, false, [], ◌∷◌, Ok, length, take, OnOk, OnErr, IfErr, IfSome, MatchOption};
 ghost use Rattle.std.specs.Int.{w32};
 ghost use Rattle.hk_types.specs.declared.faults.FormFault.TheVariants as faults;
 ghost use Rattle.hk_types.specs.declared.faults.Refusal.TheVariants as refusals;
@@ -8,6 +8,7 @@ ghost use Rattle.hk_codec.specs.Fields.{number};
 ghost use Rattle.hk_wire.specs.Messages.{message_text};
 ghost use Rattle.hk_wire.specs.Requests as requests;
 
+use crate::field_len::time_len;
 use crate::fragment_encoding::{fragment_len, is_counted, put_fragment};
 use crate::head::{MOST_REST_BYTES, VERSION};
 use crate::items::{MOST_ITEMS, items_len, put_items};
@@ -46,15 +47,16 @@ fn keeps_rules(request: &Request) -> bool
 #[tactic(auto, using(crate::proofs::Lengths::items_rest_len, crate::proofs::Lengths::front_len, crate::proofs::Lengths::delta_len, crate::proofs::Lengths::full_len, crate::proofs::Lengths::ask_len, crate::proofs::Lengths::prune_len, crate::proofs::Lengths::join_this_len, crate::proofs::Lengths::merge_this_len))]
 fn rest_len(request: &Request) -> u64
     requires { requests.keeps_rules (requests.request_seen request.now) ≡ true }
-    ensures { result ≡ length (requests.request_rest (requests.request_seen request.now)) }
+    ensures len { result ≡ length (requests.request_rest (requests.request_seen request.now)) }
+    ensures fits { requests.RequestFits (requests.request_seen request.now) }
 {
     match request {
         Request::Items(items) => 6 + items_len(items),
         Request::Front | Request::Full => 2,
-        Request::Delta { base: _ } => 10,
-        Request::Ask { t: _, query } => 10 + query_len(query) as u64,
+        Request::Delta { base } => 2 + time_len(*base),
+        Request::Ask { t, query } => 2 + time_len(*t) + query_len(query),
         Request::JoinThis(fragment) | Request::MergeThis(fragment) => 2 + fragment_len(fragment),
-        Request::Prune { horizon: _ } => 10,
+        Request::Prune { horizon } => 2 + time_len(*horizon),
     }
 }
 
@@ -62,6 +64,7 @@ fn rest_len(request: &Request) -> u64
 fn request_len(request: &Request) -> Option<u32>
     ensures len { MatchOption result (requests.has_spelling (requests.request_seen request.now) ≡ false) (λ len. (requests.has_spelling (requests.request_seen request.now) ≡ true) × (len ≡ length (requests.request_rest (requests.request_seen request.now)))) }
     ensures rules { IfSome result (λ _. requests.keeps_rules (requests.request_seen request.now) ≡ true) }
+    ensures request { IfSome result (λ _. requests.IsRequest (requests.request_seen request.now)) }
 {
     if !keeps_rules(request) {
         return None;
@@ -117,8 +120,12 @@ fn put_request(out: &mut Vec<u8>, request: &Request, rest: u32) -> Result<(), Al
 /// not 0, and a rest of more than 2^28 bytes. After that comes `Memory`. On a refusal the output is as before.
 /// The whole frame is reserved at once; the cost is one growth of the output at most and three passes over the
 /// request: one that tests it, one that counts its bytes and one that writes them.
+///
+/// A `RequestFeeder` that is given the spelling alone gives a request of that value, and holds nothing.
 pub fn encode_request(request: &Request, out: &mut Vec<u8>) -> Result<(), Refusal>
     ensures ok { OnOk result ((requests.has_spelling (requests.request_seen request.now) ≡ true) × (out.new.items ≡ out.old.items ++ requests.request_text (requests.request_seen request.now))) }
+    ensures request { OnOk result (requests.IsRequest (requests.request_seen request.now)) }
+    ensures reads { OnOk result (requests.ReadsRequests (requests.request_text (requests.request_seen request.now)) (request.now ∷ []) (Ok [])) }
     ensures err { OnErr result (out.new.items ≡ out.old.items) }
     ensures why { IfErr result (λ e. ((e ≡ refusals.Form faults.TooLong) × (requests.has_spelling (requests.request_seen request.now) ≡ false)) ⊎ ((e ≡ refusals.Memory) × (requests.has_spelling (requests.request_seen request.now) ≡ true))) }
 {

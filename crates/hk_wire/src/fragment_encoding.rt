@@ -1,19 +1,21 @@
 //! Fragments, written at the end of bytes.
 
-ghost use Rattle.std.specs.Prelude.{◌≡◌, ◌≤◌, ◌*◌, ◌++◌, ◌^◌, None, true, length, map, take, OnOk, OnErr};
+ghost use Rattle.std.specs.Prelude.{◌≡◌, ◌≤◌, ◌*◌, ◌++◌, ◌^◌, ◌<◌, None, true, All, length, map, take, OnOk, OnErr};
 ghost use Rattle.std.specs.Int.{w32};
 ghost use Rattle.std.specs.List.{flat_map};
 ghost use Rattle.hk_codec.specs.Fields.{number};
 ghost use Rattle.hk_types.specs.declared.version_key.VersionKey.{VersionKey};
 ghost use Rattle.hk_model.specs.Streams.{stream_at};
+ghost use Rattle.hk_wire.specs.Answers.{PresentFits};
 ghost use Rattle.hk_wire.specs.Fragments as spec;
 
-use crate::answer::put_row;
+use crate::answer::{put_row, row_len};
+use crate::field_len::{key_len, number_len, table_len, time_len};
 use hk_codec::{put_u16, put_u32, put_u64};
 use hk_delta::Fragment;
 use hk_log::Version;
 use hk_marks::Got;
-use hk_types::{StreamNo, Time, VersionKey};
+use hk_types::{Config, StreamNo, Time, VersionKey};
 use std::alloc::AllocError;
 
 /// How many numbers above the prefix are taken.
@@ -91,13 +93,14 @@ fn streams_len(got: &Got) -> u64
 
 /// How many bytes the row has, where it is known.
 #[tactic(auto, using(crate::proofs::Lengths::row_len))]
-fn row_len(known: &Version) -> u64
+fn known_row_len(known: &Version) -> u64
     ensures len { result ≡ length (spec.parts_text known.now.row None) }
     ensures bound { result ≤ 4102 }
+    ensures fits { PresentFits known.now.row }
 {
     match known.row() {
         None => 0,
-        Some(row) => 6 + row.body().len() as u64,
+        Some(row) => row_len(row),
     }
 }
 
@@ -106,20 +109,30 @@ fn row_len(known: &Version) -> u64
 fn died_len(known: &Version) -> u64
     ensures len { result ≡ length (spec.parts_text None known.now.died) }
     ensures bound { result ≤ 8 }
+    ensures fits { spec.DiedFits known.now.died }
 {
     match known.died() {
         None => 0,
-        Some(_died) => 8,
+        Some(died) => time_len(died),
     }
+}
+
+/// How many bytes the name of a version has.
+fn version_len(version: VersionKey) -> u64
+    ensures len { result ≡ 18 }
+    ensures fits { spec.NameFits version }
+{
+    table_len(version.table) + key_len(version.key) + time_len(version.born)
 }
 
 /// How many bytes a version has with what is known of it.
 #[tactic(auto, using(crate::proofs::Lengths::fact_text_len))]
-fn fact_len(known: &Version) -> u64
-    ensures len { (v : VersionKey) → result ≡ length (spec.fact_text (v, known.now)) }
+fn fact_len(version: VersionKey, known: &Version) -> u64
+    ensures len { result ≡ length (spec.fact_text (version, known.now)) }
     ensures bound { result ≤ 4129 }
+    ensures fits { spec.KnownFits (version, known.now) }
 {
-    19 + row_len(known) + died_len(known)
+    1 + version_len(version) + known_row_len(known) + died_len(known)
 }
 
 /// How many bytes the facts have, without their count.
@@ -127,12 +140,25 @@ fn facts_len(facts: &[(VersionKey, Version)]) -> u64
     requires { length facts.now ≤ 4294967295 }
     ensures len { result ≡ length (flat_map spec.fact_text facts.now) }
     ensures bound { result ≤ 4129 * length facts.now }
+    ensures fits { All spec.KnownFits facts.now }
 {
     let mut total = 0;
     for fact in facts {
-        total += fact_len(&fact.1);
+        total += fact_len(fact.0, &fact.1);
     }
     total
+}
+
+/// How many bytes stand before the streams. The number of streams is read for what its type says of it.
+fn head_len(config: Config, base: Time, horizon: Time) -> u64
+    ensures len { result ≡ 26 }
+    ensures log { config.log < 2 ^ 64 }
+    ensures streams { (1 ≤ config.streams) × (config.streams ≤ 64) }
+    ensures base { base ≤ 2 ^ 62 }
+    ensures horizon { horizon ≤ 2 ^ 62 }
+{
+    let _streams = config.streams();
+    number_len(config.log()) + 2 + time_len(base) + time_len(horizon)
 }
 
 /// How many bytes a fragment that can be counted has.
@@ -141,8 +167,10 @@ pub(crate) fn fragment_len(fragment: &Fragment) -> u64
     requires { spec.is_counted (spec.fragment_seen fragment.now) ≡ true }
     ensures len { result ≡ length (spec.fragment_text (spec.fragment_seen fragment.now)) }
     ensures bound { result ≤ 2 ^ 60 }
+    ensures fits { spec.FragmentFits (spec.fragment_seen fragment.now) }
 {
-    30 + streams_len(fragment.got()) + facts_len(fragment.facts())
+    let head = head_len(fragment.config(), fragment.base(), fragment.horizon());
+    head + 4 + streams_len(fragment.got()) + facts_len(fragment.facts())
 }
 
 /// Adds the numbers above the prefix that are taken, behind their count.

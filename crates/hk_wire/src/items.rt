@@ -1,10 +1,11 @@
 //! Lists of items as bytes.
 
-ghost use Rattle.std.specs.Prelude.{◌≡◌, ◌≤◌, ◌*◌, ◌++◌, None, length, take, OnOk, OnErr};
+ghost use Rattle.std.specs.Prelude.{◌≡◌, ◌≤◌, ◌*◌, ◌++◌, None, All, length, take, OnOk, OnErr};
 ghost use Rattle.std.specs.Int.{w32};
 ghost use Rattle.std.specs.List.{flat_map};
 ghost use Rattle.hk_codec.specs.Fields.{Gives, GivesOrRunsOut, number};
 ghost use Rattle.hk_codec.specs.Frames.{spelling};
+ghost use Rattle.hk_codec.specs.Spelling.{IsItem};
 ghost use Rattle.hk_wire.specs.Requests as spec;
 
 use hk_codec::{Cursor, ReadError, frame_len, next_frame, put_frame, put_u32};
@@ -71,6 +72,7 @@ pub(crate) fn items_len(items: &[Item]) -> u64
     requires { length items.now ≤ 65536 }
     ensures len { result ≡ length (flat_map spelling items.now) }
     ensures bound { result ≤ 4229156 * length items.now }
+    ensures fits { All IsItem items.now }
 {
     let mut total = 0;
     for item in items {

@@ -1,13 +1,14 @@
 //! Laws of the formats.
 
-ghost use Rattle.std.specs.Prelude.{◌≡◌, ◌++◌, List, ℕ, Result, Ok};
+ghost use Rattle.std.specs.Prelude.{◌≡◌, ◌++◌, List, ℕ, Result, Ok, map};
 ghost use Rattle.hk_types.specs.declared.faults.FormFault.{FormFault};
 ghost use Rattle.hk_wire.specs.declared.request.Request.{Request};
 ghost use Rattle.hk_wire.specs.declared.reply.Reply.{Reply};
-ghost use Rattle.hk_model.specs.Fragments.{FragmentValue};
-ghost use Rattle.hk_wire.specs.Fragments.{AreFromOne, fragment_seen};
-ghost use Rattle.hk_wire.specs.Requests.{RequestValue, IsRequest, request_text, ReadsRequests};
-ghost use Rattle.hk_wire.specs.Replies.{ReplyValue, IsReply, reply_text, ReadsReplies};
+ghost use Rattle.hk_wire.specs.Fragments.{fragment_seen};
+ghost use Rattle.hk_wire.specs.Requests.{RequestValue, IsRequest, request_seen, request_text, ReadsRequests};
+ghost use Rattle.hk_wire.specs.Replies.{ReplyValue, IsReply, reply_seen, reply_text, ReadsReplies};
+
+use hk_delta::Fragment;
 
 /// No request has two spellings, no spelling is that of two requests, and none begins another.
 pub fn one_request_spelling()
@@ -29,8 +30,19 @@ pub fn reply_pieces_join()
     ensures { (text more left : List ℕ) (xs ys : List Reply) (r : Result (List ℕ) FormFault) → ReadsReplies text xs (Ok left) → ReadsReplies (left ++ more) ys r → ReadsReplies (text ++ more) (xs ++ ys) r }
 {}
 
-/// What the bytes of a fragment tell is the whole of it: no two fragments, of which the entries are numbered from
-/// 1, are told alike.
-pub fn one_fragment_told()
-    ensures { (f g : FragmentValue) → AreFromOne f → AreFromOne g → fragment_seen f ≡ fragment_seen g → f ≡ g }
+/// A text is read as requests in one way: which they are, and what follows them.
+pub fn one_request_reading()
+    ensures { (text : List ℕ) (xs ys : List Request) (l r : Result (List ℕ) FormFault) → ReadsRequests text xs l → ReadsRequests text ys r → (map request_seen xs ≡ map request_seen ys) × (l ≡ r) }
 {}
+
+/// A text is read as replies in one way: which they are, and what follows them.
+pub fn one_reply_reading()
+    ensures { (text : List ℕ) (xs ys : List Reply) (l r : Result (List ℕ) FormFault) → ReadsReplies text xs l → ReadsReplies text ys r → (map reply_seen xs ≡ map reply_seen ys) × (l ≡ r) }
+{}
+
+/// What the bytes of a fragment tell is the whole of it: no two fragments are told alike.
+pub fn one_fragment_told(one: &Fragment, other: &Fragment)
+    ensures { fragment_seen one.now ≡ fragment_seen other.now → one.now ≡ other.now }
+{
+    let (_one, _other) = (one.got(), other.got());
+}

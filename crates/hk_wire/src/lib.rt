@@ -10,6 +10,7 @@
 mod answer;
 mod encoding;
 mod feeder;
+mod field_len;
 mod fragment_encoding;
 mod fragment_reading;
 mod head;
@@ -25,8 +26,8 @@ mod request;
 pub use encoding::encode_request;
 pub use feeder::RequestFeeder;
 pub use laws::{
-    one_fragment_told, one_reply_spelling, one_request_spelling, reply_pieces_join,
-    request_pieces_join,
+    one_fragment_told, one_reply_reading, one_reply_spelling, one_request_reading,
+    one_request_spelling, reply_pieces_join, request_pieces_join,
 };
 pub use reply::Reply;
 pub use reply_encoding::encode_reply;

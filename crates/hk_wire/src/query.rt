@@ -4,6 +4,7 @@ ghost use Rattle.std.specs.Prelude.{◌≡◌, ◌≤◌, ◌++◌, length, take
 ghost use Rattle.hk_codec.specs.Fields.{Gives};
 ghost use Rattle.hk_wire.specs.Queries as spec;
 
+use crate::field_len::{key_len, table_len, tag_len};
 use hk_codec::{Cursor, put_u16, put_u32, put_u64};
 use hk_model::Query;
 use hk_types::{FormFault, Key, Table, Tag};
@@ -59,19 +60,18 @@ pub(crate) fn read_query(cursor: &mut Cursor) -> Result<Query, FormFault>
 
 /// How many bytes a query has.
 #[tactic(auto, using(crate::proofs::Lengths::get_len, crate::proofs::Lengths::range_len, crate::proofs::Lengths::by_tag_len, crate::proofs::Lengths::count_len))]
-pub(crate) fn query_len(query: &Query) -> usize
+pub(crate) fn query_len(query: &Query) -> u64
     ensures len { result ≡ length (spec.query_text query.now) }
     ensures most { result ≤ 19 }
+    ensures fits { spec.QueryFits query.now }
 {
     match query {
-        Query::Get { table: _, key: _ } => 11,
-        Query::Range {
-            table: _,
-            low: _,
-            high: _,
-        } => 19,
-        Query::ByTag { table: _, tag: _ } => 7,
-        Query::Count { table: _ } => 3,
+        Query::Get { table, key } => 1 + table_len(*table) + key_len(*key),
+        Query::Range { table, low, high } => {
+            1 + table_len(*table) + key_len(*low) + key_len(*high)
+        }
+        Query::ByTag { table, tag } => 1 + table_len(*table) + tag_len(*tag),
+        Query::Count { table } => 1 + table_len(*table),
     }
 }
 

@@ -4,6 +4,7 @@ ghost use Rattle.std.specs.Prelude.{◌≡◌, ◌≤◌, ◌++◌, length, take
 ghost use Rattle.hk_codec.specs.Fields.{Gives};
 ghost use Rattle.hk_wire.specs.Refusals as spec;
 
+use crate::field_len::{number_len, time_len};
 use crate::head::read_time;
 use hk_codec::{Cursor, put_u64};
 use hk_types::{FormFault, Refusal};
@@ -121,6 +122,22 @@ pub(crate) fn is_sent(refusal: Refusal) -> bool
         | Refusal::NoStream
         | Refusal::ClockFull => false,
         _ => true,
+    }
+}
+
+/// How many bytes a refusal has.
+pub(crate) fn refusal_len(refusal: Refusal) -> u64
+    ensures len { result ≡ 17 }
+    ensures fits { spec.RefusalFits refusal }
+{
+    match refusal {
+        Refusal::Gap { base, readable } => 1 + time_len(base) + time_len(readable),
+        Refusal::AheadOfMark { readable } => 9 + time_len(readable),
+        Refusal::TooOld { horizon } => 9 + time_len(horizon),
+        Refusal::NotYet { readable } => 9 + time_len(readable),
+        Refusal::Held { reader, at } => 1 + number_len(reader) + time_len(at),
+        Refusal::Unpublished { ops } => 9 + number_len(ops),
+        _ => 17,
     }
 }
 

@@ -1,15 +1,16 @@
 //! The one spelling of a reply.
 
-ghost use Rattle.std.specs.Prelude.{◌≡◌, ◌≤◌, ◌⊎◌, ◌++◌, ℕ, true, false, length, take, OnOk, OnErr, IfErr, MatchOption};
+ghost use Rattle.std.specs.Prelude.{◌≡◌, ◌≤◌, ◌⊎◌, ◌++◌, ℕ, true, false, [], ◌∷◌, Ok, length, take, OnOk, OnErr, IfErr, IfSome, MatchOption};
 ghost use Rattle.hk_types.specs.declared.faults.FormFault.TheVariants as faults;
 ghost use Rattle.hk_types.specs.declared.faults.Refusal.TheVariants as refusals;
 ghost use Rattle.hk_wire.specs.Replies as replies;
 
 use crate::answer::{answer_len, keeps_answer_rules, put_answer};
 use crate::encoding::put_head;
+use crate::field_len::{number_len, time_len};
 use crate::fragment_encoding::{fragment_len, is_counted, put_fragment};
 use crate::head::MOST_REST_BYTES;
-use crate::refusal::{is_sent, put_refusal};
+use crate::refusal::{is_sent, put_refusal, refusal_len};
 use crate::reply::{ANSWER, DONE, FRAGMENT, FRONT, REFUSED, Reply};
 use hk_codec::put_u64;
 use hk_types::{FormFault, LAST_TIME, Refusal};
@@ -32,20 +33,22 @@ fn keeps_rules(reply: &Reply) -> bool
 #[tactic(auto, using(crate::proofs::Lengths::done_len, crate::proofs::Lengths::told_len, crate::proofs::Lengths::fragment_rest_len, crate::proofs::Lengths::answer_rest_len, crate::proofs::Lengths::refused_len))]
 fn rest_len(reply: &Reply) -> u64
     requires { replies.keeps_rules (replies.reply_seen reply.now) ≡ true }
-    ensures { result ≡ length (replies.reply_rest (replies.reply_seen reply.now)) }
+    ensures len { result ≡ length (replies.reply_rest (replies.reply_seen reply.now)) }
+    ensures fits { replies.ReplyFits (replies.reply_seen reply.now) }
 {
     match reply {
-        Reply::Done { ops: _ } => 10,
-        Reply::Front(_front) => 18,
+        Reply::Done { ops } => 2 + number_len(*ops),
+        Reply::Front(front) => 2 + time_len(front.horizon) + time_len(front.readable),
         Reply::Fragment(fragment) => 2 + fragment_len(fragment),
         Reply::Answer(answer) => 2 + answer_len(answer),
-        Reply::Refused(_why) => 19,
+        Reply::Refused(why) => 2 + refusal_len(*why),
     }
 }
 
 /// How many bytes the rest of a reply's frame has, or `None` where it has no spelling.
 fn reply_len(reply: &Reply) -> Option<u32>
-    ensures { MatchOption result (replies.has_spelling (replies.reply_seen reply.now) ≡ false) (λ len. (replies.has_spelling (replies.reply_seen reply.now) ≡ true) × (len ≡ length (replies.reply_rest (replies.reply_seen reply.now)))) }
+    ensures reply { IfSome result (λ _. replies.IsReply (replies.reply_seen reply.now)) }
+    ensures len { MatchOption result (replies.has_spelling (replies.reply_seen reply.now) ≡ false) (λ len. (replies.has_spelling (replies.reply_seen reply.now) ≡ true) × (len ≡ length (replies.reply_rest (replies.reply_seen reply.now)))) }
 {
     if !keeps_rules(reply) {
         return None;
@@ -96,8 +99,12 @@ fn put_reply(out: &mut Vec<u8>, reply: &Reply, rest: u32) -> Result<(), AllocErr
 /// 2^28 bytes. After that comes `Memory`. On a refusal the output is as before. The whole frame is reserved at
 /// once; the cost is one growth of the output at most and three passes over the reply: one that tests it, one
 /// that counts its bytes and one that writes them.
+///
+/// A `ReplyFeeder` that is given the spelling alone gives a reply of that value, and holds nothing.
 pub fn encode_reply(reply: &Reply, out: &mut Vec<u8>) -> Result<(), Refusal>
     ensures ok { OnOk result ((replies.has_spelling (replies.reply_seen reply.now) ≡ true) × (out.new.items ≡ out.old.items ++ replies.reply_text (replies.reply_seen reply.now))) }
+    ensures reply { OnOk result (replies.IsReply (replies.reply_seen reply.now)) }
+    ensures reads { OnOk result (replies.ReadsReplies (replies.reply_text (replies.reply_seen reply.now)) (reply.now ∷ []) (Ok [])) }
     ensures err { OnErr result (out.new.items ≡ out.old.items) }
     ensures why { IfErr result (λ e. ((e ≡ refusals.Form faults.TooLong) × (replies.has_spelling (replies.reply_seen reply.now) ≡ false)) ⊎ ((e ≡ refusals.Memory) × (replies.has_spelling (replies.reply_seen reply.now) ≡ true))) }
 {

@@ -55,7 +55,7 @@ fn orders_version_keys_by_their_fields(rt: HostRuntime) -> Result<(), Fail> {
 }
 
 #[test]
-fn prints_numbers_and_refusals(rt: HostRuntime) -> Result<(), Fail> {
+fn prints_numbers(rt: HostRuntime) -> Result<(), Fail> {
     let alloc = rt.alloc();
     let (table, key) = (Table::new(1), Key::new(18_446_744_073_709_551_615));
     let at = Time::new(2)?;
@@ -63,21 +63,128 @@ fn prints_numbers_and_refusals(rt: HostRuntime) -> Result<(), Fail> {
     let stream = StreamNo::new(64)?;
     let numbers = format!(in alloc; "{table} {key} {tag} {at} {stream}")?;
     assert_eq!(rt; numbers.as_str(), "1 18446744073709551615 4294967295 2 64");
-    let refusal = Refusal::WriteConflict {
-        table,
-        key: Key::new(5),
-        at,
-    };
-    assert_eq!(rt; refusal.number(), 30);
-    assert_eq!(rt;
-        format!(in alloc; "{refusal}")?.as_str(),
-        "table 1 key 5 was written at 2"
-    );
-    let refusal = Refusal::from(FormFault::BadBody);
-    assert_eq!(rt; refusal.number(), 9);
-    assert_eq!(rt;
-        format!(in alloc; "{refusal}")?.as_str(),
-        "a body is above 4,096 bytes"
-    );
+    Ok(())
+}
+
+#[test]
+fn prints_each_fault_and_refusal(rt: HostRuntime) -> Result<(), Fail> {
+    let alloc = rt.alloc();
+    let (table, key, at) = (Table::new(1), Key::new(5), Time::new(2)?);
+    let (base, readable) = (Time::new(9)?, Time::new(6)?);
+    for (refusal, number, text) in [
+        (
+            Refusal::Form(FormFault::Truncated),
+            1,
+            "the input ends inside a frame",
+        ),
+        (
+            Refusal::Form(FormFault::TooLong),
+            2,
+            "the length is above its limit",
+        ),
+        (
+            Refusal::Form(FormFault::BadVersion),
+            3,
+            "the version is not 1",
+        ),
+        (
+            Refusal::Form(FormFault::BadKind),
+            4,
+            "the kind has no meaning here",
+        ),
+        (
+            Refusal::Form(FormFault::BadStream),
+            5,
+            "a stream is outside 1 to 64",
+        ),
+        (
+            Refusal::Form(FormFault::BadNumber),
+            6,
+            "a number is outside its range",
+        ),
+        (
+            Refusal::Form(FormFault::BadOrder),
+            7,
+            "a list does not rise strictly",
+        ),
+        (
+            Refusal::Form(FormFault::BadCount),
+            8,
+            "a count is above its limit, or both lists are empty",
+        ),
+        (
+            Refusal::from(FormFault::BadBody),
+            9,
+            "a body is above 4,096 bytes",
+        ),
+        (
+            Refusal::Form(FormFault::WrongLength),
+            10,
+            "a field does not fit, or bytes are left",
+        ),
+        (Refusal::ForeignLog, 20, "another log"),
+        (
+            Refusal::WrongStreams,
+            21,
+            "a stream above the configured number, or another number of streams",
+        ),
+        (
+            Refusal::Gap { base, readable },
+            22,
+            "a gap: base 9, readable 6",
+        ),
+        (Refusal::Conflict, 23, "a contradiction"),
+        (
+            Refusal::AheadOfMark { readable },
+            24,
+            "above the readable mark 6",
+        ),
+        (Refusal::TooOld { horizon: at }, 25, "below the horizon 2"),
+        (
+            Refusal::NotYet { readable },
+            26,
+            "above the readable mark 6",
+        ),
+        (
+            Refusal::WriteConflict { table, key, at },
+            30,
+            "table 1 key 5 was written at 2",
+        ),
+        (
+            Refusal::NoRow { table, key },
+            31,
+            "table 1 key 5 has no row",
+        ),
+        (
+            Refusal::TwiceWritten,
+            32,
+            "the transaction wrote the key already",
+        ),
+        (
+            Refusal::TooManyWrites,
+            33,
+            "the transaction has 1,024 writes already",
+        ),
+        (Refusal::NoStream, 34, "no such stream"),
+        (Refusal::ClockFull, 35, "the last time is given out"),
+        (Refusal::Held { reader: 3, at }, 40, "reader 3 holds 2"),
+        (Refusal::Damaged, 41, "the node met a contradiction"),
+        (
+            Refusal::Unpublished { ops: 8 },
+            42,
+            "not yet published: operation 8",
+        ),
+        (
+            Refusal::NodeFull,
+            43,
+            "the node has all operations that it can have",
+        ),
+        (Refusal::NoHold, 44, "no such hold"),
+        (Refusal::NoSuch, 45, "no such replica or item"),
+        (Refusal::Memory, 90, "out of memory"),
+    ] {
+        assert_eq!(rt; refusal.number(), number);
+        assert_eq!(rt; format!(in alloc; "{refusal}")?.as_str(), text);
+    }
     Ok(())
 }

@@ -34,14 +34,14 @@ join_agreed-requires-clause-listed c = listed_are c.args.fragment.now.content (m
 pub join_agreed-requires-clause-lawful : goal.join_agreed-requires-clause-lawful
 join_agreed-requires-clause-lawful c =
     subst IsLawfulFragment
-    (sym (sent_is c.args.fragment.now c.config-config.result c.base-base.result c.horizon.result c.got.result.now (map lent c.deref.result.now) c.config-config.ensures.log c.base-base.ensures.value c.horizon.ensures.value c.got.ensures (ap (map lent) c.deref.ensures.value ∙ c.in_ok-versions.ensures ∙ c.facts-2.ensures.value)))
+    (sym (sent_is c.args.fragment.now c.config-config.result c.base-base.result c.horizon.result c.got.result.now (map lent c.deref.result.now) c.config-config.ensures.log c.base-base.ensures.value c.horizon.ensures.value c.got.ensures.value (ap (map lent) c.deref.ensures.value ∙ c.in_ok-versions.ensures ∙ c.facts-2.ensures.value)))
     c.base-base.ensures.lawful
 
 pub join_agreed-requires-clause-agree : goal.join_agreed-requires-clause-agree
 join_agreed-requires-clause-agree c =
     let t = c.args.taker.now in
     let f = c.args.fragment.now in
-    ap (λ (g : FragmentValue). disagree t g.content) (sent_is f c.config-config.result c.base-base.result c.horizon.result c.got.result.now (map lent c.deref.result.now) c.config-config.ensures.log c.base-base.ensures.value c.horizon.ensures.value c.got.ensures (ap (map lent) c.deref.ensures.value ∙ c.in_ok-versions.ensures ∙ c.facts-2.ensures.value))
+    ap (λ (g : FragmentValue). disagree t g.content) (sent_is f c.config-config.result c.base-base.result c.horizon.result c.got.result.now (map lent c.deref.result.now) c.config-config.ensures.log c.base-base.ensures.value c.horizon.ensures.value c.got.ensures.value (ap (map lent) c.deref.ensures.value ∙ c.in_ok-versions.ensures ∙ c.facts-2.ensures.value))
     ∙ sym (listed_disagrees t f.content c.facts.result.now c.facts.ensures.value) ∙ sym c.differs.ensures ∙ c.if-differs.false
 
 pub returns : goal.returns
@@ -52,6 +52,6 @@ returns c =
     let fit = fits_by t f c.config-config.result c.config-config.ensures.log streams (sym c.in_default.ensures) in
     let gap : nat_lt (readable t) f.base ≡ false = (λ i. nat_lt (sym c.readable-readable.ensures.value i) (sym c.base-base.ensures.value i)) ∙ sym (not_below c.readable-readable.result c.base-base.result) ∙ sym c.lt.ensures ∙ c.if-lt.false in
     let agree = sym (listed_disagrees t f.content c.facts.result.now c.facts.ensures.value) ∙ sym c.differs.ensures ∙ c.if-differs.false in
-    let sent = sent_is f c.config-config.result c.base-base.result c.horizon.result c.got.result.now (map lent c.deref.result.now) c.config-config.ensures.log c.base-base.ensures.value c.horizon.ensures.value c.got.ensures (ap (map lent) c.deref.ensures.value ∙ c.in_ok-versions.ensures ∙ c.facts-2.ensures.value) in
+    let sent = sent_is f c.config-config.result c.base-base.result c.horizon.result c.got.result.now (map lent c.deref.result.now) c.config-config.ensures.log c.base-base.ensures.value c.horizon.ensures.value c.got.ensures.value (ap (map lent) c.deref.ensures.value ∙ c.in_ok-versions.ensures ∙ c.facts-2.ensures.value) in
     let e = c.join_agreed.ensures in
     join_gives t f c.config-config.result.streams streams fit gap agree c.join_agreed.result c.join_agreed.new.taker (ok_along c.join_agreed.result c.join_agreed.new.taker (joined_content t) sent e.ok) e.err e.kept

@@ -17,5 +17,5 @@ returns-clause-ok c =
     c.in_ok-put_u16.ensures.ok
     (c.in_ok-put_u64-2.ensures.ok ∙ ap (λ n. c.put_u16.new.out.items ++ number w64 n) (c.number.ensures.value ∙ c.base.ensures.value))
     (c.in_ok-put_u64-3.ensures.ok ∙ ap (λ n. c.put_u64-2.new.out.items ++ number w64 n) (c.number-2.ensures.value ∙ c.horizon.ensures.value))
-    (c.in_ok-put_streams.ensures.ok ∙ ap (λ (g : List StreamContent). c.put_u64-3.new.out.items ++ flat_map stream_text (map stream_seen g)) c.got.ensures)
+    (c.in_ok-put_streams.ensures.ok ∙ ap (λ (g : List StreamContent). c.put_u64-3.new.out.items ++ flat_map stream_text (map stream_seen g)) c.got.ensures.value)
     (e ∙ ap (λ (fs : List Known). c.put_streams.new.out.items ++ (number w32 (length fs) ++ flat_map fact_text fs)) c.facts.ensures.value)) c.put_facts.ensures.ok

@@ -4,11 +4,13 @@ use Rattle.hk_model.specs.Lawful.{IsLawfulStream}
 use Rattle.hk_model.specs.Streams.{stream_at}
 use Rattle.hk_marks.specs.Steps.{with_number}
 use Rattle.hk_marks.proofs.Kept.{AreStreams-set, with_number_lawful}
+use Rattle.hk_marks.proofs.Numbered.{with_number_numbered}
+use Rattle.hk_marks.specs.Seen.{IsNumbered}
 use Rattle.hk_marks.proofs.Told.{entry_told}
 use Rattle.hk_marks.proofs.got.Got.add_number.Goals as goal
 
 pub invariant_of-self-2 : goal.invariant_of-self-2
-invariant_of-self-2 c = AreStreams-set _ _ _ c.self.invariant (subst IsLawfulStream (sym c.in_ok-add_number.ensures.ok) (with_number_lawful c.index_mut.result.now c.args.number))
+invariant_of-self-2 c = AreStreams-set _ _ _ c.self.invariant (subst IsLawfulStream (sym c.in_ok-add_number.ensures.ok) (with_number_lawful c.index_mut.result.now c.args.number)) (subst IsNumbered (sym c.in_ok-add_number.ensures.ok) (with_number_numbered c.index_mut.result.now c.args.number (subst IsNumbered (sym c.index_mut.ensures.value) (c.self.invariant.numbered c.place.result c.index_mut.result.now (omega (arith, ap length c.self.view_is)))) (omega arith) (omega arith)))
 
 pub returns-clause-entry : goal.returns-clause-entry
 returns-clause-entry c = λ e is same.
