@@ -28,7 +28,7 @@ too_old a b base l = ap (λ t. cond t (Refused (TooOld b.horizon), a) (told_by a
 
 -- a refused cut is told
 pub refused_cut : (a b : Content) (base : ℕ) (why : Refusal) (result : Result Told Refusal) →
-    ((base < b.horizon) × (why ≡ TooOld b.horizon)) ⊎ ((b.horizon ≤ base) × (why ≡ Memory)) → MatchResult result (λ told. (told_seen told ≡ Refused why) × (is_memory why ≡ false)) (λ e. (e ≡ Memory) × (why ≡ Memory)) → Gives true (delta_join a b base) a a result
-refused_cut a b base why (Ok told) (inl p) m = subst (λ (x : ToldValue × Content). Gives true x a a (Ok told)) (sym (too_old a b base p.0)) (m.0 ∙ ap Refused p.1, refl, ap tells_lack m.0 ∙ m.1)
+    ((base < b.horizon) × (why ≡ TooOld b.horizon)) ⊎ ((b.horizon ≤ base) × (why ≡ Memory)) → MatchResult result (λ told. (told_seen told ≡ Refused why) × (is_memory why ≡ false)) (λ e. (e ≡ Memory) × (why ≡ Memory)) → Gives (delta_join a b base) a a result
+refused_cut a b base why (Ok told) (inl p) m = subst (λ (x : ToldValue × Content). Gives x a a (Ok told)) (sym (too_old a b base p.0)) (m.0 ∙ ap Refused p.1, refl, ap tells_lack m.0 ∙ m.1)
 refused_cut a b base why (Ok told) (inr p) m = absurd (true≢false (sym (ap is_memory p.1) ∙ m.1))
 refused_cut a b base why (Err e) p m = (m.0, refl, refl)

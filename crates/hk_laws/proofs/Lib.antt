@@ -6,3 +6,4 @@ pub mod Itself
 pub mod Built
 pub mod Stepping
 pub mod Carried
+pub mod Lacking

@@ -1,6 +1,6 @@
 //! What one replica does and tells.
 
-ghost use Rattle.std.specs.Prelude.{◌≡◌, Result, IfOk, IfErr, MatchResult, false, true};
+ghost use Rattle.std.specs.Prelude.{◌≡◌, Result, IfOk, IfErr, MatchResult, false};
 ghost use Rattle.hk_types.specs.declared.faults.Refusal.TheVariants.{Memory};
 ghost use Rattle.hk_model.specs.Answers.{reply};
 ghost use Rattle.hk_model.specs.Content.{readable};
@@ -28,7 +28,7 @@ pub(crate) fn refused(why: Refusal) -> Result<Told, Refusal>
 
 /// A replica absorbs an item.
 pub(crate) fn absorb(state: &mut ReplicaState, item: &Item) -> Result<Told, Refusal>
-    ensures { Gives true (told_taken state.old (rules.taken state.old item.now)) state.old state.new result }
+    ensures { Gives (told_taken state.old (rules.taken state.old item.now)) state.old state.new result }
 {
     match state.absorb(item) {
         Ok(took) => Ok(Told::Took(took)),
@@ -38,7 +38,7 @@ pub(crate) fn absorb(state: &mut ReplicaState, item: &Item) -> Result<Told, Refu
 
 /// A replica is pruned to a time.
 pub(crate) fn prune(state: &mut ReplicaState, horizon: Time) -> Result<Told, Refusal>
-    ensures { Gives true (told_by state.old (rules.pruned state.old horizon)) state.old state.new result }
+    ensures { Gives (told_by state.old (rules.pruned state.old horizon)) state.old state.new result }
 {
     match state.prune(horizon) {
         Ok(()) => Ok(Told::Done),

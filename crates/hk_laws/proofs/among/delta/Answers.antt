@@ -15,7 +15,7 @@ returns-in-Ok c =
     acts_on rs c.args.to c.in-Some.taker c.in-Some.ensures.0 c.in-Some.ensures.1
     (numbered rs c.args.from) b (λ p. delta_join p.0 p.1 c.args.base) c.index-replicas-taker.result c.join.new.state c.join.result
     (numbered_at rs c.in-Some-place_of.source c.args.from c.index-replicas-source.result c.in-Some-place_of.ensures.0 c.in-Some-place_of.ensures.1)
-    (subst (λ (x : ToldValue × Content). Gives true x a c.join.new.state c.join.result) (joins_cut a b c.args.base c.in-Ok.fragment c.in-Ok.ensures.gives.0 c.in-Ok.ensures.gives.1) c.join.ensures)
+    (subst (λ (x : ToldValue × Content). Gives x a c.join.new.state c.join.result) (joins_cut a b c.args.base c.in-Ok.fragment c.in-Ok.ensures.gives.0 c.in-Ok.ensures.gives.1) c.join.ensures)
 
 pub returns-in-Err : goal.returns-in-Err
 returns-in-Err c =
