@@ -1,21 +1,24 @@
 -- What is expected where memory ran out.
-use Rattle.std.proofs.Common.{◌≡◌, refl, sym, ap, ◌∙◌, subst, ℕ, ◌≤◌, ◌⊎◌, inl, inr, Bool, true, false, cond, not, true≢false, ◌==◌, length, nat_lt, List, [], ◌∷◌, ◌||◌, arith, Option, None, Some, Ok, Err, Result, MatchResult}
+use Rattle.std.proofs.Common.{◌≡◌, refl, sym, ap, ◌∙◌, subst, ℕ, ◌<◌, ◌≤◌, ◌⊎◌, ltb-true, eqb-true, inl, inr, Bool, true, false, cond, not, true≢false, ◌==◌, length, nat_lt, List, [], ◌∷◌, ◌||◌, arith, Option, None, Some, Ok, Err, Result, MatchResult}
 use Rattle.std.proofs.lemmas.Bool.Decides.{nat_tests}
 use Rattle.hk_types.specs.Values.{ConfigValue, same_row}
 use Rattle.hk_types.specs.declared.faults.Refusal.{Refusal}
-use Rattle.hk_types.specs.declared.faults.Refusal.TheVariants.{ForeignLog, WrongStreams, Gap, Conflict, Memory}
+use Rattle.hk_types.specs.declared.faults.Refusal.TheVariants.{ForeignLog, WrongStreams, Gap, Conflict, TooOld, NotYet, Memory}
 use Rattle.hk_log.specs.declared.item.Item.{Item}
 use Rattle.hk_log.specs.declared.item.Item.TheVariants.{Commit, Closed}
 use Rattle.hk_model.specs.declared.told.Told.{Told}
 use Rattle.hk_model.specs.Events.{told_seen}
 use Rattle.hk_model.specs.Content.{Content, readable}
-use Rattle.hk_model.specs.Fragments.{FragmentValue, part}
+use Rattle.hk_model.specs.Answers.{AnswerValue, answer}
+use Rattle.hk_model.specs.Histories.{Transaction, last, table_at}
+use Rattle.hk_model.specs.declared.query.Query.{Query}
+use Rattle.hk_model.specs.Fragments.{FragmentValue, cut, part}
 use Rattle.hk_model.specs.Items.{log_of, stream_no, misfit}
 use Rattle.hk_model.specs.Rules.{joined, joined_content, disagree, gathered, gathered_unless, first_misfit, conflict}
 use Rattle.hk_model.specs.Maps.{or_else}
 use Rattle.hk_model.specs.Facts.{row_facts, end_facts}
-use Rattle.hk_model.specs.Worlds.{ToldValue, told_by, told_batch}
-use Rattle.hk_model.specs.Worlds.ToldValue.{Refused}
+use Rattle.hk_model.specs.Worlds.{ToldValue, asked_primary, delta_join, told_by, told_batch, told_reply}
+use Rattle.hk_model.specs.Worlds.ToldValue.{Answered, Refused}
 use Rattle.hk_laws.specs.Calls.{Gives, is_first, told_first, is_memory, tells_lack}
 
 -- a refusal was passed on, or it was want of memory
@@ -74,3 +77,54 @@ batch_first c config items = by (first_misfit config items) (first_misfit_first 
     by : (x : Option Refusal) → ((why : Refusal) → x ≡ Some why → is_first why ≡ false) → told_first (told_batch c (gathered_unless config items x)).0 ≡ false
     by (Some why) h = h why refl
     by None h = clash (conflict same_row (row_facts items) || conflict (λ a b. a == b) (end_facts items))
+
+-- ---- questions and marks
+
+-- a refused reply is none of those that are tested first, where memory ran out
+pub reply_first : (x : Result AnswerValue Refusal) (a : AnswerValue) (why : Refusal) → (x ≡ Err why) ⊎ ((why ≡ Memory) × (x ≡ Ok a)) → why ≡ Memory → told_first (told_reply x) ≡ false
+reply_first x a why (inl e) m = ap (λ y. told_first (told_reply y)) e ∙ ap is_first m
+reply_first x a why (inr p) m = ap (λ y. told_first (told_reply y)) p.1
+
+-- a primary that ran out of memory was asked at a time up to the last commit's
+pub asked_first : (history : List Transaction) (t : ℕ) (q : Query) (why : Refusal) → (last history < t → why ≡ NotYet (last history)) → why ≡ Memory → told_first (asked_primary history t q) ≡ false
+asked_first history t q why early m =
+    elim (nat_lt (last history) t) as (λ b. nat_lt (last history) t ≡ b → told_first (cond b (Refused (NotYet (last history))) (Answered (answer (table_at history t) q))) ≡ false) [
+      | true ↦ λ e. let w = early (ltb-true (last history) t e) in absurd (true≢false (sym (ap is_first w) ∙ ap is_first m))
+      | false ↦ λ e. refl
+    ] refl
+
+-- ---- deltas
+
+below : (m n : ℕ) → m < n → nat_lt m n ≡ true
+below m n l = grind (arith, nat_tests)
+
+above : (m n : ℕ) → n ≤ m → nat_lt m n ≡ false
+above m n l = grind (arith, nat_tests)
+
+same_number : (m n : ℕ) → m ≡ n → (m == n) ≡ true
+same_number m n e = grind (arith, nat_tests)
+
+other_number : (m n : ℕ) → (m ≡ n → ⊥) → (m == n) ≡ false
+other_number m n e = grind (arith, nat_tests)
+
+-- where the source is of the same log, a base above the readable mark leaves a gap
+pub delta_gap : (a b : Content) (base : ℕ) → b.horizon ≤ base → a.log ≡ b.log → length a.streams ≡ length b.streams → readable a < base → delta_join a b base ≡ (Refused (Gap base (readable a)), a)
+delta_gap a b base old log streams far =
+    ap (λ t. cond t (Refused (TooOld b.horizon), a) (told_by a (joined a (cut b base)))) (above base b.horizon old)
+    ∙ ap (λ t. told_by a (cond (not t) (Err ForeignLog) (cond (not (length b.streams == length a.streams)) (Err WrongStreams) (cond (nat_lt (readable a) base) (Err (Gap base (readable a))) (cond (disagree a (cut b base).content) (Err Conflict) (Ok (joined_content a (cut b base)))))))) (same_number b.log a.log (sym log))
+    ∙ ap (λ t. told_by a (cond (not t) (Err WrongStreams) (cond (nat_lt (readable a) base) (Err (Gap base (readable a))) (cond (disagree a (cut b base).content) (Err Conflict) (Ok (joined_content a (cut b base))))))) (same_number (length b.streams) (length a.streams) (sym streams))
+    ∙ ap (λ t. told_by a (cond t (Err (Gap base (readable a))) (cond (disagree a (cut b base).content) (Err Conflict) (Ok (joined_content a (cut b base)))))) (below (readable a) base far)
+
+-- else nothing that is tested first is told, from the horizon on
+pub delta_first : (a b : Content) (base : ℕ) → b.horizon ≤ base → (a.log ≡ b.log → length a.streams ≡ length b.streams → base ≤ readable a) → told_first (delta_join a b base).0 ≡ false
+delta_first a b base old near =
+    ap (λ t. told_first (cond t (Refused (TooOld b.horizon), a) (told_by a (joined a (cut b base)))).0) (above base b.horizon old)
+    ∙ by (b.log == a.log) (length b.streams == length a.streams) (nat_lt (readable a) base) (disagree a (cut b base).content)
+    (λ l s. above (readable a) base (near (sym (eqb-true b.log a.log l)) (sym (eqb-true (length b.streams) (length a.streams) s))))
+  where
+    by : (log streams gap clash : Bool) → (log ≡ true → streams ≡ true → gap ≡ false) → told_first (told_by a (cond (not log) (Err ForeignLog) (cond (not streams) (Err WrongStreams) (cond gap (Err (Gap base (readable a))) (cond clash (Err Conflict) (Ok (joined_content a (cut b base)))))))).0 ≡ false
+    by false streams gap clash e = refl
+    by true false gap clash e = refl
+    by true true true clash e = absurd (true≢false (e refl refl))
+    by true true false true e = refl
+    by true true false false e = refl

@@ -1,12 +1,12 @@
 //! What each kind of event does to a world.
 
-ghost use Rattle.std.specs.Prelude.{◌≡◌, IfOk, IfErr, false};
+ghost use Rattle.std.specs.Prelude.{◌≡◌, IfOk, IfErr, OnErr, false};
 ghost use Rattle.hk_types.specs.declared.faults.Refusal.TheVariants.{Memory};
 ghost use Rattle.hk_model.specs.Events.{told_seen};
 ghost use Rattle.hk_model.specs.Worlds.{asked_primary};
 ghost use Rattle.hk_model.specs.Worlds.EventValue.{Commit, MarkOf, Absorb, Batch, Prune, Merge, Delta, Ask, FrontOf};
 ghost use Rattle.hk_laws.specs.Running.{stepped};
-ghost use Rattle.hk_laws.specs.Calls.{Happens, tells_lack};
+ghost use Rattle.hk_laws.specs.Calls.{Happens, tells_lack, told_first};
 
 use crate::acting::{self, refused};
 use crate::among;
@@ -22,6 +22,7 @@ fn ask_primary(primary: &Primary, time: Time, query: &Query) -> Result<Told, Ref
     ensures ok { IfOk result (λ told. told_seen told ≡ asked_primary primary.now.history time query.now) }
     ensures heard { IfOk result (λ told. tells_lack (told_seen told) ≡ false) }
     ensures err { IfErr result (λ why. why ≡ Memory) }
+    ensures first { OnErr result (told_first (asked_primary primary.now.history time query.now) ≡ false) }
 {
     match primary.ask(time, query) {
         Ok(answer) => Ok(Told::Answered(answer)),

@@ -51,7 +51,8 @@ impl<D> Counted<D> {
 
     /// How many calls were made.
     pub fn calls(&self) -> u64
-        ensures { result ≡ self.now.calls }
+        ensures value { result ≡ self.now.calls }
+        ensures bound { self.now.calls < 2 ^ 64 }
     {
         self.calls
     }
@@ -128,7 +129,7 @@ impl<W: Write> Write for Counted<W> {
     {
         one_more(&mut self.calls);
         let outcome = self.device.flush();
-        if outcome.is_err() {
+        if let Err(_why) = &outcome {
             one_more(&mut self.faults);
         }
         outcome

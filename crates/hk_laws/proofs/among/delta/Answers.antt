@@ -25,4 +25,7 @@ returns-in-Err c =
     acts_not rs c.args.to c.in-Some.taker c.in-Some.ensures.0 c.in-Some.ensures.1
     (numbered rs c.args.from) b (λ q. delta_join q.0 q.1 c.args.base) c.index-replicas-source.result c.refused.result
     (numbered_at rs c.in-Some-place_of.source c.args.from c.index-replicas-source.result c.in-Some-place_of.ensures.0 c.in-Some-place_of.ensures.1)
-    (refused_cut a b c.args.base c.in-Err.why c.refused.result c.in-Err.ensures.gives c.refused.ensures)
+    (refused_cut a b c.args.base c.in-Err.why c.refused.result ? c.in-Err.ensures.gives c.refused.ensures)
+
+pub returns-in-Some-barred : goal.returns-in-Some-barred
+returns-in-Some-barred c = ?
