@@ -1,5 +1,5 @@
 -- What is expected where memory ran out.
-use Rattle.std.proofs.Common.{◌≡◌, refl, sym, ap, ◌∙◌, subst, ℕ, ◌<◌, ◌≤◌, ◌⊎◌, ltb-true, eqb-true, inl, inr, Bool, true, false, cond, not, true≢false, ◌==◌, length, nat_lt, List, [], ◌∷◌, ◌||◌, arith, Option, None, Some, Ok, Err, Result, MatchResult}
+use Rattle.std.proofs.Common.{◌≡◌, refl, sym, ap, ◌∙◌, subst, ℕ, ◌<◌, ◌≤◌, ◌⊎◌, ltb-true, eqb-true, inl, inr, Bool, true, false, cond, not, true≢false, ◌==◌, length, nat_lt, List, [], ◌∷◌, ◌||◌, arith, Option, None, Some, Ok, Err, Result, MatchResult, OnErr}
 use Rattle.std.proofs.lemmas.Bool.Decides.{nat_tests}
 use Rattle.hk_types.specs.Values.{ConfigValue, same_row}
 use Rattle.hk_types.specs.declared.faults.Refusal.{Refusal}
@@ -60,11 +60,11 @@ misfit_first log streams item why = by (log_of item == log) (nat_lt streams (str
 
 first_misfit_first : (config : ConfigValue) (items : List Item) (why : Refusal) → first_misfit config items ≡ Some why → is_first why ≡ false
 first_misfit_first config [] why e = absurd cc
-first_misfit_first config (item ∷ items) why e = either (misfit config.log config.streams item) (misfit_first config.log config.streams item why) e
+first_misfit_first config (item ∷ items) why e = either (misfit config.log config.streams item) (first_misfit config items) (misfit_first config.log config.streams item why) (first_misfit_first config items why) e
   where
-    either : (x : Option Refusal) → (x ≡ Some why → is_first why ≡ false) → or_else x (first_misfit config items) ≡ Some why → is_first why ≡ false
-    either None own e = first_misfit_first config items why e
-    either (Some y) own e = own e
+    either : (x y : Option Refusal) → (x ≡ Some why → is_first why ≡ false) → (y ≡ Some why → is_first why ≡ false) → or_else x y ≡ Some why → is_first why ≡ false
+    either None y own rest e = rest e
+    either (Some z) y own rest e = own e
 
 -- what gathered items tell
 pub batch_first : (c : Content) (config : ConfigValue) (items : List Item) → told_first (told_batch c (gathered config items)).0 ≡ false
@@ -92,6 +92,15 @@ asked_first history t q why early m =
       | true ↦ λ e. let w = early (ltb-true (last history) t e) in absurd (true≢false (sym (ap is_first w) ∙ ap is_first m))
       | false ↦ λ e. refl
     ] refl
+
+-- so where the refusal was passed on as want of memory
+pub reply_err : (x : Result AnswerValue Refusal) (a : AnswerValue) (why : Refusal) (result : Result Told Refusal) → (x ≡ Err why) ⊎ ((why ≡ Memory) × (x ≡ Ok a)) → Passes why result → OnErr result (told_first (told_reply x) ≡ false)
+reply_err x a why (Ok told) h m = tt
+reply_err x a why (Err e) h m = reply_first x a why h m.1
+
+pub asked_err : (history : List Transaction) (t : ℕ) (q : Query) (why : Refusal) (result : Result Told Refusal) → (last history < t → why ≡ NotYet (last history)) → Passes why result → OnErr result (told_first (asked_primary history t q) ≡ false)
+asked_err history t q why (Ok told) early m = tt
+asked_err history t q why (Err e) early m = asked_first history t q why early m.1
 
 -- ---- deltas
 

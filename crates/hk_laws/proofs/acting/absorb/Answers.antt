@@ -1,4 +1,4 @@
-use Rattle.std.proofs.Common.{refl, ◌×◌, inl, inr}
+use Rattle.std.proofs.Common.{refl, inl, inr}
 use Rattle.hk_model.specs.Rules.{taken}
 use Rattle.hk_model.specs.Worlds.{told_taken}
 use Rattle.hk_laws.proofs.Lacking.{refusal_gives}
