@@ -7,3 +7,5 @@ pub mod Built
 pub mod Stepping
 pub mod Carried
 pub mod Lacking
+pub mod Misbuilt
+pub mod Barring

@@ -1,5 +1,5 @@
 -- A step on contents is the step on the items for which they stand.
-use Rattle.std.proofs.Common.{◌≡◌, refl, sym, ap, ◌∙◌, subst, ℕ, Bool, true, false, true≢false, not, cond, nat_lt, ◌||◌, ◌==◌, Option, Some, None, List, max, inl, inr}
+use Rattle.std.proofs.Common.{◌≡◌, refl, sym, ap, ◌∙◌, subst, ℕ, Bool, true, false, true≢false, cond, nat_lt, ◌||◌, ◌==◌, Option, Some, None, List, max, inl, inr}
 use Rattle.hk_types.specs.Values.{ConfigValue}
 use Rattle.hk_types.specs.declared.faults.Refusal.TheVariants.{NoStream, NotYet, TooOld, Gap, AheadOfMark}
 use Rattle.hk_model.specs.Content.{Content}
@@ -10,12 +10,13 @@ use Rattle.hk_model.specs.Worlds.{World, Replica, EventValue, ToldValue, Agree, 
 use Rattle.hk_model.specs.Worlds.EventValue.{Commit, MarkOf, Absorb, Batch, Prune, Merge, Delta, Ask, FrontOf}
 use Rattle.hk_model.specs.Worlds.ToldValue.{Done, Answered, Refused}
 use Rattle.hk_model.proofs.Runs.{step_law_proof}
-use Rattle.hk_laws.specs.Calls.{Steps, StepsOf, comes_first, told_first, is_refusal, may_lack}
+use Rattle.hk_laws.specs.Calls.{Steps, StepsOf, told_first, may_lack}
+use Rattle.hk_laws.proofs.Barring.{commit_lacks}
 use Rattle.hk_laws.specs.Running.{Running}
 
--- what is refused on items is tested before anything grows
+-- where none of the refusals is told that are tested first, memory may run out
 abbrev OnlyFirst : ToldValue → Type 0
-OnlyFirst told = told_first told ≡ false → is_refusal told ≡ false
+OnlyFirst told = told_first told ≡ false → may_lack told ≡ true
 
 acted_only : {X : Type 0} (w : World Replica) (k : ℕ) (x : Option X) (act : X → ToldValue × Replica) → ((y : X) → OnlyFirst (act y).0) → OnlyFirst (acted w k x act).0
 acted_only w k None act h = λ e. absurd (true≢false e)
@@ -55,23 +56,23 @@ primary_only : (history : List Transaction) (t : ℕ) (q : Query) → OnlyFirst 
 primary_only history t q = either_only (nat_lt (last history) t) (Refused (NotYet (last history))) (Answered (answer (table_at history t) q)) (λ e. absurd (true≢false e)) (λ e. refl)
 
 -- where nothing that is tested first is told on items, nothing is refused
-lack_of : (config : ConfigValue) (w : World Replica) (event : EventValue) → comes_first event (step (by_items config) config w event).0 ≡ false → may_lack event (step (by_items config) config w event).0 ≡ true
-lack_of config w (Commit s r ws) e = refl
-lack_of config w (MarkOf s) e = ap not (world_only (nat_lt s 1 || nat_lt config.streams s) (Refused NoStream, w) (after_mark w (mark_now config w.history s)) (λ f. absurd (true≢false f)) (λ f. refl) e)
-lack_of config w (Absorb k i) e = ap not (acted_only w k (both (numbered w.replicas k) (numbered w.emitted i)) (λ p. (by_items config).absorb p.0 p.1) (λ p f. refl) e)
-lack_of config w (Batch k is) e = ap not (acted_only w k (both (numbered w.replicas k) (all_numbered w.emitted is)) (λ p. (by_items config).batch p.0 p.1) (λ p f. refl) e)
-lack_of config w (Prune k h) e = ap not (acted_only w k (numbered w.replicas k) (λ r. (by_items config).prune r h) (pruned_only config h) e)
-lack_of config w (Merge to from) e = ap not (acted_only w to (both (numbered w.replicas to) (numbered w.replicas from)) (λ p. (by_items config).merge p.0 p.1) (λ p f. refl) e)
-lack_of config w (Delta to from base) e = ap not (acted_only w to (both (numbered w.replicas to) (numbered w.replicas from)) (λ p. (by_items config).delta p.0 p.1 base) (λ p. delta_only config base p.0 p.1) e)
+lack_of : (config : ConfigValue) (w : World Replica) (event : EventValue) → told_first (step (by_items config) config w event).0 ≡ false → may_lack (step (by_items config) config w event).0 ≡ true
+lack_of config w (Commit s r ws) e = commit_lacks config w s r ws e
+lack_of config w (MarkOf s) e = (world_only (nat_lt s 1 || nat_lt config.streams s) (Refused NoStream, w) (after_mark w (mark_now config w.history s)) (λ f. absurd (true≢false f)) (λ f. refl) e)
+lack_of config w (Absorb k i) e = (acted_only w k (both (numbered w.replicas k) (numbered w.emitted i)) (λ p. (by_items config).absorb p.0 p.1) (λ p f. refl) e)
+lack_of config w (Batch k is) e = (acted_only w k (both (numbered w.replicas k) (all_numbered w.emitted is)) (λ p. (by_items config).batch p.0 p.1) (λ p f. refl) e)
+lack_of config w (Prune k h) e = (acted_only w k (numbered w.replicas k) (λ r. (by_items config).prune r h) (pruned_only config h) e)
+lack_of config w (Merge to from) e = (acted_only w to (both (numbered w.replicas to) (numbered w.replicas from)) (λ p. (by_items config).merge p.0 p.1) (λ p f. refl) e)
+lack_of config w (Delta to from base) e = (acted_only w to (both (numbered w.replicas to) (numbered w.replicas from)) (λ p. (by_items config).delta p.0 p.1 base) (λ p. delta_only config base p.0 p.1) e)
 lack_of config w (Ask k t q) e =
-    ap not (either_only (k == 0) (asked_primary w.history t q) (told_of (numbered w.replicas k) (λ r. (by_items config).ask w.history r t q)) (primary_only w.history t q)
+    (either_only (k == 0) (asked_primary w.history t q) (told_of (numbered w.replicas k) (λ r. (by_items config).ask w.history r t q)) (primary_only w.history t q)
     (told_only (numbered w.replicas k) (λ r. (by_items config).ask w.history r t q) (λ r. asked_only config w.history t r q)) e)
-lack_of config w (FrontOf k) e = ap not (told_only (numbered w.replicas k) (by_items config).front (λ r f. refl) e)
+lack_of config w (FrontOf k) e = (told_only (numbered w.replicas k) (by_items config).front (λ r f. refl) e)
 
 pub steps_of : (old new : Running) (event : EventValue) (told : ToldValue) → Steps old new event told → StepsOf old new event told
 steps_of old new event told (inl lacks) = λ items agree.
     let law = step_law_proof old.config items old.world agree event in
-    inl (lacks.0, lack_of old.config items event (ap (comes_first event) law.0 ∙ lacks.1))
+    inl (lacks.0, lack_of old.config items event (ap told_first law.0 ∙ lacks.1))
 steps_of old new event told (inr s) = λ items agree.
     let law = step_law_proof old.config items old.world agree event in
     inr (s.0 ∙ sym law.0, ap (λ (r : Running). r.config) s.1, subst (λ (w : World Content). Agree old.config (step (by_items old.config) old.config items event).1 w) (sym (ap (λ (r : Running). r.world) s.1)) law.1)
