@@ -1,5 +1,7 @@
 //! The command `at`.
 
+ghost use Rattle.std.specs.Prelude.{◌≤◌};
+
 use crate::frames::{Sink, hand_items};
 use crate::output::Output;
 use crate::stop::Stop;
@@ -48,7 +50,9 @@ pub fn run_at<I: Read, W: Write>(
     time: Time,
     table: Table,
     key: Key,
-) -> u8 {
+) -> u8
+    ensures { result ≤ 1 }
+{
     let mut output = Output::new(alloc, writer);
     let answered = answer_at(alloc, input, config, time, &Query::Get { table, key });
     let printed = match answered {
@@ -61,7 +65,9 @@ pub fn run_at<I: Read, W: Write>(
     }
 }
 
-fn finish<W: Write>(output: &mut Output<'_, W>) -> u8 {
+fn finish<W: Write>(output: &mut Output<'_, W>) -> u8
+    ensures { result ≤ 1 }
+{
     match output.flush() {
         Ok(()) => 0,
         Err(stop) => output.stop(stop),

@@ -15,7 +15,7 @@ merges_among rs to from after result = Acts rs after (to + 1) (both (numbered rs
 
 module _ (low high : List Content) (d e new : Content) (result : Result Told Refusal) where
   -- the taker comes first
-  pub into_low : (to from : ℕ) → length low ≡ from → to < length low → 0 < length high → Gives true (told_by (get_or low to d) (merged (get_or low to d) (get_or high 0 e))) (get_or low to d) new result → merges_among (low ++ high) to from (set low to new ++ high) result
+  pub into_low : (to from : ℕ) → length low ≡ from → to < length low → 0 < length high → Gives (told_by (get_or low to d) (merged (get_or low to d) (get_or high 0 e))) (get_or low to d) new result → merges_among (low ++ high) to from (set low to new ++ high) result
   into_low to from size l some gives =
       let whole : to < length (low ++ high) = omega (arith, length-append low high) in
       let other : from < length (low ++ high) = omega (arith, length-append low high) in
@@ -24,11 +24,11 @@ module _ (low high : List Content) (d e new : Content) (result : Result Told Ref
       subst (λ ys. merges_among (low ++ high) to from ys result) (set_low high low to new l)
       (acts_on (low ++ high) (to + 1) to refl whole (numbered (low ++ high) (from + 1)) (get_or (low ++ high) from e) (λ p. told_by p.0 (merged p.0 p.1)) d new result
       (numbered_at (low ++ high) from (from + 1) e refl other)
-      (subst (λ (x : Content). Gives true (told_by (get_or (low ++ high) to d) (merged (get_or (low ++ high) to d) x)) (get_or (low ++ high) to d) new result) b
-      (subst (λ (x : Content). Gives true (told_by x (merged x (get_or high 0 e))) x new result) a gives)))
+      (subst (λ (x : Content). Gives (told_by (get_or (low ++ high) to d) (merged (get_or (low ++ high) to d) x)) (get_or (low ++ high) to d) new result) b
+      (subst (λ (x : Content). Gives (told_by x (merged x (get_or high 0 e))) x new result) a gives)))
 
   -- the taker comes last
-  pub into_high : (to from : ℕ) → length low ≡ to → from < length low → 0 < length high → Gives true (told_by (get_or high 0 d) (merged (get_or high 0 d) (get_or low from e))) (get_or high 0 d) new result → merges_among (low ++ high) to from (low ++ set high 0 new) result
+  pub into_high : (to from : ℕ) → length low ≡ to → from < length low → 0 < length high → Gives (told_by (get_or high 0 d) (merged (get_or high 0 d) (get_or low from e))) (get_or high 0 d) new result → merges_among (low ++ high) to from (low ++ set high 0 new) result
   into_high to from size l some gives =
       let whole : to < length (low ++ high) = omega (arith, length-append low high) in
       let other : from < length (low ++ high) = omega (arith, length-append low high) in
@@ -37,5 +37,5 @@ module _ (low high : List Content) (d e new : Content) (result : Result Told Ref
       subst (λ ys. merges_among (low ++ high) to from ys result) (ap (λ n. set (low ++ high) n new) (sym size) ∙ set_high high low new)
       (acts_on (low ++ high) (to + 1) to refl whole (numbered (low ++ high) (from + 1)) (get_or (low ++ high) from e) (λ p. told_by p.0 (merged p.0 p.1)) d new result
       (numbered_at (low ++ high) from (from + 1) e refl other)
-      (subst (λ (x : Content). Gives true (told_by (get_or (low ++ high) to d) (merged (get_or (low ++ high) to d) x)) (get_or (low ++ high) to d) new result) b
-      (subst (λ (x : Content). Gives true (told_by x (merged x (get_or low from e))) x new result) a gives)))
+      (subst (λ (x : Content). Gives (told_by (get_or (low ++ high) to d) (merged (get_or (low ++ high) to d) x)) (get_or (low ++ high) to d) new result) b
+      (subst (λ (x : Content). Gives (told_by x (merged x (get_or low from e))) x new result) a gives)))

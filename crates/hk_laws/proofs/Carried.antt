@@ -20,10 +20,10 @@ carries_all config replicas events told h = h
 heard : (config : ConfigValue) (old new : Running) (e : EventValue) (t : ToldValue) (left : List EventValue) (told : List ToldValue) → old.config ≡ config → Steps old new e t →
     answers told ≡ run (by_contents config) config new.world (heeded left told) → answers (t ∷ told) ≡ run (by_contents config) config old.world (heeded (e ∷ left) (t ∷ told))
 heard config old new e t left told same (inl lacks) h =
-    let lack : tells_lack t ≡ true = ap tells_lack lacks.0 in
+    let lack : tells_lack t ≡ true = ap tells_lack lacks.0.0 in
     ap (λ b. cond (not b) (t ∷ answers told) (answers told)) lack
     ∙ h
-    ∙ ap (λ (r : Running). run (by_contents config) config r.world (heeded left told)) lacks.1
+    ∙ ap (λ (r : Running). run (by_contents config) config r.world (heeded left told)) lacks.0.1
     ∙ sym (ap (λ b. run (by_contents config) config old.world (cond b (heeded left told) (e ∷ heeded left told))) lack)
 heard config old new e t left told same (inr s) h =
     ap (λ b. cond (not b) (t ∷ answers told) (answers told)) s.2
@@ -48,5 +48,5 @@ carried config replicas events done w c =
     no_more (t ∷ ts) = ap (λ l. t ∷ l) (no_more ts)
 
 pub same_config : (old new : Running) (e : EventValue) (t : ToldValue) → Steps old new e t → new.config ≡ old.config
-same_config old new e t (inl lacks) = ap (λ (r : Running). r.config) lacks.1
+same_config old new e t (inl lacks) = ap (λ (r : Running). r.config) lacks.0.1
 same_config old new e t (inr s) = ap (λ (r : Running). r.config) s.1

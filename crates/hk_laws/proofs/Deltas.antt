@@ -10,7 +10,7 @@ use Rattle.hk_model.specs.Fragments.{FragmentValue, cut}
 use Rattle.hk_model.specs.Rules.{joined}
 use Rattle.hk_model.specs.Worlds.{ToldValue, told_by, delta_join}
 use Rattle.hk_model.specs.Worlds.ToldValue.{Refused}
-use Rattle.hk_laws.specs.Calls.{Gives, is_memory, tells_lack}
+use Rattle.hk_laws.specs.Calls.{Gives, is_memory, told_first, tells_lack}
 
 above : (m n : ℕ) → n ≤ m → nat_lt m n ≡ false
 above m n l = grind (arith, nat_tests)
@@ -27,8 +27,8 @@ pub too_old : (a b : Content) (base : ℕ) → base < b.horizon → delta_join a
 too_old a b base l = ap (λ t. cond t (Refused (TooOld b.horizon), a) (told_by a (joined a (cut b base)))) (below base b.horizon l)
 
 -- a refused cut is told
-pub refused_cut : (a b : Content) (base : ℕ) (why : Refusal) (result : Result Told Refusal) →
-    ((base < b.horizon) × (why ≡ TooOld b.horizon)) ⊎ ((b.horizon ≤ base) × (why ≡ Memory)) → MatchResult result (λ told. (told_seen told ≡ Refused why) × (is_memory why ≡ false)) (λ e. (e ≡ Memory) × (why ≡ Memory)) → Gives true (delta_join a b base) a a result
-refused_cut a b base why (Ok told) (inl p) m = subst (λ (x : ToldValue × Content). Gives true x a a (Ok told)) (sym (too_old a b base p.0)) (m.0 ∙ ap Refused p.1, refl, ap tells_lack m.0 ∙ m.1)
-refused_cut a b base why (Ok told) (inr p) m = absurd (true≢false (sym (ap is_memory p.1) ∙ m.1))
-refused_cut a b base why (Err e) p m = (m.0, refl, refl)
+pub refused_cut : (a b : Content) (base : ℕ) (why : Refusal) (result : Result Told Refusal) → told_first (delta_join a b base).0 ≡ false →
+    ((base < b.horizon) × (why ≡ TooOld b.horizon)) ⊎ ((b.horizon ≤ base) × (why ≡ Memory)) → MatchResult result (λ told. (told_seen told ≡ Refused why) × (is_memory why ≡ false)) (λ e. (e ≡ Memory) × (why ≡ Memory)) → Gives (delta_join a b base) a a result
+refused_cut a b base why (Ok told) free (inl p) m = subst (λ (x : ToldValue × Content). Gives x a a (Ok told)) (sym (too_old a b base p.0)) (m.0 ∙ ap Refused p.1, refl, ap tells_lack m.0 ∙ m.1)
+refused_cut a b base why (Ok told) free (inr p) m = absurd (true≢false (sym (ap is_memory p.1) ∙ m.1))
+refused_cut a b base why (Err e) free p m = (m.0, refl, free)

@@ -6,3 +6,6 @@ pub mod Itself
 pub mod Built
 pub mod Stepping
 pub mod Carried
+pub mod Lacking
+pub mod Misbuilt
+pub mod Barring

@@ -1,6 +1,6 @@
 //! What one replica does and tells.
 
-ghost use Rattle.std.specs.Prelude.{◌≡◌, Result, IfOk, IfErr, MatchResult, false, true};
+ghost use Rattle.std.specs.Prelude.{◌≡◌, Result, IfOk, IfErr, OnErr, MatchResult, false};
 ghost use Rattle.hk_types.specs.declared.faults.Refusal.TheVariants.{Memory};
 ghost use Rattle.hk_model.specs.Answers.{reply};
 ghost use Rattle.hk_model.specs.Content.{readable};
@@ -8,7 +8,7 @@ ghost use Rattle.hk_model.specs.Events.{told_seen};
 ghost use Rattle.hk_model.specs.Rules as rules;
 ghost use Rattle.hk_model.specs.Worlds.{told_batch, told_by, told_reply, told_taken};
 ghost use Rattle.hk_model.specs.Worlds.ToldValue.{Fronted, Refused};
-ghost use Rattle.hk_laws.specs.Calls.{Gives, is_memory, tells_lack};
+ghost use Rattle.hk_laws.specs.Calls.{Gives, is_memory, tells_lack, told_first};
 
 use hk_log::Item;
 use hk_model::{Query, Told};
@@ -28,7 +28,7 @@ pub(crate) fn refused(why: Refusal) -> Result<Told, Refusal>
 
 /// A replica absorbs an item.
 pub(crate) fn absorb(state: &mut ReplicaState, item: &Item) -> Result<Told, Refusal>
-    ensures { Gives true (told_taken state.old (rules.taken state.old item.now)) state.old state.new result }
+    ensures { Gives (told_taken state.old (rules.taken state.old item.now)) state.old state.new result }
 {
     match state.absorb(item) {
         Ok(took) => Ok(Told::Took(took)),
@@ -38,7 +38,7 @@ pub(crate) fn absorb(state: &mut ReplicaState, item: &Item) -> Result<Told, Refu
 
 /// A replica is pruned to a time.
 pub(crate) fn prune(state: &mut ReplicaState, horizon: Time) -> Result<Told, Refusal>
-    ensures { Gives true (told_by state.old (rules.pruned state.old horizon)) state.old state.new result }
+    ensures { Gives (told_by state.old (rules.pruned state.old horizon)) state.old state.new result }
 {
     match state.prune(horizon) {
         Ok(()) => Ok(Told::Done),
@@ -56,6 +56,7 @@ pub(crate) fn ask(
     ensures ok { IfOk result (λ told. told_seen told ≡ told_reply (reply state.now time query.now)) }
     ensures heard { IfOk result (λ told. tells_lack (told_seen told) ≡ false) }
     ensures err { IfErr result (λ why. why ≡ Memory) }
+    ensures first { OnErr result (told_first (told_reply (reply state.now time query.now)) ≡ false) }
 {
     match hk_query::ask(alloc, state, time, query) {
         Ok(answer) => Ok(Told::Answered(answer)),

@@ -1,11 +1,11 @@
 //! What happens to one replica of a list.
 
-ghost use Rattle.std.specs.Prelude.{◌≡◌, ◌≢◌, ◌+◌, ◌<◌, length, Ok};
+ghost use Rattle.std.specs.Prelude.{◌≡◌, ◌≢◌, ◌+◌, ◌<◌, length, MatchOption, Ok, false};
 ghost use Rattle.hk_model.specs.Events.{told_seen};
 ghost use Rattle.hk_model.specs.Rules as rules;
 ghost use Rattle.hk_model.specs.Worlds.{all_numbered, both, delta_join, numbered, told_batch, told_by, told_taken};
-ghost use Rattle.hk_model.specs.Worlds.ToldValue.{Done};
-ghost use Rattle.hk_laws.specs.Calls.{Acts};
+ghost use Rattle.hk_model.specs.Worlds.ToldValue.{Done, Refused};
+ghost use Rattle.hk_laws.specs.Calls.{Acts, is_memory, told_first};
 
 use crate::acting::{self, refused};
 use crate::joining;
@@ -73,6 +73,23 @@ pub(crate) fn batch(
     joining::batch(alloc, config, &mut replicas[place], &items)
 }
 
+/// Why what another replica has learnt since a time is refused before it is cut, if it is: the time is below its
+/// horizon, or above the readable mark of the replica that is to join it.
+fn barred(taker: &ReplicaState, source: &ReplicaState, base: Time) -> Option<Refusal>
+    ensures { MatchOption result (told_first (delta_join taker.now source.now base).0 ≡ false) (λ why. (delta_join taker.now source.now base ≡ (Refused why, taker.now)) × (is_memory why ≡ false)) }
+{
+    let horizon = source.horizon();
+    if base < horizon {
+        return Some(Refusal::TooOld { horizon });
+    }
+    let readable = taker.readable();
+    let (own, sent) = (taker.config(), source.config());
+    if own.log() == sent.log() && own.streams() == sent.streams() && readable < base {
+        return Some(Refusal::Gap { base, readable });
+    }
+    None
+}
+
 /// A replica joins what another has learnt since a time.
 pub(crate) fn delta(
     alloc: Global,
@@ -89,6 +106,9 @@ pub(crate) fn delta(
     let Some(source) = place_of(replicas, from) else {
         return Ok(Told::Refused(Refusal::NoSuch));
     };
+    if let Some(why) = barred(&replicas[taker], &replicas[source], base) {
+        return Ok(Told::Refused(why));
+    }
     match delta_since(alloc, &replicas[source], base) {
         Ok(fragment) => joining::join(&mut replicas[taker], &fragment),
         Err(why) => refused(why),

@@ -1,14 +1,18 @@
 //! Building a transaction from its writes.
 
-ghost use Rattle.std.specs.Prelude.{◌≡◌, ◌⊎◌, IfErr, OnOk, OnErr, MatchResult, None, Ok, Err};
+ghost use Rattle.std.specs.Prelude.{◌≡◌, ◌⊎◌, IfErr, OnOk, OnErr, MatchOption, MatchResult, None, Ok, Err};
+ghost use Rattle.std.specs.List.{list_any};
+ghost use Rattle.std.specs.Ordering.{eq_by_cmp};
 ghost use Rattle.std.specs.FinMap as finmap;
 ghost use Rattle.hk_types.specs.declared.faults.Refusal.TheVariants.{Memory};
 ghost use Rattle.hk_model.specs.Commits.{built};
 ghost use Rattle.hk_model.specs.Histories.{written_key};
+ghost use Rattle.hk_model.specs.Rows.{row_key_cmp};
+ghost use Rattle.hk_laws.specs.Calls.{IsBuilt};
 ghost use Rattle.hk_primary.specs.Txns.{IsRefusal, with_write, write_refused};
 
 use hk_model::WriteOp;
-use hk_primary::Txn;
+use hk_primary::{MOST_WRITES, RowKey, Txn};
 use hk_types::{Refusal, Time};
 use std::alloc::Global;
 
@@ -42,4 +46,27 @@ pub(crate) fn transaction(
         }
     }
     Ok(txn)
+}
+
+/// Whether one of the writes is of a row.
+fn is_written(writes: &[WriteOp], key: RowKey) -> bool
+    ensures { result ≡ list_any (λ w. eq_by_cmp row_key_cmp key (written_key w)) writes.now }
+{
+    writes.iter().any(|write| key == RowKey::of(write))
+}
+
+/// Why these writes make no transaction, if they make none. It takes no memory. The cost grows as the square of
+/// their number, up to `MOST_WRITES`.
+pub(crate) fn misbuilt(writes: &[WriteOp]) -> Option<Refusal>
+    ensures { MatchOption result (IsBuilt writes.now) (λ why. built finmap.empty writes.now ≡ Err why) }
+{
+    for i in 0..writes.len() {
+        if is_written(&writes[..i], RowKey::of(&writes[i])) {
+            return Some(Refusal::TwiceWritten);
+        }
+        if i >= MOST_WRITES {
+            return Some(Refusal::TooManyWrites);
+        }
+    }
+    None
 }

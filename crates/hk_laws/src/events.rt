@@ -1,16 +1,16 @@
 //! What each kind of event does to a world.
 
-ghost use Rattle.std.specs.Prelude.{◌≡◌, IfOk, IfErr, false};
+ghost use Rattle.std.specs.Prelude.{◌≡◌, IfOk, IfErr, OnErr, false};
 ghost use Rattle.hk_types.specs.declared.faults.Refusal.TheVariants.{Memory};
 ghost use Rattle.hk_model.specs.Events.{told_seen};
 ghost use Rattle.hk_model.specs.Worlds.{asked_primary};
 ghost use Rattle.hk_model.specs.Worlds.EventValue.{Commit, MarkOf, Absorb, Batch, Prune, Merge, Delta, Ask, FrontOf};
 ghost use Rattle.hk_laws.specs.Running.{stepped};
-ghost use Rattle.hk_laws.specs.Calls.{Happens, tells_lack};
+ghost use Rattle.hk_laws.specs.Calls.{Happens, Turns, barred, tells_lack, told_first};
 
 use crate::acting::{self, refused};
 use crate::among;
-use crate::building::transaction;
+use crate::building::{misbuilt, transaction};
 use crate::lists::numbered;
 use crate::world::World;
 use hk_model::{Query, Told, WriteOp};
@@ -22,6 +22,7 @@ fn ask_primary(primary: &Primary, time: Time, query: &Query) -> Result<Told, Ref
     ensures ok { IfOk result (λ told. told_seen told ≡ asked_primary primary.now.history time query.now) }
     ensures heard { IfOk result (λ told. tells_lack (told_seen told) ≡ false) }
     ensures err { IfErr result (λ why. why ≡ Memory) }
+    ensures first { OnErr result (told_first (asked_primary primary.now.history time query.now) ≡ false) }
 {
     match primary.ask(time, query) {
         Ok(answer) => Ok(Told::Answered(answer)),
@@ -30,14 +31,28 @@ fn ask_primary(primary: &Primary, time: Time, query: &Query) -> Result<Told, Ref
 }
 
 impl World {
-    /// A transaction that read at a time commits its writes on a stream, in their order.
-    pub(crate) fn commit(
+    /// Why a transaction is refused whatever it writes, if it is. It takes no memory.
+    fn barred(&self, stream: StreamNo, read_at: Time) -> Option<Refusal>
+        ensures { result ≡ barred self.now.config self.now.world.history stream read_at }
+    {
+        if stream.number() > self.primary.config().streams() {
+            return Some(Refusal::NoStream);
+        }
+        let readable = self.primary.last();
+        if readable < read_at {
+            return Some(Refusal::NotYet { readable });
+        }
+        None
+    }
+
+    /// A transaction is built of its writes, in their order, and commits on a stream.
+    fn build_and_commit(
         &mut self,
         stream: StreamNo,
         read_at: Time,
         writes: Vec<WriteOp>,
     ) -> Result<Told, Refusal>
-        ensures { Happens self.old self.new (Commit stream read_at writes.items) result }
+        ensures { Turns self.old self.new (Commit stream read_at writes.items) result }
     {
         let txn = match transaction(self.alloc, read_at, writes) {
             Ok(txn) => txn,
@@ -47,6 +62,22 @@ impl World {
             Ok(time) => Ok(Told::Committed(time)),
             Err((_txn, why)) => refused(why),
         }
+    }
+
+    /// A transaction that read at a time commits its writes on a stream, in their order. Where it is refused
+    /// whatever it writes, its writes alone are tested, and nothing grows.
+    pub(crate) fn commit(
+        &mut self,
+        stream: StreamNo,
+        read_at: Time,
+        writes: Vec<WriteOp>,
+    ) -> Result<Told, Refusal>
+        ensures { Happens self.old self.new (Commit stream read_at writes.items) result }
+    {
+        if let Some(why) = self.barred(stream, read_at) {
+            return Ok(Told::Refused(misbuilt(&writes).unwrap_or(why)));
+        }
+        self.build_and_commit(stream, read_at, writes)
     }
 
     /// The primary emits a mark of a stream.

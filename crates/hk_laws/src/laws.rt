@@ -3,24 +3,30 @@
 
 ghost use Rattle.hk_model.specs.Laws.{
   DeliverLaw,
+  DeliverReplies,
+  DeliverStands,
   JoinLaw,
   MergeAssociates,
   MergeCommutes,
   MergeLaw,
   MergeRepeats,
   ReplyLaw,
+  SameContents,
+  SameReadable,
   WorldLaw,
 };
 
 /// One replica, end to end: deliveries of a history's items and prunings, in any order and with repeats,
-/// leave the canon of the items at the greatest accepted horizon, and from there to the readable mark a
-/// replica replies with the primary's rows.
+/// leave the canon of the items at the greatest accepted horizon, which stands for them; and from that horizon
+/// to its readable mark it replies with the primary's rows.
 pub fn deliver_law()
     ensures canon { DeliverLaw }
+    ensures stands { DeliverStands }
+    ensures replies { DeliverReplies }
     ensures rows { ReplyLaw }
 {}
 
-/// Joins of parts and merges of wholes give the canon of both item sets at the greater horizon. So merge is
+/// What joins of parts and merges of wholes give stands for both item sets at the greater horizon. So merge is
 /// commutative, associative and idempotent there.
 pub fn merge_law()
     ensures join { JoinLaw }
@@ -30,7 +36,11 @@ pub fn merge_law()
     ensures repeats { MergeRepeats }
 {}
 
-/// Replicas of the same items give the same replies from the greater horizon to the readable mark.
+/// Replicas of the same set of items, in whatever order and however often these came, are readable up to the
+/// same time and give the same replies from the greater horizon to there. At the same horizon they have the same
+/// content.
 pub fn world_law()
-    ensures { WorldLaw }
+    ensures content { SameContents }
+    ensures readable { SameReadable }
+    ensures replies { WorldLaw }
 {}

@@ -43,8 +43,10 @@ impl World {
     /// and why is said at the call that the event stands for: of the transaction's `put`, `remove` and `commit`
     /// for a commit, `Primary::mark` for a mark, `ReplicaState::absorb` and `prune`, `fragment_of` and `join`
     /// for a batch, `merge`, `delta_since` and `join` for a delta, and `ask`. `Memory` comes where a growth was
-    /// refused. A refusal changes nothing. A merge of a replica with itself leaves it as it is. It costs what
-    /// those calls do; the items of a batch are copied, and no replica is.
+    /// refused, and last: where the replicas stand for items, only where nothing else is refused, or a transaction
+    /// for what it writes. A refusal changes nothing. A merge of a replica with itself leaves it as it is. It costs
+    /// what those calls do; the items of a batch are copied, and no replica is. A commit that is refused `NoStream`
+    /// or `NotYet` costs the square of its number of writes, up to 1,024.
     pub fn step(&mut self, event: Event) -> Told
         ensures gives { Steps self.old self.new (event_seen event) (told_seen result) }
         ensures stands { StepsOf self.old self.new (event_seen event) (told_seen result) }

@@ -1,11 +1,12 @@
 -- What calls on a primary leave and tell.
-use Rattle.std.specs.Prelude.{◌≡◌, ℕ, List, ◌∷◌, Option, Some, None, Result, Ok, Err}
+use Rattle.std.specs.Prelude.{◌≡◌, ◌⊎◌, ◌<◌, ◌≤◌, ℕ, List, ◌∷◌, Option, Some, None, Result, Ok, Err}
 use Rattle.std.specs.Option.{option_map}
 use Rattle.hk_types.specs.declared.faults.Refusal.{Refusal}
-use Rattle.hk_types.specs.declared.faults.Refusal.TheVariants.{Memory}
+use Rattle.hk_types.specs.declared.faults.Refusal.TheVariants.{Memory, NotYet}
 use Rattle.hk_log.specs.declared.item.Item.{Item}
 use Rattle.hk_log.specs.declared.item.Item.TheVariants.{Commit}
-use Rattle.hk_model.specs.Histories.{Transaction, entry_of}
+use Rattle.hk_types.specs.Values.{ConfigValue}
+use Rattle.hk_model.specs.Histories.{Transaction, entry_of, last}
 use Rattle.hk_primary.specs.Log.{PrimaryValue, with_item, IsHonest}
 use Rattle.hk_primary.specs.Txns.{TxnValue}
 use Rattle.hk_primary.specs.Verdicts.{committed_after}
@@ -42,6 +43,22 @@ grown p (Ok (Some t)) = extended p t
 grown p (Ok None) = p
 grown p (Err why) = p
 
--- some primary meets it, whose log holds items of its own history alone
-abbrev pub AtSome : (PrimaryValue → Type 0) → Type 0
-AtSome P = (p : PrimaryValue) × IsHonest p × P p
+-- how many items a commit emitted that answered this time, if one
+abbrev pub items_of : Option ℕ → ℕ
+items_of None = 0
+items_of (Some time) = 1
+
+-- ---- a shared primary
+
+-- the configuration of no primary
+abbrev pub no_config : ConfigValue
+no_config = record { log = 0; streams = 0 }
+
+-- some primary of this configuration meets it, whose clock starts after this time and whose log holds items of its
+-- own history alone
+abbrev pub AtSome : ConfigValue → ℕ → (PrimaryValue → Type 0) → Type 0
+AtSome config after P = (p : PrimaryValue) × IsHonest p × (p.config ≡ config) × (p.after ≡ after) × P p
+
+-- a query at a time was rightly refused: the time is above that of the last commit, which is told, or memory ran out
+abbrev pub NotAnswered : PrimaryValue → ℕ → Refusal → Type 0
+NotAnswered p time why = ((last p.history < time) × (why ≡ NotYet (last p.history))) ⊎ ((time ≤ last p.history) × (why ≡ Memory))

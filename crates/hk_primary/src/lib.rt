@@ -15,7 +15,7 @@ mod txn;
 pub use hk_query::{Answer, Query};
 pub use primary::Primary;
 pub use row_key::RowKey;
-pub use shared::SharedPrimary;
+pub use shared::{Naming, SharedPrimary};
 pub use txn::{MOST_WRITES, Txn};
 
 /// What a primary whose clock starts after a time makes of a transaction.

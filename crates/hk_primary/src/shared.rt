@@ -1,11 +1,11 @@
 //! A primary that threads share.
 
-ghost use Rattle.std.specs.Prelude.{◌≡◌, ◌⊎◌, ◌≤◌, ◌-◌, drop, length, IfErr, IfOk};
-ghost use Rattle.hk_types.specs.declared.faults.Refusal.TheVariants.{Memory, NotYet as Early, NoStream as Streamless};
+ghost use Rattle.std.specs.Prelude.{◌≡◌, ◌≤◌, ◌<◌, ◌+◌, ◌-◌, drop, length, IfErr, IfOk, OnOk, OnErr};
+ghost use Rattle.hk_types.specs.declared.faults.Refusal.TheVariants.{Memory, NoStream as Streamless};
 ghost use Rattle.hk_model.specs.Answers.{answer, answer_seen};
 ghost use Rattle.hk_model.specs.Histories.{last, table_at};
 ghost use Rattle.hk_model.specs.Worlds.{mark_now};
-ghost use Rattle.hk_primary.specs.Calls.{AtSome, Tells, judged};
+ghost use Rattle.hk_primary.specs.Calls.{AtSome, NotAnswered, Tells, items_of, judged};
 ghost use Rattle.hk_primary.specs.Txns.{no_writes};
 
 use crate::primary::Primary;
@@ -14,23 +14,126 @@ use hk_log::{Item, Mark};
 use hk_query::{Answer, Query};
 use hk_types::{Config, Refusal, StreamNo, Time};
 use std::alloc::Global;
+use std::marker::Brand;
+use std::sync::ledger::{Blank, Book, Ledger, Share};
 use std::sync::{Mutex, Wait};
 
-/// A primary under a lock, for threads that share it. Each call waits for the lock, and then makes the call of
-/// the same name on the primary that it finds. So whenever the lock is got, the log holds items of its own
-/// history alone and the tables are those that this history left: what every `Primary` keeps. Of two calls
-/// nothing is said of what came between them.
-#[derive(Drop)]
-pub struct SharedPrimary {
-    primary: Mutex<Primary>,
+/// Which shared primary it is: its configuration, the time that its clock starts after, and the ledger that its
+/// items are counted in. It is known in the proofs alone: a function over it is called with `Brand`, and the
+/// caller says there which values these are.
+pub trait Naming: Ledger {
+    ghost use Rattle.std.specs.Prelude.{ℕ};
+    ghost use Rattle.hk_types.specs.Values.{ConfigValue};
+
+    ghost config: { ConfigValue };
+
+    ghost after: { ℕ };
 }
 
-impl SharedPrimary {
-    /// A shared primary with no commits, whose first commit has time 1. The only refusal is `Memory`.
-    pub fn new(alloc: Global, config: Config) -> Result<SharedPrimary, Refusal>
-        ensures { IfErr result (λ why. why ≡ Memory) }
+impl Naming for Brand {
+    ghost use Rattle.hk_primary.specs.Calls.{no_config};
+
+    ghost config = { no_config };
+
+    ghost after = { 0 };
+}
+
+/// What the lock keeps: the primary of that name, and how many items its log has.
+#[derive(Drop)]
+struct Held<K: Naming> {
+    primary: Primary,
+    emitted: Book<K>,
+    ghost of_config: { primary.config ≡ K.config },
+    ghost of_start: { primary.after ≡ K.after },
+    ghost counted: { emitted.total ≡ length primary.items },
+}
+
+impl<K: Naming> Held<K> {
+    /// Commits, and counts the item that is emitted, if one is.
+    fn commit(
+        &mut self,
+        share: &mut Share<K>,
+        txn: Txn,
+        stream: StreamNo,
+    ) -> Result<Option<Time>, (Txn, Refusal)>
+        requires { 0 < share.old.parts }
+        ensures told { AtSome K.config K.after (λ p. Tells (judged p txn stream) result) }
+        ensures back { IfErr result (λ e. e.0 ≡ txn) }
+        ensures parts { share.new.parts ≡ share.old.parts }
+        ensures counted { IfOk result (λ time. share.new.amount ≡ share.old.amount + items_of time) }
+        ensures kept { OnErr result (share.new.amount ≡ share.old.amount) }
     {
-        Ok(SharedPrimary::of(Primary::new(alloc, config)?))
+        let Held { primary, emitted } = self;
+        let _kept = primary.last();
+        let time = primary.commit(txn, stream)?;
+        if time.is_some() {
+            emitted.add(share, 1);
+        }
+        Ok(time)
+    }
+
+    /// Emits a mark, and counts it.
+    fn mark(&mut self, share: &mut Share<K>, stream: StreamNo) -> Result<Mark, Refusal>
+        requires { 0 < share.old.parts }
+        ensures told { IfOk result (λ mark. AtSome K.config K.after (λ p. mark ≡ mark_now p.config p.history stream)) }
+        ensures known { OnOk result (stream ≤ K.config.streams) }
+        ensures unknown { K.config.streams < stream → IfErr result (λ why. why ≡ Streamless) }
+        ensures memory { stream ≤ K.config.streams → IfErr result (λ why. why ≡ Memory) }
+        ensures parts { share.new.parts ≡ share.old.parts }
+        ensures counted { OnOk result (share.new.amount ≡ share.old.amount + 1) }
+        ensures kept { OnErr result (share.new.amount ≡ share.old.amount) }
+    {
+        let Held { primary, emitted } = self;
+        let _kept = primary.last();
+        let mark = primary.mark(stream)?;
+        emitted.add(share, 1);
+        Ok(mark)
+    }
+
+    /// How many items were emitted, beside what a share counts.
+    fn count(&mut self, share: &mut Share<K>) -> u64
+        ensures told { AtSome K.config K.after (λ p. result ≡ length p.items) }
+        ensures parts { share.new.parts ≡ share.old.parts }
+        ensures amount { share.new.amount ≡ share.old.amount }
+        ensures bound { share.old.amount ≤ result }
+        ensures whole { share.old.parts ≡ K.parts → share.old.amount ≡ result }
+    {
+        self.emitted.audit(share);
+        self.primary.item_count()
+    }
+}
+
+/// A primary under a lock, for threads that share it. Each call waits for the lock, and then makes the call of
+/// the same name on the primary that it finds, which has the configuration and the clock that its name says. So
+/// whenever the lock is got, the log holds items of its own history alone and the tables are those that this
+/// history left: what every `Primary` keeps. Of two calls nothing is said of what came between them, but how many
+/// items were emitted.
+///
+/// Items are counted in shares. Whoever makes a shared primary gets the whole, and splits a share off for each
+/// thread that emits. A call that emits an item adds one to the share that it is handed; a share never counts more
+/// items than there are, and all shares merged count them all. Shares take no memory and no time.
+#[derive(Drop)]
+pub struct SharedPrimary<K: Naming> {
+    held: Mutex<Held<K>>,
+}
+
+impl<K: Naming> SharedPrimary<K> {
+    /// A shared primary with no commits, whose first commit has time 1. The only refusal is `Memory`.
+    pub fn new(
+        alloc: Global,
+        config: Config,
+        blank: Blank,
+    ) -> Result<(SharedPrimary<K>, Share<K>), Refusal>
+        requires name { blank.name ≡ K.name }
+        requires parts { blank.parts ≡ K.parts }
+        requires some { 0 < blank.parts }
+        requires config { config ≡ K.config }
+        requires after { K.after ≡ 0 }
+        ensures whole { IfOk result (λ made. made.1.parts ≡ K.parts) }
+        ensures none { IfOk result (λ made. made.1.amount ≡ 0) }
+        ensures err { IfErr result (λ why. why ≡ Memory) }
+    {
+        Ok(SharedPrimary::<K>::of(Primary::new(alloc, config)?, blank))
     }
 
     /// A shared primary with no commits, whose first commit has the time one above this one. The only refusal
@@ -39,92 +142,127 @@ impl SharedPrimary {
         alloc: Global,
         config: Config,
         after: Time,
-    ) -> Result<SharedPrimary, Refusal>
-        ensures { IfErr result (λ why. why ≡ Memory) }
+        blank: Blank,
+    ) -> Result<(SharedPrimary<K>, Share<K>), Refusal>
+        requires name { blank.name ≡ K.name }
+        requires parts { blank.parts ≡ K.parts }
+        requires some { 0 < blank.parts }
+        requires config { config ≡ K.config }
+        requires after { after ≡ K.after }
+        ensures whole { IfOk result (λ made. made.1.parts ≡ K.parts) }
+        ensures none { IfOk result (λ made. made.1.amount ≡ 0) }
+        ensures err { IfErr result (λ why. why ≡ Memory) }
     {
-        Ok(SharedPrimary::of(Primary::starting_after(alloc, config, after)?))
+        Ok(SharedPrimary::<K>::of(Primary::starting_after(alloc, config, after)?, blank))
     }
 
-    /// Shares a primary.
-    pub fn of(primary: Primary) -> SharedPrimary {
-        SharedPrimary {
-            primary: Mutex::new(primary),
-        }
+    /// Shares a primary. The share counts the items that it has emitted already.
+    pub fn of(primary: Primary, blank: Blank) -> (SharedPrimary<K>, Share<K>)
+        requires name { blank.name ≡ K.name }
+        requires parts { blank.parts ≡ K.parts }
+        requires some { 0 < blank.parts }
+        requires config { primary.config ≡ K.config }
+        requires after { primary.after ≡ K.after }
+        ensures whole { result.1.parts ≡ K.parts }
+        ensures counted { result.1.amount ≡ length primary.items }
+    {
+        let (mut emitted, mut all) = blank.open::<K>();
+        emitted.add(&mut all, primary.item_count());
+        let held = Mutex::new(Held { primary, emitted });
+        (SharedPrimary { held }, all)
     }
 
     /// The id of the log, and how many streams it has.
     pub fn config<R: Wait>(&self, rt: &R) -> Config
-        ensures { AtSome (λ p. result ≡ p.config) }
+        ensures { result ≡ K.config }
     {
-        let primary = self.primary.lock(rt);
-        let _kept = primary.last();
-        primary.config()
+        self.held.lock(rt).primary.config()
     }
 
     /// The time of the last commit, else 0.
     pub fn last<R: Wait>(&self, rt: &R) -> Time
-        ensures { AtSome (λ p. result ≡ last p.history) }
+        ensures { AtSome K.config K.after (λ p. result ≡ last p.history) }
     {
-        self.primary.lock(rt).last()
+        self.held.lock(rt).primary.last()
     }
 
     /// A transaction with no writes that reads at the time of the last commit.
     pub fn begin<R: Wait>(&self, rt: &R) -> Txn
-        ensures { AtSome (λ p. result ≡ no_writes (last p.history)) }
+        ensures { AtSome K.config K.after (λ p. result ≡ no_writes (last p.history)) }
     {
-        let primary = self.primary.lock(rt);
-        let _kept = primary.last();
-        primary.begin()
+        let held = self.held.lock(rt);
+        let _kept = held.primary.last();
+        held.primary.begin()
     }
 
-    /// Commits a transaction on a stream, as `Primary::commit` does.
+    /// Commits a transaction on a stream, as `Primary::commit` does. A commit that answers a time adds one to the
+    /// share, and no other does.
     pub fn commit<R: Wait>(
         &self,
         rt: &R,
+        share: &mut Share<K>,
         txn: Txn,
         stream: StreamNo,
     ) -> Result<Option<Time>, (Txn, Refusal)>
-        ensures told { AtSome (λ p. Tells (judged p txn stream) result) }
+        requires { 0 < share.old.parts }
+        ensures told { AtSome K.config K.after (λ p. Tells (judged p txn stream) result) }
         ensures back { IfErr result (λ e. e.0 ≡ txn) }
+        ensures parts { share.new.parts ≡ share.old.parts }
+        ensures counted { IfOk result (λ time. share.new.amount ≡ share.old.amount + items_of time) }
+        ensures kept { OnErr result (share.new.amount ≡ share.old.amount) }
     {
-        let mut primary = self.primary.lock(rt);
-        let _kept = primary.last();
-        primary.commit(txn, stream)
+        self.held.lock(rt).commit(share, txn, stream)
     }
 
-    /// Emits the mark of a stream, as `Primary::mark` does.
-    pub fn mark<R: Wait>(&self, rt: &R, stream: StreamNo) -> Result<Mark, Refusal>
-        ensures told { IfOk result (λ mark. AtSome (λ p. (mark ≡ mark_now p.config p.history stream) × (stream ≤ p.config.streams))) }
-        ensures err { IfErr result (λ why. (why ≡ Streamless) ⊎ (why ≡ Memory)) }
+    /// Emits the mark of a stream, as `Primary::mark` does. It adds one to the share, and a refusal adds none.
+    pub fn mark<R: Wait>(
+        &self,
+        rt: &R,
+        share: &mut Share<K>,
+        stream: StreamNo,
+    ) -> Result<Mark, Refusal>
+        requires { 0 < share.old.parts }
+        ensures told { IfOk result (λ mark. AtSome K.config K.after (λ p. mark ≡ mark_now p.config p.history stream)) }
+        ensures known { OnOk result (stream ≤ K.config.streams) }
+        ensures unknown { K.config.streams < stream → IfErr result (λ why. why ≡ Streamless) }
+        ensures memory { stream ≤ K.config.streams → IfErr result (λ why. why ≡ Memory) }
+        ensures parts { share.new.parts ≡ share.old.parts }
+        ensures counted { OnOk result (share.new.amount ≡ share.old.amount + 1) }
+        ensures kept { OnErr result (share.new.amount ≡ share.old.amount) }
     {
-        let mut primary = self.primary.lock(rt);
-        let _kept = primary.last();
-        primary.mark(stream)
+        self.held.lock(rt).mark(share, stream)
     }
 
-    /// How many items were emitted.
-    pub fn item_count<R: Wait>(&self, rt: &R) -> u64
-        ensures { AtSome (λ p. result ≡ length p.items) }
+    /// How many items were emitted: no fewer than the share counts, and just as many where it is the whole.
+    pub fn item_count<R: Wait>(&self, rt: &R, share: &mut Share<K>) -> u64
+        ensures told { AtSome K.config K.after (λ p. result ≡ length p.items) }
+        ensures parts { share.new.parts ≡ share.old.parts }
+        ensures amount { share.new.amount ≡ share.old.amount }
+        ensures bound { share.old.amount ≤ result }
+        ensures whole { share.old.parts ≡ K.parts → share.old.amount ≡ result }
     {
-        self.primary.lock(rt).item_count()
+        self.held.lock(rt).count(share)
     }
 
     /// Copies of the items from a position on, as `Primary::items` gives them: what one call gives are items of
     /// one history. The only refusal is `Memory`.
     pub fn items<R: Wait>(&self, rt: &R, from: u64) -> Result<Vec<Item>, Refusal>
-        ensures ok { IfOk result (λ items. AtSome (λ p. items.items ≡ drop (from - 1) p.items)) }
+        ensures ok { IfOk result (λ items. AtSome K.config K.after (λ p. items.items ≡ drop (from - 1) p.items)) }
         ensures err { IfErr result (λ why. why ≡ Memory) }
     {
-        self.primary.lock(rt).items(from)
+        self.held.lock(rt).primary.items(from)
     }
 
     /// Answers a query at a time, as `Primary::ask` does.
     pub fn ask<R: Wait>(&self, rt: &R, time: Time, query: &Query) -> Result<Answer, Refusal>
-        ensures told { IfOk result (λ a. AtSome (λ p. (answer_seen a ≡ answer (table_at p.history time) query.now) × (time ≤ last p.history))) }
-        ensures err { IfErr result (λ why. (why ≡ Memory) ⊎ AtSome (λ p. why ≡ Early (last p.history))) }
+        ensures told { IfOk result (λ a. AtSome K.config K.after (λ p. (answer_seen a ≡ answer (table_at p.history time) query.now) × (time ≤ last p.history))) }
+        ensures refused { IfErr result (λ why. AtSome K.config K.after (λ p. NotAnswered p time why)) }
     {
-        let primary = self.primary.lock(rt);
-        let _kept = primary.last();
-        primary.ask(time, query)
+        let held = self.held.lock(rt);
+        let last = held.primary.last();
+        if last < time {
+            return Err(Refusal::NotYet { readable: last });
+        }
+        held.primary.ask(time, query)
     }
 }

@@ -282,7 +282,7 @@ front_talks : {H : Type 0} (may : H → Request → Reply → H → Type 0) (a b
 front_talks may a b bytes part qs rs h answers is_front =
     let front = flat_map asked_text qs in
     let reads : ReadsRequests front qs (Ok []) = (sym (append-nil front), h.2, inl (omega arith)) in
-    (front, h.0, h.1, all_said rs, is_front, record { requests = qs; left = Ok []; reads = reads; replies = rs; answers = answers; told = sym (append-nil (all_said rs)) })
+    (front, h.0, h.1, inl (qs, reads), all_said rs, is_front, record { requests = qs; left = Ok []; reads = reads; replies = rs; answers = answers; told = sym (append-nil (all_said rs)) })
 
 pub talks_in_part : {H : Type 0} (may : H → Request → Reply → H → Type 0) (a b : H) (o p : Option (List ℕ)) (bytes : List ℕ) (e : Ended) → IsStopped e → Spoke may a b o p bytes (Ends e) → (part : List ℕ) × Appends o p part × TalksInPart may a b bytes part
 talks_in_part may a b o p bytes Clean done s = absurd done
@@ -299,6 +299,7 @@ talks_in_part may a b o p bytes WriteFault done s =
           bytes,
           [],
           sym (append-nil bytes),
+          inr refl,
           all_said s.replies ++ refused_text h.1,
           h.4,
           record { requests = s.requests; left = h.0; reads = h.2; replies = s.replies; answers = s.answers; told = ap (λ (t : List ℕ). all_said s.replies ++ t) (sym (farewell_is h.0 h.1 h.3)) },

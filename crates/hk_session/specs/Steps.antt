@@ -12,7 +12,7 @@ use Rattle.hk_wire.specs.declared.request.Request.{Request}
 use Rattle.hk_wire.specs.declared.request.Request.TheVariants as asked
 use Rattle.hk_wire.specs.Fragments.{fragment_seen}
 use Rattle.hk_wire.specs.Replies.{ReplyValue, Done, Front, Fragment, Answer, Refused, reply_seen}
-use Rattle.hk_session.specs.declared.state_host.StateHost.{StateHost}
+use Rattle.hk_session.specs.Values.{HostValue}
 
 -- the log of a content, and how many streams it has
 abbrev pub config_of : Content → ConfigValue
@@ -24,12 +24,12 @@ joined_if c (Ok f) = joined c f
 joined_if c (Err why) = Err why
 
 -- an accepted change counts as one operation and is answered with their number; a refused one changes nothing
-abbrev pub settled : StateHost → Result Content Refusal → ReplyValue × StateHost
-settled h (Ok c) = (Done (h.ops + 1), record h { state = c; ops = h.ops + 1 })
+abbrev pub settled : HostValue → Result Content Refusal → ReplyValue × HostValue
+settled h (Ok c) = (Done (h.ops + 1), record { content = c; ops = h.ops + 1 })
 settled h (Err why) = (Refused why, h)
 
 -- a change; after the last operation it is refused before any other test
-abbrev pub changed : StateHost → Result Content Refusal → ReplyValue × StateHost
+abbrev pub changed : HostValue → Result Content Refusal → ReplyValue × HostValue
 changed h outcome = if nat_lt h.ops (2 ^ 62) then settled h outcome else (Refused refusals.NodeFull, h)
 
 -- the answer to a query, or why there is none
@@ -47,22 +47,22 @@ handed (Ok f) = Fragment (fragment_seen f)
 handed (Err why) = Refused why
 
 -- the reply to a request, and the host after it
-abbrev pub answered : StateHost → Request → ReplyValue × StateHost
-answered h (asked.Items items) = changed h (joined_if h.state (gathered (config_of h.state) items.items))
-answered h asked.Front = (Front h.state.horizon (readable h.state), h)
-answered h (asked.Delta base) = (handed (since h.state base), h)
-answered h asked.Full = (handed (Ok (cut h.state 0)), h)
-answered h (asked.Ask t query) = (told (reply h.state t query), h)
-answered h (asked.JoinThis fragment) = changed h (joined h.state fragment)
-answered h (asked.MergeThis fragment) = changed h (joined h.state fragment)
-answered h (asked.Prune horizon) = changed h (pruned h.state horizon)
+abbrev pub answered : HostValue → Request → ReplyValue × HostValue
+answered h (asked.Items items) = changed h (joined_if h.content (gathered (config_of h.content) items.items))
+answered h asked.Front = (Front h.content.horizon (readable h.content), h)
+answered h (asked.Delta base) = (handed (since h.content base), h)
+answered h asked.Full = (handed (Ok (cut h.content 0)), h)
+answered h (asked.Ask t query) = (told (reply h.content t query), h)
+answered h (asked.JoinThis fragment) = changed h (joined h.content fragment)
+answered h (asked.MergeThis fragment) = changed h (joined h.content fragment)
+answered h (asked.Prune horizon) = changed h (pruned h.content horizon)
 
 -- a host replied and was left so: as it is told, or it refused for want of memory and nothing changed
-abbrev pub IsGiven : StateHost → ReplyValue × StateHost → Reply → StateHost → Type 0
+abbrev pub IsGiven : HostValue → ReplyValue × HostValue → Reply → HostValue → Type 0
 IsGiven old given answer new = ((reply_seen answer, new) ≡ given) ⊎ ((reply_seen answer ≡ Refused refusals.Memory) × (new ≡ old))
 
 -- what a host over a state may do
-abbrev pub Step : StateHost → Request → Reply → StateHost → Type 0
+abbrev pub Step : HostValue → Request → Reply → HostValue → Type 0
 Step old request answer new = IsGiven old (answered old request) answer new
 
 -- a call on a state left what is told, or it changed nothing: it was refused so, or memory ran out

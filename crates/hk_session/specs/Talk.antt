@@ -53,9 +53,13 @@ pub record Talk {H : Type 0} (may : H → Request → Reply → H → Type 0) (o
 abbrev pub IsFront : List ℕ → List ℕ → Type 0
 IsFront front text = (rest : List ℕ) × (front ++ rest ≡ text)
 
--- a front of what a host answers to a front of the bytes
+-- bytes that are whole requests
+abbrev pub AreWhole : List ℕ → Type 0
+AreWhole bytes = (requests : List Request) × ReadsRequests bytes requests (Ok [])
+
+-- a front of what a host answers to a front of the bytes, which is whole requests or all of them
 abbrev pub TalksInPart : {H : Type 0} → (H → Request → Reply → H → Type 0) → H → H → List ℕ → List ℕ → Type 0
-TalksInPart may old new bytes part = (front back : List ℕ) × (bytes ≡ front ++ back) × (text : List ℕ) × IsFront part text × Talk may old new front text
+TalksInPart may old new bytes part = (front back : List ℕ) × (bytes ≡ front ++ back) × (AreWhole front ⊎ (back ≡ [])) × (text : List ℕ) × IsFront part text × Talk may old new front text
 
 -- the fault that bytes have after whole requests, by what is left of them
 abbrev pub fault_of : Result (List ℕ) FormFault → Option FormFault

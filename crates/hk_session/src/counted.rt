@@ -2,18 +2,30 @@
 
 ghost use Rattle.std.specs.Prelude.{◌≡◌, ◌<◌, ◌+◌, ◌-◌, ◌^◌, min, OnOk, OnErr, IfOk};
 ghost use Rattle.std.specs.Io.{ReadsAtMost, WritesAtMost};
-ghost use Rattle.std.specs.Io.KnownBytes.{ReadConsumes, WriteAppends};
+ghost use Rattle.std.specs.Io.KnownBytes.{Keeps, ReadConsumes, WriteAppends};
 
 use std::io;
 use std::io::{Read, Write};
+use std::marker::Model;
 
-/// A reader or a writer, with the number of its calls and of those that failed. Each number stays at 2^64 - 1
-/// once it is there. A call costs what the device's costs.
+/// A reader or a writer, with the number of its calls and of those that failed. A call is a read, a write or a
+/// flush; a call fails that answers an error, and a write that takes 0 bytes. Each number stays at 2^64 - 1 once
+/// it is there. A call costs what the device's costs.
 #[derive(Drop)]
 pub struct Counted<D> {
     device: D,
     calls: u64,
     faults: u64,
+}
+
+impl<D> Model for Counted<D> {
+    ghost use Rattle.hk_session.specs.Values.{CountedValue, counted_code};
+
+    ghost Value = { CountedValue D };
+
+    ghost coded = { counted_code D.code };
+
+    ghost view = { λ c. record { device = c.device; calls = c.calls; faults = c.faults } };
 }
 
 impl<D> Counted<D> {
@@ -28,6 +40,21 @@ impl<D> Counted<D> {
             calls: 0,
             faults: 0,
         }
+    }
+
+    /// The device.
+    pub fn device(&self) -> &D
+        ensures { result.now ≡ self.now.device }
+    {
+        &self.device
+    }
+
+    /// How many calls were made.
+    pub fn calls(&self) -> u64
+        ensures value { result ≡ self.now.calls }
+        ensures bound { self.now.calls < 2 ^ 64 }
+    {
+        self.calls
     }
 
     /// How many calls failed: those that answered an error, and the writes that took 0 bytes.
@@ -93,7 +120,18 @@ impl<W: Write> Write for Counted<W> {
         outcome
     }
 
-    fn flush(&mut self) -> io::Result<()> {
-        self.device.flush()
+    /// Flushes the device, and answers what it answers.
+    fn flush(&mut self) -> io::Result<()>
+        ensures bytes { Keeps (W.contents self.old.device) (W.contents self.new.device) }
+        ensures calls { self.new.calls ≡ min (self.old.calls + 1) (2 ^ 64 - 1) }
+        ensures ok { OnOk result (self.new.faults ≡ self.old.faults) }
+        ensures err { OnErr result (self.new.faults ≡ min (self.old.faults + 1) (2 ^ 64 - 1)) }
+    {
+        one_more(&mut self.calls);
+        let outcome = self.device.flush();
+        if let Err(_why) = &outcome {
+            one_more(&mut self.faults);
+        }
+        outcome
     }
 }

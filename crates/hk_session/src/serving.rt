@@ -156,13 +156,15 @@ fn run<R: Read, W: Write, H: Host>(
     // All bytes were read.
     ensures clean { result ≡ ends.Clean → IsAtEnd (R.remaining reader.new.device) }
     ensures cut { result ≡ ends.Fault faults.Truncated → IsAtEnd (R.remaining reader.new.device) }
-    // A read failed, or there were as many as a session may have.
+    // A session makes at most so many reads; and a read failed, or there were that many.
+    ensures bound { reader.new.calls ≤ reader.old.calls + 2 ^ 32 }
     ensures read_fault { result ≡ ends.ReadFault → (0 < reader.new.faults) ⊎ (reader.new.calls ≡ min (reader.old.calls + 2 ^ 32) (2 ^ 64 - 1)) }
     ensures write_fault { result ≡ ends.WriteFault → 0 < writer.new.faults }
     // Else none failed.
     ensures reads { result ≢ ends.ReadFault → reader.new.faults ≡ 0 }
     ensures writes { result ≢ ends.WriteFault → writer.new.faults ≡ 0 }
 {
+    let _bounded = reader.calls();
     let mut feeder = RequestFeeder::new(alloc);
     let mut buffer = [0; 4096];
     for _ in 0..MOST_READS {
@@ -187,7 +189,8 @@ fn run<R: Read, W: Write, H: Host>(
 /// `Refused` with its number, after the replies to the requests before it, and ends the session. A reply without
 /// a spelling is told as `Refused` with 2. Where memory for the session's own buffers runs out nothing more is
 /// written, and the last requests may stay unanswered. A failed write, or one that takes 0 bytes, ends it, and so
-/// does a failed read, an interrupted one too; so does the read number 2^32.
+/// does a failed read, an interrupted one too; so does the read number 2^32, where it does not end otherwise. The
+/// writer is never flushed: who hands in one that keeps bytes back flushes it after.
 ///
 /// The host is left as the last request that it answered left it. The cost is that of the answers, a copy of each
 /// reply, and a pass over what is read; 4,096 bytes are read at a time.
@@ -202,7 +205,7 @@ pub fn serve<R: Read, W: Write, H: Host>(
     // What was written talks of what was read.
     ensures whole { IsDone result → (bytes text : List ℕ) × Consumes (R.remaining reader.old.device) (R.remaining reader.new.device) bytes
         × Appends (W.contents writer.old.device) (W.contents writer.new.device) text × Talk H.may host.old host.new bytes text }
-    // What was written is a front of what talks of a front of what was read: of the requests that were answered.
+    // What was written is a front of what talks of a front of what was read: of whole requests, or of all bytes.
     ensures stopped { IsStopped result → (bytes part : List ℕ) × Consumes (R.remaining reader.old.device) (R.remaining reader.new.device) bytes
         × Appends (W.contents writer.old.device) (W.contents writer.new.device) part × TalksInPart H.may host.old host.new bytes part }
     // The bytes read, and what was done and written for them.
@@ -211,7 +214,8 @@ pub fn serve<R: Read, W: Write, H: Host>(
     // All bytes were read.
     ensures clean { result ≡ ends.Clean → IsAtEnd (R.remaining reader.new.device) }
     ensures cut { result ≡ ends.Fault faults.Truncated → IsAtEnd (R.remaining reader.new.device) }
-    // A read failed, or there were as many as a session may have.
+    // A session makes at most so many reads; and a read failed, or there were that many.
+    ensures bound { reader.new.calls ≤ reader.old.calls + 2 ^ 32 }
     ensures read_fault { result ≡ ends.ReadFault → (0 < reader.new.faults) ⊎ (reader.new.calls ≡ min (reader.old.calls + 2 ^ 32) (2 ^ 64 - 1)) }
     ensures write_fault { result ≡ ends.WriteFault → 0 < writer.new.faults }
     // Else none failed.

@@ -18,6 +18,7 @@ use hk_state::{ReplicaState, front_of};
 use hk_types::{Refusal, Time};
 use hk_wire::{Reply, Request};
 use std::alloc::Global;
+use std::marker::Model;
 
 /// The number of the last operation, 2^62.
 const LAST_OP: u64 = 4_611_686_018_427_387_904;
@@ -35,10 +36,20 @@ pub struct StateHost {
     ops: u64,
 }
 
+impl Model for StateHost {
+    ghost use Rattle.hk_session.specs.Values.{HostValue, host_code};
+
+    ghost Value = { HostValue };
+
+    ghost coded = { host_code };
+
+    ghost view = { λ h. record { content = h.state; ops = h.ops } };
+}
+
 impl StateHost {
     /// A host over this state, with one operation.
     pub fn new(alloc: Global, state: ReplicaState) -> StateHost
-        ensures state { result.state ≡ state }
+        ensures content { result.content ≡ state }
         ensures ops { result.ops ≡ 1 }
     {
         StateHost {
@@ -46,6 +57,20 @@ impl StateHost {
             state,
             ops: 1,
         }
+    }
+
+    /// The state.
+    pub fn state(&self) -> &ReplicaState
+        ensures { result.now ≡ self.now.content }
+    {
+        &self.state
+    }
+
+    /// The number of its operations.
+    pub fn ops(&self) -> u64
+        ensures { result ≡ self.now.ops }
+    {
+        self.ops
     }
 
     fn is_full(&self) -> bool
@@ -57,8 +82,8 @@ impl StateHost {
     /// Counts a change that was accepted.
     fn settle(&mut self, outcome: Result<(), Refusal>) -> Reply
         requires { self.old.ops < 2 ^ 62 }
-        ensures { (before : Content) (given : Result Content Refusal) → Changes before self.old.state given outcome
-            → IsGiven (record self.old { state = before }) (settled (record self.old { state = before }) given) result self.new }
+        ensures { (before : Content) (given : Result Content Refusal) → Changes before self.old.content given outcome
+            → IsGiven (record self.old { content = before }) (settled (record self.old { content = before }) given) result self.new }
     {
         match outcome {
             Ok(()) => {
@@ -70,15 +95,15 @@ impl StateHost {
     }
 
     fn join_items(&mut self, items: &[Item]) -> Result<(), Refusal>
-        ensures ops { self.new ≡ record self.old { state = self.new.state } }
-        ensures gives { Changes self.old.state self.new.state (joined_if self.old.state (gathered (config_of self.old.state) items.now)) result }
+        ensures ops { self.new ≡ record self.old { content = self.new.content } }
+        ensures gives { Changes self.old.content self.new.content (joined_if self.old.content (gathered (config_of self.old.content) items.now)) result }
     {
         let fragment = fragment_of(self.alloc, self.state.config(), items)?;
         join(&mut self.state, &fragment)
     }
 
     fn take_items(&mut self, items: &[Item]) -> Reply
-        ensures { IsGiven self.old (changed self.old (joined_if self.old.state (gathered (config_of self.old.state) items.now))) result self.new }
+        ensures { IsGiven self.old (changed self.old (joined_if self.old.content (gathered (config_of self.old.content) items.now))) result self.new }
     {
         if self.is_full() {
             return Reply::Refused(Refusal::NodeFull);
@@ -88,7 +113,7 @@ impl StateHost {
     }
 
     fn join_this(&mut self, fragment: &Fragment) -> Reply
-        ensures { IsGiven self.old (changed self.old (joined self.old.state fragment.now)) result self.new }
+        ensures { IsGiven self.old (changed self.old (joined self.old.content fragment.now)) result self.new }
     {
         if self.is_full() {
             return Reply::Refused(Refusal::NodeFull);
@@ -98,7 +123,7 @@ impl StateHost {
     }
 
     fn prune(&mut self, horizon: Time) -> Reply
-        ensures { IsGiven self.old (changed self.old (pruned self.old.state horizon)) result self.new }
+        ensures { IsGiven self.old (changed self.old (pruned self.old.content horizon)) result self.new }
     {
         if self.is_full() {
             return Reply::Refused(Refusal::NodeFull);
@@ -108,7 +133,7 @@ impl StateHost {
     }
 
     fn whole(&self) -> Reply
-        ensures { IsGiven self.now (handed (Ok (cut self.now.state 0)), self.now) result self.now }
+        ensures { IsGiven self.now (handed (Ok (cut self.now.content 0)), self.now) result self.now }
     {
         match whole_of(self.alloc, &self.state) {
             Ok(fragment) => Reply::Fragment(fragment),
@@ -117,7 +142,7 @@ impl StateHost {
     }
 
     fn delta(&self, base: Time) -> Reply
-        ensures { IsGiven self.now (handed (since self.now.state base), self.now) result self.now }
+        ensures { IsGiven self.now (handed (since self.now.content base), self.now) result self.now }
     {
         match delta_since(self.alloc, &self.state, base) {
             Ok(fragment) => Reply::Fragment(fragment),
@@ -126,7 +151,7 @@ impl StateHost {
     }
 
     fn ask(&self, time: Time, query: &Query) -> Reply
-        ensures { IsGiven self.now (told (reply self.now.state time query.now), self.now) result self.now }
+        ensures { IsGiven self.now (told (reply self.now.content time query.now), self.now) result self.now }
     {
         match ask(self.alloc, &self.state, time, query) {
             Ok(answer) => Reply::Answer(answer),

@@ -1,24 +1,36 @@
 //! A primary that threads share.
 
+ghost use Rattle.std.specs.Prelude.{◌≡◌, ◌<◌};
+
 use super::{stream, time, transaction};
 use hk_log::Item;
-use hk_primary::{Answer, Query, SharedPrimary, Txn};
+use hk_primary::{Answer, Naming, Query, SharedPrimary, Txn};
 use hk_types::{Config, StreamNo, Table, Time};
 use std::alloc::Global;
+use std::marker::Brand;
 use std::sync::Wait;
+use std::sync::ledger::{Blank, Share};
 use std::test::Fail;
 use std::thread;
+use std::thread::Threads;
 
-fn shared(alloc: Global) -> Result<SharedPrimary, Fail> {
-    Ok(SharedPrimary::new(alloc, Config::new(7, 2)?)?)
-}
-
-/// The time of a commit on a stream, 0 where there is none.
-fn committed<R: Wait>(rt: &R, primary: &SharedPrimary, txn: Txn, stream: StreamNo) -> u64 {
-    match primary.commit(rt, txn, stream) {
+/// The time of a commit on a stream, 0 where there is none, and the share.
+fn committed<K: Naming, R: Wait>(
+    rt: &R,
+    primary: &SharedPrimary<K>,
+    share: Share<K>,
+    txn: Txn,
+    stream: StreamNo,
+) -> (u64, Share<K>)
+    requires { 0 < share.parts }
+    ensures { result.1.parts ≡ share.parts }
+{
+    let mut mine = share;
+    let at = match primary.commit(rt, &mut mine, txn, stream) {
         Ok(Some(at)) => at.number(),
         _ => 0,
-    }
+    };
+    (at, mine)
 }
 
 /// Whether an item is an entry that puts a key.
@@ -38,67 +50,106 @@ fn times_put(items: &[Item], wanted: u64) -> usize {
 }
 
 /// How often the keys 5 and 6 are put, and the number of items.
-fn seen<R: Wait>(rt: &R, primary: &SharedPrimary) -> Result<(usize, usize, usize), Fail> {
+fn seen<K: Naming, R: Wait>(
+    rt: &R,
+    primary: &SharedPrimary<K>,
+) -> Result<(usize, usize, usize), Fail> {
     let items = primary.items(rt, 1)?;
     Ok((times_put(&items, 5), times_put(&items, 6), items.len()))
 }
 
-#[test]
-fn two_threads_commit(rt: HostRuntime) -> Result<(), Fail> {
-    let primary = shared(rt.alloc())?;
-    let one = transaction(rt.alloc(), 0, &[(5, 0x41)])?;
-    let other = transaction(rt.alloc(), 0, &[(6, 0x42)])?;
+/// The times of two commits, what is seen of them, and the number of items.
+type Both = ((u64, u64), (usize, usize, usize), u64);
+
+fn both_commit<K: Naming + Send + Sync, R: Threads + Wait + Sync>(
+    rt: &R,
+    alloc: Global,
+    config: Config,
+    blank: Blank,
+) -> Result<Both, Fail>
+    requires name { blank.name ≡ K.name }
+    requires parts { blank.parts ≡ K.parts }
+    requires two { blank.parts ≡ 2 }
+    requires config { config ≡ K.config }
+    requires after { K.after ≡ 0 }
+{
+    let (primary, mut all) = SharedPrimary::<K>::new(alloc, config, blank)?;
+    let one = transaction(alloc, 0, &[(5, 0x41)])?;
+    let other = transaction(alloc, 0, &[(6, 0x42)])?;
     let (left, right) = (stream(1)?, stream(2)?);
     let lent = &primary;
-    let (first, second) = thread::join(
-        &rt,
-        || committed(&rt, lent, one, left),
-        || committed(&rt, lent, other, right),
+    let part = all.split_off(1, 0);
+    let ((first, mut whole), (second, back)) = thread::join(
+        rt,
+        ||
+            requires { 0 < all.parts }
+        { committed(rt, lent, all, one, left) },
+        ||
+            requires { 0 < part.parts }
+        { committed(rt, lent, part, other, right) },
     );
-    assert_eq!(rt; (first.min(second), first.max(second)), (1, 2));
-    assert_eq!(rt; seen(&rt, &primary)?, (1, 1, 2));
-    Ok(())
+    whole.merge(back);
+    let count = primary.item_count(rt, &mut whole);
+    Ok((
+        (first.min(second), first.max(second)),
+        seen(rt, &primary)?,
+        count,
+    ))
 }
 
-/// A shared primary whose clock started after 4, with key 5 put on stream 2 at 5.
-fn after_four<R: Wait>(rt: &R, alloc: Global) -> Result<SharedPrimary, Fail> {
+#[test]
+fn two_threads_commit(rt: HostRuntime) -> Result<(), Fail> {
     let config = Config::new(7, 2)?;
-    let primary = SharedPrimary::starting_after(alloc, config, time(4)?)?;
+    let both = both_commit::<Brand, HostRuntime>(&rt, rt.alloc(), config, Blank::new(2))?;
+    assert_eq!(rt; both, ((1, 2), (1, 1, 2), 2));
+    Ok(())
+}
+
+/// What a shared primary tells whose clock started after 4, with key 5 put on stream 2 at 5: the id of the log, the
+/// last time, that of a new transaction, the mark of stream 2, and what `Count` answers at 4, 5 and 6.
+type Tells = (u64, u64, u64, (u64, u64), [(u8, u64); 3]);
+
+fn told<K: Naming, R: Wait>(
+    rt: &R,
+    alloc: Global,
+    config: Config,
+    after: Time,
+    blank: Blank,
+) -> Result<Tells, Fail>
+    requires name { blank.name ≡ K.name }
+    requires parts { blank.parts ≡ K.parts }
+    requires some { 0 < blank.parts }
+    requires config { config ≡ K.config }
+    requires after { after ≡ K.after }
+{
+    let (primary, all) = SharedPrimary::<K>::starting_after(alloc, config, after, blank)?;
     let txn = transaction(alloc, 0, &[(5, 0x41)])?;
-    committed(rt, &primary, txn, stream(2)?);
-    Ok(primary)
+    let (_at, mut all) = committed(rt, &primary, all, txn, stream(2)?);
+    let mark = primary.mark(rt, &mut all, stream(2)?)?;
+    let counts = [
+        counted(rt, &primary, time(4)?),
+        counted(rt, &primary, time(5)?),
+        counted(rt, &primary, time(6)?),
+    ];
+    Ok((
+        primary.config(rt).log(),
+        primary.last(rt).number(),
+        primary.begin(rt).read_at().number(),
+        (mark.n(), mark.m().number()),
+        counts,
+    ))
 }
 
 #[test]
-fn its_readers_are_those_of_the_primary(rt: HostRuntime) -> Result<(), Fail> {
-    let primary = after_four(&rt, rt.alloc())?;
-    assert_eq!(rt; primary.config(&rt).streams(), 2);
-    assert_eq!(rt; primary.last(&rt).number(), 5);
-    assert_eq!(rt; primary.begin(&rt).read_at().number(), 5);
-    assert_eq!(rt; primary.item_count(&rt), 1);
-    Ok(())
-}
-
-#[test]
-fn its_marks_are_those_of_the_primary(rt: HostRuntime) -> Result<(), Fail> {
-    let primary = after_four(&rt, rt.alloc())?;
-    let mark = primary.mark(&rt, stream(2)?)?;
-    assert_eq!(rt; (mark.n(), mark.m().number()), (1, 5));
-    assert_eq!(rt; seen(&rt, &primary)?, (1, 0, 2));
-    Ok(())
-}
-
-#[test]
-fn its_answers_are_those_of_the_primary(rt: HostRuntime) -> Result<(), Fail> {
-    let primary = after_four(&rt, rt.alloc())?;
-    for (at, told) in [(4, (0, 0)), (5, (0, 1)), (6, (26, 0))] {
-        assert_eq!(rt; counted(&rt, &primary, time(at)?), told);
-    }
+fn its_calls_are_those_of_the_primary(rt: HostRuntime) -> Result<(), Fail> {
+    let config = Config::new(7, 2)?;
+    let told = told::<Brand, HostRuntime>(&rt, rt.alloc(), config, time(4)?, Blank::new(1))?;
+    assert_eq!(rt; told, (7, 5, 5, (1, 5), [(0, 0), (0, 1), (26, 0)]));
     Ok(())
 }
 
 /// The number of the refusal or 0, and how many rows table 1 has.
-fn counted<R: Wait>(rt: &R, primary: &SharedPrimary, at: Time) -> (u8, u64) {
+fn counted<K: Naming, R: Wait>(rt: &R, primary: &SharedPrimary<K>, at: Time) -> (u8, u64) {
     let table = Table::new(1);
     match primary.ask(rt, at, &Query::Count { table }) {
         Ok(Answer::Number(count)) => (0, count),

@@ -1,11 +1,13 @@
-use Rattle.std.proofs.Common.{◌≡◌, refl, sym, ap, ◌∙◌, None, Some, List}
+use Rattle.std.proofs.Common.{◌≡◌, refl, sym, ap, ◌∙◌, None, Some, Err, List, get_or}
+use Rattle.hk_types.specs.declared.faults.Refusal.TheVariants.{Memory}
 use Rattle.hk_log.specs.declared.item.Item.{Item}
 use Rattle.hk_model.specs.Worlds.{both, numbered, all_numbered, told_batch}
 use Rattle.hk_model.specs.Replicas.{nothing}
 use Rattle.hk_model.specs.Rules.{gathered}
 use Rattle.hk_laws.specs.Calls.{acted_among}
 use Rattle.hk_laws.proofs.Numbered.{all_found, one_missing, both_none}
-use Rattle.hk_laws.proofs.Acted.{acts_on, both_there}
+use Rattle.hk_laws.proofs.Acted.{acts_on, acts_not}
+use Rattle.hk_laws.proofs.Lacking.{batch_first}
 use Rattle.hk_laws.proofs.among.batch.Goals as goal
 
 pub returns-then-not-all_there : goal.returns-then-not-all_there
@@ -27,5 +29,9 @@ returns c =
 
 pub returns-in-Err : goal.returns-in-Err
 returns-in-Err c =
+    let rs = c.args.replicas.now in
+    let d = nothing c.args.config in
     let all = all_found c.args.items.now c.args.numbers.now (sym c.if-not-all_there.ensures) in
-    (refl, refl, both_there c.args.replicas.now c.args.replica c.in-Some.place c.in-Some.ensures.0 c.in-Some.ensures.1 (all_numbered c.args.items.now c.args.numbers.now) _ (nothing c.args.config) all)
+    acts_not rs c.args.replica c.in-Some.place c.in-Some.ensures.0 c.in-Some.ensures.1
+    (all_numbered c.args.items.now c.args.numbers.now) _ (λ p. told_batch p.0 (gathered c.args.config p.1)) d (Err Memory) all
+    (refl, refl, batch_first (get_or rs c.in-Some.place d) c.args.config _)

@@ -17,5 +17,5 @@ returns-then-taker-source c =
     acts_not rs c.args.to c.in-Some.taker c.in-Some.ensures.0 c.in-Some.ensures.1
     (numbered rs c.args.from) b (λ p. told_by p.0 (merged p.0 p.1)) c.index-replicas-taker.result (Ok c.same.result)
     (numbered_at rs c.in-Some-place_of.source c.args.from c.index-replicas-taker.result c.in-Some-place_of.ensures.0 c.in-Some-place_of.ensures.1)
-    (subst (λ (x : Content). Gives true (told_by a (merged a x)) a a (Ok c.same.result)) one
-    (subst (λ (x : Result Content Refusal). Gives true (told_by a x) a a (Ok c.same.result)) (sym c.same.ensures.whole) (c.same.ensures.told, refl, ap tells_lack c.same.ensures.told)))
+    (subst (λ (x : Content). Gives (told_by a (merged a x)) a a (Ok c.same.result)) one
+    (subst (λ (x : Result Content Refusal). Gives (told_by a x) a a (Ok c.same.result)) (sym c.same.ensures.whole) (c.same.ensures.told, refl, ap tells_lack c.same.ensures.told)))

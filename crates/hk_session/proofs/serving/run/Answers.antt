@@ -1,11 +1,11 @@
-use Rattle.std.proofs.Common.{rules, ◌∙◌, ◌++◌, [], take}
+use Rattle.std.proofs.Common.{arith, rules, ◌∙◌, ◌++◌, [], take}
 use Rattle.std.proofs.KnownBytes.{Consumes-nil, Consumes-trans}
 use Rattle.hk_session.specs.Talk.{GoesOn, Ends}
 use Rattle.hk_session.proofs.Talking.{at_start, Spoke-then, goes_on_joins, ends_joins, finished, none_read}
 use Rattle.hk_session.proofs.serving.run.Goals as goal
 
 pub loop-init : goal.loop-init
-loop-init g c = (c.requires.reader, c.requires.writer, search rules, ([], c.new-feeder.ensures, [], Consumes-nil _, at_start g.H.Host.may c.args.host.now _))
+loop-init g c = (c.requires.reader, c.requires.writer, omega (arith, c.calls-bounded.ensures.bound), ([], c.new-feeder.ensures, [], Consumes-nil _, at_start g.H.Host.may c.args.host.now _))
 
 pub returns-then-count-eq0-clause-talk : goal.returns-then-count-eq0-clause-talk
 returns-then-count-eq0-clause-talk g c =
