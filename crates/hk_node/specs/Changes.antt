@@ -41,6 +41,10 @@ abbrev pub Changes : Lists → Op → Result (List Op) Refusal → Lists → Typ
 Changes old op (Ok told) new = (refused (replay (all_of old)) op ≡ None) × IsMade old op new × (told ≡ all_of old ++ op ∷ []) × ((replay (all_of old ++ op ∷ [])).damaged ≡ false)
 Changes old op (Err why) new = Refuses old op why new
 
+-- what a change answers at some legal list, whichever it was when the lock was got
+abbrev pub ChangesSome : Op → Result (List Op) Refusal → Type 0
+ChangesSome op result = (old : Lists) × (new : Lists) × (is_legal (all_of old) ≡ true) × Changes old op result new
+
 -- a hold of this time, with the number of the last hold of a list
 abbrev pub IsGiven : Hold → ℕ → List Op → Type 0
 IsGiven hold time ops = (hold.at ≡ time) × (hold.reader ≡ length (hold_times ops))

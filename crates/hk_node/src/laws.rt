@@ -30,6 +30,7 @@ pub fn change<J: NodeName, R: Wait + Drop>(
     op: Op,
 ) -> Result<Receipt<J>, Refusal>
     ensures change { Changes publisher.old op result publisher.new }
+    ensures before { is_legal (all_of publisher.old) ≡ true }
     ensures legal { IfOk result (λ list. is_legal list ≡ true) }
     ensures last { IfOk result (λ list. last_of list ≡ Some op) }
 {
@@ -62,6 +63,7 @@ pub fn merge_whole<J: NodeName, R: Wait + Drop>(
 ) -> Result<Receipt<J>, Refusal>
     requires whole { IfOk whole (λ fragment. fragment ≡ cut state.now 0) }
     ensures change { Changes publisher.old (MergeOf (cut state.now 0)) result publisher.new }
+    ensures before { is_legal (all_of publisher.old) ≡ true }
     ensures legal { IfOk result (λ list. is_legal list ≡ true) }
     ensures last { IfOk result (λ list. last_of list ≡ Some (MergeOf (cut state.now 0))) }
 {
@@ -76,7 +78,8 @@ fn refusal_of_merge<J: NodeName, R: Wait + Drop>(
     publisher: &mut Publisher<J, R>,
     state: &ReplicaState,
 ) -> Refusal
-    ensures { Refuses publisher.old (MergeOf (cut state.now 0)) result publisher.new }
+    ensures refuses { Refuses publisher.old (MergeOf (cut state.now 0)) result publisher.new }
+    ensures before { is_legal (all_of publisher.old) ≡ true }
 {
     if publisher.publish().is_err() {
         return Refusal::Memory;
@@ -94,6 +97,7 @@ pub fn hold_at<J: NodeName, R: Wait + Drop>(
     time: Time,
 ) -> Result<(Hold, Receipt<J>), (Option<Hold>, Refusal)>
     ensures change { MatchResult result (λ t. Changes publisher.old (HoldAt time) (Ok t.1) publisher.new) (λ e. Changes publisher.old (HoldAt time) (Err e.1) publisher.new) }
+    ensures before { is_legal (all_of publisher.old) ≡ true }
     ensures legal { IfOk result (λ t. is_legal t.1 ≡ true) }
     ensures last { IfOk result (λ t. last_of t.1 ≡ Some (HoldAt time)) }
     ensures hold { IfOk result (λ t. IsGiven t.0 time t.1) }
@@ -122,6 +126,7 @@ pub fn release_hold<J: NodeName, R: Wait + Drop>(
     hold: Hold,
 ) -> Result<Receipt<J>, (Option<Hold>, Refusal)>
     ensures change { MatchResult result (λ list. Changes publisher.old (Release hold.reader hold.at) (Ok list) publisher.new) (λ e. Changes publisher.old (Release hold.reader hold.at) (Err e.1) publisher.new) }
+    ensures before { is_legal (all_of publisher.old) ≡ true }
     ensures legal { IfOk result (λ list. is_legal list ≡ true) }
     ensures last { IfOk result (λ list. last_of list ≡ Some (Release hold.reader hold.at)) }
     ensures back { IfErr result (λ e. IsHandedBack hold e.0 e.1) }

@@ -16,3 +16,6 @@ pub use node::{Node, Receipt, start};
 pub use op::{Hold, LAST_OP, Op};
 pub use publisher::Publisher;
 pub use seat::ReaderSeat;
+
+#[cfg(test)]
+mod tests;

@@ -1,8 +1,8 @@
 //! The node: one writer under a lock, and readers that take none.
 
-ghost use Rattle.std.specs.Prelude.{◌≡◌, ◌∷◌, [], ◌<◌, ◌≤◌, List, All, Some, true, length, IfOk, IfErr, vec_len};
+ghost use Rattle.std.specs.Prelude.{◌≡◌, ◌∷◌, [], ◌<◌, ◌≤◌, List, All, Some, true, length, Ok, Err, IfOk, IfErr, MatchResult, vec_len};
 ghost use Rattle.hk_types.specs.declared.faults.Refusal.TheVariants.{Memory};
-ghost use Rattle.hk_node.specs.Changes.{IsGiven, IsHandedBack, IsHandedOut};
+ghost use Rattle.hk_node.specs.Changes.{ChangesSome, IsGiven, IsHandedBack, IsHandedOut};
 ghost use Rattle.hk_node.specs.declared.op.Op.{Op as OpValue};
 ghost use Rattle.hk_model.specs.Fragments.{cut};
 ghost use Rattle.hk_node.specs.declared.op.Op.TheVariants.{Start as StartOf, Join as JoinOf, Merge as MergeOf, Prune as PruneTo, Hold as HoldAt, Release};
@@ -120,6 +120,7 @@ impl<J: NodeName, R: Wait + Drop> Node<J, R> {
     /// good. The fragment is dropped with a refusal: who would try again keeps a copy.
     pub fn join<W: Wait>(&self, rt: &W, fragment: Fragment) -> Result<Receipt<J>, Refusal>
         ensures legal { IfOk result (λ list. is_legal list ≡ true) }
+        ensures change { ChangesSome (JoinOf fragment) result }
         ensures last { IfOk result (λ list. last_of list ≡ Some (JoinOf fragment)) }
     {
         let mut publisher = self.publisher.lock(rt);
@@ -130,6 +131,7 @@ impl<J: NodeName, R: Wait + Drop> Node<J, R> {
     /// is taken.
     pub fn merge<W: Wait>(&self, rt: &W, state: &ReplicaState) -> Result<Receipt<J>, Refusal>
         ensures legal { IfOk result (λ list. is_legal list ≡ true) }
+        ensures change { ChangesSome (MergeOf (cut state.now 0)) result }
         ensures last { IfOk result (λ list. last_of list ≡ Some (MergeOf (cut state.now 0))) }
     {
         let whole = whole_of(self.alloc, state);
@@ -144,6 +146,7 @@ impl<J: NodeName, R: Wait + Drop> Node<J, R> {
     /// `Unpublished`.
     pub fn prune<W: Wait>(&self, rt: &W, time: Time) -> Result<Receipt<J>, Refusal>
         ensures legal { IfOk result (λ list. is_legal list ≡ true) }
+        ensures change { ChangesSome (PruneTo time) result }
         ensures last { IfOk result (λ list. last_of list ≡ Some (PruneTo time)) }
     {
         let mut publisher = self.publisher.lock(rt);
@@ -160,6 +163,7 @@ impl<J: NodeName, R: Wait + Drop> Node<J, R> {
         time: Time,
     ) -> Result<(Hold, Receipt<J>), (Option<Hold>, Refusal)>
         ensures legal { IfOk result (λ t. is_legal t.1 ≡ true) }
+        ensures change { MatchResult result (λ t. ChangesSome (HoldAt time) (Ok t.1)) (λ e. ChangesSome (HoldAt time) (Err e.1)) }
         ensures last { IfOk result (λ t. last_of t.1 ≡ Some (HoldAt time)) }
         ensures hold { IfOk result (λ t. IsGiven t.0 time t.1) }
         ensures waits { IfErr result (λ e. (ops : List OpValue) × IsHandedOut ops time e.0 e.1) }
@@ -178,6 +182,7 @@ impl<J: NodeName, R: Wait + Drop> Node<J, R> {
         hold: Hold,
     ) -> Result<Receipt<J>, (Option<Hold>, Refusal)>
         ensures legal { IfOk result (λ list. is_legal list ≡ true) }
+        ensures change { MatchResult result (λ list. ChangesSome (Release hold.reader hold.at) (Ok list)) (λ e. ChangesSome (Release hold.reader hold.at) (Err e.1)) }
         ensures last { IfOk result (λ list. last_of list ≡ Some (Release hold.reader hold.at)) }
         ensures back { IfErr result (λ e. IsHandedBack hold e.0 e.1) }
     {
