@@ -108,9 +108,13 @@ fn reads_keys<J: NodeName>(mut seat: ReaderSeat<J>) -> bool {
         let Ok((0, readable)) = front(&mut seat) else {
             return false;
         };
-        if seat.seen().checked_sub(1) != Some(readable)
-            || body(&mut seat, 5, readable) != Ok(readable as u16)
-        {
+        if seat.seen().checked_sub(1) != Some(readable) {
+            return false;
+        }
+        let Ok(found) = body(&mut seat, 5, readable) else {
+            return false;
+        };
+        if u64::from(found) != readable {
             return false;
         }
         if readable == 1000 {
