@@ -1,0 +1,66 @@
+-- Legal lists, and one more operation.
+use Rattle.std.proofs.Common.{◌≡◌, ◌+◌, ◌≤◌, Bool, true, false, ◌&&◌, List, [], ◌∷◌, ◌++◌, length, Option, Some, None, Result, Ok, Err, fold, is_none, refl, ap, ◌∙◌, arith}
+use Rattle.hk_types.specs.Values.{ConfigValue}
+use Rattle.hk_types.specs.declared.faults.Refusal.{Refusal}
+use Rattle.hk_model.specs.Content.{Content}
+use Rattle.hk_node.specs.declared.op.Op.{Op}
+use Rattle.hk_node.specs.declared.op.Op.TheVariants.{Start, Join, Merge, Prune, Hold as HoldAt, Release}
+use Rattle.hk_node.specs.NodeContent.{NodeContent}
+use Rattle.hk_node.specs.Replay.{refused, effect, unless, applied, begun, replay, config_of, tail_of, legal_from, is_legal}
+use Rattle.hk_node.specs.Lists.{last_of}
+
+pub fold-snoc : {A B : Type 0} (f : A → B → A) (a : A) (xs : List B) (x : B) → fold f a (xs ++ x ∷ []) ≡ f (fold f a xs) x
+fold-snoc f a [] x = refl
+fold-snoc f a (y ∷ ys) x = fold-snoc f (f a y) ys x
+
+pub and_left : (a b : Bool) → a && b ≡ true → a ≡ true
+and_left true b h = refl
+and_left false b h = h
+
+pub and_right : (a b : Bool) → a && b ≡ true → b ≡ true
+and_right true b h = h
+and_right false b h = absurd (cc)
+
+pub and_both : (a b : Bool) → a ≡ true → b ≡ true → a && b ≡ true
+and_both true b p q = q
+and_both false b p q = absurd (cc)
+
+pub none_of : {A : Type 0} (o : Option A) → is_none o ≡ true → o ≡ None
+none_of None h = refl
+none_of (Some e) h = absurd (cc)
+
+pub applied-is : (c : NodeContent) (op : Op) → refused c op ≡ None → applied c op ≡ effect c op
+applied-is c op h = ap (λ o. unless o c (effect c op)) h
+
+pub replay-snoc : (xs : List Op) (op : Op) → is_legal xs ≡ true → replay (xs ++ op ∷ []) ≡ applied (replay xs) op
+replay-snoc [] op h = absurd (cc)
+replay-snoc (Start config ∷ xs) op h = fold-snoc applied (begun config) xs op
+replay-snoc (Join f ∷ xs) op h = absurd (cc)
+replay-snoc (Merge f ∷ xs) op h = absurd (cc)
+replay-snoc (Prune t ∷ xs) op h = absurd (cc)
+replay-snoc (HoldAt t ∷ xs) op h = absurd (cc)
+replay-snoc (Release r t ∷ xs) op h = absurd (cc)
+
+pub from-snoc : (c : NodeContent) (xs : List Op) (op : Op) → legal_from c xs ≡ true → refused (fold applied c xs) op ≡ None → legal_from c (xs ++ op ∷ []) ≡ true
+from-snoc c [] op h n = and_both (is_none (refused c op)) true (ap is_none n) refl
+from-snoc c (x ∷ xs) op h n = and_both (is_none (refused c x)) (legal_from (applied c x) (xs ++ op ∷ [])) (and_left (is_none (refused c x)) _ h) (from-snoc (applied c x) xs op (and_right (is_none (refused c x)) _ h) n)
+
+-- a legal list goes on with an operation that is not refused
+pub legal-snoc : (xs : List Op) (op : Op) → is_legal xs ≡ true → refused (replay xs) op ≡ None → is_legal (xs ++ op ∷ []) ≡ true
+legal-snoc [] op h n = absurd (cc)
+legal-snoc (Start config ∷ xs) op h n = from-snoc (begun config) xs op h n
+legal-snoc (Join f ∷ xs) op h n = absurd (cc)
+legal-snoc (Merge f ∷ xs) op h n = absurd (cc)
+legal-snoc (Prune t ∷ xs) op h n = absurd (cc)
+legal-snoc (HoldAt t ∷ xs) op h n = absurd (cc)
+legal-snoc (Release r t ∷ xs) op h n = absurd (cc)
+
+-- a legal list has its start
+pub legal-long : (xs : List Op) → is_legal xs ≡ true → 1 ≤ length xs
+legal-long [] h = absurd (cc)
+legal-long (x ∷ xs) h = omega arith
+
+pub last_snoc : (xs : List Op) (op : Op) → last_of (xs ++ op ∷ []) ≡ Some op
+last_snoc [] op = refl
+last_snoc (x ∷ []) op = refl
+last_snoc (x ∷ y ∷ ys) op = last_snoc (y ∷ ys) op

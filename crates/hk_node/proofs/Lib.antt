@@ -1,0 +1,10 @@
+pub mod Prefixes
+pub mod Legal
+pub mod Adding
+pub mod Turning
+pub mod Publishing
+pub mod Holds
+pub mod Tested
+pub mod Carries
+pub mod HoldsBack
+pub mod Waiting

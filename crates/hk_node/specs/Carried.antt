@@ -1,0 +1,52 @@
+-- Lists of operations that carry parts of one history.
+use Rattle.std.specs.Prelude.{◌≡◌, ◌⊎◌, ◌≤◌, ◌++◌, ℕ, max, true, false, List, [], ◌∷◌, Result, IfOk, Ok}
+use Rattle.hk_types.specs.Values.{ConfigValue}
+use Rattle.hk_types.specs.declared.faults.Refusal.{Refusal}
+use Rattle.hk_log.specs.declared.item.Item.{Item}
+use Rattle.hk_model.specs.declared.answer.Answer.{Answer}
+use Rattle.hk_model.specs.declared.query.Query.{Query}
+use Rattle.hk_model.specs.Answers.{answer, answer_seen}
+use Rattle.hk_model.specs.Canon.{canon}
+use Rattle.hk_model.specs.Content.{readable}
+use Rattle.hk_model.specs.Fragments.{FragmentValue, part}
+use Rattle.hk_model.specs.Histories.{Transaction, IsHistory, AreItemsOf, table_at}
+use Rattle.hk_model.specs.Replicas.{Stands}
+use Rattle.hk_node.specs.declared.op.Op.{Op}
+use Rattle.hk_node.specs.declared.op.Op.TheVariants.{Start, Join, Merge, Prune, Hold as HoldAt, Release}
+use Rattle.hk_node.specs.NodeContent.{NodeContent}
+use Rattle.hk_node.specs.Replay.{config_of, replay, is_legal, tail_of}
+
+-- a fragment is a part of a history: of these items, at this horizon
+pub record IsPart (config : ConfigValue) (history : List Transaction) (items : List Item) (horizon : ℕ) (f : FragmentValue) : Type 0 where
+  pub of_history : AreItemsOf config history items
+  pub within : horizon ≤ readable (canon config items horizon)
+  pub base : (f.base ≡ 0) ⊎ (horizon ≤ f.base)
+  pub is_part : f ≡ part config items horizon f.base
+
+-- after items and a greatest horizon, the joins and merges of a list carry parts of a history, which bring
+-- it to all of these items and this greatest horizon joined or pruned to
+abbrev pub Brings : ConfigValue → List Transaction → List Op → List Item → ℕ → List Item → ℕ → Type 0
+Brings config history [] own g all h = (all ≡ own) × (h ≡ g)
+Brings config history (Join f ∷ ops) own g all h = (items : List Item) × (k : ℕ) × IsPart config history items k f × Brings config history ops (own ++ items) (max g k) all h
+Brings config history (Merge f ∷ ops) own g all h = (items : List Item) × (k : ℕ) × IsPart config history items k f × Brings config history ops (own ++ items) (max g k) all h
+Brings config history (Prune k ∷ ops) own g all h = Brings config history ops own (max g k) all h
+Brings config history (HoldAt at ∷ ops) own g all h = Brings config history ops own g all h
+Brings config history (Release reader at ∷ ops) own g all h = Brings config history ops own g all h
+Brings config history (Start other ∷ ops) own g all h = ⊥
+
+-- each join and merge of a node's list carries a part of a history: these items in all, and this greatest horizon
+-- joined or pruned to, 0 where there is none
+abbrev pub Carries : List Transaction → List Op → List Item → ℕ → Type 0
+Carries history ops items horizon = Brings (config_of ops) history (tail_of ops) [] 0 items horizon
+
+-- where a legal list carries parts of one history, its content stands for them, and there is no damage
+abbrev pub CarryLaw : Type 0
+CarryLaw =
+    (history : List Transaction) (ops : List Op) (items : List Item) (horizon : ℕ) → is_legal ops ≡ true → IsHistory (config_of ops) history → Carries history ops items horizon
+    → Stands (config_of ops) history items horizon (replay ops).content × ((replay ops).damaged ≡ false)
+
+-- where the list carries parts of one history, the answer is that on the primary's rows
+abbrev pub IsOfPrimary : List Op → ℕ → Query → Result Answer Refusal → Type 0
+IsOfPrimary ops t query result =
+    (history : List Transaction) (items : List Item) (horizon : ℕ) → IsHistory (config_of ops) history → Carries history ops items horizon
+    → IfOk result (λ a. answer_seen a ≡ answer (table_at history t) query)

@@ -1,0 +1,60 @@
+-- What a change does to the published list and to what waits.
+use Rattle.std.specs.Prelude.{◌≡◌, ◌≢◌, ℕ, ◌+◌, ◌⊎◌, true, false, List, [], ◌∷◌, ◌++◌, length, Option, Some, None, Result, Ok, Err}
+use Rattle.hk_types.specs.declared.faults.Refusal.{Refusal}
+use Rattle.hk_types.specs.declared.faults.Refusal.TheVariants.{Conflict, Unpublished, Memory}
+use Rattle.hk_node.specs.declared.op.Op.{Op}
+use Rattle.hk_node.specs.declared.op.Hold.{Hold}
+use Rattle.hk_node.specs.declared.op.Op.TheVariants.{Hold as HoldAt}
+use Rattle.hk_node.specs.Lists.{hold_times, last_of}
+use Rattle.hk_node.specs.Replay.{replay, refused, is_legal}
+
+-- the published list, and what waits: at most one operation
+abbrev pub Lists : Type 0
+Lists = List Op × List Op
+
+-- all operations
+abbrev pub all_of : Lists → List Op
+all_of lists = lists.0 ++ lists.1
+
+-- what waited was published, and then nothing waits
+abbrev pub IsCaughtUp : Lists → Lists → Type 0
+IsCaughtUp old new = new ≡ (all_of old, [])
+
+-- the operation follows all others, and nothing waits
+abbrev pub IsMade : Lists → Op → Lists → Type 0
+IsMade old op new = new ≡ (all_of old ++ op ∷ [], [])
+
+-- the operation follows all others, and waits
+abbrev pub IsWaiting : Lists → Op → Lists → Type 0
+IsWaiting old op new = new ≡ (all_of old, op ∷ [])
+
+-- a refusal of a change: out of memory, with nothing changed where what waited could not be published; the
+-- operation waits, and has the number that is named; a contradiction, and the node is damaged; or one of its tests
+abbrev pub Refuses : Lists → Op → Refusal → Lists → Type 0
+Refuses old op Memory new = (new ≡ old) ⊎ ((refused (replay (all_of old)) op ≡ None) × IsCaughtUp old new)
+Refuses old op (Unpublished n) new = (refused (replay (all_of old)) op ≡ None) × IsWaiting old op new × (n ≡ length (all_of old) + 1)
+Refuses old op Conflict new = (refused (replay (all_of old)) op ≡ None) × IsMade old op new × ((replay (all_of old ++ op ∷ [])).damaged ≡ true)
+Refuses old op why new = (refused (replay (all_of old)) op ≡ Some why) × IsCaughtUp old new
+
+-- a change: it was made, and the receipt names the list that ends with it; or it was refused
+abbrev pub Changes : Lists → Op → Result (List Op) Refusal → Lists → Type 0
+Changes old op (Ok told) new = (refused (replay (all_of old)) op ≡ None) × IsMade old op new × (told ≡ all_of old ++ op ∷ []) × ((replay (all_of old ++ op ∷ [])).damaged ≡ false)
+Changes old op (Err why) new = Refuses old op why new
+
+-- what a change answers at some legal list, whichever it was when the lock was got
+abbrev pub ChangesSome : Op → Result (List Op) Refusal → Type 0
+ChangesSome op result = (old : Lists) × (new : Lists) × (is_legal (all_of old) ≡ true) × Changes old op result new
+
+-- a hold of this time, with the number of the last hold of a list
+abbrev pub IsGiven : Hold → ℕ → List Op → Type 0
+IsGiven hold time ops = (hold.at ≡ time) × (hold.reader ≡ length (hold_times ops))
+
+-- a hold is handed out where it waits to be published, as the last operation of this list, and with no other refusal
+abbrev pub IsHandedOut : List Op → ℕ → Option Hold → Refusal → Type 0
+IsHandedOut ops time (Some hold) why = (is_legal ops ≡ true) × (last_of ops ≡ Some (HoldAt time)) × IsGiven hold time ops × (why ≡ Unpublished (length ops))
+IsHandedOut ops time None why = (n : ℕ) → why ≢ Unpublished n
+
+-- a hold is handed back with each refusal but one that says that its release waits
+abbrev pub IsHandedBack : Hold → Option Hold → Refusal → Type 0
+IsHandedBack hold (Some back) why = (back ≡ hold) × ((n : ℕ) → why ≢ Unpublished n)
+IsHandedBack hold None why = (n : ℕ) × (why ≡ Unpublished n)

@@ -1,0 +1,9 @@
+pub mod NodeContent
+pub mod Replay
+pub mod Holds
+pub mod Lists
+pub mod Book
+pub mod Published
+pub mod Changes
+pub mod Replies
+pub mod Carried

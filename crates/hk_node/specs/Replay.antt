@@ -1,0 +1,135 @@
+-- What a list of operations comes to, and which lists are legal.
+use Rattle.std.specs.Prelude.{ℕ, ◌+◌, ◌^◌, Bool, true, false, not, ◌&&◌, ◌||◌, ◌==◌, nat_lt, if◌then◌else◌, List, [], ◌∷◌, ◌++◌, length, fold, filter, Option, Some, None, Result, Ok, Err, is_none}
+use Rattle.std.specs.List.{list_any}
+use Rattle.hk_types.specs.Values.{ConfigValue}
+use Rattle.hk_types.specs.declared.faults.Refusal.{Refusal}
+use Rattle.hk_types.specs.declared.faults.Refusal.TheVariants.{ForeignLog, WrongStreams, Gap, AheadOfMark, TooOld, Held, Damaged, NodeFull, NoHold}
+use Rattle.hk_model.specs.Maps.{or_else}
+use Rattle.hk_model.specs.Content.{Content, readable}
+use Rattle.hk_model.specs.Fragments.{FragmentValue}
+use Rattle.hk_model.specs.Replicas.{nothing}
+use Rattle.hk_model.specs.Rules.{joined, pruned}
+use Rattle.hk_node.specs.declared.op.Hold.{Hold}
+use Rattle.hk_node.specs.declared.op.Op.{Op}
+use Rattle.hk_node.specs.declared.op.Op.TheVariants.{Start, Join, Merge, Prune, Hold as HoldAt, Release}
+use Rattle.hk_node.specs.NodeContent.{NodeContent}
+
+-- the number of the next operation, after so many
+abbrev pub next_op : ℕ → Result ℕ Refusal
+next_op count = if nat_lt count (2 ^ 62) then Ok (count + 1) else Err NodeFull
+
+-- ---- holds
+
+-- whether a hold is of the lesser time, or at one time of the lesser number
+abbrev pub is_before : Hold → Hold → Bool
+is_before h g = nat_lt h.at g.at || ((h.at == g.at) && nat_lt h.reader g.reader)
+
+abbrev pub first_of_two : Option Hold → Hold → Option Hold
+first_of_two None h = Some h
+first_of_two (Some g) h = if is_before h g then Some h else Some g
+
+-- the hold of the least time, and of the least number there
+abbrev pub least_hold : List Hold → Option Hold
+least_hold holds = fold first_of_two None holds
+
+abbrev pub is_hold : ℕ → ℕ → Hold → Bool
+is_hold reader at h = (h.reader == reader) && (h.at == at)
+
+-- ---- refusals
+
+abbrev pub full_refusal : NodeContent → Option Refusal
+full_refusal c = if nat_lt c.op_count (2 ^ 62) then None else Some NodeFull
+
+abbrev pub passed_hold : ℕ → Option Hold → Option Refusal
+passed_hold horizon None = None
+passed_hold horizon (Some h) = if nat_lt h.at horizon then Some (Held h.reader h.at) else None
+
+-- the hold that a horizon would pass, where it rises to this
+abbrev pub held_refusal : NodeContent → ℕ → Option Refusal
+held_refusal c horizon = if nat_lt c.content.horizon horizon then passed_hold horizon (least_hold c.holds) else None
+
+-- why a fragment of this log, so many streams, this base and this horizon is not joined
+abbrev pub join_refusal : NodeContent → ℕ → ℕ → ℕ → ℕ → Option Refusal
+join_refusal c log streams base horizon =
+    if c.damaged then Some Damaged
+    else if not (log == c.content.log) then Some ForeignLog
+    else if not (streams == length c.content.streams) then Some WrongStreams
+    else if nat_lt (readable c.content) base then Some (Gap base (readable c.content))
+    else or_else (held_refusal c horizon) (full_refusal c)
+
+abbrev pub join_refused : NodeContent → FragmentValue → Option Refusal
+join_refused c f = join_refusal c f.content.log (length f.content.streams) f.base f.content.horizon
+
+-- why an operation is refused, if it is. A contradiction is no refusal of a join: it damages the node
+abbrev pub refused : NodeContent → Op → Option Refusal
+refused c (Start config) = Some Damaged
+refused c (Join f) = join_refused c f
+refused c (Merge f) = join_refused c f
+refused c (Prune h) =
+    if c.damaged then Some Damaged
+    else if nat_lt (readable c.content) h then Some (AheadOfMark (readable c.content))
+    else or_else (held_refusal c h) (full_refusal c)
+refused c (HoldAt at) =
+    if c.damaged then Some Damaged
+    else if nat_lt at c.content.horizon then Some (TooOld c.content.horizon)
+    else full_refusal c
+refused c (Release reader at) =
+    if c.damaged then Some Damaged
+    else if list_any (is_hold reader at) c.holds then full_refusal c
+    else Some NoHold
+
+-- ---- effects
+
+abbrev pub after_join : NodeContent → Result Content Refusal → NodeContent
+after_join c (Ok content) = record c { content = content; op_count = c.op_count + 1 }
+after_join c (Err why) = record c { damaged = true; op_count = c.op_count + 1 }
+
+abbrev pub after_prune : NodeContent → Result Content Refusal → NodeContent
+after_prune c (Ok content) = record c { content = content; op_count = c.op_count + 1 }
+after_prune c (Err why) = record c { op_count = c.op_count + 1 }
+
+-- what a node holds at its start
+abbrev pub begun : ConfigValue → NodeContent
+begun config = record { content = nothing config; holds = []; damaged = false; hold_count = 0; op_count = 1 }
+
+-- what an operation makes of what a node holds, where it is not refused
+abbrev pub effect : NodeContent → Op → NodeContent
+effect c (Start config) = begun config
+effect c (Join f) = after_join c (joined c.content f)
+effect c (Merge f) = after_join c (joined c.content f)
+effect c (Prune h) = after_prune c (pruned c.content h)
+effect c (HoldAt at) = record c { holds = c.holds ++ (record { reader = c.hold_count + 1; at = at }) ∷ []; hold_count = c.hold_count + 1; op_count = c.op_count + 1 }
+effect c (Release reader at) = record c { holds = filter (λ h. not (is_hold reader at h)) c.holds; op_count = c.op_count + 1 }
+
+abbrev pub unless : Option Refusal → NodeContent → NodeContent → NodeContent
+unless None kept next = next
+unless (Some why) kept next = kept
+
+-- a refused operation changes nothing
+abbrev pub applied : NodeContent → Op → NodeContent
+applied c op = unless (refused c op) c (effect c op)
+
+-- ---- lists of operations
+
+-- the log that a node is of
+abbrev pub config_of : List Op → ConfigValue
+config_of (Start config ∷ ops) = config
+config_of _ = record { log = 0; streams = 0 }
+
+abbrev pub tail_of : List Op → List Op
+tail_of [] = []
+tail_of (op ∷ ops) = ops
+
+-- what a list of operations comes to
+abbrev pub replay : List Op → NodeContent
+replay ops = fold applied (begun (config_of ops)) (tail_of ops)
+
+-- whether no operation is refused at its place
+abbrev pub legal_from : NodeContent → List Op → Bool
+legal_from c [] = true
+legal_from c (op ∷ ops) = is_none (refused c op) && legal_from (applied c op) ops
+
+-- whether a list begins with a start, and none of the others is refused at its place
+abbrev pub is_legal : List Op → Bool
+is_legal (Start config ∷ ops) = legal_from (begun config) ops
+is_legal _ = false

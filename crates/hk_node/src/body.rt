@@ -1,0 +1,341 @@
+//! What a copy of the node's state holds, and what operations make of it.
+
+ghost use Rattle.std.specs.Prelude.{◌≡◌, ◌<◌, ◌≤◌, ◌^◌, None, IfOk, IfErr, MatchResult};
+ghost use Rattle.hk_types.specs.declared.faults.Refusal.TheVariants.{Memory};
+ghost use Rattle.hk_model.specs.Maps.{or_else};
+ghost use Rattle.hk_model.specs.Rules.{joined, pruned};
+ghost use Rattle.hk_node.specs.declared.op.Op.TheVariants.{Prune as PruneTo, Hold as HoldAt, Release};
+ghost use Rattle.hk_node.specs.Replay as spec;
+ghost use Rattle.std.specs.List.{list_any};
+ghost use Rattle.hk_node.specs.Replay.{is_hold, applied, begun, effect, full_refusal, held_refusal, join_refusal, refused};
+ghost use Rattle.hk_node.specs.Replies.{Answers, Gives, node_delta, node_front, node_reply, node_whole};
+
+use crate::op::{Hold, LAST_OP, Op};
+use hk_delta::{Fragment, delta_since, join, whole_of};
+use hk_merge::misfit;
+use hk_model::{Answer, Front, Query};
+use hk_query::ask;
+use hk_state::{ReplicaState, front_of};
+use hk_types::{Config, Refusal, Time};
+use std::alloc::{AllocError, Global};
+use std::marker::Model;
+
+/// The number of the operation after so many, or `NodeFull` after `LAST_OP` of them. It takes no memory.
+pub fn next_op(count: u64) -> Result<u64, Refusal>
+    ensures { result ≡ spec.next_op count }
+{
+    if count >= LAST_OP {
+        return Err(Refusal::NodeFull);
+    }
+    Ok(count + 1)
+}
+
+/// What a copy holds: the state of a replica, the holds that stand, whether it met a contradiction, and the counts of
+/// holds and of operations.
+#[derive(Drop)]
+pub struct Body {
+    state: ReplicaState,
+    holds: Vec<Hold>,
+    damaged: bool,
+    hold_count: u64,
+    op_count: u64,
+}
+
+impl Model for Body {
+    ghost use Rattle.std.specs.Prelude.{◌≤◌, ◌^◌};
+    ghost use Rattle.hk_node.specs.NodeContent.{NodeContent, node_code};
+
+    ghost Value = { NodeContent };
+
+    ghost coded = { node_code };
+
+    ghost view = { λ b. record { content = b.state; holds = b.holds.items; damaged = b.damaged; hold_count = b.hold_count; op_count = b.op_count } };
+
+    ghost invariant = { λ b. (b.hold_count ≤ b.op_count) × (b.op_count ≤ 2 ^ 62) };
+}
+
+/// The first of two holds, by time and then by number.
+fn first_of_two(least: Option<Hold>, hold: &Hold) -> Option<Hold>
+    ensures { result ≡ spec.first_of_two least hold.now }
+{
+    if let Some(least) = least {
+        let is_before = hold.at < least.at || (hold.at == least.at && hold.reader < least.reader);
+        if !is_before {
+            return Some(least);
+        }
+    }
+    Some(Hold {
+        reader: hold.reader,
+        at: hold.at,
+    })
+}
+
+/// The hold of the least time, and of the least number there. It takes no memory.
+fn least_hold(holds: &[Hold]) -> Option<Hold>
+    ensures { result ≡ spec.least_hold holds.now }
+{
+    let mut least = None;
+    for hold in holds {
+        least = first_of_two(least, hold);
+    }
+    least
+}
+
+/// Whether a hold of this number and time is among these. It takes no memory.
+fn is_among(holds: &[Hold], reader: u64, at: Time) -> bool
+    ensures { result ≡ list_any (is_hold reader at) holds.now }
+{
+    holds
+        .iter()
+        .any(|hold| hold.reader == reader && hold.at == at)
+}
+
+impl Body {
+    /// What a copy of a new node of this log holds. The only refusal is `Memory`.
+    pub fn new(alloc: Global, config: Config) -> Result<Body, Refusal>
+        ensures ok { IfOk result (λ body. body ≡ begun config) }
+        ensures err { IfErr result (λ why. why ≡ Memory) }
+    {
+        Ok(Body {
+            state: ReplicaState::new(alloc, config)?,
+            holds: Vec::new(alloc),
+            damaged: false,
+            hold_count: 0,
+            op_count: 1,
+        })
+    }
+
+    fn full_refusal(&self) -> Option<Refusal>
+        ensures { result ≡ full_refusal self.now }
+    {
+        match next_op(self.op_count) {
+            Ok(_) => None,
+            Err(why) => Some(why),
+        }
+    }
+
+    /// The hold that a horizon would pass, where it rises to this.
+    fn held_refusal(&self, horizon: Time) -> Option<Refusal>
+        ensures { result ≡ held_refusal self.now horizon }
+    {
+        if horizon <= self.state.horizon() {
+            return None;
+        }
+        match least_hold(&self.holds) {
+            Some(Hold { reader, at }) if at < horizon => Some(Refusal::Held { reader, at }),
+            _ => None,
+        }
+    }
+
+    fn held_or_full(&self, horizon: Time) -> Option<Refusal>
+        ensures { result ≡ or_else (held_refusal self.now horizon) (full_refusal self.now) }
+    {
+        match self.held_refusal(horizon) {
+            Some(why) => Some(why),
+            None => self.full_refusal(),
+        }
+    }
+
+    /// Why a fragment of this log, this base and this horizon is not joined. It takes no memory.
+    pub fn join_refusal(&self, config: Config, base: Time, horizon: Time) -> Option<Refusal>
+        ensures { result ≡ join_refusal self.now config.log config.streams base horizon }
+    {
+        if self.damaged {
+            return Some(Refusal::Damaged);
+        }
+        if let Some(why) = misfit(&self.state, config) {
+            return Some(why);
+        }
+        let readable = self.state.readable();
+        if readable < base {
+            return Some(Refusal::Gap { base, readable });
+        }
+        self.held_or_full(horizon)
+    }
+
+    fn join_refused(&self, fragment: &Fragment) -> Option<Refusal>
+        ensures { result ≡ spec.join_refused self.now fragment.now }
+    {
+        self.join_refusal(fragment.config(), fragment.base(), fragment.horizon())
+    }
+
+    fn prune_refused(&self, time: Time) -> Option<Refusal>
+        ensures { result ≡ refused self.now (PruneTo time) }
+    {
+        if self.damaged {
+            return Some(Refusal::Damaged);
+        }
+        let readable = self.state.readable();
+        if readable < time {
+            return Some(Refusal::AheadOfMark { readable });
+        }
+        self.held_or_full(time)
+    }
+
+    fn hold_refused(&self, time: Time) -> Option<Refusal>
+        ensures { result ≡ refused self.now (HoldAt time) }
+    {
+        if self.damaged {
+            return Some(Refusal::Damaged);
+        }
+        let horizon = self.state.horizon();
+        if time < horizon {
+            return Some(Refusal::TooOld { horizon });
+        }
+        self.full_refusal()
+    }
+
+    fn release_refused(&self, reader: u64, at: Time) -> Option<Refusal>
+        ensures { result ≡ refused self.now (Release reader at) }
+    {
+        if self.damaged {
+            return Some(Refusal::Damaged);
+        }
+        if !is_among(&self.holds, reader, at) {
+            return Some(Refusal::NoHold);
+        }
+        self.full_refusal()
+    }
+
+    /// Why an operation is refused, if it is. It takes no memory. Costs by the streams, and by the holds that stand
+    /// where a horizon would rise.
+    pub fn refusal(&self, op: &Op) -> Option<Refusal>
+        ensures { result ≡ refused self.now op.now }
+    {
+        match op {
+            Op::Start(_) => Some(Refusal::Damaged),
+            Op::Join(fragment) => self.join_refused(fragment),
+            Op::Merge(whole) => self.join_refused(whole),
+            Op::Prune(time) => self.prune_refused(*time),
+            Op::Hold(time) => self.hold_refused(*time),
+            Op::Release { reader, at } => self.release_refused(*reader, *at),
+        }
+    }
+
+    fn join(&mut self, fragment: &Fragment) -> Result<(), AllocError>
+        requires { self.old.op_count < 2 ^ 62 }
+        ensures { MatchResult result (λ _. self.new ≡ spec.after_join self.old (joined self.old.content fragment.now)) (λ _. self.new ≡ self.old) }
+    {
+        match join(&mut self.state, fragment) {
+            Ok(()) => {}
+            Err(Refusal::Memory) => return Err(AllocError),
+            Err(_) => self.damaged = true,
+        }
+        self.op_count += 1;
+        Ok(())
+    }
+
+    fn prune(&mut self, time: Time) -> Result<(), AllocError>
+        requires { refused self.old (PruneTo time) ≡ None }
+        ensures { MatchResult result (λ _. self.new ≡ spec.after_prune self.old (pruned self.old.content time)) (λ _. self.new ≡ self.old) }
+    {
+        if self.state.prune(time).is_err() {
+            return Err(AllocError);
+        }
+        self.op_count += 1;
+        Ok(())
+    }
+
+    fn hold(&mut self, at: Time) -> Result<(), AllocError>
+        requires { self.old.op_count < 2 ^ 62 }
+        ensures { MatchResult result (λ _. self.new ≡ effect self.old (HoldAt at)) (λ _. self.new ≡ self.old) }
+    {
+        let reader = self.hold_count + 1;
+        self.holds.push(Hold { reader, at })?;
+        self.hold_count = reader;
+        self.op_count += 1;
+        Ok(())
+    }
+
+    fn release(&mut self, reader: u64, at: Time)
+        requires { self.old.op_count < 2 ^ 62 }
+        ensures { self.new ≡ effect self.old (Release reader at) }
+    {
+        self.holds
+            .retain(|hold| !(hold.reader == reader && hold.at == at));
+        self.op_count += 1;
+    }
+
+    /// Makes an operation that is not refused. It changes nothing where memory is refused.
+    fn make(&mut self, op: &Op) -> Result<(), AllocError>
+        requires { refused self.old op.now ≡ None }
+        ensures { MatchResult result (λ _. self.new ≡ effect self.old op.now) (λ _. self.new ≡ self.old) }
+    {
+        match op {
+            Op::Start(_) => Ok(()),
+            Op::Join(fragment) => self.join(fragment),
+            Op::Merge(whole) => self.join(whole),
+            Op::Prune(time) => self.prune(*time),
+            Op::Hold(time) => self.hold(*time),
+            Op::Release { reader, at } => {
+                self.release(*reader, *at);
+                Ok(())
+            }
+        }
+    }
+
+    /// Makes an operation, which does nothing where it is refused. It changes nothing where memory is refused.
+    pub fn apply(&mut self, op: &Op) -> Result<(), AllocError>
+        ensures { MatchResult result (λ _. self.new ≡ applied self.old op.now) (λ _. self.new ≡ self.old) }
+    {
+        match self.refusal(op) {
+            Some(_) => Ok(()),
+            None => self.make(op),
+        }
+    }
+
+    /// Whether it met a contradiction.
+    pub fn is_damaged(&self) -> bool
+        ensures { result ≡ self.now.damaged }
+    {
+        self.damaged
+    }
+
+    /// How many holds it gave.
+    pub fn hold_count(&self) -> u64
+        ensures count { result ≡ self.now.hold_count }
+        ensures bound { result ≤ 2 ^ 62 }
+    {
+        self.hold_count
+    }
+
+    /// The answer to a query at a time.
+    pub fn ask(&self, alloc: Global, time: Time, query: &Query) -> Result<Answer, Refusal>
+        ensures { Answers (node_reply self.now time query.now) result }
+    {
+        if self.damaged {
+            return Err(Refusal::Damaged);
+        }
+        ask(alloc, &self.state, time, query)
+    }
+
+    /// From where to where it can be read.
+    pub fn front(&self) -> Result<Front, Refusal>
+        ensures { result ≡ node_front self.now }
+    {
+        if self.damaged {
+            return Err(Refusal::Damaged);
+        }
+        Ok(front_of(&self.state))
+    }
+
+    /// What it holds since a time.
+    pub fn delta_since(&self, alloc: Global, base: Time) -> Result<Fragment, Refusal>
+        ensures { Gives (node_delta self.now base) result }
+    {
+        if self.damaged {
+            return Err(Refusal::Damaged);
+        }
+        delta_since(alloc, &self.state, base)
+    }
+
+    /// All that it holds.
+    pub fn whole(&self, alloc: Global) -> Result<Fragment, Refusal>
+        ensures { Gives (node_whole self.now) result }
+    {
+        if self.damaged {
+            return Err(Refusal::Damaged);
+        }
+        whole_of(alloc, &self.state)
+    }
+}

@@ -1,0 +1,228 @@
+//! The list of a node's operations, which exists in the proofs alone, and the prefixes of it that were seen.
+
+ghost use Rattle.std.specs.Prelude.{◌≡◌, ◌<◌, ◌≤◌, ◌^◌, ◌++◌, ◌∷◌, [], true, false, length, None, IsTrue, IfSome};
+ghost use mathlib.Core.List.{IsPrefix};
+ghost use Rattle.hk_node.specs.declared.op.Op.TheVariants.{Start as StartOf};
+ghost use Rattle.hk_node.specs.Replay.{is_legal, refused, replay};
+ghost use Rattle.hk_node.specs.Book.{counter_of};
+
+use crate::op::Op;
+use hk_types::Config;
+use logbook::{Gain, Offer, Opening, Plain, Play, Rule, Seen, Start, Word};
+use std::marker::{Brand, Model};
+
+/// The rule of the book: its one word counts the operations after the first.
+pub struct Counting;
+
+impl Rule<Op, u64> for Counting {
+    ghost use Rattle.std.specs.Prelude.{[], ◌∷◌};
+    ghost use base.Fml.{ftrue};
+    ghost use Rattle.hk_node.specs.Book.{IsCounted};
+
+    ghost holds = { λ cells log. IsCounted cells log };
+
+    ghost first = { [] };
+
+    ghost hinted = { λ n log. Unit {0} };
+
+    ghost shows = { λ log. [] };
+
+    ghost keeps = { λ names log. ftrue };
+
+    ghost moves = { λ ask before after answer. Unit {0} };
+}
+
+/// A book opens with the start of a node of a log.
+pub struct Opens;
+
+impl Opening<Config, Op> for Opens {
+    ghost use Rattle.std.specs.Prelude.{[], ◌∷◌};
+    ghost use Rattle.hk_node.specs.declared.op.Op.TheVariants.{Start as StartOf};
+
+    ghost log = { λ count config. StartOf config ∷ [] };
+}
+
+/// Callers trade nothing.
+pub struct Nothing;
+
+impl Gain<Op, u64> for Nothing {
+    ghost use base.Fml.{ftrue};
+
+    ghost after = { λ names about answer. ftrue };
+}
+
+/// The step that adds an operation.
+pub struct Add;
+
+impl Play<Op, u64> for Add {
+    ghost use Rattle.hk_node.specs.Book.{Adds};
+
+    ghost then = { Adds };
+}
+
+impl Plain<Op, Op, u64> for Add {
+    ghost use Rattle.std.specs.Prelude.{None};
+
+    ghost ask = { λ op. op };
+
+    ghost state = { λ op. None };
+}
+
+/// Which node it is: a name that exists in the proofs alone.
+pub trait NodeName {
+    ghost use Rattle.logbook.specs.Pages.{Book};
+
+    ghost book: { Book };
+}
+
+impl NodeName for Brand {
+    ghost use Rattle.hk_node.specs.Book.{no_book};
+
+    ghost book = { no_book };
+}
+
+/// The word that counts a node's operations after the first.
+#[derive(Drop)]
+pub struct Counter {
+    word: Word<Op, u64, Counting>,
+    pub ghost is_counter: { word ≡ counter_of word.book },
+}
+
+/// A prefix of a node's list of operations that was seen. It has no bytes but a count. Contracts see it as the name of
+/// the node and the operations.
+#[derive(Drop)]
+pub struct Prefix {
+    ops: u64,
+    seen: Seen<Op, u64, Counting>,
+}
+
+impl Model for Prefix {
+    ghost use Rattle.std.specs.Prelude.{◌≡◌, true, List, length};
+    ghost use Rattle.logbook.specs.Pages.{Book};
+    ghost use Rattle.hk_node.specs.declared.op.Op.{Op};
+    ghost use Rattle.hk_node.specs.Replay.{is_legal};
+    ghost use Rattle.logbook.specs.Pages.{book_coded};
+    ghost use Rattle.std.specs.Coded.{coded×, coded_list};
+    ghost use Rattle.hk_node.specs.contracts.op.Op as op;
+
+    ghost Value = { Book × List Op };
+
+    ghost coded = { coded× book_coded (coded_list op.the_row.coded) };
+
+    ghost view = { λ p. (p.seen.book, p.seen.log) };
+
+    ghost invariant = { λ p. (p.ops ≡ length p.seen.log) × (is_legal p.seen.log ≡ true) };
+}
+
+/// A new list, with the start of a node of this log alone.
+fn open(config: Config) -> (Counter, Prefix)
+    ensures list { result.1.1 ≡ StartOf config ∷ [] }
+    ensures same { result.0.word.book ≡ result.1.0 }
+{
+    let (seen, mut pens) = Seen::open_row::<Config, Opens>(&config, Start::alone(), 1);
+    let mut pen = pens.take();
+    let word = Word::tracked(0, &mut pen);
+    (Counter { word }, Prefix { ops: 1, seen })
+}
+
+impl Prefix {
+    /// How many operations it has.
+    pub fn len(&self) -> u64
+        ensures length { result ≡ length self.now.1 }
+        ensures legal { is_legal self.now.1 ≡ true }
+    {
+        self.ops
+    }
+
+    /// The same prefix again.
+    pub fn again(&self) -> Prefix
+        ensures { result ≡ self.now }
+    {
+        Prefix {
+            ops: self.ops,
+            seen: self.seen.again(),
+        }
+    }
+
+    /// Whether it is no longer than another. Of two prefixes of one node's list the shorter begins the longer.
+    pub fn compare(&self, other: &Prefix) -> bool
+        requires { other.now.0 ≡ self.now.0 }
+        ensures shorter { IsTrue result → IsPrefix self.now.1 other.now.1 × (length self.now.1 ≤ length other.now.1) }
+        ensures longer { result ≡ false → IsPrefix other.now.1 self.now.1 × (length other.now.1 < length self.now.1) }
+    {
+        let mut both = self.seen.again();
+        both.learn(&other.seen);
+        self.ops <= other.ops
+    }
+
+    /// The prefix with an operation more, which the node's list has from now on. There is none where the list is longer
+    /// than this prefix.
+    pub fn extended(&self, counter: &Counter, op: &Op) -> Option<Prefix>
+        requires counter { counter.now.word.book ≡ self.now.0 }
+        requires legal { refused (replay self.now.1) op.now ≡ None }
+        ensures { IfSome result (λ p. p ≡ (self.now.0, self.now.1 ++ op.now ∷ [])) }
+    {
+        let count = self.ops.checked_sub(1)?;
+        let ops = self.ops.checked_add(1)?;
+        let mut seen = self.seen.again();
+        let mut offer: Offer<Op, u64, Counting, Nothing> = seen.plain::<Nothing, Op, Add>(op);
+        let mut pen = seen.no_pen();
+        let found = counter
+            .word
+            .compare_exchange::<Add, Nothing>(count, count + 1, &mut seen, &mut offer, &mut pen);
+        if found != count {
+            return None;
+        }
+        Some(Prefix { ops, seen })
+    }
+}
+
+/// A list of operations with a start alone, which no node has yet. Contracts see it as the name of the node that it is
+/// for, and the log.
+#[derive(Drop)]
+pub struct NewList {
+    config: Config,
+    counter: Counter,
+    prefix: Prefix,
+}
+
+impl Model for NewList {
+    ghost use Rattle.std.specs.Prelude.{◌≡◌, ◌∷◌, []};
+    ghost use Rattle.logbook.specs.Pages.{Book};
+    ghost use Rattle.hk_types.specs.Values.{ConfigValue};
+    ghost use Rattle.hk_node.specs.declared.op.Op.TheVariants.{Start as StartOf};
+
+    ghost Value = { Book × ConfigValue };
+
+    ghost view = { λ l. (l.prefix.0, l.config) };
+
+    ghost invariant = { λ l. (l.prefix.1 ≡ StartOf l.config ∷ []) × (l.counter.word.book ≡ l.prefix.0) };
+}
+
+impl NewList {
+    /// The list of a new node of this log.
+    pub fn new(config: Config) -> NewList
+        ensures { result.1 ≡ config }
+    {
+        let (counter, prefix) = open(config);
+        NewList {
+            config,
+            counter,
+            prefix,
+        }
+    }
+
+    /// Its parts.
+    pub(crate) fn into_parts(self) -> (Config, Counter, Prefix)
+        ensures config { result.0 ≡ self.1 }
+        ensures counter { result.1.word.book ≡ self.0 }
+        ensures prefix { result.2 ≡ (self.0, StartOf self.1 ∷ []) }
+    {
+        let NewList {
+            config,
+            counter,
+            prefix,
+        } = self;
+        (config, counter, prefix)
+    }
+}

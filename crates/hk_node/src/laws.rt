@@ -1,0 +1,154 @@
+//! How a change runs, and what every node obeys.
+
+ghost use Rattle.std.specs.Prelude.{◌≡◌, Some, Ok, Err, true, IfOk, IfErr, MatchResult};
+ghost use Rattle.hk_model.specs.Fragments.{cut};
+ghost use Rattle.hk_node.specs.declared.op.Op.TheVariants.{Hold as HoldAt, Merge as MergeOf, Release};
+ghost use Rattle.hk_node.specs.Carried.{CarryLaw};
+ghost use Rattle.hk_node.specs.Changes.{all_of, Changes, IsGiven, IsHandedBack, IsHandedOut, Refuses};
+ghost use Rattle.hk_node.specs.Holds.{HoldLaw};
+ghost use Rattle.hk_node.specs.Lists.{last_of};
+ghost use Rattle.hk_node.specs.Replay.{is_legal};
+
+use crate::book::NodeName;
+use crate::node::Receipt;
+use crate::op::{Hold, Op};
+use crate::publisher::Publisher;
+use hk_delta::Fragment;
+use hk_state::ReplicaState;
+use hk_types::{Refusal, Time};
+use std::sync::Wait;
+
+/// One change, at what lies under the writer's lock: every change of a node runs by this function.
+///
+/// What waits is published first; where that is refused, it is `Memory` and nothing changed. Then the operation is
+/// tested after all others, and its refusal answered. Then it is added and published: `Memory` where it could not be
+/// added; `Unpublished` with its number where it could not be published, and then it waits, and the next publish shows
+/// it; `Conflict` where it met a contradiction, which damages the node for good.
+#[tactic(auto, using(crate::proofs::Legal::last_snoc))]
+pub fn change<J: NodeName, R: Wait + Drop>(
+    publisher: &mut Publisher<J, R>,
+    op: Op,
+) -> Result<Receipt<J>, Refusal>
+    ensures change { Changes publisher.old op result publisher.new }
+    ensures before { is_legal (all_of publisher.old) ≡ true }
+    ensures legal { IfOk result (λ list. is_legal list ≡ true) }
+    ensures last { IfOk result (λ list. last_of list ≡ Some op) }
+{
+    let Ok(()) = publisher.publish() else {
+        return Err(Refusal::Memory);
+    };
+    if let Some(why) = publisher.refusal(&op) {
+        return Err(why);
+    }
+    let Some(prefix) = publisher.extended(&op) else {
+        return Err(Refusal::Memory);
+    };
+    let ops = prefix.len();
+    publisher.put(op, prefix);
+    if publisher.publish().is_err() {
+        return Err(Refusal::Unpublished { ops });
+    }
+    if publisher.is_damaged() {
+        return Err(Refusal::Conflict);
+    }
+    Ok(publisher.receipt())
+}
+
+/// A merge of a state, at what lies under the writer's lock, with the whole of the state or the refusal of memory for
+/// it: it runs as `change`, also where the whole could not be made.
+pub fn merge_whole<J: NodeName, R: Wait + Drop>(
+    publisher: &mut Publisher<J, R>,
+    state: &ReplicaState,
+    whole: Result<Fragment, Refusal>,
+) -> Result<Receipt<J>, Refusal>
+    requires whole { IfOk whole (λ fragment. fragment ≡ cut state.now 0) }
+    ensures change { Changes publisher.old (MergeOf (cut state.now 0)) result publisher.new }
+    ensures before { is_legal (all_of publisher.old) ≡ true }
+    ensures legal { IfOk result (λ list. is_legal list ≡ true) }
+    ensures last { IfOk result (λ list. last_of list ≡ Some (MergeOf (cut state.now 0))) }
+{
+    match whole {
+        Ok(whole) => change(publisher, Op::Merge(whole)),
+        Err(_) => Err(refusal_of_merge(publisher, state)),
+    }
+}
+
+/// What a merge is refused of whose whole could not be made.
+fn refusal_of_merge<J: NodeName, R: Wait + Drop>(
+    publisher: &mut Publisher<J, R>,
+    state: &ReplicaState,
+) -> Refusal
+    ensures refuses { Refuses publisher.old (MergeOf (cut state.now 0)) result publisher.new }
+    ensures before { is_legal (all_of publisher.old) ≡ true }
+{
+    if publisher.publish().is_err() {
+        return Refusal::Memory;
+    }
+    match publisher.join_refusal(state.config(), Time::zero(), state.horizon()) {
+        Some(why) => why,
+        None => Refusal::Memory,
+    }
+}
+
+/// A hold at a time, at what lies under the writer's lock: it runs as `change`. Its number is that of the holds of the
+/// list, with it.
+pub fn hold_at<J: NodeName, R: Wait + Drop>(
+    publisher: &mut Publisher<J, R>,
+    time: Time,
+) -> Result<(Hold, Receipt<J>), (Option<Hold>, Refusal)>
+    ensures change { MatchResult result (λ t. Changes publisher.old (HoldAt time) (Ok t.1) publisher.new) (λ e. Changes publisher.old (HoldAt time) (Err e.1) publisher.new) }
+    ensures before { is_legal (all_of publisher.old) ≡ true }
+    ensures legal { IfOk result (λ t. is_legal t.1 ≡ true) }
+    ensures last { IfOk result (λ t. last_of t.1 ≡ Some (HoldAt time)) }
+    ensures hold { IfOk result (λ t. IsGiven t.0 time t.1) }
+    ensures waits { IfErr result (λ e. IsHandedOut (all_of publisher.new) time e.0 e.1) }
+{
+    match change(publisher, Op::Hold(time)) {
+        Ok(receipt) => {
+            let reader = publisher.hold_count();
+            Ok((Hold { reader, at: time }, receipt))
+        }
+        Err(Refusal::Unpublished { ops }) => {
+            let reader = publisher.hold_count() + 1;
+            Err((
+                Some(Hold { reader, at: time }),
+                Refusal::Unpublished { ops },
+            ))
+        }
+        Err(why) => Err((None, why)),
+    }
+}
+
+/// A release of a hold, at what lies under the writer's lock: it runs as `change`. It hands the hold back on every
+/// refusal but `Unpublished`.
+pub fn release_hold<J: NodeName, R: Wait + Drop>(
+    publisher: &mut Publisher<J, R>,
+    hold: Hold,
+) -> Result<Receipt<J>, (Option<Hold>, Refusal)>
+    ensures change { MatchResult result (λ list. Changes publisher.old (Release hold.reader hold.at) (Ok list) publisher.new) (λ e. Changes publisher.old (Release hold.reader hold.at) (Err e.1) publisher.new) }
+    ensures before { is_legal (all_of publisher.old) ≡ true }
+    ensures legal { IfOk result (λ list. is_legal list ≡ true) }
+    ensures last { IfOk result (λ list. last_of list ≡ Some (Release hold.reader hold.at)) }
+    ensures back { IfErr result (λ e. IsHandedBack hold e.0 e.1) }
+{
+    let op = Op::Release {
+        reader: hold.reader,
+        at: hold.at,
+    };
+    match change(publisher, op) {
+        Ok(receipt) => Ok(receipt),
+        Err(Refusal::Unpublished { ops }) => Err((None, Refusal::Unpublished { ops })),
+        Err(why) => Err((Some(hold), why)),
+    }
+}
+
+/// No horizon passes a hold that stands.
+pub fn hold_law()
+    ensures { HoldLaw }
+{}
+
+/// Where every join and merge of a list carries a part of one history, the content stands for the union of their items
+/// at the greatest horizon joined or pruned to, and the node is not damaged.
+pub fn carry_law()
+    ensures { CarryLaw }
+{}

@@ -1,0 +1,18 @@
+//! A running node: a replica that one writer at a time changes under a lock, while readers ask without one.
+#![tactic(auto)]
+
+mod body;
+mod book;
+pub mod laws;
+mod node;
+mod op;
+mod publisher;
+mod replica;
+mod seat;
+
+pub use body::next_op;
+pub use book::{NewList, NodeName};
+pub use node::{Node, Receipt, start};
+pub use op::{Hold, LAST_OP, Op};
+pub use publisher::Publisher;
+pub use seat::ReaderSeat;

@@ -1,0 +1,205 @@
+//! The node: one writer under a lock, and readers that take none.
+
+ghost use Rattle.std.specs.Prelude.{◌≡◌, ◌∷◌, [], ◌<◌, ◌≤◌, List, All, Some, true, length, Ok, Err, IfOk, IfErr, MatchResult, vec_len};
+ghost use Rattle.hk_types.specs.declared.faults.Refusal.TheVariants.{Memory};
+ghost use Rattle.hk_node.specs.Changes.{ChangesSome, IsGiven, IsHandedBack, IsHandedOut};
+ghost use Rattle.hk_node.specs.declared.op.Op.{Op as OpValue};
+ghost use Rattle.hk_model.specs.Fragments.{cut};
+ghost use Rattle.hk_node.specs.declared.op.Op.TheVariants.{Start as StartOf, Join as JoinOf, Merge as MergeOf, Prune as PruneTo, Hold as HoldAt, Release};
+ghost use Rattle.hk_node.specs.Lists.{last_of};
+ghost use Rattle.hk_node.specs.Replay.{is_legal};
+
+use crate::book::{NewList, NodeName, Prefix};
+use crate::laws::{change, hold_at, merge_whole, release_hold};
+use crate::op::{Hold, Op};
+use crate::publisher::{Publisher, copies_of};
+use crate::seat::{ReaderSeat, seats_of};
+use hk_delta::{Fragment, whole_of};
+use hk_state::ReplicaState;
+use hk_types::{Refusal, Time};
+use std::alloc::Global;
+use std::marker::{Model, PhantomData};
+use std::sync::{Mutex, Wait};
+
+/// What a change hands out. Contracts see it as the list of operations that ends with the change.
+#[derive(Drop)]
+pub struct Receipt<J: NodeName> {
+    prefix: Prefix,
+    of: PhantomData<J>,
+}
+
+impl<J: NodeName> Model for Receipt<J> {
+    ghost use Rattle.std.specs.Prelude.{◌≡◌, List};
+    ghost use Rattle.hk_node.specs.declared.op.Op.{Op};
+    ghost use Rattle.std.specs.Coded.{coded_list};
+    ghost use Rattle.hk_node.specs.contracts.op.Op as op;
+
+    ghost Value = { List Op };
+
+    ghost coded = { coded_list op.the_row.coded };
+
+    ghost view = { λ r. r.prefix.1 };
+
+    ghost invariant = { λ r. r.prefix.0 ≡ J.book };
+}
+
+impl<J: NodeName> Receipt<J> {
+    pub(crate) fn of(prefix: Prefix) -> Receipt<J>
+        requires { prefix.0 ≡ J.book }
+        ensures { result ≡ prefix.1 }
+    {
+        Receipt {
+            prefix,
+            of: PhantomData,
+        }
+    }
+
+    pub(crate) fn into_prefix(self) -> Prefix
+        ensures list { result.1 ≡ self }
+        ensures node { result.0 ≡ J.book }
+    {
+        let Receipt { prefix, of: _ } = self;
+        prefix
+    }
+
+    /// The number of its operations. It takes no memory.
+    pub fn ops(&self) -> u64
+        ensures length { result ≡ length self.now }
+        ensures legal { is_legal self.now ≡ true }
+    {
+        self.prefix.len()
+    }
+}
+
+/// Starts a node with so many places for readers, 1 to 64, and gives a seat for each. Its list has the start alone.
+///
+/// The list is a new one, which names the node: `J` is this name, by which a receipt of another node is none of this
+/// one's. The only refusal is `Memory`.
+pub fn start<J: NodeName, R: Wait + Drop>(
+    rt: R,
+    alloc: Global,
+    list: NewList,
+    places: usize,
+) -> Result<(Node<J, R>, Vec<ReaderSeat<J>>), Refusal>
+    requires name { list.0 ≡ J.book }
+    requires places { (0 < places) × (places ≤ 64) }
+    ensures places { IfOk result (λ t. vec_len t.1 ≡ places) }
+    ensures seats { IfOk result (λ t. All (λ seat. seat ≡ StartOf list.1 ∷ []) t.1.items) }
+    ensures err { IfErr result (λ why. why ≡ Memory) }
+{
+    let (config, counter, prefix) = list.into_parts();
+    let mut copies = copies_of(rt, alloc, config, &prefix, places)?;
+    let seats = seats_of::<J>(&mut copies.writer, &prefix, alloc, places)?;
+    let publisher = Publisher::new(copies, counter, config);
+    let node = Node {
+        publisher: Mutex::new(publisher),
+        alloc,
+    };
+    Ok((node, seats))
+}
+
+/// A running node: one replica's state, changed by one caller at a time under a lock, and read by seats that take no
+/// lock. Each call waits for the lock, and a change waits for the readers that still read the older copy.
+///
+/// Each change first publishes what waits; where that is refused it answers `Memory` before every other test, and
+/// nothing changed. Then its refusals come in the order in which the call lists them. `Unpublished` says that the change
+/// stands as the operation with that number and waits: readers see it once a later change or `publish` could publish it.
+/// At most one operation waits. After every other refusal but `Conflict` the list of operations is as before.
+#[derive(Drop)]
+pub struct Node<J: NodeName, R: Wait + Drop> {
+    publisher: Mutex<Publisher<J, R>>,
+    alloc: Global,
+}
+
+impl<J: NodeName, R: Wait + Drop> Node<J, R> {
+    /// Joins a fragment.
+    ///
+    /// Refusals in order: `Damaged`; `ForeignLog`, `WrongStreams` and `Gap` as the join of a fragment into a state;
+    /// `Held` with the hold of the least time, and of the least number there, that the horizon would pass; `NodeFull`;
+    /// `Memory`; `Unpublished`; `Conflict` where fragment and state contradict each other, which damages the node for
+    /// good. The fragment is dropped with a refusal: who would try again keeps a copy.
+    pub fn join<W: Wait>(&self, rt: &W, fragment: Fragment) -> Result<Receipt<J>, Refusal>
+        ensures legal { IfOk result (λ list. is_legal list ≡ true) }
+        ensures change { ChangesSome (JoinOf fragment) result }
+        ensures last { IfOk result (λ list. last_of list ≡ Some (JoinOf fragment)) }
+    {
+        let mut publisher = self.publisher.lock(rt);
+        change(&mut *publisher, Op::Join(fragment))
+    }
+
+    /// Merges a state, as the join of the whole of it, with the refusals of `join`. The whole is copied before the lock
+    /// is taken.
+    pub fn merge<W: Wait>(&self, rt: &W, state: &ReplicaState) -> Result<Receipt<J>, Refusal>
+        ensures legal { IfOk result (λ list. is_legal list ≡ true) }
+        ensures change { ChangesSome (MergeOf (cut state.now 0)) result }
+        ensures last { IfOk result (λ list. last_of list ≡ Some (MergeOf (cut state.now 0))) }
+    {
+        let whole = whole_of(self.alloc, state);
+        let mut publisher = self.publisher.lock(rt);
+        merge_whole(&mut *publisher, state, whole)
+    }
+
+    /// Prunes to a time.
+    ///
+    /// Refusals in order: `Damaged`; `AheadOfMark` with the readable mark, where the time is above it; `Held` with the
+    /// hold of the least time, and of the least number there, that the horizon would pass; `NodeFull`; `Memory`;
+    /// `Unpublished`.
+    pub fn prune<W: Wait>(&self, rt: &W, time: Time) -> Result<Receipt<J>, Refusal>
+        ensures legal { IfOk result (λ list. is_legal list ≡ true) }
+        ensures change { ChangesSome (PruneTo time) result }
+        ensures last { IfOk result (λ list. last_of list ≡ Some (PruneTo time)) }
+    {
+        let mut publisher = self.publisher.lock(rt);
+        change(&mut *publisher, Op::Prune(time))
+    }
+
+    /// Holds a time, so that no horizon passes it until the hold is released.
+    ///
+    /// Refusals in order: `Damaged`; `TooOld` with the horizon, where the time is below it; `NodeFull`; `Memory`;
+    /// `Unpublished`, with the hold, which stands once its operation is published.
+    pub fn hold<W: Wait>(
+        &self,
+        rt: &W,
+        time: Time,
+    ) -> Result<(Hold, Receipt<J>), (Option<Hold>, Refusal)>
+        ensures legal { IfOk result (λ t. is_legal t.1 ≡ true) }
+        ensures change { MatchResult result (λ t. ChangesSome (HoldAt time) (Ok t.1)) (λ e. ChangesSome (HoldAt time) (Err e.1)) }
+        ensures last { IfOk result (λ t. last_of t.1 ≡ Some (HoldAt time)) }
+        ensures hold { IfOk result (λ t. IsGiven t.0 time t.1) }
+        ensures waits { IfErr result (λ e. (ops : List OpValue) × IsHandedOut ops time e.0 e.1) }
+    {
+        let mut publisher = self.publisher.lock(rt);
+        hold_at(&mut *publisher, time)
+    }
+
+    /// Releases a hold.
+    ///
+    /// Refusals in order: `Damaged`; `NoHold` where no hold of this number and time stands in this node; `NodeFull`;
+    /// `Memory`; `Unpublished`. Each but the last hands the hold back.
+    pub fn release<W: Wait>(
+        &self,
+        rt: &W,
+        hold: Hold,
+    ) -> Result<Receipt<J>, (Option<Hold>, Refusal)>
+        ensures legal { IfOk result (λ list. is_legal list ≡ true) }
+        ensures change { MatchResult result (λ list. ChangesSome (Release hold.reader hold.at) (Ok list)) (λ e. ChangesSome (Release hold.reader hold.at) (Err e.1)) }
+        ensures last { IfOk result (λ list. last_of list ≡ Some (Release hold.reader hold.at)) }
+        ensures back { IfErr result (λ e. IsHandedBack hold e.0 e.1) }
+    {
+        let mut publisher = self.publisher.lock(rt);
+        release_hold(&mut *publisher, hold)
+    }
+
+    /// Publishes what waits, and gives a receipt of the list. The only refusal is `Memory`, and then what waits still
+    /// waits. It answers in a damaged node too.
+    pub fn publish<W: Wait>(&self, rt: &W) -> Result<Receipt<J>, Refusal>
+        ensures legal { IfOk result (λ list. is_legal list ≡ true) }
+        ensures err { IfErr result (λ why. why ≡ Memory) }
+    {
+        let mut publisher = self.publisher.lock(rt);
+        if publisher.publish().is_err() {
+            return Err(Refusal::Memory);
+        }
+        Ok(publisher.receipt())
+    }
+}

@@ -1,0 +1,252 @@
+//! What lies under the writer's lock: the copies, and the operation that waits.
+
+ghost use Rattle.std.specs.Prelude.{◌≡◌, ◌++◌, ◌∷◌, [], drop, fold, None, true, MatchResult, IfOk, IfErr, IfSome, IsTrue, ◌<◌, ◌≤◌, ◌^◌};
+ghost use Rattle.left_right.specs.Sides.{view as known};
+ghost use Rattle.hk_node.specs.declared.op.Op.TheVariants.{Start as StartOf};
+ghost use Rattle.hk_types.specs.declared.faults.Refusal.TheVariants.{Memory};
+ghost use Rattle.hk_node.specs.Replay.{begun, is_legal, join_refusal, refused, replay};
+ghost use Rattle.hk_node.specs.Published.{IsReady, IsReplay, next, queue};
+
+use crate::book::{Counter, NodeName, Prefix};
+use crate::node::Receipt;
+use crate::op::Op;
+use crate::replica::{Logged, Replica};
+use core::mem::replace_with;
+use crossbeam_utils::rule::{Outcome, Protocol};
+use hk_types::{Config, Refusal, Time};
+use left_right::reader::{Reader, Reading};
+use left_right::writer::Writer;
+use std::alloc::{AllocError, Global};
+use std::marker::{Model, PhantomData};
+use std::sync::Wait;
+
+/// The rule: the published list is legal, what is published is its replay, and each view is a prefix of it.
+pub struct Published;
+
+impl Protocol<Replica, Prefix> for Published {
+    ghost use Rattle.hk_node.specs.Published.{Keeps, no_view};
+
+    ghost holds = { Keeps };
+
+    ghost first = { no_view };
+}
+
+/// What entering and publishing tell.
+pub struct Observes;
+
+impl Outcome<Replica, Prefix> for Observes {
+    ghost use Rattle.hk_node.specs.Published.{Sees};
+
+    ghost then = { Sees };
+}
+
+pub type NodeWriter = Writer<Replica, Logged, Prefix, Published>;
+
+pub type NodeReader = Reader<Replica, Prefix, Published>;
+
+pub type NodeReading = Reading<Replica, Prefix, Published>;
+
+/// Shows readers what waits in the writer's log.
+fn show<R: Wait>(writer: NodeWriter, rt: &R) -> (NodeWriter, Result<(), AllocError>)
+    requires { IsReady writer.desk.shown.value (drop writer.behind writer.log.items) }
+    ensures view { IfOk result.1 (λ _. known result.0.desk.place ≡ result.0.desk.shown.value.prefix) }
+    ensures values { MatchResult result.1 (λ _. (result.0.desk.shown.value ≡ fold next writer.desk.shown.value (drop writer.behind writer.log.items)) × (drop result.0.behind result.0.log.items ≡ [])) (λ _. (result.0.desk.shown.value ≡ writer.desk.shown.value) × (drop result.0.behind result.0.log.items ≡ drop writer.behind writer.log.items)) }
+{
+    writer.publish_as::<Observes, R>(rt)
+}
+
+/// Publishes what waits, in the writer's log or beside it.
+fn publish_all<R: Wait>(
+    writer: &mut NodeWriter,
+    late: &mut Option<Logged>,
+    rt: &R,
+) -> Result<(), AllocError>
+    requires { IsReady writer.old.desk.shown.value (queue (drop writer.old.behind writer.old.log.items) late.old) }
+    ensures shown { MatchResult result (λ _. writer.new.desk.shown.value ≡ fold next writer.old.desk.shown.value (queue (drop writer.old.behind writer.old.log.items) late.old)) (λ _. writer.new.desk.shown.value ≡ writer.old.desk.shown.value) }
+    ensures queue { MatchResult result (λ _. queue (drop writer.new.behind writer.new.log.items) late.new ≡ []) (λ _. queue (drop writer.new.behind writer.new.log.items) late.new ≡ queue (drop writer.old.behind writer.old.log.items) late.old) }
+{
+    if let Some(logged) = late.take() {
+        if let Err(logged) = writer.append(logged) {
+            *late = Some(logged);
+            return Err(AllocError);
+        }
+    }
+    if !writer.has_pending_operations() {
+        return Ok(());
+    }
+    replace_with(writer, rt, show::<R>)
+}
+
+/// The writer, with the handle by which its drop waits for the readers.
+pub(crate) struct Copies<R: Wait + Drop> {
+    pub writer: NodeWriter,
+    pub rt: R,
+}
+
+impl<R: Wait + Drop> Drop for Copies<R> {
+    fn drop(self) {
+        let Self { writer, rt } = self;
+        drop(writer.take(&rt));
+    }
+}
+
+/// Makes the log's room, by an operation that changes nothing. No more than two are in it at a time, so later ones find it.
+fn make_room(writer: &mut NodeWriter, config: Config) -> bool
+    requires none { drop writer.old.behind writer.old.log.items ≡ [] }
+    requires replayed { IsReplay writer.old.desk.shown.value }
+    ensures desk { writer.new.desk ≡ writer.old.desk }
+    ensures ready { IsTrue result → IsReady writer.new.desk.shown.value (drop writer.new.behind writer.new.log.items) }
+    ensures same { IsTrue result → fold next writer.new.desk.shown.value (drop writer.new.behind writer.new.log.items) ≡ writer.old.desk.shown.value }
+{
+    let prefix = writer.published().prefix.again();
+    let blank = Logged {
+        op: Op::Start(config),
+        prefix,
+    };
+    writer.append(blank).is_ok()
+}
+
+/// The two copies at the start, with the first published.
+pub(crate) fn copies_of<R: Wait + Drop>(
+    rt: R,
+    alloc: Global,
+    config: Config,
+    prefix: &Prefix,
+    places: usize,
+) -> Result<Copies<R>, Refusal>
+    requires list { prefix.now.1 ≡ StartOf config ∷ [] }
+    requires places { (0 < places) × (places ≤ 64) }
+    ensures shown { IfOk result (λ c. c.writer.desk.shown.value ≡ record { body = begun config; prefix = prefix.now }) }
+    ensures none { IfOk result (λ c. drop c.writer.behind c.writer.log.items ≡ []) }
+    ensures view { IfOk result (λ c. known c.writer.desk.place ≡ prefix.now) }
+    ensures err { IfErr result (λ why. why ≡ Memory) }
+{
+    let one = Replica::new(alloc, config, prefix.again())?;
+    let other = Replica::new(alloc, config, prefix.again())?;
+    let mut writer: NodeWriter = Writer::new(alloc, one, other, places)?;
+    if !make_room(&mut writer, config) {
+        drop(Copies { writer, rt });
+        return Err(Refusal::Memory);
+    }
+    let (writer, shown) = show(writer, &rt);
+    let copies = Copies { writer, rt };
+    shown?;
+    Ok(copies)
+}
+
+/// What lies under the writer's lock. Contracts see it as the published list and what waits.
+#[derive(Drop)]
+pub struct Publisher<J: NodeName, R: Wait + Drop> {
+    copies: Copies<R>,
+    late: Option<Logged>,
+    counter: Counter,
+    of: PhantomData<J>,
+}
+
+impl<J: NodeName, R: Wait + Drop> Model for Publisher<J, R> {
+    ghost use Rattle.std.specs.Prelude.{List, drop};
+    ghost use Rattle.hk_node.specs.declared.op.Op.{Op};
+    ghost use Rattle.std.specs.Coded.{coded×, coded_list};
+    ghost use Rattle.hk_node.specs.contracts.op.Op as op;
+
+    ghost Value = { List Op × List Op };
+
+    ghost coded = { coded× (coded_list op.the_row.coded) (coded_list op.the_row.coded) };
+
+    ghost use Rattle.hk_node.specs.Published.{queue, ops_of, IsPublisher};
+
+    ghost view = { λ d. (d.copies.writer.desk.shown.value.prefix.1, ops_of (queue (drop d.copies.writer.behind d.copies.writer.log.items) d.late)) };
+
+    ghost invariant = { λ d. IsPublisher J.book d.counter.word.book d.copies.writer.desk.shown.value (queue (drop d.copies.writer.behind d.copies.writer.log.items) d.late) };
+}
+
+impl<J: NodeName, R: Wait + Drop> Publisher<J, R> {
+    /// What lies under the lock of a new node.
+    pub(crate) fn new(copies: Copies<R>, counter: Counter, config: Config) -> Publisher<J, R>
+        requires list { copies.writer.desk.shown.value.prefix.1 ≡ StartOf config ∷ [] }
+        requires body { copies.writer.desk.shown.value.body ≡ begun config }
+        requires book { (copies.writer.desk.shown.value.prefix.0 ≡ J.book) × (counter.word.book ≡ J.book) }
+        requires none { drop copies.writer.behind copies.writer.log.items ≡ [] }
+        ensures { result ≡ (StartOf config ∷ [], []) }
+    {
+        Publisher {
+            copies,
+            late: None,
+            counter,
+            of: PhantomData,
+        }
+    }
+
+    /// Publishes what waits. A refusal changes nothing.
+    pub fn publish(&mut self) -> Result<(), AllocError>
+        ensures lists { MatchResult result (λ _. self.new ≡ (self.old.0 ++ self.old.1, [])) (λ _. self.new ≡ self.old) }
+        ensures legal { is_legal (self.old.0 ++ self.old.1) ≡ true }
+    {
+        publish_all(&mut self.copies.writer, &mut self.late, &self.copies.rt)
+    }
+
+    /// What readers take now.
+    fn published(&self) -> &Replica
+        ensures body { result.now.body ≡ replay self.now.0 }
+        ensures prefix { result.now.prefix ≡ (J.book, self.now.0) }
+        ensures legal { is_legal self.now.0 ≡ true }
+    {
+        self.copies.writer.published()
+    }
+
+    /// A receipt of the published list.
+    pub fn receipt(&self) -> Receipt<J>
+        ensures list { result ≡ self.now.0 }
+        ensures legal { is_legal result ≡ true }
+    {
+        Receipt::of(self.published().prefix.again())
+    }
+
+    /// How many holds the published list has.
+    pub fn hold_count(&self) -> u64
+        ensures count { result ≡ (replay self.now.0).hold_count }
+        ensures bound { result ≤ 2 ^ 62 }
+        ensures legal { is_legal self.now.0 ≡ true }
+    {
+        self.published().body.hold_count()
+    }
+
+    /// Whether the published list has a contradiction.
+    pub fn is_damaged(&self) -> bool
+        ensures { result ≡ (replay self.now.0).damaged }
+    {
+        self.published().body.is_damaged()
+    }
+
+    /// Why an operation is refused after the published list, if it is.
+    pub fn refusal(&self, op: &Op) -> Option<Refusal>
+        ensures { result ≡ refused (replay self.now.0) op.now }
+    {
+        self.published().body.refusal(op)
+    }
+
+    /// Why a fragment of this log, this base and this horizon is not joined after the published list, if it is not.
+    pub fn join_refusal(&self, config: Config, base: Time, horizon: Time) -> Option<Refusal>
+        ensures { result ≡ join_refusal (replay self.now.0) config.log config.streams base horizon }
+    {
+        self.published().body.join_refusal(config, base, horizon)
+    }
+
+    /// The published list with one operation more, which the node's list has from now on.
+    pub fn extended(&self, op: &Op) -> Option<Prefix>
+        requires { refused (replay self.now.0) op.now ≡ None }
+        ensures { IfSome result (λ p. p ≡ (J.book, self.now.0 ++ op.now ∷ [])) }
+    {
+        self.published().extended(&self.counter, op)
+    }
+
+    /// Puts an operation behind the published list, to wait.
+    pub fn put(&mut self, op: Op, prefix: Prefix)
+        requires none { self.old.1 ≡ [] }
+        requires legal { refused (replay self.old.0) op ≡ None }
+        requires prefix { prefix ≡ (J.book, self.old.0 ++ op ∷ []) }
+        ensures { self.new ≡ (self.old.0, op ∷ []) }
+    {
+        self.late = Some(Logged { op, prefix });
+    }
+}

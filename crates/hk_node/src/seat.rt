@@ -1,0 +1,270 @@
+//! The seats of readers, which take no lock and never wait.
+
+ghost use Rattle.std.specs.Prelude.{◌≡◌, ◌⊎◌, All, true, length, IfOk, IfErr, IsTrue, vec_len};
+ghost use Rattle.hk_types.specs.declared.faults.Refusal.TheVariants.{Memory};
+ghost use mathlib.Core.List.{IsPrefix};
+ghost use Rattle.left_right.specs.Sides.{view as known};
+ghost use Rattle.hk_node.specs.Carried.{IsOfPrimary};
+ghost use Rattle.hk_node.specs.Holds.{HoldsBack};
+ghost use Rattle.hk_node.specs.Published.{IsOf, IsReplay};
+ghost use Rattle.hk_node.specs.Replay.{is_legal, replay};
+ghost use Rattle.hk_node.specs.Replies.{Answers, Gives, node_delta, node_front, node_reply, node_whole};
+
+use crate::book::{NodeName, Prefix};
+use crate::node::Receipt;
+use crate::publisher::{NodeReader, NodeReading, NodeWriter, Observes};
+use crate::replica::Replica;
+use atomic_table::{Join, Split};
+use hk_delta::Fragment;
+use hk_model::{Answer, Front, Query};
+use hk_types::{Refusal, Time};
+use std::alloc::{AllocError, Global};
+use std::marker::{Model, PhantomData};
+
+/// How the writer tells a new seat what was published.
+pub struct Informs;
+
+impl Split<Prefix> for Informs {
+    ghost left = { λ v. v };
+
+    ghost right = { λ v. v };
+}
+
+impl Join<Prefix> for Informs {
+    ghost use Rattle.hk_node.specs.Published.{no_view};
+
+    ghost both = { λ v w. w };
+
+    ghost spent = { no_view };
+}
+
+/// A seat that has seen what was published.
+fn seat_of<J: NodeName>(
+    writer: &mut NodeWriter,
+    prefix: &Prefix,
+    alloc: Global,
+) -> Result<ReaderSeat<J>, AllocError>
+    requires prefix { known writer.old.desk.place ≡ prefix.now }
+    requires node { IsOf J.book prefix.now }
+    ensures seat { IfOk result (λ seat. seat ≡ prefix.now.1) }
+    ensures kept { (writer.new.desk.shown ≡ writer.old.desk.shown) × (writer.new.log ≡ writer.old.log) × (writer.new.behind ≡ writer.old.behind) × (known writer.new.desk.place ≡ known writer.old.desk.place) }
+{
+    let mut reader = writer.factory().reader()?;
+    reader.learn::<Informs>(writer.tell::<Informs>());
+    Ok(ReaderSeat::new(reader, prefix.again(), alloc))
+}
+
+/// So many seats that have seen what was published.
+pub(crate) fn seats_of<J: NodeName>(
+    writer: &mut NodeWriter,
+    prefix: &Prefix,
+    alloc: Global,
+    places: usize,
+) -> Result<Vec<ReaderSeat<J>>, AllocError>
+    requires prefix { known writer.old.desk.place ≡ prefix.now }
+    requires node { IsOf J.book prefix.now }
+    ensures seats { IfOk result (λ v. (vec_len v ≡ places) × All (λ seat. seat ≡ prefix.now.1) v.items) }
+    ensures kept { (writer.new.desk.shown ≡ writer.old.desk.shown) × (writer.new.log ≡ writer.old.log) × (writer.new.behind ≡ writer.old.behind) × (known writer.new.desk.place ≡ known writer.old.desk.place) }
+{
+    let mut seats = Vec::new(alloc);
+    for _i in 0..places {
+        seats.push(seat_of::<J>(writer, prefix, alloc)?)?;
+    }
+    Ok(seats)
+}
+
+/// A reader's seat. Contracts see it as the list of operations that it has seen or was told of.
+///
+/// A call that reads takes the copy that was published last, takes no lock of the node and waits for nobody, and holds
+/// no copy after it. `Memory` comes too where the seat could not enter, before every other test: so it is once the node
+/// is gone.
+#[derive(Drop)]
+pub struct ReaderSeat<J: NodeName> {
+    reader: Option<NodeReader>,
+    prefix: Prefix,
+    alloc: Global,
+    of: PhantomData<J>,
+}
+
+impl<J: NodeName> Model for ReaderSeat<J> {
+    ghost use Rattle.std.specs.Prelude.{◌≡◌, List, MatchOption};
+    ghost use Rattle.left_right.specs.Sides.{view as known};
+    ghost use Rattle.hk_node.specs.declared.op.Op.{Op};
+    ghost use Rattle.std.specs.Coded.{coded_list};
+    ghost use Rattle.hk_node.specs.contracts.op.Op as op;
+
+    ghost Value = { List Op };
+
+    ghost coded = { coded_list op.the_row.coded };
+
+    ghost use Rattle.hk_node.specs.Published.{IsOf};
+
+    ghost view = { λ s. s.prefix.1 };
+
+    ghost invariant = { λ s. (s.prefix.0 ≡ J.book) × MatchOption s.reader (Unit {0}) (λ r. IsOf J.book (known r.place)) };
+}
+
+/// Takes in what a copy has seen, where it is no older than what was seen.
+fn look(copy: &Replica, prefix: &mut Prefix) -> bool
+    requires node { copy.now.prefix.0 ≡ prefix.old.0 }
+    ensures node { prefix.new.0 ≡ prefix.old.0 }
+    ensures seen { IsPrefix prefix.old.1 prefix.new.1 }
+    ensures legal { is_legal prefix.new.1 ≡ true }
+    ensures copy { IsTrue result → prefix.new.1 ≡ copy.now.prefix.1 }
+{
+    let _ops = prefix.len();
+    if !prefix.compare(&copy.prefix) {
+        return false;
+    }
+    *prefix = copy.prefix.again();
+    true
+}
+
+impl<J: NodeName> ReaderSeat<J> {
+    pub(crate) fn new(reader: NodeReader, prefix: Prefix, alloc: Global) -> ReaderSeat<J>
+        requires node { prefix.0 ≡ J.book }
+        requires reader { IsOf J.book (known reader.place) }
+        ensures { result ≡ prefix.1 }
+    {
+        ReaderSeat {
+            reader: Some(reader),
+            prefix,
+            alloc,
+            of: PhantomData,
+        }
+    }
+
+    /// Takes the copy that was published last, and takes in what it has seen.
+    fn enter(&mut self) -> Result<NodeReading, Refusal>
+        ensures legal { is_legal self.new ≡ true }
+        ensures seen { IsPrefix self.old self.new }
+        ensures body { IfOk result (λ r. r.part.value.body ≡ replay self.new) }
+        ensures place { IfOk result (λ r. IsOf J.book (known r.place)) }
+        ensures err { IfErr result (λ why. why ≡ Memory) }
+    {
+        let _ops = self.prefix.len();
+        let Some(reader) = self.reader.take() else {
+            return Err(Refusal::Memory);
+        };
+        match reader.enter_as::<Observes>() {
+            Ok(reading) => {
+                if look(reading.get(), &mut self.prefix) {
+                    return Ok(reading);
+                }
+                self.reader = Some(reading.leave());
+                Err(Refusal::Memory)
+            }
+            Err(reader) => {
+                self.reader = Some(reader);
+                Err(Refusal::Memory)
+            }
+        }
+    }
+
+    /// Gives the copy back.
+    fn leave(&mut self, reading: NodeReading)
+        requires { IsOf J.book (known reading.place) }
+        ensures { self.new ≡ self.old }
+    {
+        self.reader = Some(reading.leave());
+    }
+
+    fn reply(&mut self, time: Time, query: &Query) -> Result<Answer, Refusal>
+        ensures legal { is_legal self.new ≡ true }
+        ensures seen { IsPrefix self.old self.new }
+        ensures answer { Answers (node_reply (replay self.new) time query.now) result }
+    {
+        let reading = self.enter()?;
+        let answer = reading.get().body.ask(self.alloc, time, query);
+        self.leave(reading);
+        answer
+    }
+
+    fn delta(&mut self, base: Time) -> Result<Fragment, Refusal>
+        ensures legal { is_legal self.new ≡ true }
+        ensures seen { IsPrefix self.old self.new }
+        ensures delta { Gives (node_delta (replay self.new) base) result }
+    {
+        let reading = self.enter()?;
+        let delta = reading.get().body.delta_since(self.alloc, base);
+        self.leave(reading);
+        delta
+    }
+
+    /// What the node answers to a query at a time, from a list of operations that begins with all that was seen.
+    ///
+    /// Refusals in order: `Damaged` where the node met a contradiction; then as a state's: `TooOld` below the horizon,
+    /// `NotYet` above the readable mark, `Memory`. Costs as asking a state does.
+    pub fn ask(&mut self, time: Time, query: &Query) -> Result<Answer, Refusal>
+        ensures legal { is_legal self.new ≡ true }
+        ensures seen { IsPrefix self.old self.new }
+        ensures answer { Answers (node_reply (replay self.new) time query.now) result }
+
+        // A time that is held is too old only where the hold was released.
+        ensures held { HoldsBack self.new time result }
+        ensures primary { IsOfPrimary self.new time query.now result }
+    {
+        self.reply(time, query)
+    }
+
+    /// From where to where the node can be read. Refusals in order: `Damaged`, `Memory`. Costs by the streams.
+    pub fn front(&mut self) -> Result<Front, Refusal>
+        ensures legal { is_legal self.new ≡ true }
+        ensures seen { IsPrefix self.old self.new }
+        ensures front { Gives (node_front (replay self.new)) result }
+    {
+        let reading = self.enter()?;
+        let front = reading.get().body.front();
+        self.leave(reading);
+        front
+    }
+
+    /// What the node holds that a replica may lack which is readable up to the base.
+    ///
+    /// Refusals in order: `Damaged`; `TooOld` where the base is below the horizon; `Memory`. Costs as the delta of a
+    /// state does.
+    pub fn delta_since(&mut self, base: Time) -> Result<Fragment, Refusal>
+        ensures legal { is_legal self.new ≡ true }
+        ensures seen { IsPrefix self.old self.new }
+        ensures delta { Gives (node_delta (replay self.new) base) result }
+
+        // A base that is held is too old only where the hold was released.
+        ensures held { HoldsBack self.new base result }
+    {
+        self.delta(base)
+    }
+
+    /// All that the node holds, as a fragment of base 0. Refusals in order: `Damaged`, `Memory`. Costs by what is held,
+    /// which is copied.
+    pub fn whole(&mut self) -> Result<Fragment, Refusal>
+        ensures legal { is_legal self.new ≡ true }
+        ensures seen { IsPrefix self.old self.new }
+        ensures whole { Gives (node_whole (replay self.new)) result }
+    {
+        let reading = self.enter()?;
+        let whole = reading.get().body.whole(self.alloc);
+        self.leave(reading);
+        whole
+    }
+
+    /// Takes in what a receipt of the same node tells: the longer of two lists of which one begins the other. It takes
+    /// no memory.
+    pub fn learn(&mut self, receipt: Receipt<J>)
+        ensures one { (self.new ≡ self.old) ⊎ (self.new ≡ receipt) }
+        ensures seen { IsPrefix self.old self.new }
+        ensures told { IsPrefix receipt self.new }
+    {
+        let told = receipt.into_prefix();
+        if self.prefix.compare(&told) {
+            self.prefix = told;
+        }
+    }
+
+    /// How many operations it has seen or was told of. It takes no memory.
+    pub fn seen(&self) -> u64
+        ensures length { result ≡ length self.now }
+        ensures legal { is_legal self.now ≡ true }
+    {
+        self.prefix.len()
+    }
+}

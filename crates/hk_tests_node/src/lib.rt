@@ -1,0 +1,5 @@
+//! Tests of the running node.
+#![tactic(auto)]
+
+#[cfg(test)]
+mod tests;

@@ -1,0 +1,125 @@
+//! Readers beside one writer.
+
+ghost use Rattle.std.specs.Prelude.{◌≡◌};
+
+use super::*;
+
+#[test]
+fn readers_beside_a_writer(rt: HostRuntime) -> Result<(), Fail> {
+    let alloc = rt.alloc();
+    fronts::<Brand, _>(&rt, alloc, NewList::new(config()?))?;
+    keys::<Brand, _>(&rt, alloc, NewList::new(config()?))
+}
+
+/// A reader asks its front a thousand times, while three entries and a mark are joined one by one.
+fn fronts<J: NodeName + Send + Sync, R: Threads + Wait + Abort + Sync>(
+    rt: &R,
+    alloc: Global,
+    list: NewList,
+) -> Result<(), Fail>
+    requires { list.0 ≡ J.book }
+{
+    let (node, mut seats) = start::<J, &R>(rt, alloc, list, 1)?;
+    let seat = seats.pop().ok_or("seat")?;
+    let node = &node;
+    let (wrote, read) = thread::join(
+        rt,
+        move || joins_all(rt, alloc, node),
+        move || reads_fronts(seat),
+    );
+    wrote?;
+    assert!(rt; read);
+    Ok(())
+}
+
+fn joins_all<J: NodeName, R: Wait, S: Wait + Drop>(
+    rt: &R,
+    alloc: Global,
+    node: &Node<J, S>,
+) -> Result<(), Fail> {
+    for number in 1..=4 {
+        node.join(rt, fragment(alloc, &[number])?)?;
+    }
+    Ok(())
+}
+
+fn reads_fronts<J: NodeName>(mut seat: ReaderSeat<J>) -> bool {
+    for _ in 0..1000u64 {
+        let before = seat.seen();
+        let Ok((0, 0 | 3)) = front(&mut seat) else {
+            return false;
+        };
+        if seat.seen() < before {
+            return false;
+        }
+    }
+    true
+}
+
+/// Four readers ask for key 5, while a thousand entries that put it are joined one by one.
+fn keys<J: NodeName + Send + Sync, R: Threads + Wait + Abort + Sync>(
+    rt: &R,
+    alloc: Global,
+    list: NewList,
+) -> Result<(), Fail>
+    requires { list.0 ≡ J.book }
+{
+    let (node, mut seats) = start::<J, &R>(rt, alloc, list, 4)?;
+    let one = seats.pop().ok_or("seat")?;
+    let two = seats.pop().ok_or("seat")?;
+    let three = seats.pop().ok_or("seat")?;
+    let four = seats.pop().ok_or("seat")?;
+    let node = &node;
+    let (wrote, read) = thread::join(
+        rt,
+        move || joins_each(rt, alloc, node),
+        move || {
+            let (left, right) = thread::join(
+                rt,
+                move || thread::join(rt, move || reads_keys(one), move || reads_keys(two)),
+                move || thread::join(rt, move || reads_keys(three), move || reads_keys(four)),
+            );
+            left.0 && left.1 && right.0 && right.1
+        },
+    );
+    wrote?;
+    assert!(rt; read);
+    Ok(())
+}
+
+fn joins_each<J: NodeName, R: Wait, S: Wait + Drop>(
+    rt: &R,
+    alloc: Global,
+    node: &Node<J, S>,
+) -> Result<(), Fail> {
+    for number in 1..=1000u64 {
+        let items = vec![in alloc;
+            entry(alloc, number, 5, number - 1, number as u16)?,
+            mark(number)?,
+        ]?;
+        node.join(rt, fragment_of(alloc, config()?, &items)?)?;
+    }
+    Ok(())
+}
+
+/// The list that was seen says how far the node is readable, and the body at each time.
+fn reads_keys<J: NodeName>(mut seat: ReaderSeat<J>) -> bool {
+    for _ in 0..100_000u64 {
+        let Ok((0, readable)) = front(&mut seat) else {
+            return false;
+        };
+        if seat.seen().checked_sub(1) != Some(readable) {
+            return false;
+        }
+        let Ok(found) = body(&mut seat, 5, readable) else {
+            return false;
+        };
+        if u64::from(found) != readable {
+            return false;
+        }
+        if readable == 1000 {
+            return true;
+        }
+    }
+    true
+}
