@@ -66,125 +66,105 @@ fn prints_numbers(rt: HostRuntime) -> Result<(), Fail> {
     Ok(())
 }
 
+/// The faults, in the order of their numbers, which begin at 1.
+const FAULTS: [FormFault; 10] = [
+    FormFault::Truncated,
+    FormFault::TooLong,
+    FormFault::BadVersion,
+    FormFault::BadKind,
+    FormFault::BadStream,
+    FormFault::BadNumber,
+    FormFault::BadOrder,
+    FormFault::BadCount,
+    FormFault::BadBody,
+    FormFault::WrongLength,
+];
+
+/// What they are printed as.
+const FAULT_TEXTS: [&str; 10] = [
+    "the input ends inside a frame",
+    "the length is above its limit",
+    "the version is not 1",
+    "the kind has no meaning here",
+    "a stream is outside 1 to 64",
+    "a number is outside its range",
+    "a list does not rise strictly",
+    "a count is above its limit, or both lists are empty",
+    "a body is above 4,096 bytes",
+    "a field does not fit, or bytes are left",
+];
+
 #[test]
-fn prints_each_fault_and_refusal(rt: HostRuntime) -> Result<(), Fail> {
-    let alloc = rt.alloc();
+fn prints_each_fault(rt: HostRuntime) -> Result<(), Fail> {
+    for (number, (fault, text)) in (1u8..).zip(FAULTS.iter().zip(FAULT_TEXTS)) {
+        let refusal = Refusal::Form(*fault);
+        assert_eq!(rt; refusal.number(), number);
+        assert_eq!(rt; format!(in rt.alloc(); "{refusal}")?.as_str(), text);
+    }
+    Ok(())
+}
+
+/// The refusal of a number, with table 1, key 5, the times 2, 6 and 9, reader 3 and 8 operations; `Memory` for others.
+fn refusal_of(number: u8) -> Result<Refusal, Fail> {
     let (table, key, at) = (Table::new(1), Key::new(5), Time::new(2)?);
     let (base, readable) = (Time::new(9)?, Time::new(6)?);
-    for (refusal, number, text) in [
-        (
-            Refusal::Form(FormFault::Truncated),
-            1,
-            "the input ends inside a frame",
-        ),
-        (
-            Refusal::Form(FormFault::TooLong),
-            2,
-            "the length is above its limit",
-        ),
-        (
-            Refusal::Form(FormFault::BadVersion),
-            3,
-            "the version is not 1",
-        ),
-        (
-            Refusal::Form(FormFault::BadKind),
-            4,
-            "the kind has no meaning here",
-        ),
-        (
-            Refusal::Form(FormFault::BadStream),
-            5,
-            "a stream is outside 1 to 64",
-        ),
-        (
-            Refusal::Form(FormFault::BadNumber),
-            6,
-            "a number is outside its range",
-        ),
-        (
-            Refusal::Form(FormFault::BadOrder),
-            7,
-            "a list does not rise strictly",
-        ),
-        (
-            Refusal::Form(FormFault::BadCount),
-            8,
-            "a count is above its limit, or both lists are empty",
-        ),
-        (
-            Refusal::from(FormFault::BadBody),
-            9,
-            "a body is above 4,096 bytes",
-        ),
-        (
-            Refusal::Form(FormFault::WrongLength),
-            10,
-            "a field does not fit, or bytes are left",
-        ),
-        (Refusal::ForeignLog, 20, "another log"),
-        (
-            Refusal::WrongStreams,
-            21,
-            "a stream above the configured number, or another number of streams",
-        ),
-        (
-            Refusal::Gap { base, readable },
-            22,
-            "a gap: base 9, readable 6",
-        ),
-        (Refusal::Conflict, 23, "a contradiction"),
-        (
-            Refusal::AheadOfMark { readable },
-            24,
-            "above the readable mark 6",
-        ),
-        (Refusal::TooOld { horizon: at }, 25, "below the horizon 2"),
-        (
-            Refusal::NotYet { readable },
-            26,
-            "above the readable mark 6",
-        ),
-        (
-            Refusal::WriteConflict { table, key, at },
-            30,
-            "table 1 key 5 was written at 2",
-        ),
-        (
-            Refusal::NoRow { table, key },
-            31,
-            "table 1 key 5 has no row",
-        ),
-        (
-            Refusal::TwiceWritten,
-            32,
-            "the transaction wrote the key already",
-        ),
-        (
-            Refusal::TooManyWrites,
-            33,
-            "the transaction has 1,024 writes already",
-        ),
-        (Refusal::NoStream, 34, "no such stream"),
-        (Refusal::ClockFull, 35, "the last time is given out"),
-        (Refusal::Held { reader: 3, at }, 40, "reader 3 holds 2"),
-        (Refusal::Damaged, 41, "the node met a contradiction"),
-        (
-            Refusal::Unpublished { ops: 8 },
-            42,
-            "not yet published: operation 8",
-        ),
-        (
-            Refusal::NodeFull,
-            43,
-            "the node has all operations that it can have",
-        ),
-        (Refusal::NoHold, 44, "no such hold"),
-        (Refusal::NoSuch, 45, "no such replica or item"),
-        (Refusal::Memory, 90, "out of memory"),
-    ] {
+    Ok(match number {
+        20 => Refusal::ForeignLog,
+        21 => Refusal::WrongStreams,
+        22 => Refusal::Gap { base, readable },
+        23 => Refusal::Conflict,
+        24 => Refusal::AheadOfMark { readable },
+        25 => Refusal::TooOld { horizon: at },
+        26 => Refusal::NotYet { readable },
+        30 => Refusal::WriteConflict { table, key, at },
+        31 => Refusal::NoRow { table, key },
+        32 => Refusal::TwiceWritten,
+        33 => Refusal::TooManyWrites,
+        34 => Refusal::NoStream,
+        35 => Refusal::ClockFull,
+        40 => Refusal::Held { reader: 3, at },
+        41 => Refusal::Damaged,
+        42 => Refusal::Unpublished { ops: 8 },
+        43 => Refusal::NodeFull,
+        44 => Refusal::NoHold,
+        45 => Refusal::NoSuch,
+        _ => Refusal::Memory,
+    })
+}
+
+/// The numbers of refusals, and what these are printed as.
+const REFUSALS: [(u8, &str); 20] = [
+    (20, "another log"),
+    (
+        21,
+        "a stream above the configured number, or another number of streams",
+    ),
+    (22, "a gap: base 9, readable 6"),
+    (23, "a contradiction"),
+    (24, "above the readable mark 6"),
+    (25, "below the horizon 2"),
+    (26, "above the readable mark 6"),
+    (30, "table 1 key 5 was written at 2"),
+    (31, "table 1 key 5 has no row"),
+    (32, "the transaction wrote the key already"),
+    (33, "the transaction has 1,024 writes already"),
+    (34, "no such stream"),
+    (35, "the last time is given out"),
+    (40, "reader 3 holds 2"),
+    (41, "the node met a contradiction"),
+    (42, "not yet published: operation 8"),
+    (43, "the node has all operations that it can have"),
+    (44, "no such hold"),
+    (45, "no such replica or item"),
+    (90, "out of memory"),
+];
+
+#[test]
+fn prints_each_refusal(rt: HostRuntime) -> Result<(), Fail> {
+    for (number, text) in REFUSALS {
+        let refusal = refusal_of(number)?;
         assert_eq!(rt; refusal.number(), number);
-        assert_eq!(rt; format!(in alloc; "{refusal}")?.as_str(), text);
+        assert_eq!(rt; format!(in rt.alloc(); "{refusal}")?.as_str(), text);
     }
     Ok(())
 }
