@@ -1,6 +1,5 @@
 mod chains;
 mod frames;
-mod indexes;
 mod items;
 mod numbers;
 mod streams;

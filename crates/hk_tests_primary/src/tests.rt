@@ -1,6 +1,5 @@
 //! A primary of log 7 with two streams, and worlds, with what they tell written out.
 
-mod asking;
 mod committing;
 mod emitting;
 mod sharing;

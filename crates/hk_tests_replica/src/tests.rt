@@ -3,5 +3,4 @@ mod gathering;
 mod joins;
 mod merging;
 mod played;
-mod queries;
 mod states;

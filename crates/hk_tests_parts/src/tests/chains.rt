@@ -1,7 +1,7 @@
 //! Chains of versions.
 
-use hk_facts::{Chain, Fact, Keyed, Part};
-use hk_types::{Key, Refusal, Row, Tag, Time};
+use hk_facts::{Fact, Keyed, Part};
+use hk_types::{Key, Row, Tag, Time};
 use std::alloc::{AllocError, Global};
 use std::test::Fail;
 
@@ -15,57 +15,6 @@ fn row(alloc: Global, byte: u8) -> Result<Row, AllocError> {
         Ok(row) => Ok(row),
         Err(_) => Err(AllocError),
     }
-}
-
-/// The byte of the row at a time, and 0 where there is no row.
-fn byte_at(chain: &Chain, at: u64) -> Result<u8, Fail> {
-    Ok(
-        chain
-            .at(time(at)?)
-            .and_then(|row| row.body().first())
-            .copied()
-            .unwrap_or(0),
-    )
-}
-
-#[test]
-fn a_contradiction_changes_nothing(rt: HostRuntime) -> Result<(), Fail> {
-    let mut chain = Chain::new(rt.alloc());
-    chain.put_row(time(1)?, row(rt.alloc(), 0x41)?)?;
-    chain.put_end(time(1)?, time(3)?)?;
-    let again = chain.put_row(time(1)?, row(rt.alloc(), 0x41)?);
-    assert_eq!(rt; again, Ok(()));
-    let other_row = chain.put_row(time(1)?, row(rt.alloc(), 0x99)?);
-    assert_eq!(rt; other_row, Err(Refusal::Conflict));
-    let other_end = chain.put_end(time(1)?, time(4)?);
-    assert_eq!(rt; other_end, Err(Refusal::Conflict));
-    assert_eq!(rt; byte_at(&chain, 2)?, 0x41);
-    assert_eq!(rt; byte_at(&chain, 3)?, 0);
-    Ok(())
-}
-
-#[test]
-fn versions_that_end_by_the_time_are_dropped(rt: HostRuntime) -> Result<(), Fail> {
-    let mut chain = Chain::new(rt.alloc());
-    for (born, died) in [(1, 4), (2, 5), (3, 6)] {
-        chain.put_row(time(born)?, row(rt.alloc(), 0x41)?)?;
-        chain.put_end(time(born)?, time(died)?)?;
-    }
-    chain.put_row(time(4)?, row(rt.alloc(), 0x42)?)?;
-    let mut copy = chain.copy(rt.alloc())?;
-    copy.drop_until(time(5)?);
-    assert_eq!(rt; chain.len(), 4);
-    assert!(rt; copy.version(time(1)?).is_none());
-    assert!(rt; copy.version(time(2)?).is_none());
-    assert!(rt; copy.version(time(3)?).is_some());
-    assert!(rt; copy.version(time(4)?).is_some());
-    copy.remove(time(3)?);
-    let mut births = Vec::new(rt.alloc());
-    for (born, _version) in copy.iter() {
-        births.push(born.number())?;
-    }
-    assert_eq!(rt; births.as_slice(), [4].as_slice());
-    Ok(())
 }
 
 #[test]

@@ -1,8 +1,8 @@
 //! The worked frames.
 
-use hk_codec::{Cursor, Feeder, decode_all, encode, frame_rest, put_body};
+use hk_codec::{Cursor, decode_all, encode, frame_rest, put_body};
 use hk_log::{Entry, Item, Mark};
-use hk_types::{FormFault, Key, Refusal, Row, StreamNo, Table, Tag, Time, VersionKey};
+use hk_types::{FormFault, Key, Row, StreamNo, Table, Tag, Time, VersionKey};
 use std::alloc::Global;
 use std::test::*;
 
@@ -30,11 +30,6 @@ const MARK_2: [u8; 32] = [
     0, 0, 0, 0x1c, 1, 2, 0, 0, 0, 0, 0, 0, 0, 7, 0, 1, 0, 0, 0, 0, 0, 0, 0, 2, 0, 0, 0, 0, 0, 0, 0,
     2,
 ];
-
-/// The number of the refusal, or 0.
-fn refused<T: Drop>(outcome: Result<T, Refusal>) -> u8 {
-    outcome.err().map_or(0, |refusal| refusal.number())
-}
 
 fn row(alloc: Global, body: &[u8]) -> Result<Row, Fail> {
     let body = Vec::from_slice(alloc, body)?;
@@ -81,15 +76,6 @@ fn stream(alloc: Global) -> Result<Vec<u8>, Fail> {
     Ok(bytes)
 }
 
-/// The bytes with another one at a place.
-fn patched(alloc: Global, bytes: &[u8], at: usize, byte: u8) -> Result<Vec<u8>, Fail> {
-    let mut bytes = Vec::from_slice(alloc, bytes)?;
-    if at < bytes.len() {
-        bytes[at] = byte;
-    }
-    Ok(bytes)
-}
-
 #[test]
 fn spells_and_reads_the_worked_frames(rt: HostRuntime) -> Result<(), Fail> {
     let alloc = rt.alloc();
@@ -106,48 +92,6 @@ fn spells_and_reads_the_worked_frames(rt: HostRuntime) -> Result<(), Fail> {
     assert_eq!(rt; bytes.as_slice(), stream(alloc)?.as_slice());
     assert!(rt; decode_all(alloc, &bytes)? == worked(alloc)?);
     assert!(rt; decode_all(alloc, &[])?.is_empty());
-    Ok(())
-}
-
-#[test]
-fn reads_the_same_items_however_cut(rt: HostRuntime) -> Result<(), Fail> {
-    let alloc = rt.alloc();
-    let bytes = stream(alloc)?;
-    let want = worked(alloc)?;
-    for cut in 0..bytes.len() {
-        let (first, second) = bytes.split_at(cut);
-        let mut feeder = Feeder::new(alloc);
-        let mut items = Vec::new(alloc);
-        feeder.feed(first, &mut items)?;
-        feeder.feed(second, &mut items)?;
-        feeder.finish()?;
-        assert!(rt; items == want, "cut at {cut}");
-    }
-    let mut feeder = Feeder::new(alloc);
-    let mut items = Vec::new(alloc);
-    for byte in &bytes {
-        feeder.feed(&[*byte], &mut items)?;
-    }
-    feeder.finish()?;
-    assert!(rt; items == want);
-    Ok(())
-}
-
-#[test]
-fn keeps_the_items_before_a_fault_and_the_fault(rt: HostRuntime) -> Result<(), Fail> {
-    let alloc = rt.alloc();
-    let mut feeder = Feeder::new(alloc);
-    let mut items = Vec::new(alloc);
-    let mut bytes = Vec::from_slice(alloc, &E1)?;
-    bytes.extend_from_slice(&patched(alloc, &E2, 4, 2)?)?;
-    bytes.extend_from_slice(&MARK_2)?;
-    assert_eq!(rt; refused(feeder.feed(&bytes, &mut items)), 3);
-    assert_eq!(rt; items.len(), 1);
-    assert_eq!(rt; refused(feeder.feed(&E1, &mut items)), 3);
-    assert_eq!(rt; refused(feeder.feed(&[], &mut items)), 3);
-    assert_eq!(rt; items.len(), 1);
-    assert_eq!(rt; refused(feeder.finish()), 3);
-    assert_eq!(rt; refused(decode_all(alloc, &bytes)), 3);
     Ok(())
 }
 

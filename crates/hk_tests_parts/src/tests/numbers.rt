@@ -1,43 +1,7 @@
-//! Bodies, orders and printed words.
+//! Orders and printed words.
 
-use hk_types::{
-    FormFault, Key, LAST_TIME, MOST_BODY_BYTES, Refusal, Row, StreamNo, Table, Tag, Time,
-    VersionKey,
-};
-use std::alloc::Global;
+use hk_types::{FormFault, Key, Refusal, StreamNo, Table, Tag, Time, VersionKey};
 use std::test::*;
-
-fn bytes(alloc: Global, count: u16) -> Result<Vec<u8>, Fail> {
-    let mut bytes = Vec::new(alloc);
-    for _ in 0..count {
-        bytes.push(0x41)?;
-    }
-    Ok(bytes)
-}
-
-#[test]
-fn tests_the_edges_of_bodies(rt: HostRuntime) -> Result<(), Fail> {
-    let alloc = rt.alloc();
-    assert_eq!(rt; MOST_BODY_BYTES, 4_096);
-    for count in [0, 1, 4_096] {
-        match Row::new(Tag::new(9), bytes(alloc, count)?) {
-            Ok(row) => {
-                assert_eq!(rt; row.tag().number(), 9);
-                assert_eq!(rt; row.body().len(), usize::from(count));
-                assert!(rt; row.copy(alloc)? == row);
-            }
-            Err((_body, _fault)) => assert!(rt; false, "a body of {count} bytes"),
-        }
-    }
-    match Row::new(Tag::new(9), bytes(alloc, 4_097)?) {
-        Ok(_row) => assert!(rt; false, "a body of 4,097 bytes"),
-        Err((body, fault)) => {
-            assert_eq!(rt; body.len(), 4_097);
-            assert_eq!(rt; fault.number(), 9);
-        }
-    }
-    Ok(())
-}
 
 #[test]
 fn orders_version_keys_by_their_fields(rt: HostRuntime) -> Result<(), Fail> {

@@ -32,28 +32,6 @@ fn mark(rt: &impl Abort, got: &mut Got, stream: u16, n: u64, m: u64) -> Result<(
 }
 
 #[test]
-fn a_raise_frees_what_it_reaches(rt: HostRuntime) -> Result<(), Fail> {
-    let mut got = Got::new(rt.alloc(), Config::new(7, 1)?)?;
-    for number in [4, 6, 7, 9] {
-        take(&rt, &mut got, 1, number)?;
-    }
-    mark(&rt, &mut got, 1, 7, 20)?;
-    mark(&rt, &mut got, 1, 9, 30)?;
-    let s = known(&rt, &got, 1)?;
-    got.raise(s, 5, Time::new(12)?)?;
-    let s = known(&rt, &got, 1)?;
-    assert_eq!(rt; got.prefix(s), 7);
-    assert_eq!(rt; got.closed(s).number(), 20);
-    assert!(rt; got.has(s, 9));
-    assert!(rt; !got.has(s, 8));
-    got.raise(s, 2, Time::new(25)?)?;
-    let s = known(&rt, &got, 1)?;
-    assert_eq!(rt; got.prefix(s), 7);
-    assert_eq!(rt; got.closed(s).number(), 25);
-    Ok(())
-}
-
-#[test]
 fn two_views_fill_each_others_gaps(rt: HostRuntime) -> Result<(), Fail> {
     let mut one = Got::new(rt.alloc(), Config::new(7, 2)?)?;
     let mut other = Got::new(rt.alloc(), Config::new(7, 2)?)?;

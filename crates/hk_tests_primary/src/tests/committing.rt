@@ -1,6 +1,6 @@
 //! Commits, and why they are refused.
 
-use super::{Outcome, Write, commit, time, transaction, two_streams, write};
+use super::{Outcome, Write, commit, time, transaction};
 use hk_primary::Primary;
 use hk_types::{Config, LAST_TIME};
 use std::alloc::Global;
@@ -29,55 +29,6 @@ fn plays(rt: &HostRuntime, primary: &mut Primary, calls: &[Call<'_>]) -> Result<
         }
     }
     Ok(true)
-}
-
-#[test]
-fn the_first_committer_wins(rt: HostRuntime) -> Result<(), Fail> {
-    let mut primary = two_streams(rt.alloc())?;
-    let calls: [Call<'_>; 7] = [
-        (0, 1, &[(5, 0x41)], (0, 0, 1), 1),
-        (1, 2, &[(5, 0x42)], (0, 0, 2), 2),
-        (1, 1, &[(5, 0x43)], (30, 5, 2), 2),
-        (1, 1, &[], (0, 0, 0), 2),
-        (2, 1, &[(9, 0)], (31, 9, 0), 2),
-        (2, 1, &[(5, 0), (9, 0)], (31, 9, 0), 2),
-        (1, 1, &[(6, 0x44)], (0, 0, 3), 3),
-    ];
-    assert!(rt; plays(&rt, &mut primary, &calls)?);
-    assert_eq!(rt; primary.last().number(), 3);
-    Ok(())
-}
-
-#[test]
-fn the_first_refusal_is_told(rt: HostRuntime) -> Result<(), Fail> {
-    let mut primary = two_streams(rt.alloc())?;
-    let calls: [Call<'_>; 8] = [
-        (0, 1, &[(5, 0x41), (6, 0x41)], (0, 0, 1), 1),
-        (1, 2, &[(5, 0), (6, 0x42)], (0, 0, 2), 2),
-        (0, 1, &[(4, 0), (6, 0x43), (7, 0)], (30, 6, 2), 2),
-        (2, 1, &[(4, 0), (5, 0)], (31, 4, 0), 2),
-        (0, 2, &[(5, 0x43)], (30, 5, 2), 2),
-        (3, 3, &[(4, 0)], (34, 0, 0), 2),
-        (3, 2, &[(4, 0)], (26, 0, 2), 2),
-        (3, 2, &[], (26, 0, 2), 2),
-    ];
-    assert!(rt; plays(&rt, &mut primary, &calls)?);
-    Ok(())
-}
-
-#[test]
-fn a_refused_transaction_is_used_again(rt: HostRuntime) -> Result<(), Fail> {
-    let mut primary = two_streams(rt.alloc())?;
-    let txn = transaction(rt.alloc(), 0, &[(5, 0x41)])?;
-    let (told, back) = commit(&mut primary, txn, 3)?;
-    assert_eq!(rt; told, (34, 0, 0));
-    let Some(mut txn) = back else {
-        return Ok(());
-    };
-    assert_eq!(rt; write(rt.alloc(), &mut txn, (6, 0x42))?, 0);
-    assert_eq!(rt; commit(&mut primary, txn, 2)?.0, (0, 0, 1));
-    assert_eq!(rt; primary.item_count(), 1);
-    Ok(())
 }
 
 #[test]

@@ -2,7 +2,7 @@
 
 use super::{commit, row, stream, time, transaction, two_streams};
 use hk_log::{Entry, Item};
-use hk_primary::{Primary, RowKey};
+use hk_primary::Primary;
 use hk_types::{Key, Table, VersionKey};
 use std::alloc::Global;
 use std::test::Fail;
@@ -62,15 +62,6 @@ fn emitted(alloc: Global) -> Result<Vec<Item>, Fail> {
     Ok(items)
 }
 
-#[test]
-fn entries_have_rows_and_ends(rt: HostRuntime) -> Result<(), Fail> {
-    let primary = busy(rt.alloc())?;
-    let wanted = emitted(rt.alloc())?;
-    assert_eq!(rt; primary.log(), wanted.as_slice());
-    assert_eq!(rt; primary.items(0)?, wanted);
-    Ok(())
-}
-
 fn rest(items: &[Item], skipped: usize) -> &[Item] {
     if skipped > items.len() {
         return &[];
@@ -94,30 +85,5 @@ fn items_are_given_from_a_position_on(rt: HostRuntime) -> Result<(), Fail> {
         let items = primary.items(from)?;
         assert_eq!(rt; items.as_slice(), rest(&wanted, skipped));
     }
-    Ok(())
-}
-
-/// The log, the stream, the count and the time of the mark that a stream gets, or the number of the refusal.
-fn marked(primary: &mut Primary, number: u16) -> Result<(u64, u16, u64, u64), Fail> {
-    match primary.mark(stream(number)?) {
-        Ok(mark) => Ok((
-            mark.log(),
-            mark.stream().number(),
-            mark.n(),
-            mark.m().number(),
-        )),
-        Err(why) => Ok((0, 0, 0, u64::from(why.number()))),
-    }
-}
-
-#[test]
-fn marks_count_entries(rt: HostRuntime) -> Result<(), Fail> {
-    let mut primary = busy(rt.alloc())?;
-    for (number, mark) in [(1, (7, 1, 3, 5)), (2, (7, 2, 2, 5)), (3, (0, 0, 0, 34))] {
-        assert_eq!(rt; marked(&mut primary, number)?, mark);
-    }
-    assert_eq!(rt; primary.item_count(), 7);
-    let mut empty = two_streams(rt.alloc())?;
-    assert_eq!(rt; marked(&mut empty, 2)?, (7, 2, 0, 0));
     Ok(())
 }

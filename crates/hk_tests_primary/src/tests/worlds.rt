@@ -280,61 +280,10 @@ fn a_world_from_end_to_end(rt: HostRuntime) -> Result<(), Fail> {
     play(&rt, alloc, &mut world, &deliveries())?;
     play(&rt, alloc, &mut world, &merges())?;
     play(&rt, alloc, &mut world, &questions())?;
+    assert!(rt; run(alloc, Config::new(7, 2)?, 3, Vec::new(alloc))?.is_empty());
     assert_eq!(rt; world.last(), time(4)?);
     assert_eq!(rt; world.item_count(), 6);
     assert_eq!(rt; world.replica_count(), 3);
     assert_eq!(rt; world.config(), Config::new(7, 2)?);
     Ok(())
-}
-
-#[test]
-fn commits_are_refused(rt: HostRuntime) -> Result<(), Fail> {
-    let alloc = rt.alloc();
-    let mut world = World::new(alloc, Config::new(7, 2)?, 1)?;
-    let script = [
-        (Does::Put(1, 0, 5, 0x41), Tells::Committed(1)),
-        (Does::Put(2, 1, 5, 0x42), Tells::Committed(2)),
-        (Does::Put(1, 1, 5, 0x43), Tells::Conflict(5, 2)),
-        (Does::Nothing(1, 2), Tells::Committed(0)),
-        (Does::Remove(1, 2, 9), Tells::NoRow(9)),
-        (Does::Put(3, 2, 5, 0x43), Tells::NoStream),
-        (Does::Put(1, 3, 5, 0x43), Tells::NotYet(2)),
-        (Does::Twice(5), Tells::TwiceWritten),
-        (Does::Mark(3), Tells::NoStream),
-    ];
-    play(&rt, alloc, &mut world, &script)?;
-    assert_eq!(rt; world.item_count(), 2);
-    Ok(())
-}
-
-fn known() -> [(Does<'static>, Tells<'static>); 8] {
-    [
-        (Does::Put(1, 0, 5, 0x41), Tells::Committed(1)),
-        (Does::Put(1, 1, 6, 0x43), Tells::Committed(2)),
-        (Does::Mark(1), Tells::Marked(1, 2, 2)),
-        (Does::Put(1, 2, 5, 0x44), Tells::Committed(3)),
-        (Does::Mark(1), Tells::Marked(1, 3, 3)),
-        (Does::Batch(1, &[1, 2, 4, 5]), Tells::Done),
-        (Does::Batch(2, &[1, 2, 3]), Tells::Done),
-        (Does::Front(2), Tells::Front(0, 2)),
-    ]
-}
-
-#[test]
-fn a_delta_brings_what_came_since(rt: HostRuntime) -> Result<(), Fail> {
-    let alloc = rt.alloc();
-    let mut world = World::new(alloc, Config::new(7, 1)?, 3)?;
-    play(&rt, alloc, &mut world, &known())?;
-    let script = [
-        (Does::Delta(3, 1, 2), Tells::Gap(2, 0)),
-        (Does::Delta(2, 1, 2), Tells::Done),
-        (Does::Range(2, 2), Tells::Rows(&[(5, 0x41), (6, 0x43)])),
-        (Does::Range(2, 3), Tells::Rows(&[(5, 0x44), (6, 0x43)])),
-        (Does::Prune(1, 2), Tells::Done),
-        (Does::Prune(1, 4), Tells::Ahead(3)),
-        (Does::Delta(2, 1, 1), Tells::TooOld(2)),
-        (Does::Merge(1, 1), Tells::Done),
-        (Does::Front(1), Tells::Front(2, 3)),
-    ];
-    play(&rt, alloc, &mut world, &script)
 }

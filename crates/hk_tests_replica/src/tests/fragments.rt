@@ -113,30 +113,6 @@ fn tests_each_fact(rt: HostRuntime) -> Result<(), Fail> {
 }
 
 #[test]
-fn tests_the_order_of_facts(rt: HostRuntime) -> Result<(), Fail> {
-    // The keys and births of two facts, and the answer.
-    for (first, second, want) in [
-        ((5, 1), (5, 2), 0),
-        ((5, 2), (5, 2), 7),
-        ((5, 2), (5, 1), 7),
-        ((5, 9), (6, 1), 0),
-        ((6, 1), (5, 9), 7),
-        ((5, 1), (4, 0), 7),
-        ((5, 0), (4, 1), 6),
-    ] {
-        let facts = [(first.0, first.1, true, 0), (second.0, second.1, true, 0)];
-        let got = fault(&rt, rt.alloc(), (0, 0, 9), &facts)?;
-        assert_eq!(rt;
-            got,
-            want,
-            "{}, {} before {}, {}",
-            first.0, first.1, second.0, second.1
-        );
-    }
-    Ok(())
-}
-
-#[test]
 fn reads_and_copies_a_delta(rt: HostRuntime) -> Result<(), Fail> {
     let alloc = rt.alloc();
     let delta = made(&rt, alloc, (4, 0, 6), &[(5, 2, false, 6), (5, 6, true, 0)])??;

@@ -1,6 +1,6 @@
 //! Which fault of a list of items is told.
 
-use super::played::{Held, Said, item, items, parts};
+use super::played::{Said, item};
 use hk_delta::{Fragment, fragment_of};
 use hk_log::Item;
 use hk_types::{Config, Refusal};
@@ -9,24 +9,6 @@ use std::test::Fail;
 
 fn gathered(alloc: Global, items: &[Item]) -> Result<Result<Fragment, Refusal>, Fail> {
     Ok(fragment_of(alloc, Config::new(7, 1)?, items))
-}
-
-/// Key 5 is put at 1 and again at 2, the later entry first and once more at the end.
-const TOLD: [Said; 4] = [
-    Said::Write(2, 2, 5, 1, 0x42),
-    Said::Close(2, 2),
-    Said::Write(1, 1, 5, 0, 0x41),
-    Said::Write(2, 2, 5, 1, 0x42),
-];
-
-#[test]
-fn items_are_gathered_in_any_order(rt: HostRuntime) -> Result<(), Fail> {
-    let alloc = rt.alloc();
-    let wanted: [Held; 3] = [(0, 0, 0, 0), (5, 1, 0x41, 2), (5, 2, 0x42, 0)];
-    let fragment = gathered(alloc, &items(alloc, &TOLD)?)??;
-    assert!(rt; parts(alloc, &fragment)?.as_slice() == wanted.as_slice());
-    assert_eq!(rt; fragment.got().readable().number(), 2);
-    Ok(())
 }
 
 /// The refusal of the entries that put key 5 at 1, each of a log and a stream and with a byte.

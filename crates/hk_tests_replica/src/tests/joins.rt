@@ -1,19 +1,12 @@
 //! What joins of parts leave and refuse.
 
-use super::played::{Held, Said, byte_at, item, look, parts, state_of, time};
+use super::played::{Said, byte_at, item, look, state_of, time};
 use hk_delta::{Fragment, delta_since, fragment_of, join, whole_of};
 use hk_merge::merge;
 use hk_state::ReplicaState;
 use hk_types::{Config, Refusal, Time};
 use std::alloc::Global;
 use std::test::Fail;
-
-/// Key 5 is put at 1 and again at 2.
-const TWICE: [Said; 3] = [
-    Said::Write(1, 1, 5, 0, 0x41),
-    Said::Write(2, 2, 5, 1, 0x42),
-    Said::Close(2, 2),
-];
 
 /// Key 5 is put at 2, key 6 at 4, key 5 again at 6.
 const SOURCE: [Said; 4] = [
@@ -33,16 +26,6 @@ const TAKER: [Said; 3] = [
 fn delta(alloc: Global, base: u64) -> Result<Fragment, Fail> {
     let source = state_of(alloc, &SOURCE)?;
     Ok(delta_since(alloc, &source, time(base)?)?)
-}
-
-#[test]
-fn a_delta_has_what_is_later_than_its_base(rt: HostRuntime) -> Result<(), Fail> {
-    let alloc = rt.alloc();
-    let wanted: [Held; 3] = [(4, 0, 0, 0), (5, 2, 0, 6), (5, 6, 0x44, 0)];
-    let delta = delta(alloc, 4)?;
-    assert!(rt; parts(alloc, &delta)?.as_slice() == wanted.as_slice());
-    assert_eq!(rt; delta.got().readable().number(), 6);
-    Ok(())
 }
 
 /// What a delta gives is what the merge with its source gives.

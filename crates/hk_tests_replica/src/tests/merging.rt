@@ -1,6 +1,6 @@
 //! What merges leave and refuse.
 
-use super::played::{Held, Said, byte_at, look, pruned_state, state_of};
+use super::played::{Held, Said, look, pruned_state, state_of};
 use hk_log::Item;
 use hk_merge::merge;
 use hk_state::ReplicaState;
@@ -29,24 +29,6 @@ fn both_give(
     let one = merged(alloc, first, second)?;
     let other = merged(alloc, second, first)?;
     Ok(look(alloc, &one)?.as_slice() == wanted && look(alloc, &other)?.as_slice() == wanted)
-}
-
-/// Key 5 is put at 3 and goes at 6; key 6 is put at 8.
-const ALL: [Said; 4] = [
-    Said::Write(1, 3, 5, 0, 0x41),
-    Said::Write(2, 6, 5, 3, 0),
-    Said::Write(3, 8, 6, 0, 0x43),
-    Said::Close(3, 8),
-];
-
-/// The one has the first entry, the other all, pruned to 8.
-#[test]
-fn a_row_that_the_source_pruned_goes(rt: HostRuntime) -> Result<(), Fail> {
-    let wanted = [(8, 8, 0, 0), (6, 8, 0x43, 0)];
-    assert!(rt; both_give(rt.alloc(), (&ALL[..1], 0), (&ALL, 8), &wanted)?);
-    let state = merged(rt.alloc(), (&ALL[..1], 0), (&ALL, 8))?;
-    assert_eq!(rt; byte_at(&state, 5, 8)?, 0);
-    Ok(())
 }
 
 /// Key 5 goes at 9. The one has that entry alone.

@@ -1,6 +1,5 @@
 //! Items of one stream, states that took them, and what these and fragments hold.
 
-use hk_delta::Fragment;
 use hk_log::{Entry, Item, Mark, Version};
 use hk_state::ReplicaState;
 use hk_types::{Config, Key, Row, StreamNo, Table, Tag, Time, VersionKey};
@@ -114,16 +113,6 @@ pub(super) fn look(alloc: Global, state: &ReplicaState) -> Result<Vec<Held>, Fai
         if let Some(known) = chain.and_then(|chain| chain.version(version.born)) {
             all.push(held(version, known))?;
         }
-    }
-    Ok(all)
-}
-
-/// What a fragment holds: first its base and its horizon, then its versions.
-pub(super) fn parts(alloc: Global, fragment: &Fragment) -> Result<Vec<Held>, Fail> {
-    let mut all = Vec::new(alloc);
-    all.push((fragment.base().number(), fragment.horizon().number(), 0, 0))?;
-    for (version, known) in fragment.facts() {
-        all.push(held(version, known))?;
     }
     Ok(all)
 }

@@ -1,9 +1,9 @@
 //! Each call on a state once.
 
-use super::played::{Said, byte_at, item, look, pruned_state, state_of, time};
-use hk_model::{Front, Took};
+use super::played::{Said, byte_at, pruned_state, time};
+use hk_model::Front;
 use hk_state::front_of;
-use hk_types::{Refusal, StreamNo, Table};
+use hk_types::{StreamNo, Table};
 use std::test::Fail;
 
 /// Key 5 is put at 1 and again at 2.
@@ -12,23 +12,6 @@ const TWICE: [Said; 3] = [
     Said::Write(2, 2, 5, 1, 0x42),
     Said::Close(2, 2),
 ];
-
-#[test]
-fn a_pruned_state_stays_as_it_is(rt: HostRuntime) -> Result<(), Fail> {
-    let alloc = rt.alloc();
-    let mut state = state_of(alloc, &TWICE)?;
-    assert!(rt; state.can_prune(time(2)?) && !state.can_prune(time(3)?));
-    state.prune(time(2)?)?;
-    let after = look(alloc, &state)?;
-    assert!(rt; after.as_slice() == [(2, 2, 0, 0), (5, 2, 0x42, 0)].as_slice());
-    let ahead = Refusal::AheadOfMark { readable: time(2)? };
-    assert_eq!(rt; state.prune(time(3)?), Err(ahead));
-    assert_eq!(rt; state.prune(time(1)?), Ok(()));
-    let first = item(alloc, 7, 1, TWICE[0])?;
-    assert_eq!(rt; state.absorb(&first), Ok(Took::Repeated));
-    assert!(rt; look(alloc, &state)?.as_slice() == after.as_slice());
-    Ok(())
-}
 
 #[test]
 fn its_readers_tell_what_it_took(rt: HostRuntime) -> Result<(), Fail> {

@@ -85,16 +85,6 @@ fn new_sink(alloc: Global, step: usize, room: usize, zero: bool) -> Sink {
 const SAID_LEN: usize = 29;
 
 #[test]
-fn a_writer_that_takes_five_bytes(rt: HostRuntime) -> Result<(), Fail> {
-    for zero in [false, true] {
-        let sink = new_sink(rt.alloc(), 1000, 5, zero);
-        let got = session_into(rt.alloc(), sink, 5)?;
-        assert!(rt; got == (92, 1, true));
-    }
-    Ok(())
-}
-
-#[test]
 fn each_write_fails(rt: HostRuntime) -> Result<(), Fail> {
     for n in 0..SAID_LEN {
         let sink = new_sink(rt.alloc(), 1, n, false);

@@ -162,26 +162,3 @@ fn spells_and_reads_fragments_of_replies_cut_anywhere(rt: HostRuntime) -> Result
     }
     Ok(())
 }
-
-/// All 64 streams of a log, each with the number 3 taken and a mark that waits for 1 and 2.
-fn many_streams(alloc: Global, config: Config) -> Result<Got, Fail> {
-    let mut got = Got::new(alloc, config)?;
-    for stream in 1..65u16 {
-        take(&mut got, stream, 3)?;
-        mark(&mut got, stream, 3, 9)?;
-    }
-    Ok(got)
-}
-
-#[test]
-fn spells_and_reads_64_streams(rt: HostRuntime) -> Result<(), Fail> {
-    let alloc = rt.alloc();
-    let config = Config::new(7, 64)?;
-    let got = many_streams(alloc, config)?;
-    let fragment = built(config, 0, got, Vec::new(alloc))?;
-    let bytes = reply_bytes(alloc, &Reply::Fragment(fragment))?;
-    // A stream has its prefix, its closed time, a count and a number, and a count and a mark.
-    assert!(rt; bytes.len() == 6 + 26 + 64 * 48 + 4);
-    assert!(rt; heard_bytes(alloc, &bytes)? == bytes);
-    Ok(())
-}
