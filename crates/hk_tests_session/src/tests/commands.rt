@@ -60,8 +60,10 @@ fn items_ends_at_a_failed_read_or_write(rt: HostRuntime) -> Result<(), Fail> {
             "commit log 7 stream 1 number 1 time 1 ends 0 rows 1\nrefused 91\n",
         ),
     ] {
+        let whole: &[u8] = &FIRST;
+        let (front, _behind) = whole.split_at(whole.len().min(end));
         let mut input = Pieces {
-            rest: &FIRST[..end],
+            rest: front,
             step: 7,
             fails: true,
         };
