@@ -1,4 +1,4 @@
-//! Tests of numbers, items and their bytes, streams, chains and indexes.
+//! Tests of numbers, items and their bytes, and chains.
 #![tactic(auto)]
 
 #[cfg(test)]

@@ -2,4 +2,3 @@ mod chains;
 mod frames;
 mod items;
 mod numbers;
-mod streams;

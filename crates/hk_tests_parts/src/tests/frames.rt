@@ -1,8 +1,8 @@
 //! The worked frames.
 
-use hk_codec::{Cursor, decode_all, encode, frame_rest, put_body};
+use hk_codec::{decode_all, encode};
 use hk_log::{Entry, Item, Mark};
-use hk_types::{FormFault, Key, Row, StreamNo, Table, Tag, Time, VersionKey};
+use hk_types::{Key, Row, StreamNo, Table, Tag, Time, VersionKey};
 use std::alloc::Global;
 use std::test::*;
 
@@ -92,28 +92,5 @@ fn spells_and_reads_the_worked_frames(rt: HostRuntime) -> Result<(), Fail> {
     assert_eq!(rt; bytes.as_slice(), stream(alloc)?.as_slice());
     assert!(rt; decode_all(alloc, &bytes)? == worked(alloc)?);
     assert!(rt; decode_all(alloc, &[])?.is_empty());
-    Ok(())
-}
-
-#[test]
-fn reads_fields(rt: HostRuntime) -> Result<(), Fail> {
-    let alloc = rt.alloc();
-    let bytes: [u8; 20] = [
-        1, 2, 3, 4, 5, 6, 7, 0, 0, 0, 0, 0, 0, 1, 0, 0, 2, 0x41, 0x42, 9,
-    ];
-    let mut cursor = Cursor::new(&bytes);
-    assert_eq!(rt; cursor.u8()?, 1);
-    assert_eq!(rt; cursor.u16()?, 0x203);
-    assert_eq!(rt; cursor.u32()?, 0x405_0607);
-    assert_eq!(rt; cursor.u64()?, 0x100);
-    assert_eq!(rt; cursor.body(alloc)?.as_slice(), [0x41, 0x42].as_slice());
-    assert_eq!(rt; cursor.len(), 1);
-    assert!(rt; cursor.u16() == Err(FormFault::WrongLength));
-    assert_eq!(rt; cursor.bytes(1)?, [9].as_slice());
-    assert!(rt; cursor.is_empty());
-    let mut out = Vec::new(alloc);
-    put_body(&mut out, &[0x41, 0x42])?;
-    assert_eq!(rt; out.as_slice(), &bytes[15..19]);
-    assert!(rt; frame_rest(&MARK_1, 28, 28)? == Some(&MARK_1[4..]));
     Ok(())
 }
