@@ -1,6 +1,0 @@
-mod fragments;
-mod gathering;
-mod joins;
-mod merging;
-mod played;
-mod states;
