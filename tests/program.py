@@ -422,6 +422,47 @@ def failing_devices():
         os.close(folder)
 
 
+def told_of_items(data, length):
+    """What `items` prints of so many of the first bytes of E1 and a mark."""
+    lines = (b"commit log 7 stream 1 number 1 time 1 ends 0 rows 1\n", b"mark log 7 stream 1 n 1 m 1\n")
+    return b"".join(line for line, end in zip(lines, (len(E1), len(data))) if end <= length)
+
+
+def told_of_lines(data, length):
+    """What `world` prints of so many of the first bytes of a script of begins: its whole lines alone are made."""
+    begun = data[:length].count(b"\n") - 1
+    return b"".join(b"begun %d at 0\n" % slot for slot in range(1, begun + 1))
+
+
+def failing_reads_and_writes():
+    """Each read in turn fails, and each write, over input in small pieces."""
+    source = ROOT / "tests" / "faults" / "failing_io.c"
+    calls = ((["items"], E1 + mark(1, 1, 1), 7, told_of_items), (["world"], b"world 7 1 1\nbegin 1\nbegin 2\nbegin 3\n", 5, told_of_lines))
+    with tempfile.TemporaryDirectory() as folder:
+        library = pathlib.Path(folder) / "failing_io.so"
+        subprocess.run(["cc", "-shared", "-fPIC", "-O1", "-o", str(library), str(source), "-ldl"], check=True)
+        for args, data, step, told_of in calls:
+            whole = told_of(data, len(data))
+            for name in ("FAILING_READ", "FAILING_WRITE"):
+                problems, number = [], 0
+                while number < 100:
+                    number += 1
+                    environment = dict(os.environ, LD_PRELOAD=str(library), READ_STEP=str(step), **{name: str(number)})
+                    got = subprocess.run([str(PROGRAM), *args], input=data, stdout=subprocess.PIPE,
+                                         stderr=subprocess.PIPE, timeout=60, env=environment)
+                    if got.returncode == 0:
+                        problems += [] if got.stdout == whole else [f"undisturbed: {got.stdout!r}"]
+                        break
+                    is_right = got.stdout == told_of(data, step * (number - 1)) + b"refused 91\n"
+                    if name == "FAILING_WRITE":
+                        is_right = whole.startswith(got.stdout) and got.stdout != whole
+                    if got.returncode != 1 or not is_right:
+                        problems.append(f"call {number}: status {got.returncode}, printed {got.stdout!r}")
+                if number < 2 or number == 100:
+                    problems.append(f"{number} runs")
+                report(f"each call refused in turn ({name} of {args[0]}, {number} runs)", problems[:5])
+
+
 def refused_memory():
     """Lets the Nth request for memory fail, for each N up to a run that meets no refusal."""
     source = ROOT / "tests" / "faults" / "failing_malloc.c"
@@ -453,7 +494,7 @@ def main():
         print(f"FAILED {PROGRAM} is not built")
         print("0 passed, 1 failed")
         return 1
-    for group in (worked_rows, bytes_of_all_kinds, faults_of_frames, pieces, deliveries, generated_histories, refusals, world_scripts, bad_scripts, long_scripts, command_lines, failing_devices, refused_memory):
+    for group in (worked_rows, bytes_of_all_kinds, faults_of_frames, pieces, deliveries, generated_histories, refusals, world_scripts, bad_scripts, long_scripts, command_lines, failing_devices, failing_reads_and_writes, refused_memory):
         group()
     print(f"{passed} passed, {failed} failed")
     return 1 if failed else 0

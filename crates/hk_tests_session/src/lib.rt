@@ -1,4 +1,4 @@
-//! Tests of messages, sessions and the program's commands.
+//! Tests of messages, sessions and printed replies.
 #![tactic(auto)]
 
 #[cfg(test)]

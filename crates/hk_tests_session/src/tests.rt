@@ -1,6 +1,5 @@
 //! Messages, sessions and lines whose bytes are written out.
 
-mod commands;
 mod devices;
 mod faults;
 mod fragments;

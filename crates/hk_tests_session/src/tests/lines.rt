@@ -1,7 +1,7 @@
 //! Lines that no command prints.
 
 use super::messages::row;
-use hk_cli::line_of;
+use hk_lines::line_of;
 use hk_delta::fragment_of;
 use hk_log::{Entry, Item};
 use hk_model::{Answer, Front};
