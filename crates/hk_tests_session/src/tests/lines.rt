@@ -1,8 +1,8 @@
 //! Lines that no command prints.
 
 use super::messages::row;
-use hk_lines::line_of;
 use hk_delta::fragment_of;
+use hk_lines::line_of;
 use hk_log::{Entry, Item};
 use hk_model::{Answer, Front};
 use hk_types::{Config, Key, Refusal, StreamNo, Table, Time};
