@@ -96,7 +96,7 @@ pub record Gave (config : ConfigValue) (items : List Item) (f : FragmentValue) :
   pub agree : are_at_odds items ≡ false
   pub is : f ≡ part config items 0 0
 
-gave : (config : ConfigValue) (items : List Item) (f : FragmentValue) → gathered config items ≡ Ok f → Gave config items f
+pub gave : (config : ConfigValue) (items : List Item) (f : FragmentValue) → gathered config items ≡ Ok f → Gave config items f
 gave config items f e = by (first_misfit config items) (are_at_odds items) refl refl (e)
   where
     same : (f g : FragmentValue) → ◌≡◌ {A = Result FragmentValue Refusal} (Ok f) (Ok g) → f ≡ g
