@@ -141,17 +141,17 @@ same_bytes (x ∷ xs) (y ∷ ys) e =
     let parts = and_parts (x == y) (pointwise (λ x y. x == y) xs ys) e in
     λ i. eqb-true x y parts.0 i ∷ same_bytes xs ys parts.1 i
 
-row_tells : (a b : RowValue) → same_row a b ≡ true → a ≡ b
+pub row_tells : (a b : RowValue) → same_row a b ≡ true → a ≡ b
 row_tells a b e =
     let parts = and_parts (a.tag == b.tag) (pointwise (λ x y. x == y) a.body b.body) e in
     let tag = eqb-true a.tag b.tag parts.0 in
     let body = same_bytes a.body b.body parts.1 in
     λ i. record { tag = tag i; body = body i }
 
-row_alike : (a : RowValue) → same_row a a ≡ true
+pub row_alike : (a : RowValue) → same_row a a ≡ true
 row_alike a = same_row_if a a refl
 
-time_alike : (a : ℕ) → (a == a) ≡ true
+pub time_alike : (a : ℕ) → (a == a) ≡ true
 time_alike a = eq-eqb a a refl
 
 -- the rows and the ends of what is said

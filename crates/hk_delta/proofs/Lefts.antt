@@ -26,7 +26,7 @@ use Rattle.hk_delta.proofs.Listed.{get-among}
 use Rattle.hk_delta.proofs.Sound.{AllFollow, are_facts}
 use Rattle.hk_delta.proofs.Picked.{find_picked}
 
-if_known_is : (x y : VersionValue) → if_known x ≡ Some y → (x ≡ y) × (is_known x ≡ true)
+pub if_known_is : (x y : VersionValue) → if_known x ≡ Some y → (x ≡ y) × (is_known x ≡ true)
 if_known_is x y e = by (is_known x) refl e
   where
     by : (b : Bool) → is_known x ≡ b → cond b (Some x) None ≡ Some y → (x ≡ y) × (is_known x ≡ true)

@@ -8,3 +8,7 @@ pub mod Sound
 pub mod Putting
 pub mod Wholes
 pub mod Sents
+pub mod Merges
+pub mod Searches
+pub mod Unions
+pub mod Pieces

@@ -60,7 +60,7 @@ unfolding IsStrictlySortedBy
 rises [] s = tt
 rises (e ∷ es) s = let both = T_both (below_all version_key_cmp e.0 es) (is_sorted version_key_cmp es) s in (rise_all e.0 es both.0, rises es both.1)
 
-below_In : (k : VersionKey) (es : List Known) → T (below_all version_key_cmp k es) → (f : Known) → In f es → version_key_cmp k f.0 ≡ Less
+pub below_In : (k : VersionKey) (es : List Known) → T (below_all version_key_cmp k es) → (f : Known) → In f es → version_key_cmp k f.0 ≡ Less
 below_In k [] b f i = elim i [ ]
 below_In k (e ∷ es) b f i =
     let both = T_both (is_lt (version_key_cmp k e.0)) (below_all version_key_cmp k es) b in
@@ -81,7 +81,7 @@ apart k v l = by (eq_by_cmp version_key_cmp v k) refl
         let same = version_key_same v k ((Equal-is (version_key_cmp v k)).0 e) in
         absurd (differ (sym l ∙ ap (version_key_cmp k) same ∙ tied_itself version_key_total k))
 
-each_found : (es : List Known) → T (is_sorted version_key_cmp es) → (f : Known) → In f es → find version_key_cmp f.0 es ≡ Some f.1
+pub each_found : (es : List Known) → T (is_sorted version_key_cmp es) → (f : Known) → In f es → find version_key_cmp f.0 es ≡ Some f.1
 each_found [] s f i = elim i [ ]
 each_found (e ∷ es) s f i =
     let both = T_both (below_all version_key_cmp e.0 es) (is_sorted version_key_cmp es) s in
@@ -90,7 +90,7 @@ each_found (e ∷ es) s f i =
       | inr j ↦ ap (λ b. cond b (Some e.1) (find version_key_cmp f.0 es)) (apart e.0 f.0 (below_In e.0 es both.0 f j)) ∙ each_found es both.1 f j
     ]
 
-all_from : {P : Known → Type 0} (es : List Known) → ((f : Known) → In f es → P f) → All P es
+pub all_from : {P : Known → Type 0} (es : List Known) → ((f : Known) → In f es → P f) → All P es
 all_from {P = P} [] h = All-nil P
 all_from {P = P} (e ∷ es) h = All-cons P e es (h e (inl refl)) (all_from es (λ f i. h f (inr i)))
 
@@ -106,7 +106,7 @@ module _ (c : Content) where
   listed_map : finmap.FinMap version_key_cmp VersionValue
   listed_map = finmap.from_entries (pairs c)
 
-  find_listed : (v : VersionKey) → find version_key_cmp v (versions_listed c) ≡ known_at (facts_of_content c) v
+  pub find_listed : (v : VersionKey) → find version_key_cmp v (versions_listed c) ≡ known_at (facts_of_content c) v
   find_listed v = sym (finmap.get-entries (finmap.from_entries {R = version_key_cmp} (pairs c)) v) ∙ finmap.get-from_entries version_key_total (pairs c) v ∙ listed_of c v
 
   -- a content's list of versions is all that it knows

@@ -26,11 +26,11 @@ passed : (b : Bool) (f : FormFault) (rest : Option FormFault) → cond (not b) (
 passed true f rest e = (refl, e)
 passed false f rest e = absurd cc
 
-and_both : (a b : Bool) → (a && b) ≡ true → (a ≡ true) × (b ≡ true)
+pub and_both : (a b : Bool) → (a && b) ≡ true → (a ≡ true) × (b ≡ true)
 and_both true b e = (refl, e)
 and_both false b e = absurd cc
 
-and_T : (a b : Bool) → T a → T b → T (a && b)
+pub and_T : (a b : Bool) → T a → T b → T (a && b)
 and_T true b p q = q
 and_T false b p q = absurd p
 
@@ -84,7 +84,7 @@ pub record Parts (base horizon : ℕ) (v : VersionKey) (x : VersionValue) : Type
   pub row : row_stands base v.born x.row ≡ true
   pub died : end_stands base horizon v.born x.died ≡ true
 
-parts_of : (base horizon : ℕ) (v : VersionKey) (x : VersionValue) → stands base horizon (v, x) ≡ true → Parts base horizon v x
+pub parts_of : (base horizon : ℕ) (v : VersionKey) (x : VersionValue) → stands base horizon (v, x) ≡ true → Parts base horizon v x
 parts_of base horizon v x e =
     let a = and_both (ltb 0 v.born && is_known x && row_stands base v.born x.row) (end_stands base horizon v.born x.died) e in
     let b = and_both (ltb 0 v.born && is_known x) (row_stands base v.born x.row) a.0 in

@@ -84,7 +84,7 @@ module _ (config : ConfigValue) (items : List Item) (all : All IsItem items) whe
           above : (d t : ℕ) → d ≡ t → 0 < t → nat_le d 0 ≡ false
           above d t e l = grind (arith, nat_tests)
 
-  all_kept : {X : Type 0} (facts : finmap.FinMap version_key_cmp X) → without_ended (ends_of items) 0 facts ≡ facts
+  pub all_kept : {X : Type 0} (facts : finmap.FinMap version_key_cmp X) → without_ended (ends_of items) 0 facts ≡ facts
   all_kept facts = finmap.same_map version_key_total version_key_same _ _ (λ v. get-without_ended (ends_of items) 0 facts v ∙ ap (λ b. cond (not b) (finmap.get facts v) None) (ends_later v))
 
   pub whole_facts : facts_from (row_facts items) (end_facts items) ≡ facts_of_content (canon config items 0)

@@ -2,3 +2,4 @@ pub mod Cuts
 pub mod Gathers
 pub mod Joins
 pub mod Parts
+pub mod Unions

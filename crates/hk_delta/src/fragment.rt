@@ -1,16 +1,22 @@
 //! A fragment.
 
-ghost use Rattle.std.specs.Prelude.{◌≡◌, length, nat_lt, ◌&&◌, Some, None, All, IfOk, IfErr};
+ghost use Rattle.std.specs.Prelude.{◌≡◌, length, nat_lt, ◌&&◌, Some, None, All, IfOk, OnOk, OnErr, IfErr};
+ghost use Rattle.std.specs.Option.{option_copied};
 ghost use Rattle.hk_types.specs.declared.faults.Refusal.TheVariants.{Memory};
 ghost use Rattle.hk_model.specs.Lawful.{IsLawfulFragment};
 ghost use Rattle.hk_marks.specs.Seen.{IsNumbered};
+ghost use Rattle.hk_state.specs.Facts.{known_at};
+ghost use Rattle.hk_state.specs.Reads.{facts_of_content};
 ghost use Rattle.hk_delta.specs.Parts as spec;
+ghost use Rattle.hk_delta.specs.Unions.{IsFromZero, union_of};
 
+use crate::merging::merged;
 use hk_log::Version;
 use hk_marks::Got;
 use hk_types::{Config, FormFault, Refusal, Time, VersionKey};
 use std::alloc::{AllocError, Global};
 use std::marker::Model;
+use std::mem;
 
 /// A part of what a replica of one log holds, for another replica that is readable up to the base: rows that
 /// were born above the base, ends above it, and all numbers and marks. A fragment of base 0 is a whole.
@@ -197,6 +203,35 @@ impl Fragment {
         ensures lawful { IsLawfulFragment self.now }
     {
         &self.facts
+    }
+
+    /// What is known of a version. The cost grows as the logarithm of the number of facts.
+    pub(crate) fn version(&self, version: VersionKey) -> Option<&Version>
+        ensures { option_copied result ≡ known_at (facts_of_content self.now.content) version }
+    {
+        match self.facts.binary_search_by_key(&version, |(key, _)| *key) {
+            Ok(place) => Some(&self.facts[place].1),
+            Err(_gap) => None,
+        }
+    }
+
+    /// Adds the facts, numbers and marks of another fragment of base 0 and horizon 0. The only refusal is `Memory`,
+    /// and then nothing is changed.
+    pub(crate) fn take_in(&mut self, other: &Fragment) -> Result<(), Refusal>
+        requires own { IsFromZero self.old }
+        requires coming { IsFromZero other.now }
+        requires streams { length self.old.content.streams ≡ length other.now.content.streams }
+        ensures ok { OnOk result (self.new ≡ union_of self.old other.now) }
+        ensures err { IfErr result (λ why. why ≡ Memory) }
+        ensures kept { OnErr result (self.new ≡ self.old) }
+    {
+        let alloc = *self.facts.allocator();
+        let coming = copy_facts(alloc, &other.facts)?;
+        let room = Vec::with_capacity(alloc, self.facts.len() + coming.len())?;
+        self.got.join(&other.got)?;
+        let own = mem::replace(&mut self.facts, Vec::new(alloc));
+        self.facts = merged(own, coming, room);
+        Ok(())
     }
 
     /// The same fragment again. The only refusal is `Memory`. Costs by what is copied.

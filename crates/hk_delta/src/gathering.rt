@@ -148,6 +148,7 @@ fn gather(alloc: Global, config: Config, items: &[Item]) -> Result<Fragment, Ref
     requires { rules.first_misfit config items.now ≡ None }
     ensures ok { IfOk result (λ fragment. fragment ≡ part config items.now 0 0) }
     ensures agree { OnOk result (are_at_odds items.now ≡ false) }
+    ensures lawful { OnOk result (All IsItem items.now) }
     ensures err { IfErr result (λ why. (why ≡ Memory) ⊎ ((why ≡ Contradiction) × (are_at_odds items.now ≡ true))) }
 {
     let mut facts = Facts::new(alloc);
@@ -171,12 +172,16 @@ fn gather(alloc: Global, config: Config, items: &[Item]) -> Result<Fragment, Ref
 pub fn fragment_of(alloc: Global, config: Config, items: &[Item]) -> Result<Fragment, Refusal>
     ensures gives { Gathers config items.now result }
     ensures stands { GathersOf config items.now result }
+
+    // The items of a fragment are such as their constructors let be.
+    ensures lawful { OnOk result (All IsItem items.now) }
 {
     gathered(alloc, config, items)
 }
 
 fn gathered(alloc: Global, config: Config, items: &[Item]) -> Result<Fragment, Refusal>
-    ensures { Gathers config items.now result }
+    ensures gives { Gathers config items.now result }
+    ensures lawful { OnOk result (All IsItem items.now) }
 {
     if let Some(why) = first_misfit(config, items) {
         return Err(why);

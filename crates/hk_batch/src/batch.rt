@@ -1,0 +1,131 @@
+//! The fragment of a list of items, by several workers.
+
+ghost use Rattle.std.specs.Prelude.{◌≡◌, ℕ, slice_index_or, ◌≤◌, ◌<◌, ◌*◌, length, take, drop, IfOk};
+ghost use Rattle.hk_delta.specs.Gathers.{Gathers, GathersOf};
+ghost use Rattle.hk_delta.specs.Unions.{IsGathered};
+
+use hk_delta::{Fragment, fragment_of, union};
+use hk_log::Item;
+use hk_types::{Config, Refusal};
+use std::alloc::Global;
+use std::thread;
+use std::thread::Threads;
+
+/// What each worker passes before it begins.
+pub trait Gate {
+    /// Lets a worker in, the first being 1. A worker begins once its call returns.
+    fn enter(&self, worker: usize);
+}
+
+/// A gate that lets each worker in at once.
+#[derive(Debug, Clone, Copy)]
+pub struct OpenGate;
+
+impl Gate for OpenGate {
+    fn enter(&self, _worker: usize) {}
+}
+
+/// Piece `n` of the list, from 0, where each piece but the last ones has `size` items.
+fn piece(items: &[Item], size: usize, n: usize) -> &[Item]
+    ensures { result.now ≡ take size (drop (n * size) items.now) }
+{
+    let start = n.saturating_mul(size).min(items.len());
+    let rest = &items[start..];
+    &rest[..size.min(rest.len())]
+}
+
+/// The fragment of a piece of the list.
+fn gather(alloc: Global, config: Config, items: &[Item]) -> Result<Fragment, Refusal>
+    ensures { IfOk result (IsGathered config items.now) }
+{
+    match fragment_of(alloc, config, items) {
+        Ok(fragment) => Ok(fragment),
+        Err(why) => Err(why),
+    }
+}
+
+/// The fragment of each piece, by a worker each.
+fn fragments<R: Threads + Sync, G: Gate + Sync>(
+    rt: &R,
+    alloc: Global,
+    config: Config,
+    items: &[Item],
+    size: usize,
+    workers: usize,
+    gate: &G,
+) -> Result<Vec<Result<Fragment, Refusal>>, Refusal>
+    requires { workers ≤ 16 }
+    ensures len { IfOk result (λ v. length v.items ≡ workers) }
+    ensures each { IfOk result (λ v. (n : ℕ) (d : _) → n < workers
+        → IfOk (slice_index_or v.items n d) (IsGathered config (take size (drop (n * size) items.now)))) }
+{
+    let parts = thread::map_indices(
+        rt,
+        alloc,
+        workers,
+        &|n: usize| -> Result<Fragment, Refusal>
+            requires { n < 16 }
+            ensures { IfOk result (IsGathered config (take size (drop (n * size) items.entry.now))) }
+        {
+            gate.enter(n + 1);
+            gather(alloc, config, piece(items, size, n))
+        },
+    )?;
+    Ok(parts)
+}
+
+/// The fragment of the list, by a worker for each piece. The pieces are joined from the first to the last.
+fn joined<R: Threads + Sync, G: Gate + Sync>(
+    rt: &R,
+    alloc: Global,
+    config: Config,
+    items: &[Item],
+    workers: usize,
+    gate: &G,
+) -> Result<Fragment, Refusal>
+    requires some { 1 ≤ workers }
+    requires few { workers ≤ 16 }
+    ensures { IfOk result (IsGathered config items.now) }
+{
+    let size = items.len().div_ceil(workers);
+    let mut parts = fragments(rt, alloc, config, items, size, workers, gate)?;
+    let mut whole = parts.remove(0)?;
+    for part in parts {
+        union(&mut whole, &part?)?;
+    }
+    Ok(whole)
+}
+
+/// The fragment of items, as `fragment_of` gives it, by so many workers, 1 to 16.
+///
+/// The list is cut into as many pieces of neighbours, some perhaps empty. The workers run side by side, each in a
+/// thread of its own where one can be made; each passes the gate with its number, the first being 1, and gathers its
+/// piece, and the pieces are joined from the first to the last. It joins its workers, so it waits for them and for
+/// the gate: what it gives is promised if it returns.
+///
+/// The result and the refusals are those of `fragment_of`, in its order, for every number of workers: where the
+/// workers find no fragment, or no memory, the whole list is gathered once more by this thread alone, and its answer
+/// is the answer. So `Memory` comes only where the items have a fragment.
+///
+/// With `w` workers and `n` facts each worker's work grows as `n / w` times the logarithm of that, and that of
+/// joining them as `w` times `n`; the rows of all pieces but the first are copied once more. While they are joined
+/// the fragment and the pieces are held together: about twice the fragment, and at most what `fragment_of` takes of
+/// all pieces at once.
+pub fn build<R: Threads + Sync, G: Gate + Sync>(
+    rt: &R,
+    alloc: Global,
+    config: Config,
+    items: &[Item],
+    workers: usize,
+    gate: &G,
+) -> Result<Fragment, Refusal>
+    requires some { 1 ≤ workers }
+    requires few { workers ≤ 16 }
+    ensures gives { Gathers config items.now result }
+    ensures stands { GathersOf config items.now result }
+{
+    match joined(rt, alloc, config, items, workers, gate) {
+        Ok(fragment) => Ok(fragment),
+        Err(_why) => fragment_of(alloc, config, items),
+    }
+}
