@@ -141,7 +141,7 @@ def all_requests():
             ("items that contradict each other", say.items(say.entry(9, 9, [(1, 9, 9, b"a")]), say.entry(1, 9, [(1, 9, 9, b"b")], stream=2)),
              ("refused", 23, 0, 0)),
             ("which changed nothing", say.front(), ("front", 3, 5)),
-            ("items that contradict the node", say.items(say.entry(9, 3, [(1, 6, 9, b"\x99")])), ("refused", 23, 0, 0)),
+            ("items that contradict the node", say.items(say.entry(1, 3, [(1, 6, 9, b"\x99")], stream=2)), ("refused", 23, 0, 0)),
             ("which damages it: ask", say.ask(5, say.count(1)), ("refused", 41, 0, 0)),
             ("front of a damaged node", say.front(), ("refused", 41, 0, 0)),
             ("delta of a damaged node", say.delta(5), ("refused", 41, 0, 0)),
@@ -179,6 +179,12 @@ def patched(fields, name, text, which=0):
     fields = list(fields)
     fields[places[which]] = (name, text)
     return say.spelled(fields)
+
+
+def ended_by(fields, name, text):
+    """The frame that ends with a named field, whose bytes are these."""
+    place = next(place for place, field in enumerate(fields) if field[0] == name)
+    return say.spelled(fields[:place] + [(name, text)])
 
 
 LAST = 2 ** 62
@@ -222,13 +228,13 @@ def faults_of_requests():
         ("base", patched(joined, "base", OVER), 6), ("base below the horizon", patched(pruned, "base", say.u64(2)), 6),
         ("base of a merge", patched(merged, "base", say.u64(1)), 6), ("horizon above closed", patched(joined, "horizon", say.u64(3)), 6),
         ("prefix", patched(joined, "prefix", OVER), 6), ("closed", patched(joined, "closed", OVER), 6),
-        ("count of extra numbers", patched(joined, "count of extra numbers", b"\xff" * 4), 10),
+        ("count of extra numbers", ended_by(joined, "count of extra numbers", b"\xff" * 4), 10),
         ("extra number at the prefix", patched(joined, "extra number", say.u64(3)), 6), ("extra number", patched(joined, "extra number", OVER, 1), 6),
         ("order of extra numbers", patched(joined, "extra number", say.u64(4), 1), 7),
-        ("count of waiting marks", patched(joined, "count of waiting marks", b"\xff" * 4), 10),
+        ("count of waiting marks", ended_by(joined, "count of waiting marks", b"\xff" * 4), 10),
         ("n at the prefix", patched(joined, "n", say.u64(2)), 6), ("order of waiting marks", patched(joined, "n", say.u64(4), 1), 7),
         ("m below n", patched(joined, "m", say.u64(3)), 6), ("m", patched(joined, "m", OVER), 6),
-        ("count of facts", patched(joined, "count of facts", b"\xff" * 4), 10),
+        ("count of facts", ended_by(joined, "count of facts", b"\xff" * 4), 10),
         ("order of facts", patched(joined, "born", say.u64(1), 1), 7), ("born at 0", patched(joined, "born", say.u64(0)), 6),
         ("born above the last time", patched(joined, "born", OVER, 1), 6), ("no flag", patched(joined, "flags", b"\0"), 6),
         ("flags", patched(joined, "flags", b"\4"), 6), ("row at the base", patched(pruned, "flags", b"\1"), 6),
