@@ -2,7 +2,8 @@
 """Two feeders fill a node, a reader asks it meanwhile, and a second node catches up by a delta from the first.
 
 The log has two streams of 100 entries each. Feeder 1 pushes stream 1 and repeats every third item. Feeder 2 begins late and
-pushes stream 2 from its last entry to its first. The node can be read up to a time once both streams are complete up to it.
+pushes stream 2 in blocks of 10, each from its last entry to its first. The node can be read up to a time once both streams are
+complete up to it.
 A second node took the first half of the log; it joins what the first node learnt since, and then both answer the same.
 
 Run it after `make`: examples/links/two_feeders.py [PORT], which also takes the port above. Standard library only."""
@@ -15,7 +16,7 @@ import time
 
 PROGRAM = str(pathlib.Path(__file__).resolve().parent.parent.parent / "bin" / "hkrep")
 LOG, TABLE, TAG, KEYS, LAST = 7, 1, 9, 10, 200
-LIMIT = 20
+LIMIT, BLOCK, DELAY = 20, 10, 30
 
 
 def framed(rest):
@@ -71,7 +72,8 @@ class Feeder:
     """A running `hkrep push`: one request in, one reply printed."""
 
     def __init__(self, node):
-        self.child = subprocess.Popen([PROGRAM, "push", "--port", str(node.port)], stdin=subprocess.PIPE, stdout=subprocess.PIPE, bufsize=0)
+        self.child = subprocess.Popen([PROGRAM, "push", "--port", str(node.port)], stdin=subprocess.PIPE, stdout=subprocess.PIPE, stderr=subprocess.DEVNULL,
+                                      bufsize=0)
 
     def send(self, request):
         self.child.stdin.write(request)
@@ -101,33 +103,36 @@ def exchange(port, request):
         return length + replies.read(int.from_bytes(length, "big"))
 
 
+def blocks():
+    """The requests of feeder 2: a block of entries from its last to its first, and then the mark that closes it."""
+    for low in range(1, LAST // 2, BLOCK):
+        for number in range(low + BLOCK - 1, low - 1, -1):
+            yield items(entry(2 * number))
+        yield items(mark(2, low + BLOCK - 1, 2 * (low + BLOCK - 1)))
+
+
 def feed(node):
-    """Feeds the node from both sides, and asks it meanwhile."""
+    """Feeds the node from both sides, and asks it meanwhile. Gives the reader, or None where a reply was not `done`."""
     first, late, reader = Feeder(node), Feeder(node), Feeder(node)
-    sent = [0, 0]
-    fronts = []
-    for step in range(1, LAST // 2 + 1):
-        first.send(items(entry(2 * step - 1), mark(1, step, 2 * step)))
-        sent[0] += 1
-        if step % 3 == 0:
-            first.send(items(entry(2 * step - 1)))
-            sent[0] += 1
-        if step > 20:
-            late.send(items(entry(2 * (LAST // 2 + 21 - step))))
-            sent[1] += 1
+    repeats, late_ones = 0, list(blocks())
+    count = len(late_ones)
+    for step in range(1, LAST // 2 + DELAY + 1):
+        if step <= LAST // 2:
+            first.send(items(entry(2 * step - 1), mark(1, step, 2 * step)))
+            if step % 3 == 0:
+                first.send(items(entry(2 * step - 1)))
+                repeats += 1
+        if step > DELAY:
+            late.send(late_ones.pop(0))
         if step % 20 == 0:
             reader.send(FRONT)
-            fronts.append(reader.line())
-            print(f"reader, after {step} items of stream 1: {fronts[-1]}", flush=True)
-    for step in range(20, 0, -1):
-        late.send(items(entry(2 * step)))
-        sent[1] += 1
-    late.send(items(mark(2, LAST // 2, LAST)))
-    sent[1] += 1
-    for name, feeder, count in (("feeder 1", first, sent[0]), ("feeder 2", late, sent[1])):
+            print(f"reader, at step {step}: {reader.line()}", flush=True)
+    for request in late_ones:
+        late.send(request)
+    for name, feeder, wanted in (("feeder 1", first, LAST // 2 + repeats), ("feeder 2", late, count)):
         lines, status = feeder.end()
-        print(f"{name}: {len(lines)} of {count} replies, the last '{lines[-1]}', status {status}", flush=True)
-        if len(lines) != count or status != 0 or not all(line.startswith("done ") for line in lines):
+        print(f"{name}: {len(lines)} of {wanted} replies, the last '{lines[-1]}', status {status}", flush=True)
+        if len(lines) != wanted or status != 0 or not all(line.startswith("done ") for line in lines):
             return None
     return reader
 

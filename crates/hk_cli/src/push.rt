@@ -49,7 +49,7 @@ impl<'a> Link<'a> {
     }
 
     /// Takes what came next. A stream that ends has the fault of one that is cut.
-    fn hear(&mut self) -> Result<(), Stop> {
+    fn receive(&mut self) -> Result<(), Stop> {
         let mut reader = self.stream;
         let count = match reader.read(self.piece.as_mut_slice()) {
             Ok(count) => count,
@@ -71,7 +71,7 @@ impl<'a> Link<'a> {
             if !self.replies.is_empty() {
                 return Ok(self.replies.remove(0));
             }
-            self.hear()?;
+            self.receive()?;
         }
         Err(Stop::ReadFault)
     }

@@ -6,9 +6,9 @@ use Rattle.hk_wire.specs.declared.request.Request.TheVariants.{JoinThis, MergeTh
 use Rattle.hk_wire.specs.Replies.{ReplyValue}
 use Rattle.hk_node.specs.declared.op.Op.{Op}
 use Rattle.hk_node.specs.declared.op.Op.TheVariants.{Join}
-use Rattle.hk_net.specs.Replying.{Changed, Replied}
+use Rattle.hk_net.specs.Replying.{IsChangeReply, IsReplyTo}
 
 pub joined_is : (ops : List Op) (request : Request) (f : FragmentValue) (reply : ReplyValue) → (request ≡ JoinThis f) ⊎ (request ≡ MergeThis f)
-    → Changed ops (Some (Join f)) reply → Replied ops request reply
-joined_is ops request f reply (inl is) told = subst (λ (q : Request). Replied ops q reply) (sym is) told
-joined_is ops request f reply (inr is) told = subst (λ (q : Request). Replied ops q reply) (sym is) told
+    → IsChangeReply ops (Some (Join f)) reply → IsReplyTo ops request reply
+joined_is ops request f reply (inl is) told = subst (λ (q : Request). IsReplyTo ops q reply) (sym is) told
+joined_is ops request f reply (inr is) told = subst (λ (q : Request). IsReplyTo ops q reply) (sym is) told

@@ -19,13 +19,13 @@ use Rattle.hk_node.specs.Replay.{config_of, replay, is_legal}
 use Rattle.hk_node.specs.Replies.{node_delta, node_front, node_reply, node_whole}
 
 -- the marks that are told, or why there are none
-abbrev pub fronted : Result FrontMarks Refusal → ReplyValue
-fronted (Ok front) = Front front.horizon front.readable
-fronted (Err why) = Refused why
+abbrev pub front_reply : Result FrontMarks Refusal → ReplyValue
+front_reply (Ok front) = Front front.horizon front.readable
+front_reply (Err why) = Refused why
 
 -- a reply is just this, or it says that memory ran out
-abbrev pub IsOrRunsOut : ReplyValue → ReplyValue → Type 0
-IsOrRunsOut wanted reply = (reply ≡ wanted) ⊎ (reply ≡ Refused refusals.Memory)
+abbrev pub IsOrOutOfMemory : ReplyValue → ReplyValue → Type 0
+IsOrOutOfMemory wanted reply = (reply ≡ wanted) ⊎ (reply ≡ Refused refusals.Memory)
 
 abbrev pub join_of : Result FragmentValue Refusal → Option Op
 join_of (Ok fragment) = Some (Join fragment)
@@ -43,19 +43,19 @@ op_of config asked.Full = None
 op_of config (asked.Ask t query) = None
 
 -- the reply to a change: it was refused, or the operation ends that many of the list
-abbrev pub Changed : List Op → Option Op → ReplyValue → Type 0
-Changed ops (Some op) (Done count) = last_of (take count ops) ≡ Some op
-Changed ops wanted (Refused why) = Unit {0}
-Changed ops wanted reply = ⊥
+abbrev pub IsChangeReply : List Op → Option Op → ReplyValue → Type 0
+IsChangeReply ops (Some op) (Done count) = last_of (take count ops) ≡ Some op
+IsChangeReply ops wanted (Refused why) = Unit {0}
+IsChangeReply ops wanted reply = ⊥
 
 -- what is replied to a request by a seat with this list
-abbrev pub Replied : List Op → Request → ReplyValue → Type 0
-Replied ops asked.Front reply = IsOrRunsOut (fronted (node_front (replay ops))) reply
-Replied ops (asked.Delta base) reply = IsOrRunsOut (handed (node_delta (replay ops) base)) reply
-Replied ops asked.Full reply = IsOrRunsOut (handed (node_whole (replay ops))) reply
-Replied ops (asked.Ask t query) reply = IsOrRunsOut (told (node_reply (replay ops) t query)) reply
-Replied ops request reply = Changed ops (op_of (config_of ops) request) reply
+abbrev pub IsReplyTo : List Op → Request → ReplyValue → Type 0
+IsReplyTo ops asked.Front reply = IsOrOutOfMemory (front_reply (node_front (replay ops))) reply
+IsReplyTo ops (asked.Delta base) reply = IsOrOutOfMemory (handed (node_delta (replay ops) base)) reply
+IsReplyTo ops asked.Full reply = IsOrOutOfMemory (handed (node_whole (replay ops))) reply
+IsReplyTo ops (asked.Ask t query) reply = IsOrOutOfMemory (told (node_reply (replay ops) t query)) reply
+IsReplyTo ops request reply = IsChangeReply ops (op_of (config_of ops) request) reply
 
 -- what a host over a node may do: its seat's list is legal and begins with the one before, and the reply is of that list
 abbrev pub MayReply : List Op → Request → Reply → List Op → Type 0
-MayReply old request answer new = (is_legal new ≡ true) × IsPrefix old new × Replied new request (reply_seen answer)
+MayReply old request answer new = (is_legal new ≡ true) × IsPrefix old new × IsReplyTo new request (reply_seen answer)

@@ -22,7 +22,7 @@ const LAST_WAIT: u64 = 1;
 
 /// Lets the peer read the last reply. A link that is closed over bytes that nobody read is cut off, and the peer could
 /// lose what was written; so what it still sends is read and dropped, up to a bound.
-fn part(stream: &TcpStream) {
+fn drain(stream: &TcpStream) {
     let wait = Duration::from_secs(LAST_WAIT);
     if stream.shutdown(Shutdown::Write).is_err() || stream.set_read_timeout(Some(wait)).is_err() {
         return;
@@ -37,7 +37,7 @@ fn part(stream: &TcpStream) {
 }
 
 /// Runs the session of a link to its end.
-fn serve_link<J: NodeName, N: Wait + Drop, R: Wait>(
+fn serve_link<J: NodeName, N: Wait + Drop, R: Threads + Wait + Sync>(
     rt: &R,
     alloc: Global,
     node: &Node<J, N>,
@@ -50,7 +50,7 @@ fn serve_link<J: NodeName, N: Wait + Drop, R: Wait>(
     let mut reader = Counted::new(&stream);
     let mut writer = Counted::new(&stream);
     let ended = serve(alloc, &mut reader, &mut writer, &mut host);
-    part(&stream);
+    drain(&stream);
     ended
 }
 

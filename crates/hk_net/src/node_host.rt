@@ -11,7 +11,7 @@ ghost use Rattle.hk_node.specs.declared.op.Op.TheVariants.{Join, Prune as PruneT
 ghost use Rattle.hk_node.specs.Lists.{last_of};
 ghost use Rattle.hk_node.specs.Replay.{config_of, is_legal, replay};
 ghost use Rattle.hk_node.specs.Replies.{node_delta, node_front, node_reply, node_whole};
-ghost use Rattle.hk_net.specs.Replying.{Changed, IsOrRunsOut, MayReply, fronted, join_of};
+ghost use Rattle.hk_net.specs.Replying.{IsChangeReply, IsOrOutOfMemory, MayReply, front_reply, join_of};
 
 use hk_delta::{Fragment, fragment_of};
 use hk_log::Item;
@@ -23,6 +23,7 @@ use hk_wire::{Reply, Request};
 use std::alloc::Global;
 use std::marker::Model;
 use std::sync::Wait;
+use std::thread::Threads;
 
 /// A host over a running node, which others share, and one seat of that node. Contracts see it as the list of
 /// operations that the seat has seen or was told of.
@@ -33,14 +34,14 @@ use std::sync::Wait;
 /// refuses it, and items that make no fragment as their gathering is; `Unpublished` says that the change stands and
 /// waits. The other requests are answered by the seat, and take no lock. Costs as the calls do.
 #[derive(Drop)]
-pub struct NodeHost<'a, J: NodeName, N: Wait + Drop, R: Wait> {
+pub struct NodeHost<'a, J: NodeName, N: Wait + Drop, R: Threads + Wait + Sync> {
     rt: &'a R,
     alloc: Global,
     node: &'a Node<J, N>,
     seat: ReaderSeat<J>,
 }
 
-impl<'a, J: NodeName, N: Wait + Drop, R: Wait> Model for NodeHost<'a, J, N, R> {
+impl<'a, J: NodeName, N: Wait + Drop, R: Threads + Wait + Sync> Model for NodeHost<'a, J, N, R> {
     ghost use Rattle.std.specs.Prelude.{◌≡◌, true, List};
     ghost use Rattle.hk_node.specs.declared.op.Op.{Op};
     ghost use Rattle.hk_node.specs.Replay.{is_legal};
@@ -56,7 +57,7 @@ impl<'a, J: NodeName, N: Wait + Drop, R: Wait> Model for NodeHost<'a, J, N, R> {
     ghost invariant = { λ h. is_legal h.seat ≡ true };
 }
 
-impl<'a, J: NodeName, N: Wait + Drop, R: Wait> NodeHost<'a, J, N, R> {
+impl<'a, J: NodeName, N: Wait + Drop, R: Threads + Wait + Sync> NodeHost<'a, J, N, R> {
     /// A host over a node and a seat of it; their types name the node, so that a seat of another is none of these.
     pub fn new(
         rt: &'a R,
@@ -79,7 +80,7 @@ impl<'a, J: NodeName, N: Wait + Drop, R: Wait> NodeHost<'a, J, N, R> {
     fn learn(&mut self, receipt: Receipt<J>) -> Reply
         ensures legal { is_legal self.new ≡ true }
         ensures seen { IsPrefix self.old self.new }
-        ensures told { (op : Op) → last_of receipt ≡ Some op → Changed self.new (Some op) (reply_seen result) }
+        ensures told { (op : Op) → last_of receipt ≡ Some op → IsChangeReply self.new (Some op) (reply_seen result) }
     {
         let ops = receipt.ops();
         self.seat.learn(receipt);
@@ -98,7 +99,7 @@ impl<'a, J: NodeName, N: Wait + Drop, R: Wait> NodeHost<'a, J, N, R> {
     fn take_items(&mut self, items: &[Item]) -> Reply
         ensures legal { is_legal self.new ≡ true }
         ensures seen { IsPrefix self.old self.new }
-        ensures told { Changed self.new (join_of (gathered (config_of self.new) items.now)) (reply_seen result) }
+        ensures told { IsChangeReply self.new (join_of (gathered (config_of self.new) items.now)) (reply_seen result) }
     {
         match self.gather(items) {
             Ok(fragment) => self.join(fragment),
@@ -109,7 +110,7 @@ impl<'a, J: NodeName, N: Wait + Drop, R: Wait> NodeHost<'a, J, N, R> {
     fn join(&mut self, fragment: Fragment) -> Reply
         ensures legal { is_legal self.new ≡ true }
         ensures seen { IsPrefix self.old self.new }
-        ensures told { Changed self.new (Some (Join fragment)) (reply_seen result) }
+        ensures told { IsChangeReply self.new (Some (Join fragment)) (reply_seen result) }
     {
         match self.node.join(self.rt, fragment) {
             Ok(receipt) => self.learn(receipt),
@@ -120,7 +121,7 @@ impl<'a, J: NodeName, N: Wait + Drop, R: Wait> NodeHost<'a, J, N, R> {
     fn prune(&mut self, horizon: Time) -> Reply
         ensures legal { is_legal self.new ≡ true }
         ensures seen { IsPrefix self.old self.new }
-        ensures told { Changed self.new (Some (PruneTo horizon)) (reply_seen result) }
+        ensures told { IsChangeReply self.new (Some (PruneTo horizon)) (reply_seen result) }
     {
         match self.node.prune(self.rt, horizon) {
             Ok(receipt) => self.learn(receipt),
@@ -131,7 +132,7 @@ impl<'a, J: NodeName, N: Wait + Drop, R: Wait> NodeHost<'a, J, N, R> {
     fn front(&mut self) -> Reply
         ensures legal { is_legal self.new ≡ true }
         ensures seen { IsPrefix self.old self.new }
-        ensures told { IsOrRunsOut (fronted (node_front (replay self.new))) (reply_seen result) }
+        ensures told { IsOrOutOfMemory (front_reply (node_front (replay self.new))) (reply_seen result) }
     {
         match self.seat.front() {
             Ok(front) => Reply::Front(front),
@@ -142,7 +143,7 @@ impl<'a, J: NodeName, N: Wait + Drop, R: Wait> NodeHost<'a, J, N, R> {
     fn delta(&mut self, base: Time) -> Reply
         ensures legal { is_legal self.new ≡ true }
         ensures seen { IsPrefix self.old self.new }
-        ensures told { IsOrRunsOut (handed (node_delta (replay self.new) base)) (reply_seen result) }
+        ensures told { IsOrOutOfMemory (handed (node_delta (replay self.new) base)) (reply_seen result) }
     {
         match self.seat.delta_since(base) {
             Ok(fragment) => Reply::Fragment(fragment),
@@ -153,7 +154,7 @@ impl<'a, J: NodeName, N: Wait + Drop, R: Wait> NodeHost<'a, J, N, R> {
     fn whole(&mut self) -> Reply
         ensures legal { is_legal self.new ≡ true }
         ensures seen { IsPrefix self.old self.new }
-        ensures told { IsOrRunsOut (handed (node_whole (replay self.new))) (reply_seen result) }
+        ensures told { IsOrOutOfMemory (handed (node_whole (replay self.new))) (reply_seen result) }
     {
         match self.seat.whole() {
             Ok(fragment) => Reply::Fragment(fragment),
@@ -164,7 +165,7 @@ impl<'a, J: NodeName, N: Wait + Drop, R: Wait> NodeHost<'a, J, N, R> {
     fn ask(&mut self, time: Time, query: &Query) -> Reply
         ensures legal { is_legal self.new ≡ true }
         ensures seen { IsPrefix self.old self.new }
-        ensures told { IsOrRunsOut (told (node_reply (replay self.new) time query.now)) (reply_seen result) }
+        ensures told { IsOrOutOfMemory (told (node_reply (replay self.new) time query.now)) (reply_seen result) }
     {
         match self.seat.ask(time, query) {
             Ok(answer) => Reply::Answer(answer),
@@ -173,7 +174,7 @@ impl<'a, J: NodeName, N: Wait + Drop, R: Wait> NodeHost<'a, J, N, R> {
     }
 }
 
-impl<'a, J: NodeName, N: Wait + Drop, R: Wait> Host for NodeHost<'a, J, N, R> {
+impl<'a, J: NodeName, N: Wait + Drop, R: Threads + Wait + Sync> Host for NodeHost<'a, J, N, R> {
     ghost may = { MayReply };
 
     fn answer(&mut self, request: Request) -> Reply {
