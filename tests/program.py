@@ -5,6 +5,7 @@ Prints a line for each check and ends with 'N passed, M failed'. Standard librar
 import os
 import pathlib
 import random
+import socket
 import subprocess
 import sys
 import tempfile
@@ -463,6 +464,18 @@ def failing_reads_and_writes():
                 report(f"each call refused in turn ({name} of {args[0]}, {number} runs)", problems[:5])
 
 
+def links_example():
+    """Two feeders, a reader and a second node: examples/links."""
+    with socket.socket() as one:
+        one.bind(("127.0.0.1", 0))
+        port = one.getsockname()[1]
+    got = subprocess.run([sys.executable, str(ROOT / "examples" / "links" / "two_feeders.py"), str(port)], stdout=subprocess.PIPE,
+                         stderr=subprocess.PIPE, timeout=60, check=False)
+    last = got.stdout.decode().splitlines()[-1:]
+    problems = [] if got.returncode == 0 and last and last[0].startswith("both nodes answer the same") else [got.stdout.decode(), got.stderr.decode()]
+    report("the example of two feeders", problems)
+
+
 def refused_memory():
     """Lets the Nth request for memory fail, for each N up to a run that meets no refusal."""
     source = ROOT / "tests" / "faults" / "failing_malloc.c"
@@ -494,7 +507,7 @@ def main():
         print(f"FAILED {PROGRAM} is not built")
         print("0 passed, 1 failed")
         return 1
-    for group in (worked_rows, bytes_of_all_kinds, faults_of_frames, pieces, deliveries, generated_histories, refusals, world_scripts, bad_scripts, long_scripts, command_lines, failing_devices, failing_reads_and_writes, refused_memory):
+    for group in (worked_rows, bytes_of_all_kinds, faults_of_frames, pieces, deliveries, generated_histories, refusals, world_scripts, bad_scripts, long_scripts, command_lines, failing_devices, failing_reads_and_writes, links_example, refused_memory):
         group()
     print(f"{passed} passed, {failed} failed")
     return 1 if failed else 0

@@ -75,6 +75,8 @@ impl<'a, W: Write> Output<'a, W> {
             Stop::BadCommand(line) => self.print_bad(line),
             Stop::ReadFault => self.write_plain(b"refused 91\n"),
             Stop::WriteFault => Ok(()),
+            Stop::SendFault => self.write_plain(b"refused 92\n"),
+            Stop::NetFault => self.write_plain(b"refused 93\n"),
         }
     }
 

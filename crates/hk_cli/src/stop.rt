@@ -4,6 +4,7 @@ ghost use Rattle.std.specs.Prelude.{◌≡◌};
 ghost use Rattle.hk_types.specs.declared.faults.Refusal.TheVariants.{Form, Memory};
 ghost use Rattle.hk_cli.specs.declared.stop.Stop.TheVariants.{Refused};
 
+use hk_net::NetFault;
 use hk_types::{FormFault, Refusal};
 use std::alloc::AllocError;
 
@@ -18,6 +19,10 @@ pub(crate) enum Stop {
     BadCommand(u64),
     /// A write failed or took no bytes, so nothing more can be printed.
     WriteFault,
+    /// A write to a link failed or took no bytes.
+    SendFault,
+    /// A port can't be listened to, or a link can't be opened or accepted.
+    NetFault,
 }
 
 impl From<Refusal> for Stop {
@@ -33,6 +38,15 @@ impl From<FormFault> for Stop {
 
     fn from(fault: FormFault) -> Stop {
         Stop::Refused(Refusal::Form(fault))
+    }
+}
+
+impl From<NetFault> for Stop {
+    fn from(fault: NetFault) -> Stop {
+        match fault {
+            NetFault::Memory => Stop::Refused(Refusal::Memory),
+            NetFault::Socket => Stop::NetFault,
+        }
     }
 }
 

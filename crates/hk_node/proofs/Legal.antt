@@ -45,6 +45,16 @@ pub from-snoc : (c : NodeContent) (xs : List Op) (op : Op) → legal_from c xs �
 from-snoc c [] op h n = and_both (is_none (refused c op)) true (ap is_none n) refl
 from-snoc c (x ∷ xs) op h n = and_both (is_none (refused c x)) (legal_from (applied c x) (xs ++ op ∷ [])) (and_left (is_none (refused c x)) _ h) (from-snoc (applied c x) xs op (and_right (is_none (refused c x)) _ h) n)
 
+-- a legal list that goes on is of the same log
+pub config-snoc : (xs : List Op) (op : Op) → is_legal xs ≡ true → config_of (xs ++ op ∷ []) ≡ config_of xs
+config-snoc [] op h = absurd (cc)
+config-snoc (Start config ∷ xs) op h = refl
+config-snoc (Join f ∷ xs) op h = absurd (cc)
+config-snoc (Merge f ∷ xs) op h = absurd (cc)
+config-snoc (Prune t ∷ xs) op h = absurd (cc)
+config-snoc (HoldAt t ∷ xs) op h = absurd (cc)
+config-snoc (Release r t ∷ xs) op h = absurd (cc)
+
 -- a legal list goes on with an operation that is not refused
 pub legal-snoc : (xs : List Op) (op : Op) → is_legal xs ≡ true → refused (replay xs) op ≡ None → is_legal (xs ++ op ∷ []) ≡ true
 legal-snoc [] op h n = absurd (cc)

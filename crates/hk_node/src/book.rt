@@ -3,7 +3,7 @@
 ghost use Rattle.std.specs.Prelude.{◌≡◌, ◌<◌, ◌≤◌, ◌^◌, ◌++◌, ◌∷◌, [], true, false, length, None, IsTrue, IfSome};
 ghost use mathlib.Core.List.{IsPrefix};
 ghost use Rattle.hk_node.specs.declared.op.Op.TheVariants.{Start as StartOf};
-ghost use Rattle.hk_node.specs.Replay.{is_legal, refused, replay};
+ghost use Rattle.hk_node.specs.Replay.{config_of, is_legal, refused, replay};
 ghost use Rattle.hk_node.specs.Book.{counter_of};
 
 use crate::op::Op;
@@ -88,10 +88,11 @@ pub struct Counter {
     pub ghost is_counter: { word ≡ counter_of word.book },
 }
 
-/// A prefix of a node's list of operations that was seen. It has no bytes but a count. Contracts see it as the name of
-/// the node and the operations.
+/// A prefix of a node's list of operations that was seen. It has no bytes but the node's log and a count. Contracts see it as
+/// the name of the node and the operations.
 #[derive(Drop)]
 pub struct Prefix {
+    config: Config,
     ops: u64,
     seen: Seen<Op, u64, Counting>,
 }
@@ -100,7 +101,7 @@ impl Model for Prefix {
     ghost use Rattle.std.specs.Prelude.{◌≡◌, true, List, length};
     ghost use Rattle.logbook.specs.Pages.{Book};
     ghost use Rattle.hk_node.specs.declared.op.Op.{Op};
-    ghost use Rattle.hk_node.specs.Replay.{is_legal};
+    ghost use Rattle.hk_node.specs.Replay.{config_of, is_legal};
     ghost use Rattle.logbook.specs.Pages.{book_coded};
     ghost use Rattle.std.specs.Coded.{coded×, coded_list};
     ghost use Rattle.hk_node.specs.contracts.op.Op as op;
@@ -111,7 +112,7 @@ impl Model for Prefix {
 
     ghost view = { λ p. (p.seen.book, p.seen.log) };
 
-    ghost invariant = { λ p. (p.ops ≡ length p.seen.log) × (is_legal p.seen.log ≡ true) };
+    ghost invariant = { λ p. (p.ops ≡ length p.seen.log) × (is_legal p.seen.log ≡ true) × (p.config ≡ config_of p.seen.log) };
 }
 
 /// A new list, with the start of a node of this log alone.
@@ -122,10 +123,18 @@ fn open(config: Config) -> (Counter, Prefix)
     let (seen, mut pens) = Seen::open_row::<Config, Opens>(&config, Start::alone(), 1);
     let mut pen = pens.take();
     let word = Word::tracked(0, &mut pen);
-    (Counter { word }, Prefix { ops: 1, seen })
+    let ops = 1;
+    (Counter { word }, Prefix { config, ops, seen })
 }
 
 impl Prefix {
+    /// The log that the node is of.
+    pub fn config(&self) -> Config
+        ensures { result ≡ config_of self.now.1 }
+    {
+        self.config
+    }
+
     /// How many operations it has.
     pub fn len(&self) -> u64
         ensures length { result ≡ length self.now.1 }
@@ -139,6 +148,7 @@ impl Prefix {
         ensures { result ≡ self.now }
     {
         Prefix {
+            config: self.config,
             ops: self.ops,
             seen: self.seen.again(),
         }
@@ -173,7 +183,8 @@ impl Prefix {
         if found != count {
             return None;
         }
-        Some(Prefix { ops, seen })
+        let config = self.config;
+        Some(Prefix { config, ops, seen })
     }
 }
 

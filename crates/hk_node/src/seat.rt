@@ -7,7 +7,7 @@ ghost use Rattle.left_right.specs.Sides.{view as known};
 ghost use Rattle.hk_node.specs.Carried.{IsOfPrimary};
 ghost use Rattle.hk_node.specs.Holds.{HoldsBack};
 ghost use Rattle.hk_node.specs.Published.{IsOf, IsReplay};
-ghost use Rattle.hk_node.specs.Replay.{is_legal, replay};
+ghost use Rattle.hk_node.specs.Replay.{config_of, is_legal, replay};
 ghost use Rattle.hk_node.specs.Replies.{Answers, Gives, node_delta, node_front, node_reply, node_whole};
 
 use crate::book::{NodeName, Prefix};
@@ -17,7 +17,7 @@ use crate::replica::Replica;
 use atomic_table::{Join, Split};
 use hk_delta::Fragment;
 use hk_model::{Answer, Front, Query};
-use hk_types::{Refusal, Time};
+use hk_types::{Config, Refusal, Time};
 use std::alloc::{AllocError, Global};
 use std::marker::{Model, PhantomData};
 
@@ -258,6 +258,13 @@ impl<J: NodeName> ReaderSeat<J> {
         if self.prefix.compare(&told) {
             self.prefix = told;
         }
+    }
+
+    /// The log that the node is of. It takes no memory.
+    pub fn config(&self) -> Config
+        ensures { result ≡ config_of self.now }
+    {
+        self.prefix.config()
     }
 
     /// How many operations it has seen or was told of. It takes no memory.

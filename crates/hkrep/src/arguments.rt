@@ -2,6 +2,7 @@
 
 use clap::error::ErrorKind;
 use clap::{Arg, ArgAction, ArgMatches, Command, Error, value_parser};
+use hk_cli::Links;
 use hk_types::{Config, Key, LAST_TIME, Table, Time};
 use std::alloc::{AllocError, Global};
 
@@ -19,6 +20,16 @@ pub enum Call {
     Items,
     /// Play a script of a primary and its replicas.
     World,
+    /// Start a node, and serve so many links on a port.
+    Serve {
+        config: Config,
+        port: u16,
+        links: Links,
+    },
+    /// Send requests to the node on a port.
+    Push {
+        port: u16,
+    },
 }
 
 const ABOUT: &str = "Read replicas of an in-memory multiversion primary";
@@ -59,8 +70,34 @@ plays the script line by line, and prints what each line is told. A refused comm
 refusal and changes nothing; a line that is no command prints 'line N: bad command' and ends the \
 script.";
 
-/// The names of the arguments of `at`, which are all numbers.
+const SERVE_ABOUT: &str = "Start a node, and serve links to it on a port of 127.0.0.1";
+
+const PUSH_ABOUT: &str = "Send the requests of standard input to a node, and print each reply";
+
+const LINKS_EXAMPLE: &str = "Example, a node and a feeder:
+  hkrep serve --log 7 --streams 1 --port 47110 --links 1 &
+  hkrep push --port 47110 < examples/links/first.bin
+The node prints 'listening 47110' once links can be opened. The feeder sends two items and asks \
+for a row: it prints 'done 2' and '9 41'. When the links have ended, the node prints 'ended 0' for \
+each, or the number of what ended it.";
+
+const SERVE_LONG_ABOUT: &str = "Start a node, and serve links to it on a port of 127.0.0.1.
+
+It serves as many links as --links says, side by side, and ends when all have ended. It prints \
+'refused 93' where the port can't be listened to. docs/PROTOCOL.md says what goes over a link.";
+
+const PUSH_LONG_ABOUT: &str = "Send the requests of standard input to a node, and print each reply.
+
+A request is sent once the reply to the one before was printed. 'refused' and a number ends it \
+where the input or a reply is malformed (1 to 10; 1 where the replies end), a read (91) or a \
+write (92) fails, or nobody listens (93). docs/PROTOCOL.md says what goes over a link.";
+
+/// The names of the arguments of each command, which are all numbers.
 const AT_NUMBERS: [&str; 5] = ["log", "streams", "time", "table", "key"];
+
+const SERVE_NUMBERS: [&str; 4] = ["log", "streams", "port", "links"];
+
+const PUSH_NUMBERS: [&str; 1] = ["port"];
 
 /// An argument that has to be given.
 fn wanted<'a>(alloc: Global, name: &'a str, value: &'a str, help: &'a str) -> Arg<'a> {
@@ -113,6 +150,23 @@ fn with_key<'a>(alloc: Global, command: Command<'a>) -> Result<Command<'a>, Allo
     command.arg(key.value_parser(value_parser!(u64)))
 }
 
+fn with_port<'a>(alloc: Global, command: Command<'a>) -> Result<Command<'a>, AllocError> {
+    let port = wanted(alloc, "port", "P", "The port of 127.0.0.1: 1 to 65535");
+    command.arg(
+        port.long("port")
+            .value_parser(value_parser!(u16).range(1..=65_535)),
+    )
+}
+
+fn with_links<'a>(alloc: Global, command: Command<'a>) -> Result<Command<'a>, AllocError> {
+    let links = wanted(alloc, "links", "N", "How many links are served: 1 to 64");
+    command.arg(
+        links
+            .long("links")
+            .value_parser(value_parser!(u16).range(1..=64)),
+    )
+}
+
 fn at_command<'a>(alloc: Global) -> Result<Command<'a>, AllocError> {
     let command = Command::new(alloc, "at")
         .about(AT_ABOUT)
@@ -122,6 +176,19 @@ fn at_command<'a>(alloc: Global) -> Result<Command<'a>, AllocError> {
     let command = with_time(alloc, command)?;
     let command = with_table(alloc, command)?;
     with_key(alloc, command)
+}
+
+fn serve_command<'a>(alloc: Global) -> Result<Command<'a>, AllocError> {
+    let command = plain(alloc, "serve", SERVE_ABOUT, LINKS_EXAMPLE).long_about(SERVE_LONG_ABOUT);
+    let command = with_log(alloc, command)?;
+    let command = with_streams(alloc, command)?;
+    let command = with_port(alloc, command)?;
+    with_links(alloc, command)
+}
+
+fn push_command<'a>(alloc: Global) -> Result<Command<'a>, AllocError> {
+    let command = plain(alloc, "push", PUSH_ABOUT, LINKS_EXAMPLE).long_about(PUSH_LONG_ABOUT);
+    with_port(alloc, command)
 }
 
 fn plain<'a>(alloc: Global, name: &'a str, about: &'a str, example: &'a str) -> Command<'a> {
@@ -140,7 +207,9 @@ fn whole<'a>(alloc: Global) -> Command<'a> {
 fn program<'a>(alloc: Global) -> Result<Command<'a>, AllocError> {
     let command = whole(alloc).subcommand(at_command(alloc)?)?;
     let command = command.subcommand(plain(alloc, "items", ITEMS_ABOUT, ITEMS_EXAMPLE))?;
-    command.subcommand(plain(alloc, "world", WORLD_ABOUT, WORLD_EXAMPLE))
+    let command = command.subcommand(plain(alloc, "world", WORLD_ABOUT, WORLD_EXAMPLE))?;
+    let command = command.subcommand(serve_command(alloc)?)?;
+    command.subcommand(push_command(alloc)?)
 }
 
 fn is_decimal(word: &str) -> bool {
@@ -148,9 +217,9 @@ fn is_decimal(word: &str) -> bool {
 }
 
 /// The first of the named words that is not made of decimal digits alone.
-fn first_signed<'a>(matches: &ArgMatches<'a>) -> Option<&'a str> {
-    for name in AT_NUMBERS {
-        if let Some(word) = matches.get_str(name) {
+fn first_signed<'a>(matches: &ArgMatches<'a>, names: &[&str]) -> Option<&'a str> {
+    for name in names {
+        if let Some(word) = matches.get_str(*name) {
             if !is_decimal(word) {
                 return Some(word);
             }
@@ -174,6 +243,23 @@ fn at_call(matches: &ArgMatches<'_>) -> Option<Call> {
     })
 }
 
+/// The call that the arguments of `serve` make, where each of them is in its range.
+fn serve_call(matches: &ArgMatches<'_>) -> Option<Call> {
+    let log = matches.get_one::<u64>("log")?;
+    let streams = matches.get_one::<u16>("streams")?;
+    let links = matches.get_one::<u16>("links")?;
+    Some(Call::Serve {
+        config: Config::new(log, streams).ok()?,
+        port: matches.get_one::<u16>("port")?,
+        links: Links::new(links)?,
+    })
+}
+
+fn push_call(matches: &ArgMatches<'_>) -> Option<Call> {
+    let port = matches.get_one::<u16>("port")?;
+    Some(Call::Push { port })
+}
+
 /// The error of a bad command line, with this text before the usage.
 fn bad_line(alloc: Global, message: &str) -> Result<Error, AllocError> {
     let mut command = program(alloc)?;
@@ -187,20 +273,31 @@ fn bad_word(alloc: Global, word: &str) -> Result<Error, AllocError> {
     bad_line(alloc, message.as_str())
 }
 
+/// A call, where the words of its numbers are made of decimal digits alone and it could be made.
+fn checked(
+    alloc: Global,
+    matches: &ArgMatches<'_>,
+    numbers: &[&str],
+    call: Option<Call>,
+) -> Result<Call, Error> {
+    if let Some(word) = first_signed(matches, numbers) {
+        return Err(bad_word(alloc, word)?);
+    }
+    match call {
+        Some(call) => Ok(call),
+        None => Err(bad_line(alloc, "a number is out of its range")?),
+    }
+}
+
 /// Reads the words of the command line, the program's name first. An error has a text and a status: 2 for a
 /// bad command line, 0 where help or the version was asked for.
 pub fn read_call<'a>(alloc: Global, words: &'a [String]) -> Result<Call, Error> {
     let matches = program(alloc)?.try_get_matches_from(words)?;
-    let at = match matches.subcommand() {
-        Some(("at", at)) => at,
-        Some(("world", _none)) => return Ok(Call::World),
-        _items => return Ok(Call::Items),
-    };
-    if let Some(word) = first_signed(at) {
-        return Err(bad_word(alloc, word)?);
-    }
-    match at_call(at) {
-        Some(call) => Ok(call),
-        None => Err(bad_line(alloc, "a number is out of its range")?),
+    match matches.subcommand() {
+        Some(("at", at)) => checked(alloc, at, &AT_NUMBERS, at_call(at)),
+        Some(("serve", serve)) => checked(alloc, serve, &SERVE_NUMBERS, serve_call(serve)),
+        Some(("push", push)) => checked(alloc, push, &PUSH_NUMBERS, push_call(push)),
+        Some(("world", _none)) => Ok(Call::World),
+        _items => Ok(Call::Items),
     }
 }

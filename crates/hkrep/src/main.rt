@@ -4,12 +4,15 @@
 mod arguments;
 
 use arguments::{Call, read_call};
-use hk_cli::{run_at, run_items, run_world};
+use hk_cli::{run_at, run_items, run_push, run_serve, run_world};
 use log::warn;
 use std::alloc::Global;
 use std::io;
+use std::net::{Net, TcpListener, TcpStream};
 use std::process::ExitCode;
 use std::rt::Env;
+use std::sync::Wait;
+use std::thread::Threads;
 
 /// The words that the process was started with.
 fn words<R: Env + Alloc<A = Global>>(rt: &R) -> io::Result<Vec<String>> {
@@ -17,7 +20,11 @@ fn words<R: Env + Alloc<A = Global>>(rt: &R) -> io::Result<Vec<String>> {
 }
 
 /// The status of a call over standard input and output.
-fn run<R: Input + Print + Alloc<A = Global>>(rt: &R, call: Call) -> u8 {
+fn run<R>(rt: &R, call: Call) -> u8
+where
+    R: Input + Print + Alloc<A = Global>,
+    R: Net<Listener = TcpListener, Stream = TcpStream> + Threads + Wait + Sync,
+{
     let mut input = rt.reader();
     let mut output = io::writer(rt);
     match call {
@@ -37,6 +44,12 @@ fn run<R: Input + Print + Alloc<A = Global>>(rt: &R, call: Call) -> u8 {
         ),
         Call::Items => run_items(rt.alloc(), &mut input, &mut output),
         Call::World => run_world(rt.alloc(), &mut input, &mut output),
+        Call::Serve {
+            config,
+            port,
+            links,
+        } => run_serve(rt, rt.alloc(), port, config, links, &mut output),
+        Call::Push { port } => run_push(rt, rt.alloc(), &mut input, port, &mut output),
     }
 }
 

@@ -1,0 +1,26 @@
+//! The lines of a node that serves links, beside refusals.
+
+ghost use Rattle.hk_cli.specs.Notices as spec;
+
+use hk_lines::Printed;
+use std::alloc::{AllocError, Global};
+
+/// What a node that serves links tells.
+#[derive(Clone, Copy)]
+pub(crate) enum Notice {
+    /// Links can be opened to this port.
+    Listening(u16),
+    /// A link ended, with this number.
+    Ended(u8),
+}
+
+impl Printed for Notice {
+    ghost text = { λ notice. spec.notice_line notice };
+
+    fn print_to(&self, _alloc: Global, out: &mut String) -> Result<(), AllocError> {
+        match self {
+            Notice::Listening(port) => writeln!(out, "listening {port}"),
+            Notice::Ended(number) => writeln!(out, "ended {number}"),
+        }
+    }
+}

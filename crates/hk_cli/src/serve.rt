@@ -1,0 +1,117 @@
+//! The command `serve`.
+
+ghost use Rattle.std.specs.Prelude.{◌≡◌, ◌≤◌, ◌<◌, IfOk, IfSome};
+
+use crate::notice::Notice;
+use crate::output::Output;
+use crate::stop::Stop;
+use hk_net::serve_links;
+use hk_node::{NewList, NodeName, start};
+use hk_session::Ended;
+use hk_types::Config;
+use std::alloc::Global;
+use std::io::Write;
+use std::marker::{Brand, Model};
+use std::net::{Ipv4Addr, Net, TcpListener, TcpStream};
+use std::sync::Wait;
+use std::thread::Threads;
+
+/// How many links a node serves: 1 to 64. It has a place for each.
+#[derive(Clone, Copy, Debug, PartialEq, Eq)]
+pub struct Links {
+    count: u16,
+}
+
+impl Model for Links {
+    ghost use Rattle.std.specs.Prelude.{ℕ, ◌<◌, ◌≤◌};
+
+    ghost Value = { ℕ };
+
+    ghost view = { λ l. l.count };
+
+    ghost invariant = { λ l. (0 < l.count) × (l.count ≤ 64) };
+
+    ghost inverse = { λ n. record { count = n } };
+}
+
+impl Links {
+    /// So many links, unless there are none or more than 64.
+    pub fn new(count: u16) -> Option<Links>
+        ensures { IfSome result (λ links. links ≡ count) }
+    {
+        if count == 0 || count > 64 {
+            return None;
+        }
+        Some(Links { count })
+    }
+
+    /// How many they are.
+    fn count(self) -> usize
+        ensures value { result ≡ self }
+        ensures bound { (0 < result) × (result ≤ 64) }
+    {
+        usize::from(self.count)
+    }
+}
+
+/// Prints how each link ended, and gives the status.
+fn print_ends<W: Write>(ends: &[Ended], output: &mut Output<'_, W>) -> Result<u8, Stop>
+    ensures { IfOk result (λ status. status ≤ 1) }
+{
+    for ended in ends {
+        output.print(&Notice::Ended(ended.number()))?;
+    }
+    output.flush()?;
+    let all_clean = ends.iter().all(|ended| matches!(ended, Ended::Clean));
+    Ok(u8::from(!all_clean))
+}
+
+/// Serves the links to a new node of this list.
+fn serve_list<
+    J: NodeName + Send + Sync,
+    R: Net<Listener = TcpListener, Stream = TcpStream> + Threads + Wait + Sync,
+    W: Write,
+>(
+    rt: &R,
+    alloc: Global,
+    port: u16,
+    list: NewList,
+    links: Links,
+    output: &mut Output<'_, W>,
+) -> Result<u8, Stop>
+    requires { list.0 ≡ J.book }
+    ensures { IfOk result (λ status. status ≤ 1) }
+{
+    let listener = match TcpListener::bind(rt, (Ipv4Addr::LOCALHOST, port)) {
+        Ok(listener) => listener,
+        Err(_error) => return Err(Stop::NetFault),
+    };
+    let (node, seats) = start::<J, &R>(rt, alloc, list, links.count())?;
+    output.print(&Notice::Listening(port))?;
+    output.flush()?;
+    let ends = serve_links(rt, alloc, &listener, &node, seats)?;
+    print_ends(&ends, output)
+}
+
+/// Starts a node of a log, and serves links to it on a port of 127.0.0.1, until so many were opened and all have ended.
+/// Prints `listening` and the port once links can be opened, and at the end a line for each link in the order in which
+/// they were accepted: `ended` and its number, which is 0, the fault's of a request, 90, 91 or 92.
+///
+/// The status is 0, or 1 where a number above 0 or one of these lines was printed:
+///
+/// - `refused 93` where the port can't be listened to, as one in use, or no further link can be accepted;
+/// - `refused 90` where memory ran out for the node or the list of links;
+/// - no line where a write failed or took no bytes: the status alone tells it.
+pub fn run_serve<
+    R: Net<Listener = TcpListener, Stream = TcpStream> + Threads + Wait + Sync,
+    W: Write,
+>(rt: &R, alloc: Global, port: u16, config: Config, links: Links, writer: &mut W) -> u8
+    ensures { result ≤ 1 }
+{
+    let mut output = Output::new(alloc, writer);
+    let list = NewList::new(config);
+    match serve_list::<Brand, R, W>(rt, alloc, port, list, links, &mut output) {
+        Ok(status) => status,
+        Err(stop) => output.stop(stop),
+    }
+}

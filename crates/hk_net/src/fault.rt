@@ -1,0 +1,33 @@
+//! Why links were not served.
+
+ghost use Rattle.std.specs.Prelude.{◌≡◌};
+ghost use Rattle.hk_net.specs.Faults.{net_fault_number};
+
+use std::alloc::AllocError;
+
+/// Why links were not served, or not all of them.
+#[derive(Clone, Copy, Debug, PartialEq, Eq)]
+pub enum NetFault {
+    /// The list of ends could not be made.
+    Memory,
+    /// A bind, an accept or a connect failed.
+    Socket,
+}
+
+impl NetFault {
+    /// The number: 90 or 93.
+    pub fn number(self) -> u8
+        ensures { result ≡ net_fault_number self }
+    {
+        match self {
+            NetFault::Memory => 90,
+            NetFault::Socket => 93,
+        }
+    }
+}
+
+impl From<AllocError> for NetFault {
+    fn from(_error: AllocError) -> NetFault {
+        NetFault::Memory
+    }
+}

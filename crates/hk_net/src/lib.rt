@@ -1,0 +1,13 @@
+//! Links over TCP to one running node, each served in a thread of its own.
+//!
+//! `NodeHost` answers the requests of one link over the shared node and the link's own seat; `serve_links` accepts the
+//! links and runs a session of `hk_session` on each. What crosses threads and sockets is shown by tests.
+#![tactic(auto)]
+
+mod fault;
+mod links;
+mod node_host;
+
+pub use fault::NetFault;
+pub use links::serve_links;
+pub use node_host::NodeHost;

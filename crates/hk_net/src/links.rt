@@ -1,0 +1,120 @@
+//! Links over TCP.
+
+ghost use Rattle.std.specs.Prelude.{◌≡◌, length, IfOk};
+
+use crate::fault::NetFault;
+use crate::node_host::NodeHost;
+use hk_node::{Node, NodeName, ReaderSeat};
+use hk_session::{Counted, Ended, serve};
+use std::alloc::Global;
+use std::io::Read;
+use std::net::{Shutdown, TcpListener, TcpStream};
+use std::sync::Wait;
+use std::thread;
+use std::thread::Threads;
+use std::time::Duration;
+
+/// How many pieces of what a peer still sends are read once its session has ended.
+const LAST_PIECES: u32 = 1024;
+
+/// How many seconds the next piece is waited for.
+const LAST_WAIT: u64 = 1;
+
+/// Lets the peer read the last reply. A link that is closed over bytes that nobody read is cut off, and the peer could
+/// lose what was written; so what it still sends is read and dropped, up to a bound.
+fn drain(stream: &TcpStream) {
+    let wait = Duration::from_secs(LAST_WAIT);
+    if stream.shutdown(Shutdown::Write).is_err() || stream.set_read_timeout(Some(wait)).is_err() {
+        return;
+    }
+    let mut piece = [0u8; 4096];
+    for _ in 0..LAST_PIECES {
+        match (&mut &*stream).read(&mut piece) {
+            Ok(0) | Err(_) => return,
+            Ok(_) => {}
+        }
+    }
+}
+
+/// Runs the session of a link to its end.
+fn serve_link<J: NodeName, N: Wait + Drop, R: Threads + Wait + Sync>(
+    rt: &R,
+    alloc: Global,
+    node: &Node<J, N>,
+    seat: ReaderSeat<J>,
+    stream: TcpStream,
+) -> Ended {
+    // A reply is sent at once; where that can't be had, replies come later.
+    let _at_once = stream.set_nodelay(true);
+    let mut host = NodeHost::new(rt, alloc, node, seat);
+    let mut reader = Counted::new(&stream);
+    let mut writer = Counted::new(&stream);
+    let ended = serve(alloc, &mut reader, &mut writer, &mut host);
+    drain(&stream);
+    ended
+}
+
+/// Accepts as many links as there are seats, and runs the session of each in a thread of its own, with one of the seats.
+/// Gives how each ended, in the order in which they were accepted, once all have ended.
+///
+/// A link whose thread can't be started ends with `Memory`. `NetFault::Memory` comes where the list of ends can't be made,
+/// which is tested before the first accept; `NetFault::Socket` where an accept failed, after the links that were accepted
+/// so far have run to their end. The cost is that of the sessions.
+pub fn serve_links<
+    J: NodeName + Send + Sync,
+    N: Wait + Drop + Send + Sync,
+    R: Threads + Wait + Sync,
+>(
+    rt: &R,
+    alloc: Global,
+    listener: &TcpListener,
+    node: &Node<J, N>,
+    seats: Vec<ReaderSeat<J>>,
+) -> Result<Vec<Ended>, NetFault>
+    ensures { IfOk result (λ ends. length ends.items ≡ length seats.items) }
+{
+    let count = seats.len();
+    let mut ends = Vec::with_capacity(alloc, count)?;
+    let mut links = Vec::with_capacity(alloc, count)?;
+    thread::scope(
+        thread::scope_env(),
+        rt,
+        |scope| -> Result<Vec<Ended>, NetFault>
+            ensures { IfOk result (λ ends. length ends.items ≡ count) }
+        {
+            let mut fault = None;
+            for seat in seats {
+                match listener.accept() {
+                    Ok((stream, _address)) => {
+                        let link = scope
+                            .spawn(move || serve_link(rt, alloc, node, seat, stream))
+                            .ok();
+                        if links.push(link).is_err() {
+                            fault = Some(NetFault::Memory);
+                            break;
+                        }
+                    }
+                    Err(_error) => {
+                        fault = Some(NetFault::Socket);
+                        break;
+                    }
+                }
+            }
+            for link in links {
+                let ended = match link {
+                    Some(handle) => handle.join(rt),
+                    None => Ended::Memory,
+                };
+                if ends.push(ended).is_err() {
+                    fault = Some(NetFault::Memory);
+                }
+            }
+            match fault {
+                Some(fault) => Err(fault),
+                // Holds here: each seat gave a link, and each link an end.
+                None if ends.len() == count => Ok(ends),
+                None => Err(NetFault::Memory),
+            }
+        },
+    )
+}

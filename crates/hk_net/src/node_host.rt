@@ -1,0 +1,191 @@
+//! A host over a running node and one seat of it.
+
+ghost use Rattle.std.specs.Prelude.{◌≡◌, true, Some, None, Option, IfOk, OnOk};
+ghost use mathlib.Core.List.{IsPrefix};
+ghost use Rattle.hk_types.specs.Values.{ConfigValue};
+ghost use Rattle.hk_model.specs.Rules.{gathered};
+ghost use Rattle.hk_wire.specs.Replies.{reply_seen};
+ghost use Rattle.hk_session.specs.Steps.{told, handed};
+ghost use Rattle.hk_node.specs.declared.op.Op.{Op};
+ghost use Rattle.hk_node.specs.declared.op.Op.TheVariants.{Join, Prune as PruneTo};
+ghost use Rattle.hk_node.specs.Lists.{last_of};
+ghost use Rattle.hk_node.specs.Replay.{config_of, is_legal, replay};
+ghost use Rattle.hk_node.specs.Replies.{node_delta, node_front, node_reply, node_whole};
+ghost use Rattle.hk_net.specs.Replying.{IsChangeReply, IsOrOutOfMemory, MayReply, front_reply, join_of};
+
+use hk_delta::{Fragment, fragment_of};
+use hk_log::Item;
+use hk_model::Query;
+use hk_node::{Node, NodeName, ReaderSeat, Receipt};
+use hk_session::Host;
+use hk_types::{Refusal, Time};
+use hk_wire::{Reply, Request};
+use std::alloc::Global;
+use std::marker::Model;
+use std::sync::Wait;
+use std::thread::Threads;
+
+/// A host over a running node, which others share, and one seat of that node. Contracts see it as the list of
+/// operations that the seat has seen or was told of.
+///
+/// Items are taken all or nothing, as the join of the one fragment that they make; a fragment is joined, and a whole is
+/// joined in the same way. A change that took effect is learnt by the seat, so that the link's later replies show it,
+/// and is answered `Done` with the number of operations that ends with it. A refused change is answered as the node
+/// refuses it, and items that make no fragment as their gathering is; `Unpublished` says that the change stands and
+/// waits. The other requests are answered by the seat, and take no lock. Costs as the calls do.
+#[derive(Drop)]
+pub struct NodeHost<'a, J: NodeName, N: Wait + Drop, R: Threads + Wait + Sync> {
+    rt: &'a R,
+    alloc: Global,
+    node: &'a Node<J, N>,
+    seat: ReaderSeat<J>,
+}
+
+impl<'a, J: NodeName, N: Wait + Drop, R: Threads + Wait + Sync> Model for NodeHost<'a, J, N, R> {
+    ghost use Rattle.std.specs.Prelude.{◌≡◌, true, List};
+    ghost use Rattle.hk_node.specs.declared.op.Op.{Op};
+    ghost use Rattle.hk_node.specs.Replay.{is_legal};
+    ghost use Rattle.std.specs.Coded.{coded_list};
+    ghost use Rattle.hk_node.specs.contracts.op.Op as op;
+
+    ghost Value = { List Op };
+
+    ghost coded = { coded_list op.the_row.coded };
+
+    ghost view = { λ h. h.seat };
+
+    ghost invariant = { λ h. is_legal h.seat ≡ true };
+}
+
+impl<'a, J: NodeName, N: Wait + Drop, R: Threads + Wait + Sync> NodeHost<'a, J, N, R> {
+    /// A host over a node and a seat of it; their types name the node, so that a seat of another is none of these.
+    pub fn new(
+        rt: &'a R,
+        alloc: Global,
+        node: &'a Node<J, N>,
+        seat: ReaderSeat<J>,
+    ) -> NodeHost<'a, J, N, R>
+        ensures { result ≡ seat }
+    {
+        let _legal = seat.seen();
+        NodeHost {
+            rt,
+            alloc,
+            node,
+            seat,
+        }
+    }
+
+    /// Takes in the receipt of a change.
+    fn learn(&mut self, receipt: Receipt<J>) -> Reply
+        ensures legal { is_legal self.new ≡ true }
+        ensures seen { IsPrefix self.old self.new }
+        ensures told { (op : Op) → last_of receipt ≡ Some op → IsChangeReply self.new (Some op) (reply_seen result) }
+    {
+        let ops = receipt.ops();
+        self.seat.learn(receipt);
+        let _legal = self.seat.seen();
+        Reply::Done { ops }
+    }
+
+    /// The one fragment that items make.
+    fn gather(&self, items: &[Item]) -> Result<Fragment, Refusal>
+        ensures legal { is_legal self.now ≡ true }
+        ensures gives { OnOk result (gathered (config_of self.now) items.now ≡ result) }
+    {
+        fragment_of(self.alloc, self.seat.config(), items)
+    }
+
+    fn take_items(&mut self, items: &[Item]) -> Reply
+        ensures legal { is_legal self.new ≡ true }
+        ensures seen { IsPrefix self.old self.new }
+        ensures told { IsChangeReply self.new (join_of (gathered (config_of self.new) items.now)) (reply_seen result) }
+    {
+        match self.gather(items) {
+            Ok(fragment) => self.join(fragment),
+            Err(why) => Reply::Refused(why),
+        }
+    }
+
+    fn join(&mut self, fragment: Fragment) -> Reply
+        ensures legal { is_legal self.new ≡ true }
+        ensures seen { IsPrefix self.old self.new }
+        ensures told { IsChangeReply self.new (Some (Join fragment)) (reply_seen result) }
+    {
+        match self.node.join(self.rt, fragment) {
+            Ok(receipt) => self.learn(receipt),
+            Err(why) => Reply::Refused(why),
+        }
+    }
+
+    fn prune(&mut self, horizon: Time) -> Reply
+        ensures legal { is_legal self.new ≡ true }
+        ensures seen { IsPrefix self.old self.new }
+        ensures told { IsChangeReply self.new (Some (PruneTo horizon)) (reply_seen result) }
+    {
+        match self.node.prune(self.rt, horizon) {
+            Ok(receipt) => self.learn(receipt),
+            Err(why) => Reply::Refused(why),
+        }
+    }
+
+    fn front(&mut self) -> Reply
+        ensures legal { is_legal self.new ≡ true }
+        ensures seen { IsPrefix self.old self.new }
+        ensures told { IsOrOutOfMemory (front_reply (node_front (replay self.new))) (reply_seen result) }
+    {
+        match self.seat.front() {
+            Ok(front) => Reply::Front(front),
+            Err(why) => Reply::Refused(why),
+        }
+    }
+
+    fn delta(&mut self, base: Time) -> Reply
+        ensures legal { is_legal self.new ≡ true }
+        ensures seen { IsPrefix self.old self.new }
+        ensures told { IsOrOutOfMemory (handed (node_delta (replay self.new) base)) (reply_seen result) }
+    {
+        match self.seat.delta_since(base) {
+            Ok(fragment) => Reply::Fragment(fragment),
+            Err(why) => Reply::Refused(why),
+        }
+    }
+
+    fn whole(&mut self) -> Reply
+        ensures legal { is_legal self.new ≡ true }
+        ensures seen { IsPrefix self.old self.new }
+        ensures told { IsOrOutOfMemory (handed (node_whole (replay self.new))) (reply_seen result) }
+    {
+        match self.seat.whole() {
+            Ok(fragment) => Reply::Fragment(fragment),
+            Err(why) => Reply::Refused(why),
+        }
+    }
+
+    fn ask(&mut self, time: Time, query: &Query) -> Reply
+        ensures legal { is_legal self.new ≡ true }
+        ensures seen { IsPrefix self.old self.new }
+        ensures told { IsOrOutOfMemory (told (node_reply (replay self.new) time query.now)) (reply_seen result) }
+    {
+        match self.seat.ask(time, query) {
+            Ok(answer) => Reply::Answer(answer),
+            Err(why) => Reply::Refused(why),
+        }
+    }
+}
+
+impl<'a, J: NodeName, N: Wait + Drop, R: Threads + Wait + Sync> Host for NodeHost<'a, J, N, R> {
+    ghost may = { MayReply };
+
+    fn answer(&mut self, request: Request) -> Reply {
+        match request {
+            Request::Items(items) => self.take_items(&items),
+            Request::Front => self.front(),
+            Request::Delta { base } => self.delta(base),
+            Request::Full => self.whole(),
+            Request::Ask { t, query } => self.ask(t, &query),
+            Request::JoinThis(fragment) | Request::MergeThis(fragment) => self.join(fragment),
+            Request::Prune { horizon } => self.prune(horizon),
+        }
+    }
+}

@@ -1,0 +1,487 @@
+#!/usr/bin/env python3
+"""Checks of links over TCP: a client that speaks docs/FORMATS.md by itself (tests/messages.py) drives `bin/hkrep serve`, and
+scripted peers drive `bin/hkrep push`. Every wait has a limit, and each node that is started is ended.
+
+Prints a line for each check and ends with 'N passed, M failed'. Standard library only."""
+import pathlib
+import queue
+import socket
+import struct
+import subprocess
+import sys
+import threading
+import time
+
+import messages as say
+
+ROOT = pathlib.Path(__file__).resolve().parent.parent
+PROGRAM = str(ROOT / "bin" / "hkrep")
+LIMIT = 30
+
+passed = 0
+failed = 0
+
+
+def report(name, problems):
+    global passed, failed
+    if problems:
+        failed += 1
+        print(f"FAILED {name}")
+        for problem in problems[:5]:
+            print(f"  {str(problem)[:300]}")
+    else:
+        passed += 1
+        print(f"ok {name}", flush=True)
+
+
+def differ(pairs):
+    """A problem for each (what, got, wanted) where the last two differ."""
+    return [f"{what}: {got!r}, wanted {wanted!r}" for what, got, wanted in pairs if got != wanted]
+
+
+def free_port():
+    with socket.socket() as it:
+        it.bind(("127.0.0.1", 0))
+        return it.getsockname()[1]
+
+
+class Node:
+    """A node of `hkrep serve`, which is ended at the latest when the block is left."""
+
+    def __init__(self, links, log=7, streams=1):
+        self.port = free_port()
+        self.child = subprocess.Popen(
+            [PROGRAM, "serve", "--log", str(log), "--streams", str(streams), "--port", str(self.port), "--links", str(links)],
+            stdout=subprocess.PIPE, stderr=subprocess.PIPE, text=True)
+        lines = queue.Queue()
+        threading.Thread(target=lambda: lines.put(self.child.stdout.readline()), daemon=True).start()
+        said = lines.get(timeout=LIMIT)
+        if said != f"listening {self.port}\n":
+            raise RuntimeError(f"the node said {said!r}")
+
+    def link(self):
+        return say.Link(self.port, LIMIT)
+
+    def ends(self):
+        """How the links ended, the status, and how many lines standard error has."""
+        out, err = self.child.communicate(timeout=LIMIT)
+        return [int(line.removeprefix("ended ")) for line in out.splitlines()], self.child.returncode, len(err.splitlines())
+
+    def __enter__(self):
+        return self
+
+    def __exit__(self, *_):
+        if self.child.poll() is None:
+            self.child.kill()
+            self.child.communicate()
+
+
+def guarded(check):
+    """Runs a check; what it raises, a limit included, is a failure and not the end of the run."""
+    try:
+        check()
+    except Exception as error:  # pylint: disable=broad-except
+        report(check.__name__, [f"{type(error).__name__}: {error}"])
+
+
+E1 = say.entry(1, 1, [(1, 5, 9, b"\x41")])
+E2 = say.entry(2, 2, [(1, 5, 9, b"\x42")], [(1, 5, 1)])
+E3 = say.entry(3, 3, [(1, 6, 9, b"\x43")])
+WORKED = say.items(E1, say.mark(1, 1, 1)) + say.ask(1, say.get(1, 5))
+WHOLE_1 = {"streams": [(1, 1, [], [])], "facts": [(1, 5, 1, (9, b"\x41"), None)]}
+
+
+def worked_bytes():
+    """The spellings of this client are those that the documents print."""
+    wanted = bytes.fromhex("0000005b 01 10 00000002 00000031 01 01 0000000000000007 0001 0000000000000001 0000000000000001 0000 0001"
+                           "0001 0000000000000005 00000009 0001 41 0000001c 01 02 0000000000000007 0001 0000000000000001"
+                           "0000000000000001 00000015 01 14 0000000000000001 01 0001 0000000000000005")
+    told = bytes.fromhex("0000000a 01 20 0000000000000002 0000000b 01 23 01 01 00000009 0001 41")
+    with Node(1) as node, node.link() as link:
+        link.send(WORKED)
+        link.half_close()
+        report("items and an ask, in bytes", differ([("asked", WORKED, wanted), ("told", link.read_all(), told), ("ends", node.ends(), ([0], 0, 0))]))
+
+
+def all_requests():
+    """Each request and each reply, over one link; what a link changed shows in its next reply."""
+    with Node(1, streams=2) as node, node.link() as link:
+        steps = [
+            ("front at first", say.front(), ("front", 0, 0)),
+            ("items", say.items(E1, E2, E3, say.mark(1, 3, 3)), ("done", 2)),
+            ("a stream is silent", say.front(), ("front", 0, 0)),
+            ("not yet", say.ask(3, say.get(1, 5)), ("refused", 26, 0, 0)),
+            ("the other stream's mark", say.items(say.mark(2, 0, 3)), ("done", 3)),
+            ("front", say.front(), ("front", 0, 3)),
+            ("get", say.ask(3, say.get(1, 5)), ("row", (9, b"\x42"))),
+            ("get at an older time", say.ask(1, say.get(1, 5)), ("row", (9, b"\x41"))),
+            ("get of nothing", say.ask(3, say.get(2, 5)), ("row", None)),
+            ("range", say.ask(3, say.scan(1, 0, 9)), ("rows", [(5, 9, b"\x42"), (6, 9, b"\x43")])),
+            ("range from high to low", say.ask(3, say.scan(1, 9, 0)), ("rows", [])),
+            ("tag", say.ask(2, say.by_tag(1, 9)), ("rows", [(5, 9, b"\x42")])),
+            ("count", say.ask(3, say.count(1)), ("number", 2)),
+            ("delta", say.delta(2), ("fragment", {"log": 7, "base": 2, "horizon": 0, "streams": [(3, 3, [], []), (0, 3, [], [])],
+                                                  "facts": [(1, 6, 3, (9, b"\x43"), None)]})),
+            ("no items", say.items(), ("done", 4)),
+            ("join of a delta", say.join_this(base=2, streams=[(4, 4, [], []), (0, 4, [], [])], facts=[(1, 5, 2, None, 4)]), ("done", 5)),
+            ("what was joined ended", say.ask(4, say.get(1, 5)), ("row", None)),
+            ("a delta above the mark", say.join_this(base=5, horizon=0, streams=[(4, 4, [], []), (0, 4, [], [])]), ("refused", 22, 5, 4)),
+            ("prune above the mark", say.prune(5), ("refused", 24, 4, 0)),
+            ("prune", say.prune(3), ("done", 6)),
+            ("too old", say.ask(2, say.count(1)), ("refused", 25, 3, 0)),
+            ("delta that is too old", say.delta(2), ("refused", 25, 3, 0)),
+            ("merge", say.merge_this(streams=[(5, 5, [], []), (0, 5, [], [])], facts=[(1, 7, 5, (9, b""), None)]), ("done", 7)),
+            ("what was merged", say.ask(5, say.get(1, 7)), ("row", (9, b""))),
+            ("whole", say.full(), ("fragment", {"log": 7, "base": 0, "horizon": 3, "streams": [(5, 5, [], []), (0, 5, [], [])], "facts": [
+                (1, 5, 2, (9, b"\x42"), 4), (1, 6, 3, (9, b"\x43"), None), (1, 7, 5, (9, b""), None)]})),
+            ("items of another log", say.items(say.mark(1, 0, 1, log=8)), ("refused", 20, 0, 0)),
+            ("a stream above the number", say.items(say.mark(3, 0, 1)), ("refused", 21, 0, 0)),
+            ("another log", say.join_this(log=8, streams=[(0, 0, [], [])] * 2), ("refused", 20, 0, 0)),
+            ("another number of streams", say.merge_this(), ("refused", 21, 0, 0)),
+            ("items that contradict each other", say.items(say.entry(9, 9, [(1, 9, 9, b"a")]), say.entry(1, 9, [(1, 9, 9, b"b")], stream=2)),
+             ("refused", 23, 0, 0)),
+            ("which changed nothing", say.front(), ("front", 3, 5)),
+            ("items that contradict the node", say.items(say.entry(1, 3, [(1, 6, 9, b"\x99")], stream=2)), ("refused", 23, 0, 0)),
+            ("which damages it: ask", say.ask(5, say.count(1)), ("refused", 41, 0, 0)),
+            ("front of a damaged node", say.front(), ("refused", 41, 0, 0)),
+            ("delta of a damaged node", say.delta(5), ("refused", 41, 0, 0)),
+            ("whole of a damaged node", say.full(), ("refused", 41, 0, 0)),
+            ("items into a damaged node", say.items(E1), ("refused", 41, 0, 0)),
+            ("prune of a damaged node", say.prune(5), ("refused", 41, 0, 0)),
+        ]
+        problems = differ([(name, link.ask(request), wanted) for name, request, wanted in steps])
+        link.close()
+        report("each request and its reply", problems + differ([("ends", node.ends(), ([0], 0, 0))]))
+
+
+def many_links(cases):
+    """Sends each case over a link of its own, one after the other, to a node for up to 64 of them.
+
+    A case is what it is called, the bytes that are sent before the link is closed for sending, what comes back and how the link ends."""
+    problems = []
+    for at in range(0, len(cases), 64):
+        part = cases[at:at + 64]
+        with Node(len(part)) as node:
+            for name, data, told, _ in part:
+                with node.link() as link:
+                    link.send(data)
+                    link.half_close()
+                    problems += differ([(name, link.read_all().hex(" "), told.hex(" "))])
+            ends = [end for *_, end in part]
+            bad = 1 if any(ends) else 0
+            problems += differ([("ends", node.ends(), (ends, bad, bad))])
+    return problems
+
+
+def patched(fields, name, text, which=0):
+    """The frame with the bytes of a named field changed; `which` counts the fields of that name from 0."""
+    places = [place for place, field in enumerate(fields) if field[0] == name]
+    fields = list(fields)
+    fields[places[which]] = (name, text)
+    return say.spelled(fields)
+
+
+def ended_by(fields, name, text):
+    """The frame that ends with a named field, whose bytes are these."""
+    place = next(place for place, field in enumerate(fields) if field[0] == name)
+    return say.spelled(fields[:place] + [(name, text)])
+
+
+LAST = 2 ** 62
+OVER = say.u64(LAST + 1)
+MOST = say.u64(2 ** 64 - 1)
+
+
+def faults_of_requests():
+    lists = say.fields_of_fragment(base=0, horizon=0, streams=[(2, 2, [4, 6], [(4, 4), (6, 7)])], facts=[
+        (1, 5, 1, (9, b"a"), 2), (1, 5, 2, (9, b"b"), None), (2, 1, 1, (9, b"c"), None)])
+    joined, merged = say.message(21, lists), say.message(22, lists)
+    pruned = say.message(21, say.fields_of_fragment(base=3, horizon=3, streams=[(3, 3, [], [])], facts=[(1, 5, 1, None, 4)]))
+    got = say.message(20, [("time", say.u64(1))] + say.get(1, 5))
+    one = say.fields_of_entry(2, 2, [(1, 5, 9, b"a"), (1, 7, 9, b"b")], [(1, 5, 1), (1, 7, 1)])
+    inside = lambda name, text, which=0: say.items(patched(one, name, text, which))
+    return [
+        ("length above the limit", say.u32(2 ** 28 + 1), 2), ("length below the least", say.u32(1), 10), ("no length", say.u32(0), 10),
+        ("version", patched(got, "version", b"\2"), 3), ("version before kind", say.framed(b"\2\xff"), 3),
+        ("kind", patched(got, "kind", b"\x0f"), 4), ("kind above the last", patched(got, "kind", b"\x18"), 4),
+        ("kind of a reply", say.done(1), 4),
+        ("front with a byte", say.framed(b"\1\x11\0"), 10), ("whole with a byte", say.framed(b"\1\x13\0"), 10),
+        ("delta without a base", say.framed(b"\1\x12"), 10), ("base of a delta", say.spelled(say.message(18, [("base", OVER)])), 6),
+        ("horizon of a prune", say.spelled(say.message(23, [("horizon", OVER)])), 6),
+        ("time of an ask", patched(got, "time", OVER), 6), ("kind of a query", patched(got, "query", b"\0"), 6),
+        ("kind of a query above the last", patched(got, "query", b"\5"), 6), ("query with a byte", say.spelled(got + [("more", b"\0")]), 10),
+        ("query that is cut", say.spelled(got[:-1] + [("key", b"\0" * 7)]), 10),
+        ("count of items", say.framed(b"\1\x10" + say.u32(65537)), 8), ("items that are not there", say.framed(b"\1\x10" + say.u32(1)), 10),
+        ("items and a byte", say.spelled(say.fields_of_items([E1]) + [("more", b"\0")]), 10),
+        ("item's length above its limit", say.framed(b"\1\x10" + say.u32(1) + say.u32(4229153)), 2),
+        ("item's length below the least", say.framed(b"\1\x10" + say.u32(1) + say.u32(27)), 10),
+        ("item that does not fit", say.framed(b"\1\x10" + say.u32(1) + E1[:-1]), 10),
+        ("item's version", inside("version", b"\2"), 3), ("item's kind", inside("kind", b"\3"), 4),
+        ("item's stream", inside("stream", say.u16(0)), 5), ("item's stream above 64", inside("stream", say.u16(65)), 5),
+        ("item's number", inside("number", say.u64(0)), 6), ("item's number above its time", inside("number", say.u64(3)), 6),
+        ("item's time", inside("time", OVER), 6), ("count of ends", inside("count of ends", say.u16(1025)), 8),
+        ("order of ends", inside("key", say.u64(5), 1), 7), ("born", inside("born", say.u64(0)), 6),
+        ("born at the time", inside("born", say.u64(2)), 6), ("count of rows", inside("count of rows", say.u16(1025)), 8),
+        ("order of rows", inside("key", say.u64(5), 3), 7), ("item's body", inside("body length", say.u16(4097)), 9),
+        ("mark's n above its m", say.items(say.mark(1, 2, 1)), 6),
+        ("no streams", patched(joined, "streams", say.u16(0)), 5), ("streams", patched(joined, "streams", say.u16(65)), 5),
+        ("base", patched(joined, "base", OVER), 6), ("base below the horizon", patched(pruned, "base", say.u64(2)), 6),
+        ("base of a merge", patched(merged, "base", say.u64(1)), 6), ("horizon above closed", patched(joined, "horizon", say.u64(3)), 6),
+        ("prefix", patched(joined, "prefix", OVER), 6), ("closed", patched(joined, "closed", OVER), 6),
+        ("count of extra numbers", ended_by(joined, "count of extra numbers", b"\xff" * 4), 10),
+        ("extra number at the prefix", patched(joined, "extra number", say.u64(3)), 6), ("extra number", patched(joined, "extra number", OVER, 1), 6),
+        ("order of extra numbers", patched(joined, "extra number", say.u64(4), 1), 7),
+        ("count of waiting marks", ended_by(joined, "count of waiting marks", b"\xff" * 4), 10),
+        ("n at the prefix", patched(joined, "n", say.u64(2)), 6), ("order of waiting marks", patched(joined, "n", say.u64(4), 1), 7),
+        ("m below n", patched(joined, "m", say.u64(3)), 6), ("m", patched(joined, "m", OVER), 6),
+        ("count of facts", ended_by(joined, "count of facts", b"\xff" * 4), 10),
+        ("order of facts", patched(joined, "born", say.u64(1), 1), 7), ("born at 0", patched(joined, "born", say.u64(0)), 6),
+        ("born above the last time", patched(joined, "born", OVER, 1), 6), ("no flag", patched(joined, "flags", b"\0"), 6),
+        ("flags", patched(joined, "flags", b"\4"), 6), ("row at the base", patched(pruned, "flags", b"\1"), 6),
+        ("body of a fact", patched(joined, "body length", say.u16(4097)), 9), ("died at its birth", patched(joined, "died", say.u64(1)), 6),
+        ("died", patched(joined, "died", MOST), 6), ("died at the base", patched(pruned, "died", say.u64(3)), 6),
+        ("fragment and a byte", say.spelled(joined + [("more", b"\0")]), 10),
+    ]
+
+
+def each_fault():
+    cases = [(name, data, say.refused(number), number) for name, data, number in faults_of_requests()]
+    report(f"each fault of form, at each field ({len(cases)})", many_links(cases))
+
+
+def each_cut():
+    """The worked bytes cut after each byte; the node's operations count over all links."""
+    items_end = len(say.items(E1, say.mark(1, 1, 1)))
+    ops = 1
+    cases = []
+    for end in range(len(WORKED) + 1):
+        if end % 64 == 0:
+            ops = 1
+        told = b""
+        if end >= items_end:
+            ops += 1
+            told = say.done(ops)
+        if end == len(WORKED):
+            told += say.spelled(say.message(35, [("kind", b"\1"), ("some", b"\1"), ("tag", say.u32(9)), ("length", say.u16(1)), ("body", b"\x41")]))
+        whole = end in (0, items_end, len(WORKED))
+        cases.append((f"cut at {end}", WORKED[:end], told + (b"" if whole else say.refused(1)), 0 if whole else 1))
+    report(f"each cut of two requests ({len(cases)})", many_links(cases))
+
+
+def pieces_and_pipelines():
+    """A request byte by byte; a thousand requests at once, whose replies come in order; a fault behind replies."""
+    problems = []
+    with Node(3) as node:
+        with node.link() as slow:
+            for byte in WORKED:
+                slow.send(bytes([byte]))
+            problems += differ([("byte by byte", [slow.reply(), slow.reply()], [("done", 2), ("row", (9, b"\x41"))])])
+        with node.link() as link:
+            link.send(say.items(*(say.entry(n, n, [(2, n, 9, say.u16(n))]) for n in range(2, 1001)), say.mark(1, 1000, 1000)))
+            problems += differ([("a thousand entries", link.reply(), ("done", 3))])
+            link.send(b"".join(say.ask(1000, say.get(2, n)) for n in range(2, 1001)))
+            problems += differ([(f"reply {n}", link.reply(), ("row", (9, say.u16(n)))) for n in range(2, 1001)])
+        with node.link() as link:
+            link.send(say.front() + say.u32(2 ** 28 + 1) + b"more bytes that nobody reads" * 1000)
+            problems += differ([("a fault behind a reply", [link.reply(), link.reply()], [("front", 0, 1000), ("refused", 2, 0, 0)])])
+        problems += differ([("ends", node.ends(), ([0, 0, 2], 1, 1))])
+    report("pieces, pipelines, and bytes behind a fault", problems)
+
+
+def busy(node, key, number, problems):
+    """Asks for one key again and again, while items may come."""
+    try:
+        with node.link() as link:
+            before = 0
+            for _ in range(number):
+                told = link.ask(say.front())
+                readable = told[2]
+                if told[0] != "front" or readable < before:
+                    problems.append(f"front {told}, after {before}")
+                    return
+                before = readable
+                row = link.ask(say.ask(readable, say.get(1, key)))
+                born = readable - (readable - key) % 64 if readable >= key else 0
+                wanted = ("row", (9, say.u64(born)) if born > 0 else None)
+                if row != wanted:
+                    problems.append(f"key {key} at {readable}: {row}, wanted {wanted}")
+                    return
+    except (OSError, EOFError) as error:
+        problems.append(f"key {key}: {error}")
+
+
+def pushing(node, number, problems):
+    """Pushes entries, four at a time, the later two first; key k is put at the times k, k + 64, k + 128, .."""
+    try:
+        with node.link() as link:
+            for at in range(1, number, 4):
+                frames = []
+                for time_ in (at + 3, at + 2, at + 1, at):
+                    key = (time_ - 1) % 64 + 1
+                    ends = [(1, key, time_ - 64)] if time_ > 64 else []
+                    frames.append(say.entry(time_, time_, [(1, key, 9, say.u64(time_))], ends))
+                for request in (say.items(*frames[:2]), say.items(*frames[2:], say.mark(1, at + 3, at + 3))):
+                    told = link.ask(request)
+                    if told[0] != "done":
+                        problems.append(f"push at {at}: {told}")
+                        return
+    except (OSError, EOFError) as error:
+        problems.append(f"push: {error}")
+
+
+def many_at_once():
+    """64 links at once: one pushes, 63 ask; every answer is the row of its time."""
+    problems = []
+    with Node(64) as node:
+        threads = [threading.Thread(target=pushing, args=(node, 400, problems))]
+        threads += [threading.Thread(target=busy, args=(node, key, 50, problems)) for key in range(1, 64)]
+        for thread in threads:
+            thread.start()
+        for thread in threads:
+            thread.join(LIMIT)
+        problems += differ([("ends", node.ends(), ([0] * 64, 0, 0))])
+    report("64 links at once, beside a pushing one", problems)
+
+
+def silent_link():
+    """A link that is opened first and says nothing holds up no other, and one that stands inside a frame neither."""
+    with Node(4) as node:
+        silent, half = node.link(), node.link()
+        half.send(WORKED[:40])
+        problems = []
+        for _ in range(2):
+            with node.link() as link:
+                problems += differ([("a busy link", [link.ask(say.items(E1, say.mark(1, 1, 1)))[0], link.ask(say.ask(1, say.get(1, 5)))],
+                                     ["done", ("row", (9, b"\x41"))])])
+        half.send(WORKED[40:])
+        problems += differ([("the rest of the half frame", [half.reply(), half.reply()], [("done", 4), ("row", (9, b"\x41"))]),
+                            ("the silent link", silent.ask(say.front()), ("front", 0, 1))])
+        half.close()
+        silent.close()
+        problems += differ([("ends", node.ends(), ([0, 0, 0, 0], 0, 0))])
+    report("a silent link beside busy ones", problems)
+
+
+def link_that_does_not_read():
+    """A link that asks for much and reads nothing holds up no other; when it goes, its end is a failed write or read."""
+    problems = []
+    with Node(2) as node:
+        stuck = node.link()
+        rows = [(1, key, 9, b"x" * 4000) for key in range(500)]
+        problems += differ([("items", stuck.ask(say.items(say.entry(1, 1, rows), say.mark(1, 1, 1))), ("done", 2))])
+        stuck.send(say.full() * 50)
+        with node.link() as link:
+            for _ in range(20):
+                problems += differ([("another link", link.ask(say.ask(1, say.count(1))), ("number", 500))])
+            problems += differ([("a change beside it", link.ask(say.items(say.mark(1, 1, 2))), ("done", 3))])
+        stuck.socket.setsockopt(socket.SOL_SOCKET, socket.SO_LINGER, struct.pack("ii", 1, 0))
+        stuck.close()
+        ends, status, lines = node.ends()
+        if ends not in ([91, 0], [92, 0]) or (status, lines) != (1, 1):
+            problems.append(f"ends {ends}, status {status}, {lines} lines of warning")
+    report("a link that stops reading", problems)
+
+
+def run(args, data=b""):
+    got = subprocess.run([PROGRAM, *args], input=data, capture_output=True, timeout=LIMIT, check=False)
+    return got.stdout.decode(), got.returncode, len(got.stderr.splitlines())
+
+
+def push(port, data):
+    return run(["push", "--port", str(port)], data)
+
+
+def pushes():
+    """`hkrep push` against a node: what it prints, and what ends it."""
+    with Node(5) as node:
+        problems = differ([
+            ("the worked bytes", push(node.port, WORKED), ("done 2\n9 41\n", 0, 0)),
+            ("nothing", push(node.port, b""), ("", 0, 0)),
+            ("a refusal goes on", push(node.port, say.prune(9) + say.front() + say.full() + say.ask(1, say.scan(1, 0, 9))),
+             ("refused 24 readable 1\nfront horizon 0 readable 1\nfragment base 0 horizon 0 facts 1\n5 9 41\nrows 1\n", 1, 1)),
+            ("half a frame", push(node.port, say.front() + WORKED[:40]), ("front horizon 0 readable 1\nrefused 1\n", 1, 1)),
+            ("a fault", push(node.port, say.ask(1, say.count(1)) + say.done(1) + say.front()), ("count 1\nrefused 4\n", 1, 1)),
+            ("ends", node.ends(), ([0] * 5, 0, 0))])
+    report("push to a node", problems)
+
+
+def peer(answers, reset=False):
+    """Listens once, takes a request for each answer and sends the answer, and then closes; gives the port and the thread."""
+    listener = socket.create_server(("127.0.0.1", 0))
+    listener.settimeout(LIMIT)
+
+    def talk():
+        with listener:
+            link, _ = listener.accept()
+            with link:
+                link.settimeout(LIMIT)
+                for answer in answers:
+                    length = int.from_bytes(link.recv(4, socket.MSG_WAITALL), "big")
+                    link.recv(length, socket.MSG_WAITALL)
+                    link.sendall(answer)
+                if reset:
+                    link.recv(1)
+                    link.setsockopt(socket.SOL_SOCKET, socket.SO_LINGER, struct.pack("ii", 1, 0))
+
+    thread = threading.Thread(target=talk, daemon=True)
+    thread.start()
+    return listener.getsockname()[1], thread
+
+
+def push_to_bad_peers():
+    problems = []
+    for name, answers, reset, wanted in (
+            ("the replies end", [], False, ["refused 1"]),
+            ("the replies end after one", [say.done(2)], False, ["done 2", "refused 1"]),
+            ("a reply is cut", [say.done(2)[:9]], False, ["refused 1"]),
+            ("a reply of a request's kind", [say.front()], False, ["refused 4"]),
+            ("a reply of another version", [say.framed(b"\2\x20")], False, ["refused 3"]),
+            ("a reply that is too long", [say.u32(2 ** 28 + 1)], False, ["refused 2"]),
+            ("done with 0", [say.done(0)], False, ["refused 6"]),
+            ("the link is cut off", [], True, ["refused 91"])):
+        port, thread = peer(answers, reset)
+        out, status, lines = push(port, say.items() + say.front())
+        thread.join(LIMIT)
+        problems += differ([(name, (out.splitlines(), status, lines), (wanted, 1, 1))])
+    nobody = free_port()
+    problems += differ([("nobody listens", push(nobody, say.front()), ("refused 93\n", 1, 1))])
+    report("push to peers that end, cut or malform their replies", problems)
+
+
+def bad_ports_and_lines():
+    problems = []
+    with socket.create_server(("127.0.0.1", 0)) as taken:
+        port = str(taken.getsockname()[1])
+        problems += differ([("a port in use", run(["serve", "--log", "7", "--streams", "1", "--port", port, "--links", "1"]), ("refused 93\n", 1, 1))])
+    serve = {"--log": "7", "--streams": "1", "--port": "47110", "--links": "1"}
+    lines = [["serve", *(word for pair in {**serve, name: value}.items() for word in pair)] for name, value in (
+        ("--port", "0"), ("--port", "65536"), ("--port", "+1"), ("--links", "0"), ("--links", "65"), ("--links", "-1"), ("--streams", "65"),
+        ("--log", "x"), ("--more", "1"))]
+    lines += [["serve"], ["push"], ["push", "--port", "0"], ["push", "--port", "+7"], ["push", "--port", "65536"], ["push", "--port", "1", "2"]]
+    for line in lines:
+        out, status, words = run(line)
+        if (out, status) != ("", 2) or words == 0:
+            problems.append(f"{line}: {out!r}, status {status}, {words} lines")
+    for command in ("serve", "push"):
+        out, status, _ = run([command, "--help"])
+        missing = [word for word in ("hkrep serve --log", "hkrep push --port", "docs/PROTOCOL.md", "--port <P>") if word not in out]
+        if missing or status != 0:
+            problems.append(f"help of {command}: lacks {missing}, status {status}")
+    report("ports in use, bad command lines, and help", problems)
+
+
+def main():
+    start = time.monotonic()
+    checks = [worked_bytes, all_requests, each_fault, each_cut, pieces_and_pipelines, silent_link, link_that_does_not_read, many_at_once, pushes,
+              push_to_bad_peers, bad_ports_and_lines]
+    wanted = sys.argv[1:]
+    for check in checks:
+        if not wanted or check.__name__ in wanted:
+            guarded(check)
+    print(f"links: {time.monotonic() - start:.1f} s")
+    print(f"{passed} passed, {failed} failed")
+    return 1 if failed else 0
+
+
+if __name__ == "__main__":
+    sys.exit(main())
