@@ -13,14 +13,10 @@ SEED = 1
 
 all: bin/hkrep
 
-# what hkrep stands on and no more, each crate by as many processes as there are processors
-bin/hkrep: FORCE
-	cd crates/hkrep && rt check --jobs $$(nproc)
-	cd crates/hkrep && rt run -- --version > /dev/null
-	mkdir -p bin
-	cp crates/hkrep/out/hkrep bin/hkrep
-
-FORCE:
+# made anew where a source changed
+bin/hkrep: $(shell find crates -name out -prune -o -name must-fail -prune -o -name 'hk_tests_*' -prune -o -type f -print) crates.txt HANDLES tests/build
+	tests/build
+	touch bin/hkrep
 
 try:
 	cd crates/hkrep && rt try -- at --log 7 --streams 1 1 1 5 < ../../examples/first.bin
