@@ -9,3 +9,4 @@ pub mod Again
 pub mod InFrames
 pub mod Stream
 pub mod Items
+pub mod PartsRead

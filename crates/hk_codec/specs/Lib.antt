@@ -3,3 +3,4 @@ pub mod Framing
 pub mod Spelling
 pub mod Reading
 pub mod Frames
+pub mod Parts

@@ -3,7 +3,7 @@
 ghost use Rattle.std.specs.Prelude.{◌≡◌, ◌≤◌, ◌++◌, ◌⊎◌, List, [], ℕ, length, drop, IfOk};
 ghost use Rattle.hk_types.specs.declared.faults.FormFault.{FormFault};
 ghost use Rattle.hk_types.specs.declared.faults.Refusal.TheVariants as refusals;
-ghost use Rattle.hk_codec.specs.Frames.{Adds, Decodes, held, answer, last_answer};
+ghost use Rattle.hk_codec.specs.Frames.{Adds, held, answer, last_answer};
 
 use crate::frame_feeder::FrameFeeder;
 use crate::frames::{Progress, take_frames};
@@ -63,26 +63,13 @@ impl Feeder {
 }
 
 /// Adds the items of the whole frames that the bytes begin with. The only error is want of memory.
-fn take_items(alloc: Global, bytes: &[u8], out: &mut Vec<Item>) -> Result<Progress, AllocError>
+pub(crate) fn take_items(
+    alloc: Global,
+    bytes: &[u8],
+    out: &mut Vec<Item>,
+) -> Result<Progress, AllocError>
     ensures used { IfOk result (λ p. p.used ≤ length bytes.now) }
     ensures read { IfOk result (λ p. Adds out.old.items out.new.items bytes.now (held (drop p.used bytes.now) p.fault)) }
 {
     take_frames(alloc, bytes, out)
-}
-
-/// The items whose spellings, one after another, are all of the bytes. Else the fault of what follows the
-/// whole spellings that the bytes begin with, which is `Truncated` where they end inside a frame; or
-/// `Memory`. The cost is one pass over the bytes.
-pub fn decode_all(alloc: Global, bytes: &[u8]) -> Result<Vec<Item>, Refusal>
-    ensures { Decodes bytes.now result }
-{
-    let mut items = Vec::new(alloc);
-    let progress = take_items(alloc, bytes, &mut items)?;
-    if let Some(fault) = progress.fault {
-        return Err(Refusal::Form(fault));
-    }
-    if progress.used < bytes.len() {
-        return Err(Refusal::Form(FormFault::Truncated));
-    }
-    Ok(items)
 }

@@ -17,13 +17,15 @@ mod framed;
 mod frames;
 mod laws;
 mod lists;
+mod parallel;
 mod reading;
 
 pub use cursor::{Cursor, ReadError};
 pub use encoding::{encode, frame_len, put_frame};
-pub use feeder::{Feeder, decode_all};
+pub use feeder::Feeder;
 pub use fields::{put_body, put_u16, put_u32, put_u64};
 pub use frame_feeder::FrameFeeder;
 pub use framed::Framed;
 pub use frames::{frame_rest, next_frame};
 pub use laws::{one_reading, one_spelling, pieces_join};
+pub use parallel::decode_all;

@@ -1,4 +1,4 @@
-//! Tests of fragments that several workers build.
+//! Tests of what several workers do: fragments that they build, frames that they read.
 #![tactic(auto)]
 
 #[cfg(test)]

@@ -1,4 +1,6 @@
-//! Fragments of log 7 with two streams, built by several workers.
+//! Items and fragments of log 7 with two streams, by several workers.
+
+mod decoding;
 
 use hk_batch::{Gate, OpenGate, build};
 use hk_delta::Fragment;

@@ -90,7 +90,7 @@ fn spells_and_reads_the_worked_frames(rt: HostRuntime) -> Result<(), Fail> {
         encode(item, &mut bytes)?;
     }
     assert_eq!(rt; bytes.as_slice(), stream(alloc)?.as_slice());
-    assert!(rt; decode_all(alloc, &bytes)? == worked(alloc)?);
-    assert!(rt; decode_all(alloc, &[])?.is_empty());
+    assert!(rt; decode_all(&rt, alloc, &bytes)? == worked(alloc)?);
+    assert!(rt; decode_all(&rt, alloc, &[])?.is_empty());
     Ok(())
 }
