@@ -406,7 +406,8 @@ def pushes():
 
 
 def peer(answers, reset=False):
-    """Listens once, takes a request for each answer and sends the answer, and then closes; gives the port and the thread."""
+    """Listens once, takes a request for each answer and sends the answer, which may be empty, and then closes; gives the port and
+    the thread."""
     listener = socket.create_server(("127.0.0.1", 0))
     listener.settimeout(LIMIT)
 
@@ -431,8 +432,8 @@ def peer(answers, reset=False):
 def push_to_bad_peers():
     problems = []
     for name, answers, reset, wanted in (
-            ("the replies end", [], False, ["refused 1"]),
-            ("the replies end after one", [say.done(2)], False, ["done 2", "refused 1"]),
+            ("the replies end", [b""], False, ["refused 1"]),
+            ("the replies end after one", [say.done(2), b""], False, ["done 2", "refused 1"]),
             ("a reply is cut", [say.done(2)[:9]], False, ["refused 1"]),
             ("a reply of a request's kind", [say.front()], False, ["refused 4"]),
             ("a reply of another version", [say.framed(b"\2\x20")], False, ["refused 3"]),

@@ -464,11 +464,23 @@ def failing_reads_and_writes():
                 report(f"each call refused in turn ({name} of {args[0]}, {number} runs)", problems[:5])
 
 
+def free_pair():
+    """A port that is free, and the one above it too."""
+    for _ in range(100):
+        with socket.socket() as one, socket.socket() as other:
+            one.bind(("127.0.0.1", 0))
+            port = one.getsockname()[1]
+            try:
+                other.bind(("127.0.0.1", port + 1))
+            except OSError:
+                continue
+            return port
+    return 47111
+
+
 def links_example():
     """Two feeders, a reader and a second node: examples/links."""
-    with socket.socket() as one:
-        one.bind(("127.0.0.1", 0))
-        port = one.getsockname()[1]
+    port = free_pair()
     got = subprocess.run([sys.executable, str(ROOT / "examples" / "links" / "two_feeders.py"), str(port)], stdout=subprocess.PIPE,
                          stderr=subprocess.PIPE, timeout=60, check=False)
     last = got.stdout.decode().splitlines()[-1:]
