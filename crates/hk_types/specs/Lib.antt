@@ -2,3 +2,4 @@ pub mod Values
 pub mod Numbers
 pub mod FaultNumbers
 pub mod SameRows
+pub mod Orders

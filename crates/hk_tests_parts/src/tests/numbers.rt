@@ -1,22 +1,7 @@
-//! Orders and printed words.
+//! Printed words.
 
-use hk_types::{FormFault, Key, Refusal, StreamNo, Table, Tag, Time, VersionKey};
+use hk_types::{FormFault, Key, Refusal, StreamNo, Table, Tag, Time};
 use std::test::*;
-
-#[test]
-fn orders_version_keys_by_their_fields(rt: HostRuntime) -> Result<(), Fail> {
-    let at = |table: u16, key: u64, born: u64| -> Result<VersionKey, FormFault> {
-        Ok(VersionKey {
-            table: Table::new(table),
-            key: Key::new(key),
-            born: Time::new(born)?,
-        })
-    };
-    assert!(rt; at(1, 9, 9)? < at(2, 1, 1)?);
-    assert!(rt; at(1, 1, 9)? < at(1, 2, 1)?);
-    assert!(rt; at(1, 1, 1)? < at(1, 1, 2)?);
-    Ok(())
-}
 
 #[test]
 fn prints_numbers(rt: HostRuntime) -> Result<(), Fail> {
