@@ -23,6 +23,7 @@ use hk_wire::{Reply, Request};
 use std::alloc::Global;
 use std::marker::Model;
 use std::sync::Wait;
+use std::thread::Threads;
 
 /// A host over a running node, which others share, and one seat of that node. Contracts see it as the list of
 /// operations that the seat has seen or was told of.
@@ -33,14 +34,14 @@ use std::sync::Wait;
 /// refuses it, and items that make no fragment as their gathering is; `Unpublished` says that the change stands and
 /// waits. The other requests are answered by the seat, and take no lock. Costs as the calls do.
 #[derive(Drop)]
-pub struct NodeHost<'a, J: NodeName, N: Wait + Drop, R: Wait> {
+pub struct NodeHost<'a, J: NodeName, N: Wait + Drop, R: Threads + Wait + Sync> {
     rt: &'a R,
     alloc: Global,
     node: &'a Node<J, N>,
     seat: ReaderSeat<J>,
 }
 
-impl<'a, J: NodeName, N: Wait + Drop, R: Wait> Model for NodeHost<'a, J, N, R> {
+impl<'a, J: NodeName, N: Wait + Drop, R: Threads + Wait + Sync> Model for NodeHost<'a, J, N, R> {
     ghost use Rattle.std.specs.Prelude.{◌≡◌, true, List};
     ghost use Rattle.hk_node.specs.declared.op.Op.{Op};
     ghost use Rattle.hk_node.specs.Replay.{is_legal};
@@ -56,7 +57,7 @@ impl<'a, J: NodeName, N: Wait + Drop, R: Wait> Model for NodeHost<'a, J, N, R> {
     ghost invariant = { λ h. is_legal h.seat ≡ true };
 }
 
-impl<'a, J: NodeName, N: Wait + Drop, R: Wait> NodeHost<'a, J, N, R> {
+impl<'a, J: NodeName, N: Wait + Drop, R: Threads + Wait + Sync> NodeHost<'a, J, N, R> {
     /// A host over a node and a seat of it; their types name the node, so that a seat of another is none of these.
     pub fn new(
         rt: &'a R,
@@ -173,7 +174,7 @@ impl<'a, J: NodeName, N: Wait + Drop, R: Wait> NodeHost<'a, J, N, R> {
     }
 }
 
-impl<'a, J: NodeName, N: Wait + Drop, R: Wait> Host for NodeHost<'a, J, N, R> {
+impl<'a, J: NodeName, N: Wait + Drop, R: Threads + Wait + Sync> Host for NodeHost<'a, J, N, R> {
     ghost may = { MayReply };
 
     fn answer(&mut self, request: Request) -> Reply {
