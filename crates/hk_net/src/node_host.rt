@@ -13,6 +13,7 @@ ghost use Rattle.hk_node.specs.Replay.{config_of, is_legal, replay};
 ghost use Rattle.hk_node.specs.Replies.{node_delta, node_front, node_reply, node_whole};
 ghost use Rattle.hk_net.specs.Replying.{IsChangeReply, IsOrOutOfMemory, MayReply, front_reply, join_of};
 
+use hk_batch::{OpenGate, build};
 use hk_delta::{Fragment, fragment_of};
 use hk_log::Item;
 use hk_model::Query;
@@ -24,6 +25,12 @@ use std::alloc::Global;
 use std::marker::Model;
 use std::sync::Wait;
 use std::thread::Threads;
+
+/// How many items a list has at least that is gathered by several workers; a shorter one is gathered sooner by one.
+const LONG_LIST: usize = 4_096;
+
+/// How many workers gather a long list.
+const WORKERS: usize = 4;
 
 /// A host over a running node, which others share, and one seat of that node. Contracts see it as the list of
 /// operations that the seat has seen or was told of.
@@ -88,12 +95,16 @@ impl<'a, J: NodeName, N: Wait + Drop, R: Threads + Wait + Sync> NodeHost<'a, J, 
         Reply::Done { ops }
     }
 
-    /// The one fragment that items make.
+    /// The one fragment that items make; long lists are gathered by several workers.
     fn gather(&self, items: &[Item]) -> Result<Fragment, Refusal>
         ensures legal { is_legal self.now ≡ true }
         ensures gives { OnOk result (gathered (config_of self.now) items.now ≡ result) }
     {
-        fragment_of(self.alloc, self.seat.config(), items)
+        let config = self.seat.config();
+        if items.len() < LONG_LIST {
+            return fragment_of(self.alloc, config, items);
+        }
+        build(self.rt, self.alloc, config, items, WORKERS, &OpenGate)
     }
 
     fn take_items(&mut self, items: &[Item]) -> Reply
