@@ -429,8 +429,30 @@ def peer(answers, reset=False):
     return listener.getsockname()[1], thread
 
 
+# What a peer replies, in hexadecimal digits, and what `push` prints of it.
+BAD_REPLIES = (
+    ("a length below the least", "00000001", "refused 10"), ("operations above the most", "0000000a 01 20 4000000000000001", "refused 6"),
+    ("a horizon above the readable mark", "00000012 01 21 0000000000000005 0000000000000004", "refused 6"),
+    ("a readable mark above the last time", "00000012 01 21 0000000000000005 4000000000000001", "refused 6"),
+    ("a refusal that no reply has", "00000003 01 24 1e", "refused 6"), ("refusal 0", "00000003 01 24 00", "refused 6"),
+    ("a refusal without its numbers", "00000003 01 24 01", "refused 10"),
+    ("a number that the refusal has not", "00000013 01 24 01 0000000000000001 0000000000000000", "refused 6"),
+    ("a refusal of one number", "0000000b 01 24 01 0000000000000000", "refused 10"),
+    ("a second number that the refusal has not", "00000013 01 24 18 0000000000000001 0000000000000001", "refused 6"),
+    ("a base above the last time", "00000013 01 24 16 4000000000000001 0000000000000001", "refused 6"),
+    ("a hold above the last time", "00000013 01 24 28 4000000000000001 4000000000000001", "refused 6"),
+    ("an answer of no kind", "0000000b 01 23 04 0000000000000001", "refused 6"), ("a row or none", "00000004 01 23 01 02", "refused 6"),
+    ("a body above the most", "0000000a 01 23 01 01 00000009 1001", "refused 9"), ("rows that are not there", "00000007 01 23 02 ffffffff", "refused 10"),
+    ("rows of one key", "0000001d 01 23 02 00000002 0000000000000005 00000009 0000 0000000000000005", "refused 7"))
+
+
 def push_to_bad_peers():
     problems = []
+    for name, reply, wanted in BAD_REPLIES:
+        port, thread = peer([bytes.fromhex(reply)])
+        out, status, lines = push(port, say.front())
+        thread.join(LIMIT)
+        problems += differ([(name, (out, status, lines), (wanted + "\n", 1, 1))])
     for name, answers, reset, wanted in (
             ("the replies end", [b""], False, ["refused 1"]),
             ("the replies end after one", [say.done(2), b""], False, ["done 2", "refused 1"]),

@@ -1,7 +1,6 @@
 //! Messages, sessions and lines whose bytes are written out.
 
 mod devices;
-mod faults;
 mod fragments;
 mod hosts;
 mod lines;

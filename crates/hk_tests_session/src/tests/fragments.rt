@@ -1,7 +1,7 @@
 //! Fragments in messages.
 
 use super::bytes_of;
-use super::messages::{fed, heard, heard_bytes, row};
+use super::messages::{fed, heard, row};
 use hk_delta::Fragment;
 use hk_log::Version;
 use hk_marks::Got;
@@ -158,7 +158,6 @@ fn spells_and_reads_fragments_of_replies_cut_anywhere(rt: HostRuntime) -> Result
         for cut in 0..want.len() {
             assert!(rt; heard(alloc, &want, cut)? == want, "{head} cut at {cut}");
         }
-        assert!(rt; heard_bytes(alloc, &want)? == want, "{head}");
     }
     Ok(())
 }
