@@ -1,5 +1,5 @@
 -- What a host over a node and a seat of it may reply.
-use Rattle.std.specs.Prelude.{ℕ, ◌≡◌, ◌⊎◌, true, List, take, Option, Some, None, Result, Ok, Err}
+use Rattle.std.specs.Prelude.{ℕ, ◌≡◌, ◌⊎◌, ◌≤◌, true, List, length, take, Option, Some, None, Result, Ok, Err}
 use mathlib.Core.List.{IsPrefix}
 use Rattle.hk_types.specs.Values.{ConfigValue}
 use Rattle.hk_types.specs.declared.faults.Refusal.{Refusal}
@@ -42,9 +42,9 @@ op_of config (asked.Delta base) = None
 op_of config asked.Full = None
 op_of config (asked.Ask t query) = None
 
--- the reply to a change: it was refused, or the operation ends that many of the list
+-- the reply to a change: it was refused, or the list has so many operations, and the operation ends them
 abbrev pub IsChangeReply : List Op → Option Op → ReplyValue → Type 0
-IsChangeReply ops (Some op) (Done count) = last_of (take count ops) ≡ Some op
+IsChangeReply ops (Some op) (Done count) = (count ≤ length ops) × (last_of (take count ops) ≡ Some op)
 IsChangeReply ops wanted (Refused why) = Unit {0}
 IsChangeReply ops wanted reply = ⊥
 
