@@ -13,7 +13,6 @@ ghost use Rattle.hk_node.specs.Replay.{config_of, is_legal, replay};
 ghost use Rattle.hk_node.specs.Replies.{node_delta, node_front, node_reply, node_whole};
 ghost use Rattle.hk_net.specs.Replying.{IsChangeReply, IsOrOutOfMemory, MayReply, front_reply, join_of};
 
-use hk_batch::{OpenGate, build};
 use hk_delta::{Fragment, fragment_of};
 use hk_log::Item;
 use hk_model::Query;
@@ -24,13 +23,6 @@ use hk_wire::{Reply, Request};
 use std::alloc::Global;
 use std::marker::Model;
 use std::sync::Wait;
-use std::thread::Threads;
-
-/// How many items a list has at least that is gathered by several workers; a shorter one is gathered sooner by one.
-const LONG_LIST: usize = 4_096;
-
-/// How many workers gather a long list.
-const WORKERS: usize = 4;
 
 /// A host over a running node, which others share, and one seat of that node. Contracts see it as the list of
 /// operations that the seat has seen or was told of.
@@ -41,14 +33,14 @@ const WORKERS: usize = 4;
 /// refuses it, and items that make no fragment as their gathering is; `Unpublished` says that the change stands and
 /// waits. The other requests are answered by the seat, and take no lock. Costs as the calls do.
 #[derive(Drop)]
-pub struct NodeHost<'a, J: NodeName, N: Wait + Drop, R: Threads + Wait + Sync> {
+pub struct NodeHost<'a, J: NodeName, N: Wait + Drop, R: Wait> {
     rt: &'a R,
     alloc: Global,
     node: &'a Node<J, N>,
     seat: ReaderSeat<J>,
 }
 
-impl<'a, J: NodeName, N: Wait + Drop, R: Threads + Wait + Sync> Model for NodeHost<'a, J, N, R> {
+impl<'a, J: NodeName, N: Wait + Drop, R: Wait> Model for NodeHost<'a, J, N, R> {
     ghost use Rattle.std.specs.Prelude.{◌≡◌, true, List};
     ghost use Rattle.hk_node.specs.declared.op.Op.{Op};
     ghost use Rattle.hk_node.specs.Replay.{is_legal};
@@ -64,7 +56,7 @@ impl<'a, J: NodeName, N: Wait + Drop, R: Threads + Wait + Sync> Model for NodeHo
     ghost invariant = { λ h. is_legal h.seat ≡ true };
 }
 
-impl<'a, J: NodeName, N: Wait + Drop, R: Threads + Wait + Sync> NodeHost<'a, J, N, R> {
+impl<'a, J: NodeName, N: Wait + Drop, R: Wait> NodeHost<'a, J, N, R> {
     /// A host over a node and a seat of it; their types name the node, so that a seat of another is none of these.
     pub fn new(
         rt: &'a R,
@@ -95,16 +87,12 @@ impl<'a, J: NodeName, N: Wait + Drop, R: Threads + Wait + Sync> NodeHost<'a, J, 
         Reply::Done { ops }
     }
 
-    /// The one fragment that items make; long lists are gathered by several workers.
+    /// The one fragment that items make.
     fn gather(&self, items: &[Item]) -> Result<Fragment, Refusal>
         ensures legal { is_legal self.now ≡ true }
         ensures gives { OnOk result (gathered (config_of self.now) items.now ≡ result) }
     {
-        let config = self.seat.config();
-        if items.len() < LONG_LIST {
-            return fragment_of(self.alloc, config, items);
-        }
-        build(self.rt, self.alloc, config, items, WORKERS, &OpenGate)
+        fragment_of(self.alloc, self.seat.config(), items)
     }
 
     fn take_items(&mut self, items: &[Item]) -> Reply
@@ -185,7 +173,7 @@ impl<'a, J: NodeName, N: Wait + Drop, R: Threads + Wait + Sync> NodeHost<'a, J, 
     }
 }
 
-impl<'a, J: NodeName, N: Wait + Drop, R: Threads + Wait + Sync> Host for NodeHost<'a, J, N, R> {
+impl<'a, J: NodeName, N: Wait + Drop, R: Wait> Host for NodeHost<'a, J, N, R> {
     ghost may = { MayReply };
 
     fn answer(&mut self, request: Request) -> Reply {
