@@ -5,6 +5,7 @@ use hk_log::{Entry, Item, Mark};
 use hk_types::{Key, Row, StreamNo, Table, Tag, Time, VersionKey};
 use std::alloc::Global;
 use std::test::*;
+use std::thread::Threads;
 
 /// Log 7, stream 1, number 1, time 1: inserts key 5 of table 1, tag 9, body 41.
 const E1: [u8; 53] = [
@@ -92,5 +93,54 @@ fn spells_and_reads_the_worked_frames(rt: HostRuntime) -> Result<(), Fail> {
     assert_eq!(rt; bytes.as_slice(), stream(alloc)?.as_slice());
     assert!(rt; decode_all(&rt, alloc, &bytes)? == worked(alloc)?);
     assert!(rt; decode_all(&rt, alloc, &[])?.is_empty());
+    Ok(())
+}
+
+/// Two inserts at time 1, of key 6 and then of key 5.
+const FALLING_KEYS: [u8; 70] = [
+    0, 0, 0, 0x42, 1, 1, 0, 0, 0, 0, 0, 0, 0, 7, 0, 1, 0, 0, 0, 0, 0, 0, 0, 1, 0, 0, 0, 0, 0, 0, 0,
+    1, 0, 0, 0, 2, 0, 1, 0, 0, 0, 0, 0, 0, 0, 6, 0, 0, 0, 9, 0, 1, 0x41, 0, 1, 0, 0, 0, 0, 0, 0, 0,
+    5, 0, 0, 0, 9, 0, 1, 0x41,
+];
+
+/// A length above the greatest, and one below the least.
+const TOO_LONG: [u8; 4] = [0, 0x40, 0x88, 0x21];
+
+const TOO_SHORT: [u8; 4] = [0, 0, 0, 0x1b];
+
+/// E1 with a body of so many bytes.
+fn frame_of_body(alloc: Global, length: u16) -> Result<Vec<u8>, Fail> {
+    let mut bytes = Vec::new(alloc);
+    bytes.extend_from_slice(&(48 + u32::from(length)).to_be_bytes())?;
+    bytes.extend_from_slice(&E1[4..50])?;
+    bytes.extend_from_slice(&length.to_be_bytes())?;
+    for _ in 0..length {
+        bytes.push(0x41)?;
+    }
+    Ok(bytes)
+}
+
+/// 0, or the number of the refusal with which all of the bytes are read.
+fn told(rt: &(impl Threads + Sync), alloc: Global, bytes: &[u8]) -> u8 {
+    match decode_all(rt, alloc, bytes) {
+        Ok(_items) => 0,
+        Err(why) => why.number(),
+    }
+}
+
+#[test]
+fn tells_the_faults_of_frames(rt: HostRuntime) -> Result<(), Fail> {
+    let alloc = rt.alloc();
+    let mut cut = stream(alloc)?;
+    cut.pop();
+    let told = [
+        told(&rt, alloc, &cut),
+        told(&rt, alloc, &frame_of_body(alloc, 4_096)?),
+        told(&rt, alloc, &frame_of_body(alloc, 4_097)?),
+        told(&rt, alloc, &TOO_LONG),
+        told(&rt, alloc, &TOO_SHORT),
+        told(&rt, alloc, &FALLING_KEYS),
+    ];
+    assert_eq!(rt; told, [1, 0, 9, 2, 10, 7]);
     Ok(())
 }
