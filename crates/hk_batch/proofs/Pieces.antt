@@ -8,7 +8,7 @@ use Rattle.hk_types.specs.declared.faults.Refusal.{Refusal}
 use Rattle.hk_log.specs.declared.item.Item.{Item}
 use Rattle.hk_model.specs.Fragments.{FragmentValue}
 use Rattle.hk_delta.specs.Unions.{IsFromZero, IsGathered}
-use Rattle.hk_delta.proofs.Misfits.{count_streams}
+use Rattle.hk_delta.proofs.WrongLogs.{count_streams}
 use Rattle.hk_delta.proofs.Pieces.{gave}
 
 abbrev pub Part : Type 0

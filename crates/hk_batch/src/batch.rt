@@ -122,7 +122,7 @@ pub fn build<R: Threads + Sync, G: Gate + Sync>(
     requires some { 1 ≤ workers }
     requires few { workers ≤ 16 }
     ensures gives { Gathers config items.now result }
-    ensures stands { GathersOf config items.now result }
+    ensures represents { GathersOf config items.now result }
 {
     match joined(rt, alloc, config, items, workers, gate) {
         Ok(fragment) => Ok(fragment),

@@ -2,7 +2,7 @@
 use Rattle.std.specs.Prelude.{ℕ, List, ◌++◌, codes}
 use Rattle.std.specs.Fmt.{decimal}
 use Rattle.hk_model.specs.Events.{told_seen}
-use Rattle.hk_lines.specs.Lines.{line_end, told_lines}
+use Rattle.hk_lines.specs.Lines.{line_end, outcome_lines}
 use Rattle.hk_cli.specs.declared.script.Reply.{Reply}
 use Rattle.hk_cli.specs.declared.script.Reply.TheVariants.{Begun, Told}
 
@@ -13,7 +13,7 @@ begun_line slot at = codes "begun " ++ decimal slot ++ codes " at " ++ decimal a
 -- what a command prints
 abbrev pub reply_lines : Reply → List ℕ
 reply_lines (Begun slot at) = begun_line slot at
-reply_lines (Told told) = told_lines (told_seen told)
+reply_lines (Told outcome) = outcome_lines (told_seen outcome)
 
 -- what is printed of a line that is no command
 abbrev pub bad_line : ℕ → List ℕ

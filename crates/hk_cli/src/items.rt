@@ -18,7 +18,7 @@ impl<'a, W: Write> Sink for Output<'a, W> {
 /// Prints a line for each item of the input, up to its end, and answers the status 0. Where something stops it
 /// first, the lines of the items before it stand, a line says why, and the status is 1:
 ///
-/// - `refused` and the fault's number, 1 to 10, where the bytes that follow the items spell nothing;
+/// - `refused` and the fault's number, 1 to 10, where the bytes that follow the items encode nothing;
 /// - `refused 90` where memory ran out;
 /// - `refused 91` where a read failed, or 2^32 reads did not come to the end;
 /// - no line where a write failed or took no bytes: the status alone tells it.

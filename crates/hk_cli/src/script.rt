@@ -27,7 +27,7 @@ impl Printed for Reply {
     fn print_to(&self, alloc: Global, out: &mut String) -> Result<(), AllocError> {
         match self {
             Reply::Begun { slot, at } => writeln!(out, "begun {slot} at {at}"),
-            Reply::Told(told) => told.print_to(alloc, out),
+            Reply::Told(outcome) => outcome.print_to(alloc, out),
         }
     }
 }
@@ -66,7 +66,7 @@ impl Script {
 
     /// Does what a command says, unless it names an empty slot.
     pub(crate) fn make(&mut self, command: Command) -> Result<Reply, Unread> {
-        let told = match command {
+        let outcome = match command {
             Command::Begin { slot } => return self.begin(slot),
             Command::Put {
                 slot,
@@ -78,8 +78,8 @@ impl Script {
             Command::Commit { slot, stream } => self.commit(slot, stream)?,
             Command::Event(event) => self.world.step(event),
         };
-        self.is_refused = self.is_refused || matches!(told, Told::Refused(_));
-        Ok(Reply::Told(told))
+        self.is_refused = self.is_refused || matches!(outcome, Told::Refused(_));
+        Ok(Reply::Told(outcome))
     }
 
     /// A transaction that reads at the last commit begins, in place of what the slot had.
@@ -118,16 +118,16 @@ impl Script {
     /// The transaction of a slot commits; the slot is empty after, unless it was refused.
     fn commit(&mut self, slot: usize, stream: StreamNo) -> Result<Told, Unread> {
         let alloc = self.alloc;
-        let told = match commit_of(alloc, self.txn(slot)?, stream) {
+        let outcome = match commit_of(alloc, self.txn(slot)?, stream) {
             Ok(event) => self.world.step(event),
             Err(_memory) => Told::Refused(Refusal::Memory),
         };
-        if !matches!(told, Told::Refused(_)) {
+        if !matches!(outcome, Told::Refused(_)) {
             if let Some(place) = self.slots.get_mut(slot) {
                 *place = None;
             }
         }
-        Ok(told)
+        Ok(outcome)
     }
 }
 

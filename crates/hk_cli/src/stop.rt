@@ -11,7 +11,7 @@ use std::alloc::AllocError;
 /// Why a command stops.
 #[derive(Clone, Copy)]
 pub(crate) enum Stop {
-    /// A fault of the input, or a refusal, want of memory included.
+    /// A fault of the input, or a refusal, out of memory included.
     Refused(Refusal),
     /// A read failed, or there were 2^32 reads without an end.
     ReadFault,

@@ -1,4 +1,4 @@
--- What is spelled so is read again, whatever follows it.
+-- What is encoded so is read again, whatever follows it.
 use Rattle.std.proofs.Common.{◌≡◌, ℕ, suc, ◌+◌, ◌^◌, ◌<◌, ◌≤◌, true, false, eqb, ltb, ◌||◌, ◌&&◌, List, [], ◌∷◌, ◌++◌, length, map, Option, Some, None, Ok, refl, sym, ap, ◌∙◌, append_assoc, arith}
 use Rattle.std.specs.Int.{w16, w32, w64}
 use Rattle.std.specs.List.{flat_map, list_all, AllByRecursion}
@@ -11,7 +11,7 @@ use Rattle.hk_log.specs.Items.{EntryValue, MarkValue, IsEntry, IsMark, end_place
 use Rattle.hk_log.specs.declared.item.Item.{Item}
 use Rattle.hk_log.specs.declared.item.Item.TheVariants.{Commit, Closed}
 use Rattle.hk_codec.specs.Fields.{number, byte_at, number_at, bytes_at, body_at, list_at}
-use Rattle.hk_codec.specs.Spelling.{end_text, row_text, head_text, entry_text, mark_text, rest_text, EndFits, RowFits, IsItem}
+use Rattle.hk_codec.specs.Encoding.{end_text, row_text, head_text, entry_text, mark_text, rest_text, EndFits, RowFits, IsEncodableItem}
 use Rattle.hk_codec.specs.Reading.{HeadValue, end_at, row_at, moment_at, counted_ends_at, counted_rows_at, entry_at, mark_at, head_at, kind_at, item_at}
 use Rattle.hk_codec.proofs.Loop.{One}
 use Rattle.hk_codec.proofs.Steps.{both}
@@ -118,7 +118,7 @@ counts_are e h =
     let z : 0 < length e.ends + length e.rows = ltb-true _ _ a.1 in
     record { ends = omega (arith, x); rows = omega (arith, y); some = omega (arith, z) }
 
-entry_again : (e : EntryValue) (rest : List ℕ) → IsItem (Commit e) → entry_at e.log e.stream (entry_text e ++ rest) ≡ Ok (e, rest)
+entry_again : (e : EntryValue) (rest : List ℕ) → IsEncodableItem (Commit e) → entry_at e.log e.stream (entry_text e ++ rest) ≡ Ok (e, rest)
 unfolding entry_at entry_text
 entry_again e rest h =
     let counts = counts_are e h.0 in
@@ -131,7 +131,7 @@ entry_again e rest h =
       rows_again (length e.ends) e.rows rest counts.rows counts.some h.2 h.0.rows_rise,
     ) refl
 
-pub item_again : (i : Item) → IsItem i → item_at (rest_text i) ≡ Ok i
+pub item_again : (i : Item) → IsEncodableItem i → item_at (rest_text i) ≡ Ok i
 unfolding item_at kind_at rest_text
 item_again (Commit e) h =
     let head : HeadValue = record { kind = 1; log = e.log; stream = e.stream } in

@@ -1,4 +1,4 @@
--- Marks, heads, ends and rows: what is read is spelled so.
+-- Marks, heads, ends and rows: what is read is encoded so.
 use Rattle.std.proofs.Common.{◌≡◌, ℕ, ◌^◌, ◌<◌, ◌≤◌, Bool, true, false, cond, eqb, ltb, ◌||◌, ◌&&◌, ◌⊎◌, List, [], ◌∷◌, ◌++◌, length, take, drop, Option, Result, Ok, refl, sym, subst, arith, inl, inr}
 use Rattle.std.specs.Int.{w16, w32, w64}
 use Rattle.std.proofs.lemmas.Bool.{ltb-false, eqb-true}
@@ -9,7 +9,7 @@ use Rattle.hk_types.specs.declared.faults.FormFault.{FormFault}
 use Rattle.hk_types.specs.declared.faults.FormFault.TheVariants.{BadVersion, BadKind, BadStream, BadNumber, BadOrder, BadBody, WrongLength}
 use Rattle.hk_log.specs.Items.{MarkValue, IsMark, end_place, row_place, is_after, was_born}
 use Rattle.hk_codec.specs.Fields.{IsBytes, ◌>>=◌, check, number, byte_at, number_at, bytes_at, body_at}
-use Rattle.hk_codec.specs.Spelling.{end_text, row_text, head_text, mark_text, EndFits, RowFits}
+use Rattle.hk_codec.specs.Encoding.{end_text, row_text, head_text, mark_text, EndFits, RowFits}
 use Rattle.hk_codec.specs.Reading.{HeadValue, end_at, row_at, head_at, mark_at}
 use Rattle.hk_codec.proofs.Steps.{IsBytes-drop, IsBytes-rest, bind_ok, check_ok, ok_is, passes, neither, either, Takes, Takes-then}
 use Rattle.hk_codec.proofs.Numbers.{guard_ok, wide16, wide32, wide64, number_takes}

@@ -1,4 +1,4 @@
--- Frames of any kind of value: what is read is spelled so, and what is spelled is read again.
+-- Frames of any kind of value: what is read is encoded so, and what is encoded is read again.
 use Rattle.std.proofs.Common.{◌≡◌, ℕ, ◌+◌, ◌^◌, ◌<◌, ◌≤◌, ◌⊎◌, Bool, true, false, cond, ltb, List, ◌++◌, length, take, drop, Option, Some, None, Result, Ok, Err, refl, sym, ap, subst, ◌∙◌, append_assoc, arith, inl, inr}
 use Rattle.std.specs.Int.{w32, from_be_bytes}
 use Rattle.std.proofs.lemmas.Bool.{ltb-true, ltb-false, lt-ltb, le-ltb}
@@ -6,7 +6,7 @@ use Rattle.std.proofs.lemmas.List.{take-append-le, drop-append-le, take_at, take
 use Rattle.hk_types.specs.declared.faults.FormFault.{FormFault}
 use Rattle.hk_types.specs.declared.faults.FormFault.TheVariants.{TooLong, WrongLength}
 use Rattle.hk_codec.specs.Fields.{IsBytes, ◌>>=◌, number, number_at}
-use Rattle.hk_codec.specs.Framing.{len_of, rest_at, value_of, framed, spelled, IsPartial, IsFormat}
+use Rattle.hk_codec.specs.Framing.{len_of, rest_at, value_of, framed, encoded, IsPartial, IsFormat}
 use Rattle.hk_codec.proofs.Steps.{IsBytes-take, IsBytes-drop, bind_ok, done, ok_is}
 use Rattle.hk_codec.proofs.Numbers.{wide32, number_takes, number_again, number_len}
 
@@ -89,14 +89,14 @@ no_rest read (Some rest) e = let g = bind_ok (read rest) (λ y. Ok (Some (y, 4 +
 
 -- what a frame that was read is
 pub record FrameIs {X : Type 0} (rest_text : X → List ℕ) (IsValue : X → Type 0) (bytes : List ℕ) (x : X) (n : ℕ) : Type 0 where
-  pub parts : bytes ≡ spelled rest_text x ++ drop n bytes
+  pub parts : bytes ≡ encoded rest_text x ++ drop n bytes
   pub value : IsValue x
   pub least : 4 ≤ n
   pub fits : n ≤ length bytes
 
 module _ {X : Type 0} (least most : ℕ) (read : List ℕ → Result X FormFault) (rest_text : X → List ℕ) (IsValue : X → Type 0) (format : IsFormat least most read rest_text IsValue) where
   pub frame_takes : (bytes : List ℕ) (x : X) (n : ℕ) → IsBytes bytes → framed least most read bytes ≡ Ok (Some (x, n)) → FrameIs rest_text IsValue bytes x n
-  unfolding framed spelled
+  unfolding framed encoded
   frame_takes bytes x n fits e =
       let a = bind_ok (rest_at least most bytes) (value_of read) (Some (x, n)) e in
       let b = some_rest read a.0 (x, n) a.2 in
@@ -124,8 +124,8 @@ field_is n rest lt =
     (ap (λ (x : ℕ × List ℕ). x.0) p, ap (λ (x : ℕ × List ℕ). x.1) p)
 
 -- a length in its limits, and at least as many bytes behind it
-spelled_has : (least most : ℕ) (rest behind : List ℕ) → most < 2 ^ 32 → least ≤ length rest → length rest ≤ most → HasRest least most (number w32 (length rest) ++ (rest ++ behind)) rest
-spelled_has least most rest behind wide low high =
+encoded_has : (least most : ℕ) (rest behind : List ℕ) → most < 2 ^ 32 → least ≤ length rest → length rest ≤ most → HasRest least most (number w32 (length rest) ++ (rest ++ behind)) rest
+encoded_has least most rest behind wide low high =
     let field = field_is (length rest) (rest ++ behind) (omega arith) in
     let whole : length (number w32 (length rest) ++ (rest ++ behind)) ≡ 4 + (length rest + length behind) = omega (arith, length-append (number w32 (length rest)) (rest ++ behind), length-append rest behind, number_len w32 (2 ^ 32) wide32 (length rest)) in
     let len : len_of (number w32 (length rest) ++ (rest ++ behind)) ≡ length rest = field.0 in
@@ -183,12 +183,12 @@ unfolding framed
 partial_again least most read bytes h = rw (rest_partial least most bytes h) refl
 
 module _ {X : Type 0} (least most : ℕ) (read : List ℕ → Result X FormFault) (rest_text : X → List ℕ) (IsValue : X → Type 0) (format : IsFormat least most read rest_text IsValue) where
-  pub frame_again : (x : X) (behind : List ℕ) → IsValue x → framed least most read (spelled rest_text x ++ behind) ≡ Ok (Some (x, length (spelled rest_text x)))
-  unfolding framed spelled
+  pub frame_again : (x : X) (behind : List ℕ) → IsValue x → framed least most read (encoded rest_text x ++ behind) ≡ Ok (Some (x, length (encoded rest_text x)))
+  unfolding framed encoded
   frame_again x behind h =
       let regrouped : (number w32 (length (rest_text x)) ++ rest_text x) ++ behind ≡ number w32 (length (rest_text x)) ++ (rest_text x ++ behind) = append_assoc (number w32 (length (rest_text x))) (rest_text x) behind in
       let size : length (number w32 (length (rest_text x)) ++ rest_text x) ≡ 4 + length (rest_text x) = omega (arith, length-append (number w32 (length (rest_text x))) (rest_text x), number_len w32 (2 ^ 32) wide32 (length (rest_text x))) in
-      let there = has_rest least most (number w32 (length (rest_text x)) ++ (rest_text x ++ behind)) (rest_text x) (spelled_has least most (rest_text x) behind format.in_width (format.at_least x h) (format.at_most x h)) in
+      let there = has_rest least most (number w32 (length (rest_text x)) ++ (rest_text x ++ behind)) (rest_text x) (encoded_has least most (rest_text x) behind format.in_width (format.at_least x h) (format.at_most x h)) in
       rw (regrouped, there, format.again x h, size) refl
 
 -- ---- more bytes behind
@@ -230,9 +230,9 @@ fault_stays {X = X} least most read bytes more f e =
     ap (λ (r : Result (Option (List ℕ)) FormFault). r >>= value_of read) (rest_stays least most bytes more (rest_at least most bytes) refl never) ∙ e
 
 -- the length field of a frame says how long it is
-pub spelled_len : {X : Type 0} (least most : ℕ) (read : List ℕ → Result X FormFault) (rest_text : X → List ℕ) (IsValue : X → Type 0) (format : IsFormat least most read rest_text IsValue) (x : X) (behind : List ℕ) → IsValue x → length (spelled rest_text x) ≡ 4 + len_of (spelled rest_text x ++ behind)
-unfolding spelled
-spelled_len least most read rest_text IsValue format x behind h =
+pub encoded_len : {X : Type 0} (least most : ℕ) (read : List ℕ → Result X FormFault) (rest_text : X → List ℕ) (IsValue : X → Type 0) (format : IsFormat least most read rest_text IsValue) (x : X) (behind : List ℕ) → IsValue x → length (encoded rest_text x) ≡ 4 + len_of (encoded rest_text x ++ behind)
+unfolding encoded
+encoded_len least most read rest_text IsValue format x behind h =
     let size : length (number w32 (length (rest_text x)) ++ rest_text x) ≡ 4 + length (rest_text x) = omega (arith, length-append (number w32 (length (rest_text x))) (rest_text x), number_len w32 (2 ^ 32) wide32 (length (rest_text x))) in
     let field = field_is (length (rest_text x)) (rest_text x ++ behind) (omega (arith, format.at_most x h, format.in_width)) in
     size ∙ ap (λ (k : ℕ). 4 + k) (sym field.0 ∙ ap len_of (sym (append_assoc (number w32 (length (rest_text x))) (rest_text x) behind)))

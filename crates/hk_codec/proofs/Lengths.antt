@@ -1,4 +1,4 @@
--- How long the spellings are.
+-- How long the encodings are.
 use Rattle.std.proofs.Common.{◌≡◌, ℕ, ◌+◌, ◌*◌, ◌^◌, ◌<◌, ◌≤◌, List, [], ◌∷◌, length, take, get_or, refl, ap, ◌∙◌, arith}
 use Rattle.std.specs.Int.{w16, w32, w64}
 use Rattle.std.specs.List.{flat_map, AllByRecursion}
@@ -11,9 +11,9 @@ use Rattle.hk_log.specs.Items.{EntryValue, MarkValue}
 use Rattle.hk_log.specs.declared.item.Item.TheVariants.{Commit, Closed}
 use Rattle.hk_log.specs.declared.item.Item.{Item}
 use Rattle.hk_codec.specs.Fields.{number}
-use Rattle.hk_codec.specs.Framing.{spelled}
-use Rattle.hk_codec.specs.Frames.{spelling}
-use Rattle.hk_codec.specs.Spelling.{end_text, row_text, head_text, entry_text, mark_text, rest_text, RowFits}
+use Rattle.hk_codec.specs.Framing.{encoded}
+use Rattle.hk_codec.specs.Frames.{encoding_of}
+use Rattle.hk_codec.specs.Encoding.{end_text, row_text, head_text, entry_text, mark_text, rest_text, RowFits}
 use Rattle.hk_codec.proofs.Numbers.{wide16, wide32, wide64, number_len}
 
 pub len16 : (n : ℕ) → length (number w16 n) ≡ 2
@@ -75,6 +75,6 @@ rows_most (r ∷ rs) h =
     let more : length (r ∷ rs) ≡ length rs + 1 = omega arith in
     record { least = omega (arith, cons, first, others.least, more); most = omega (arith, cons, first, fits, others.most, more) }
 
-pub spelling_len : (i : Item) → length (spelling i) ≡ 4 + length (rest_text i)
-unfolding spelled
-spelling_len i = omega (arith, length-append (number w32 (length (rest_text i))) (rest_text i), len32 (length (rest_text i)))
+pub encoding_len : (i : Item) → length (encoding_of i) ≡ 4 + length (rest_text i)
+unfolding encoded
+encoding_len i = omega (arith, length-append (number w32 (length (rest_text i))) (rest_text i), len32 (length (rest_text i)))

@@ -6,8 +6,8 @@ use Rattle.std.proofs.lemmas.Grind.{flat_map-append}
 use Rattle.std.proofs.lemmas.List.{take_rest, drop-drop, take-append-drop}
 use Rattle.hk_types.specs.declared.faults.FormFault.{FormFault}
 use Rattle.hk_log.specs.declared.item.Item.{Item}
-use Rattle.hk_codec.specs.Spelling.{IsItem}
-use Rattle.hk_codec.specs.Frames.{spelling, Reads, Adds, held}
+use Rattle.hk_codec.specs.Encoding.{IsEncodableItem}
+use Rattle.hk_codec.specs.Frames.{encoding_of, Reads, Adds, held}
 use Rattle.hk_codec.specs.Parts.{HasRead, IsPart}
 
 pub all_right : {A B : Type 0} (Q : B → Type 0) (xs : List A) (ys : List B) → AllZip (λ x y. Q y) xs ys → All Q ys
@@ -19,13 +19,13 @@ all_right Q (x ∷ xs) (y ∷ ys) h (suc k) d lt = all_right Q xs ys h.1 k d (om
 
 -- ---- what follows
 
-each_append : (xs ys : List Item) → AllByRecursion IsItem xs → AllByRecursion IsItem ys → AllByRecursion IsItem (xs ++ ys)
+each_append : (xs ys : List Item) → AllByRecursion IsEncodableItem xs → AllByRecursion IsEncodableItem ys → AllByRecursion IsEncodableItem (xs ++ ys)
 each_append [] ys h k = k
 each_append (x ∷ xs) ys h k = (h.0, each_append xs ys h.1 k)
 
-text_after : (text : List ℕ) (before mid : List Item) (used : ℕ) (items : List Item) (left : List ℕ) (s : HasRead text before mid used) → drop used text ≡ flat_map spelling items ++ left → text ≡ flat_map spelling (s.items ++ items) ++ left
+text_after : (text : List ℕ) (before mid : List Item) (used : ℕ) (items : List Item) (left : List ℕ) (s : HasRead text before mid used) → drop used text ≡ flat_map encoding_of items ++ left → text ≡ flat_map encoding_of (s.items ++ items) ++ left
 text_after text before mid used items left s e =
-    s.whole ∙ ap (λ (t : List ℕ). flat_map spelling s.items ++ t) e ∙ sym (append_assoc (flat_map spelling s.items) (flat_map spelling items) left) ∙ ap (λ (t : List ℕ). t ++ left) (sym (flat_map-append spelling s.items items))
+    s.whole ∙ ap (λ (t : List ℕ). flat_map encoding_of s.items ++ t) e ∙ sym (append_assoc (flat_map encoding_of s.items) (flat_map encoding_of items) left) ∙ ap (λ (t : List ℕ). t ++ left) (sym (flat_map-append encoding_of s.items items))
 
 reads_after : (text : List ℕ) (before mid : List Item) (used : ℕ) (items : List Item) (left : Result (List ℕ) FormFault) (s : HasRead text before mid used) → Reads (drop used text) items left → Reads text (s.items ++ items) left
 reads_after text before mid used items (Ok left) s r = (text_after text before mid used items left s r.0, each_append s.items items s.each r.1, r.2)
@@ -51,16 +51,16 @@ others_of_all P xs ys x e all = λ k d lt. (subst (All P) e all) (suc k) d (omeg
 
 -- ---- pieces
 
-pub part_is : (text : List ℕ) (start end : ℕ) (items : List Item) → start ≤ end → end ≤ length text → take (end - start) (drop start text) ≡ flat_map spelling items → AllByRecursion IsItem items → IsPart text start end items
+pub part_is : (text : List ℕ) (start end : ℕ) (items : List Item) → start ≤ end → end ≤ length text → take (end - start) (drop start text) ≡ flat_map encoding_of items → AllByRecursion IsEncodableItem items → IsPart text start end items
 part_is text start end items le fits e each =
     let n : end - start + start ≡ end = omega arith in
     let after : drop (end - start) (drop start text) ≡ drop end text = drop-drop (end - start) start text ∙ ap (λ (k : ℕ). drop k text) (omega arith) in
-    let whole : drop start text ≡ flat_map spelling items ++ drop end text = sym (take-append-drop (end - start) (drop start text)) ∙ ap (λ (t : List ℕ). t ++ drop (end - start) (drop start text)) e ∙ ap (λ (t : List ℕ). flat_map spelling items ++ t) after in
+    let whole : drop start text ≡ flat_map encoding_of items ++ drop end text = sym (take-append-drop (end - start) (drop start text)) ∙ ap (λ (t : List ℕ). t ++ drop (end - start) (drop start text)) e ∙ ap (λ (t : List ℕ). flat_map encoding_of items ++ t) after in
     record { fits = fits; whole = whole; each = each }
 
 pub part_more : (text : List ℕ) (before mid : List Item) (used start end : ℕ) (items : List Item) → HasRead text before mid used → start ≡ used → IsPart text start end items → HasRead text before (mid ++ items) end
 part_more text before mid used start end items s at p =
-    let rest : drop used text ≡ flat_map spelling items ++ drop end text = ap (λ (k : ℕ). drop k text) (sym at) ∙ p.whole in
+    let rest : drop used text ≡ flat_map encoding_of items ++ drop end text = ap (λ (k : ℕ). drop k text) (sym at) ∙ p.whole in
     record {
       fits = p.fits;
       items = s.items ++ items;

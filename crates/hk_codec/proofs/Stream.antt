@@ -8,9 +8,9 @@ use Rattle.std.proofs.lemmas.List.Concat.{flat_map-cons}
 use Rattle.std.proofs.Math.Seq.{take-append_seam, take-length}
 use Rattle.hk_types.specs.declared.faults.FormFault.{FormFault}
 use Rattle.hk_codec.specs.Fields.{IsBytes}
-use Rattle.hk_codec.specs.Framing.{len_of, framed, spelled, IsWhole, Begins, IsFormat, AddsValues, held}
+use Rattle.hk_codec.specs.Framing.{len_of, framed, encoded, IsWhole, Begins, IsFormat, AddsValues, rest_of}
 use Rattle.hk_codec.proofs.Steps.{IsBytes-drop}
-use Rattle.hk_codec.proofs.InFrames.{maybe, frame_takes, frame_again, partial_is, partial_again, fault_stays, spelled_len}
+use Rattle.hk_codec.proofs.InFrames.{maybe, frame_takes, frame_again, partial_is, partial_again, fault_stays, encoded_len}
 
 -- the bytes from a place on, as a slice has them
 pub tail_is : (used : ℕ) (text : List ℕ) → take (length text - used) (drop used text) ≡ drop used text
@@ -37,7 +37,7 @@ pub record SoFar {X : Type 0} (rest_text : X → List ℕ) (IsValue : X → Type
   pub fits : used ≤ length text
   pub values : List X
   pub added : after ≡ before ++ values
-  pub whole : text ≡ flat_map (spelled rest_text) values ++ drop used text
+  pub whole : text ≡ flat_map (encoded rest_text) values ++ drop used text
   pub each : AllByRecursion IsValue values
 
 pub at_start : {X : Type 0} (rest_text : X → List ℕ) (IsValue : X → Type 0) (text : List ℕ) (before : List X) → SoFar rest_text IsValue text before before 0
@@ -53,16 +53,16 @@ pub record OneMore {X : Type 0} (rest_text : X → List ℕ) (IsValue : X → Ty
 
 module _ {X Y : Type 0} (seen : X → Y) (least most : ℕ) (read : List ℕ → Result Y FormFault) (text_of : Y → List ℕ) (IsY : Y → Type 0) (format : IsFormat least most read text_of IsY) where
   pub one_more : (text : List ℕ) (before after : List X) (used : ℕ) (x : X) (n : ℕ) → IsBytes text → SoFar (λ x. text_of (seen x)) (λ x. IsY (seen x)) text before after used → framed least most read (drop used text) ≡ Ok (Some (seen x, n)) → OneMore (λ x. text_of (seen x)) (λ x. IsY (seen x)) text before (after ++ x ∷ []) used n
-  unfolding spelled
+  unfolding encoded
   one_more text before after used x n bytes s e =
       let f = frame_takes least most read text_of IsY format (drop used text) (seen x) n (IsBytes-drop used text bytes) e in
       let fits : used + n ≤ length text = omega (arith, s.fits, f.fits, length-drop used text) in
       let added : after ++ x ∷ [] ≡ before ++ (s.values ++ x ∷ []) = ap (λ (t : List X). t ++ x ∷ []) s.added ∙ append_assoc before s.values (x ∷ []) in
-      let rest : drop used text ≡ spelled (λ x. text_of (seen x)) x ++ drop (used + n) text = f.parts ∙ ap (λ (t : List ℕ). spelled (λ x. text_of (seen x)) x ++ t) (drop-drop n used text) in
-      let one : flat_map (spelled (λ x. text_of (seen x))) (x ∷ []) ≡ spelled (λ x. text_of (seen x)) x = flat_map-cons (spelled (λ x. text_of (seen x))) x [] ∙ append-nil (spelled (λ x. text_of (seen x)) x) in
-      let texts : flat_map (spelled (λ x. text_of (seen x))) (s.values ++ x ∷ []) ≡ flat_map (spelled (λ x. text_of (seen x))) s.values ++ spelled (λ x. text_of (seen x)) x = flat_map-append (spelled (λ x. text_of (seen x))) s.values (x ∷ []) ∙ ap (λ (t : List ℕ). flat_map (spelled (λ x. text_of (seen x))) s.values ++ t) one in
-      let whole : text ≡ flat_map (spelled (λ x. text_of (seen x))) (s.values ++ x ∷ []) ++ drop (used + n) text =
-      s.whole ∙ ap (λ (t : List ℕ). flat_map (spelled (λ x. text_of (seen x))) s.values ++ t) rest ∙ sym (append_assoc (flat_map (spelled (λ x. text_of (seen x))) s.values) (spelled (λ x. text_of (seen x)) x) (drop (used + n) text)) ∙ ap (λ (t : List ℕ). t ++ drop (used + n) text) (sym texts) in
+      let rest : drop used text ≡ encoded (λ x. text_of (seen x)) x ++ drop (used + n) text = f.parts ∙ ap (λ (t : List ℕ). encoded (λ x. text_of (seen x)) x ++ t) (drop-drop n used text) in
+      let one : flat_map (encoded (λ x. text_of (seen x))) (x ∷ []) ≡ encoded (λ x. text_of (seen x)) x = flat_map-cons (encoded (λ x. text_of (seen x))) x [] ∙ append-nil (encoded (λ x. text_of (seen x)) x) in
+      let texts : flat_map (encoded (λ x. text_of (seen x))) (s.values ++ x ∷ []) ≡ flat_map (encoded (λ x. text_of (seen x))) s.values ++ encoded (λ x. text_of (seen x)) x = flat_map-append (encoded (λ x. text_of (seen x))) s.values (x ∷ []) ∙ ap (λ (t : List ℕ). flat_map (encoded (λ x. text_of (seen x))) s.values ++ t) one in
+      let whole : text ≡ flat_map (encoded (λ x. text_of (seen x))) (s.values ++ x ∷ []) ++ drop (used + n) text =
+      s.whole ∙ ap (λ (t : List ℕ). flat_map (encoded (λ x. text_of (seen x))) s.values ++ t) rest ∙ sym (append_assoc (flat_map (encoded (λ x. text_of (seen x))) s.values) (encoded (λ x. text_of (seen x)) x) (drop (used + n) text)) ∙ ap (λ (t : List ℕ). t ++ drop (used + n) text) (sym texts) in
       record { so_far = record { fits = fits; values = s.values ++ x ∷ []; added = added; whole = whole; each = each_more (λ x. IsY (seen x)) s.values x s.each f.value }; least = f.least }
 
   pub stops : (text : List ℕ) (before after : List X) (used : ℕ) → SoFar (λ x. text_of (seen x)) (λ x. IsY (seen x)) text before after used → framed least most read (drop used text) ≡ Ok None → (values : List X) × (after ≡ before ++ values) × Begins least most read (λ x. text_of (seen x)) (λ x. IsY (seen x)) text values (Ok (drop used text))
@@ -94,16 +94,16 @@ module _ {X : Type 0} (least most : ℕ) (read : List ℕ → Result X FormFault
   nothing_first text (Ok left) h = ap (framed least most read) h.0 ∙ partial_again least most read left h.2
   nothing_first text (Err f) h = ap (framed least most read) h.1 ∙ h.3
 
-  regroup : (x : X) (xs : List X) (left : List ℕ) → flat_map (spelled rest_text) (x ∷ xs) ++ left ≡ spelled rest_text x ++ (flat_map (spelled rest_text) xs ++ left)
-  regroup x xs left = ap (λ (t : List ℕ). t ++ left) (flat_map-cons (spelled rest_text) x xs) ∙ append_assoc (spelled rest_text x) (flat_map (spelled rest_text) xs) left
+  regroup : (x : X) (xs : List X) (left : List ℕ) → flat_map (encoded rest_text) (x ∷ xs) ++ left ≡ encoded rest_text x ++ (flat_map (encoded rest_text) xs ++ left)
+  regroup x xs left = ap (λ (t : List ℕ). t ++ left) (flat_map-cons (encoded rest_text) x xs) ∙ append_assoc (encoded rest_text x) (flat_map (encoded rest_text) xs) left
 
-  one_first : (text : List ℕ) (x : X) (xs : List X) (l : Result (List ℕ) FormFault) → Begins least most read rest_text IsValue text (x ∷ xs) l → (framed least most read text ≡ Ok (Some (x, length (spelled rest_text x)))) × Begins least most read rest_text IsValue (drop (length (spelled rest_text x)) text) xs l
+  one_first : (text : List ℕ) (x : X) (xs : List X) (l : Result (List ℕ) FormFault) → Begins least most read rest_text IsValue text (x ∷ xs) l → (framed least most read text ≡ Ok (Some (x, length (encoded rest_text x)))) × Begins least most read rest_text IsValue (drop (length (encoded rest_text x)) text) xs l
   one_first text x xs (Ok left) h =
-      let parts : text ≡ spelled rest_text x ++ (flat_map (spelled rest_text) xs ++ left) = h.0 ∙ regroup x xs left in
-      (ap (framed least most read) parts ∙ frame_again least most read rest_text IsValue format x (flat_map (spelled rest_text) xs ++ left) h.1.0, (ap (drop (length (spelled rest_text x))) parts ∙ drop_at (spelled rest_text x) (flat_map (spelled rest_text) xs ++ left) (length (spelled rest_text x)) refl, h.1.1, h.2))
+      let parts : text ≡ encoded rest_text x ++ (flat_map (encoded rest_text) xs ++ left) = h.0 ∙ regroup x xs left in
+      (ap (framed least most read) parts ∙ frame_again least most read rest_text IsValue format x (flat_map (encoded rest_text) xs ++ left) h.1.0, (ap (drop (length (encoded rest_text x))) parts ∙ drop_at (encoded rest_text x) (flat_map (encoded rest_text) xs ++ left) (length (encoded rest_text x)) refl, h.1.1, h.2))
   one_first text x xs (Err f) h =
-      let parts : text ≡ spelled rest_text x ++ (flat_map (spelled rest_text) xs ++ h.0) = h.1 ∙ regroup x xs h.0 in
-      (ap (framed least most read) parts ∙ frame_again least most read rest_text IsValue format x (flat_map (spelled rest_text) xs ++ h.0) h.2.0, (h.0, ap (drop (length (spelled rest_text x))) parts ∙ drop_at (spelled rest_text x) (flat_map (spelled rest_text) xs ++ h.0) (length (spelled rest_text x)) refl, h.2.1, h.3))
+      let parts : text ≡ encoded rest_text x ++ (flat_map (encoded rest_text) xs ++ h.0) = h.1 ∙ regroup x xs h.0 in
+      (ap (framed least most read) parts ∙ frame_again least most read rest_text IsValue format x (flat_map (encoded rest_text) xs ++ h.0) h.2.0, (h.0, ap (drop (length (encoded rest_text x))) parts ∙ drop_at (encoded rest_text x) (flat_map (encoded rest_text) xs ++ h.0) (length (encoded rest_text x)) refl, h.2.1, h.3))
 
   same_end : (text : List ℕ) (l r : Result (List ℕ) FormFault) → Begins least most read rest_text IsValue text [] l → Begins least most read rest_text IsValue text [] r → next_of {X = X} l ≡ next_of r → l ≡ r
   same_end text (Ok a) (Ok b) h k e = let x : a ≡ b = sym h.0 ∙ k.0 in ap (λ (t : List ℕ). Ok t) x
@@ -113,29 +113,29 @@ module _ {X : Type 0} (least most : ℕ) (read : List ℕ → Result X FormFault
 
   pub one_reading_only : (text : List ℕ) (xs ys : List X) (l r : Result (List ℕ) FormFault) → Begins least most read rest_text IsValue text xs l → Begins least most read rest_text IsValue text ys r → (xs ≡ ys) × (l ≡ r)
   one_reading_only text [] [] l r h k = (refl, same_end text l r h k (sym (nothing_first text l h) ∙ nothing_first text r k))
-  one_reading_only text [] (y ∷ ys) l r h k = absurd (not_next y (length (spelled rest_text y)) l (sym (one_first text y ys r k).0 ∙ nothing_first text l h))
-  one_reading_only text (x ∷ xs) [] l r h k = absurd (not_next x (length (spelled rest_text x)) r (sym (one_first text x xs l h).0 ∙ nothing_first text r k))
+  one_reading_only text [] (y ∷ ys) l r h k = absurd (not_next y (length (encoded rest_text y)) l (sym (one_first text y ys r k).0 ∙ nothing_first text l h))
+  one_reading_only text (x ∷ xs) [] l r h k = absurd (not_next x (length (encoded rest_text x)) r (sym (one_first text x xs l h).0 ∙ nothing_first text r k))
   one_reading_only text (x ∷ xs) (y ∷ ys) l r h k =
       let a = one_first text x xs l h in
       let b = one_first text y ys r k in
-      let s = same_frame x y (length (spelled rest_text x)) (length (spelled rest_text y)) (sym a.0 ∙ b.0) in
-      let second : Begins least most read rest_text IsValue (drop (length (spelled rest_text x)) text) ys r = subst (λ (n : ℕ). Begins least most read rest_text IsValue (drop n text) ys r) (sym s.1) b.1 in
-      let others = one_reading_only (drop (length (spelled rest_text x)) text) xs ys l r a.1 second in
+      let s = same_frame x y (length (encoded rest_text x)) (length (encoded rest_text y)) (sym a.0 ∙ b.0) in
+      let second : Begins least most read rest_text IsValue (drop (length (encoded rest_text x)) text) ys r = subst (λ (n : ℕ). Begins least most read rest_text IsValue (drop n text) ys r) (sym s.1) b.1 in
+      let others = one_reading_only (drop (length (encoded rest_text x)) text) xs ys l r a.1 second in
       (cc (s.0, others.0), others.1)
 
-  pub one_spelling_only : (x y : X) (a b : List ℕ) → IsValue x → IsValue y → spelled rest_text x ++ a ≡ spelled rest_text y ++ b → (x ≡ y) × (a ≡ b)
-  one_spelling_only x y a b h k e =
-      let s = same_frame x y (length (spelled rest_text x)) (length (spelled rest_text y)) (sym (frame_again least most read rest_text IsValue format x a h) ∙ ap (framed least most read) e ∙ frame_again least most read rest_text IsValue format y b k) in
-      let p : drop (length (spelled rest_text x)) (spelled rest_text x ++ a) ≡ a = drop_at (spelled rest_text x) a (length (spelled rest_text x)) refl in
-      let q : drop (length (spelled rest_text y)) (spelled rest_text y ++ b) ≡ b = drop_at (spelled rest_text y) b (length (spelled rest_text y)) refl in
-      (s.0, sym p ∙ ap (drop (length (spelled rest_text x))) e ∙ ap (λ (n : ℕ). drop n (spelled rest_text y ++ b)) s.1 ∙ q)
+  pub one_encoding_only : (x y : X) (a b : List ℕ) → IsValue x → IsValue y → encoded rest_text x ++ a ≡ encoded rest_text y ++ b → (x ≡ y) × (a ≡ b)
+  one_encoding_only x y a b h k e =
+      let s = same_frame x y (length (encoded rest_text x)) (length (encoded rest_text y)) (sym (frame_again least most read rest_text IsValue format x a h) ∙ ap (framed least most read) e ∙ frame_again least most read rest_text IsValue format y b k) in
+      let p : drop (length (encoded rest_text x)) (encoded rest_text x ++ a) ≡ a = drop_at (encoded rest_text x) a (length (encoded rest_text x)) refl in
+      let q : drop (length (encoded rest_text y)) (encoded rest_text y ++ b) ≡ b = drop_at (encoded rest_text y) b (length (encoded rest_text y)) refl in
+      (s.0, sym p ∙ ap (drop (length (encoded rest_text x))) e ∙ ap (λ (n : ℕ). drop n (encoded rest_text y ++ b)) s.1 ∙ q)
 
 -- ---- pieces
 
-joined : {X : Type 0} (rest_text : X → List ℕ) (text more left after : List ℕ) (xs ys : List X) → text ≡ flat_map (spelled rest_text) xs ++ left → left ++ more ≡ flat_map (spelled rest_text) ys ++ after → text ++ more ≡ flat_map (spelled rest_text) (xs ++ ys) ++ after
+joined : {X : Type 0} (rest_text : X → List ℕ) (text more left after : List ℕ) (xs ys : List X) → text ≡ flat_map (encoded rest_text) xs ++ left → left ++ more ≡ flat_map (encoded rest_text) ys ++ after → text ++ more ≡ flat_map (encoded rest_text) (xs ++ ys) ++ after
 joined rest_text text more left after xs ys e k =
-    ap (λ (t : List ℕ). t ++ more) e ∙ append_assoc (flat_map (spelled rest_text) xs) left more ∙ ap (λ (t : List ℕ). flat_map (spelled rest_text) xs ++ t) k
-    ∙ sym (append_assoc (flat_map (spelled rest_text) xs) (flat_map (spelled rest_text) ys) after) ∙ ap (λ (t : List ℕ). t ++ after) (sym (flat_map-append (spelled rest_text) xs ys))
+    ap (λ (t : List ℕ). t ++ more) e ∙ append_assoc (flat_map (encoded rest_text) xs) left more ∙ ap (λ (t : List ℕ). flat_map (encoded rest_text) xs ++ t) k
+    ∙ sym (append_assoc (flat_map (encoded rest_text) xs) (flat_map (encoded rest_text) ys) after) ∙ ap (λ (t : List ℕ). t ++ after) (sym (flat_map-append (encoded rest_text) xs ys))
 
 pub pieces_join_up : {X Y : Type 0} (least most : ℕ) (read : List ℕ → Result Y FormFault) (rest_text : X → List ℕ) (IsValue : X → Type 0) (text more left : List ℕ) (xs ys : List X) (r : Result (List ℕ) FormFault) → Begins least most read rest_text IsValue text xs (Ok left) → Begins least most read rest_text IsValue (left ++ more) ys r → Begins least most read rest_text IsValue (text ++ more) (xs ++ ys) r
 pieces_join_up least most read rest_text IsValue text more left xs ys (Ok after) h k = (joined rest_text text more left after xs ys h.0 k.0, each_both IsValue xs ys h.1 k.1, k.2)
@@ -143,27 +143,27 @@ pieces_join_up least most read rest_text IsValue text more left xs ys (Err f) h 
 
 -- what is read up to a fault is read so, whatever follows
 pub fault_behind : {X Y : Type 0} (least most : ℕ) (read : List ℕ → Result Y FormFault) (rest_text : X → List ℕ) (IsValue : X → Type 0) (text more : List ℕ) (xs : List X) (f : FormFault) → Begins least most read rest_text IsValue text xs (Err f) → Begins least most read rest_text IsValue (text ++ more) xs (Err f)
-fault_behind least most read rest_text IsValue text more xs f h = (h.0 ++ more, ap (λ (t : List ℕ). t ++ more) h.1 ∙ append_assoc (flat_map (spelled rest_text) xs) h.0 more, h.2, fault_stays least most read h.0 more f h.3)
+fault_behind least most read rest_text IsValue text more xs f h = (h.0 ++ more, ap (λ (t : List ℕ). t ++ more) h.1 ∙ append_assoc (flat_map (encoded rest_text) xs) h.0 more, h.2, fault_stays least most read h.0 more f h.3)
 
 module _ {X Y : Type 0} (seen : X → Y) (least most : ℕ) (read : List ℕ → Result Y FormFault) (text_of : Y → List ℕ) (IsY : Y → Type 0) (format : IsFormat least most read text_of IsY) where
   -- of one frame, as its length says, nothing is left
   pub whole_leaves_nothing : (text left : List ℕ) (xs : List X) → IsWhole text → Begins least most read (λ x. text_of (seen x)) (λ x. IsY (seen x)) text xs (Ok left) → left ≡ []
-  unfolding spelled
+  unfolding encoded
   whole_leaves_nothing text left [] whole (is, each, inl few) = let same : length text ≡ length left = ap length is in absurd (omega (arith, same, few, whole.0))
   whole_leaves_nothing text left [] whole (is, each, inr p) =
       let same : length text ≡ length left = ap length is in
       let len : len_of text ≡ len_of left = ap len_of is in
       absurd (omega (arith, same, len, p.2, whole.1))
   whole_leaves_nothing text left (x ∷ xs) whole h =
-      let parts : text ≡ spelled (λ x. text_of (seen x)) x ++ (flat_map (spelled (λ x. text_of (seen x))) xs ++ left) = h.0 ∙ ap (λ (t : List ℕ). t ++ left) (flat_map-cons (spelled (λ x. text_of (seen x))) x xs) ∙ append_assoc (spelled (λ x. text_of (seen x)) x) (flat_map (spelled (λ x. text_of (seen x))) xs) left in
-      let len = spelled_len least most read text_of IsY format (seen x) (flat_map (spelled (λ x. text_of (seen x))) xs ++ left) h.1.0 in
-      let all : length text ≡ length (spelled (λ x. text_of (seen x)) x) + length (flat_map (spelled (λ x. text_of (seen x))) xs ++ left) = ap length parts ∙ length-append (spelled (λ x. text_of (seen x)) x) (flat_map (spelled (λ x. text_of (seen x))) xs ++ left) in
-      let own : len_of text ≡ len_of (spelled (λ x. text_of (seen x)) x ++ (flat_map (spelled (λ x. text_of (seen x))) xs ++ left)) = ap len_of parts in
-      nil_from_length left (omega (arith, len, all, own, whole.1, length-append (flat_map (spelled (λ x. text_of (seen x))) xs) left))
+      let parts : text ≡ encoded (λ x. text_of (seen x)) x ++ (flat_map (encoded (λ x. text_of (seen x))) xs ++ left) = h.0 ∙ ap (λ (t : List ℕ). t ++ left) (flat_map-cons (encoded (λ x. text_of (seen x))) x xs) ∙ append_assoc (encoded (λ x. text_of (seen x)) x) (flat_map (encoded (λ x. text_of (seen x))) xs) left in
+      let len = encoded_len least most read text_of IsY format (seen x) (flat_map (encoded (λ x. text_of (seen x))) xs ++ left) h.1.0 in
+      let all : length text ≡ length (encoded (λ x. text_of (seen x)) x) + length (flat_map (encoded (λ x. text_of (seen x))) xs ++ left) = ap length parts ∙ length-append (encoded (λ x. text_of (seen x)) x) (flat_map (encoded (λ x. text_of (seen x))) xs ++ left) in
+      let own : len_of text ≡ len_of (encoded (λ x. text_of (seen x)) x ++ (flat_map (encoded (λ x. text_of (seen x))) xs ++ left)) = ap len_of parts in
+      nil_from_length left (omega (arith, len, all, own, whole.1, length-append (flat_map (encoded (λ x. text_of (seen x))) xs) left))
 
   -- behind one frame, the second part of a piece is read alone
   pub whole_first : (before middle after : List X) (rest piece first second text left : List ℕ) (fault : Option FormFault) (r : Result (List ℕ) FormFault) → first ++ second ≡ piece → text ≡ rest ++ first → is_some fault ≡ false → IsWhole text
-      → AddsValues least most read (λ x. text_of (seen x)) (λ x. IsY (seen x)) before middle text (held left fault) → AddsValues least most read (λ x. text_of (seen x)) (λ x. IsY (seen x)) middle after second r → AddsValues least most read (λ x. text_of (seen x)) (λ x. IsY (seen x)) before after (rest ++ piece) r
+      → AddsValues least most read (λ x. text_of (seen x)) (λ x. IsY (seen x)) before middle text (rest_of left fault) → AddsValues least most read (λ x. text_of (seen x)) (λ x. IsY (seen x)) middle after second r → AddsValues least most read (λ x. text_of (seen x)) (λ x. IsY (seen x)) before after (rest ++ piece) r
   whole_first before middle after rest piece first second text left (Some f) r whole is none one h k = absurd cc
   whole_first before middle after rest piece first second text left None r whole is none one h k =
       let text-is : text ++ second ≡ rest ++ piece = ap (λ (t : List ℕ). t ++ second) is ∙ append_assoc rest first second ∙ ap (λ (t : List ℕ). rest ++ t) whole in
@@ -174,7 +174,7 @@ module _ {X Y : Type 0} (seen : X → Y) (least most : ℕ) (read : List ℕ →
 
 -- up to a fault, the second part of a piece adds nothing
 pub fault_first : {X Y : Type 0} (least most : ℕ) (read : List ℕ → Result Y FormFault) (rest_text : X → List ℕ) (IsValue : X → Type 0) (before after : List X) (rest piece first second text left kept_ : List ℕ) (fault : Option FormFault) → first ++ second ≡ piece → text ≡ rest ++ first → is_some fault ≡ true
-    → AddsValues least most read rest_text IsValue before after text (held left fault) → AddsValues least most read rest_text IsValue before after (rest ++ piece) (held kept_ fault)
+    → AddsValues least most read rest_text IsValue before after text (rest_of left fault) → AddsValues least most read rest_text IsValue before after (rest ++ piece) (rest_of kept_ fault)
 fault_first least most read rest_text IsValue before after rest piece first second text left kept_ None whole is some h = absurd cc
 fault_first least most read rest_text IsValue before after rest piece first second text left kept_ (Some f) whole is some h =
     let text-is : text ++ second ≡ rest ++ piece = ap (λ (t : List ℕ). t ++ second) is ∙ append_assoc rest first second ∙ ap (λ (t : List ℕ). rest ++ t) whole in
@@ -194,7 +194,7 @@ module _ {X Y : Type 0} (seen : X → Y) (least most : ℕ) (read : List ℕ →
   pub values_fault : (text : List ℕ) (before after : List X) (used : ℕ) (f : FormFault) → SoFar (λ x. text_of (seen x)) (λ x. IsY (seen x)) text before after used → framed least most read (from_place used text) ≡ Err f → AddsValues least most read (λ x. text_of (seen x)) (λ x. IsY (seen x)) before after text (Err f)
   values_fault text before after used f s e = faults seen least most read text_of IsY format text before after used f s (ap (framed least most read) (sym (tail_is used text)) ∙ e)
 
--- the spelling of one value is read as that value
-pub one_value_begins : {X Y : Type 0} (least most : ℕ) (read : List ℕ → Result Y FormFault) (rest_text : X → List ℕ) (IsValue : X → Type 0) (x : X) → IsValue x → Begins least most read rest_text IsValue (spelled rest_text x) (x ∷ []) (Ok [])
+-- the encoding of one value is read as that value
+pub one_value_begins : {X Y : Type 0} (least most : ℕ) (read : List ℕ → Result Y FormFault) (rest_text : X → List ℕ) (IsValue : X → Type 0) (x : X) → IsValue x → Begins least most read rest_text IsValue (encoded rest_text x) (x ∷ []) (Ok [])
 one_value_begins least most read rest_text IsValue x fits =
-    (sym (append-nil (flat_map (spelled rest_text) (x ∷ [])) ∙ flat_map-cons (spelled rest_text) x [] ∙ append-nil (spelled rest_text x)), (fits, tt), inl (omega arith))
+    (sym (append-nil (flat_map (encoded rest_text) (x ∷ [])) ∙ flat_map-cons (encoded rest_text) x [] ∙ append-nil (encoded rest_text x)), (fits, tt), inl (omega arith))

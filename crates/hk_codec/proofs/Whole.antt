@@ -1,4 +1,4 @@
--- Lists, entries and items: what is read is spelled so.
+-- Lists, entries and items: what is read is encoded so.
 use Rattle.std.proofs.Common.{◌≡◌, ℕ, zero, suc, ◌+◌, ◌^◌, ◌<◌, ◌≤◌, Bool, true, false, cond, eqb, ltb, ◌||◌, ◌&&◌, List, [], ◌∷◌, ◌++◌, length, map, Option, Some, None, Ok, refl, sym, ap, subst, ◌∙◌, append_assoc, arith, inl, inr}
 use Rattle.std.specs.Int.{w16, w64}
 use Rattle.std.specs.List.{flat_map, list_all, AllByRecursion}
@@ -12,7 +12,7 @@ use Rattle.hk_log.specs.Items.{EntryValue, IsEntry, end_place, row_place, is_aft
 use Rattle.hk_log.specs.declared.item.Item.{Item}
 use Rattle.hk_log.specs.declared.item.Item.TheVariants.{Commit, Closed}
 use Rattle.hk_codec.specs.Fields.{IsBytes, ◌>>=◌, check, number, number_at, list_at}
-use Rattle.hk_codec.specs.Spelling.{end_text, row_text, head_text, entry_text, mark_text, rest_text, EndFits, RowFits, IsItem}
+use Rattle.hk_codec.specs.Encoding.{end_text, row_text, head_text, entry_text, mark_text, rest_text, EndFits, RowFits, IsEncodableItem}
 use Rattle.hk_codec.specs.Reading.{HeadValue, end_at, row_at, ends_at, rows_at, moment_at, counted_ends_at, counted_rows_at, entry_at, mark_at, head_at, kind_at, item_at}
 use Rattle.hk_codec.proofs.Loop.{One}
 use Rattle.hk_codec.proofs.Steps.{bind_ok, check_ok, ok_is, neither, Takes, Takes-then}
@@ -146,7 +146,7 @@ is_entry log stream n time vs rs a b c d log_fits least most m es re =
     }
 
 pub entry_takes : (log stream : ℕ) (bytes : List ℕ) (x : EntryValue × List ℕ) → log < 2 ^ 64 → 1 ≤ stream → stream ≤ 64 → IsBytes bytes → entry_at log stream bytes ≡ Ok x
-    → Takes bytes (entry_text x.0) x.1 × IsItem (Commit x.0) × (x.0.log ≡ log) × (x.0.stream ≡ stream)
+    → Takes bytes (entry_text x.0) x.1 × IsEncodableItem (Commit x.0) × (x.0.log ≡ log) × (x.0.stream ≡ stream)
 unfolding entry_at entry_text
 entry_takes log stream bytes x log_fits least most fits e =
     let made = λ (m : (ℕ × ℕ) × List ℕ) (es : List VersionKey × List ℕ) (rs : List (ℕ × ℕ × RowValue) × List ℕ). let y : EntryValue × List ℕ = (record { log = log; stream = stream; number = m.0.0; time = m.0.1; ends = es.0; rows = rs.0 }, rs.1) in y in
@@ -162,12 +162,12 @@ entry_takes log stream bytes x log_fits least most fits e =
     ≡ number w64 a.0.0.0 ++ (number w64 a.0.0.1 ++ (number w16 (length b.0.0) ++ (flat_map end_text b.0.0 ++ (number w16 (length c.0.0) ++ flat_map row_text c.0.0)))) = simp append_assoc in
     let whole = subst (λ (t : List ℕ). Takes bytes t c.0.1) {x = (number w64 a.0.0.0 ++ number w64 a.0.0.1) ++ ((number w16 (length b.0.0) ++ flat_map end_text b.0.0) ++ (number w16 (length c.0.0) ++ flat_map row_text c.0.0))} {y = number w64 a.0.0.0 ++ (number w64 a.0.0.1 ++ (number w16 (length b.0.0) ++ (flat_map end_text b.0.0 ++ (number w16 (length c.0.0) ++ flat_map row_text c.0.0))))} regrouped e02 in
     let lawful = is_entry log stream a.0.0.0 a.0.0.1 b.0.0 c.0.0 bytes a.0.1 b.0.1 c.0.1 log_fits least most m es re in
-    subst (λ (y : EntryValue × List ℕ). Takes bytes (number w64 y.0.number ++ (number w64 y.0.time ++ (number w16 (length y.0.ends) ++ (flat_map end_text y.0.ends ++ (number w16 (length y.0.rows) ++ flat_map row_text y.0.rows))))) y.1 × IsItem (Commit y.0) × (y.0.log ≡ log) × (y.0.stream ≡ stream)) {x = (made a.0 b.0 c.0)} (ok_is (made a.0 b.0 c.0) x c.2)
+    subst (λ (y : EntryValue × List ℕ). Takes bytes (number w64 y.0.number ++ (number w64 y.0.time ++ (number w16 (length y.0.ends) ++ (flat_map end_text y.0.ends ++ (number w16 (length y.0.rows) ++ flat_map row_text y.0.rows))))) y.1 × IsEncodableItem (Commit y.0) × (y.0.log ≡ log) × (y.0.stream ≡ stream)) {x = (made a.0 b.0 c.0)} (ok_is (made a.0 b.0 c.0) x c.2)
     (whole, (lawful, all_fit a.0.0.1 b.0.0 es.each, re.each), refl, refl)
 
 -- ---- items
 
-kind_takes : (h : HeadValue) (a bytes : List ℕ) (x : Item × List ℕ) → HeadFits h → Takes a (head_text h.kind h.log h.stream) bytes → kind_at h bytes ≡ Ok x → Takes a (rest_text x.0) x.1 × IsItem x.0
+kind_takes : (h : HeadValue) (a bytes : List ℕ) (x : Item × List ℕ) → HeadFits h → Takes a (head_text h.kind h.log h.stream) bytes → kind_at h bytes ≡ Ok x → Takes a (rest_text x.0) x.1 × IsEncodableItem x.0
 unfolding kind_at rest_text
 kind_takes h a bytes x fits t e =
     elim fits.kind [
@@ -179,7 +179,7 @@ kind_takes h a bytes x fits t e =
           let t2 = subst (λ (k : ℕ). Takes a (head_text 1 k h.stream) bytes) (sym y.2) t1 in
           let t3 = subst (λ (k : ℕ). Takes a (head_text 1 b.0.0.log k) bytes) (sym y.3) t2 in
           let whole = Takes-then a (head_text 1 b.0.0.log b.0.0.stream) bytes (entry_text b.0.0) b.0.1 t3 y.0 in
-          subst (λ (z : Item × List ℕ). Takes a (rest_text z.0) z.1 × IsItem z.0) {x = (Commit b.0.0, b.0.1)} (ok_is (Commit b.0.0, b.0.1) x b.2) (whole, y.1)
+          subst (λ (z : Item × List ℕ). Takes a (rest_text z.0) z.1 × IsEncodableItem z.0) {x = (Commit b.0.0, b.0.1)} (ok_is (Commit b.0.0, b.0.1) x b.2) (whole, y.1)
       | inr two ↦
           let e1 : (mark_at h.log h.stream bytes >>= λ y. Ok (Closed y.0, y.1)) ≡ Ok x = subst (λ (k : ℕ). cond (eqb k 1) (entry_at h.log h.stream bytes >>= λ y. Ok (Commit y.0, y.1)) (mark_at h.log h.stream bytes >>= λ y. Ok (Closed y.0, y.1)) ≡ Ok x) two e in
           let b = bind_ok (mark_at h.log h.stream bytes) (λ y. Ok (Closed y.0, y.1)) x e1 in
@@ -188,10 +188,10 @@ kind_takes h a bytes x fits t e =
           let t2 = subst (λ (k : ℕ). Takes a (head_text 2 k h.stream) bytes) (sym y.2) t1 in
           let t3 = subst (λ (k : ℕ). Takes a (head_text 2 b.0.0.log k) bytes) (sym y.3) t2 in
           let whole = Takes-then a (head_text 2 b.0.0.log b.0.0.stream) bytes (mark_text b.0.0) b.0.1 t3 y.0 in
-          subst (λ (z : Item × List ℕ). Takes a (rest_text z.0) z.1 × IsItem z.0) {x = (Closed b.0.0, b.0.1)} (ok_is (Closed b.0.0, b.0.1) x b.2) (whole, y.1)
+          subst (λ (z : Item × List ℕ). Takes a (rest_text z.0) z.1 × IsEncodableItem z.0) {x = (Closed b.0.0, b.0.1)} (ok_is (Closed b.0.0, b.0.1) x b.2) (whole, y.1)
     ]
 
-pub item_takes : (bytes : List ℕ) (i : Item) → IsBytes bytes → item_at bytes ≡ Ok i → (bytes ≡ rest_text i) × IsItem i
+pub item_takes : (bytes : List ℕ) (i : Item) → IsBytes bytes → item_at bytes ≡ Ok i → (bytes ≡ rest_text i) × IsEncodableItem i
 unfolding item_at
 item_takes bytes i fits e =
     let a = bind_ok (head_at bytes) (λ h. kind_at h.0 h.1 >>= λ x. check (ltb 0 (length x.1)) WrongLength >>= λ _. Ok x.0) i e in
@@ -202,4 +202,4 @@ item_takes bytes i fits e =
     let none : length b.0.1 ≤ 0 = ltb-false 0 (length b.0.1) c.0 in
     let nothing : b.0.1 ≡ [] = nil_from_length b.0.1 (omega arith) in
     let whole : bytes ≡ rest_text b.0.0 = k.0.parts ∙ ap (λ (r : List ℕ). rest_text b.0.0 ++ r) nothing ∙ append-nil (rest_text b.0.0) in
-    subst (λ (j : Item). (bytes ≡ rest_text j) × IsItem j) {x = b.0.0} (ok_is b.0.0 i c.1) (whole, k.1)
+    subst (λ (j : Item). (bytes ≡ rest_text j) × IsEncodableItem j) {x = b.0.0} (ok_is b.0.0 i c.1) (whole, k.1)

@@ -1,4 +1,4 @@
--- Fields: how numbers are spelled, and how bytes are read from left to right up to the first fault.
+-- Fields: how numbers are encoded, and how bytes are read from left to right up to the first fault.
 use Rattle.std.specs.Prelude.{◌≡◌, ◌<◌, ℕ, zero, suc, Bool, true, nat_lt, if◌then◌else◌, List, [], ◌∷◌, length, take, drop, slice_index, Option, Some, Result, Ok, Err}
 use Rattle.std.specs.Int.{Width, w16, byte_len, from_be_bytes, to_be_bytes}
 use Rattle.hk_types.specs.declared.faults.FormFault.{FormFault}
@@ -53,11 +53,11 @@ list_at place one (suc n) before bytes = do
   Ok (first.0 ∷ others.0, others.1)
 
 -- what a function returned, seen by `view`, is what reading gives
-abbrev pub Gives : {X Y : Type 0} → (X → Y) → Result X FormFault → Result Y FormFault → Type 0
-Gives view (Ok x) read = read ≡ Ok (view x)
-Gives view (Err fault) read = read ≡ Err fault
+abbrev pub GivesValue : {X Y : Type 0} → (X → Y) → Result X FormFault → Result Y FormFault → Type 0
+GivesValue view (Ok x) read = read ≡ Ok (view x)
+GivesValue view (Err fault) read = read ≡ Err fault
 
--- an error is the fault that reading gives, or want of memory
+-- an error is the fault that reading gives, or out of memory
 abbrev pub Fails : {Y : Type 0} → ReadError → Result Y FormFault → Type 0
 Fails Memory read = Unit {0}
 Fails (Fault fault) read = read ≡ Err fault

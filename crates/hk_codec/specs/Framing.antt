@@ -39,22 +39,22 @@ IsPartial least most bytes = (length bytes < 4) ⊎ ((least ≤ len_of bytes) ×
 abbrev pub IsWhole : List ℕ → Type 0
 IsWhole bytes = (4 ≤ length bytes) × (length bytes ≡ 4 + len_of bytes)
 
--- a frame: the length of the rest that spells a value, and the rest
-unfoldable pub spelled : {X : Type 0} → (X → List ℕ) → X → List ℕ
-spelled rest_text x = number w32 (length (rest_text x)) ++ rest_text x
+-- a frame: the length of the rest that encodes a value, and the rest
+unfoldable pub encoded : {X : Type 0} → (X → List ℕ) → X → List ℕ
+encoded rest_text x = number w32 (length (rest_text x)) ++ rest_text x
 
--- For values that `rest_text` spells where they are `IsValue`, and as what `read` sees them, in rests of at
--- least `least` and at most `most` bytes: the text begins with the spellings of these values. After them comes
+-- For values that `rest_text` encodes where they are `IsValue`, and as what `read` sees them, in rests of at
+-- least `least` and at most `most` bytes: the text begins with the encodings of these values. After them comes
 -- less than a frame, which is left, or bytes with this fault.
 abbrev pub Begins : {X Y : Type 0} → ℕ → ℕ → (List ℕ → Result Y FormFault) → (X → List ℕ) → (X → Type 0) → List ℕ → List X → Result (List ℕ) FormFault → Type 0
-Begins least most read rest_text IsValue text values (Ok left) = (text ≡ flat_map (spelled rest_text) values ++ left) × AllByRecursion IsValue values × IsPartial least most left
-Begins least most read rest_text IsValue text values (Err fault) = (left : List ℕ) × (text ≡ flat_map (spelled rest_text) values ++ left) × AllByRecursion IsValue values × (framed least most read left ≡ Err fault)
+Begins least most read rest_text IsValue text values (Ok left) = (text ≡ flat_map (encoded rest_text) values ++ left) × AllByRecursion IsValue values × IsPartial least most left
+Begins least most read rest_text IsValue text values (Err fault) = (left : List ℕ) × (text ≡ flat_map (encoded rest_text) values ++ left) × AllByRecursion IsValue values × (framed least most read left ≡ Err fault)
 
 -- what is added to a list of values where this text is read so far
 abbrev pub AddsValues : {X Y : Type 0} → ℕ → ℕ → (List ℕ → Result Y FormFault) → (X → List ℕ) → (X → Type 0) → List X → List X → List ℕ → Result (List ℕ) FormFault → Type 0
 AddsValues {X} least most read rest_text IsValue before after text left = (values : List X) × (after ≡ before ++ values) × Begins least most read rest_text IsValue text values left
 
--- reading and spelling of a rest undo each other, and the rest of each value is in its limits
+-- reading and encoding of a rest undo each other, and the rest of each value is in its limits
 pub record IsFormat {X : Type 0} (least most : ℕ) (read : List ℕ → Result X FormFault) (rest_text : X → List ℕ) (IsValue : X → Type 0) : Type 0 where
   pub takes : (bytes : List ℕ) (x : X) → IsBytes bytes → length bytes ≤ most → read bytes ≡ Ok x → (bytes ≡ rest_text x) × IsValue x
   pub again : (x : X) → IsValue x → read (rest_text x) ≡ Ok x
@@ -63,9 +63,9 @@ pub record IsFormat {X : Type 0} (least most : ℕ) (read : List ℕ → Result 
   pub in_width : most < 2 ^ 32
 
 -- what a feeder holds: less than a frame, or the fault that it met
-abbrev pub held : List ℕ → Option FormFault → Result (List ℕ) FormFault
-held left None = Ok left
-held left (Some fault) = Err fault
+abbrev pub rest_of : List ℕ → Option FormFault → Result (List ℕ) FormFault
+rest_of left None = Ok left
+rest_of left (Some fault) = Err fault
 
 -- what a feeder with this state answers
 abbrev pub answer : Result (List ℕ) FormFault → Result (Unit {0}) Refusal

@@ -1,6 +1,6 @@
 pub mod Fields
 pub mod Framing
-pub mod Spelling
+pub mod Encoding
 pub mod Reading
 pub mod Frames
 pub mod Parts

@@ -93,7 +93,7 @@ impl<'a> Cursor<'a> {
     /// Reads so many bytes. Where fewer are left the fault is a wrong length, and nothing is read.
     #[tactic(auto, unfolding(crate::specs::Fields::bytes_at))]
     pub fn bytes(&mut self, count: usize) -> Result<&'a [u8], FormFault>
-        ensures read { spec.Gives (λ x. (x.now, self.new)) result (spec.bytes_at count self.old) }
+        ensures read { spec.GivesValue (λ x. (x.now, self.new)) result (spec.bytes_at count self.old) }
         ensures len { IfOk result (λ x. length x.now ≡ count) }
         ensures err { OnErr result (self.new ≡ self.old) }
     {
@@ -108,7 +108,7 @@ impl<'a> Cursor<'a> {
     /// Reads a byte. Where none is left the fault is a wrong length.
     #[tactic(auto, unfolding(crate::specs::Fields::byte_at))]
     pub fn u8(&mut self) -> Result<u8, FormFault>
-        ensures read { spec.Gives (λ x. (x, self.new)) result (spec.byte_at self.old) }
+        ensures read { spec.GivesValue (λ x. (x, self.new)) result (spec.byte_at self.old) }
         ensures err { OnErr result (self.new ≡ self.old) }
     {
         match self.rest {
@@ -124,7 +124,7 @@ impl<'a> Cursor<'a> {
     /// length, and nothing is read.
     #[tactic(auto, unfolding(crate::specs::Fields::number_at))]
     pub fn u16(&mut self) -> Result<u16, FormFault>
-        ensures read { spec.Gives (λ x. (x, self.new)) result (spec.number_at w16 self.old) }
+        ensures read { spec.GivesValue (λ x. (x, self.new)) result (spec.number_at w16 self.old) }
         ensures err { OnErr result (self.new ≡ self.old) }
     {
         if self.rest.len() < 2 {
@@ -139,7 +139,7 @@ impl<'a> Cursor<'a> {
     /// length, and nothing is read.
     #[tactic(auto, unfolding(crate::specs::Fields::number_at))]
     pub fn u32(&mut self) -> Result<u32, FormFault>
-        ensures read { spec.Gives (λ x. (x, self.new)) result (spec.number_at w32 self.old) }
+        ensures read { spec.GivesValue (λ x. (x, self.new)) result (spec.number_at w32 self.old) }
         ensures err { OnErr result (self.new ≡ self.old) }
     {
         if self.rest.len() < 4 {
@@ -154,7 +154,7 @@ impl<'a> Cursor<'a> {
     /// length, and nothing is read.
     #[tactic(auto, unfolding(crate::specs::Fields::number_at))]
     pub fn u64(&mut self) -> Result<u64, FormFault>
-        ensures read { spec.Gives (λ x. (x, self.new)) result (spec.number_at w64 self.old) }
+        ensures read { spec.GivesValue (λ x. (x, self.new)) result (spec.number_at w64 self.old) }
         ensures err { OnErr result (self.new ≡ self.old) }
     {
         if self.rest.len() < 8 {

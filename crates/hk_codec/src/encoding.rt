@@ -1,4 +1,4 @@
-//! The one spelling of an item.
+//! The one encoding of an item.
 
 ghost use Rattle.std.specs.Prelude.{◌≡◌, ◌≤◌, ◌+◌, ◌*◌, ◌++◌, ◌∷◌, [], Ok, All, length, take, OnOk, OnErr, IfErr};
 ghost use Rattle.std.specs.Int.{w16};
@@ -6,8 +6,8 @@ ghost use Rattle.std.specs.List.{flat_map};
 ghost use Rattle.hk_log.specs.Items.{IsMark};
 ghost use Rattle.hk_types.specs.declared.faults.Refusal.TheVariants as refusals;
 ghost use Rattle.hk_codec.specs.Fields.{number};
-ghost use Rattle.hk_codec.specs.Spelling as spec;
-ghost use Rattle.hk_codec.specs.Frames.{spelling, Reads};
+ghost use Rattle.hk_codec.specs.Encoding as spec;
+ghost use Rattle.hk_codec.specs.Frames.{encoding_of, Reads};
 
 use crate::fields::{put_body, put_u16, put_u32, put_u64};
 use crate::frames::LENGTH_BYTES;
@@ -16,7 +16,7 @@ use hk_log::{Entry, Item, Mark};
 use hk_types::{Key, Refusal, Row, StreamNo, Table, VersionKey};
 use std::alloc::AllocError;
 
-#[tactic(auto, using(std::proofs::Common::append_assoc, crate::proofs::Prefix::kept_all, crate::proofs::Prefix::kept_before), unfolding(crate::specs::Spelling::head_text))]
+#[tactic(auto, using(std::proofs::Common::append_assoc, crate::proofs::Prefix::kept_all, crate::proofs::Prefix::kept_before), unfolding(crate::specs::Encoding::head_text))]
 fn put_head(out: &mut Vec<u8>, kind: u8, log: u64, stream: StreamNo) -> Result<(), AllocError>
     ensures ok { OnOk result (out.new.items ≡ out.old.items ++ spec.head_text kind log stream) }
     ensures kept { OnErr result (take (length out.old.items) out.new.items ≡ out.old.items) }
@@ -27,7 +27,7 @@ fn put_head(out: &mut Vec<u8>, kind: u8, log: u64, stream: StreamNo) -> Result<(
     put_u16(out, stream.number())
 }
 
-#[tactic(auto, using(std::proofs::Common::append_assoc, crate::proofs::Prefix::kept_all, crate::proofs::Prefix::kept_before), unfolding(crate::specs::Spelling::end_text))]
+#[tactic(auto, using(std::proofs::Common::append_assoc, crate::proofs::Prefix::kept_all, crate::proofs::Prefix::kept_before), unfolding(crate::specs::Encoding::end_text))]
 fn put_end(out: &mut Vec<u8>, end: &VersionKey) -> Result<(), AllocError>
     ensures ok { OnOk result (out.new.items ≡ out.old.items ++ spec.end_text end.now) }
     ensures kept { OnErr result (take (length out.old.items) out.new.items ≡ out.old.items) }
@@ -37,7 +37,7 @@ fn put_end(out: &mut Vec<u8>, end: &VersionKey) -> Result<(), AllocError>
     put_u64(out, end.born.number())
 }
 
-#[tactic(auto, using(std::proofs::Common::append_assoc, crate::proofs::Prefix::kept_all, crate::proofs::Prefix::kept_before, crate::proofs::Prefix::kept_both), unfolding(crate::specs::Spelling::row_text))]
+#[tactic(auto, using(std::proofs::Common::append_assoc, crate::proofs::Prefix::kept_all, crate::proofs::Prefix::kept_before, crate::proofs::Prefix::kept_both), unfolding(crate::specs::Encoding::row_text))]
 fn put_row(out: &mut Vec<u8>, table: Table, key: Key, row: &Row) -> Result<(), AllocError>
     ensures ok { OnOk result (out.new.items ≡ out.old.items ++ spec.row_text (table, key, row.now)) }
     ensures kept { OnErr result (take (length out.old.items) out.new.items ≡ out.old.items) }
@@ -122,7 +122,7 @@ fn rows_len(rows: &[(Table, Key, Row)]) -> u32
     total
 }
 
-#[tactic(auto, using(std::proofs::Common::append_assoc, crate::proofs::Prefix::kept_all, crate::proofs::Prefix::kept_before, crate::proofs::Prefix::kept_both), unfolding(crate::specs::Spelling::entry_text))]
+#[tactic(auto, using(std::proofs::Common::append_assoc, crate::proofs::Prefix::kept_all, crate::proofs::Prefix::kept_before, crate::proofs::Prefix::kept_both), unfolding(crate::specs::Encoding::entry_text))]
 fn put_entry(out: &mut Vec<u8>, entry: &Entry) -> Result<(), AllocError>
     ensures ok { OnOk result (out.new.items ≡ out.old.items ++ spec.entry_text entry.now) }
     ensures kept { OnErr result (take (length out.old.items) out.new.items ≡ out.old.items) }
@@ -133,7 +133,7 @@ fn put_entry(out: &mut Vec<u8>, entry: &Entry) -> Result<(), AllocError>
     put_rows(out, entry.rows())
 }
 
-#[tactic(auto, using(std::proofs::Common::append_assoc, crate::proofs::Prefix::kept_all, crate::proofs::Prefix::kept_before), unfolding(crate::specs::Spelling::mark_text))]
+#[tactic(auto, using(std::proofs::Common::append_assoc, crate::proofs::Prefix::kept_all, crate::proofs::Prefix::kept_before), unfolding(crate::specs::Encoding::mark_text))]
 fn put_mark(out: &mut Vec<u8>, mark: &Mark) -> Result<(), AllocError>
     ensures ok { OnOk result (out.new.items ≡ out.old.items ++ spec.mark_text mark.now) }
     ensures kept { OnErr result (take (length out.old.items) out.new.items ≡ out.old.items) }
@@ -155,7 +155,7 @@ fn mark_len(mark: &Mark) -> u32
 fn rest_len(item: &Item) -> u32
     ensures len { result ≡ length (spec.rest_text item.now) }
     ensures bound { result ≤ 4229152 }
-    ensures fits { spec.IsItem item.now }
+    ensures fits { spec.IsEncodableItem item.now }
 {
     match item {
         Item::Commit(entry) => 32 + ends_len(entry.ends()) + rows_len(entry.rows()),
@@ -163,7 +163,7 @@ fn rest_len(item: &Item) -> u32
     }
 }
 
-#[tactic(auto, using(std::proofs::Common::append_assoc, crate::proofs::Prefix::kept_all, crate::proofs::Prefix::kept_before, crate::proofs::Prefix::kept_both), unfolding(crate::specs::Spelling::rest_text))]
+#[tactic(auto, using(std::proofs::Common::append_assoc, crate::proofs::Prefix::kept_all, crate::proofs::Prefix::kept_before, crate::proofs::Prefix::kept_both), unfolding(crate::specs::Encoding::rest_text))]
 fn put_rest(out: &mut Vec<u8>, item: &Item) -> Result<(), AllocError>
     ensures ok { OnOk result (out.new.items ≡ out.old.items ++ spec.rest_text item.now) }
     ensures kept { OnErr result (take (length out.old.items) out.new.items ≡ out.old.items) }
@@ -180,25 +180,25 @@ fn put_rest(out: &mut Vec<u8>, item: &Item) -> Result<(), AllocError>
     }
 }
 
-/// How many bytes an item's spelling has. The cost grows with the number of its rows.
-#[tactic(auto, using(crate::proofs::Lengths::spelling_len))]
+/// How many bytes an item's encoding has. The cost grows with the number of its rows.
+#[tactic(auto, using(crate::proofs::Lengths::encoding_len))]
 pub fn frame_len(item: &Item) -> u32
-    ensures len { result ≡ length (spelling item.now) }
+    ensures len { result ≡ length (encoding_of item.now) }
     ensures bound { result ≤ 4229156 }
     // Each part of an item fits its field.
-    ensures fits { spec.IsItem item.now }
+    ensures fits { spec.IsEncodableItem item.now }
 {
     4 + rest_len(item)
 }
 
-/// Adds the item's spelling at the end, as `encode` does. The only error is want of memory; what was there
+/// Adds the item's encoding at the end, as `encode` does. The only error is out of memory; what was there
 /// before is then still the front.
-#[tactic(auto, using(std::proofs::Common::append_assoc, crate::proofs::Prefix::kept_all, crate::proofs::Prefix::kept_before, crate::proofs::Prefix::kept_both), unfolding(crate::specs::Framing::spelled))]
+#[tactic(auto, using(std::proofs::Common::append_assoc, crate::proofs::Prefix::kept_all, crate::proofs::Prefix::kept_before, crate::proofs::Prefix::kept_both), unfolding(crate::specs::Framing::encoded))]
 pub fn put_frame(out: &mut Vec<u8>, item: &Item) -> Result<(), AllocError>
-    ensures ok { OnOk result (out.new.items ≡ out.old.items ++ spelling item.now) }
+    ensures ok { OnOk result (out.new.items ≡ out.old.items ++ encoding_of item.now) }
     ensures kept { OnErr result (take (length out.old.items) out.new.items ≡ out.old.items) }
     // Each part of an item fits its field.
-    ensures fits { spec.IsItem item.now }
+    ensures fits { spec.IsEncodableItem item.now }
 {
     let rest = rest_len(item);
     out.reserve(LENGTH_BYTES + rest as usize)?;
@@ -206,15 +206,15 @@ pub fn put_frame(out: &mut Vec<u8>, item: &Item) -> Result<(), AllocError>
     put_rest(out, item)
 }
 
-/// Adds the item's one spelling at the end. A feeder that is given it gives the item back, and holds nothing.
+/// Adds the item's one encoding at the end. A feeder that is given it gives the item back, and holds nothing.
 /// The whole frame is reserved at once, so the cost is one growth of the output at most, and two passes over
 /// the item: one that counts its bytes and one that writes them. The only refusal is `Memory`, and then the
 /// output is as before.
 pub fn encode(item: &Item, out: &mut Vec<u8>) -> Result<(), Refusal>
-    ensures ok { OnOk result (out.new.items ≡ out.old.items ++ spelling item.now) }
-    // What is added is the spelling of an item, and is read as that item.
-    ensures fits { spec.IsItem item.now }
-    ensures reads { Reads (spelling item.now) (item.now ∷ []) (Ok []) }
+    ensures ok { OnOk result (out.new.items ≡ out.old.items ++ encoding_of item.now) }
+    // What is added is the encoding of an item, and is read as that item.
+    ensures fits { spec.IsEncodableItem item.now }
+    ensures reads { Reads (encoding_of item.now) (item.now ∷ []) (Ok []) }
     ensures err { OnErr result (out.new.items ≡ out.old.items) }
     ensures memory { IfErr result (λ e. e ≡ refusals.Memory) }
 {

@@ -39,11 +39,11 @@ impl Feeder {
     }
 
     /// Takes the next piece of the stream, and adds the items of the frames that are whole now. A fault is
-    /// answered once the bytes have it, after the items before it, and then for ever. Where memory runs
+    /// answered once the bytes have it, after the items before it, and then permanently. Where memory runs
     /// out, which is `Memory`, the feeder and the list are as before. The cost is one pass over the
     /// frames that are whole now, and one copy of the bytes that are left.
     pub fn feed(&mut self, piece: &[u8], out: &mut Vec<Item>) -> Result<(), Refusal>
-        // What is held and the piece begin with the spellings of the added items. What follows them is held.
+        // What is held and the piece begin with the encodings of the added items. What follows them is held.
         ensures reads { (rest : List ℕ) → self.old ≡ Ok rest → (result ≡ Err refusals.Memory) ⊎ ((result ≡ answer self.new) × Adds out.old.items out.new.items (rest ++ piece.now) self.new) }
         // A fault stays.
         ensures fault { (f : FormFault) → self.old ≡ Err f → (result ≡ Err (refusals.Form f)) × (self.new ≡ Err f) × (out.new.items ≡ out.old.items) }
@@ -62,7 +62,7 @@ impl Feeder {
     }
 }
 
-/// Adds the items of the whole frames that the bytes begin with. The only error is want of memory.
+/// Adds the items of the whole frames that the bytes begin with. The only error is out of memory.
 pub(crate) fn take_items(
     alloc: Global,
     bytes: &[u8],

@@ -7,7 +7,7 @@ ghost use Rattle.hk_codec.specs.Fields.{number};
 use byteorder::{BigEndian, ByteOrder};
 use std::alloc::AllocError;
 
-/// Adds a number in two bytes, the high one first. The only error is want of memory, and then nothing
+/// Adds a number in two bytes, the high one first. The only error is out of memory, and then nothing
 /// changes.
 #[tactic(auto, unfolding(crate::specs::Fields::number))]
 pub fn put_u16(out: &mut Vec<u8>, n: u16) -> Result<(), AllocError>
@@ -19,7 +19,7 @@ pub fn put_u16(out: &mut Vec<u8>, n: u16) -> Result<(), AllocError>
     out.extend_from_slice(&field)
 }
 
-/// Adds a number in four bytes, the high one first. The only error is want of memory, and then nothing
+/// Adds a number in four bytes, the high one first. The only error is out of memory, and then nothing
 /// changes.
 #[tactic(auto, unfolding(crate::specs::Fields::number))]
 pub fn put_u32(out: &mut Vec<u8>, n: u32) -> Result<(), AllocError>
@@ -31,7 +31,7 @@ pub fn put_u32(out: &mut Vec<u8>, n: u32) -> Result<(), AllocError>
     out.extend_from_slice(&field)
 }
 
-/// Adds a number in eight bytes, the high one first. The only error is want of memory, and then nothing
+/// Adds a number in eight bytes, the high one first. The only error is out of memory, and then nothing
 /// changes.
 #[tactic(auto, unfolding(crate::specs::Fields::number))]
 pub fn put_u64(out: &mut Vec<u8>, n: u64) -> Result<(), AllocError>
@@ -43,7 +43,7 @@ pub fn put_u64(out: &mut Vec<u8>, n: u64) -> Result<(), AllocError>
     out.extend_from_slice(&field)
 }
 
-/// Adds a body behind its length of two bytes. The only error is want of memory; what was there before is
+/// Adds a body behind its length of two bytes. The only error is out of memory; what was there before is
 /// then still the front.
 #[tactic(auto, using(std::proofs::Common::append_assoc, crate::proofs::Prefix::kept_all, crate::proofs::Prefix::kept_before))]
 pub fn put_body(out: &mut Vec<u8>, body: &[u8]) -> Result<(), AllocError>

@@ -3,7 +3,7 @@
 ghost use Rattle.std.specs.Prelude.{◌≡◌, ◌≤◌, ◌++◌, ◌⊎◌, List, [], ℕ, length, take, drop, IfOk, OnOk, OnErr};
 ghost use Rattle.hk_types.specs.declared.faults.FormFault.{FormFault};
 ghost use Rattle.hk_types.specs.declared.faults.Refusal.TheVariants as refusals;
-ghost use Rattle.hk_codec.specs.Framing.{IsWhole, IsFormat, AddsValues, held, answer, last_answer};
+ghost use Rattle.hk_codec.specs.Framing.{IsWhole, IsFormat, AddsValues, rest_of, answer, last_answer};
 
 use crate::framed::Framed;
 use crate::frames::{LENGTH_BYTES, length_of, take_frames};
@@ -23,11 +23,11 @@ pub struct FrameFeeder {
 impl Model for FrameFeeder {
     ghost use Rattle.std.specs.Prelude.{List, ℕ, Result};
     ghost use Rattle.hk_types.specs.declared.faults.FormFault.{FormFault};
-    ghost use Rattle.hk_codec.specs.Framing.{held};
+    ghost use Rattle.hk_codec.specs.Framing.{rest_of};
 
     ghost Value = { Result (List ℕ) FormFault };
 
-    ghost view = { λ a. held a.rest.items a.fault };
+    ghost view = { λ a. rest_of a.rest.items a.fault };
 }
 
 impl FrameFeeder {
@@ -43,13 +43,13 @@ impl FrameFeeder {
     }
 
     /// Takes the next piece of the stream, and adds the values of the frames that are whole now. A fault is
-    /// answered once the bytes have it, after the values before it, and then for ever. Where memory runs
+    /// answered once the bytes have it, after the values before it, and then permanently. Where memory runs
     /// out, which is `Memory`, the feeder and the list are as before. The cost is one pass over the
     /// frames that are whole now, and one copy of the bytes that are left.
     pub fn feed<T: Framed>(&mut self, piece: &[u8], out: &mut Vec<T>) -> Result<(), Refusal>
-        requires { IsFormat T.LEAST_BYTES T.MOST_BYTES T.read T.rest_text T.IsTold }
-        // What is held and the piece begin with the spellings of the added values. What follows them is held.
-        ensures reads { (rest : List ℕ) → self.old ≡ Ok rest → (result ≡ Err refusals.Memory) ⊎ ((result ≡ answer self.new) × AddsValues T.LEAST_BYTES T.MOST_BYTES T.read (λ x. T.rest_text (T.seen x)) (λ x. T.IsTold (T.seen x)) out.old.items out.new.items (rest ++ piece.now) self.new) }
+        requires { IsFormat T.LEAST_BYTES T.MOST_BYTES T.read T.rest_text T.IsEncodable }
+        // What is held and the piece begin with the encodings of the added values. What follows them is held.
+        ensures reads { (rest : List ℕ) → self.old ≡ Ok rest → (result ≡ Err refusals.Memory) ⊎ ((result ≡ answer self.new) × AddsValues T.LEAST_BYTES T.MOST_BYTES T.read (λ x. T.rest_text (T.seen x)) (λ x. T.IsEncodable (T.seen x)) out.old.items out.new.items (rest ++ piece.now) self.new) }
         // A fault stays.
         ensures fault { (f : FormFault) → self.old ≡ Err f → (result ≡ Err (refusals.Form f)) × (self.new ≡ Err f) × (out.new.items ≡ out.old.items) }
         // Where memory runs out nothing changes.
@@ -99,9 +99,9 @@ fn fresh_frames<T: Framed>(
     piece: &[u8],
     out: &mut Vec<T>,
 ) -> Result<Option<FormFault>, AllocError>
-    requires format { IsFormat T.LEAST_BYTES T.MOST_BYTES T.read T.rest_text T.IsTold }
+    requires format { IsFormat T.LEAST_BYTES T.MOST_BYTES T.read T.rest_text T.IsEncodable }
     requires empty { rest.old.items ≡ [] }
-    ensures read { IfOk result (λ fault. AddsValues T.LEAST_BYTES T.MOST_BYTES T.read (λ x. T.rest_text (T.seen x)) (λ x. T.IsTold (T.seen x)) out.old.items out.new.items piece.now (held rest.new.items fault)) }
+    ensures read { IfOk result (λ fault. AddsValues T.LEAST_BYTES T.MOST_BYTES T.read (λ x. T.rest_text (T.seen x)) (λ x. T.IsEncodable (T.seen x)) out.old.items out.new.items piece.now (rest_of rest.new.items fault)) }
     ensures kept { OnErr result (take (length out.old.items) out.new.items ≡ out.old.items) }
     ensures err { OnErr result (rest.new.items ≡ rest.old.items) }
 {
@@ -117,8 +117,8 @@ fn more_frames<T: Framed>(
     piece: &[u8],
     out: &mut Vec<T>,
 ) -> Result<Option<FormFault>, AllocError>
-    requires { IsFormat T.LEAST_BYTES T.MOST_BYTES T.read T.rest_text T.IsTold }
-    ensures read { IfOk result (λ fault. AddsValues T.LEAST_BYTES T.MOST_BYTES T.read (λ x. T.rest_text (T.seen x)) (λ x. T.IsTold (T.seen x)) out.old.items out.new.items (rest.old.items ++ piece.now) (held rest.new.items fault)) }
+    requires { IsFormat T.LEAST_BYTES T.MOST_BYTES T.read T.rest_text T.IsEncodable }
+    ensures read { IfOk result (λ fault. AddsValues T.LEAST_BYTES T.MOST_BYTES T.read (λ x. T.rest_text (T.seen x)) (λ x. T.IsEncodable (T.seen x)) out.old.items out.new.items (rest.old.items ++ piece.now) (rest_of rest.new.items fault)) }
     ensures kept { OnErr result (take (length out.old.items) out.new.items ≡ out.old.items) }
     ensures err { OnErr result (rest.new.items ≡ rest.old.items) }
 {
@@ -138,8 +138,8 @@ fn topped_frames<T: Framed>(
     piece: &[u8],
     out: &mut Vec<T>,
 ) -> Result<Option<FormFault>, AllocError>
-    requires { IsFormat T.LEAST_BYTES T.MOST_BYTES T.read T.rest_text T.IsTold }
-    ensures read { IfOk result (λ fault. AddsValues T.LEAST_BYTES T.MOST_BYTES T.read (λ x. T.rest_text (T.seen x)) (λ x. T.IsTold (T.seen x)) out.old.items out.new.items (rest.old.items ++ piece.now) (held rest.new.items fault)) }
+    requires { IsFormat T.LEAST_BYTES T.MOST_BYTES T.read T.rest_text T.IsEncodable }
+    ensures read { IfOk result (λ fault. AddsValues T.LEAST_BYTES T.MOST_BYTES T.read (λ x. T.rest_text (T.seen x)) (λ x. T.IsEncodable (T.seen x)) out.old.items out.new.items (rest.old.items ++ piece.now) (rest_of rest.new.items fault)) }
     ensures kept { OnErr result (take (length out.old.items) out.new.items ≡ out.old.items) }
     ensures front { OnErr result (take (length rest.old.items) rest.new.items ≡ rest.old.items) }
 {

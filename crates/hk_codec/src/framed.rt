@@ -5,7 +5,7 @@ use hk_types::FormFault;
 use std::alloc::Global;
 
 /// A value that stands in a frame: a length of four bytes, the high one first, and then as many bytes, the
-/// rest, which spell the value.
+/// rest, which encode the value.
 pub trait Framed: Drop {
     ghost use Rattle.std.specs.Prelude.{ℕ, List, Result};
     ghost use Rattle.hk_types.specs.declared.faults.FormFault.{FormFault};
@@ -20,7 +20,7 @@ pub trait Framed: Drop {
     /// What the bytes tell of a value.
     ghost Told: { Type 0 };
 
-    /// What is told by the bytes that spell a value.
+    /// What is told by the bytes that encode a value.
     ghost seen: { Self → Told };
 
     /// What a rest tells, or its first fault.
@@ -30,7 +30,7 @@ pub trait Framed: Drop {
     ghost rest_text: { Told → List ℕ };
 
     /// What can be told.
-    ghost IsTold: { Told → Type 0 };
+    ghost IsEncodable: { Told → Type 0 };
 
     /// The fewest bytes of a rest.
     const LEAST_BYTES: usize;

@@ -2,8 +2,8 @@
 
 ghost use Rattle.std.specs.Prelude.{◌≡◌, ◌≤◌, ◌<◌, ◌^◌, length, take, drop, IfOk, OnErr};
 ghost use Rattle.std.specs.Option.{option_copied, option_map};
-ghost use Rattle.hk_codec.specs.Fields.{Gives, GivesOrRunsOut};
-ghost use Rattle.hk_codec.specs.Framing.{len_of, rest_at, framed, AddsValues, IsFormat, held};
+ghost use Rattle.hk_codec.specs.Fields.{GivesValue, GivesOrRunsOut};
+ghost use Rattle.hk_codec.specs.Framing.{len_of, rest_at, framed, AddsValues, IsFormat, rest_of};
 
 use crate::cursor::ReadError;
 use crate::framed::Framed;
@@ -28,7 +28,7 @@ pub(crate) fn length_of(bytes: &[u8]) -> usize
 /// `least` is a wrong length.
 #[tactic(auto, unfolding(crate::specs::Framing::rest_at))]
 pub fn frame_rest(bytes: &[u8], least: usize, most: usize) -> Result<Option<&[u8]>, FormFault>
-    ensures { Gives option_copied result (rest_at least most bytes.now) }
+    ensures { GivesValue option_copied result (rest_at least most bytes.now) }
 {
     if bytes.len() < LENGTH_BYTES {
         return Ok(None);
@@ -67,15 +67,15 @@ pub(crate) struct Progress {
     pub(crate) fault: Option<FormFault>,
 }
 
-/// Adds the values of the whole frames that the bytes begin with. The only error is want of memory.
+/// Adds the values of the whole frames that the bytes begin with. The only error is out of memory.
 pub(crate) fn take_frames<T: Framed>(
     alloc: Global,
     bytes: &[u8],
     out: &mut Vec<T>,
 ) -> Result<Progress, AllocError>
-    requires { IsFormat T.LEAST_BYTES T.MOST_BYTES T.read T.rest_text T.IsTold }
+    requires { IsFormat T.LEAST_BYTES T.MOST_BYTES T.read T.rest_text T.IsEncodable }
     ensures used { IfOk result (λ p. p.used ≤ length bytes.now) }
-    ensures read { IfOk result (λ p. AddsValues T.LEAST_BYTES T.MOST_BYTES T.read (λ x. T.rest_text (T.seen x)) (λ x. T.IsTold (T.seen x)) out.old.items out.new.items bytes.now (held (drop p.used bytes.now) p.fault)) }
+    ensures read { IfOk result (λ p. AddsValues T.LEAST_BYTES T.MOST_BYTES T.read (λ x. T.rest_text (T.seen x)) (λ x. T.IsEncodable (T.seen x)) out.old.items out.new.items bytes.now (rest_of (drop p.used bytes.now) p.fault)) }
     ensures kept { OnErr result (take (length out.old.items) out.new.items ≡ out.old.items) }
 {
     let mut used = 0;

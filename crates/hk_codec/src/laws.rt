@@ -3,12 +3,12 @@
 ghost use Rattle.std.specs.Prelude.{◌≡◌, ◌++◌, List, ℕ, Result, Ok};
 ghost use Rattle.hk_types.specs.declared.faults.FormFault.{FormFault};
 ghost use Rattle.hk_log.specs.declared.item.Item.{Item};
-ghost use Rattle.hk_codec.specs.Spelling.{IsItem};
-ghost use Rattle.hk_codec.specs.Frames.{spelling, Reads};
+ghost use Rattle.hk_codec.specs.Encoding.{IsEncodableItem};
+ghost use Rattle.hk_codec.specs.Frames.{encoding_of, Reads};
 
-/// No item has two spellings, no spelling is that of two items, and none begins another.
-pub fn one_spelling()
-    ensures { (i j : Item) (a b : List ℕ) → IsItem i → IsItem j → spelling i ++ a ≡ spelling j ++ b → (i ≡ j) × (a ≡ b) }
+/// No item has two encodings, no encoding is that of two items, and none begins another.
+pub fn one_encoding()
+    ensures { (i j : Item) (a b : List ℕ) → IsEncodableItem i → IsEncodableItem j → encoding_of i ++ a ≡ encoding_of j ++ b → (i ≡ j) × (a ≡ b) }
 {}
 
 /// A text is read in one way: which items it begins with, and what follows them.

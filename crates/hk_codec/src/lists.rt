@@ -1,6 +1,6 @@
 //! The two lists of an entry.
 
-ghost use Rattle.hk_codec.specs.Fields.{Gives, GivesOrRunsOut};
+ghost use Rattle.hk_codec.specs.Fields.{GivesValue, GivesOrRunsOut};
 ghost use Rattle.hk_codec.specs.Reading as spec;
 
 use crate::cursor::{Cursor, ReadError};
@@ -19,7 +19,7 @@ type Before = Option<(Table, Key)>;
 
 #[tactic(auto, unfolding(crate::specs::Reading::end_at))]
 fn read_end(cursor: &mut Cursor, time: Time, before: Before) -> Result<VersionKey, FormFault>
-    ensures { Gives (λ x. (x, cursor.new)) result (spec.end_at time before cursor.old) }
+    ensures { GivesValue (λ x. (x, cursor.new)) result (spec.end_at time before cursor.old) }
 {
     let table = Table::new(cursor.u16()?);
     let key = Key::new(cursor.u64()?);

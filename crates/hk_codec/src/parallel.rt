@@ -146,7 +146,7 @@ fn take_side_by_side(
     })
 }
 
-/// The items whose spellings, one after another, are all of the bytes, by this thread alone.
+/// The items whose encodings, one after another, are all of the bytes, by this thread alone.
 fn decode_alone(alloc: Global, bytes: &[u8]) -> Result<Vec<Item>, Refusal>
     ensures { Decodes bytes.now result }
 {
@@ -161,8 +161,8 @@ fn decode_alone(alloc: Global, bytes: &[u8]) -> Result<Vec<Item>, Refusal>
     Ok(items)
 }
 
-/// The items whose spellings, one after another, are all of the bytes. Else the fault of what follows the
-/// whole spellings that the bytes begin with, which is `Truncated` where they end inside a frame; or
+/// The items whose encodings, one after another, are all of the bytes. Else the fault of what follows the
+/// whole encodings that the bytes begin with, which is `Truncated` where they end inside a frame; or
 /// `Memory`.
 ///
 /// Parts of whole frames, of 65,536 bytes at least, are read by as many threads as there are processors. It joins

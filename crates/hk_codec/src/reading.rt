@@ -1,6 +1,6 @@
 //! The rest of an item's frame.
 
-ghost use Rattle.hk_codec.specs.Fields.{IsBytes, Gives, GivesOrRunsOut};
+ghost use Rattle.hk_codec.specs.Fields.{IsBytes, GivesValue, GivesOrRunsOut};
 ghost use Rattle.hk_codec.specs.Reading as spec;
 
 use crate::cursor::{Cursor, ReadError};
@@ -22,7 +22,7 @@ pub(crate) const MARK_KIND: u8 = 2;
 /// Reads the number and the time of an entry.
 #[tactic(auto, unfolding(crate::specs::Reading::moment_at))]
 fn read_moment(cursor: &mut Cursor) -> Result<(u64, Time), FormFault>
-    ensures { Gives (λ x. (x, cursor.new)) result (spec.moment_at cursor.old) }
+    ensures { GivesValue (λ x. (x, cursor.new)) result (spec.moment_at cursor.old) }
 {
     let number = cursor.u64()?;
     let time = cursor.u64()?;
@@ -65,7 +65,7 @@ fn read_counted_rows(
 
 #[tactic(auto, unfolding(crate::specs::Reading::mark_at))]
 fn read_mark(cursor: &mut Cursor, log: u64, stream: StreamNo) -> Result<Mark, FormFault>
-    ensures { Gives (λ x. (x, cursor.new)) result (spec.mark_at log stream cursor.old) }
+    ensures { GivesValue (λ x. (x, cursor.new)) result (spec.mark_at log stream cursor.old) }
 {
     let n = cursor.u64()?;
     let m = Time::new(cursor.u64()?)?;
@@ -82,7 +82,7 @@ struct Head {
 
 #[tactic(auto, unfolding(crate::specs::Reading::head_at))]
 fn read_head(cursor: &mut Cursor) -> Result<Head, FormFault>
-    ensures { Gives (λ x. (record { kind = x.kind; log = x.log; stream = x.stream }, cursor.new)) result (spec.head_at cursor.old) }
+    ensures { GivesValue (λ x. (record { kind = x.kind; log = x.log; stream = x.stream }, cursor.new)) result (spec.head_at cursor.old) }
 {
     if cursor.u8()? != VERSION {
         return Err(FormFault::BadVersion);
@@ -146,7 +146,7 @@ pub(crate) fn read_item(alloc: Global, rest: &[u8]) -> Result<Item, ReadError>
 /// The least rest is a mark's. The greatest is that of an entry with 1,024 ends and 1,024 rows of full bodies.
 impl Framed for Item {
     ghost use Rattle.hk_log.specs.declared.item.Item.{Item};
-    ghost use Rattle.hk_codec.specs.Spelling.{rest_text, IsItem};
+    ghost use Rattle.hk_codec.specs.Encoding.{rest_text, IsEncodableItem};
     ghost use Rattle.hk_codec.specs.Reading.{item_at};
 
     ghost LEAST_BYTES = { 28 };
@@ -161,7 +161,7 @@ impl Framed for Item {
 
     ghost rest_text = { rest_text };
 
-    ghost IsTold = { IsItem };
+    ghost IsEncodable = { IsEncodableItem };
 
     const LEAST_BYTES: usize = 28;
 

@@ -20,9 +20,9 @@ use Rattle.hk_facts.specs.Facts.{if_known}
 use Rattle.hk_state.specs.Facts.{known_at, entry_if}
 use Rattle.hk_state.specs.Reads.{facts_of_content}
 use Rattle.hk_state.specs.Versions.{AreVersions}
-use Rattle.hk_delta.specs.Parts.{Known, among, fragment_seen, follows, row_stands, end_stands, stands, facts_fault, fragment_fault}
+use Rattle.hk_delta.specs.Parts.{Known, values_by_version, fragment_seen, follows, is_valid_row, is_valid_end, is_valid_fact, facts_fault, fragment_fault}
 use Rattle.hk_delta.specs.Cuts.{row_above, end_above, left_above, all_left}
-use Rattle.hk_delta.proofs.Listed.{get-among}
+use Rattle.hk_delta.proofs.Listed.{get-values_by_version}
 use Rattle.hk_delta.proofs.Sound.{AllFollow, are_facts}
 use Rattle.hk_delta.proofs.Picked.{find_picked}
 
@@ -33,10 +33,10 @@ if_known_is x y e = by (is_known x) refl e
     by true k e = (cc, k)
     by false k e = absurd cc
 
-row_left : (base born : ℕ) (row : Option RowValue) → row_stands base born (row_above base born row) ≡ true
+row_left : (base born : ℕ) (row : Option RowValue) → is_valid_row base born (row_above base born row) ≡ true
 row_left base born row = by (nat_lt base born) refl row
   where
-    by : (b : Bool) → nat_lt base born ≡ b → (row : Option RowValue) → row_stands base born (cond b row None) ≡ true
+    by : (b : Bool) → nat_lt base born ≡ b → (row : Option RowValue) → is_valid_row base born (cond b row None) ≡ true
     by true k None = refl
     by true k (Some r) = k
     by false k row = refl
@@ -45,7 +45,7 @@ module _ (c : Content) (l : IsLawful c) (base : ℕ) where
   abbrev IsKnown : VersionKey × VersionValue → Type 0
   IsKnown e = known_at (facts_of_content c) e.0 ≡ Some e.1
 
-  end_left : (v : VersionKey) (died : Option ℕ) → finmap.get c.ends v ≡ died → end_stands base c.horizon v.born (end_above base died) ≡ true
+  end_left : (v : VersionKey) (died : Option ℕ) → finmap.get c.ends v ≡ died → is_valid_end base c.horizon v.born (end_above base died) ≡ true
   end_left v None g = refl
   end_left v (Some d) g = by (nat_le d base) refl
     where
@@ -55,7 +55,7 @@ module _ (c : Content) (l : IsLawful c) (base : ℕ) where
       over : c.horizon < d
       over = l.end_above v d g
 
-      by : (b : Bool) → nat_le d base ≡ b → end_stands base c.horizon v.born (cond b None (Some d)) ≡ true
+      by : (b : Bool) → nat_le d base ≡ b → is_valid_end base c.horizon v.born (cond b None (Some d)) ≡ true
       by true k = refl
       by false k = grind (arith, nat_tests)
 
@@ -68,11 +68,11 @@ module _ (c : Content) (l : IsLawful c) (base : ℕ) where
       by None (Some d) gr gd e = let above : 0 < v.born = l.end_born v d gd in grind (arith, nat_tests)
       by None None gr gd e = absurd cc
 
-  left_stands : (v : VersionKey) (known x : VersionValue) → known_at (facts_of_content c) v ≡ Some known → left_above base v known ≡ Some x → stands base c.horizon (v, x) ≡ true
+  left_stands : (v : VersionKey) (known x : VersionValue) → known_at (facts_of_content c) v ≡ Some known → left_above base v known ≡ Some x → is_valid_fact base c.horizon (v, x) ≡ true
   left_stands v known x k e =
       let is = if_known_is (record { row = finmap.get c.rows v; died = finmap.get c.ends v }) known k in
       let left = if_known_is (record { row = row_above base v.born known.row; died = end_above base known.died }) x e in
-      subst (λ (y : VersionValue). stands base c.horizon (v, y) ≡ true) left.0 (
+      subst (λ (y : VersionValue). is_valid_fact base c.horizon (v, y) ≡ true) left.0 (
       all_true (born_of v known k) left.1 (row_left base v.born known.row) (end_left v known.died (ap (λ (y : VersionValue). y.died) is.0)))
     where
       all_true : {p q r s : Bool} → p ≡ true → q ≡ true → r ≡ true → s ≡ true → (p && q && r && s) ≡ true
@@ -161,15 +161,15 @@ module _ (c : Content) (l : IsLawful c) (base : ℕ) where
       sorted : T (is_sorted version_key_cmp (all_left base versions))
       sorted = (are_facts base c.horizon None (all_left base versions) (faultless versions are)).sorted
 
-      rows : among (λ x. x.row) (all_left base versions) ≡ finmap.retain_keys c.rows (λ v. nat_lt base v.born)
+      rows : values_by_version (λ x. x.row) (all_left base versions) ≡ finmap.retain_keys c.rows (λ v. nat_lt base v.born)
       rows = finmap.same_map version_key_total version_key_same _ _ (λ v.
-          get-among (λ x. x.row) (all_left base versions) sorted v
+          get-values_by_version (λ x. x.row) (all_left base versions) sorted v
           ∙ ap (option_and_then (λ x. x.row)) (find_picked (facts_of_content c) (left_above base) v versions are)
           ∙ row_found v ∙ sym (get-retain version_key_total version_key_same c.rows (λ v. nat_lt base v.born) v))
 
-      ends : among (λ x. x.died) (all_left base versions) ≡ without_ended c.ends base c.ends
+      ends : values_by_version (λ x. x.died) (all_left base versions) ≡ without_ended c.ends base c.ends
       ends = finmap.same_map version_key_total version_key_same _ _ (λ v.
-          get-among (λ x. x.died) (all_left base versions) sorted v
+          get-values_by_version (λ x. x.died) (all_left base versions) sorted v
           ∙ ap (option_and_then (λ x. x.died)) (find_picked (facts_of_content c) (left_above base) v versions are)
           ∙ end_found v ∙ sym (get-without_ended c.ends base c.ends v))
 

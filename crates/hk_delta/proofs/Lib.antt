@@ -2,12 +2,12 @@ pub mod Agreeing
 pub mod Conflicting
 pub mod Lefts
 pub mod Listed
-pub mod Misfits
+pub mod WrongLogs
 pub mod Picked
 pub mod Sound
 pub mod Putting
 pub mod Wholes
-pub mod Sents
+pub mod MergeInputs
 pub mod Merges
 pub mod Searches
 pub mod Unions

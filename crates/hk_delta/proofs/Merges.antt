@@ -17,10 +17,10 @@ use Rattle.hk_model.specs.Rows.{version_key_cmp}
 use Rattle.hk_model.proofs.Maps.{version_key_total, version_key_same, find-append}
 use Rattle.hk_model.proofs.Members.{In, In-left, In-right, In-append}
 use Rattle.hk_model.proofs.Visible.{T_both}
-use Rattle.hk_delta.specs.Parts.{Known, follows, row_stands, end_stands, stands, facts_fault}
+use Rattle.hk_delta.specs.Parts.{Known, follows, is_valid_row, is_valid_end, is_valid_fact, facts_fault}
 use Rattle.hk_delta.specs.Unions.{both_known, known_in_either, EndsBefore, ComparesLast, TakesGreatest}
-use Rattle.hk_delta.proofs.Sound.{AllFollow, IsStanding, are_facts, parts_of, and_T}
-use Rattle.hk_delta.proofs.Sents.{below_In}
+use Rattle.hk_delta.proofs.Sound.{AllFollow, AreValidFacts, are_facts, parts_of, and_T}
+use Rattle.hk_delta.proofs.MergeInputs.{below_In}
 
 -- ---- the last of a list
 
@@ -33,10 +33,10 @@ last_is xs x e =
 
 pub none_last : (xs : List Known) → None ≡ slice_get xs (length xs - 1) → xs ≡ []
 none_last [] e = refl
-none_last (x ∷ xs) e = absurd (differ (e ∙ slice_get-get_or (x ∷ xs) (length (x ∷ xs) - 1) x (omega arith)))
+none_last (x ∷ xs) e = absurd (values_conflict (e ∙ slice_get-get_or (x ∷ xs) (length (x ∷ xs) - 1) x (omega arith)))
   where
-    differ : {y : Known} → None ≡ Some y → ⊥
-    differ e = cc
+    values_conflict : {y : Known} → None ≡ Some y → ⊥
+    values_conflict e = cc
 
 pub compared : (own coming : List Known) (x y : Known) (o : Ordering) → o ≡ version_key_cmp x.0 y.0 → Some x ≡ slice_get own (length own - 1) → Some y ≡ slice_get coming (length coming - 1) → ComparesLast own coming (Some o)
 compared own coming x y Less o e f = (take (length coming - 1) coming, y, last_is coming y f, inr (take (length own - 1) own, x, last_is own x e, sym o))
@@ -106,10 +106,10 @@ key_itself : (v : VersionKey) → eq_by_cmp version_key_cmp v v ≡ true
 key_itself v = ap is_eq (tied_itself version_key_total v)
 
 not_less : (v w : VersionKey) → v ≡ w → version_key_cmp v w ≡ Less → ⊥
-not_less v w s l = differ (sym l ∙ ap (version_key_cmp v) (sym s) ∙ tied_itself version_key_total v)
+not_less v w s l = values_conflict (sym l ∙ ap (version_key_cmp v) (sym s) ∙ tied_itself version_key_total v)
   where
-    differ : ◌≡◌ {A = Ordering} Less Equal → ⊥
-    differ e = cc
+    values_conflict : ◌≡◌ {A = Ordering} Less Equal → ⊥
+    values_conflict e = cc
 
 pub none_equal : (v : VersionKey) (es : List Known) → ((f : Known) → In f es → f.0 ≡ v → ⊥) → find version_key_cmp v es ≡ None
 none_equal v [] n = refl
@@ -167,21 +167,21 @@ either_itself (Some x) = ap Some (both_itself x)
 pub record Halfway (own coming left waiting out : List Known) : Type 0 where
   pub own_rise : Rising (left ++ out)
   pub coming_rise : Rising (waiting ++ out)
-  pub own_stand : IsStanding 0 0 (left ++ out)
-  pub coming_stand : IsStanding 0 0 (waiting ++ out)
+  pub own_stand : AreValidFacts 0 0 (left ++ out)
+  pub coming_stand : AreValidFacts 0 0 (waiting ++ out)
   pub found : (v : VersionKey) → known_in_either (find version_key_cmp v (left ++ out)) (find version_key_cmp v (waiting ++ out)) ≡ known_in_either (find version_key_cmp v own) (find version_key_cmp v coming)
 
 shift : (xs : List Known) (e : Known) (ys : List Known) → (xs ++ e ∷ []) ++ ys ≡ xs ++ e ∷ ys
 shift xs e ys = append_assoc xs (e ∷ []) ys
 
-stand_mid : (xs : List Known) (e : Known) (ys : List Known) → stands 0 0 e ≡ true → IsStanding 0 0 (xs ++ ys) → IsStanding 0 0 (xs ++ e ∷ ys)
+stand_mid : (xs : List Known) (e : Known) (ys : List Known) → is_valid_fact 0 0 e ≡ true → AreValidFacts 0 0 (xs ++ ys) → AreValidFacts 0 0 (xs ++ e ∷ ys)
 stand_mid xs e ys s each v x i =
     elim (In-append (v, x) xs (e ∷ ys) i) [
       | inl j ↦ each v x (In-left (v, x) xs ys j)
-      | inr j ↦ elim j [ inl t ↦ ap (stands 0 0) t ∙ s | inr k ↦ each v x (In-right (v, x) xs ys k) ]
+      | inr j ↦ elim j [ inl t ↦ ap (is_valid_fact 0 0) t ∙ s | inr k ↦ each v x (In-right (v, x) xs ys k) ]
     ]
 
-stand_less : (xs : List Known) (e : Known) (ys : List Known) → IsStanding 0 0 (xs ++ e ∷ ys) → IsStanding 0 0 (xs ++ ys)
+stand_less : (xs : List Known) (e : Known) (ys : List Known) → AreValidFacts 0 0 (xs ++ e ∷ ys) → AreValidFacts 0 0 (xs ++ ys)
 stand_less xs e ys each v x i = elim (In-append (v, x) xs ys i) [ inl j ↦ each v x (In-left (v, x) xs (e ∷ ys) j) | inr j ↦ each v x (In-right (v, x) xs (e ∷ ys) (inr j)) ]
 
 -- a version goes between the lists that it parts
@@ -196,7 +196,7 @@ renamed xs k x z ys r =
     let split = rising_split xs ((k, x) ∷ ys) r in
     rising_join xs ((k, z) ∷ ys) split.0 (split.1.0, split.1.1) (λ w y i j. elim j [ inl s ↦ ap (λ (u : Known). version_key_cmp w.0 u.0) s ∙ split.2 w (k, x) i (inl refl) | inr m ↦ split.2 w y i (inr m) ])
 
-both_stand : (k : VersionKey) (x y : VersionValue) → stands 0 0 (k, x) ≡ true → stands 0 0 (k, y) ≡ true → stands 0 0 (k, both_known x y) ≡ true
+both_stand : (k : VersionKey) (x y : VersionValue) → is_valid_fact 0 0 (k, x) ≡ true → is_valid_fact 0 0 (k, y) ≡ true → is_valid_fact 0 0 (k, both_known x y) ≡ true
 both_stand k x y s t =
     let p = parts_of 0 0 k x s in
     let q = parts_of 0 0 k y t in
@@ -208,11 +208,11 @@ both_stand k x y s t =
     all_true : {a b c d : Bool} → a ≡ true → b ≡ true → c ≡ true → d ≡ true → (a && b && c && d) ≡ true
     all_true a b c d = rw (a, b, c, d) refl
 
-    row : (r o : Option RowValue) → row_stands 0 k.born r ≡ true → row_stands 0 k.born o ≡ true → row_stands 0 k.born (or_else r o) ≡ true
+    row : (r o : Option RowValue) → is_valid_row 0 k.born r ≡ true → is_valid_row 0 k.born o ≡ true → is_valid_row 0 k.born (or_else r o) ≡ true
     row None o a b = b
     row (Some r) o a b = a
 
-    died : (d o : Option ℕ) → end_stands 0 0 k.born d ≡ true → end_stands 0 0 k.born o ≡ true → end_stands 0 0 k.born (or_else d o) ≡ true
+    died : (d o : Option ℕ) → is_valid_end 0 0 k.born d ≡ true → is_valid_end 0 0 k.born o ≡ true → is_valid_end 0 0 k.born (or_else d o) ≡ true
     died None o a b = b
     died (Some d) o a b = a
 
@@ -226,7 +226,7 @@ nothing_more : (xs : List Known) → xs ++ [] ≡ xs
 nothing_more [] = refl
 nothing_more (x ∷ xs) = ap (λ l. x ∷ l) (nothing_more xs)
 
-faults_none : (before : Option VersionKey) (es : List Known) → Rising es → AllFollow before es → IsStanding 0 0 es → facts_fault 0 0 before es ≡ None
+faults_none : (before : Option VersionKey) (es : List Known) → Rising es → AllFollow before es → AreValidFacts 0 0 es → facts_fault 0 0 before es ≡ None
 faults_none before [] r f s = refl
 faults_none before (e ∷ es) r f s = rw (next before f, s e.0 e.1 (inl refl)) (faults_none (Some e.0) es r.1 (below_from e.0 es r.0) (λ v x i. s v x (inr i)))
   where
@@ -245,7 +245,7 @@ module _ (own coming : List Known) where
       let rise = subst Rising (shift left e out) h.own_rise in
       let waits = rising_split waiting out h.coming_rise in
       let mid = rising_mid waiting e out h.coming_rise (ends_before waiting e.0 waits.0 b) (rising_split left (e ∷ out) rise).1.0 in
-      let stand = subst (IsStanding 0 0) (shift left e out) h.own_stand in
+      let stand = subst (AreValidFacts 0 0) (shift left e out) h.own_stand in
       record {
         own_rise = rise;
         coming_rise = mid;
@@ -268,7 +268,7 @@ module _ (own coming : List Known) where
       let rise = subst Rising (shift waiting e out) h.coming_rise in
       let stays = rising_split left out h.own_rise in
       let mid = rising_mid left e out h.own_rise (ends_before left e.0 stays.0 b) (rising_split waiting (e ∷ out) rise).1.0 in
-      let stand = subst (IsStanding 0 0) (shift waiting e out) h.coming_stand in
+      let stand = subst (AreValidFacts 0 0) (shift waiting e out) h.coming_stand in
       record {
         own_rise = mid;
         coming_rise = rise;
@@ -292,9 +292,9 @@ module _ (own coming : List Known) where
       let coming_rise = subst Rising (shift waiting (k, y) out) h.coming_rise in
       let own_mid = renamed left k x z out own_rise in
       let coming_mid = renamed waiting k y z out coming_rise in
-      let own_stand = subst (IsStanding 0 0) (shift left (k, x) out) h.own_stand in
-      let coming_stand = subst (IsStanding 0 0) (shift waiting (k, y) out) h.coming_stand in
-      let stand : stands 0 0 (k, z) ≡ true = ap (λ w. stands 0 0 (k, w)) is ∙ both_stand k x y (own_stand k x (In-right (k, x) left ((k, x) ∷ out) (inl refl))) (coming_stand k y (In-right (k, y) waiting ((k, y) ∷ out) (inl refl))) in
+      let own_stand = subst (AreValidFacts 0 0) (shift left (k, x) out) h.own_stand in
+      let coming_stand = subst (AreValidFacts 0 0) (shift waiting (k, y) out) h.coming_stand in
+      let stand : is_valid_fact 0 0 (k, z) ≡ true = ap (λ w. is_valid_fact 0 0 (k, w)) is ∙ both_stand k x y (own_stand k x (In-right (k, x) left ((k, x) ∷ out) (inl refl))) (coming_stand k y (In-right (k, y) waiting ((k, y) ∷ out) (inl refl))) in
       record {
         own_rise = own_mid;
         coming_rise = coming_mid;
@@ -321,8 +321,8 @@ module _ (own coming : List Known) where
       record {
         own_rise = subst Rising (sym (nothing_more own)) (rising own a.sorted);
         coming_rise = subst Rising (sym (nothing_more coming)) (rising coming b.sorted);
-        own_stand = subst (IsStanding 0 0) (sym (nothing_more own)) a.each;
-        coming_stand = subst (IsStanding 0 0) (sym (nothing_more coming)) b.each;
+        own_stand = subst (AreValidFacts 0 0) (sym (nothing_more own)) a.each;
+        coming_stand = subst (AreValidFacts 0 0) (sym (nothing_more coming)) b.each;
         found = λ v. (λ i. known_in_either (find version_key_cmp v (nothing_more own i)) (find version_key_cmp v (nothing_more coming i)));
       }
 
@@ -342,7 +342,7 @@ module _ (own coming : List Known) where
     coming_all = ap (λ l. l ++ out) none.1
 
     pub ended_faultless : facts_fault 0 0 None out ≡ None
-    ended_faultless = faults_none None out (subst Rising own_all h.own_rise) tt (subst (IsStanding 0 0) own_all h.own_stand)
+    ended_faultless = faults_none None out (subst Rising own_all h.own_rise) tt (subst (AreValidFacts 0 0) own_all h.own_stand)
 
     pub ended_found : (v : VersionKey) → find version_key_cmp v out ≡ known_in_either (find version_key_cmp v own) (find version_key_cmp v coming)
     ended_found v =

@@ -13,23 +13,23 @@ use Rattle.hk_types.specs.declared.faults.Refusal.{Refusal}
 use Rattle.hk_types.specs.declared.faults.Refusal.TheVariants.{Conflict}
 use Rattle.hk_log.specs.declared.item.Item.{Item}
 use Rattle.hk_model.specs.Rows.{version_key_cmp}
-use Rattle.hk_model.specs.Maps.{or_else, differ, union, contradict}
+use Rattle.hk_model.specs.Maps.{or_else, values_conflict, union, maps_conflict}
 use Rattle.hk_model.specs.Facts.{row_facts, end_facts, rows_of, ends_of}
-use Rattle.hk_model.specs.Canon.{canon}
+use Rattle.hk_model.specs.ContentOf.{content_of}
 use Rattle.hk_model.specs.Streams.{streams_of}
 use Rattle.hk_model.specs.Fragments.{FragmentValue, part}
 use Rattle.hk_model.specs.Lawful.{IsItem}
-use Rattle.hk_model.specs.Rules.{conflict, first_misfit, gathered, gathered_unless, disagree}
+use Rattle.hk_model.specs.Rules.{conflict, first_wrong_log, gather_result, gather_result_unless, contents_conflict}
 use Rattle.hk_model.proofs.Joins.{rows_of-append, ends_of-append}
 use Rattle.hk_model.proofs.Maps.{version_key_total, version_key_same, find-append, get-union}
 use Rattle.hk_model.proofs.Members.{In, In-append, find-In}
 use Rattle.hk_model.proofs.Sets.{row_facts-append, end_facts-append, all_together-streams_of}
 use Rattle.hk_model.proofs.Shown.{any_In, get-key}
 use Rattle.hk_merge.proofs.Refusing.{whole_is}
-use Rattle.hk_delta.specs.Gathers.{clash, are_at_odds}
+use Rattle.hk_delta.specs.Gathers.{facts_conflict, have_conflict}
 use Rattle.hk_delta.specs.Unions.{union_of, Unites, UnitesGathered}
 use Rattle.hk_delta.proofs.Agreeing.{no_conflict, row_tells, row_alike, time_alike}
-use Rattle.hk_delta.proofs.Misfits.{misfit-append}
+use Rattle.hk_delta.proofs.WrongLogs.{wrong_log-append}
 use Rattle.hk_delta.proofs.Wholes.{whole_lawful, all_kept, gathered_ok}
 
 -- ---- facts that agree
@@ -50,70 +50,70 @@ module _ {X : Type 0} (same : X → X → Bool) (tells : (a b : X) → same a b 
       by : (b : Bool) → same x y ≡ b → b ≡ true
       by true e = refl
       by false e =
-          let here = any_In (clash same (v, x)) (v, y) xs j (ap (λ b. b && not (same x y)) (itself v) ∙ ap not e) in
-          absurd (true≢false (sym (any_In (λ (e : VersionKey × X). list_any (clash same e) xs) (v, x) xs i here) ∙ none))
+          let here = any_In (facts_conflict same (v, x)) (v, y) xs j (ap (λ b. b && not (same x y)) (itself v) ∙ ap not e) in
+          absurd (true≢false (sym (any_In (λ (e : VersionKey × X). list_any (facts_conflict same e) xs) (v, x) xs i here) ∙ none))
 
   agrees_from : (xs : List (VersionKey × X)) → conflict same xs ≡ false → Agrees xs
   agrees_from xs none v x i =
       finmap.get-from_entries version_key_total xs v
       ∙ find-In version_key_cmp version_key_total version_key_same v x xs (λ y j. tells y x (same_there xs none v y x j i)) i
 
-  agree_at : (m n : finmap.FinMap version_key_cmp X) → contradict same m n ≡ false → (v : VersionKey) → differ same (finmap.get m v) (finmap.get n v) ≡ false
+  agree_at : (m n : finmap.FinMap version_key_cmp X) → maps_conflict same m n ≡ false → (v : VersionKey) → values_conflict same (finmap.get m v) (finmap.get n v) ≡ false
   agree_at m n none v = by (finmap.get m v) refl
     where
-      false_from : (z : X) → finmap.get m v ≡ Some z → (b : Bool) → differ same (finmap.get m v) (finmap.get n v) ≡ b → b ≡ false
-      false_from z g true e = absurd (true≢false (sym (any_In (λ k. differ same (finmap.get m k) (finmap.get n k)) v (finmap.keys m) (get-key m v z g) e) ∙ none))
+      false_from : (z : X) → finmap.get m v ≡ Some z → (b : Bool) → values_conflict same (finmap.get m v) (finmap.get n v) ≡ b → b ≡ false
+      false_from z g true e = absurd (true≢false (sym (any_In (λ k. values_conflict same (finmap.get m k) (finmap.get n k)) v (finmap.keys m) (get-key m v z g) e) ∙ none))
       false_from z g false e = refl
 
-      by : (o : Option X) → finmap.get m v ≡ o → differ same (finmap.get m v) (finmap.get n v) ≡ false
-      by None g = ap (λ o. differ same o (finmap.get n v)) g
-      by (Some z) g = false_from z g (differ same (finmap.get m v) (finmap.get n v)) refl
+      by : (o : Option X) → finmap.get m v ≡ o → values_conflict same (finmap.get m v) (finmap.get n v) ≡ false
+      by None g = ap (λ o. values_conflict same o (finmap.get n v)) g
+      by (Some z) g = false_from z g (values_conflict same (finmap.get m v) (finmap.get n v)) refl
 
-  agrees_join : (xs ys : List (VersionKey × X)) → Agrees xs → Agrees ys → contradict same (mapped xs) (mapped ys) ≡ false → Agrees (xs ++ ys)
+  agrees_join : (xs ys : List (VersionKey × X)) → Agrees xs → Agrees ys → maps_conflict same (mapped xs) (mapped ys) ≡ false → Agrees (xs ++ ys)
   agrees_join xs ys a b none v x i =
       finmap.get-from_entries version_key_total (xs ++ ys) v ∙ find-append version_key_cmp v xs ys
       ∙ elim (In-append (v, x) xs ys i) [
         | inl j ↦ ap (λ o. or_else o (find version_key_cmp v ys)) (sym (finmap.get-from_entries version_key_total xs v) ∙ a v x j)
         | inr j ↦ ap (λ o. or_else o (find version_key_cmp v ys)) (sym (finmap.get-from_entries version_key_total xs v)) ∙ ap (or_else (finmap.get (mapped xs) v)) (sym (finmap.get-from_entries version_key_total ys v) ∙ b v x j)
-            ∙ by (finmap.get (mapped xs) v) (ap (differ same (finmap.get (mapped xs) v)) (sym (b v x j)) ∙ agree_at (mapped xs) (mapped ys) none v)
+            ∙ by (finmap.get (mapped xs) v) (ap (values_conflict same (finmap.get (mapped xs) v)) (sym (b v x j)) ∙ agree_at (mapped xs) (mapped ys) none v)
       ]
     where
       turned : (b : Bool) → not b ≡ false → b ≡ true
       turned true e = refl
       turned false e = sym e
 
-      by : (o : Option X) → differ same o (Some x) ≡ false → or_else o (Some x) ≡ Some x
+      by : (o : Option X) → values_conflict same o (Some x) ≡ false → or_else o (Some x) ≡ Some x
       by None e = refl
       by (Some z) e = ap Some (tells z x (turned (same z x) e))
 
-  pub still_none : (xs ys : List (VersionKey × X)) → conflict same xs ≡ false → conflict same ys ≡ false → contradict same (mapped xs) (mapped ys) ≡ false → conflict same (xs ++ ys) ≡ false
+  pub still_none : (xs ys : List (VersionKey × X)) → conflict same xs ≡ false → conflict same ys ≡ false → maps_conflict same (mapped xs) (mapped ys) ≡ false → conflict same (xs ++ ys) ≡ false
   still_none xs ys p q none = no_conflict same tells alike (xs ++ ys) (agrees_join xs ys (agrees_from xs p) (agrees_from ys q) none)
 
 -- ---- what is gathered
 
 pub record Gave (config : ConfigValue) (items : List Item) (f : FragmentValue) : Type 0 where
-  pub fits : first_misfit config items ≡ None
-  pub agree : are_at_odds items ≡ false
+  pub fits : first_wrong_log config items ≡ None
+  pub agree : have_conflict items ≡ false
   pub is : f ≡ part config items 0 0
 
-pub gave : (config : ConfigValue) (items : List Item) (f : FragmentValue) → gathered config items ≡ Ok f → Gave config items f
-gave config items f e = by (first_misfit config items) (are_at_odds items) refl refl (e)
+pub gave : (config : ConfigValue) (items : List Item) (f : FragmentValue) → gather_result config items ≡ Ok f → Gave config items f
+gave config items f e = by (first_wrong_log config items) (have_conflict items) refl refl (e)
   where
     same : (f g : FragmentValue) → ◌≡◌ {A = Result FragmentValue Refusal} (Ok f) (Ok g) → f ≡ g
     same f g e = cc
 
-    differs : (f : FragmentValue) (why : Refusal) → ◌≡◌ {A = Result FragmentValue Refusal} (Err why) (Ok f) → ⊥
-    differs f why e = cc
+    has_conflict_with : (f : FragmentValue) (why : Refusal) → ◌≡◌ {A = Result FragmentValue Refusal} (Err why) (Ok f) → ⊥
+    has_conflict_with f why e = cc
 
-    by : (o : Option Refusal) (b : Bool) → first_misfit config items ≡ o → are_at_odds items ≡ b → gathered config items ≡ Ok f → Gave config items f
-    by (Some why) b m a e = absurd (differs f why (sym (ap (gathered_unless config items) m) ∙ e))
-    by None true m a e = absurd (differs f Conflict (sym (ap (gathered_unless config items) m ∙ ap (λ b. cond b (Err Conflict) (Ok (part config items 0 0))) a) ∙ e))
+    by : (o : Option Refusal) (b : Bool) → first_wrong_log config items ≡ o → have_conflict items ≡ b → gather_result config items ≡ Ok f → Gave config items f
+    by (Some why) b m a e = absurd (has_conflict_with f why (sym (ap (gather_result_unless config items) m) ∙ e))
+    by None true m a e = absurd (has_conflict_with f Conflict (sym (ap (gather_result_unless config items) m ∙ ap (λ b. cond b (Err Conflict) (Ok (part config items 0 0))) a) ∙ e))
     by None false m a e = record { fits = m; agree = a; is = same f (part config items 0 0) (sym e ∙ gathered_ok config items m a) }
 
 -- all that items say is their fragment
 part_is : (config : ConfigValue) (items : List Item) → All IsItem items → part config items 0 0 ≡ record { base = 0; content = record { log = config.log; horizon = 0; rows = rows_of items; ends = ends_of items; streams = streams_of config.streams items } }
 part_is config items all =
-    sym (whole_is (canon config items 0) (whole_lawful config items all))
+    sym (whole_is (content_of config items 0) (whole_lawful config items all))
     ∙ (λ i. record { base = 0; content = record { log = config.log; horizon = 0; rows = all_kept config items all (rows_of items) i; ends = all_kept config items all (ends_of items) i; streams = streams_of config.streams items } })
 
 or_both : (a b : Bool) → (a || b) ≡ false → (a ≡ false) × (b ≡ false)
@@ -136,11 +136,11 @@ module _ (config : ConfigValue) (xs ys : List Item) (all : All IsItem xs) (other
       ends : union (ends_of xs) (ends_of ys) ≡ ends_of (xs ++ ys)
       ends = finmap.same_map version_key_total version_key_same _ _ (λ v. get-union version_key_total version_key_same (ends_of xs) (ends_of ys) v ∙ sym (ends_of-append xs ys v))
 
-  agree_both : are_at_odds xs ≡ false → are_at_odds ys ≡ false → disagree (part config xs 0 0).content (part config ys 0 0).content ≡ false → are_at_odds (xs ++ ys) ≡ false
+  agree_both : have_conflict xs ≡ false → have_conflict ys ≡ false → contents_conflict (part config xs 0 0).content (part config ys 0 0).content ≡ false → have_conflict (xs ++ ys) ≡ false
   agree_both p q d =
       let own = or_both (conflict same_row (row_facts xs)) (conflict (λ a b. a == b) (end_facts xs)) p in
       let other = or_both (conflict same_row (row_facts ys)) (conflict (λ a b. a == b) (end_facts ys)) q in
-      let between = or_both (contradict same_row (rows_of xs) (rows_of ys)) (contradict (λ a b. a == b) (ends_of xs) (ends_of ys)) (sym (λ i. disagree (part_is config xs all i).content (part_is config ys others i).content) ∙ d) in
+      let between = or_both (maps_conflict same_row (rows_of xs) (rows_of ys)) (maps_conflict (λ a b. a == b) (ends_of xs) (ends_of ys)) (sym (λ i. contents_conflict (part_is config xs all i).content (part_is config ys others i).content) ∙ d) in
       let rows : conflict same_row (row_facts (xs ++ ys)) ≡ false = ap (conflict same_row) (row_facts-append xs ys) ∙ still_none same_row row_tells row_alike (row_facts xs) (row_facts ys) own.0 other.0 between.0 in
       let ends : conflict (λ a b. a == b) (end_facts (xs ++ ys)) ≡ false = ap (conflict (λ a b. a == b)) (end_facts-append xs ys) ∙ still_none (λ a b. a == b) eqb-true time_alike (end_facts xs) (end_facts ys) own.1 other.1 between.1 in
       (λ i. rows i || ends i)
@@ -150,7 +150,7 @@ unites_gathered old new other (Err why) u config xs ys f g = tt
 unites_gathered old new other (Ok done) u config xs ys f g =
     let own = gave config xs old f.0 in
     let sent = gave config ys other g.0 in
-    let agree = agree_both config xs ys f.1 g.1 own.agree sent.agree ((λ i. disagree (sym own.is i).content (sym sent.is i).content) ∙ u.0) in
-    let fits = misfit-append config xs ys ∙ (λ i. or_else (own.fits i) (sent.fits i)) in
+    let agree = agree_both config xs ys f.1 g.1 own.agree sent.agree ((λ i. contents_conflict (sym own.is i).content (sym sent.is i).content) ∙ u.0) in
+    let fits = wrong_log-append config xs ys ∙ (λ i. or_else (own.fits i) (sent.fits i)) in
     let is = u.1 ∙ (λ i. union_of (own.is i) (sent.is i)) ∙ united_is config xs ys f.1 g.1 in
     (gathered_ok config (xs ++ ys) fits agree ∙ ap Ok (sym is), both_items config xs ys f.1 g.1)

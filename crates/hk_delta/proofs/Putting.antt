@@ -5,14 +5,14 @@ use Rattle.std.proofs.lemmas.List.Concat.{flat_map-append}
 use Rattle.std.specs.List.{flat_map}
 use Rattle.hk_types.specs.declared.faults.Refusal.{Refusal}
 use Rattle.hk_state.specs.Facts.{FactsValue}
-use Rattle.hk_delta.specs.Gathers.{Saying, put_on, all_put, Puts}
+use Rattle.hk_delta.specs.Gathers.{FactOn, put_on, all_put, Puts}
 
-pub all_put-append : (r : Result FactsValue Refusal) (xs ys : List Saying) → all_put r (xs ++ ys) ≡ all_put (all_put r xs) ys
+pub all_put-append : (r : Result FactsValue Refusal) (xs ys : List FactOn) → all_put r (xs ++ ys) ≡ all_put (all_put r xs) ys
 all_put-append r [] ys = refl
 all_put-append r (x ∷ xs) ys = all_put-append (put_on r x) xs ys
 
 -- what was refused stays refused
-pub stays_refused : (why : Refusal) (xs : List Saying) → all_put (Err why) xs ≡ Err why
+pub stays_refused : (why : Refusal) (xs : List FactOn) → all_put (Err why) xs ≡ Err why
 stays_refused why [] = refl
 stays_refused why (x ∷ xs) = stays_refused why xs
 
@@ -20,7 +20,7 @@ nothing_more : {A : Type 0} (xs : List A) → xs ++ [] ≡ xs
 nothing_more [] = refl
 nothing_more (x ∷ xs) = ap (λ ys. x ∷ ys) (nothing_more xs)
 
-module _ {X : Type 0} (says : X → List Saying) (xs : List X) (i : ℕ) (x : X) (is : x ≡ get_or xs i x) (below : i < length xs) (old cur : FactsValue) (before : all_put (Ok old) (flat_map says (take i xs)) ≡ Ok cur) where
+module _ {X : Type 0} (says : X → List FactOn) (xs : List X) (i : ℕ) (x : X) (is : x ≡ get_or xs i x) (below : i < length xs) (old cur : FactsValue) (before : all_put (Ok old) (flat_map says (take i xs)) ≡ Ok cur) where
   up_to : flat_map says (take (i + 1) xs) ≡ flat_map says (take i xs) ++ says x
   up_to =
       ap (flat_map says) (take_more xs i x below ∙ ap (λ y. take i xs ++ y ∷ []) (sym is))
@@ -41,6 +41,6 @@ module _ {X : Type 0} (says : X → List Saying) (xs : List X) (i : ℕ) (x : X)
       ∙ stays_refused why (flat_map says (drop (i + 1) xs))
 
 -- two lists, one after the other
-pub puts_both : (old mid new : FactsValue) (xs ys : List Saying) (result : Result (Unit {0}) Refusal) → all_put (Ok old) xs ≡ Ok mid → Puts mid new ys result → Puts old new (xs ++ ys) result
+pub puts_both : (old mid new : FactsValue) (xs ys : List FactOn) (result : Result (Unit {0}) Refusal) → all_put (Ok old) xs ≡ Ok mid → Puts mid new ys result → Puts old new (xs ++ ys) result
 puts_both old mid new xs ys (Ok done) first second = all_put-append (Ok old) xs ys ∙ ap (λ r. all_put r ys) first ∙ second
 puts_both old mid new xs ys (Err why) first second = elim second [ inl e ↦ inl (all_put-append (Ok old) xs ys ∙ ap (λ r. all_put r ys) first ∙ e) | inr m ↦ inr m ]

@@ -13,7 +13,7 @@ use Rattle.hk_model.proofs.Maps.{version_key_total, version_key_same}
 use Rattle.hk_model.proofs.Members.{In}
 use Rattle.hk_delta.specs.Parts.{Known, facts_fault}
 use Rattle.hk_delta.proofs.Sound.{are_facts}
-use Rattle.hk_delta.proofs.Sents.{each_found}
+use Rattle.hk_delta.proofs.MergeInputs.{each_found}
 use Rattle.hk_delta.proofs.Merges.{Rising, rising, none_equal}
 
 either_side : (i j : ℕ) → (i < j) ⊎ (j ≤ i)

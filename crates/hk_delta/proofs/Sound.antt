@@ -18,8 +18,8 @@ use Rattle.hk_model.specs.Lawful.{IsLawfulFragment}
 use Rattle.hk_model.proofs.Maps.{version_key_total, version_key_same}
 use Rattle.hk_model.proofs.Members.{In, In-find}
 use Rattle.hk_model.proofs.Visible.{T_both, less}
-use Rattle.hk_delta.specs.Parts.{Known, among, fragment_seen, follows, row_stands, end_stands, stands, facts_fault, fragment_fault, versions_listed, IsFragment}
-use Rattle.hk_delta.proofs.Listed.{get-among, lists_back}
+use Rattle.hk_delta.specs.Parts.{Known, values_by_version, fragment_seen, follows, is_valid_row, is_valid_end, is_valid_fact, facts_fault, fragment_fault, versions_listed, IsFragment}
+use Rattle.hk_delta.proofs.Listed.{get-values_by_version, lists_back}
 
 -- a test that shows no fault failed, and what follows it shows none
 passed : (b : Bool) (f : FormFault) (rest : Option FormFault) → cond (not b) (Some f) rest ≡ None → (b ≡ true) × (rest ≡ None)
@@ -49,13 +49,13 @@ abbrev pub AllFollow : Option VersionKey → List Known → Type 0
 AllFollow None facts = Unit {0}
 AllFollow (Some before) facts = T (below_all version_key_cmp before facts)
 
-abbrev pub IsStanding : ℕ → ℕ → List Known → Type 0
-IsStanding base horizon facts = (v : VersionKey) (x : VersionValue) → In (v, x) facts → stands base horizon (v, x) ≡ true
+abbrev pub AreValidFacts : ℕ → ℕ → List Known → Type 0
+AreValidFacts base horizon facts = (v : VersionKey) (x : VersionValue) → In (v, x) facts → is_valid_fact base horizon (v, x) ≡ true
 
 pub record AreFacts (base horizon : ℕ) (before : Option VersionKey) (facts : List Known) : Type 0 where
   pub sorted : T (is_sorted version_key_cmp facts)
   pub after : AllFollow before facts
-  pub each : IsStanding base horizon facts
+  pub each : AreValidFacts base horizon facts
 
 follow_all : (before : Option VersionKey) (e : Known) (facts : List Known) → follows before e.0 ≡ true → T (below_all version_key_cmp e.0 facts) → AllFollow before (e ∷ facts)
 follow_all None e facts f b = tt
@@ -68,12 +68,12 @@ are_facts base horizon None [] h = record { sorted = tt; after = tt; each = λ v
 are_facts base horizon (Some last) [] h = record { sorted = tt; after = tt; each = λ v x i. elim i [ ] }
 are_facts base horizon before (e ∷ facts) h =
     let a = passed (follows before e.0) BadOrder _ h in
-    let b = passed (stands base horizon e) BadNumber (facts_fault base horizon (Some e.0) facts) a.1 in
+    let b = passed (is_valid_fact base horizon e) BadNumber (facts_fault base horizon (Some e.0) facts) a.1 in
     let rest = are_facts base horizon (Some e.0) facts b.1 in
     record {
       sorted = and_T (below_all version_key_cmp e.0 facts) (is_sorted version_key_cmp facts) rest.after rest.sorted;
       after = follow_all before e facts a.0 rest.after;
-      each = λ v x i. elim i [ inl s ↦ subst (λ (p : Known). stands base horizon p ≡ true) (sym s) b.0 | inr j ↦ rest.each v x j ];
+      each = λ v x i. elim i [ inl s ↦ subst (λ (p : Known). is_valid_fact base horizon p ≡ true) (sym s) b.0 | inr j ↦ rest.each v x j ];
     }
 
 -- ---- the parts of a fragment
@@ -81,13 +81,13 @@ are_facts base horizon before (e ∷ facts) h =
 pub record Parts (base horizon : ℕ) (v : VersionKey) (x : VersionValue) : Type 0 where
   pub born : 0 < v.born
   pub known : is_known x ≡ true
-  pub row : row_stands base v.born x.row ≡ true
-  pub died : end_stands base horizon v.born x.died ≡ true
+  pub row : is_valid_row base v.born x.row ≡ true
+  pub died : is_valid_end base horizon v.born x.died ≡ true
 
-pub parts_of : (base horizon : ℕ) (v : VersionKey) (x : VersionValue) → stands base horizon (v, x) ≡ true → Parts base horizon v x
+pub parts_of : (base horizon : ℕ) (v : VersionKey) (x : VersionValue) → is_valid_fact base horizon (v, x) ≡ true → Parts base horizon v x
 parts_of base horizon v x e =
-    let a = and_both (ltb 0 v.born && is_known x && row_stands base v.born x.row) (end_stands base horizon v.born x.died) e in
-    let b = and_both (ltb 0 v.born && is_known x) (row_stands base v.born x.row) a.0 in
+    let a = and_both (ltb 0 v.born && is_known x && is_valid_row base v.born x.row) (is_valid_end base horizon v.born x.died) e in
+    let b = and_both (ltb 0 v.born && is_known x) (is_valid_row base v.born x.row) a.0 in
     let c = and_both (ltb 0 v.born) (is_known x) b.0 in
     record { born = ltb-true _ _ c.0; known = c.1; row = b.1; died = a.1 }
 
@@ -96,7 +96,7 @@ record EndIs (base horizon born died : ℕ) : Type 0 where
   pub over : horizon < died
   pub later : born < died
 
-end_is : (base horizon born died : ℕ) → end_stands base horizon born (Some died) ≡ true → EndIs base horizon born died
+end_is : (base horizon born died : ℕ) → is_valid_end base horizon born (Some died) ≡ true → EndIs base horizon born died
 end_is base horizon born died e =
     let a = and_both (ltb base died && ltb horizon died) (ltb born died) e in
     let b = and_both (ltb base died) (ltb horizon died) a.0 in
@@ -107,10 +107,10 @@ some_of read None y e = absurd cc
 some_of read (Some x) y e = (x, refl, e)
 
 -- what is known of a version of which something is read
-pub stated : {Y : Type 0} (read : VersionValue → Option Y) (base horizon : ℕ) (facts : List Known) → facts_fault base horizon None facts ≡ None → (v : VersionKey) (y : Y) → finmap.get (among read facts) v ≡ Some y → (x : VersionValue) × Parts base horizon v x × (read x ≡ Some y)
+pub stated : {Y : Type 0} (read : VersionValue → Option Y) (base horizon : ℕ) (facts : List Known) → facts_fault base horizon None facts ≡ None → (v : VersionKey) (y : Y) → finmap.get (values_by_version read facts) v ≡ Some y → (x : VersionValue) × Parts base horizon v x × (read x ≡ Some y)
 stated read base horizon facts h v y e =
     let f = are_facts base horizon None facts h in
-    let w = some_of read (find version_key_cmp v facts) y (sym (get-among read facts f.sorted v) ∙ e) in
+    let w = some_of read (find version_key_cmp v facts) y (sym (get-values_by_version read facts f.sorted v) ∙ e) in
     (w.0, parts_of base horizon v w.0 (f.each v w.0 (In-find version_key_cmp version_key_total version_key_same v w.0 facts w.1)), w.2)
 
 zero_or : (base horizon : ℕ) → ((base == 0) || nat_le horizon base) ≡ true → (base ≡ 0) ⊎ (horizon ≤ base)
@@ -152,15 +152,15 @@ lawful config base horizon streams facts h =
       end_over = λ v d e. (end_of base horizon facts t.faultless v d e).above;
     }
   where
-    end_of : (base horizon : ℕ) (facts : List Known) → facts_fault base horizon None facts ≡ None → (v : VersionKey) (d : ℕ) → finmap.get (among (λ x. x.died) facts) v ≡ Some d → EndIs base horizon v.born d
+    end_of : (base horizon : ℕ) (facts : List Known) → facts_fault base horizon None facts ≡ None → (v : VersionKey) (d : ℕ) → finmap.get (values_by_version (λ x. x.died) facts) v ≡ Some d → EndIs base horizon v.born d
     end_of base horizon facts h v d e =
         let s = stated (λ x. x.died) base horizon facts h v d e in
-        end_is base horizon v.born d (subst (λ o. end_stands base horizon v.born o ≡ true) s.2 s.1.died)
+        end_is base horizon v.born d (subst (λ o. is_valid_end base horizon v.born o ≡ true) s.2 s.1.died)
 
-    row_of : (base horizon : ℕ) (facts : List Known) → facts_fault base horizon None facts ≡ None → (v : VersionKey) (row : RowValue) → finmap.get (among (λ x. x.row) facts) v ≡ Some row → base < v.born
+    row_of : (base horizon : ℕ) (facts : List Known) → facts_fault base horizon None facts ≡ None → (v : VersionKey) (row : RowValue) → finmap.get (values_by_version (λ x. x.row) facts) v ≡ Some row → base < v.born
     row_of base horizon facts h v row e =
         let s = stated (λ x. x.row) base horizon facts h v row e in
-        ltb-true _ _ (subst (λ o. row_stands base v.born o ≡ true) s.2 s.1.row)
+        ltb-true _ _ (subst (λ o. is_valid_row base v.born o ≡ true) s.2 s.1.row)
 
 -- its content gives its list of versions back
 pub listed : (config : ConfigValue) (base horizon : ℕ) (streams : List StreamContent) (facts : List Known) → facts_fault base horizon None facts ≡ None → versions_listed (fragment_seen config base horizon streams facts).content ≡ facts
@@ -168,7 +168,7 @@ listed config base horizon streams facts h =
     let f = are_facts base horizon None facts h in
     lists_back (fragment_seen config base horizon streams facts).content facts f.sorted
     (λ v x e. (parts_of base horizon v x (f.each v x (In-find version_key_cmp version_key_total version_key_same v x facts e))).known)
-    (get-among (λ x. x.row) facts f.sorted) (get-among (λ x. x.died) facts f.sorted)
+    (get-values_by_version (λ x. x.row) facts f.sorted) (get-values_by_version (λ x. x.died) facts f.sorted)
 
 -- the facts of a fragment by its rules are faultless
 pub facts_tested : (base horizon : ℕ) (streams : List StreamContent) (facts : List Known) → fragment_fault base horizon streams facts ≡ None → facts_fault base horizon None facts ≡ None

@@ -1,4 +1,4 @@
--- What items say together is the canon of them at horizon 0, and its cut at 0 is their fragment.
+-- What items say together is the content of them at horizon 0, and its cut at 0 is their fragment.
 use Rattle.std.proofs.Common.{◌≡◌, refl, sym, ap, ◌∙◌, subst, ℕ, ◌<◌, ◌≤◌, Bool, true, false, cond, not, ◌||◌, Option, Some, None, List, All, Result, Ok, Err, ◌⊎◌, inl, inr, nat_le, arith}
 use Rattle.std.proofs.lemmas.Bool.Decides.{nat_tests}
 use Rattle.std.specs.List.{flat_map}
@@ -13,23 +13,23 @@ use Rattle.hk_log.specs.declared.item.Item.TheVariants.{Commit}
 use Rattle.hk_model.specs.Rows.{version_key_cmp}
 use Rattle.hk_model.specs.Facts.{row_facts, end_facts, rows_of, ends_of}
 use Rattle.hk_model.specs.Content.{at_most, without_ended, readable}
-use Rattle.hk_model.specs.Canon.{canon}
+use Rattle.hk_model.specs.ContentOf.{content_of}
 use Rattle.hk_model.specs.Streams.{streams_of}
 use Rattle.hk_model.specs.Fragments.{FragmentValue, part}
 use Rattle.hk_model.specs.Lawful.{IsLawful, IsItem}
-use Rattle.hk_model.specs.Rules.{gathered, gathered_unless, first_misfit}
+use Rattle.hk_model.specs.Rules.{gather_result, gather_result_unless, first_wrong_log}
 use Rattle.hk_model.proofs.Maps.{version_key_total, version_key_same, get-without_ended}
 use Rattle.hk_model.proofs.Members.{In, In-map}
 use Rattle.hk_model.proofs.Logs.{fact_end, end_found}
 use Rattle.hk_model.proofs.Writes.{All_In}
-use Rattle.hk_model.proofs.Lawful.{IsSound, entry_sound, canon_lawful}
+use Rattle.hk_model.proofs.Lawful.{IsSound, entry_sound, content_of_lawful}
 use Rattle.hk_model.proofs.Gathers.{gathered_law}
 use Rattle.hk_state.specs.Facts.{FactsValue, no_facts}
 use Rattle.hk_state.specs.Reads.{facts_of_content}
 use Rattle.hk_state.specs.Versions.{AreVersions}
 use Rattle.hk_delta.specs.Parts.{Known, fragment_seen, fragment_fault}
 use Rattle.hk_delta.specs.Cuts.{all_left}
-use Rattle.hk_delta.specs.Gathers.{said, all_put, are_at_odds, Gathers, GathersOf}
+use Rattle.hk_delta.specs.Gathers.{item_facts, all_put, have_conflict, Gathers, GathersOf}
 use Rattle.hk_delta.proofs.Agreeing.{facts_from, items_settle}
 use Rattle.hk_delta.proofs.Lefts.{parts_faultless, cut_is}
 
@@ -39,35 +39,35 @@ same_ok f g e = cc
 same_err : (a b : Refusal) → ◌≡◌ {A = Result FactsValue Refusal} (Err a) (Err b) → a ≡ b
 same_err a b e = cc
 
-pub settled_ok : (items : List Item) (f : FactsValue) → all_put (Ok no_facts) (flat_map said items) ≡ Ok f → (f ≡ facts_from (row_facts items) (end_facts items)) × (are_at_odds items ≡ false)
+pub settled_ok : (items : List Item) (f : FactsValue) → all_put (Ok no_facts) (flat_map item_facts items) ≡ Ok f → (f ≡ facts_from (row_facts items) (end_facts items)) × (have_conflict items ≡ false)
 settled_ok items f e =
     elim (items_settle items) [
       | inl s ↦ (same_ok f (facts_from (row_facts items) (end_facts items)) (sym e ∙ s.0), (λ i. s.1 i || s.2 i))
-      | inr s ↦ absurd (differ f Conflict (sym e ∙ s.0))
+      | inr s ↦ absurd (values_conflict f Conflict (sym e ∙ s.0))
     ]
   where
-    differ : (f : FactsValue) (why : Refusal) → ◌≡◌ {A = Result FactsValue Refusal} (Ok f) (Err why) → ⊥
-    differ f why e = cc
+    values_conflict : (f : FactsValue) (why : Refusal) → ◌≡◌ {A = Result FactsValue Refusal} (Ok f) (Err why) → ⊥
+    values_conflict f why e = cc
 
-pub settled_err : (items : List Item) (why : Refusal) → all_put (Ok no_facts) (flat_map said items) ≡ Err why → (why ≡ Conflict) × (are_at_odds items ≡ true)
+pub settled_err : (items : List Item) (why : Refusal) → all_put (Ok no_facts) (flat_map item_facts items) ≡ Err why → (why ≡ Conflict) × (have_conflict items ≡ true)
 settled_err items why e =
     elim (items_settle items) [
-      | inl s ↦ absurd (differ (facts_from (row_facts items) (end_facts items)) why (sym s.0 ∙ e))
+      | inl s ↦ absurd (values_conflict (facts_from (row_facts items) (end_facts items)) why (sym s.0 ∙ e))
       | inr s ↦ (same_err why Conflict (sym e ∙ s.0), s.1)
     ]
   where
-    differ : (f : FactsValue) (why : Refusal) → ◌≡◌ {A = Result FactsValue Refusal} (Ok f) (Err why) → ⊥
-    differ f why e = cc
+    values_conflict : (f : FactsValue) (why : Refusal) → ◌≡◌ {A = Result FactsValue Refusal} (Ok f) (Err why) → ⊥
+    values_conflict f why e = cc
 
 module _ (config : ConfigValue) (items : List Item) (all : All IsItem items) where
   sound : (e : EntryValue) → In (Commit e) items → IsSound e
   sound e i = entry_sound e (All_In IsItem items all (Commit e) i)
 
-  zero_within : 0 ≤ readable (canon config items 0)
+  zero_within : 0 ≤ readable (content_of config items 0)
   zero_within = omega arith
 
-  pub whole_lawful : IsLawful (canon config items 0)
-  whole_lawful = canon_lawful config items 0 sound zero_within
+  pub whole_lawful : IsLawful (content_of config items 0)
+  whole_lawful = content_of_lawful config items 0 sound zero_within
 
   -- no item states an end at 0
   ends_later : (v : VersionKey) → at_most 0 (finmap.get (ends_of items) v) ≡ false
@@ -87,41 +87,41 @@ module _ (config : ConfigValue) (items : List Item) (all : All IsItem items) whe
   pub all_kept : {X : Type 0} (facts : finmap.FinMap version_key_cmp X) → without_ended (ends_of items) 0 facts ≡ facts
   all_kept facts = finmap.same_map version_key_total version_key_same _ _ (λ v. get-without_ended (ends_of items) 0 facts v ∙ ap (λ b. cond (not b) (finmap.get facts v) None) (ends_later v))
 
-  pub whole_facts : facts_from (row_facts items) (end_facts items) ≡ facts_of_content (canon config items 0)
+  pub whole_facts : facts_from (row_facts items) (end_facts items) ≡ facts_of_content (content_of config items 0)
   whole_facts = λ i. record { rows = sym (all_kept (rows_of items)) i; ends = sym (all_kept (ends_of items)) i }
 
   module _ (f : FactsValue) (is : f ≡ facts_from (row_facts items) (end_facts items)) (es : List Known) (are : AreVersions f es) where
-    listed : AreVersions (facts_of_content (canon config items 0)) es
+    listed : AreVersions (facts_of_content (content_of config items 0)) es
     listed = subst (λ (g : FactsValue). AreVersions g es) (is ∙ whole_facts) are
 
     pub whole_faultless : fragment_fault 0 0 (streams_of config.streams items) (all_left 0 es) ≡ None
-    whole_faultless = parts_faultless (canon config items 0) whole_lawful 0 (inl refl) es listed
+    whole_faultless = parts_faultless (content_of config items 0) whole_lawful 0 (inl refl) es listed
 
     pub whole_is : fragment_seen config 0 0 (streams_of config.streams items) (all_left 0 es) ≡ part config items 0 0
-    whole_is = cut_is (canon config items 0) whole_lawful 0 config refl es listed
+    whole_is = cut_is (content_of config items 0) whole_lawful 0 config refl es listed
 
 -- ---- what is answered
 
-pub gathered_ok : (config : ConfigValue) (items : List Item) → first_misfit config items ≡ None → are_at_odds items ≡ false → gathered config items ≡ Ok (part config items 0 0)
-gathered_ok config items fits agree = ap (gathered_unless config items) fits ∙ ap (λ b. cond b (Err Conflict) (Ok (part config items 0 0))) agree
+pub gathered_ok : (config : ConfigValue) (items : List Item) → first_wrong_log config items ≡ None → have_conflict items ≡ false → gather_result config items ≡ Ok (part config items 0 0)
+gathered_ok config items fits agree = ap (gather_result_unless config items) fits ∙ ap (λ b. cond b (Err Conflict) (Ok (part config items 0 0))) agree
 
-pub gathered_err : (config : ConfigValue) (items : List Item) → first_misfit config items ≡ None → are_at_odds items ≡ true → gathered config items ≡ Err Conflict
-gathered_err config items fits odds = ap (gathered_unless config items) fits ∙ ap (λ b. cond b (Err Conflict) (Ok (part config items 0 0))) odds
+pub gathered_err : (config : ConfigValue) (items : List Item) → first_wrong_log config items ≡ None → have_conflict items ≡ true → gather_result config items ≡ Err Conflict
+gathered_err config items fits conflicting = ap (gather_result_unless config items) fits ∙ ap (λ b. cond b (Err Conflict) (Ok (part config items 0 0))) conflicting
 
 -- a refusal of the growing, after the test for a conflict
-pub refused : (config : ConfigValue) (items : List Item) → first_misfit config items ≡ None → (why told : Refusal) → (why ≡ Memory) ⊎ ((why ≡ Conflict) × (are_at_odds items ≡ true)) → (are_at_odds items ≡ true → told ≡ Conflict) → (are_at_odds items ≡ false → told ≡ why)
-    → (gathered config items ≡ Err told) ⊎ ((told ≡ Memory) × ((f : FragmentValue) × (gathered config items ≡ Ok f)))
-refused config items fits why told is odds even = by (are_at_odds items) refl
+pub refused : (config : ConfigValue) (items : List Item) → first_wrong_log config items ≡ None → (why told : Refusal) → (why ≡ Memory) ⊎ ((why ≡ Conflict) × (have_conflict items ≡ true)) → (have_conflict items ≡ true → told ≡ Conflict) → (have_conflict items ≡ false → told ≡ why)
+    → (gather_result config items ≡ Err told) ⊎ ((told ≡ Memory) × ((f : FragmentValue) × (gather_result config items ≡ Ok f)))
+refused config items fits why told is conflicting even = by (have_conflict items) refl
   where
-    by : (b : Bool) → are_at_odds items ≡ b → (gathered config items ≡ Err told) ⊎ ((told ≡ Memory) × ((f : FragmentValue) × (gathered config items ≡ Ok f)))
-    by true e = inl (gathered_err config items fits e ∙ ap Err (sym (odds e)))
+    by : (b : Bool) → have_conflict items ≡ b → (gather_result config items ≡ Err told) ⊎ ((told ≡ Memory) × ((f : FragmentValue) × (gather_result config items ≡ Ok f)))
+    by true e = inl (gathered_err config items fits e ∙ ap Err (sym (conflicting e)))
     by false e = elim is [
       | inl m ↦ inr (even e ∙ m, (part config items 0 0, gathered_ok config items fits e))
-      | inr c ↦ absurd (differ (sym e ∙ c.1))
+      | inr c ↦ absurd (values_conflict (sym e ∙ c.1))
     ]
       where
-        differ : false ≡ true → ⊥
-        differ e = cc
+        values_conflict : false ≡ true → ⊥
+        values_conflict e = cc
 
 -- items of a history
 pub of_history : (config : ConfigValue) (items : List Item) (r : Result FragmentValue Refusal) → Gathers config items r → GathersOf config items r
@@ -129,7 +129,7 @@ of_history config items (Ok f) gave history is all = (same f (part config items 
   where
     same : (f g : FragmentValue) → ◌≡◌ {A = Result FragmentValue Refusal} (Ok f) (Ok g) → f ≡ g
     same f g e = cc
-of_history config items (Err why) gave history is all = (tt, elim gave [ inl e ↦ absurd (differ (part config items 0 0) why (sym (gathered_law config history is items all) ∙ e)) | inr m ↦ m.0 ])
+of_history config items (Err why) gave history is all = (tt, elim gave [ inl e ↦ absurd (values_conflict (part config items 0 0) why (sym (gathered_law config history is items all) ∙ e)) | inr m ↦ m.0 ])
   where
-    differ : (f : FragmentValue) (why : Refusal) → ◌≡◌ {A = Result FragmentValue Refusal} (Ok f) (Err why) → ⊥
-    differ f why e = cc
+    values_conflict : (f : FragmentValue) (why : Refusal) → ◌≡◌ {A = Result FragmentValue Refusal} (Ok f) (Err why) → ⊥
+    values_conflict f why e = cc

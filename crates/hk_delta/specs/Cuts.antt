@@ -10,7 +10,7 @@ use Rattle.hk_log.specs.declared.item.Item.{Item}
 use Rattle.hk_model.specs.Content.{Content, at_most}
 use Rattle.hk_model.specs.Fragments.{FragmentValue, cut, part}
 use Rattle.hk_model.specs.Histories.{Transaction}
-use Rattle.hk_model.specs.Replicas.{Stands}
+use Rattle.hk_model.specs.Replicas.{Represents}
 use Rattle.hk_facts.specs.Facts.{if_known}
 use Rattle.hk_state.specs.Facts.{entry_if}
 use Rattle.hk_delta.specs.Parts.{Known}
@@ -36,8 +36,8 @@ abbrev pub Cuts : Content → ℕ → Result FragmentValue Refusal → Type 0
 Cuts c base (Ok f) = (c.horizon ≤ base) × (f ≡ cut c base)
 Cuts c base (Err why) = ((base < c.horizon) × (why ≡ TooOld c.horizon)) ⊎ ((c.horizon ≤ base) × (why ≡ Memory))
 
--- where the content stands for items of a history, the fragment is the part of them at its horizon
+-- where the content represents items of a history, the fragment is the part of them at its horizon
 abbrev pub CutsOf : Content → ℕ → Result FragmentValue Refusal → Type 0
 CutsOf c base result =
-    (config : ConfigValue) (history : List Transaction) (items : List Item) (horizon : ℕ) → Stands config history items horizon c
+    (config : ConfigValue) (history : List Transaction) (items : List Item) (horizon : ℕ) → Represents config history items horizon c
     → IfOk result (λ f. f ≡ part config items horizon base)

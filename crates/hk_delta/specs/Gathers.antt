@@ -9,66 +9,66 @@ use Rattle.hk_types.specs.declared.faults.Refusal.TheVariants.{Memory}
 use Rattle.hk_log.specs.declared.item.Item.{Item}
 use Rattle.hk_log.specs.declared.item.Item.TheVariants.{Commit, Closed}
 use Rattle.hk_model.specs.Rows.{version_key_cmp}
-use Rattle.hk_model.specs.Facts.{inserted, entry_rows, entry_ends, row_facts, end_facts}
+use Rattle.hk_model.specs.Facts.{inserted_version, entry_rows, entry_ends, row_facts, end_facts}
 use Rattle.hk_model.specs.Fragments.{FragmentValue, part}
 use Rattle.hk_model.specs.Histories.{Transaction, IsHistory, AreItemsOf}
-use Rattle.hk_model.specs.Rules.{conflict, gathered}
+use Rattle.hk_model.specs.Rules.{conflict, gather_result}
 use Rattle.hk_facts.specs.declared.fact.Fact.{Fact}
 use Rattle.hk_facts.specs.declared.fact.Fact.TheVariants.{Row, End}
 use Rattle.hk_state.specs.Facts.{FactsValue, facts_put}
 
 -- whether two facts give a version different values
-abbrev pub clash : {X : Type 0} → (X → X → Bool) → VersionKey × X → VersionKey × X → Bool
-clash same e f = eq_by_cmp version_key_cmp e.0 f.0 && not (same e.1 f.1)
+abbrev pub facts_conflict : {X : Type 0} → (X → X → Bool) → VersionKey × X → VersionKey × X → Bool
+facts_conflict same e f = eq_by_cmp version_key_cmp e.0 f.0 && not (same e.1 f.1)
 
 -- whether two of the items give a version different rows or different ends
-abbrev pub are_at_odds : List Item → Bool
-are_at_odds items = conflict same_row (row_facts items) || conflict (λ a b. a == b) (end_facts items)
+abbrev pub have_conflict : List Item → Bool
+have_conflict items = conflict same_row (row_facts items) || conflict (λ a b. a == b) (end_facts items)
 
 -- the rows that an item inserts, and the ends that it states
-abbrev pub rows_said : Item → List (VersionKey × RowValue)
-rows_said (Commit e) = entry_rows e
-rows_said (Closed m) = []
+abbrev pub inserted_rows : Item → List (VersionKey × RowValue)
+inserted_rows (Commit e) = entry_rows e
+inserted_rows (Closed m) = []
 
-abbrev pub ends_said : Item → List (VersionKey × ℕ)
-ends_said (Commit e) = entry_ends e
-ends_said (Closed m) = []
+abbrev pub stated_ends : Item → List (VersionKey × ℕ)
+stated_ends (Commit e) = entry_ends e
+stated_ends (Closed m) = []
 
 -- a fact on a version
-abbrev pub Saying : Type 0
-Saying = VersionKey × Fact
+abbrev pub FactOn : Type 0
+FactOn = VersionKey × Fact
 
 -- the row that an entry of a time inserts, and the end that it states of a version
-abbrev pub row_said : ℕ → ℕ × ℕ × RowValue → List Saying
-row_said time p = ((inserted time p).0, Row p.2) ∷ []
+abbrev pub row_fact : ℕ → ℕ × ℕ × RowValue → List FactOn
+row_fact time p = ((inserted_version time p).0, Row p.2) ∷ []
 
-abbrev pub end_said : ℕ → VersionKey → List Saying
-end_said time v = (v, End time) ∷ []
+abbrev pub end_fact : ℕ → VersionKey → List FactOn
+end_fact time v = (v, End time) ∷ []
 
 -- what an item says of versions: its rows, then its ends
-abbrev pub said : Item → List Saying
-said (Commit e) = flat_map (row_said e.time) e.rows ++ flat_map (end_said e.time) e.ends
-said (Closed m) = []
+abbrev pub item_facts : Item → List FactOn
+item_facts (Commit e) = flat_map (row_fact e.time) e.rows ++ flat_map (end_fact e.time) e.ends
+item_facts (Closed m) = []
 
 -- one more fact, unless there was a refusal before
-abbrev pub put_on : Result FactsValue Refusal → Saying → Result FactsValue Refusal
+abbrev pub put_on : Result FactsValue Refusal → FactOn → Result FactsValue Refusal
 put_on (Ok f) s = facts_put f s.0 s.1
 put_on (Err why) s = Err why
 
--- these facts, one after the other, up to the first that contradicts what is there
-abbrev pub all_put : Result FactsValue Refusal → List Saying → Result FactsValue Refusal
+-- these facts, one after the other, up to the first that conflicts with what is there
+abbrev pub all_put : Result FactsValue Refusal → List FactOn → Result FactsValue Refusal
 all_put r [] = r
 all_put r (s ∷ more) = all_put (put_on r s) more
 
 -- these facts were put, or they were refused so, or memory ran out
-abbrev pub Puts : FactsValue → FactsValue → List Saying → Result (Unit {0}) Refusal → Type 0
+abbrev pub Puts : FactsValue → FactsValue → List FactOn → Result (Unit {0}) Refusal → Type 0
 Puts old new facts (Ok done) = all_put (Ok old) facts ≡ Ok new
 Puts old new facts (Err why) = (all_put (Ok old) facts ≡ Err why) ⊎ (why ≡ Memory)
 
 -- what gathering gives, or it was refused so, or memory ran out where there is a fragment
 abbrev pub Gathers : ConfigValue → List Item → Result FragmentValue Refusal → Type 0
-Gathers config items (Ok f) = gathered config items ≡ Ok f
-Gathers config items (Err why) = (gathered config items ≡ Err why) ⊎ ((why ≡ Memory) × ((f : FragmentValue) × (gathered config items ≡ Ok f)))
+Gathers config items (Ok f) = gather_result config items ≡ Ok f
+Gathers config items (Err why) = (gather_result config items ≡ Err why) ⊎ ((why ≡ Memory) × ((f : FragmentValue) × (gather_result config items ≡ Ok f)))
 
 -- items of a history are gathered to the part of base and horizon 0, unless memory ran out
 abbrev pub GathersOf : ConfigValue → List Item → Result FragmentValue Refusal → Type 0

@@ -5,17 +5,17 @@ use Rattle.hk_types.specs.declared.faults.Refusal.{Refusal}
 use Rattle.hk_types.specs.declared.faults.Refusal.TheVariants.{Gap, Memory}
 use Rattle.hk_log.specs.declared.item.Item.{Item}
 use Rattle.hk_model.specs.Content.{Content, readable}
-use Rattle.hk_model.specs.Canon.{canon}
+use Rattle.hk_model.specs.ContentOf.{content_of}
 use Rattle.hk_model.specs.Fragments.{FragmentValue, part}
 use Rattle.hk_model.specs.Histories.{Transaction, IsHistory, AreItemsOf}
-use Rattle.hk_model.specs.Replicas.{Stands}
+use Rattle.hk_model.specs.Replicas.{Represents}
 
--- where the taker stands for items of a history, and the fragment is the part of others of its items: a base that
--- leaves no gap leaves the taker standing for all of them at the greater horizon, unless memory ran out; above
+-- where the target represents items of a history, and the fragment is the part of others of its items: a base that
+-- leaves no gap leaves the target standing for all of them at the greater horizon, unless memory ran out; above
 -- the readable mark it is refused, and nothing changes
 abbrev pub JoinsOf : Content → Content → FragmentValue → Result (Unit {0}) Refusal → Type 0
 JoinsOf old new f result =
-    (config : ConfigValue) (history : List Transaction) (own others : List Item) (g h base : ℕ) → IsHistory config history → Stands config history own g old
-    → AreItemsOf config history others → h ≤ readable (canon config others h) → (base ≡ 0) ⊎ (h ≤ base) → f ≡ part config others h base
-    → (base ≤ readable old → IfOk result (λ done. Stands config history (own ++ others) (max g h) new) × IfErr result (λ why. why ≡ Memory))
+    (config : ConfigValue) (history : List Transaction) (own others : List Item) (g h base : ℕ) → IsHistory config history → Represents config history own g old
+    → AreItemsOf config history others → h ≤ readable (content_of config others h) → (base ≡ 0) ⊎ (h ≤ base) → f ≡ part config others h base
+    → (base ≤ readable old → IfOk result (λ done. Represents config history (own ++ others) (max g h) new) × IfErr result (λ why. why ≡ Memory))
     × (readable old < base → (result ≡ Err (Gap base (readable old))) × (new ≡ old))

@@ -20,15 +20,15 @@ abbrev pub Known : Type 0
 Known = VersionKey × VersionValue
 
 -- what is read of these versions, by version key
-abbrev pub among : {Y : Type 0} → (VersionValue → Option Y) → List Known → finmap.FinMap version_key_cmp Y
-among read facts = finmap.from_entries (filter_map (λ e. option_map (λ y. (e.0, y)) (read e.1)) facts)
+abbrev pub values_by_version : {Y : Type 0} → (VersionValue → Option Y) → List Known → finmap.FinMap version_key_cmp Y
+values_by_version read facts = finmap.from_entries (filter_map (λ e. option_map (λ y. (e.0, y)) (read e.1)) facts)
 
 -- the fragment of these parts
 abbrev pub fragment_seen : ConfigValue → ℕ → ℕ → List StreamContent → List Known → FragmentValue
 fragment_seen config base horizon streams facts =
     record {
       base = base;
-      content = record { log = config.log; horizon = horizon; rows = among (λ x. x.row) facts; ends = among (λ x. x.died) facts; streams = streams };
+      content = record { log = config.log; horizon = horizon; rows = values_by_version (λ x. x.row) facts; ends = values_by_version (λ x. x.died) facts; streams = streams };
     }
 
 -- what a content knows of a version
@@ -46,25 +46,25 @@ follows None v = true
 follows (Some before) v = is_lt (version_key_cmp before v)
 
 -- a row is of a version that was born above the base
-abbrev pub row_stands : ℕ → ℕ → Option RowValue → Bool
-row_stands base born None = true
-row_stands base born (Some row) = nat_lt base born
+abbrev pub is_valid_row : ℕ → ℕ → Option RowValue → Bool
+is_valid_row base born None = true
+is_valid_row base born (Some row) = nat_lt base born
 
 -- an end is above the base, the horizon and the time at which the version was born
-abbrev pub end_stands : ℕ → ℕ → ℕ → Option ℕ → Bool
-end_stands base horizon born None = true
-end_stands base horizon born (Some died) = nat_lt base died && nat_lt horizon died && nat_lt born died
+abbrev pub is_valid_end : ℕ → ℕ → ℕ → Option ℕ → Bool
+is_valid_end base horizon born None = true
+is_valid_end base horizon born (Some died) = nat_lt base died && nat_lt horizon died && nat_lt born died
 
 -- whether what is known of a version may stand in a fragment with this base and this horizon
-abbrev pub stands : ℕ → ℕ → Known → Bool
-stands base horizon e = nat_lt 0 e.0.born && is_known e.1 && row_stands base e.0.born e.1.row && end_stands base horizon e.0.born e.1.died
+abbrev pub is_valid_fact : ℕ → ℕ → Known → Bool
+is_valid_fact base horizon e = nat_lt 0 e.0.born && is_known e.1 && is_valid_row base e.0.born e.1.row && is_valid_end base horizon e.0.born e.1.died
 
 -- the first fault of the facts, the first of them after the version before it
 abbrev pub facts_fault : ℕ → ℕ → Option VersionKey → List Known → Option FormFault
 facts_fault base horizon before [] = None
 facts_fault base horizon before (e ∷ facts) =
     if not (follows before e.0) then Some BadOrder
-    else if not (stands base horizon e) then Some BadNumber
+    else if not (is_valid_fact base horizon e) then Some BadNumber
     else facts_fault base horizon (Some e.0) facts
 
 -- the first fault of a fragment of these parts, in the order of its bytes

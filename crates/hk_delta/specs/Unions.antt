@@ -13,7 +13,7 @@ use Rattle.hk_model.specs.Rows.{version_key_cmp}
 use Rattle.hk_model.specs.Streams.{all_together}
 use Rattle.hk_model.specs.Fragments.{FragmentValue}
 use Rattle.hk_model.specs.Lawful.{IsItem}
-use Rattle.hk_model.specs.Rules.{disagree, gathered}
+use Rattle.hk_model.specs.Rules.{contents_conflict, gather_result}
 use Rattle.hk_delta.specs.Parts.{Known}
 
 -- a fragment as gathering makes it
@@ -36,13 +36,13 @@ union_of f g =
 
 -- the fragment became the union, or nothing changed: some version has different rows or ends in the two, or memory ran out
 abbrev pub Unites : FragmentValue → FragmentValue → FragmentValue → Result (Unit {0}) Refusal → Type 0
-Unites old new other (Ok done) = (disagree old.content other.content ≡ false) × (new ≡ union_of old other)
+Unites old new other (Ok done) = (contents_conflict old.content other.content ≡ false) × (new ≡ union_of old other)
 Unites old new other (Err why) =
-    (new ≡ old) × (((disagree old.content other.content ≡ true) × (why ≡ Conflict)) ⊎ ((disagree old.content other.content ≡ false) × (why ≡ Memory)))
+    (new ≡ old) × (((contents_conflict old.content other.content ≡ true) × (why ≡ Conflict)) ⊎ ((contents_conflict old.content other.content ≡ false) × (why ≡ Memory)))
 
 -- the fragment is what these items are gathered to
 abbrev pub IsGathered : ConfigValue → List Item → FragmentValue → Type 0
-IsGathered config items f = (gathered config items ≡ Ok f) × All IsItem items
+IsGathered config items f = (gather_result config items ≡ Ok f) × All IsItem items
 
 -- what two lists of items are gathered to becomes what the one list after the other is gathered to
 abbrev pub UnitesGathered : FragmentValue → FragmentValue → FragmentValue → Result (Unit {0}) Refusal → Type 0

@@ -4,7 +4,7 @@ ghost use Rattle.std.specs.Prelude.{◌≡◌, ◌⊎◌, ◌≤◌, ◌++◌, m
 ghost use Rattle.hk_types.specs.declared.faults.Refusal.TheVariants.{Memory, TooOld as Old};
 ghost use Rattle.hk_model.specs.Fragments.{cut};
 ghost use Rattle.hk_state.specs.Facts.{entry_if};
-ghost use Rattle.hk_state.specs.Versions.{lent};
+ghost use Rattle.hk_state.specs.Versions.{borrowed};
 ghost use Rattle.hk_delta.specs.Cuts as spec;
 ghost use Rattle.hk_delta.specs.Cuts.{Cuts, CutsOf, left_above, all_left};
 
@@ -62,7 +62,7 @@ pub(crate) fn left_of(
     base: Time,
     versions: &[(VersionKey, &Version)],
 ) -> Result<Vec<(VersionKey, Version)>, AllocError>
-    ensures { IfOk result (λ facts. facts.items ≡ all_left base (map lent versions.now)) }
+    ensures { IfOk result (λ facts. facts.items ≡ all_left base (map borrowed versions.now)) }
 {
     let mut facts = Vec::new(alloc);
     for (version, known) in versions {
@@ -89,7 +89,7 @@ fn fragment_from(alloc: Global, state: &ReplicaState, base: Time) -> Result<Frag
 pub fn whole_of(alloc: Global, state: &ReplicaState) -> Result<Fragment, Refusal>
     ensures ok { IfOk result (λ fragment. fragment ≡ cut state.now 0) }
     ensures err { IfErr result (λ why. why ≡ Memory) }
-    ensures stands { CutsOf state.now 0 result }
+    ensures represents { CutsOf state.now 0 result }
 {
     fragment_from(alloc, state, Time::zero())
 }
@@ -101,7 +101,7 @@ pub fn whole_of(alloc: Global, state: &ReplicaState) -> Result<Fragment, Refusal
 /// refused. Costs by the versions that are held, each of which is looked at, and by what is copied.
 pub fn delta_since(alloc: Global, state: &ReplicaState, base: Time) -> Result<Fragment, Refusal>
     ensures gives { Cuts state.now base result }
-    ensures stands { CutsOf state.now base result }
+    ensures represents { CutsOf state.now base result }
 {
     since(alloc, state, base)
 }

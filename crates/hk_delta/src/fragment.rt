@@ -57,8 +57,8 @@ fn follows(before: Option<VersionKey>, version: VersionKey) -> bool
 }
 
 /// Whether an end may stand.
-fn end_stands(base: Time, horizon: Time, born: Time, died: Option<Time>) -> bool
-    ensures { result ≡ spec.end_stands base horizon born died }
+fn is_valid_end(base: Time, horizon: Time, born: Time, died: Option<Time>) -> bool
+    ensures { result ≡ spec.is_valid_end base horizon born died }
 {
     match died {
         None => true,
@@ -68,13 +68,13 @@ fn end_stands(base: Time, horizon: Time, born: Time, died: Option<Time>) -> bool
 
 /// Whether what is known of a version may stand in a fragment with this base and this horizon.
 fn stands(base: Time, horizon: Time, version: VersionKey, known: &Version) -> bool
-    ensures { result ≡ spec.stands base horizon (version, known.now) }
+    ensures { result ≡ spec.is_valid_fact base horizon (version, known.now) }
 {
     let born = version.born;
     if known.row().is_some() && base >= born {
         return false;
     }
-    born.number() > 0 && end_stands(base, horizon, born, known.died())
+    born.number() > 0 && is_valid_end(base, horizon, born, known.died())
 }
 
 /// The first fault of the facts.

@@ -2,13 +2,13 @@
 
 ghost use Rattle.std.specs.Prelude.{◌≡◌, ◌⊎◌, ◌∷◌, [], length, All, None, IfOk, IfErr, OnOk, true, false};
 ghost use Rattle.std.specs.List.{flat_map};
-ghost use Rattle.hk_types.specs.declared.faults.Refusal.TheVariants.{Conflict as Contradiction, Memory};
+ghost use Rattle.hk_types.specs.declared.faults.Refusal.TheVariants.{Conflict as ConflictRefusal, Memory};
 ghost use Rattle.hk_model.specs.Items as items_spec;
 ghost use Rattle.hk_model.specs.Fragments.{part};
 ghost use Rattle.hk_model.specs.Lawful.{IsItem};
 ghost use Rattle.hk_model.specs.Rules as rules;
 ghost use Rattle.hk_model.specs.Streams.{all_together, streams_of};
-ghost use Rattle.hk_delta.specs.Gathers.{are_at_odds, Gathers, GathersOf, Puts, row_said, end_said, said};
+ghost use Rattle.hk_delta.specs.Gathers.{have_conflict, Gathers, GathersOf, Puts, row_fact, end_fact, item_facts};
 
 use crate::Fragment;
 use crate::conflicts::conflict;
@@ -21,8 +21,8 @@ use hk_types::{Config, Key, Refusal, Row, Table, Time, VersionKey};
 use std::alloc::Global;
 
 /// Why an item is none of the configuration's log, if it is none.
-fn misfit(config: Config, item: &Item) -> Option<Refusal>
-    ensures { result ≡ items_spec.misfit config.log config.streams item.now }
+fn wrong_log(config: Config, item: &Item) -> Option<Refusal>
+    ensures { result ≡ items_spec.wrong_log config.log config.streams item.now }
 {
     let (log, stream) = match item {
         Item::Commit(entry) => (entry.log(), entry.stream()),
@@ -38,11 +38,11 @@ fn misfit(config: Config, item: &Item) -> Option<Refusal>
 }
 
 /// Why the first of the items that is none of the log is none.
-fn first_misfit(config: Config, items: &[Item]) -> Option<Refusal>
-    ensures { result ≡ rules.first_misfit config items.now }
+fn first_wrong_log(config: Config, items: &[Item]) -> Option<Refusal>
+    ensures { result ≡ rules.first_wrong_log config items.now }
 {
     for item in items {
-        if let Some(why) = misfit(config, item) {
+        if let Some(why) = wrong_log(config, item) {
             return Some(why);
         }
     }
@@ -56,7 +56,7 @@ fn put_rows(
     rows: &[(Table, Key, Row)],
     time: Time,
 ) -> Result<(), Refusal>
-    ensures { Puts facts.old facts.new (flat_map (row_said time) rows.now) result }
+    ensures { Puts facts.old facts.new (flat_map (row_fact time) rows.now) result }
 {
     for (table, key, row) in rows {
         let version = VersionKey {
@@ -74,7 +74,7 @@ fn put_rows(
 
 /// Puts the ends of an entry of a time.
 fn put_ends(facts: &mut Facts, ends: &[VersionKey], time: Time) -> Result<(), Refusal>
-    ensures { Puts facts.old facts.new (flat_map (end_said time) ends.now) result }
+    ensures { Puts facts.old facts.new (flat_map (end_fact time) ends.now) result }
 {
     for version in ends {
         if let Err(why) = facts.put(version, Fact::End(time)) {
@@ -86,7 +86,7 @@ fn put_ends(facts: &mut Facts, ends: &[VersionKey], time: Time) -> Result<(), Re
 
 /// Puts all that an item says of versions.
 fn put_item(alloc: Global, facts: &mut Facts, item: &Item) -> Result<(), Refusal>
-    ensures puts { Puts facts.old facts.new (said item.now) result }
+    ensures puts { Puts facts.old facts.new (item_facts item.now) result }
     ensures lawful { IsItem item.now }
 {
     match item {
@@ -105,7 +105,7 @@ fn put_item(alloc: Global, facts: &mut Facts, item: &Item) -> Result<(), Refusal
 
 /// Puts all that items say of versions.
 fn put_items(alloc: Global, facts: &mut Facts, items: &[Item]) -> Result<(), Refusal>
-    ensures puts { Puts facts.old facts.new (flat_map said items.now) result }
+    ensures puts { Puts facts.old facts.new (flat_map item_facts items.now) result }
     ensures lawful { OnOk result (All IsItem items.now) }
 {
     for item in items {
@@ -119,7 +119,7 @@ fn put_items(alloc: Global, facts: &mut Facts, items: &[Item]) -> Result<(), Ref
 /// Notes the number of an entry, or a mark.
 fn note_item(got: &mut Got, config: Config, item: &Item) -> Result<(), Refusal>
     requires many { length got.old ≡ config.streams }
-    requires fits { items_spec.misfit config.log config.streams item.now ≡ None }
+    requires fits { items_spec.wrong_log config.log config.streams item.now ≡ None }
     ensures ok { OnOk result (got.new ≡ all_together got.old (streams_of (length got.old) (item.now ∷ []))) }
     ensures err { IfErr result (λ why. why ≡ Memory) }
 {
@@ -131,7 +131,7 @@ fn note_item(got: &mut Got, config: Config, item: &Item) -> Result<(), Refusal>
 
 /// What items tell of the streams.
 fn note_items(alloc: Global, config: Config, items: &[Item]) -> Result<Got, Refusal>
-    requires { rules.first_misfit config items.now ≡ None }
+    requires { rules.first_wrong_log config items.now ≡ None }
     ensures ok { IfOk result (λ got. got ≡ streams_of config.streams items.now) }
     ensures err { IfErr result (λ why. why ≡ Memory) }
 {
@@ -142,14 +142,14 @@ fn note_items(alloc: Global, config: Config, items: &[Item]) -> Result<Got, Refu
     Ok(got)
 }
 
-/// The fragment of items of the log. It is refused `Conflict` only where two of them contradict each other, and
+/// The fragment of items of the log. It is refused `Conflict` only where two of them conflict with each other, and
 /// else `Memory`.
 fn gather(alloc: Global, config: Config, items: &[Item]) -> Result<Fragment, Refusal>
-    requires { rules.first_misfit config items.now ≡ None }
+    requires { rules.first_wrong_log config items.now ≡ None }
     ensures ok { IfOk result (λ fragment. fragment ≡ part config items.now 0 0) }
-    ensures agree { OnOk result (are_at_odds items.now ≡ false) }
+    ensures agree { OnOk result (have_conflict items.now ≡ false) }
     ensures lawful { OnOk result (All IsItem items.now) }
-    ensures err { IfErr result (λ why. (why ≡ Memory) ⊎ ((why ≡ Contradiction) × (are_at_odds items.now ≡ true))) }
+    ensures err { IfErr result (λ why. (why ≡ Memory) ⊎ ((why ≡ ConflictRefusal) × (have_conflict items.now ≡ true))) }
 {
     let mut facts = Facts::new(alloc);
     if let Err(why) = put_items(alloc, &mut facts, items) {
@@ -171,7 +171,7 @@ fn gather(alloc: Global, config: Config, items: &[Item]) -> Result<Fragment, Ref
 /// memory, and costs by the square of what they say.
 pub fn fragment_of(alloc: Global, config: Config, items: &[Item]) -> Result<Fragment, Refusal>
     ensures gives { Gathers config items.now result }
-    ensures stands { GathersOf config items.now result }
+    ensures represents { GathersOf config items.now result }
 
     // The items of a fragment are such as their constructors let be.
     ensures lawful { OnOk result (All IsItem items.now) }
@@ -183,7 +183,7 @@ fn gathered(alloc: Global, config: Config, items: &[Item]) -> Result<Fragment, R
     ensures gives { Gathers config items.now result }
     ensures lawful { OnOk result (All IsItem items.now) }
 {
-    if let Some(why) = first_misfit(config, items) {
+    if let Some(why) = first_wrong_log(config, items) {
         return Err(why);
     }
     match gather(alloc, config, items) {
@@ -192,10 +192,10 @@ fn gathered(alloc: Global, config: Config, items: &[Item]) -> Result<Fragment, R
     }
 }
 
-/// A conflict is refused before want of memory.
+/// A conflict is refused before out of memory.
 fn refusal_of(why: Refusal, items: &[Item]) -> Refusal
-    ensures conflict { are_at_odds items.now ≡ true → result ≡ Contradiction }
-    ensures other { are_at_odds items.now ≡ false → result ≡ why }
+    ensures conflict { have_conflict items.now ≡ true → result ≡ ConflictRefusal }
+    ensures other { have_conflict items.now ≡ false → result ≡ why }
 {
     if conflict(items) {
         Refusal::Conflict

@@ -3,44 +3,44 @@
 ghost use Rattle.std.specs.Prelude.{◌≡◌, ◌++◌, ◌∷◌, [], map, IfOk, OnOk};
 ghost use Rattle.std.specs.List.{list_any};
 ghost use Rattle.hk_state.specs.Reads.{facts_of_content};
-ghost use Rattle.hk_state.specs.Versions.{differs_at, lent};
+ghost use Rattle.hk_state.specs.Versions.{value_conflicts_at, borrowed};
 ghost use Rattle.hk_merge.specs.Calls.{Joins};
 ghost use Rattle.hk_delta.specs.Joins.{JoinsOf};
 
 use crate::Fragment;
 use hk_log::Version;
-use hk_merge::{Sent, join_agreed, misfit};
+use hk_merge::{MergeInput, join_agreed, wrong_log};
 use hk_state::ReplicaState;
 use hk_types::{Refusal, VersionKey};
 use std::alloc::{AllocError, Global};
 
 /// Whether a state has another row, or another end, of one of these versions. It takes no memory.
-fn differs(taker: &ReplicaState, facts: &[(VersionKey, Version)]) -> bool
-    ensures { result ≡ list_any (λ e. differs_at (facts_of_content taker.now) e.0 e.1) facts.now }
+fn has_conflict_with(target: &ReplicaState, facts: &[(VersionKey, Version)]) -> bool
+    ensures { result ≡ list_any (λ e. value_conflicts_at (facts_of_content target.now) e.0 e.1) facts.now }
 {
-    facts.iter().any(|(version, known)| taker.facts().differs_at(version, known))
+    facts.iter().any(|(version, known)| target.facts().value_conflicts_at(version, known))
 }
 
-/// These versions, lent.
+/// These versions, borrowed.
 fn lend(
     alloc: Global,
     facts: &[(VersionKey, Version)],
 ) -> Result<Vec<(VersionKey, &Version)>, AllocError>
-    ensures { IfOk result (λ versions. map lent versions.items ≡ facts.now) }
+    ensures { IfOk result (λ versions. map borrowed versions.items ≡ facts.now) }
 {
     let mut versions = Vec::with_capacity(alloc, facts.len())?;
     for (version, known) in facts {
-        push_lent(&mut versions, *version, known)?;
+        push_borrowed(&mut versions, *version, known)?;
     }
     Ok(versions)
 }
 
-fn push_lent<'a>(
+fn push_borrowed<'a>(
     found: &mut Vec<(VersionKey, &'a Version)>,
     version: VersionKey,
     known: &'a Version,
 ) -> Result<(), AllocError>
-    ensures { OnOk result (map lent found.new.items ≡ map lent found.old.items ++ (version, known.now) ∷ []) }
+    ensures { OnOk result (map borrowed found.new.items ≡ map borrowed found.old.items ++ (version, known.now) ∷ []) }
 {
     match found.push((version, known)) {
         Ok(()) => Ok(()),
@@ -58,35 +58,35 @@ fn push_lent<'a>(
 /// The cost grows as the number of versions of the fragment times the logarithm of what the state holds, and as the
 /// numbers and marks of both that wait for others; and where the horizon rises, since something of the state's own
 /// may have to go, as that of its versions times its logarithm.
-pub fn join(taker: &mut ReplicaState, fragment: &Fragment) -> Result<(), Refusal>
-    ensures gives { Joins taker.old taker.new fragment.now result }
-    ensures stands { JoinsOf taker.old taker.new fragment.now result }
+pub fn join(target: &mut ReplicaState, fragment: &Fragment) -> Result<(), Refusal>
+    ensures gives { Joins target.old target.new fragment.now result }
+    ensures represents { JoinsOf target.old target.new fragment.now result }
 {
-    join_fragment(taker, fragment)
+    join_fragment(target, fragment)
 }
 
-fn join_fragment(taker: &mut ReplicaState, fragment: &Fragment) -> Result<(), Refusal>
-    ensures { Joins taker.old taker.new fragment.now result }
+fn join_fragment(target: &mut ReplicaState, fragment: &Fragment) -> Result<(), Refusal>
+    ensures { Joins target.old target.new fragment.now result }
 {
     let config = fragment.config();
-    if let Some(why) = misfit(taker, config) {
+    if let Some(why) = wrong_log(target, config) {
         return Err(why);
     }
     let base = fragment.base();
-    let readable = taker.readable();
+    let readable = target.readable();
     if readable < base {
         return Err(Refusal::Gap { base, readable });
     }
-    if differs(taker, fragment.facts()) {
+    if has_conflict_with(target, fragment.facts()) {
         return Err(Refusal::Conflict);
     }
-    let versions = lend(taker.allocator(), fragment.facts())?;
-    let sent = Sent {
+    let versions = lend(target.allocator(), fragment.facts())?;
+    let sent = MergeInput {
         config,
         base,
         horizon: fragment.horizon(),
         got: fragment.got(),
         facts: &versions,
     };
-    join_agreed(taker, &sent)
+    join_agreed(target, &sent)
 }

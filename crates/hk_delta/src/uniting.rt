@@ -4,8 +4,8 @@ ghost use Rattle.std.specs.Prelude.{◌≡◌, ◌==◌, length};
 ghost use Rattle.std.specs.List.{list_any};
 ghost use Rattle.std.specs.Option.{option_copied};
 ghost use Rattle.hk_types.specs.Values.{same_row};
-ghost use Rattle.hk_model.specs.Maps.{differ};
-ghost use Rattle.hk_model.specs.Rules.{disagree};
+ghost use Rattle.hk_model.specs.Maps.{values_conflict};
+ghost use Rattle.hk_model.specs.Rules.{contents_conflict};
 ghost use Rattle.hk_state.specs.Reads.{facts_of_content};
 ghost use Rattle.hk_state.specs.Versions as versions_spec;
 ghost use Rattle.hk_delta.specs.Unions.{IsFromZero, Unites, UnitesGathered};
@@ -16,7 +16,7 @@ use hk_types::{Refusal, Row, Time, VersionKey};
 
 /// Whether there are two rows, and they differ.
 fn differ_in_row(own: Option<&Row>, coming: Option<&Row>) -> bool
-    ensures { result ≡ differ same_row (option_copied own.entry) (option_copied coming.entry) }
+    ensures { result ≡ values_conflict same_row (option_copied own.entry) (option_copied coming.entry) }
 {
     match (own, coming) {
         (Some(row), Some(other)) => row != other,
@@ -26,7 +26,7 @@ fn differ_in_row(own: Option<&Row>, coming: Option<&Row>) -> bool
 
 /// Whether there are two ends, and they differ.
 fn differ_in_end(own: Option<Time>, coming: Option<Time>) -> bool
-    ensures { result ≡ differ (λ a b. a == b) own coming }
+    ensures { result ≡ values_conflict (λ a b. a == b) own coming }
 {
     match (own, coming) {
         (Some(died), Some(other)) => died != other,
@@ -35,8 +35,8 @@ fn differ_in_end(own: Option<Time>, coming: Option<Time>) -> bool
 }
 
 /// Whether a fragment has another row, or another end, of a version than this.
-fn differs_at(own: &Fragment, version: VersionKey, known: &Version) -> bool
-    ensures { result ≡ versions_spec.differs_at (facts_of_content own.now.content) version known.now }
+fn value_conflicts_at(own: &Fragment, version: VersionKey, known: &Version) -> bool
+    ensures { result ≡ versions_spec.value_conflicts_at (facts_of_content own.now.content) version known.now }
 {
     match own.version(version) {
         Some(stood) => {
@@ -47,19 +47,19 @@ fn differs_at(own: &Fragment, version: VersionKey, known: &Version) -> bool
 }
 
 /// Whether a fragment has another row, or another end, of one of these versions.
-fn differs_on(own: &Fragment, facts: &[(VersionKey, Version)]) -> bool
-    ensures { result ≡ list_any (λ e. versions_spec.differs_at (facts_of_content own.now.content) e.0 e.1) facts.now }
+fn conflicts_on(own: &Fragment, facts: &[(VersionKey, Version)]) -> bool
+    ensures { result ≡ list_any (λ e. versions_spec.value_conflicts_at (facts_of_content own.now.content) e.0 e.1) facts.now }
 {
     facts
         .iter()
-        .any(|(version, known)| differs_at(own, *version, known))
+        .any(|(version, known)| value_conflicts_at(own, *version, known))
 }
 
 /// Whether some version has different rows, or different ends, in two fragments. It takes no memory.
 fn has_conflict(own: &Fragment, other: &Fragment) -> bool
-    ensures { result ≡ disagree own.now.content other.now.content }
+    ensures { result ≡ contents_conflict own.now.content other.now.content }
 {
-    differs_on(own, other.facts())
+    conflicts_on(own, other.facts())
 }
 
 /// Adds what another fragment of the same log says, where both have base 0 and horizon 0, as `fragment_of` makes

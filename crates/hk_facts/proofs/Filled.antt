@@ -10,7 +10,7 @@ use Rattle.std.specs.FinMap as finmap
 use Rattle.hk_types.specs.declared.faults.Refusal.{Refusal}
 use Rattle.hk_types.specs.declared.faults.Refusal.TheVariants.{Memory}
 use Rattle.hk_facts.specs.Chains.{set_at, alter, put_at, put_by}
-use Rattle.hk_facts.specs.Keyed.{or_empty, if_filled, AllFilled}
+use Rattle.hk_facts.specs.TableChains.{or_empty, if_filled, AllFilled}
 use Rattle.hk_facts.proofs.Trees.{seen, found_seen, seen_set, get-set_at, set_at_same, tied_self, is_there, alter_there, alter_gone, alter_absent, put_refused, IfErr_map}
 
 module _ {X : Type 0} where

@@ -24,15 +24,15 @@ pub record IsChainOf (c : Content) (k : RowKey) (chain : ChainValue) : Type 0 wh
   pub ends : (born : ℕ) → died_of (finmap.get chain born) ≡ finmap.get c.ends (version_of k born)
 
 -- a version with a row stands in the chain
-record Stands (chain : ChainValue) (born : ℕ) (r : RowValue) : Type 0 where
+record Represents (chain : ChainValue) (born : ℕ) (r : RowValue) : Type 0 where
   version : VersionValue
   here : finmap.get chain born ≡ Some version
   row : version.row ≡ Some r
 
-stands : (chain : ChainValue) (born : ℕ) (r : RowValue) → row_of (finmap.get chain born) ≡ Some r → Stands chain born r
-stands chain born r e = by (finmap.get chain born) refl e
+represents : (chain : ChainValue) (born : ℕ) (r : RowValue) → row_of (finmap.get chain born) ≡ Some r → Represents chain born r
+represents chain born r e = by (finmap.get chain born) refl e
   where
-    by : (x : Option VersionValue) → finmap.get chain born ≡ x → row_of x ≡ Some r → Stands chain born r
+    by : (x : Option VersionValue) → finmap.get chain born ≡ x → row_of x ≡ Some r → Represents chain born r
     by None h f = absurd cc
     by (Some v) h f = record { version = v; here = h; row = f }
 
@@ -78,7 +78,7 @@ module _ (c : Content) (k : RowKey) (chain : ChainValue) (is : IsChainOf c k cha
       let d = and_parts (k.table == x.0.0.table) (k.key == x.0.0.key) b.0 in
       let same : version_of k x.0.0.born ≡ x.0.0 = λ i. record { table = eqb-true k.table x.0.0.table d.0 i; key = eqb-true k.key x.0.0.key d.1 i; born = x.0.0.born } in
       let later = ltb-true e.0 x.0.0.born b.1 in
-      let s = stands chain x.0.0.born x.0.1 (is.rows x.0.0.born ∙ ap (finmap.get c.rows) same ∙ got) in
+      let s = represents chain x.0.0.born x.0.1 (is.rows x.0.0.born ∙ ap (finmap.get c.rows) same ∙ got) in
       let bound = n.3 x.0.0.born s.version s.here a.1 (there s.version.row x.0.1 s.row) in
       omega arith) in
       (row.0, row.1, here, shows_from c t (version_of k e.0) (record { born = leb-true e.0 t n.1; latest = alone; unended = unended }))
@@ -87,11 +87,11 @@ module _ (c : Content) (k : RowKey) (chain : ChainValue) (is : IsChainOf c k cha
   pub shows_latest : (born : ℕ) (r : RowValue) → finmap.get c.rows (version_of k born) ≡ Some r → shows c t (version_of k born) ≡ true → (v : VersionValue) × (latest_at chain t ≡ Some (born, v)) × (v.row ≡ Some r) × (at_most t v.died ≡ false)
   shows_latest born r here shown =
       let p = shows_parts c t (version_of k born) shown in
-      let s = stands chain born r (is.rows born ∙ here) in
+      let s = represents chain born r (is.rows born ∙ here) in
       let by_t : leb born t ≡ true = le-leb born t p.born in
       by s p by_t (latest_at chain t) refl
     where
-      by : Stands chain born r → Shows c t (version_of k born) → leb born t ≡ true → (o : Option (ℕ × VersionValue)) → latest_at chain t ≡ o → (v : VersionValue) × (latest_at chain t ≡ Some (born, v)) × (v.row ≡ Some r) × (at_most t v.died ≡ false)
+      by : Represents chain born r → Shows c t (version_of k born) → leb born t ≡ true → (o : Option (ℕ × VersionValue)) → latest_at chain t ≡ o → (v : VersionValue) × (latest_at chain t ≡ Some (born, v)) × (v.row ≡ Some r) × (at_most t v.died ≡ false)
       by s p by_t None e = absurd (no_newest chain t e born s.version s.here by_t (there s.version.row r s.row))
       by s p by_t (Some e) latest =
           let n = newest chain t e latest in

@@ -42,10 +42,10 @@ pub IfErr_map : {A E : Type 0} {P Q : E → Type 0} (r : Result A E) → ((e : E
 IfErr_map (Ok a) f p = p
 IfErr_map (Err e) f p = f e p
 
--- want of memory, where nothing stood
-pub want_of_memory : {A N : Type 0} (P : Refusal → Type 0) (r : Result A Refusal) → IsErrAnd r (λ e. e ≡ Memory) → N → IfErr r (λ why. P why ⊎ ((why ≡ Memory) × N))
-want_of_memory P (Ok a) e n = tt
-want_of_memory P (Err why) e n = inr (e, n)
+-- out of memory, where nothing stood
+pub out_of_memory : {A N : Type 0} (P : Refusal → Type 0) (r : Result A Refusal) → IsErrAnd r (λ e. e ≡ Memory) → N → IfErr r (λ why. P why ⊎ ((why ≡ Memory) × N))
+out_of_memory P (Ok a) e n = tt
+out_of_memory P (Err why) e n = inr (e, n)
 
 pub is_there : {X : Type 0} (x : Option X) (v : X) → Some v ≡ x → IsSome x
 is_there x v e = subst IsSome e refl

@@ -9,7 +9,7 @@ use Rattle.hk_model.specs.Maps.{or_else}
 use Rattle.hk_model.specs.Content.{at_most}
 use Rattle.hk_facts.specs.declared.fact.Fact.{Fact}
 use Rattle.hk_facts.specs.declared.fact.Part.{Part}
-use Rattle.hk_facts.specs.Facts.{joined, without, died_of}
+use Rattle.hk_facts.specs.Facts.{put_result, without, died_of}
 
 -- the value of a `Chain`
 abbrev pub ChainValue : Type 0
@@ -36,7 +36,7 @@ module _ {X : Type 0} where
 
 -- the chain with a fact on the version that was born then
 abbrev pub chain_put : ChainValue → ℕ → Fact → Result ChainValue Refusal
-chain_put c born fact = put_by (joined fact) c born
+chain_put c born fact = put_by (put_result fact) c born
 
 -- the chain without a part of the version that was born then
 abbrev pub chain_forget : ChainValue → ℕ → Part → ChainValue

@@ -4,7 +4,7 @@ use Rattle.hk_types.specs.Values.{RowValue, same_row}
 use Rattle.hk_types.specs.declared.faults.Refusal.{Refusal}
 use Rattle.hk_types.specs.declared.faults.Refusal.TheVariants.{Conflict}
 use Rattle.hk_log.specs.Versions.{VersionValue, is_known}
-use Rattle.hk_model.specs.Maps.{differ, or_else}
+use Rattle.hk_model.specs.Maps.{values_conflict, or_else}
 use Rattle.hk_facts.specs.declared.fact.Fact.{Fact}
 use Rattle.hk_facts.specs.declared.fact.Fact.TheVariants.{Row, End}
 use Rattle.hk_facts.specs.declared.fact.Part.{Part}
@@ -21,18 +21,18 @@ died_of None = None
 died_of (Some v) = v.died
 
 -- whether the version has another row, or another end, than the fact says
-abbrev pub clashes : Fact → Option VersionValue → Bool
-clashes (Row row) v = differ same_row (row_of v) (Some row)
-clashes (End died) v = differ (λ a b. a == b) (died_of v) (Some died)
+abbrev pub fact_conflicts : Fact → Option VersionValue → Bool
+fact_conflicts (Row row) v = values_conflict same_row (row_of v) (Some row)
+fact_conflicts (End died) v = values_conflict (λ a b. a == b) (died_of v) (Some died)
 
 -- the version with the fact
 abbrev pub with_fact : Fact → Option VersionValue → VersionValue
 with_fact (Row row) v = record { row = or_else (row_of v) (Some row); died = died_of v }
 with_fact (End died) v = record { row = row_of v; died = or_else (died_of v) (Some died) }
 
--- the version with the fact, unless they clash
-abbrev pub joined : Fact → Option VersionValue → Result VersionValue Refusal
-joined fact v = if clashes fact v then Err Conflict else Ok (with_fact fact v)
+-- the version with the fact, unless they conflict
+abbrev pub put_result : Fact → Option VersionValue → Result VersionValue Refusal
+put_result fact v = if fact_conflicts fact v then Err Conflict else Ok (with_fact fact v)
 
 -- a version of which anything is known
 abbrev pub if_known : VersionValue → Option VersionValue

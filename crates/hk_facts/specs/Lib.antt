@@ -1,3 +1,3 @@
 pub mod Facts
 pub mod Chains
-pub mod Keyed
+pub mod TableChains

@@ -48,7 +48,7 @@ impl Chain {
         }
     }
 
-    /// A chain of one version, of which one fact is known. The only error is want of memory.
+    /// A chain of one version, of which one fact is known. The only error is out of memory.
     pub fn of_fact(alloc: Global, born: Time, fact: Fact) -> Result<Chain, AllocError>
         ensures { IfOk result (λ chain. chain_put finmap.empty born fact ≡ Ok chain) }
     {
@@ -58,7 +58,7 @@ impl Chain {
     }
 
     /// Adds a fact on the version that was born then. One that is known already changes nothing, and one
-    /// that differs from what is known is a contradiction. Want of memory comes only where nothing is
+    /// that differs from what is known is a conflict. Out of memory comes only where nothing is
     /// known of the version. A refusal changes nothing. The cost grows as the logarithm of the length.
     pub fn put(&mut self, born: Time, fact: Fact) -> Result<(), Refusal>
         ensures ok { OnOk result (chain_put self.old born fact ≡ Ok self.new) }
@@ -173,7 +173,7 @@ impl Chain {
         self.versions.iter()
     }
 
-    /// The same chain again. The only error is want of memory. The cost grows a little faster than the
+    /// The same chain again. The only error is out of memory. The cost grows a little faster than the
     /// length.
     pub fn copy(&self, alloc: Global) -> Result<Chain, AllocError>
         ensures { IfOk result (λ chain. chain ≡ self.now) }

@@ -3,7 +3,7 @@
 ghost use Rattle.std.specs.Prelude.{◌≡◌, Some, None, Ok, Err, OnOk, OnErr, IfErr};
 ghost use Rattle.std.specs.Bool.{OnTrue, OnFalse};
 ghost use Rattle.hk_facts.specs.declared.fact.Fact.TheVariants.{Row as KnownRow, End as KnownEnd};
-ghost use Rattle.hk_facts.specs.Facts.{joined, without};
+ghost use Rattle.hk_facts.specs.Facts.{put_result, without};
 
 use hk_log::Version;
 use hk_types::{Refusal, Row, Time};
@@ -25,7 +25,7 @@ pub enum Part {
 
 /// The version of which this fact alone is known.
 pub(crate) fn version_of(fact: Fact) -> Version
-    ensures { joined fact None ≡ Ok result }
+    ensures { put_result fact None ≡ Ok result }
 {
     match fact {
         Fact::Row(row) => Version::of_row(row),
@@ -35,8 +35,8 @@ pub(crate) fn version_of(fact: Fact) -> Version
 
 /// Adds a fact to a version, unless the version has another row or another end there.
 pub(crate) fn join(version: &mut Version, fact: Fact) -> Result<(), Refusal>
-    ensures ok { OnOk result (joined fact (Some version.old) ≡ Ok version.new) }
-    ensures err { IfErr result (λ why. joined fact (Some version.old) ≡ Err why) }
+    ensures ok { OnOk result (put_result fact (Some version.old) ≡ Ok version.new) }
+    ensures err { IfErr result (λ why. put_result fact (Some version.old) ≡ Err why) }
     ensures kept { OnErr result (version.new ≡ version.old) }
 {
     match fact {
@@ -46,8 +46,8 @@ pub(crate) fn join(version: &mut Version, fact: Fact) -> Result<(), Refusal>
 }
 
 fn join_row(version: &mut Version, row: Row) -> Result<(), Refusal>
-    ensures ok { OnOk result (joined (KnownRow row) (Some version.old) ≡ Ok version.new) }
-    ensures err { IfErr result (λ why. joined (KnownRow row) (Some version.old) ≡ Err why) }
+    ensures ok { OnOk result (put_result (KnownRow row) (Some version.old) ≡ Ok version.new) }
+    ensures err { IfErr result (λ why. put_result (KnownRow row) (Some version.old) ≡ Err why) }
     ensures kept { OnErr result (version.new ≡ version.old) }
 {
     if let Some(there) = version.row() {
@@ -61,8 +61,8 @@ fn join_row(version: &mut Version, row: Row) -> Result<(), Refusal>
 }
 
 fn join_end(version: &mut Version, died: Time) -> Result<(), Refusal>
-    ensures ok { OnOk result (joined (KnownEnd died) (Some version.old) ≡ Ok version.new) }
-    ensures err { IfErr result (λ why. joined (KnownEnd died) (Some version.old) ≡ Err why) }
+    ensures ok { OnOk result (put_result (KnownEnd died) (Some version.old) ≡ Ok version.new) }
+    ensures err { IfErr result (λ why. put_result (KnownEnd died) (Some version.old) ≡ Err why) }
     ensures kept { OnErr result (version.new ≡ version.old) }
 {
     if let Some(there) = version.died() {

@@ -3,8 +3,8 @@
 
 mod chain;
 mod fact;
-mod keyed;
+mod table_chains;
 
 pub use chain::Chain;
 pub use fact::{Fact, Part};
-pub use keyed::Keyed;
+pub use table_chains::TableChains;

@@ -9,7 +9,7 @@ use Rattle.std.specs.FinSet as set
 use Rattle.hk_types.specs.declared.version_key.VersionKey.{VersionKey}
 use Rattle.hk_model.specs.Codes.{version_key_code}
 use Rattle.hk_model.specs.Rows.{version_key_cmp}
-use Rattle.hk_index.specs.declared.label.Label.{Label}
+use Rattle.hk_index.specs.declared.tag_key.TagKey.{TagKey}
 
 -- a version whose row has a tag
 pub record TaggedVersion : Type 0 where
@@ -27,19 +27,19 @@ tagged_code = code_by (ℕ × VersionKey) (coded× coded_ℕ version_key_code) (
 abbrev pub with_tag : set.FinSet tagged_cmp → ℕ → ℕ → set.FinSet version_key_cmp
 with_tag index table tag = set.from_list (map (λ t. t.version) (set.items (set.retain index (λ t. (t.tag == tag) && (t.version.table == table)))))
 
--- whether two labels are the same
-abbrev pub label_eq : Label → Label → Bool
-label_eq a b = (a.table == b.table) && (a.tag == b.tag)
+-- whether two tag keys are the same
+abbrev pub tag_key_eq : TagKey → TagKey → Bool
+tag_key_eq a b = (a.table == b.table) && (a.tag == b.tag)
 
--- the tagged versions that are stored by label
-abbrev pub all_tagged : List (Label × set.FinSet version_key_cmp) → List TaggedVersion
+-- the tagged versions that are stored by tag key
+abbrev pub all_tagged : List (TagKey × set.FinSet version_key_cmp) → List TaggedVersion
 all_tagged [] = []
 all_tagged (e ∷ es) = map (λ v. record { tag = e.0.tag; version = v }) (set.items e.1) ++ all_tagged es
 
-unfoldable pub tagged_seen : List (Label × set.FinSet version_key_cmp) → set.FinSet tagged_cmp
+unfoldable pub tagged_seen : List (TagKey × set.FinSet version_key_cmp) → set.FinSet tagged_cmp
 tagged_seen es = set.from_list (all_tagged es)
 
--- each label stands once, with versions of its table
-pub record AreLabelled (es : List (Label × set.FinSet version_key_cmp)) : Type 0 where
-  pub unique : IsDistinct label_eq (keys_of es)
-  pub tables : (k : Label) (versions : set.FinSet version_key_cmp) → lookup (label_eq k) es ≡ Some versions → (v : VersionKey) → set.contains versions v ≡ true → v.table ≡ k.table
+-- each tag key stands once, with versions of its table
+pub record AreTagKeyed (es : List (TagKey × set.FinSet version_key_cmp)) : Type 0 where
+  pub unique : IsDistinct tag_key_eq (keys_of es)
+  pub tables : (k : TagKey) (versions : set.FinSet version_key_cmp) → lookup (tag_key_eq k) es ≡ Some versions → (v : VersionKey) → set.contains versions v ≡ true → v.table ≡ k.table

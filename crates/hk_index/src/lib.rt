@@ -2,7 +2,7 @@
 #![tactic(auto)]
 
 mod key_index;
-mod label;
+mod tag_key;
 mod tag_index;
 
 pub use key_index::KeyIndex;

@@ -5,10 +5,10 @@ ghost use Rattle.std.specs.FinSet as set;
 ghost use Rattle.std.specs.HashMap as hash;
 ghost use Rattle.hk_types.specs.declared.faults.Refusal.TheVariants.{Memory};
 ghost use Rattle.hk_index.specs.Listed.{Lists};
-ghost use Rattle.hk_index.specs.Tagged.{label_eq, with_tag};
+ghost use Rattle.hk_index.specs.Tagged.{tag_key_eq, with_tag};
 
 use crate::key_index::KeyIndex;
-use crate::label::Label;
+use crate::tag_key::TagKey;
 use hk_types::{Refusal, Table, Tag, VersionKey};
 use std::alloc::{AllocError, Global};
 use std::collections::HashMap;
@@ -17,28 +17,28 @@ use std::marker::Model;
 /// A set of version keys with tags, found by table and tag.
 #[derive(Drop)]
 pub struct TagIndex {
-    labels: HashMap<Label, KeyIndex>,
+    tag_keys: HashMap<TagKey, KeyIndex>,
     alloc: Global,
 }
 
 impl Model for TagIndex {
     ghost use Rattle.std.specs.FinSet as set;
-    ghost use Rattle.hk_index.specs.Tagged.{tagged_cmp, tagged_code, tagged_seen, AreLabelled};
+    ghost use Rattle.hk_index.specs.Tagged.{tagged_cmp, tagged_code, tagged_seen, AreTagKeyed};
 
     ghost Value = { set.FinSet tagged_cmp };
 
     ghost coded = { set.code tagged_code };
 
-    ghost view = { λ a. tagged_seen a.labels.entries };
+    ghost view = { λ a. tagged_seen a.tag_keys.entries };
 
-    ghost invariant = { λ a. AreLabelled a.labels.entries };
+    ghost invariant = { λ a. AreTagKeyed a.tag_keys.entries };
 }
 
-fn forget(labels: &mut HashMap<Label, KeyIndex>, label: Label)
-    ensures forgotten { hash.Updates label_eq labels.old labels.new label None }
-    ensures unique { hash.IsUnique label_eq labels.new }
+fn forget(tag_keys: &mut HashMap<TagKey, KeyIndex>, tag_key: TagKey)
+    ensures forgotten { hash.Updates tag_key_eq tag_keys.old tag_keys.new tag_key None }
+    ensures unique { hash.IsUnique tag_key_eq tag_keys.new }
 {
-    labels.remove(&label);
+    tag_keys.remove(&tag_key);
 }
 
 impl TagIndex {
@@ -47,7 +47,7 @@ impl TagIndex {
         ensures { result ≡ set.empty }
     {
         TagIndex {
-            labels: HashMap::new(alloc),
+            tag_keys: HashMap::new(alloc),
             alloc,
         }
     }
@@ -61,13 +61,13 @@ impl TagIndex {
         ensures err { IfErr result (λ why. why ≡ Memory) }
         ensures kept { OnErr result (self.new ≡ self.old) }
     {
-        let label = Label::new(version.table, tag);
-        if let Some(versions) = self.labels.get_mut(&label) {
+        let tag_key = TagKey::new(version.table, tag);
+        if let Some(versions) = self.tag_keys.get_mut(&tag_key) {
             return versions.add(version);
         }
         let mut versions = KeyIndex::new(self.alloc);
         versions.add(version)?;
-        self.labels.insert(label, versions)?;
+        self.tag_keys.insert(tag_key, versions)?;
         Ok(())
     }
 
@@ -76,13 +76,13 @@ impl TagIndex {
     pub fn remove(&mut self, tag: Tag, version: VersionKey)
         ensures { self.new ≡ set.remove self.old (record { tag = tag; version = version }) }
     {
-        let label = Label::new(version.table, tag);
-        let Some(versions) = self.labels.get_mut(&label) else {
+        let tag_key = TagKey::new(version.table, tag);
+        let Some(versions) = self.tag_keys.get_mut(&tag_key) else {
             return;
         };
         versions.remove(version);
         if versions.is_empty() {
-            forget(&mut self.labels, label);
+            forget(&mut self.tag_keys, tag_key);
         }
     }
 
@@ -91,7 +91,7 @@ impl TagIndex {
     pub fn has(&self, tag: Tag, version: VersionKey) -> bool
         ensures { result ≡ set.contains self.now (record { tag = tag; version = version }) }
     {
-        match self.labels.get(&Label::new(version.table, tag)) {
+        match self.tag_keys.get(&TagKey::new(version.table, tag)) {
             Some(versions) => versions.has(version),
             None => false,
         }
@@ -104,7 +104,7 @@ impl TagIndex {
         ensures ok { IfOk result (λ versions. Lists versions.items (with_tag self.now table tag)) }
         ensures err { IfErr result (λ why. why ≡ Memory) }
     {
-        match self.labels.get(&Label::new(table, tag)) {
+        match self.tag_keys.get(&TagKey::new(table, tag)) {
             Some(versions) => versions.all(alloc),
             None => Ok(Vec::new(alloc)),
         }
@@ -117,22 +117,22 @@ impl TagIndex {
         ensures ok { IfOk result (λ index. index ≡ self.now) }
         ensures err { IfErr result (λ why. why ≡ Memory) }
     {
-        let mut labels = HashMap::with_capacity(alloc, self.labels.len())?;
-        for (label, versions) in &self.labels {
-            insert(&mut labels, *label, versions.copy(alloc)?)?;
+        let mut tag_keys = HashMap::with_capacity(alloc, self.tag_keys.len())?;
+        for (tag_key, versions) in &self.tag_keys {
+            insert(&mut tag_keys, *tag_key, versions.copy(alloc)?)?;
         }
-        Ok(TagIndex { labels, alloc })
+        Ok(TagIndex { tag_keys, alloc })
     }
 }
 
 fn insert(
-    labels: &mut HashMap<Label, KeyIndex>,
-    label: Label,
+    tag_keys: &mut HashMap<TagKey, KeyIndex>,
+    tag_key: TagKey,
     versions: KeyIndex,
 ) -> Result<(), AllocError>
-    ensures ok { OnOk result (hash.Updates label_eq labels.old labels.new label (Some versions)) }
-    ensures unique { hash.IsUnique label_eq labels.new }
+    ensures ok { OnOk result (hash.Updates tag_key_eq tag_keys.old tag_keys.new tag_key (Some versions)) }
+    ensures unique { hash.IsUnique tag_key_eq tag_keys.new }
 {
-    labels.insert(label, versions)?;
+    tag_keys.insert(tag_key, versions)?;
     Ok(())
 }

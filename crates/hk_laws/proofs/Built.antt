@@ -3,7 +3,7 @@ use Rattle.std.proofs.Common.{◌≡◌, refl, sym, ap, ◌∙◌, Bool, true, f
 use Rattle.std.specs.FinMap as finmap
 use Rattle.hk_types.specs.declared.faults.Refusal.{Refusal}
 use Rattle.hk_types.specs.declared.faults.Refusal.TheVariants.{TwiceWritten, TooManyWrites, Memory}
-use Rattle.hk_model.specs.Commits.{built}
+use Rattle.hk_model.specs.Commits.{writes_result}
 use Rattle.hk_model.specs.Histories.{written_key}
 use Rattle.hk_model.specs.Rows.{row_key_cmp}
 use Rattle.hk_model.specs.declared.write_op.WriteOp.{WriteOp}
@@ -14,8 +14,8 @@ abbrev built_on : Option Refusal → Result (finmap.FinMap row_key_cmp WriteOp) 
 built_on (Some why) rest = Err why
 built_on None rest = rest
 
-built_next : (t : TxnValue) (w : WriteOp) (more : List WriteOp) → built t.writes (w ∷ more) ≡ built_on (write_refused t (written_key w)) (built (with_write t w).writes more)
-built_next t w more = by (finmap.contains_key t.writes (written_key w)) (nat_le 1024 (finmap.len t.writes)) (built (with_write t w).writes more)
+built_next : (t : TxnValue) (w : WriteOp) (more : List WriteOp) → writes_result t.writes (w ∷ more) ≡ built_on (write_refused t (written_key w)) (writes_result (with_write t w).writes more)
+built_next t w more = by (finmap.contains_key t.writes (written_key w)) (nat_le 1024 (finmap.len t.writes)) (writes_result (with_write t w).writes more)
   where
     by : (twice many : Bool) (rest : Result (finmap.FinMap row_key_cmp WriteOp) Refusal) → cond twice (Err TwiceWritten) (cond many (Err TooManyWrites) rest) ≡ built_on (cond twice (Some TwiceWritten) (cond many (Some TooManyWrites) None)) rest
     by true many rest = refl
@@ -23,13 +23,13 @@ built_next t w more = by (finmap.contains_key t.writes (written_key w)) (nat_le 
     by false false rest = refl
 
 -- an accepted write leaves the others to be built
-pub built_more : (t u : TxnValue) (w : WriteOp) (more : List WriteOp) → write_refused t (written_key w) ≡ None → u ≡ with_write t w → built u.writes more ≡ built t.writes (w ∷ more)
-built_more t u w more e f = ap (λ (x : TxnValue). built x.writes more) f ∙ sym (built_next t w more ∙ ap (λ x. built_on x (built (with_write t w).writes more)) e)
+pub built_more : (t u : TxnValue) (w : WriteOp) (more : List WriteOp) → write_refused t (written_key w) ≡ None → u ≡ with_write t w → writes_result u.writes more ≡ writes_result t.writes (w ∷ more)
+built_more t u w more e f = ap (λ (x : TxnValue). writes_result x.writes more) f ∙ sym (built_next t w more ∙ ap (λ x. built_on x (writes_result (with_write t w).writes more)) e)
 
 -- a refused write is the outcome, unless memory ran out
-pub built_refused : (t : TxnValue) (w : WriteOp) (more : List WriteOp) (why : Refusal) → IsRefusal (write_refused t (written_key w)) why → (built t.writes (w ∷ more) ≡ Err why) ⊎ (why ≡ Memory)
+pub built_refused : (t : TxnValue) (w : WriteOp) (more : List WriteOp) (why : Refusal) → IsRefusal (write_refused t (written_key w)) why → (writes_result t.writes (w ∷ more) ≡ Err why) ⊎ (why ≡ Memory)
 built_refused t w more why r = by (write_refused t (written_key w)) refl r
   where
-    by : (x : Option Refusal) → write_refused t (written_key w) ≡ x → IsRefusal x why → (built t.writes (w ∷ more) ≡ Err why) ⊎ (why ≡ Memory)
+    by : (x : Option Refusal) → write_refused t (written_key w) ≡ x → IsRefusal x why → (writes_result t.writes (w ∷ more) ≡ Err why) ⊎ (why ≡ Memory)
     by None e i = inr i
-    by (Some y) e i = inl (built_next t w more ∙ ap (λ x. built_on x (built (with_write t w).writes more)) e ∙ ap (λ z. Err z) (sym i))
+    by (Some y) e i = inl (built_next t w more ∙ ap (λ x. built_on x (writes_result (with_write t w).writes more)) e ∙ ap (λ z. Err z) (sym i))

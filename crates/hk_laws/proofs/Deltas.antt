@@ -7,10 +7,10 @@ use Rattle.hk_model.specs.declared.told.Told.{Told}
 use Rattle.hk_model.specs.Events.{told_seen}
 use Rattle.hk_model.specs.Content.{Content}
 use Rattle.hk_model.specs.Fragments.{FragmentValue, cut}
-use Rattle.hk_model.specs.Rules.{joined}
-use Rattle.hk_model.specs.Worlds.{ToldValue, told_by, delta_join}
+use Rattle.hk_model.specs.Rules.{join_result}
+use Rattle.hk_model.specs.Worlds.{ToldValue, outcome_by, delta_join}
 use Rattle.hk_model.specs.Worlds.ToldValue.{Refused}
-use Rattle.hk_laws.specs.Calls.{Gives, is_memory, told_first, tells_lack}
+use Rattle.hk_laws.specs.Calls.{Gives, is_memory, is_first_outcome, is_memory_outcome}
 
 above : (m n : ℕ) → n ≤ m → nat_lt m n ≡ false
 above m n l = grind (arith, nat_tests)
@@ -19,16 +19,16 @@ below : (m n : ℕ) → m < n → nat_lt m n ≡ true
 below m n l = grind (arith, nat_tests)
 
 -- from the horizon on it is the join of what is cut
-pub joins_cut : (a b : Content) (base : ℕ) (f : FragmentValue) → b.horizon ≤ base → f ≡ cut b base → told_by a (joined a f) ≡ delta_join a b base
-joins_cut a b base f l e = ap (λ x. told_by a (joined a x)) e ∙ sym (ap (λ t. cond t (Refused (TooOld b.horizon), a) (told_by a (joined a (cut b base)))) (above base b.horizon l))
+pub joins_cut : (a b : Content) (base : ℕ) (f : FragmentValue) → b.horizon ≤ base → f ≡ cut b base → outcome_by a (join_result a f) ≡ delta_join a b base
+joins_cut a b base f l e = ap (λ x. outcome_by a (join_result a x)) e ∙ sym (ap (λ t. cond t (Refused (TooOld b.horizon), a) (outcome_by a (join_result a (cut b base)))) (above base b.horizon l))
 
 -- below the horizon it is refused
 pub too_old : (a b : Content) (base : ℕ) → base < b.horizon → delta_join a b base ≡ (Refused (TooOld b.horizon), a)
-too_old a b base l = ap (λ t. cond t (Refused (TooOld b.horizon), a) (told_by a (joined a (cut b base)))) (below base b.horizon l)
+too_old a b base l = ap (λ t. cond t (Refused (TooOld b.horizon), a) (outcome_by a (join_result a (cut b base)))) (below base b.horizon l)
 
 -- a refused cut is told
-pub refused_cut : (a b : Content) (base : ℕ) (why : Refusal) (result : Result Told Refusal) → told_first (delta_join a b base).0 ≡ false →
-    ((base < b.horizon) × (why ≡ TooOld b.horizon)) ⊎ ((b.horizon ≤ base) × (why ≡ Memory)) → MatchResult result (λ told. (told_seen told ≡ Refused why) × (is_memory why ≡ false)) (λ e. (e ≡ Memory) × (why ≡ Memory)) → Gives (delta_join a b base) a a result
-refused_cut a b base why (Ok told) free (inl p) m = subst (λ (x : ToldValue × Content). Gives x a a (Ok told)) (sym (too_old a b base p.0)) (m.0 ∙ ap Refused p.1, refl, ap tells_lack m.0 ∙ m.1)
-refused_cut a b base why (Ok told) free (inr p) m = absurd (true≢false (sym (ap is_memory p.1) ∙ m.1))
+pub refused_cut : (a b : Content) (base : ℕ) (why : Refusal) (result : Result Told Refusal) → is_first_outcome (delta_join a b base).0 ≡ false →
+    ((base < b.horizon) × (why ≡ TooOld b.horizon)) ⊎ ((b.horizon ≤ base) × (why ≡ Memory)) → MatchResult result (λ outcome. (told_seen outcome ≡ Refused why) × (is_memory why ≡ false)) (λ e. (e ≡ Memory) × (why ≡ Memory)) → Gives (delta_join a b base) a a result
+refused_cut a b base why (Ok outcome) free (inl p) m = subst (λ (x : ToldValue × Content). Gives x a a (Ok outcome)) (sym (too_old a b base p.0)) (m.0 ∙ ap Refused p.1, refl, ap is_memory_outcome m.0 ∙ m.1)
+refused_cut a b base why (Ok outcome) free (inr p) m = absurd (true≢false (sym (ap is_memory p.1) ∙ m.1))
 refused_cut a b base why (Err e) free p m = (m.0, refl, free)

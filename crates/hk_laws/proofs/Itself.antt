@@ -8,16 +8,16 @@ use Rattle.std.specs.FinSet as set
 use Rattle.hk_types.specs.declared.faults.Refusal.TheVariants.{ForeignLog, WrongStreams, Gap, Conflict}
 use Rattle.hk_types.specs.declared.version_key.VersionKey.{VersionKey}
 use Rattle.hk_types.specs.Values.{same_row}
-use Rattle.hk_model.specs.Maps.{or_else, contradict, differ}
+use Rattle.hk_model.specs.Maps.{or_else, maps_conflict, values_conflict}
 use Rattle.hk_model.specs.Content.{Content, readable, at_most, ended_by, without_ended}
 use Rattle.hk_model.specs.Fragments.{cut}
 use Rattle.hk_model.specs.Lawful.{IsLawful, IsLawfulStream}
-use Rattle.hk_model.specs.Rules.{disagree, joined_content, merged}
-use Rattle.hk_model.specs.Streams.{StreamContent, covers, greatest_covered, by_count, settled, together, all_together}
+use Rattle.hk_model.specs.Rules.{contents_conflict, content_after_join, merge_result}
+use Rattle.hk_model.specs.Streams.{StreamContent, covers, greatest_covered, by_count, stream_with, together, all_together}
 use Rattle.hk_model.proofs.Joins.{alike_differ, same_row_if}
-use Rattle.hk_model.proofs.Maps.{version_key_total, version_key_same, get-union, get-retain, get-without_ended, no_contradiction}
+use Rattle.hk_model.proofs.Maps.{version_key_total, version_key_same, get-union, get-retain, get-without_ended, no_entry_conflict}
 use Rattle.hk_model.proofs.Repeats.{settled_itself}
-use Rattle.hk_model.proofs.Streams.{later, latest, latest-append, get-by_count, together-settled}
+use Rattle.hk_model.proofs.Streams.{later, latest, latest-append, get-by_count, together-stream_with}
 
 -- ---- streams
 
@@ -41,7 +41,7 @@ greatest_both t (m ∷ ms) ns =
     by true k x y = omega arith
     by false k x y = refl
 
-settled_twice : (t : set.FinSet nat_cmp) (c : ℕ) (ms : List (ℕ × ℕ)) → settled t c (ms ++ ms) ≡ settled t c ms
+settled_twice : (t : set.FinSet nat_cmp) (c : ℕ) (ms : List (ℕ × ℕ)) → stream_with t c (ms ++ ms) ≡ stream_with t c ms
 settled_twice t c ms = λ i. record {
   taken = t;
   closed = max c ((greatest_both t ms ms ∙ same (greatest_covered t ms)) i);
@@ -57,8 +57,8 @@ settled_twice t c ms = λ i. record {
 together_itself : (s : StreamContent) → IsLawfulStream s → together s s ≡ s
 together_itself s l =
     (λ i. together (sym (settled_itself s l) i) (sym (settled_itself s l) i))
-    ∙ together-settled s.taken s.taken s.closed s.closed (finmap.entries s.waiting) (finmap.entries s.waiting)
-    ∙ (λ i. settled (union_itself s.taken i) (same s.closed i) (finmap.entries s.waiting ++ finmap.entries s.waiting))
+    ∙ together-stream_with s.taken s.taken s.closed s.closed (finmap.entries s.waiting) (finmap.entries s.waiting)
+    ∙ (λ i. stream_with (union_itself s.taken i) (same s.closed i) (finmap.entries s.waiting ++ finmap.entries s.waiting))
     ∙ settled_twice s.taken s.closed (finmap.entries s.waiting)
     ∙ settled_itself s l
   where
@@ -118,7 +118,7 @@ module _ (c : Content) (l : IsLawful c) where
   sent_row : (v : VersionKey) → finmap.get (finmap.retain_keys (cut c 0).content.rows sent) v ≡ cond (sent v) (cond (nat_lt 0 v.born) (finmap.get c.rows v) None) None
   sent_row v = get-retain version_key_total version_key_same (cut c 0).content.rows sent v ∙ ap (λ x. cond (sent v) x None) (get-retain version_key_total version_key_same c.rows (λ w. nat_lt 0 w.born) v)
 
-  same_rows : (joined_content c (cut c 0)).rows ≡ c.rows
+  same_rows : (content_after_join c (cut c 0)).rows ≡ c.rows
   same_rows = finmap.same_map version_key_total version_key_same _ _ (λ v.
       get-union version_key_total version_key_same (finmap.retain_keys c.rows own) (finmap.retain_keys (cut c 0).content.rows sent) v
       ∙ (λ i. or_else (get-retain version_key_total version_key_same c.rows own v i) (sent_row v i))
@@ -130,32 +130,32 @@ module _ (c : Content) (l : IsLawful c) where
   sent_end : (v : VersionKey) → finmap.get (without_ended (cut c 0).content.ends (max c.horizon c.horizon) (cut c 0).content.ends) v ≡ old (max c.horizon c.horizon) (old 0 (finmap.get c.ends v))
   sent_end v = get-without_ended (cut c 0).content.ends (max c.horizon c.horizon) (cut c 0).content.ends v ∙ ap (old (max c.horizon c.horizon)) (get-without_ended c.ends 0 c.ends v)
 
-  same_ends : (joined_content c (cut c 0)).ends ≡ c.ends
+  same_ends : (content_after_join c (cut c 0)).ends ≡ c.ends
   same_ends = finmap.same_map version_key_total version_key_same _ _ (λ v.
       get-union version_key_total version_key_same (without_ended c.ends (max c.horizon c.horizon) c.ends) (without_ended (cut c 0).content.ends (max c.horizon c.horizon) (cut c 0).content.ends) v
       ∙ (λ i. or_else (get-without_ended c.ends (max c.horizon c.horizon) c.ends v i) (sent_end v i))
       ∙ stays (not (at_most (max c.horizon c.horizon) (finmap.get c.ends v))) (not (at_most (max c.horizon c.horizon) (old 0 (finmap.get c.ends v)))) (not (at_most 0 (finmap.get c.ends v))) (finmap.get c.ends v) (λ d e. ap not (alive v (finmap.get c.ends v) refl)))
 
-  same_content : joined_content c (cut c 0) ≡ c
+  same_content : content_after_join c (cut c 0) ≡ c
   same_content = let e : max c.horizon c.horizon ≡ c.horizon = omega arith in
       λ i. record { log = c.log; horizon = e i; rows = same_rows i; ends = same_ends i; streams = all_itself c.streams l.streams i }
 
-  rows_agree : contradict same_row c.rows (cut c 0).content.rows ≡ false
-  rows_agree = no_contradiction version_key_total version_key_same same_row c.rows (cut c 0).content.rows (λ v.
-      ap (λ x. differ same_row (finmap.get c.rows v) x) (get-retain version_key_total version_key_same c.rows (λ w. nat_lt 0 w.born) v)
+  rows_agree : maps_conflict same_row c.rows (cut c 0).content.rows ≡ false
+  rows_agree = no_entry_conflict version_key_total version_key_same same_row c.rows (cut c 0).content.rows (λ v.
+      ap (λ x. values_conflict same_row (finmap.get c.rows v) x) (get-retain version_key_total version_key_same c.rows (λ w. nat_lt 0 w.born) v)
       ∙ alike_differ same_row (finmap.get c.rows v) _ (λ a b e f. same_row_if a b (one_of a b (finmap.get c.rows v) e (left_of (nat_lt 0 v.born) (finmap.get c.rows v) b f))))
 
-  ends_agree : contradict (λ a b. a == b) c.ends (cut c 0).content.ends ≡ false
-  ends_agree = no_contradiction version_key_total version_key_same (λ a b. a == b) c.ends (cut c 0).content.ends (λ v.
-      ap (λ x. differ (λ a b. a == b) (finmap.get c.ends v) x) (get-without_ended c.ends 0 c.ends v)
+  ends_agree : maps_conflict (λ a b. a == b) c.ends (cut c 0).content.ends ≡ false
+  ends_agree = no_entry_conflict version_key_total version_key_same (λ a b. a == b) c.ends (cut c 0).content.ends (λ v.
+      ap (λ x. values_conflict (λ a b. a == b) (finmap.get c.ends v) x) (get-without_ended c.ends 0 c.ends v)
       ∙ alike_differ (λ a b. a == b) (finmap.get c.ends v) _ (λ a b e f. eq-eqb a b (one_of a b (finmap.get c.ends v) e (left_of _ (finmap.get c.ends v) b f))))
 
-  pub merged_itself : merged c c ≡ Ok c
+  pub merged_itself : merge_result c c ≡ Ok c
   merged_itself =
       let log : (c.log == c.log) ≡ true = eq-eqb c.log c.log refl in
       let many : (length c.streams == length c.streams) ≡ true = eq-eqb (length c.streams) (length c.streams) refl in
-      let agree : disagree c (cut c 0).content ≡ false = (λ i. rows_agree i || ends_agree i) in
-      (λ i. cond (not (log i)) (Err ForeignLog) (cond (not (many i)) (Err WrongStreams) (cond (no_gap (readable c) i) (Err (Gap 0 (readable c))) (cond (agree i) (Err Conflict) (Ok (joined_content c (cut c 0)))))))
+      let agree : contents_conflict c (cut c 0).content ≡ false = (λ i. rows_agree i || ends_agree i) in
+      (λ i. cond (not (log i)) (Err ForeignLog) (cond (not (many i)) (Err WrongStreams) (cond (no_gap (readable c) i) (Err (Gap 0 (readable c))) (cond (agree i) (Err Conflict) (Ok (content_after_join c (cut c 0)))))))
       ∙ ap (λ d. Ok d) same_content
     where
       no_gap : (m : ℕ) → nat_lt m 0 ≡ false

@@ -13,93 +13,93 @@ use Rattle.hk_model.specs.Answers.{AnswerValue, answer}
 use Rattle.hk_model.specs.Histories.{Transaction, last, table_at}
 use Rattle.hk_model.specs.declared.query.Query.{Query}
 use Rattle.hk_model.specs.Fragments.{FragmentValue, cut, part}
-use Rattle.hk_model.specs.Items.{log_of, stream_no, misfit}
-use Rattle.hk_model.specs.Rules.{joined, joined_content, disagree, gathered, gathered_unless, first_misfit, conflict}
+use Rattle.hk_model.specs.Items.{log_of, stream_no, wrong_log}
+use Rattle.hk_model.specs.Rules.{join_result, content_after_join, contents_conflict, gather_result, gather_result_unless, first_wrong_log, conflict}
 use Rattle.hk_model.specs.Maps.{or_else}
 use Rattle.hk_model.specs.Facts.{row_facts, end_facts}
-use Rattle.hk_model.specs.Worlds.{ToldValue, asked_primary, delta_join, told_by, told_batch, told_reply}
+use Rattle.hk_model.specs.Worlds.{ToldValue, asked_primary, delta_join, outcome_by, outcome_of_batch, outcome_of_reply}
 use Rattle.hk_model.specs.Worlds.ToldValue.{Answered, Refused}
-use Rattle.hk_laws.specs.Calls.{Gives, is_first, told_first, is_memory, tells_lack}
+use Rattle.hk_laws.specs.Calls.{Gives, is_first, is_first_outcome, is_memory, is_memory_outcome}
 
--- a refusal was passed on, or it was want of memory
+-- a refusal was passed on, or it was out of memory
 abbrev pub Passes : Refusal → Result Told Refusal → Type 0
-Passes why result = MatchResult result (λ told. (told_seen told ≡ Refused why) × (is_memory why ≡ false)) (λ e. (e ≡ Memory) × (why ≡ Memory))
+Passes why result = MatchResult result (λ outcome. (told_seen outcome ≡ Refused why) × (is_memory why ≡ false)) (λ e. (e ≡ Memory) × (why ≡ Memory))
 
--- a call refused with what was expected, or for want of memory where something else was
+-- a call refused with what was expected, or because memory ran out where something else was
 pub refusal_gives : {C : Type 0} (expected : Result C Refusal → ToldValue × Content) (x : Result C Refusal) (old new : Content) (why : Refusal) (result : Result Told Refusal)
-    → ((w : Refusal) → expected (Err w) ≡ (Refused w, old)) → ((c : C) → x ≡ Ok c → told_first (expected (Ok c)).0 ≡ false)
+    → ((w : Refusal) → expected (Err w) ≡ (Refused w, old)) → ((c : C) → x ≡ Ok c → is_first_outcome (expected (Ok c)).0 ≡ false)
     → new ≡ old → (x ≡ Err why) ⊎ ((why ≡ Memory) × ((c : C) × (x ≡ Ok c))) → Passes why result → Gives (expected x) old new result
-refusal_gives expected x old new why (Ok told) errs oks same (inl e) m =
+refusal_gives expected x old new why (Ok outcome) errs oks same (inl e) m =
     let is : expected x ≡ (Refused why, old) = ap expected e ∙ errs why in
-    (m.0 ∙ sym (ap (λ (p : ToldValue × Content). p.0) is), same ∙ sym (ap (λ (p : ToldValue × Content). p.1) is), ap tells_lack m.0 ∙ m.1)
-refusal_gives expected x old new why (Ok told) errs oks same (inr p) m = absurd (true≢false (sym (ap is_memory p.0) ∙ m.1))
+    (m.0 ∙ sym (ap (λ (p : ToldValue × Content). p.0) is), same ∙ sym (ap (λ (p : ToldValue × Content). p.1) is), ap is_memory_outcome m.0 ∙ m.1)
+refusal_gives expected x old new why (Ok outcome) errs oks same (inr p) m = absurd (true≢false (sym (ap is_memory p.0) ∙ m.1))
 refusal_gives expected x old new why (Err e) errs oks same (inl f) m =
     let is : expected x ≡ (Refused why, old) = ap expected f ∙ errs why in
-    (m.0, same, ap (λ (p : ToldValue × Content). told_first p.0) is ∙ ap is_first m.1)
+    (m.0, same, ap (λ (p : ToldValue × Content). is_first_outcome p.0) is ∙ ap is_first m.1)
 refusal_gives expected x old new why (Err e) errs oks same (inr p) m =
-    (m.0, same, ap (λ y. told_first (expected y).0) p.1.1 ∙ oks p.1.0 p.1.1)
+    (m.0, same, ap (λ y. is_first_outcome (expected y).0) p.1.1 ∙ oks p.1.0 p.1.1)
 
 -- a join tells a gap alone of what is tested before anything grows
-pub joined_first : (c : Content) (f : FragmentValue) → f.base ≤ readable c → told_first (told_by c (joined c f)).0 ≡ false
-joined_first c f near = by (f.content.log == c.log) (length f.content.streams == length c.streams) (nat_lt (readable c) f.base) (disagree c f.content) (grind (arith, nat_tests))
+pub joined_first : (c : Content) (f : FragmentValue) → f.base ≤ readable c → is_first_outcome (outcome_by c (join_result c f)).0 ≡ false
+joined_first c f near = by (f.content.log == c.log) (length f.content.streams == length c.streams) (nat_lt (readable c) f.base) (contents_conflict c f.content) (grind (arith, nat_tests))
   where
-    by : (log streams gap clash : Bool) → gap ≡ false → told_first (told_by c (cond (not log) (Err ForeignLog) (cond (not streams) (Err WrongStreams) (cond gap (Err (Gap f.base (readable c))) (cond clash (Err Conflict) (Ok (joined_content c f))))))).0 ≡ false
-    by false streams gap clash e = refl
-    by true false gap clash e = refl
-    by true true true clash e = absurd (true≢false e)
+    by : (log streams gap facts_conflict : Bool) → gap ≡ false → is_first_outcome (outcome_by c (cond (not log) (Err ForeignLog) (cond (not streams) (Err WrongStreams) (cond gap (Err (Gap f.base (readable c))) (cond facts_conflict (Err Conflict) (Ok (content_after_join c f))))))).0 ≡ false
+    by false streams gap facts_conflict e = refl
+    by true false gap facts_conflict e = refl
+    by true true true facts_conflict e = absurd (true≢false e)
     by true true false true e = refl
     by true true false false e = refl
 
-misfit_first : (log streams : ℕ) (item : Item) (why : Refusal) → misfit log streams item ≡ Some why → is_first why ≡ false
-misfit_first log streams item why = by (log_of item == log) (nat_lt streams (stream_no item))
+wrong_log_first : (log streams : ℕ) (item : Item) (why : Refusal) → wrong_log log streams item ≡ Some why → is_first why ≡ false
+wrong_log_first log streams item why = by (log_of item == log) (nat_lt streams (stream_no item))
   where
     by : (same many : Bool) → cond (not same) (Some ForeignLog) (cond many (Some WrongStreams) None) ≡ Some why → is_first why ≡ false
     by false many e = let w : why ≡ ForeignLog = cc in ap is_first w
     by true true e = let w : why ≡ WrongStreams = cc in ap is_first w
     by true false e = absurd cc
 
-first_misfit_first : (config : ConfigValue) (items : List Item) (why : Refusal) → first_misfit config items ≡ Some why → is_first why ≡ false
-first_misfit_first config [] why e = absurd cc
-first_misfit_first config (item ∷ items) why e = either (misfit config.log config.streams item) (first_misfit config items) (misfit_first config.log config.streams item why) (first_misfit_first config items why) e
+first_wrong_log_first : (config : ConfigValue) (items : List Item) (why : Refusal) → first_wrong_log config items ≡ Some why → is_first why ≡ false
+first_wrong_log_first config [] why e = absurd cc
+first_wrong_log_first config (item ∷ items) why e = either (wrong_log config.log config.streams item) (first_wrong_log config items) (wrong_log_first config.log config.streams item why) (first_wrong_log_first config items why) e
   where
     either : (x y : Option Refusal) → (x ≡ Some why → is_first why ≡ false) → (y ≡ Some why → is_first why ≡ false) → or_else x y ≡ Some why → is_first why ≡ false
     either None y own rest e = rest e
     either (Some z) y own rest e = own e
 
 -- what gathered items tell
-pub batch_first : (c : Content) (config : ConfigValue) (items : List Item) → told_first (told_batch c (gathered config items)).0 ≡ false
-batch_first c config items = by (first_misfit config items) (first_misfit_first config items)
+pub batch_first : (c : Content) (config : ConfigValue) (items : List Item) → is_first_outcome (outcome_of_batch c (gather_result config items)).0 ≡ false
+batch_first c config items = by (first_wrong_log config items) (first_wrong_log_first config items)
   where
-    clash : (b : Bool) → told_first (told_batch c (cond b (Err Conflict) (Ok (part config items 0 0)))).0 ≡ false
-    clash true = refl
-    clash false = joined_first c (part config items 0 0) (omega arith)
+    facts_conflict : (b : Bool) → is_first_outcome (outcome_of_batch c (cond b (Err Conflict) (Ok (part config items 0 0)))).0 ≡ false
+    facts_conflict true = refl
+    facts_conflict false = joined_first c (part config items 0 0) (omega arith)
 
-    by : (x : Option Refusal) → ((why : Refusal) → x ≡ Some why → is_first why ≡ false) → told_first (told_batch c (gathered_unless config items x)).0 ≡ false
+    by : (x : Option Refusal) → ((why : Refusal) → x ≡ Some why → is_first why ≡ false) → is_first_outcome (outcome_of_batch c (gather_result_unless config items x)).0 ≡ false
     by (Some why) h = h why refl
-    by None h = clash (conflict same_row (row_facts items) || conflict (λ a b. a == b) (end_facts items))
+    by None h = facts_conflict (conflict same_row (row_facts items) || conflict (λ a b. a == b) (end_facts items))
 
 -- ---- questions and marks
 
 -- a refused reply is none of those that are tested first, where memory ran out
-pub reply_first : (x : Result AnswerValue Refusal) (a : AnswerValue) (why : Refusal) → (x ≡ Err why) ⊎ ((why ≡ Memory) × (x ≡ Ok a)) → why ≡ Memory → told_first (told_reply x) ≡ false
-reply_first x a why (inl e) m = ap (λ y. told_first (told_reply y)) e ∙ ap is_first m
-reply_first x a why (inr p) m = ap (λ y. told_first (told_reply y)) p.1
+pub reply_first : (x : Result AnswerValue Refusal) (a : AnswerValue) (why : Refusal) → (x ≡ Err why) ⊎ ((why ≡ Memory) × (x ≡ Ok a)) → why ≡ Memory → is_first_outcome (outcome_of_reply x) ≡ false
+reply_first x a why (inl e) m = ap (λ y. is_first_outcome (outcome_of_reply y)) e ∙ ap is_first m
+reply_first x a why (inr p) m = ap (λ y. is_first_outcome (outcome_of_reply y)) p.1
 
 -- a primary that ran out of memory was asked at a time up to the last commit's
-pub asked_first : (history : List Transaction) (t : ℕ) (q : Query) (why : Refusal) → (last history < t → why ≡ NotYet (last history)) → why ≡ Memory → told_first (asked_primary history t q) ≡ false
+pub asked_first : (history : List Transaction) (t : ℕ) (q : Query) (why : Refusal) → (last history < t → why ≡ NotYet (last history)) → why ≡ Memory → is_first_outcome (asked_primary history t q) ≡ false
 asked_first history t q why early m =
-    elim (nat_lt (last history) t) as (λ b. nat_lt (last history) t ≡ b → told_first (cond b (Refused (NotYet (last history))) (Answered (answer (table_at history t) q))) ≡ false) [
+    elim (nat_lt (last history) t) as (λ b. nat_lt (last history) t ≡ b → is_first_outcome (cond b (Refused (NotYet (last history))) (Answered (answer (table_at history t) q))) ≡ false) [
       | true ↦ λ e. let w = early (ltb-true (last history) t e) in absurd (true≢false (sym (ap is_first w) ∙ ap is_first m))
       | false ↦ λ e. refl
     ] refl
 
--- so where the refusal was passed on as want of memory
-pub reply_err : (x : Result AnswerValue Refusal) (a : AnswerValue) (why : Refusal) (result : Result Told Refusal) → (x ≡ Err why) ⊎ ((why ≡ Memory) × (x ≡ Ok a)) → Passes why result → OnErr result (told_first (told_reply x) ≡ false)
-reply_err x a why (Ok told) h m = tt
+-- so where the refusal was passed on as out of memory
+pub reply_err : (x : Result AnswerValue Refusal) (a : AnswerValue) (why : Refusal) (result : Result Told Refusal) → (x ≡ Err why) ⊎ ((why ≡ Memory) × (x ≡ Ok a)) → Passes why result → OnErr result (is_first_outcome (outcome_of_reply x) ≡ false)
+reply_err x a why (Ok outcome) h m = tt
 reply_err x a why (Err e) h m = reply_first x a why h m.1
 
-pub asked_err : (history : List Transaction) (t : ℕ) (q : Query) (why : Refusal) (result : Result Told Refusal) → (last history < t → why ≡ NotYet (last history)) → Passes why result → OnErr result (told_first (asked_primary history t q) ≡ false)
-asked_err history t q why (Ok told) early m = tt
+pub asked_err : (history : List Transaction) (t : ℕ) (q : Query) (why : Refusal) (result : Result Told Refusal) → (last history < t → why ≡ NotYet (last history)) → Passes why result → OnErr result (is_first_outcome (asked_primary history t q) ≡ false)
+asked_err history t q why (Ok outcome) early m = tt
 asked_err history t q why (Err e) early m = asked_first history t q why early m.1
 
 -- ---- deltas
@@ -119,21 +119,21 @@ other_number m n e = grind (arith, nat_tests)
 -- where the source is of the same log, a base above the readable mark leaves a gap
 pub delta_gap : (a b : Content) (base : ℕ) → b.horizon ≤ base → a.log ≡ b.log → length a.streams ≡ length b.streams → readable a < base → delta_join a b base ≡ (Refused (Gap base (readable a)), a)
 delta_gap a b base old log streams far =
-    ap (λ t. cond t (Refused (TooOld b.horizon), a) (told_by a (joined a (cut b base)))) (above base b.horizon old)
-    ∙ ap (λ t. told_by a (cond (not t) (Err ForeignLog) (cond (not (length b.streams == length a.streams)) (Err WrongStreams) (cond (nat_lt (readable a) base) (Err (Gap base (readable a))) (cond (disagree a (cut b base).content) (Err Conflict) (Ok (joined_content a (cut b base)))))))) (same_number b.log a.log (sym log))
-    ∙ ap (λ t. told_by a (cond (not t) (Err WrongStreams) (cond (nat_lt (readable a) base) (Err (Gap base (readable a))) (cond (disagree a (cut b base).content) (Err Conflict) (Ok (joined_content a (cut b base))))))) (same_number (length b.streams) (length a.streams) (sym streams))
-    ∙ ap (λ t. told_by a (cond t (Err (Gap base (readable a))) (cond (disagree a (cut b base).content) (Err Conflict) (Ok (joined_content a (cut b base)))))) (below (readable a) base far)
+    ap (λ t. cond t (Refused (TooOld b.horizon), a) (outcome_by a (join_result a (cut b base)))) (above base b.horizon old)
+    ∙ ap (λ t. outcome_by a (cond (not t) (Err ForeignLog) (cond (not (length b.streams == length a.streams)) (Err WrongStreams) (cond (nat_lt (readable a) base) (Err (Gap base (readable a))) (cond (contents_conflict a (cut b base).content) (Err Conflict) (Ok (content_after_join a (cut b base)))))))) (same_number b.log a.log (sym log))
+    ∙ ap (λ t. outcome_by a (cond (not t) (Err WrongStreams) (cond (nat_lt (readable a) base) (Err (Gap base (readable a))) (cond (contents_conflict a (cut b base).content) (Err Conflict) (Ok (content_after_join a (cut b base))))))) (same_number (length b.streams) (length a.streams) (sym streams))
+    ∙ ap (λ t. outcome_by a (cond t (Err (Gap base (readable a))) (cond (contents_conflict a (cut b base).content) (Err Conflict) (Ok (content_after_join a (cut b base)))))) (below (readable a) base far)
 
 -- else nothing that is tested first is told, from the horizon on
-pub delta_first : (a b : Content) (base : ℕ) → b.horizon ≤ base → (a.log ≡ b.log → length a.streams ≡ length b.streams → base ≤ readable a) → told_first (delta_join a b base).0 ≡ false
+pub delta_first : (a b : Content) (base : ℕ) → b.horizon ≤ base → (a.log ≡ b.log → length a.streams ≡ length b.streams → base ≤ readable a) → is_first_outcome (delta_join a b base).0 ≡ false
 delta_first a b base old near =
-    ap (λ t. told_first (cond t (Refused (TooOld b.horizon), a) (told_by a (joined a (cut b base)))).0) (above base b.horizon old)
-    ∙ by (b.log == a.log) (length b.streams == length a.streams) (nat_lt (readable a) base) (disagree a (cut b base).content)
+    ap (λ t. is_first_outcome (cond t (Refused (TooOld b.horizon), a) (outcome_by a (join_result a (cut b base)))).0) (above base b.horizon old)
+    ∙ by (b.log == a.log) (length b.streams == length a.streams) (nat_lt (readable a) base) (contents_conflict a (cut b base).content)
     (λ l s. above (readable a) base (near (sym (eqb-true b.log a.log l)) (sym (eqb-true (length b.streams) (length a.streams) s))))
   where
-    by : (log streams gap clash : Bool) → (log ≡ true → streams ≡ true → gap ≡ false) → told_first (told_by a (cond (not log) (Err ForeignLog) (cond (not streams) (Err WrongStreams) (cond gap (Err (Gap base (readable a))) (cond clash (Err Conflict) (Ok (joined_content a (cut b base)))))))).0 ≡ false
-    by false streams gap clash e = refl
-    by true false gap clash e = refl
-    by true true true clash e = absurd (true≢false (e refl refl))
+    by : (log streams gap facts_conflict : Bool) → (log ≡ true → streams ≡ true → gap ≡ false) → is_first_outcome (outcome_by a (cond (not log) (Err ForeignLog) (cond (not streams) (Err WrongStreams) (cond gap (Err (Gap base (readable a))) (cond facts_conflict (Err Conflict) (Ok (content_after_join a (cut b base)))))))).0 ≡ false
+    by false streams gap facts_conflict e = refl
+    by true false gap facts_conflict e = refl
+    by true true true facts_conflict e = absurd (true≢false (e refl refl))
     by true true false true e = refl
     by true true false false e = refl

@@ -10,7 +10,7 @@ use Rattle.hk_types.specs.declared.faults.Refusal.{Refusal}
 use Rattle.hk_types.specs.declared.faults.Refusal.TheVariants.{TwiceWritten, TooManyWrites}
 use Rattle.hk_model.specs.Rows.{RowKey, row_key_cmp}
 use Rattle.hk_model.specs.Histories.{written_key}
-use Rattle.hk_model.specs.Commits.{built}
+use Rattle.hk_model.specs.Commits.{writes_result}
 use Rattle.hk_model.specs.declared.write_op.WriteOp.{WriteOp}
 use Rattle.hk_model.proofs.Maps.{row_key_total}
 use Rattle.hk_laws.specs.Calls.{IsBuilt}
@@ -26,7 +26,7 @@ writes_row k ws = list_any (λ w. eq_by_cmp row_key_cmp k (written_key w)) ws
 -- the first so many writes make a map, from which the others are built
 pub record Started (ws : List WriteOp) (i : ℕ) : Type 0 where
   pub made : Writes
-  pub rest : built made (drop i ws) ≡ built finmap.empty ws
+  pub rest : writes_result made (drop i ws) ≡ writes_result finmap.empty ws
   pub count : finmap.len made ≡ i
   pub keys : (k : RowKey) → finmap.contains_key made k ≡ writes_row k (take i ws)
 
@@ -58,16 +58,16 @@ abbrev writes_on : Bool → Bool → Result Writes Refusal → Result Writes Ref
 writes_on twice many rest = cond twice (Err TwiceWritten) (cond many (Err TooManyWrites) rest)
 
 module _ (ws : List WriteOp) (i : ℕ) (w : WriteOp) (within : i < length ws) (is : w ≡ get_or ws i w) (s : Started ws i) where
-  one : built finmap.empty ws ≡ writes_on (finmap.contains_key s.made (written_key w)) (nat_le 1024 (finmap.len s.made)) (built (finmap.insert s.made (written_key w) w) (drop (suc i) ws))
-  one = sym s.rest ∙ ap (built s.made) (next_at ws i w within is)
+  one : writes_result finmap.empty ws ≡ writes_on (finmap.contains_key s.made (written_key w)) (nat_le 1024 (finmap.len s.made)) (writes_result (finmap.insert s.made (written_key w) w) (drop (suc i) ws))
+  one = sym s.rest ∙ ap (writes_result s.made) (next_at ws i w within is)
 
-  pub written_twice : writes_row (written_key w) (take i ws) ≡ true → built finmap.empty ws ≡ Err TwiceWritten
-  written_twice there = one ∙ ap (λ b. writes_on b (nat_le 1024 (finmap.len s.made)) (built (finmap.insert s.made (written_key w) w) (drop (suc i) ws))) (s.keys (written_key w) ∙ there)
+  pub written_twice : writes_row (written_key w) (take i ws) ≡ true → writes_result finmap.empty ws ≡ Err TwiceWritten
+  written_twice there = one ∙ ap (λ b. writes_on b (nat_le 1024 (finmap.len s.made)) (writes_result (finmap.insert s.made (written_key w) w) (drop (suc i) ws))) (s.keys (written_key w) ∙ there)
 
-  pub written_often : writes_row (written_key w) (take i ws) ≡ false → 1024 ≤ i → built finmap.empty ws ≡ Err TooManyWrites
+  pub written_often : writes_row (written_key w) (take i ws) ≡ false → 1024 ≤ i → writes_result finmap.empty ws ≡ Err TooManyWrites
   written_often absent full =
       let many : 1024 ≤ finmap.len s.made = let e = s.count in omega arith in
-      one ∙ (λ j. writes_on ((s.keys (written_key w) ∙ absent) j) (le-leb 1024 (finmap.len s.made) many j) (built (finmap.insert s.made (written_key w) w) (drop (suc i) ws)))
+      one ∙ (λ j. writes_on ((s.keys (written_key w) ∙ absent) j) (le-leb 1024 (finmap.len s.made) many j) (writes_result (finmap.insert s.made (written_key w) w) (drop (suc i) ws)))
 
   pub started_more : writes_row (written_key w) (take i ws) ≡ false → i < 1024 → Started ws (i + 1)
   started_more absent room =
@@ -75,8 +75,8 @@ module _ (ws : List WriteOp) (i : ℕ) (w : WriteOp) (within : i < length ws) (i
       let new = s.keys (written_key w) ∙ absent in
       record {
         made = finmap.insert s.made (written_key w) w;
-        rest = ap (λ n. built (finmap.insert s.made (written_key w) w) (drop n ws)) (add-one i)
-            ∙ sym (λ j. writes_on (new j) (lt-leb 1024 (finmap.len s.made) few j) (built (finmap.insert s.made (written_key w) w) (drop (suc i) ws)))
+        rest = ap (λ n. writes_result (finmap.insert s.made (written_key w) w) (drop n ws)) (add-one i)
+            ∙ sym (λ j. writes_on (new j) (lt-leb 1024 (finmap.len s.made) few j) (writes_result (finmap.insert s.made (written_key w) w) (drop (suc i) ws)))
             ∙ sym one;
         count = finmap.len-insert row_key_total s.made (written_key w) w ∙ ap (λ b. cond b (finmap.len s.made) (finmap.len s.made + 1)) new ∙ ap (λ n. n + 1) s.count;
         keys = λ k.
@@ -92,4 +92,4 @@ module _ (ws : List WriteOp) (i : ℕ) (w : WriteOp) (within : i < length ws) (i
 pub all_built : (ws : List WriteOp) (i : ℕ) → Started ws i → length ws ≤ i → i ≤ length ws → IsBuilt ws
 all_built ws i s l m =
     let e : i ≡ length ws = omega (arith, l, m) in
-    (s.made, sym s.rest ∙ ap (built s.made) (ap (λ n. drop n ws) e ∙ drop-length ws))
+    (s.made, sym s.rest ∙ ap (writes_result s.made) (ap (λ n. drop n ws) e ∙ drop-length ws))

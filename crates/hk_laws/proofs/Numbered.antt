@@ -4,7 +4,7 @@ use Rattle.std.proofs.lemmas.Bool.Decides.{nat_tests}
 use Rattle.std.proofs.lemmas.Option.{slice_get_past, slice_get_read}
 use Rattle.std.specs.List.{slice_get, HoldsAt, list_all, filter_map, cons_option}
 use Rattle.std.specs.Option.{option_copied}
-use Rattle.hk_model.specs.Worlds.{numbered, renumbered, all_numbered, both, first_and}
+use Rattle.hk_model.specs.Worlds.{at_number, with_at_number, all_numbered, both, first_and}
 
 not_first : (n : ℕ) → (suc (suc n) == 1) ≡ false
 not_first n = grind (arith, nat_tests)
@@ -14,27 +14,27 @@ one_less n = omega arith
 
 module _ {X : Type 0} where
   -- nothing stands under 0
-  pub numbered_zero : (xs : List X) → None ≡ numbered xs 0
+  pub numbered_zero : (xs : List X) → None ≡ at_number xs 0
   numbered_zero [] = refl
   numbered_zero (x ∷ xs) = numbered_zero xs
 
-  numbered_suc : (xs : List X) (n : ℕ) → slice_get xs n ≡ numbered xs (suc n)
+  numbered_suc : (xs : List X) (n : ℕ) → slice_get xs n ≡ at_number xs (suc n)
   numbered_suc [] n = refl
   numbered_suc (x ∷ xs) zero = refl
-  numbered_suc (x ∷ xs) (suc n) = numbered_suc xs n ∙ sym (λ i. cond (not_first n i) (Some x) (numbered xs (one_less (suc n) i)))
+  numbered_suc (x ∷ xs) (suc n) = numbered_suc xs n ∙ sym (λ i. cond (not_first n i) (Some x) (at_number xs (one_less (suc n) i)))
 
   -- what a slice gives at a place stands under the next number
-  pub numbered_got : (xs : List X) (n : ℕ) (r : Option (Bor X)) → 0 < n → IfSome r (λ x. x.now ≡ get_or xs (n - 1) x.now) → MatchOption r (length xs ≤ n - 1) (λ x. (n - 1 < length xs) × HoldsAt (λ y. x.now ≡ y) xs (n - 1)) → option_copied r ≡ numbered xs n
+  pub numbered_got : (xs : List X) (n : ℕ) (r : Option (Bor X)) → 0 < n → IfSome r (λ x. x.now ≡ get_or xs (n - 1) x.now) → MatchOption r (length xs ≤ n - 1) (λ x. (n - 1 < length xs) × HoldsAt (λ y. x.now ≡ y) xs (n - 1)) → option_copied r ≡ at_number xs n
   numbered_got xs n r above read got =
-      by r read got ∙ numbered_suc xs (n - 1) ∙ (let e : suc (n - 1) ≡ n = omega arith in ap (numbered xs) e)
+      by r read got ∙ numbered_suc xs (n - 1) ∙ (let e : suc (n - 1) ≡ n = omega arith in ap (at_number xs) e)
     where
       by : (r : Option (Bor X)) → IfSome r (λ x. x.now ≡ get_or xs (n - 1) x.now) → MatchOption r (length xs ≤ n - 1) (λ x. (n - 1 < length xs) × HoldsAt (λ y. x.now ≡ y) xs (n - 1)) → option_copied r ≡ slice_get xs (n - 1)
       by None m past = sym (slice_get_past xs (n - 1) past)
       by (Some x) m here = sym (slice_get_read xs (length xs) (n - 1) x.now refl here.0 m)
 
   -- nothing stands past the end
-  pub numbered_past : (xs : List X) (n : ℕ) → length xs < n → numbered xs n ≡ None
-  numbered_past xs n l = sym (numbered_suc xs (n - 1) ∙ (let e : suc (n - 1) ≡ n = omega arith in ap (numbered xs) e)) ∙ slice_get_past xs (n - 1) (omega arith)
+  pub numbered_past : (xs : List X) (n : ℕ) → length xs < n → at_number xs n ≡ None
+  numbered_past xs n l = sym (numbered_suc xs (n - 1) ∙ (let e : suc (n - 1) ≡ n = omega arith in ap (at_number xs) e)) ∙ slice_get_past xs (n - 1) (omega arith)
 
   read_at : (xs : List X) (i : ℕ) (d : X) → i < length xs → slice_get xs i ≡ Some (get_or xs i d)
   read_at [] i d l = absurd (omega arith)
@@ -42,17 +42,17 @@ module _ {X : Type 0} where
   read_at (x ∷ xs) (suc i) d l = read_at xs i d (omega arith)
 
   -- what is read at a place stands under the next number
-  pub numbered_at : (xs : List X) (i k : ℕ) (d : X) → i + 1 ≡ k → i < length xs → numbered xs k ≡ Some (get_or xs i d)
-  numbered_at xs i k d e l = (let f : k ≡ suc i = omega arith in ap (numbered xs) f) ∙ sym (numbered_suc xs i) ∙ read_at xs i d l
+  pub numbered_at : (xs : List X) (i k : ℕ) (d : X) → i + 1 ≡ k → i < length xs → at_number xs k ≡ Some (get_or xs i d)
+  numbered_at xs i k d e l = (let f : k ≡ suc i = omega arith in ap (at_number xs) f) ∙ sym (numbered_suc xs i) ∙ read_at xs i d l
 
-  renumbered_suc : (xs : List X) (n : ℕ) (y : X) → n < length xs → set xs n y ≡ renumbered xs (suc n) y
+  renumbered_suc : (xs : List X) (n : ℕ) (y : X) → n < length xs → set xs n y ≡ with_at_number xs (suc n) y
   renumbered_suc [] n y l = absurd (omega arith)
   renumbered_suc (x ∷ xs) zero y l = refl
-  renumbered_suc (x ∷ xs) (suc n) y l = ap (λ zs. x ∷ zs) (renumbered_suc xs n y (omega arith)) ∙ sym (λ i. cond (not_first n i) (y ∷ xs) (x ∷ renumbered xs (one_less (suc n) i) y))
+  renumbered_suc (x ∷ xs) (suc n) y l = ap (λ zs. x ∷ zs) (renumbered_suc xs n y (omega arith)) ∙ sym (λ i. cond (not_first n i) (y ∷ xs) (x ∷ with_at_number xs (one_less (suc n) i) y))
 
   -- what is put in at a place stands under the next number
-  pub renumbered_at : (xs : List X) (i k : ℕ) (y : X) → i + 1 ≡ k → i < length xs → set xs i y ≡ renumbered xs k y
-  renumbered_at xs i k y e l = renumbered_suc xs i y l ∙ (let f : suc i ≡ k = omega arith in ap (λ n. renumbered xs n y) f)
+  pub renumbered_at : (xs : List X) (i k : ℕ) (y : X) → i + 1 ≡ k → i < length xs → set xs i y ≡ with_at_number xs k y
+  renumbered_at xs i k y e l = renumbered_suc xs i y l ∙ (let f : suc i ≡ k = omega arith in ap (λ n. with_at_number xs n y) f)
 
   -- putting in what is there already changes nothing
   pub set_same : (xs : List X) (i : ℕ) (d : X) → i < length xs → set xs i (get_or xs i d) ≡ xs
@@ -70,25 +70,25 @@ replicate_more n x = ap (λ k. replicate k x) (add-one n) ∙ replicate_next n x
 
 -- the ones under all these numbers, where none is missing
 module _ {X : Type 0} (xs : List X) where
-  found_first : (n : ℕ) (ns : List ℕ) → (list_all (λ m. is_some (numbered xs m)) ns ≡ true → all_numbered xs ns ≡ Some (filter_map (numbered xs) ns)) → (x : Option X) → numbered xs n ≡ x → list_all (λ m. is_some (numbered xs m)) (n ∷ ns) ≡ true → all_numbered xs (n ∷ ns) ≡ Some (filter_map (numbered xs) (n ∷ ns))
-  found_first n ns more None e h = absurd (true≢false (sym h ∙ ap (λ y. is_some y && list_all (λ m. is_some (numbered xs m)) ns) e))
+  found_first : (n : ℕ) (ns : List ℕ) → (list_all (λ m. is_some (at_number xs m)) ns ≡ true → all_numbered xs ns ≡ Some (filter_map (at_number xs) ns)) → (x : Option X) → at_number xs n ≡ x → list_all (λ m. is_some (at_number xs m)) (n ∷ ns) ≡ true → all_numbered xs (n ∷ ns) ≡ Some (filter_map (at_number xs) (n ∷ ns))
+  found_first n ns more None e h = absurd (true≢false (sym h ∙ ap (λ y. is_some y && list_all (λ m. is_some (at_number xs m)) ns) e))
   found_first n ns more (Some x) e h =
-      let rest = more (sym (ap (λ y. is_some y && list_all (λ m. is_some (numbered xs m)) ns) e) ∙ h) in
-      (λ i. first_and (both (e i) (rest i))) ∙ sym (ap (λ y. Some (cons_option y (filter_map (numbered xs) ns))) e)
+      let rest = more (sym (ap (λ y. is_some y && list_all (λ m. is_some (at_number xs m)) ns) e) ∙ h) in
+      (λ i. first_and (both (e i) (rest i))) ∙ sym (ap (λ y. Some (cons_option y (filter_map (at_number xs) ns))) e)
 
-  pub all_found : (ns : List ℕ) → list_all (λ n. is_some (numbered xs n)) ns ≡ true → all_numbered xs ns ≡ Some (filter_map (numbered xs) ns)
+  pub all_found : (ns : List ℕ) → list_all (λ n. is_some (at_number xs n)) ns ≡ true → all_numbered xs ns ≡ Some (filter_map (at_number xs) ns)
   all_found [] h = refl
-  all_found (n ∷ ns) h = found_first n ns (all_found ns) (numbered xs n) refl h
+  all_found (n ∷ ns) h = found_first n ns (all_found ns) (at_number xs n) refl h
 
-  missing_first : (n : ℕ) (ns : List ℕ) → (list_all (λ m. is_some (numbered xs m)) ns ≡ false → all_numbered xs ns ≡ None) → (x : Option X) → numbered xs n ≡ x → list_all (λ m. is_some (numbered xs m)) (n ∷ ns) ≡ false → all_numbered xs (n ∷ ns) ≡ None
+  missing_first : (n : ℕ) (ns : List ℕ) → (list_all (λ m. is_some (at_number xs m)) ns ≡ false → all_numbered xs ns ≡ None) → (x : Option X) → at_number xs n ≡ x → list_all (λ m. is_some (at_number xs m)) (n ∷ ns) ≡ false → all_numbered xs (n ∷ ns) ≡ None
   missing_first n ns more None e h = ap (λ y. first_and (both y (all_numbered xs ns))) e
   missing_first n ns more (Some x) e h =
-      let rest = more (sym (ap (λ y. is_some y && list_all (λ m. is_some (numbered xs m)) ns) e) ∙ h) in
+      let rest = more (sym (ap (λ y. is_some y && list_all (λ m. is_some (at_number xs m)) ns) e) ∙ h) in
       λ i. first_and (both (e i) (rest i))
 
-  pub one_missing : (ns : List ℕ) → list_all (λ n. is_some (numbered xs n)) ns ≡ false → all_numbered xs ns ≡ None
+  pub one_missing : (ns : List ℕ) → list_all (λ n. is_some (at_number xs n)) ns ≡ false → all_numbered xs ns ≡ None
   one_missing [] h = absurd (true≢false h)
-  one_missing (n ∷ ns) h = missing_first n ns (one_missing ns) (numbered xs n) refl h
+  one_missing (n ∷ ns) h = missing_first n ns (one_missing ns) (at_number xs n) refl h
 
 pub both_none : {Y Z : Type 0} (y : Option Y) → both {X = Y} {Y = Z} y None ≡ None
 both_none None = refl

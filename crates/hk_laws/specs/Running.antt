@@ -9,6 +9,6 @@ pub record Running : Type 0 where
   pub world : World Content
 
 -- what an event tells, and the world after it
-abbrev pub stepped : Running → EventValue → ToldValue × Running
-stepped r event =
+abbrev pub step_outcome : Running → EventValue → ToldValue × Running
+step_outcome r event =
     let after = step (by_contents r.config) r.config r.world event in (after.0, record { config = r.config; world = after.1 })

@@ -6,9 +6,9 @@ ghost use Rattle.hk_model.specs.Answers.{reply};
 ghost use Rattle.hk_model.specs.Content.{readable};
 ghost use Rattle.hk_model.specs.Events.{told_seen};
 ghost use Rattle.hk_model.specs.Rules as rules;
-ghost use Rattle.hk_model.specs.Worlds.{told_batch, told_by, told_reply, told_taken};
+ghost use Rattle.hk_model.specs.Worlds.{outcome_of_batch, outcome_by, outcome_of_reply, outcome_of_take};
 ghost use Rattle.hk_model.specs.Worlds.ToldValue.{Fronted, Refused};
-ghost use Rattle.hk_laws.specs.Calls.{Gives, is_memory, tells_lack, told_first};
+ghost use Rattle.hk_laws.specs.Calls.{Gives, is_memory, is_memory_outcome, is_first_outcome};
 
 use hk_log::Item;
 use hk_model::{Query, Told};
@@ -16,9 +16,9 @@ use hk_state::{ReplicaState, front_of};
 use hk_types::{Config, Refusal, Time};
 use std::alloc::Global;
 
-/// What a refusal is told as. Want of memory is told by `World::step`.
+/// What a refusal is told as. Out of memory is told by `World::step`.
 pub(crate) fn refused(why: Refusal) -> Result<Told, Refusal>
-    ensures { MatchResult result (λ told. (told_seen told ≡ Refused why) × (is_memory why ≡ false)) (λ e. (e ≡ Memory) × (why ≡ Memory)) }
+    ensures { MatchResult result (λ outcome. (told_seen outcome ≡ Refused why) × (is_memory why ≡ false)) (λ e. (e ≡ Memory) × (why ≡ Memory)) }
 {
     match why {
         Refusal::Memory => Err(Refusal::Memory),
@@ -28,7 +28,7 @@ pub(crate) fn refused(why: Refusal) -> Result<Told, Refusal>
 
 /// A replica absorbs an item.
 pub(crate) fn absorb(state: &mut ReplicaState, item: &Item) -> Result<Told, Refusal>
-    ensures { Gives (told_taken state.old (rules.taken state.old item.now)) state.old state.new result }
+    ensures { Gives (outcome_of_take state.old (rules.take_result state.old item.now)) state.old state.new result }
 {
     match state.absorb(item) {
         Ok(took) => Ok(Told::Took(took)),
@@ -38,7 +38,7 @@ pub(crate) fn absorb(state: &mut ReplicaState, item: &Item) -> Result<Told, Refu
 
 /// A replica is pruned to a time.
 pub(crate) fn prune(state: &mut ReplicaState, horizon: Time) -> Result<Told, Refusal>
-    ensures { Gives (told_by state.old (rules.pruned state.old horizon)) state.old state.new result }
+    ensures { Gives (outcome_by state.old (rules.prune_result state.old horizon)) state.old state.new result }
 {
     match state.prune(horizon) {
         Ok(()) => Ok(Told::Done),
@@ -53,10 +53,10 @@ pub(crate) fn ask(
     time: Time,
     query: &Query,
 ) -> Result<Told, Refusal>
-    ensures ok { IfOk result (λ told. told_seen told ≡ told_reply (reply state.now time query.now)) }
-    ensures heard { IfOk result (λ told. tells_lack (told_seen told) ≡ false) }
+    ensures ok { IfOk result (λ outcome. told_seen outcome ≡ outcome_of_reply (reply state.now time query.now)) }
+    ensures heard { IfOk result (λ outcome. is_memory_outcome (told_seen outcome) ≡ false) }
     ensures err { IfErr result (λ why. why ≡ Memory) }
-    ensures first { OnErr result (told_first (told_reply (reply state.now time query.now)) ≡ false) }
+    ensures first { OnErr result (is_first_outcome (outcome_of_reply (reply state.now time query.now)) ≡ false) }
 {
     match hk_query::ask(alloc, state, time, query) {
         Ok(answer) => Ok(Told::Answered(answer)),
@@ -66,8 +66,8 @@ pub(crate) fn ask(
 
 /// A replica tells from where to where it can be read.
 pub(crate) fn front(state: &ReplicaState) -> Told
-    ensures told { told_seen result ≡ Fronted state.now.horizon (readable state.now) }
-    ensures heard { tells_lack (told_seen result) ≡ false }
+    ensures outcome { told_seen result ≡ Fronted state.now.horizon (readable state.now) }
+    ensures heard { is_memory_outcome (told_seen result) ≡ false }
 {
     Told::Fronted(front_of(state))
 }

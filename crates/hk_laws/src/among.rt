@@ -3,9 +3,9 @@
 ghost use Rattle.std.specs.Prelude.{◌≡◌, ◌≢◌, ◌+◌, ◌<◌, length, MatchOption, Ok, false};
 ghost use Rattle.hk_model.specs.Events.{told_seen};
 ghost use Rattle.hk_model.specs.Rules as rules;
-ghost use Rattle.hk_model.specs.Worlds.{all_numbered, both, delta_join, numbered, told_batch, told_by, told_taken};
+ghost use Rattle.hk_model.specs.Worlds.{all_numbered, both, delta_join, at_number, outcome_of_batch, outcome_by, outcome_of_take};
 ghost use Rattle.hk_model.specs.Worlds.ToldValue.{Done, Refused};
-ghost use Rattle.hk_laws.specs.Calls.{Acts, is_memory, told_first};
+ghost use Rattle.hk_laws.specs.Calls.{Acts, is_memory, is_first_outcome};
 
 use crate::acting::{self, refused};
 use crate::joining;
@@ -24,7 +24,7 @@ pub(crate) fn absorb(
     items: &[Item],
     item: u64,
 ) -> Result<Told, Refusal>
-    ensures { Acts replicas.old replicas.new replica (both (numbered replicas.old replica) (numbered items.now item)) (λ p. told_taken p.0 (rules.taken p.0 p.1)) result }
+    ensures { Acts replicas.old replicas.new replica (both (at_number replicas.old replica) (at_number items.now item)) (λ p. outcome_of_take p.0 (rules.take_result p.0 p.1)) result }
 {
     let Some(place) = place_of(replicas, replica) else {
         return Ok(Told::Refused(Refusal::NoSuch));
@@ -41,7 +41,7 @@ pub(crate) fn prune(
     replica: u16,
     horizon: Time,
 ) -> Result<Told, Refusal>
-    ensures { Acts replicas.old replicas.new replica (numbered replicas.old replica) (λ r. told_by r (rules.pruned r horizon)) result }
+    ensures { Acts replicas.old replicas.new replica (at_number replicas.old replica) (λ r. outcome_by r (rules.prune_result r horizon)) result }
 {
     let Some(place) = place_of(replicas, replica) else {
         return Ok(Told::Refused(Refusal::NoSuch));
@@ -58,7 +58,7 @@ pub(crate) fn batch(
     items: &[Item],
     numbers: &[u64],
 ) -> Result<Told, Refusal>
-    ensures { Acts replicas.old replicas.new replica (both (numbered replicas.old replica) (all_numbered items.now numbers.now)) (λ p. told_batch p.0 (rules.gathered config p.1)) result }
+    ensures { Acts replicas.old replicas.new replica (both (at_number replicas.old replica) (all_numbered items.now numbers.now)) (λ p. outcome_of_batch p.0 (rules.gather_result config p.1)) result }
 {
     let Some(place) = place_of(replicas, replica) else {
         return Ok(Told::Refused(Refusal::NoSuch));
@@ -75,15 +75,15 @@ pub(crate) fn batch(
 
 /// Why what another replica has learnt since a time is refused before it is cut, if it is: the time is below its
 /// horizon, or above the readable mark of the replica that is to join it.
-fn barred(taker: &ReplicaState, source: &ReplicaState, base: Time) -> Option<Refusal>
-    ensures { MatchOption result (told_first (delta_join taker.now source.now base).0 ≡ false) (λ why. (delta_join taker.now source.now base ≡ (Refused why, taker.now)) × (is_memory why ≡ false)) }
+fn barred(target: &ReplicaState, source: &ReplicaState, base: Time) -> Option<Refusal>
+    ensures { MatchOption result (is_first_outcome (delta_join target.now source.now base).0 ≡ false) (λ why. (delta_join target.now source.now base ≡ (Refused why, target.now)) × (is_memory why ≡ false)) }
 {
     let horizon = source.horizon();
     if base < horizon {
         return Some(Refusal::TooOld { horizon });
     }
-    let readable = taker.readable();
-    let (own, sent) = (taker.config(), source.config());
+    let readable = target.readable();
+    let (own, sent) = (target.config(), source.config());
     if own.log() == sent.log() && own.streams() == sent.streams() && readable < base {
         return Some(Refusal::Gap { base, readable });
     }
@@ -98,29 +98,29 @@ pub(crate) fn delta(
     from: u16,
     base: Time,
 ) -> Result<Told, Refusal>
-    ensures { Acts replicas.old replicas.new to (both (numbered replicas.old to) (numbered replicas.old from)) (λ p. delta_join p.0 p.1 base) result }
+    ensures { Acts replicas.old replicas.new to (both (at_number replicas.old to) (at_number replicas.old from)) (λ p. delta_join p.0 p.1 base) result }
 {
-    let Some(taker) = place_of(replicas, to) else {
+    let Some(target) = place_of(replicas, to) else {
         return Ok(Told::Refused(Refusal::NoSuch));
     };
     let Some(source) = place_of(replicas, from) else {
         return Ok(Told::Refused(Refusal::NoSuch));
     };
-    if let Some(why) = barred(&replicas[taker], &replicas[source], base) {
+    if let Some(why) = barred(&replicas[target], &replicas[source], base) {
         return Ok(Told::Refused(why));
     }
     match delta_since(alloc, &replicas[source], base) {
-        Ok(fragment) => joining::join(&mut replicas[taker], &fragment),
+        Ok(fragment) => joining::join(&mut replicas[target], &fragment),
         Err(why) => refused(why),
     }
 }
 
 /// A replica is merged into another one.
 fn merge_apart(replicas: &mut [ReplicaState], to: usize, from: usize) -> Result<Told, Refusal>
-    requires taker { to < length replicas.old }
+    requires target { to < length replicas.old }
     requires source { from < length replicas.old }
     requires apart { to ≢ from }
-    ensures { Acts replicas.old replicas.new (to + 1) (both (numbered replicas.old (to + 1)) (numbered replicas.old (from + 1))) (λ p. told_by p.0 (rules.merged p.0 p.1)) result }
+    ensures { Acts replicas.old replicas.new (to + 1) (both (at_number replicas.old (to + 1)) (at_number replicas.old (from + 1))) (λ p. outcome_by p.0 (rules.merge_result p.0 p.1)) result }
 {
     if to < from {
         let (low, high) = replicas.split_at_mut(from);
@@ -132,24 +132,24 @@ fn merge_apart(replicas: &mut [ReplicaState], to: usize, from: usize) -> Result<
 
 /// A replica is merged into another one. Merged into itself it stays as it is.
 pub(crate) fn merge(replicas: &mut [ReplicaState], to: u16, from: u16) -> Result<Told, Refusal>
-    ensures { Acts replicas.old replicas.new to (both (numbered replicas.old to) (numbered replicas.old from)) (λ p. told_by p.0 (rules.merged p.0 p.1)) result }
+    ensures { Acts replicas.old replicas.new to (both (at_number replicas.old to) (at_number replicas.old from)) (λ p. outcome_by p.0 (rules.merge_result p.0 p.1)) result }
 {
-    let Some(taker) = place_of(replicas, to) else {
+    let Some(target) = place_of(replicas, to) else {
         return Ok(Told::Refused(Refusal::NoSuch));
     };
     let Some(source) = place_of(replicas, from) else {
         return Ok(Told::Refused(Refusal::NoSuch));
     };
-    if taker == source {
-        return Ok(same(&replicas[taker]));
+    if target == source {
+        return Ok(same(&replicas[target]));
     }
-    merge_apart(replicas, taker, source)
+    merge_apart(replicas, target, source)
 }
 
 /// What a merge of a replica with itself tells: it leaves the replica as it is.
 fn same(state: &ReplicaState) -> Told
-    ensures told { told_seen result ≡ Done }
-    ensures whole { rules.merged state.now state.now ≡ Ok state.now }
+    ensures outcome { told_seen result ≡ Done }
+    ensures whole { rules.merge_result state.now state.now ≡ Ok state.now }
 {
     let _lawful = state.horizon();
     Told::Done

@@ -5,7 +5,7 @@ ghost use Rattle.std.specs.List.{list_any};
 ghost use Rattle.std.specs.Ordering.{eq_by_cmp};
 ghost use Rattle.std.specs.FinMap as finmap;
 ghost use Rattle.hk_types.specs.declared.faults.Refusal.TheVariants.{Memory};
-ghost use Rattle.hk_model.specs.Commits.{built};
+ghost use Rattle.hk_model.specs.Commits.{writes_result};
 ghost use Rattle.hk_model.specs.Histories.{written_key};
 ghost use Rattle.hk_model.specs.Rows.{row_key_cmp};
 ghost use Rattle.hk_laws.specs.Calls.{IsBuilt};
@@ -37,7 +37,7 @@ pub(crate) fn transaction(
     read_at: Time,
     writes: Vec<WriteOp>,
 ) -> Result<Txn, Refusal>
-    ensures { MatchResult result (λ txn. (txn.read_at ≡ read_at) × (built finmap.empty writes.items ≡ Ok txn.writes)) (λ why. (built finmap.empty writes.items ≡ Err why) ⊎ (why ≡ Memory)) }
+    ensures { MatchResult result (λ txn. (txn.read_at ≡ read_at) × (writes_result finmap.empty writes.items ≡ Ok txn.writes)) (λ why. (writes_result finmap.empty writes.items ≡ Err why) ⊎ (why ≡ Memory)) }
 {
     let mut txn = Txn::at(alloc, read_at);
     for write in writes {
@@ -58,7 +58,7 @@ fn is_written(writes: &[WriteOp], key: RowKey) -> bool
 /// Why these writes make no transaction, if they make none. It takes no memory. The cost grows as the square of
 /// their number, up to `MOST_WRITES`.
 pub(crate) fn misbuilt(writes: &[WriteOp]) -> Option<Refusal>
-    ensures { MatchOption result (IsBuilt writes.now) (λ why. built finmap.empty writes.now ≡ Err why) }
+    ensures { MatchOption result (IsBuilt writes.now) (λ why. writes_result finmap.empty writes.now ≡ Err why) }
 {
     for i in 0..writes.len() {
         if is_written(&writes[..i], RowKey::of(&writes[i])) {

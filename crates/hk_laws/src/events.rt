@@ -5,8 +5,8 @@ ghost use Rattle.hk_types.specs.declared.faults.Refusal.TheVariants.{Memory};
 ghost use Rattle.hk_model.specs.Events.{told_seen};
 ghost use Rattle.hk_model.specs.Worlds.{asked_primary};
 ghost use Rattle.hk_model.specs.Worlds.EventValue.{Commit, MarkOf, Absorb, Batch, Prune, Merge, Delta, Ask, FrontOf};
-ghost use Rattle.hk_laws.specs.Running.{stepped};
-ghost use Rattle.hk_laws.specs.Calls.{Happens, Turns, barred, tells_lack, told_first};
+ghost use Rattle.hk_laws.specs.Running.{step_outcome};
+ghost use Rattle.hk_laws.specs.Calls.{Happens, Turns, refusal_of_transaction, is_memory_outcome, is_first_outcome};
 
 use crate::acting::{self, refused};
 use crate::among;
@@ -19,10 +19,10 @@ use hk_types::{Refusal, StreamNo, Time};
 
 /// A primary is asked at a time.
 fn ask_primary(primary: &Primary, time: Time, query: &Query) -> Result<Told, Refusal>
-    ensures ok { IfOk result (λ told. told_seen told ≡ asked_primary primary.now.history time query.now) }
-    ensures heard { IfOk result (λ told. tells_lack (told_seen told) ≡ false) }
+    ensures ok { IfOk result (λ outcome. told_seen outcome ≡ asked_primary primary.now.history time query.now) }
+    ensures heard { IfOk result (λ outcome. is_memory_outcome (told_seen outcome) ≡ false) }
     ensures err { IfErr result (λ why. why ≡ Memory) }
-    ensures first { OnErr result (told_first (asked_primary primary.now.history time query.now) ≡ false) }
+    ensures first { OnErr result (is_first_outcome (asked_primary primary.now.history time query.now) ≡ false) }
 {
     match primary.ask(time, query) {
         Ok(answer) => Ok(Told::Answered(answer)),
@@ -33,7 +33,7 @@ fn ask_primary(primary: &Primary, time: Time, query: &Query) -> Result<Told, Ref
 impl World {
     /// Why a transaction is refused whatever it writes, if it is. It takes no memory.
     fn barred(&self, stream: StreamNo, read_at: Time) -> Option<Refusal>
-        ensures { result ≡ barred self.now.config self.now.world.history stream read_at }
+        ensures { result ≡ refusal_of_transaction self.now.config self.now.world.history stream read_at }
     {
         if stream.number() > self.primary.config().streams() {
             return Some(Refusal::NoStream);
@@ -143,8 +143,8 @@ impl World {
 
     /// A replica tells from where to where it can be read.
     pub(crate) fn front_of(&self, replica: u16) -> Told
-        ensures told { told_seen result ≡ (stepped self.now (FrontOf replica)).0 }
-        ensures heard { tells_lack (told_seen result) ≡ false }
+        ensures outcome { told_seen result ≡ (step_outcome self.now (FrontOf replica)).0 }
+        ensures heard { is_memory_outcome (told_seen result) ≡ false }
     {
         match numbered(&self.replicas, u64::from(replica)) {
             Some(state) => acting::front(state),

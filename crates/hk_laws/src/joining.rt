@@ -1,7 +1,7 @@
 //! What one replica takes of others, and of several items at once.
 
 ghost use Rattle.hk_model.specs.Rules as rules;
-ghost use Rattle.hk_model.specs.Worlds.{told_batch, told_by};
+ghost use Rattle.hk_model.specs.Worlds.{outcome_of_batch, outcome_by};
 ghost use Rattle.hk_laws.specs.Calls.{Gives};
 
 use crate::acting::refused;
@@ -14,7 +14,7 @@ use std::alloc::Global;
 
 /// A replica joins a fragment.
 pub(crate) fn join(state: &mut ReplicaState, fragment: &Fragment) -> Result<Told, Refusal>
-    ensures { Gives (told_by state.old (rules.joined state.old fragment.now)) state.old state.new result }
+    ensures { Gives (outcome_by state.old (rules.join_result state.old fragment.now)) state.old state.new result }
 {
     match hk_delta::join(state, fragment) {
         Ok(()) => Ok(Told::Done),
@@ -29,7 +29,7 @@ pub(crate) fn batch(
     state: &mut ReplicaState,
     items: &[Item],
 ) -> Result<Told, Refusal>
-    ensures { Gives (told_batch state.old (rules.gathered config items.now)) state.old state.new result }
+    ensures { Gives (outcome_of_batch state.old (rules.gather_result config items.now)) state.old state.new result }
 {
     match fragment_of(alloc, config, items) {
         Ok(fragment) => join(state, &fragment),
@@ -39,7 +39,7 @@ pub(crate) fn batch(
 
 /// A replica takes all that another one holds.
 pub(crate) fn merge(state: &mut ReplicaState, peer: &ReplicaState) -> Result<Told, Refusal>
-    ensures { Gives (told_by state.old (rules.merged state.old peer.now)) state.old state.new result }
+    ensures { Gives (outcome_by state.old (rules.merge_result state.old peer.now)) state.old state.new result }
 {
     match hk_merge::merge(state, peer) {
         Ok(()) => Ok(Told::Done),

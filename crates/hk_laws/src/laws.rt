@@ -4,7 +4,7 @@
 ghost use Rattle.hk_model.specs.Laws.{
   DeliverLaw,
   DeliverReplies,
-  DeliverStands,
+  DeliverRepresents,
   JoinLaw,
   MergeAssociates,
   MergeCommutes,
@@ -17,16 +17,16 @@ ghost use Rattle.hk_model.specs.Laws.{
 };
 
 /// One replica, end to end: deliveries of a history's items and prunings, in any order and with repeats,
-/// leave the canon of the items at the greatest accepted horizon, which stands for them; and from that horizon
+/// leave the content of the items at the greatest accepted horizon, which represents them; and from that horizon
 /// to its readable mark it replies with the primary's rows.
 pub fn deliver_law()
-    ensures canon { DeliverLaw }
-    ensures stands { DeliverStands }
+    ensures content_of { DeliverLaw }
+    ensures represents { DeliverRepresents }
     ensures replies { DeliverReplies }
     ensures rows { ReplyLaw }
 {}
 
-/// What joins of parts and merges of wholes give stands for both item sets at the greater horizon. So merge is
+/// What joins of parts and merges of wholes give represents both item sets at the greater horizon. So merge is
 /// commutative, associative and idempotent there.
 pub fn merge_law()
     ensures join { JoinLaw }

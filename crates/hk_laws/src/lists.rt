@@ -11,7 +11,7 @@ use std::alloc::{AllocError, Global};
 
 /// What stands under a number in a list.
 pub(crate) fn numbered<X>(list: &[X], number: u64) -> Option<&X>
-    ensures { option_copied result ≡ worlds.numbered list.now number }
+    ensures { option_copied result ≡ worlds.at_number list.now number }
 {
     if number == 0 {
         return None;
@@ -21,7 +21,7 @@ pub(crate) fn numbered<X>(list: &[X], number: u64) -> Option<&X>
 
 /// The place of the replica under a number, counted from 0.
 pub(crate) fn place_of(replicas: &[ReplicaState], number: u16) -> Option<usize>
-    ensures { MatchOption result (worlds.numbered replicas.now number ≡ None) (λ place. (place + 1 ≡ number) × (place < length replicas.now)) }
+    ensures { MatchOption result (worlds.at_number replicas.now number ≡ None) (λ place. (place + 1 ≡ number) × (place < length replicas.now)) }
 {
     let number = usize::from(number);
     if number == 0 {
@@ -35,7 +35,7 @@ pub(crate) fn place_of(replicas: &[ReplicaState], number: u16) -> Option<usize>
 
 /// Whether an item stands under each of these numbers.
 pub(crate) fn all_there(items: &[Item], numbers: &[u64]) -> bool
-    ensures { result ≡ list_all (λ n. is_some (worlds.numbered items.now n)) numbers.now }
+    ensures { result ≡ list_all (λ n. is_some (worlds.at_number items.now n)) numbers.now }
 {
     for number in numbers {
         if numbered(items, *number).is_none() {
@@ -52,7 +52,7 @@ fn push_copy(
     items: &[Item],
     number: u64,
 ) -> Result<(), AllocError>
-    ensures { OnOk result (copies.new.items ≡ copies.old.items ++ filter_map (worlds.numbered items.now) (number ∷ [])) }
+    ensures { OnOk result (copies.new.items ≡ copies.old.items ++ filter_map (worlds.at_number items.now) (number ∷ [])) }
 {
     if let Some(item) = numbered(items, number) {
         copies.push(item.copy(alloc)?)?;
@@ -66,7 +66,7 @@ pub(crate) fn copies(
     items: &[Item],
     numbers: &[u64],
 ) -> Result<Vec<Item>, AllocError>
-    ensures { IfOk result (λ copies. copies.items ≡ filter_map (worlds.numbered items.now) numbers.now) }
+    ensures { IfOk result (λ copies. copies.items ≡ filter_map (worlds.at_number items.now) numbers.now) }
 {
     let mut copies = Vec::with_capacity(alloc, numbers.len())?;
     for number in numbers {

@@ -12,13 +12,13 @@ use hk_types::{Config, Refusal};
 use std::alloc::Global;
 
 /// Adds an answer to a list that has room for it.
-fn push_told(list: &mut Vec<Told>, told: Told)
+fn push_outcome(list: &mut Vec<Told>, outcome: Told)
     requires { vec_len list.old < vec_capacity list.old }
-    ensures items { list.new.items ≡ list.old.items ++ told ∷ [] }
+    ensures items { list.new.items ≡ list.old.items ++ outcome ∷ [] }
     ensures len { vec_len list.new ≡ vec_len list.old + 1 }
     ensures room { vec_capacity list.old ≤ vec_capacity list.new }
 {
-    let pushed = list.push(told);
+    let pushed = list.push(outcome);
     prove!(pushed.is_ok());
 }
 
@@ -35,13 +35,13 @@ pub fn run(
 ) -> Result<Vec<Told>, Refusal>
     requires some { 1 ≤ replicas }
     requires few { replicas ≤ 16 }
-    ensures ok { IfOk result (λ told. Runs config replicas (map event_seen events.items) (map told_seen told.items)) }
+    ensures ok { IfOk result (λ outcome. Runs config replicas (map event_seen events.items) (map told_seen outcome.items)) }
     ensures err { IfErr result (λ why. why ≡ Memory) }
 {
-    let mut told = Vec::with_capacity(alloc, events.len())?;
+    let mut outcome = Vec::with_capacity(alloc, events.len())?;
     let mut world = World::new(alloc, config, replicas)?;
     for event in events {
-        push_told(&mut told, world.step(event));
+        push_outcome(&mut outcome, world.step(event));
     }
-    Ok(told)
+    Ok(outcome)
 }

@@ -32,7 +32,7 @@ impl World {
         ensures { Steps self.old self.new (event_seen event) (told_seen result) }
     {
         match self.act(event) {
-            Ok(told) => told,
+            Ok(outcome) => outcome,
             Err(why) => Told::Refused(why),
         }
     }
@@ -40,16 +40,16 @@ impl World {
     /// Lets an event happen, and tells what came of it.
     ///
     /// A replica or an item that is not there is refused `NoSuch`, before any other test. Else what is refused
-    /// and why is said at the call that the event stands for: of the transaction's `put`, `remove` and `commit`
+    /// and why is said at the call that the event represents: of the transaction's `put`, `remove` and `commit`
     /// for a commit, `Primary::mark` for a mark, `ReplicaState::absorb` and `prune`, `fragment_of` and `join`
     /// for a batch, `merge`, `delta_since` and `join` for a delta, and `ask`. `Memory` comes where a growth was
-    /// refused, and last: where the replicas stand for items, only where nothing else is refused, or a transaction
+    /// refused, and last: where the replicas represent items, only where nothing else is refused, or a transaction
     /// for what it writes. A refusal changes nothing. A merge of a replica with itself leaves it as it is. It costs
     /// what those calls do; the items of a batch are copied, and no replica is. A commit that is refused `NoStream`
     /// or `NotYet` costs the square of its number of writes, up to 1,024.
     pub fn step(&mut self, event: Event) -> Told
         ensures gives { Steps self.old self.new (event_seen event) (told_seen result) }
-        ensures stands { StepsOf self.old self.new (event_seen event) (told_seen result) }
+        ensures represents { StepsOf self.old self.new (event_seen event) (told_seen result) }
     {
         self.tell(event)
     }

@@ -3,7 +3,7 @@
 ghost use Rattle.std.specs.Prelude.{◌≡◌, ◌≤◌, length, replicate, IfOk, IfErr};
 ghost use Rattle.hk_types.specs.declared.faults.Refusal.TheVariants.{Memory};
 ghost use Rattle.hk_model.specs.Histories.{last};
-ghost use Rattle.hk_model.specs.Replicas.{nothing};
+ghost use Rattle.hk_model.specs.Replicas.{empty_content};
 ghost use Rattle.hk_model.specs.Worlds.{Agree, new_contents, new_items};
 
 use hk_primary::Primary;
@@ -40,7 +40,7 @@ impl Model for World {
 
 /// So many replicas that took nothing.
 fn new_replicas(alloc: Global, config: Config, count: u16) -> Result<Vec<ReplicaState>, Refusal>
-    ensures ok { IfOk result (λ replicas. replicas.items ≡ replicate count (nothing config)) }
+    ensures ok { IfOk result (λ replicas. replicas.items ≡ replicate count (empty_content config)) }
     ensures err { IfErr result (λ why. why ≡ Memory) }
 {
     let mut replicas = Vec::with_capacity(alloc, usize::from(count))?;
@@ -51,13 +51,13 @@ fn new_replicas(alloc: Global, config: Config, count: u16) -> Result<Vec<Replica
 }
 
 impl World {
-    /// A world with no commits and with replicas that took nothing and stand for no items. All of it grows by `alloc`. The only
+    /// A world with no commits and with replicas that took nothing and represent no items. All of it grows by `alloc`. The only
     /// refusal is `Memory`. Costs by the number of replicas times that of streams.
     pub fn new(alloc: Global, config: Config, replicas: u16) -> Result<World, Refusal>
         requires some { 1 ≤ replicas }
         requires few { replicas ≤ 16 }
         ensures ok { IfOk result (λ world. world ≡ record { config = config; world = new_contents config replicas }) }
-        ensures stands { IfOk result (λ world. Agree config (new_items replicas) world.world) }
+        ensures represents { IfOk result (λ world. Agree config (new_items replicas) world.world) }
         ensures err { IfErr result (λ why. why ≡ Memory) }
     {
         let primary = Primary::new(alloc, config)?;

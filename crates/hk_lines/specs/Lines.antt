@@ -91,13 +91,13 @@ abbrev pub front_line : ℕ → ℕ → List ℕ
 front_line horizon readable = codes "front horizon " ++ decimal horizon ++ codes " readable " ++ decimal readable ++ line_end
 
 -- what is printed of what a world is told
-abbrev pub told_lines : ToldValue → List ℕ
-told_lines (Committed None) = codes "committed none" ++ line_end
-told_lines (Committed (Some time)) = codes "committed " ++ decimal time ++ line_end
-told_lines (Marked m) = emitted_line m
-told_lines (Absorbed Taken) = codes "taken" ++ line_end
-told_lines (Absorbed Repeated) = codes "repeated" ++ line_end
-told_lines Done = codes "ok" ++ line_end
-told_lines (Answered answer) = answer_lines answer
-told_lines (Fronted horizon readable) = front_line horizon readable
-told_lines (Refused why) = refusal_line why
+abbrev pub outcome_lines : ToldValue → List ℕ
+outcome_lines (Committed None) = codes "committed none" ++ line_end
+outcome_lines (Committed (Some time)) = codes "committed " ++ decimal time ++ line_end
+outcome_lines (Marked m) = emitted_line m
+outcome_lines (Absorbed Taken) = codes "taken" ++ line_end
+outcome_lines (Absorbed Repeated) = codes "repeated" ++ line_end
+outcome_lines Done = codes "ok" ++ line_end
+outcome_lines (Answered answer) = answer_lines answer
+outcome_lines (Fronted horizon readable) = front_line horizon readable
+outcome_lines (Refused why) = refusal_line why

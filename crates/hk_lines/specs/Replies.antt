@@ -1,7 +1,7 @@
 -- The lines that are printed of replies, each with its line feed.
 use Rattle.std.specs.Prelude.{ℕ, List, ◌++◌, length, codes}
 use Rattle.std.specs.Fmt.{decimal}
-use Rattle.hk_wire.specs.Fragments.{FragmentTold}
+use Rattle.hk_wire.specs.Fragments.{WireFragment}
 use Rattle.hk_wire.specs.Replies.{ReplyValue}
 use Rattle.hk_wire.specs.Replies.ReplyValue.{Done, Front, Fragment, Answer, Refused}
 use Rattle.hk_lines.specs.Lines.{line_end, answer_lines, refusal_line, front_line}
@@ -10,7 +10,7 @@ use Rattle.hk_lines.specs.Lines.{line_end, answer_lines, refusal_line, front_lin
 abbrev pub part_line : ℕ → ℕ → ℕ → List ℕ
 part_line base horizon facts = codes "fragment base " ++ decimal base ++ codes " horizon " ++ decimal horizon ++ codes " facts " ++ decimal facts ++ line_end
 
-abbrev pub fragment_line : FragmentTold → List ℕ
+abbrev pub fragment_line : WireFragment → List ℕ
 fragment_line f = part_line f.base f.horizon (length f.facts)
 
 -- what is printed of a reply

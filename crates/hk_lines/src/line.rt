@@ -17,13 +17,13 @@ use std::alloc::{AllocError, Global};
 pub trait Printed {
     ghost text: { Self → List ℕ };
 
-    /// Adds the lines at the end of the text. The only error is want of memory; then a part of the lines may stand.
+    /// Adds the lines at the end of the text. The only error is out of memory; then a part of the lines may stand.
     /// The time grows with the lines.
     fn print_to(&self, alloc: Global, out: &mut String) -> Result<(), AllocError>
         ensures { OnOk result (string_bytes out.new ≡ string_bytes out.old ++ text self.now) };
 }
 
-/// The lines of a value, each with its line feed. The only error is want of memory.
+/// The lines of a value, each with its line feed. The only error is out of memory.
 pub fn line_of<T: Printed>(alloc: Global, value: &T) -> Result<String, AllocError>
     ensures { IfOk result (λ line. string_bytes line ≡ T.text value.now) }
 {
@@ -173,7 +173,7 @@ pub(crate) fn put_front(front: Front, out: &mut String) -> Result<(), AllocError
 }
 
 impl Printed for Told {
-    ghost text = { λ told. spec.told_lines (told_seen told) };
+    ghost text = { λ outcome. spec.outcome_lines (told_seen outcome) };
 
     fn print_to(&self, alloc: Global, out: &mut String) -> Result<(), AllocError> {
         match self {

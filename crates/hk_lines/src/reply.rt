@@ -2,7 +2,7 @@
 
 ghost use Rattle.std.specs.Prelude.{◌≡◌, ◌++◌, OnOk};
 ghost use Rattle.std.specs.String.{string_bytes};
-ghost use Rattle.hk_wire.specs.Fragments.{fragment_seen};
+ghost use Rattle.hk_wire.specs.Fragments.{wire_fragment_of};
 ghost use Rattle.hk_wire.specs.Replies.{reply_seen};
 ghost use Rattle.hk_lines.specs.Replies as spec;
 
@@ -19,7 +19,7 @@ fn put_part(base: Time, horizon: Time, facts: usize, out: &mut String) -> Result
 }
 
 fn put_fragment(fragment: &Fragment, out: &mut String) -> Result<(), AllocError>
-    ensures { OnOk result (string_bytes out.new ≡ string_bytes out.old ++ spec.fragment_line (fragment_seen fragment.now)) }
+    ensures { OnOk result (string_bytes out.new ≡ string_bytes out.old ++ spec.fragment_line (wire_fragment_of fragment.now)) }
 {
     let facts = fragment.facts().len();
     put_part(fragment.base(), fragment.horizon(), facts, out)

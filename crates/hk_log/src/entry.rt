@@ -144,7 +144,7 @@ impl Entry {
         self.rows.as_slice()
     }
 
-    /// The same entry again, its rows copied. The only error is want of memory.
+    /// The same entry again, its rows copied. The only error is out of memory.
     pub fn copy(&self, alloc: Global) -> Result<Entry, AllocError>
         ensures { IfOk result (λ entry. entry ≡ self.now) }
     {

@@ -16,7 +16,7 @@ pub enum Item {
 }
 
 impl Item {
-    /// The same item again, its rows copied. The only error is want of memory.
+    /// The same item again, its rows copied. The only error is out of memory.
     pub fn copy(&self, alloc: Global) -> Result<Item, AllocError>
         ensures { IfOk result (λ item. item ≡ self.now) }
     {

@@ -106,7 +106,7 @@ impl Version {
         self.died = None;
     }
 
-    /// The same version again, its row copied. The only error is want of memory.
+    /// The same version again, its row copied. The only error is out of memory.
     pub fn copy(&self, alloc: Global) -> Result<Version, AllocError>
         ensures { IfOk result (λ version. version ≡ self.now) }
     {

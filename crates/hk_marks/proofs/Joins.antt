@@ -13,7 +13,7 @@ use Rattle.std.specs.BTreeSet as sorted
 use Rattle.std.specs.FinMap as finmap
 use Rattle.std.specs.FinSet as set
 use Rattle.hk_model.proofs.Streams.{later, told, latest, latest-append, latest-entries, tied_counts}
-use Rattle.hk_model.specs.Streams.{StreamContent, covers, greatest_covered, settled, together, all_together, unknown}
+use Rattle.hk_model.specs.Streams.{StreamContent, covers, greatest_covered, stream_with, together, all_together, unknown}
 use Rattle.hk_model.proofs.Lawful.{settled_lawful}
 use Rattle.hk_model.specs.Lawful.{IsLawfulStream}
 use Rattle.hk_marks.proofs.Settled.{settled_same}
@@ -23,7 +23,7 @@ use Rattle.hk_marks.proofs.Readers.{entries-waiting_seen}
 use Rattle.hk_marks.proofs.Numbered.{all_numbered}
 use Rattle.hk_marks.proofs.Rooms.{widened_back}
 use Rattle.hk_marks.specs.Seen.{up_to, taken_seen, waiting_seen, IsExtra, IsStored, AreStreams, stream_seen}
-use Rattle.hk_marks.specs.Room.{among, HasRoom, Widens, Without}
+use Rattle.hk_marks.specs.Room.{has_number, HasRoom, Widens, Without}
 
 -- ---- room tells nothing that is not told
 
@@ -42,13 +42,13 @@ together_widened s o t ns cs wide =
     let taken : set.union t.taken o.taken ≡ set.union s.taken o.taken = set.same_set nat_cmp_total finmap.nat_cmp-IsAntisymmetric _ _ (λ q.
     set.contains-union nat_cmp_total t.taken o.taken q
     ∙ ap (λ b. b || set.contains o.taken q) (wide.taken q)
-    ∙ widened_number (among ns q) (set.contains s.taken q) (set.contains o.taken q) (wide.taken_there q)
+    ∙ widened_number (has_number ns q) (set.contains s.taken q) (set.contains o.taken q) (wide.taken_there q)
     ∙ sym (set.contains-union nat_cmp_total s.taken o.taken q)) in
-    (λ i. settled (taken i) (max (wide.closed i) o.closed) (finmap.entries t.waiting ++ finmap.entries o.waiting))
+    (λ i. stream_with (taken i) (max (wide.closed i) o.closed) (finmap.entries t.waiting ++ finmap.entries o.waiting))
     ∙ settled_alike (set.union s.taken o.taken) (max s.closed o.closed) (finmap.entries t.waiting ++ finmap.entries o.waiting) (finmap.entries s.waiting ++ finmap.entries o.waiting) (λ q.
     latest-append (finmap.entries t.waiting) (finmap.entries o.waiting) q
     ∙ (λ i. later ((latest-entries t.waiting q ∙ wide.waiting q) i) (latest-entries o.waiting q i))
-    ∙ widened_mark (among cs q) (finmap.get s.waiting q) (finmap.get o.waiting q) (wide.new_counts q) (wide.waiting_there q)
+    ∙ widened_mark (has_number cs q) (finmap.get s.waiting q) (finmap.get o.waiting q) (wide.new_counts q) (wide.waiting_there q)
     ∙ sym (latest-append (finmap.entries s.waiting) (finmap.entries o.waiting) q ∙ (λ i. later (latest-entries s.waiting q i) (latest-entries o.waiting q i))))
 
 -- ---- the marks of another view, one by one
@@ -69,7 +69,7 @@ later_assoc (Some a) (Some b) None = refl
 later_assoc (Some a) (Some b) (Some c) = let e : max (max a b) c ≡ max a (max b c) = omega arith in ap Some e
 
 -- a mark that is covered closes
-pub raised_closed : (t : set.FinSet nat_cmp) (c d k m : ℕ) (ws rest : List (ℕ × ℕ)) → covers t k ≡ true → d ≡ max c m → settled t d (ws ++ rest) ≡ settled t c (ws ++ (k, m) ∷ rest)
+pub raised_closed : (t : set.FinSet nat_cmp) (c d k m : ℕ) (ws rest : List (ℕ × ℕ)) → covers t k ≡ true → d ≡ max c m → stream_with t d (ws ++ rest) ≡ stream_with t c (ws ++ (k, m) ∷ rest)
 raised_closed t c d k m ws rest cov is =
     settled_same t d c (ws ++ rest) (ws ++ (k, m) ∷ rest) closed waits
   where
@@ -94,7 +94,7 @@ raised_closed t c d k m ws rest cov is =
 
 -- a mark joins the one that waits for the same count
 pub raised_waiting : (t : set.FinSet nat_cmp) (c k m : ℕ) (w v : finmap.FinMap nat_cmp ℕ) (rest : List (ℕ × ℕ)) → ((q : ℕ) → finmap.get v q ≡ later (told (k, m) q) (finmap.get w q))
-    → settled t c (finmap.entries v ++ rest) ≡ settled t c (finmap.entries w ++ (k, m) ∷ rest)
+    → stream_with t c (finmap.entries v ++ rest) ≡ stream_with t c (finmap.entries w ++ (k, m) ∷ rest)
 raised_waiting t c k m w v rest is = settled_alike t c (finmap.entries v ++ rest) (finmap.entries w ++ (k, m) ∷ rest) (λ q.
     latest-append (finmap.entries v) rest q
     ∙ ap (λ x. later x (latest rest q)) (latest-entries v q ∙ is q ∙ later_comm (told (k, m) q) (finmap.get w q))
@@ -272,11 +272,11 @@ module _ (p : ℕ) (extra : BTreeSet ℕ) (c : ℕ) (waiting : BTreeMap ℕ ℕ)
         → taken_seen n grown ≡ set.union (taken_seen p extra) (taken_seen r more)
         → closed ≡ max c d
         → tree.IsOrdered nat_cmp marks
-        → settled (taken_seen n grown) raised (finmap.entries (waiting_seen raised_marks)) ≡ settled (taken_seen n grown) closed (finmap.entries (waiting_seen waiting) ++ marks.entries)
-        → settled (taken_seen n grown) raised (finmap.entries (waiting_seen raised_marks)) ≡ record { taken = taken_seen n grown; closed = e; waiting = waiting_seen left }
+        → stream_with (taken_seen n grown) raised (finmap.entries (waiting_seen raised_marks)) ≡ stream_with (taken_seen n grown) closed (finmap.entries (waiting_seen waiting) ++ marks.entries)
+        → stream_with (taken_seen n grown) raised (finmap.entries (waiting_seen raised_marks)) ≡ record { taken = taken_seen n grown; closed = e; waiting = waiting_seen left }
         → stream_seen n grown e left ≡ together (stream_seen p extra c waiting) (stream_seen r more d marks)
     settled_together n grown e left closed raised raised_marks taken is rising raises settles =
-        sym settles ∙ raises ∙ (λ i. settled (taken i) (is i) (finmap.entries (waiting_seen waiting) ++ sym (entries-waiting_seen marks rising) i))
+        sym settles ∙ raises ∙ (λ i. stream_with (taken i) (is i) (finmap.entries (waiting_seen waiting) ++ sym (entries-waiting_seen marks rising) i))
 
 -- ---- all streams, from a place on
 

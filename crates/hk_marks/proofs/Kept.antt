@@ -9,7 +9,7 @@ use Rattle.hk_model.specs.Content.{least_closed}
 use Rattle.hk_model.specs.Lawful.{IsLawfulStream}
 use Rattle.hk_marks.proofs.Numbered.{unknown_numbered}
 use Rattle.hk_marks.specs.Seen.{AreStreams, IsNumbered, up_to}
-use Rattle.hk_marks.specs.Steps.{with_number, with_mark, raised}
+use Rattle.hk_marks.specs.Steps.{with_number, with_mark, with_prefix}
 use Rattle.std.specs.FinSet as set
 
 pub AreStreams-set : (streams : List StreamContent) (i : ℕ) (s : StreamContent) → AreStreams streams → IsLawfulStream s → IsNumbered s → AreStreams (set_at streams i s)
@@ -67,7 +67,7 @@ with_number_lawful s n = settled_lawful (set.insert s.taken n) s.closed (finmap.
 pub with_mark_lawful : (s : StreamContent) (n m : ℕ) → IsLawfulStream (with_mark s n m)
 with_mark_lawful s n m = settled_lawful s.taken s.closed ((n, m) ∷ finmap.entries s.waiting)
 
-pub raised_lawful : (s : StreamContent) (prefix closed : ℕ) → IsLawfulStream (raised s prefix closed)
+pub raised_lawful : (s : StreamContent) (prefix closed : ℕ) → IsLawfulStream (with_prefix s prefix closed)
 raised_lawful s prefix closed = settled_lawful (set.union s.taken (up_to prefix)) (max s.closed closed) (finmap.entries s.waiting)
 
 -- one more stream

@@ -8,10 +8,10 @@ use Rattle.std.specs.FinMap as finmap
 use Rattle.std.specs.FinSet as set
 use Rattle.hk_model.proofs.Maps.{get-retain}
 use Rattle.hk_model.proofs.Streams.{later, told, latest, or_zero, latest-append, latest-entries, get-by_count, greatest_bound, tied_counts}
-use Rattle.hk_model.specs.Streams.{StreamContent, covers, by_count, settled, together, all_together, unknown}
+use Rattle.hk_model.specs.Streams.{StreamContent, covers, by_count, stream_with, together, all_together, unknown}
 use Rattle.hk_marks.proofs.Trees.{contains-up_to}
 use Rattle.hk_marks.specs.Seen.{IsNumbered, up_to}
-use Rattle.hk_marks.specs.Steps.{with_number, with_mark, raised}
+use Rattle.hk_marks.specs.Steps.{with_number, with_mark, with_prefix}
 
 -- what marks tell at a count: nothing, or a time that is not below it
 abbrev At : ℕ → Option ℕ → Type 0
@@ -53,7 +53,7 @@ kept : (b : Bool) (x : Option ℕ) (r : ℕ) → cond b x None ≡ Some r → x 
 kept true x r e = e
 kept false x r e = absurd cc
 
-settled_numbered : (t : set.FinSet nat_cmp) (c : ℕ) (ms : List (ℕ × ℕ)) → set.contains t 0 ≡ false → ((q : ℕ) → set.contains t q ≡ true → q ≤ 2 ^ 62) → c ≤ 2 ^ 62 → Fit ms → IsNumbered (settled t c ms)
+settled_numbered : (t : set.FinSet nat_cmp) (c : ℕ) (ms : List (ℕ × ℕ)) → set.contains t 0 ≡ false → ((q : ℕ) → set.contains t q ≡ true → q ≤ 2 ^ 62) → c ≤ 2 ^ 62 → Fit ms → IsNumbered (stream_with t c ms)
 settled_numbered t c ms one most closed fit =
     record {
       from_one = one;
@@ -97,7 +97,7 @@ of_union a b f g q e = by (set.contains a q) refl (sym (set.contains-union nat_c
     by true h e = f q h
     by false h e = g q e
 
-pub raised_numbered : (s : StreamContent) (prefix closed : ℕ) → IsNumbered s → prefix ≤ 2 ^ 62 → closed ≤ 2 ^ 62 → IsNumbered (raised s prefix closed)
+pub raised_numbered : (s : StreamContent) (prefix closed : ℕ) → IsNumbered s → prefix ≤ 2 ^ 62 → closed ≤ 2 ^ 62 → IsNumbered (with_prefix s prefix closed)
 raised_numbered s prefix closed is most time =
     settled_numbered (set.union s.taken (up_to prefix)) (max s.closed closed) (finmap.entries s.waiting)
     (in_union s.taken (up_to prefix) is.from_one (contains-up_to prefix 0 ∙ none prefix))

@@ -15,7 +15,7 @@ use Rattle.std.specs.BTreeSet as sorted
 use Rattle.std.specs.FinMap as finmap
 use Rattle.std.specs.FinMap.Entries.{below_all, is_sorted, same_entries}
 use Rattle.std.specs.FinSet as set
-use Rattle.hk_model.specs.Streams.{covers, unknown, is_told}
+use Rattle.hk_model.specs.Streams.{covers, unknown, adds_nothing}
 use Rattle.hk_model.specs.Lawful.{IsLawfulStream}
 use Rattle.hk_marks.proofs.Trees.{contains-taken_seen, covers_seen, get-waiting_seen}
 use Rattle.hk_marks.specs.Seen.{taken_seen, waiting_seen, IsExtra, IsStored, stream_seen}
@@ -95,22 +95,22 @@ lawful_seen p extra c w ok q x e =
 at_most : (m x : ℕ) → is_le (nat_cmp m x) ≡ nat_le m x
 at_most m x = grind (arith, nat_tests)
 
-pub told_closed : (p : ℕ) (extra : BTreeSet ℕ) (c : ℕ) (w : BTreeMap ℕ ℕ) (n m : ℕ) → IsExtra p extra → n ≤ p → is_le (nat_cmp m c) ≡ is_told (stream_seen p extra c w) n m
+pub told_closed : (p : ℕ) (extra : BTreeSet ℕ) (c : ℕ) (w : BTreeMap ℕ ℕ) (n m : ℕ) → IsExtra p extra → n ≤ p → is_le (nat_cmp m c) ≡ adds_nothing (stream_seen p extra c w) n m
 told_closed p extra c w n m above within =
     let f : leb n p ≡ true = grind (arith, nat_tests) in
     at_most m c ∙ sym (ap (λ b. cond b (nat_le m c) (is_some (finmap.get (waiting_seen w) n) && nat_le m (unwrap_or (finmap.get (waiting_seen w) n) 0))) (covers_seen p extra above n ∙ f))
 
 pub told_waiting : (p : ℕ) (extra : BTreeSet ℕ) (c : ℕ) (w : BTreeMap ℕ ℕ) (n m : ℕ) (x : Option ℕ) → IsExtra p extra → p < n → tree.get nat_cmp w n ≡ x
-    → (is_some x && nat_le m (unwrap_or x 0)) ≡ is_told (stream_seen p extra c w) n m
+    → (is_some x && nat_le m (unwrap_or x 0)) ≡ adds_nothing (stream_seen p extra c w) n m
 told_waiting p extra c w n m x above beyond is =
     let f : leb n p ≡ false = grind (arith, nat_tests) in
     ap (λ y. is_some y && nat_le m (unwrap_or y 0)) (sym is ∙ sym (get-waiting_seen w n))
     ∙ sym (ap (λ b. cond b (nat_le m c) (is_some (finmap.get (waiting_seen w) n) && nat_le m (unwrap_or (finmap.get (waiting_seen w) n) 0))) (covers_seen p extra above n ∙ f))
 
-pub told_later : (p : ℕ) (extra : BTreeSet ℕ) (c : ℕ) (w : BTreeMap ℕ ℕ) (n m x : ℕ) → IsExtra p extra → p < n → tree.get nat_cmp w n ≡ Some x → is_le (nat_cmp m x) ≡ is_told (stream_seen p extra c w) n m
+pub told_later : (p : ℕ) (extra : BTreeSet ℕ) (c : ℕ) (w : BTreeMap ℕ ℕ) (n m x : ℕ) → IsExtra p extra → p < n → tree.get nat_cmp w n ≡ Some x → is_le (nat_cmp m x) ≡ adds_nothing (stream_seen p extra c w) n m
 told_later p extra c w n m x above beyond is = at_most m x ∙ told_waiting p extra c w n m (Some x) above beyond is
 
-pub told_never : (p : ℕ) (extra : BTreeSet ℕ) (c : ℕ) (w : BTreeMap ℕ ℕ) (n m : ℕ) → IsExtra p extra → p < n → tree.get nat_cmp w n ≡ None → false ≡ is_told (stream_seen p extra c w) n m
+pub told_never : (p : ℕ) (extra : BTreeSet ℕ) (c : ℕ) (w : BTreeMap ℕ ℕ) (n m : ℕ) → IsExtra p extra → p < n → tree.get nat_cmp w n ≡ None → false ≡ adds_nothing (stream_seen p extra c w) n m
 told_never p extra c w n m above beyond is = told_waiting p extra c w n m None above beyond is
 
 -- ---- two stored streams with the same parts are seen alike

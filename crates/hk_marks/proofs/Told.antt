@@ -9,15 +9,15 @@ use Rattle.std.specs.FinSet as set
 use Rattle.hk_log.specs.Items.{EntryValue, MarkValue}
 use Rattle.hk_log.specs.declared.item.Item.{Item}
 use Rattle.hk_log.specs.declared.item.Item.TheVariants.{Commit, Closed}
-use Rattle.hk_model.proofs.Streams.{later, latest, latest-append, or_zero, greatest_bound, greatest_above, together-settled}
+use Rattle.hk_model.proofs.Streams.{later, latest, latest-append, or_zero, greatest_bound, greatest_above, together-stream_with}
 use Rattle.hk_model.proofs.Repeats.{settled_itself, together_unknown}
-use Rattle.hk_model.specs.Streams.{StreamContent, settled, greatest_covered, together, all_together, stream_of, streams_of, stream_at, unknown}
+use Rattle.hk_model.specs.Streams.{StreamContent, stream_with, greatest_covered, together, all_together, stream_of, streams_of, stream_at, unknown}
 use Rattle.hk_model.specs.Lawful.{IsLawfulStream}
 use Rattle.hk_marks.proofs.Settled.{settled_same}
 use Rattle.hk_marks.specs.Steps.{with_number, with_mark}
 
 -- marks that tell the same settle alike
-pub settled_alike : (t : set.FinSet nat_cmp) (c : ℕ) (ms ns : List (ℕ × ℕ)) → ((q : ℕ) → latest ms q ≡ latest ns q) → settled t c ms ≡ settled t c ns
+pub settled_alike : (t : set.FinSet nat_cmp) (c : ℕ) (ms ns : List (ℕ × ℕ)) → ((q : ℕ) → latest ms q ≡ latest ns q) → stream_with t c ms ≡ stream_with t c ns
 settled_alike t c ms ns alike =
     let a : greatest_covered t ms ≤ greatest_covered t ns = greatest_bound t (greatest_covered t ns) ms (λ q cq. let e = ap or_zero (alike q) in let l = greatest_above t q cq ns in omega arith) in
     let b : greatest_covered t ns ≤ greatest_covered t ms = greatest_bound t (greatest_covered t ms) ns (λ q cq. let e = ap or_zero (alike q) in let l = greatest_above t q cq ms in omega arith) in
@@ -30,7 +30,7 @@ later_comm (Some a) None = refl
 later_comm (Some a) (Some b) = let e : max a b ≡ max b a = omega arith in ap Some e
 
 -- the order of the marks tells nothing
-pub settled_swap : (t : set.FinSet nat_cmp) (c : ℕ) (ms ns : List (ℕ × ℕ)) → settled t c (ms ++ ns) ≡ settled t c (ns ++ ms)
+pub settled_swap : (t : set.FinSet nat_cmp) (c : ℕ) (ms ns : List (ℕ × ℕ)) → stream_with t c (ms ++ ns) ≡ stream_with t c (ns ++ ms)
 settled_swap t c ms ns = settled_alike t c (ms ++ ns) (ns ++ ms) (λ q. latest-append ms ns q ∙ later_comm (latest ms q) (latest ns q) ∙ sym (latest-append ns ms q))
 
 union_one : (s : set.FinSet nat_cmp) (n : ℕ) → set.union s (set.insert set.empty n) ≡ set.insert s n
@@ -61,17 +61,17 @@ no_more (x ∷ xs) = ap (λ l. x ∷ l) (no_more xs)
 max_zero : (c : ℕ) → max c 0 ≡ c
 max_zero c = omega arith
 
-pub number_told : (s : StreamContent) → IsLawfulStream s → (n : ℕ) → together s (settled (set.insert set.empty n) 0 []) ≡ with_number s n
+pub number_told : (s : StreamContent) → IsLawfulStream s → (n : ℕ) → together s (stream_with (set.insert set.empty n) 0 []) ≡ with_number s n
 number_told s l n =
-    ap (λ x. together x (settled (set.insert set.empty n) 0 [])) (sym (settled_itself s l))
-    ∙ together-settled s.taken (set.insert set.empty n) s.closed 0 (finmap.entries s.waiting) []
-    ∙ (λ i. settled (union_one s.taken n i) (max_zero s.closed i) (no_more (finmap.entries s.waiting) i))
+    ap (λ x. together x (stream_with (set.insert set.empty n) 0 [])) (sym (settled_itself s l))
+    ∙ together-stream_with s.taken (set.insert set.empty n) s.closed 0 (finmap.entries s.waiting) []
+    ∙ (λ i. stream_with (union_one s.taken n i) (max_zero s.closed i) (no_more (finmap.entries s.waiting) i))
 
-pub mark_told : (s : StreamContent) → IsLawfulStream s → (n m : ℕ) → together s (settled set.empty 0 ((n, m) ∷ [])) ≡ with_mark s n m
+pub mark_told : (s : StreamContent) → IsLawfulStream s → (n m : ℕ) → together s (stream_with set.empty 0 ((n, m) ∷ [])) ≡ with_mark s n m
 mark_told s l n m =
-    ap (λ x. together x (settled set.empty 0 ((n, m) ∷ []))) (sym (settled_itself s l))
-    ∙ together-settled s.taken set.empty s.closed 0 (finmap.entries s.waiting) ((n, m) ∷ [])
-    ∙ (λ i. settled (union_none s.taken i) (max_zero s.closed i) (finmap.entries s.waiting ++ (n, m) ∷ []))
+    ap (λ x. together x (stream_with set.empty 0 ((n, m) ∷ []))) (sym (settled_itself s l))
+    ∙ together-stream_with s.taken set.empty s.closed 0 (finmap.entries s.waiting) ((n, m) ∷ [])
+    ∙ (λ i. stream_with (union_none s.taken i) (max_zero s.closed i) (finmap.entries s.waiting ++ (n, m) ∷ []))
     ∙ settled_swap s.taken s.closed (finmap.entries s.waiting) ((n, m) ∷ [])
 
 -- ---- items that tell of one stream alone
@@ -109,9 +109,9 @@ own_entry_told streams lawful e above within =
     let there : 1 + (e.stream - 1) ≡ e.stream = omega arith in
     let is_lawful = All-get_or IsLawfulStream streams (e.stream - 1) unknown (omega arith) lawful in
     sym (one_told (Commit e ∷ []) 1 (e.stream - 1) streams lawful (omega arith)
-    (λ j apart. ap (λ b. settled (set.from_list (cond b (e.number ∷ []) [])) 0 []) (not_equal e.stream j (λ same. apart (same ∙ sym there))))
+    (λ j apart. ap (λ b. stream_with (set.from_list (cond b (e.number ∷ []) [])) 0 []) (not_equal e.stream j (λ same. apart (same ∙ sym there))))
     ∙ ap (λ k. set_at streams (e.stream - 1) (together (stream_at streams e.stream) (stream_of (Commit e ∷ []) k))) there
-    ∙ ap (λ b. set_at streams (e.stream - 1) (together (stream_at streams e.stream) (settled (set.from_list (cond b (e.number ∷ []) [])) 0 []))) (equal e.stream)
+    ∙ ap (λ b. set_at streams (e.stream - 1) (together (stream_at streams e.stream) (stream_with (set.from_list (cond b (e.number ∷ []) [])) 0 []))) (equal e.stream)
     ∙ ap (set_at streams (e.stream - 1)) (number_told (stream_at streams e.stream) is_lawful e.number))
 
 own_closed_told : (streams : List StreamContent) → All IsLawfulStream streams → (m : MarkValue) → 1 ≤ m.stream → m.stream ≤ length streams
@@ -120,9 +120,9 @@ own_closed_told streams lawful m above within =
     let there : 1 + (m.stream - 1) ≡ m.stream = omega arith in
     let is_lawful = All-get_or IsLawfulStream streams (m.stream - 1) unknown (omega arith) lawful in
     sym (one_told (Closed m ∷ []) 1 (m.stream - 1) streams lawful (omega arith)
-    (λ j apart. ap (λ b. settled set.empty 0 (cond b ((m.count, m.upto) ∷ []) [])) (not_equal m.stream j (λ same. apart (same ∙ sym there))))
+    (λ j apart. ap (λ b. stream_with set.empty 0 (cond b ((m.count, m.upto) ∷ []) [])) (not_equal m.stream j (λ same. apart (same ∙ sym there))))
     ∙ ap (λ k. set_at streams (m.stream - 1) (together (stream_at streams m.stream) (stream_of (Closed m ∷ []) k))) there
-    ∙ ap (λ b. set_at streams (m.stream - 1) (together (stream_at streams m.stream) (settled set.empty 0 (cond b ((m.count, m.upto) ∷ []) [])))) (equal m.stream)
+    ∙ ap (λ b. set_at streams (m.stream - 1) (together (stream_at streams m.stream) (stream_with set.empty 0 (cond b ((m.count, m.upto) ∷ []) [])))) (equal m.stream)
     ∙ ap (set_at streams (m.stream - 1)) (mark_told (stream_at streams m.stream) is_lawful m.count m.upto))
 
 -- the streams of a log with one more number are those with its entry

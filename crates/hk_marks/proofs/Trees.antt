@@ -11,8 +11,8 @@ use Rattle.std.specs.BTreeSet as sorted
 use Rattle.std.specs.FinMap as finmap
 use Rattle.std.specs.FinMap.{find}
 use Rattle.std.specs.FinSet as set
-use Rattle.hk_model.specs.Streams.{covers, settled}
-use Rattle.hk_marks.proofs.Settled.{covers_prefix, settled-forget, settled-done, mark_covered, mark_waits}
+use Rattle.hk_model.specs.Streams.{covers, stream_with}
+use Rattle.hk_marks.proofs.Settled.{covers_prefix, stream_with-forget, stream_with-done, mark_covered, mark_waits}
 use Rattle.hk_marks.specs.Seen.{up_to, taken_seen, waiting_seen, IsExtra, WaitsAbove, IsStored, stream_seen}
 use Rattle.hk_marks.specs.Steps.{with_number, with_mark}
 use Rattle.hk_model.proofs.Streams.{later, told}
@@ -161,17 +161,17 @@ covers_seen p extra above = covers_prefix (taken_seen p extra) p
 
 -- a covered mark leaves the stored ones
 pub settled_step : (p : ℕ) (t : set.FinSet nat_cmp) → ((n : ℕ) → covers t n ≡ leb n p) → (c d : ℕ) (m n : BTreeMap ℕ ℕ) (k v : ℕ) → k ≤ p → tree.get nat_cmp m k ≡ Some v → tree.Updates nat_cmp m n k None → max c v ≡ d
-    → settled t c (finmap.entries (waiting_seen m)) ≡ settled t d (finmap.entries (waiting_seen n))
+    → stream_with t c (finmap.entries (waiting_seen m)) ≡ stream_with t d (finmap.entries (waiting_seen n))
 settled_step p t law c d m n k v below has u greater =
     let cov : covers t k ≡ true = (let e : leb k p ≡ true = grind (arith, nat_tests) in law k ∙ e) in
-    settled-forget t c (waiting_seen m) (waiting_seen n) k v cov (get-waiting_seen m k ∙ has)
+    stream_with-forget t c (waiting_seen m) (waiting_seen n) k v cov (get-waiting_seen m k ∙ has)
     (λ q. get-waiting_seen n q ∙ u.0 q ∙ ap (cond (eq_by_cmp nat_cmp k q) None) (sym (get-waiting_seen m q)))
-    ∙ ap (λ x. settled t x (finmap.entries (waiting_seen n))) greater
+    ∙ ap (λ x. stream_with t x (finmap.entries (waiting_seen n))) greater
 
 -- what is left waits
 pub settled_left : (p : ℕ) (t : set.FinSet nat_cmp) → ((n : ℕ) → covers t n ≡ leb n p) → (c : ℕ) (m : BTreeMap ℕ ℕ) → WaitsAbove p m
-    → settled t c (finmap.entries (waiting_seen m)) ≡ record { taken = t; closed = c; waiting = waiting_seen m }
-settled_left p t law c m waits = settled-done t c (waiting_seen m) (λ q x e. let above : p < q = waits q x (sym (get-waiting_seen m q) ∙ e) in let f : leb q p ≡ false = grind (arith, nat_tests) in law q ∙ f)
+    → stream_with t c (finmap.entries (waiting_seen m)) ≡ record { taken = t; closed = c; waiting = waiting_seen m }
+settled_left p t law c m waits = stream_with-done t c (waiting_seen m) (λ q x e. let above : p < q = waits q x (sym (get-waiting_seen m q) ∙ e) in let f : leb q p ≡ false = grind (arith, nat_tests) in law q ∙ f)
 
 -- what is left of the extra numbers was there
 pub fewer_extra : (n : ℕ) (extra after : BTreeSet ℕ) → sorted.Updates nat_cmp extra after n false → (q : ℕ) → sorted.contains nat_cmp after q ≡ true → sorted.contains nat_cmp extra q ≡ true
@@ -185,7 +185,7 @@ fewer_extra n extra after u q h = other (eq_by_cmp nat_cmp n q) (sym (u.0 q) ∙
 
 pub number_again : (p : ℕ) (extra : BTreeSet ℕ) (c : ℕ) (w : BTreeMap ℕ ℕ) (k : ℕ) → IsStored p extra w → 0 < k → k ≤ p → stream_seen p extra c w ≡ with_number (stream_seen p extra c w) k
 number_again p extra c w k ok above below =
-    sym (ap (λ t. settled t c (finmap.entries (waiting_seen w))) (taken_seen-again p extra k above below) ∙ settled_left p (taken_seen p extra) (covers_seen p extra ok.extras) c w ok.waits)
+    sym (ap (λ t. stream_with t c (finmap.entries (waiting_seen w))) (taken_seen-again p extra k above below) ∙ settled_left p (taken_seen p extra) (covers_seen p extra ok.extras) c w ok.waits)
 
 more_extra : (p : ℕ) (extra after : BTreeSet ℕ) (k : ℕ) → IsExtra p extra → sorted.Updates nat_cmp extra after k true → p + 1 < k → k ≤ 2 ^ 62 → IsExtra p after
 more_extra p extra after k ok u above most q h = other (sorted.contains nat_cmp extra q) (ok q) (sym (u.0 q) ∙ h)
@@ -196,14 +196,14 @@ more_extra p extra after k ok u above most q h = other (sorted.contains nat_cmp 
 
 pub number_extra : (p : ℕ) (extra after : BTreeSet ℕ) (c : ℕ) (w : BTreeMap ℕ ℕ) (k : ℕ) → IsStored p extra w → sorted.Updates nat_cmp extra after k true → p + 1 < k → k ≤ 2 ^ 62 → stream_seen p after c w ≡ with_number (stream_seen p extra c w) k
 number_extra p extra after c w k ok u above most =
-    sym (ap (λ t. settled t c (finmap.entries (waiting_seen w))) (sym (taken_seen-insert p extra after k u))
+    sym (ap (λ t. stream_with t c (finmap.entries (waiting_seen w))) (sym (taken_seen-insert p extra after k u))
     ∙ settled_left p (taken_seen p after) (covers_seen p after (more_extra p extra after k ok.extras u above most)) c w ok.waits)
 
 pub number_next : (p k : ℕ) (extra : BTreeSet ℕ) (c : ℕ) (w : BTreeMap ℕ ℕ) (g : ℕ) (grown_extra : BTreeSet ℕ) (d : ℕ) (v : BTreeMap ℕ ℕ) → k ≡ p + 1 → taken_seen g grown_extra ≡ taken_seen k extra
-    → settled (taken_seen g grown_extra) c (finmap.entries (waiting_seen w)) ≡ record { taken = taken_seen g grown_extra; closed = d; waiting = waiting_seen v }
+    → stream_with (taken_seen g grown_extra) c (finmap.entries (waiting_seen w)) ≡ record { taken = taken_seen g grown_extra; closed = d; waiting = waiting_seen v }
     → stream_seen g grown_extra d v ≡ with_number (stream_seen p extra c w) k
 number_next p k extra c w g grown_extra d v is same settles =
-    sym settles ∙ ap (λ t. settled t c (finmap.entries (waiting_seen w))) (same ∙ ap (λ x. taken_seen x extra) is ∙ taken_seen-next p extra ∙ ap (set.insert (taken_seen p extra)) (sym is))
+    sym settles ∙ ap (λ t. stream_with t c (finmap.entries (waiting_seen w))) (same ∙ ap (λ x. taken_seen x extra) is ∙ taken_seen-next p extra ∙ ap (set.insert (taken_seen p extra)) (sym is))
 
 pub has_below : (p : ℕ) (extra : BTreeSet ℕ) (k : ℕ) → IsExtra p extra → k ≤ p → ltb 0 k ≡ set.contains (taken_seen p extra) k
 has_below p extra k above below = here (sorted.contains nat_cmp extra k) (λ e. (above k e).0) ∙ sym (contains-taken_seen p extra k)

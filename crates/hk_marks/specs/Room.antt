@@ -7,8 +7,8 @@ use Rattle.std.specs.FinSet as set
 use Rattle.hk_model.specs.Streams.{StreamContent, covers}
 
 -- whether a list has a number
-abbrev pub among : List ℕ → ℕ → Bool
-among numbers q = list_any (eq_by_cmp nat_cmp q) numbers
+abbrev pub has_number : List ℕ → ℕ → Bool
+has_number numbers q = list_any (eq_by_cmp nat_cmp q) numbers
 
 -- s can take what o has without growing: a number of o is taken, is of o's prefix or follows s's, and a mark that has to wait has a place
 pub record HasRoom (s o : StreamContent) : Type 0 where
@@ -17,18 +17,18 @@ pub record HasRoom (s o : StreamContent) : Type 0 where
 
 -- t is s with room for what o has: with numbers that o has taken, and with marks of time 0 where o has marks
 pub record Widens (s o t : StreamContent) (numbers counts : List ℕ) : Type 0 where
-  pub taken : (q : ℕ) → set.contains t.taken q ≡ cond (among numbers q) true (set.contains s.taken q)
+  pub taken : (q : ℕ) → set.contains t.taken q ≡ cond (has_number numbers q) true (set.contains s.taken q)
   pub closed : t.closed ≡ s.closed
-  pub waiting : (q : ℕ) → finmap.get t.waiting q ≡ cond (among counts q) (Some 0) (finmap.get s.waiting q)
-  pub new_numbers : (q : ℕ) → among numbers q ≡ true → set.contains s.taken q ≡ false
-  pub new_counts : (q : ℕ) → among counts q ≡ true → finmap.get s.waiting q ≡ None
-  pub taken_there : (q : ℕ) → among numbers q ≡ true → set.contains o.taken q ≡ true
-  pub waiting_there : (q : ℕ) → among counts q ≡ true → finmap.contains_key o.waiting q ≡ true
-  pub uncovered : (q : ℕ) → among numbers q ≡ true → covers t.taken q ≡ false
+  pub waiting : (q : ℕ) → finmap.get t.waiting q ≡ cond (has_number counts q) (Some 0) (finmap.get s.waiting q)
+  pub new_numbers : (q : ℕ) → has_number numbers q ≡ true → set.contains s.taken q ≡ false
+  pub new_counts : (q : ℕ) → has_number counts q ≡ true → finmap.get s.waiting q ≡ None
+  pub taken_there : (q : ℕ) → has_number numbers q ≡ true → set.contains o.taken q ≡ true
+  pub waiting_there : (q : ℕ) → has_number counts q ≡ true → finmap.contains_key o.waiting q ≡ true
+  pub uncovered : (q : ℕ) → has_number numbers q ≡ true → covers t.taken q ≡ false
   pub room : HasRoom t o
 
 -- t is s without these numbers and without marks of these counts
 pub record Without (s t : StreamContent) (numbers counts : List ℕ) : Type 0 where
-  pub taken : (q : ℕ) → set.contains t.taken q ≡ cond (among numbers q) false (set.contains s.taken q)
+  pub taken : (q : ℕ) → set.contains t.taken q ≡ cond (has_number numbers q) false (set.contains s.taken q)
   pub closed : t.closed ≡ s.closed
-  pub waiting : (q : ℕ) → finmap.get t.waiting q ≡ cond (among counts q) None (finmap.get s.waiting q)
+  pub waiting : (q : ℕ) → finmap.get t.waiting q ≡ cond (has_number counts q) None (finmap.get s.waiting q)

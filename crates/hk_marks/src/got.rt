@@ -11,9 +11,9 @@ ghost use Rattle.hk_log.specs.Items.{EntryValue, MarkValue};
 ghost use Rattle.hk_log.specs.declared.item.Item.TheVariants.{Commit, Closed};
 ghost use Rattle.hk_model.specs.Content.{least_closed};
 ghost use Rattle.hk_model.specs.Lawful.{IsLawfulStream};
-ghost use Rattle.hk_model.specs.Streams.{StreamContent, all_together, covers, is_told, stream_at, streams_of, unknown};
+ghost use Rattle.hk_model.specs.Streams.{StreamContent, all_together, covers, adds_nothing, stream_at, streams_of, unknown};
 ghost use Rattle.hk_marks.specs.Seen.{IsNumbered};
-ghost use Rattle.hk_marks.specs.Steps.{with_number, with_mark, raised, extra_numbers};
+ghost use Rattle.hk_marks.specs.Steps.{with_number, with_mark, with_prefix, extra_numbers};
 
 use crate::stream::{Stream, join_streams};
 use hk_types::{Config, Refusal, StreamNo, Time};
@@ -129,7 +129,7 @@ impl Got {
         requires known { s ≤ length self.old }
         requires most { prefix ≤ 2 ^ 62 }
         ensures done { IsOk result }
-        ensures value { self.new ≡ slice_set self.old (s - 1) (raised (stream_at self.old s) prefix closed) }
+        ensures value { self.new ≡ slice_set self.old (s - 1) (with_prefix (stream_at self.old s) prefix closed) }
     {
         self.streams[place(s)].raise(prefix, closed);
         Ok(())
@@ -190,11 +190,11 @@ impl Got {
     }
 
     /// Whether a mark tells nothing new, so that taking it would change nothing.
-    pub fn is_told(&self, s: StreamNo, n: u64, m: Time) -> bool
+    pub fn adds_nothing(&self, s: StreamNo, n: u64, m: Time) -> bool
         requires { s ≤ length self.now }
-        ensures { result ≡ is_told (stream_at self.now s) n m }
+        ensures { result ≡ adds_nothing (stream_at self.now s) n m }
     {
-        self.streams[place(s)].is_told(n, m)
+        self.streams[place(s)].adds_nothing(n, m)
     }
 
     /// The time up to which the stream is closed: its entries with this time or less are all taken.

@@ -10,11 +10,11 @@ ghost use Rattle.std.specs.BTreeMap as tree;
 ghost use Rattle.std.specs.BTreeSet as sorted;
 ghost use Rattle.std.specs.FinSet as set;
 ghost use Rattle.std.specs.Map.Iter.{ShowsInOrder, deref, deref_pair};
-ghost use Rattle.hk_model.specs.Streams.{StreamContent, covers, settled, unknown, is_told};
+ghost use Rattle.hk_model.specs.Streams.{StreamContent, covers, stream_with, unknown, adds_nothing};
 ghost use Rattle.hk_model.specs.Lawful.{IsLawfulStream};
 ghost use Rattle.hk_marks.specs.Seen.{up_to, taken_seen, waiting_seen, IsExtra, WaitsAbove};
 ghost use Rattle.hk_model.proofs.Streams.{later, told};
-ghost use Rattle.hk_marks.specs.Steps.{with_number, with_mark, raised, extra_numbers};
+ghost use Rattle.hk_marks.specs.Steps.{with_number, with_mark, with_prefix, extra_numbers};
 
 mod join;
 
@@ -201,7 +201,7 @@ impl Stream {
     /// Takes the numbers 1 to `prefix`, and closes at least up to `closed`.
     pub fn raise(&mut self, prefix: u64, closed: Time)
         requires { prefix ≤ 2 ^ 62 }
-        ensures { self.new ≡ raised self.old prefix closed }
+        ensures { self.new ≡ with_prefix self.old prefix closed }
     {
         take_up_to(&mut self.prefix, &mut self.extra, prefix);
         close_up_to(&mut self.closed, closed);
@@ -240,8 +240,8 @@ impl Stream {
     }
 
     /// Whether a mark tells nothing new.
-    pub fn is_told(&self, count: u64, upto: Time) -> bool
-        ensures { result ≡ is_told self.now count upto }
+    pub fn adds_nothing(&self, count: u64, upto: Time) -> bool
+        ensures { result ≡ adds_nothing self.now count upto }
     {
         if count <= self.prefix {
             return upto <= self.closed;

@@ -12,20 +12,20 @@ use Rattle.hk_types.specs.Values.{RowValue, same_row}
 use Rattle.hk_types.specs.declared.version_key.VersionKey.{VersionKey}
 use Rattle.hk_log.specs.Versions.{VersionValue}
 use Rattle.hk_model.specs.Rows.{version_key_cmp}
-use Rattle.hk_model.specs.Maps.{or_else, differ, contradict, union}
+use Rattle.hk_model.specs.Maps.{or_else, values_conflict, maps_conflict, union}
 use Rattle.hk_model.specs.Streams.{all_together}
 use Rattle.hk_model.specs.Content.{Content, at_most, ended_by}
 use Rattle.hk_model.specs.Fragments.{FragmentValue}
 use Rattle.hk_model.specs.Lawful.{IsLawful}
-use Rattle.hk_model.specs.Rules.{disagree, joined_content}
+use Rattle.hk_model.specs.Rules.{contents_conflict, content_after_join}
 use Rattle.hk_model.proofs.Maps.{version_key_total, version_key_same, get-union, get-retain, get-without_ended}
 use Rattle.hk_facts.specs.Facts.{if_known, row_of, died_of}
 use Rattle.hk_state.specs.declared.apply.Change.{Change}
 use Rattle.hk_state.specs.Drops.{is_among}
 use Rattle.hk_state.specs.Reads.{facts_of_content}
-use Rattle.hk_state.specs.Changes.{changed}
+use Rattle.hk_state.specs.Changes.{content_after_change}
 use Rattle.hk_state.proofs.ByTable.{known_row, known_end}
-use Rattle.hk_state.proofs.Contradicts.{any_at, equal}
+use Rattle.hk_state.proofs.Conflicts.{any_at, equal}
 use Rattle.hk_merge.specs.Plans.{stays, goes, row_back, end_back, passes, known_in, is_sent, old_come, gone_at, row_back_at, end_back_at, row_comes, end_comes, row_comes_at, end_comes_at}
 
 -- ---- equal rows, equal ends
@@ -49,22 +49,22 @@ neither : (a b : Bool) → (a || b) ≡ false → (a ≡ false) × (b ≡ false)
 neither true b e = absurd (true≢false e)
 neither false b e = (refl, e)
 
-alike_at : {X : Type 0} (alike : X → X → Bool) (m n : finmap.FinMap version_key_cmp X) → contradict alike m n ≡ false → (q : VersionKey) → differ alike (finmap.get m q) (finmap.get n q) ≡ false
-alike_at alike m n none q = case (differ alike (finmap.get m q) (finmap.get n q)) refl
+alike_at : {X : Type 0} (alike : X → X → Bool) (m n : finmap.FinMap version_key_cmp X) → maps_conflict alike m n ≡ false → (q : VersionKey) → values_conflict alike (finmap.get m q) (finmap.get n q) ≡ false
+alike_at alike m n none q = case (values_conflict alike (finmap.get m q) (finmap.get n q)) refl
   where
-    there : (x y : Option _) → differ alike x y ≡ true → is_some x ≡ true
+    there : (x y : Option _) → values_conflict alike x y ≡ true → is_some x ≡ true
     there None y e = e
     there (Some x) y e = refl
 
-    case : (b : Bool) → differ alike (finmap.get m q) (finmap.get n q) ≡ b → b ≡ false
+    case : (b : Bool) → values_conflict alike (finmap.get m q) (finmap.get n q) ≡ b → b ≡ false
     case false e = refl
     case true e =
         absurd (true≢false (
-        sym (any_at (eq_by_cmp version_key_cmp) (λ a. ap is_eq (tied_itself version_key_total a)) (λ a b t. version_key_same a b (equal _ t)) (λ k. differ alike (finmap.get m k) (finmap.get n k)) (finmap.keys m) q e (sym (finmap.contains_key-keys m q) ∙ there (finmap.get m q) (finmap.get n q) e))
+        sym (any_at (eq_by_cmp version_key_cmp) (λ a. ap is_eq (tied_itself version_key_total a)) (λ a b t. version_key_same a b (equal _ t)) (λ k. values_conflict alike (finmap.get m k) (finmap.get n k)) (finmap.keys m) q e (sym (finmap.contains_key-keys m q) ∙ there (finmap.get m q) (finmap.get n q) e))
         ∙ none))
 
-agreed : {X : Type 0} (alike : X → X → Bool) (tell : (a b : X) → alike a b ≡ true → a ≡ b) (r s : Option X) → differ alike r s ≡ false → (x y : X) → r ≡ Some x → s ≡ Some y → x ≡ y
-agreed alike tell r s none x y er es = tell x y (turn (alike x y) ((λ i. differ alike (sym er i) (sym es i)) ∙ none))
+agreed : {X : Type 0} (alike : X → X → Bool) (tell : (a b : X) → alike a b ≡ true → a ≡ b) (r s : Option X) → values_conflict alike r s ≡ false → (x y : X) → r ≡ Some x → s ≡ Some y → x ≡ y
+agreed alike tell r s none x y er es = tell x y (turn (alike x y) ((λ i. values_conflict alike (sym er i) (sym es i)) ∙ none))
   where
     turn : (b : Bool) → not b ≡ false → b ≡ true
     turn true e = refl
@@ -261,12 +261,12 @@ nothing false = refl
 
 -- ---- all versions
 
-module _ (t : Content) (f : FragmentValue) (lawful : IsLawful t) (agree : disagree t f.content ≡ false) (change : Change) where
-  agree_rows : contradict same_row t.rows f.content.rows ≡ false
-  agree_rows = (neither (contradict same_row t.rows f.content.rows) (contradict (λ a b. a == b) t.ends f.content.ends) agree).0
+module _ (t : Content) (f : FragmentValue) (lawful : IsLawful t) (agree : contents_conflict t f.content ≡ false) (change : Change) where
+  agree_rows : maps_conflict same_row t.rows f.content.rows ≡ false
+  agree_rows = (neither (maps_conflict same_row t.rows f.content.rows) (maps_conflict (λ a b. a == b) t.ends f.content.ends) agree).0
 
-  agree_ends : contradict (λ a b. a == b) t.ends f.content.ends ≡ false
-  agree_ends = (neither (contradict same_row t.rows f.content.rows) (contradict (λ a b. a == b) t.ends f.content.ends) agree).1
+  agree_ends : maps_conflict (λ a b. a == b) t.ends f.content.ends ≡ false
+  agree_ends = (neither (maps_conflict same_row t.rows f.content.rows) (maps_conflict (λ a b. a == b) t.ends f.content.ends) agree).1
 
   module _ (q : VersionKey) where
     row_same : (x y : RowValue) → finmap.get t.rows q ≡ Some x → finmap.get f.content.rows q ≡ Some y → x ≡ y
@@ -299,12 +299,12 @@ module _ (t : Content) (f : FragmentValue) (lawful : IsLawful t) (agree : disagr
       → ((q : VersionKey) → is_among change.drops.items q ≡ gone_at t f q)
       → ((q : VersionKey) → find version_key_cmp q change.rows.items ≡ or_else (row_back_at t f q) (row_comes_at t f q))
       → ((q : VersionKey) → find version_key_cmp q change.ends.items ≡ or_else (end_back_at t f q) (end_comes_at t f q))
-      → changed t change ≡ joined_content t f
+      → content_after_change t change ≡ content_after_join t f
   change_joins horizon got drops rows ends = λ i. record {
     log = t.log;
     horizon = horizon i;
-    rows = finmap.same_map version_key_total version_key_same (changed t change).rows (joined_content t f).rows row i;
-    ends = finmap.same_map version_key_total version_key_same (changed t change).ends (joined_content t f).ends end i;
+    rows = finmap.same_map version_key_total version_key_same (content_after_change t change).rows (content_after_join t f).rows row i;
+    ends = finmap.same_map version_key_total version_key_same (content_after_change t change).ends (content_after_join t f).ends end i;
     streams = got i;
   }
     where
@@ -314,13 +314,13 @@ module _ (t : Content) (f : FragmentValue) (lawful : IsLawful t) (agree : disagr
           get-union version_key_total version_key_same (finmap.retain_keys m (λ v. not (is_among change.drops.items v))) (finmap.from_entries es) q
           ∙ (λ i. or_else ((get-retain version_key_total version_key_same m (λ v. not (is_among change.drops.items v)) q ∙ ap (λ b. cond (not b) (finmap.get m q) None) is) i) ((finmap.get-from_entries version_key_total es q ∙ found) i))
 
-      row : (q : VersionKey) → finmap.get (changed t change).rows q ≡ finmap.get (joined_content t f).rows q
+      row : (q : VersionKey) → finmap.get (content_after_change t change).rows q ≡ finmap.get (content_after_join t f).rows q
       row q =
           listed t.rows change.rows.items q _ _ (drops q ∙ is_gone q) (rows q ∙ (λ i. or_else (row_comes_back q i) (row_arrives q i)))
           ∙ row_joined t.horizon f.content.horizon f.base q.born (finmap.get t.rows q) (finmap.get f.content.rows q) (finmap.get t.ends q) (finmap.get f.content.ends q) (λ x e. lawful.end_above q x e) (row_same q)
           ∙ sym (get-union version_key_total version_key_same _ _ q ∙ (λ i. or_else (get-retain version_key_total version_key_same t.rows (λ v. nat_lt (max t.horizon f.content.horizon) v.born || (((t.horizon == (max t.horizon f.content.horizon)) || nat_lt 0 f.base) && not (ended_by t.ends (max t.horizon f.content.horizon) v))) q i) (get-retain version_key_total version_key_same f.content.rows (λ v. nat_lt (max t.horizon f.content.horizon) v.born || ((f.base == 0) && (f.content.horizon == (max t.horizon f.content.horizon)))) q i)))
 
-      end : (q : VersionKey) → finmap.get (changed t change).ends q ≡ finmap.get (joined_content t f).ends q
+      end : (q : VersionKey) → finmap.get (content_after_change t change).ends q ≡ finmap.get (content_after_join t f).ends q
       end q =
           listed t.ends change.ends.items q _ _ (drops q ∙ is_gone q) (ends q ∙ (λ i. or_else (end_comes_back q i) (end_arrives q i)))
           ∙ end_joined t.horizon f.content.horizon f.base q.born (finmap.get t.rows q) (finmap.get f.content.rows q) (finmap.get t.ends q) (finmap.get f.content.ends q) (λ x e. lawful.end_above q x e) (end_same q)

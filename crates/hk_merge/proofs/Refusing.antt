@@ -9,19 +9,19 @@ use Rattle.hk_types.specs.declared.version_key.VersionKey.{VersionKey}
 use Rattle.hk_types.specs.declared.faults.Refusal.{Refusal}
 use Rattle.hk_types.specs.declared.faults.Refusal.TheVariants.{ForeignLog, WrongStreams, Gap, Conflict, Memory}
 use Rattle.hk_log.specs.Versions.{VersionValue}
-use Rattle.hk_model.specs.Maps.{contradict}
+use Rattle.hk_model.specs.Maps.{maps_conflict}
 use Rattle.hk_model.specs.Streams.{StreamContent}
 use Rattle.hk_model.specs.Content.{Content, readable, at_most}
 use Rattle.hk_model.specs.Fragments.{FragmentValue, cut}
 use Rattle.hk_model.specs.Lawful.{IsLawful}
-use Rattle.hk_model.specs.Replicas.{Stands}
-use Rattle.hk_model.specs.Rules.{disagree, joined, joined_content}
+use Rattle.hk_model.specs.Replicas.{Represents}
+use Rattle.hk_model.specs.Rules.{contents_conflict, join_result, content_after_join}
 use Rattle.hk_model.proofs.Maps.{version_key_total, version_key_same, get-retain, get-without_ended}
 use Rattle.hk_model.proofs.Laws.{merge_law_proof}
 use Rattle.hk_state.specs.Facts.{FactsValue}
 use Rattle.hk_state.specs.Reads.{facts_of_content, with_facts}
-use Rattle.hk_state.specs.Versions.{AreVersions, lent, differs_at}
-use Rattle.hk_state.proofs.Walking.{disagree_listed}
+use Rattle.hk_state.specs.Versions.{AreVersions, borrowed, value_conflicts_at}
+use Rattle.hk_state.proofs.Walking.{conflict_listed}
 use Rattle.hk_merge.specs.Listed.{facts_listed, rows_listed, ends_listed, fragment_listed}
 use Rattle.hk_merge.specs.Calls.{Joins, Merges, MergesOf}
 use Rattle.hk_merge.proofs.Picked.{find_picked}
@@ -30,38 +30,38 @@ use Rattle.hk_merge.proofs.Joining.{known_by}
 -- ---- where the log fits
 
 module _ (t : Content) (f : FragmentValue) (streams : ℕ) (as_many : length f.content.streams ≡ streams) where
-  abbrev pub misfit_by : Option Refusal
-  misfit_by = cond (not (f.content.log == t.log)) (Some ForeignLog) (cond (not (streams == length t.streams)) (Some WrongStreams) None)
+  abbrev pub wrong_log_by : Option Refusal
+  wrong_log_by = cond (not (f.content.log == t.log)) (Some ForeignLog) (cond (not (streams == length t.streams)) (Some WrongStreams) None)
 
-  module _ (fit : misfit_by ≡ None) (no_gap : nat_lt (readable t) f.base ≡ false) where
-    join_open : joined t f ≡ cond (disagree t f.content) (Err Conflict) (Ok (joined_content t f))
+  module _ (fit : wrong_log_by ≡ None) (no_gap : nat_lt (readable t) f.base ≡ false) where
+    join_open : join_result t f ≡ cond (contents_conflict t f.content) (Err Conflict) (Ok (content_after_join t f))
     join_open =
         ap (λ n. cond (not (f.content.log == t.log)) (Err ForeignLog) (cond (not (n == length t.streams)) (Err WrongStreams) rest)) as_many
         ∙ first (not (f.content.log == t.log)) (not (streams == length t.streams)) fit
-        ∙ ap (λ b. cond b (Err (Gap f.base (readable t))) (cond (disagree t f.content) (Err Conflict) (Ok (joined_content t f)))) no_gap
+        ∙ ap (λ b. cond b (Err (Gap f.base (readable t))) (cond (contents_conflict t f.content) (Err Conflict) (Ok (content_after_join t f)))) no_gap
       where
         rest : Result Content Refusal
-        rest = cond (nat_lt (readable t) f.base) (Err (Gap f.base (readable t))) (cond (disagree t f.content) (Err Conflict) (Ok (joined_content t f)))
+        rest = cond (nat_lt (readable t) f.base) (Err (Gap f.base (readable t))) (cond (contents_conflict t f.content) (Err Conflict) (Ok (content_after_join t f)))
 
         first : (a b : Bool) → ◌≡◌ {A = Option Refusal} (cond a (Some ForeignLog) (cond b (Some WrongStreams) None)) None → cond a (Err ForeignLog) (cond b (Err WrongStreams) rest) ≡ rest
         first true b e = cc
         first false true e = cc
         first false false e = refl
 
-    pub join_conflict : disagree t f.content ≡ true → joined t f ≡ Err Conflict
-    join_conflict e = join_open ∙ ap (λ b. cond b (Err Conflict) (Ok (joined_content t f))) e
+    pub join_conflict : contents_conflict t f.content ≡ true → join_result t f ≡ Err Conflict
+    join_conflict e = join_open ∙ ap (λ b. cond b (Err Conflict) (Ok (content_after_join t f))) e
 
-    module _ (agree : disagree t f.content ≡ false) where
-      pub join_done : joined t f ≡ Ok (joined_content t f)
-      join_done = join_open ∙ ap (λ b. cond b (Err Conflict) (Ok (joined_content t f))) agree
+    module _ (agree : contents_conflict t f.content ≡ false) where
+      pub join_done : join_result t f ≡ Ok (content_after_join t f)
+      join_done = join_open ∙ ap (λ b. cond b (Err Conflict) (Ok (content_after_join t f))) agree
 
-      pub join_gives : (r : Result (Unit {0}) Refusal) (new : Content) → OnOk r (new ≡ joined_content t f) → IfErr r (λ why. why ≡ Memory) → OnErr r (new ≡ t) → Joins t new f r
+      pub join_gives : (r : Result (Unit {0}) Refusal) (new : Content) → OnOk r (new ≡ content_after_join t f) → IfErr r (λ why. why ≡ Memory) → OnErr r (new ≡ t) → Joins t new f r
       join_gives (Ok done) new ok err kept = join_done ∙ ap Ok (sym ok)
-      join_gives (Err why) new ok err kept = (kept, inr (err, (joined_content t f, join_done)))
+      join_gives (Err why) new ok err kept = (kept, inr (err, (content_after_join t f, join_done)))
 
-      pub join_starved : (r : Result (Unit {0}) Refusal) → IsErr r → IsErrAnd r (λ why. why ≡ Memory) → Joins t t f r
-      join_starved (Ok done) err memory = absurd (true≢false (sym err))
-      join_starved (Err why) err memory = (refl, inr (memory, (joined_content t f, join_done)))
+      pub join_refusal_without_memory : (r : Result (Unit {0}) Refusal) → IsErr r → IsErrAnd r (λ why. why ≡ Memory) → Joins t t f r
+      join_refusal_without_memory (Ok done) err memory = absurd (true≢false (sym err))
+      join_refusal_without_memory (Err why) err memory = (refl, inr (memory, (content_after_join t f, join_done)))
 
 -- ---- a list of versions
 
@@ -69,9 +69,9 @@ any_map : {A B : Type 0} (p : B → Bool) (g : A → B) (xs : List A) → list_a
 any_map p g [] = refl
 any_map p g (x ∷ xs) = ap (λ b. p (g x) || b) (any_map p g xs)
 
--- what is sent disagrees where one of its versions differs
-pub listed_disagree : (t : Content) (c : Content) (xs : List (VersionKey × Bor VersionValue)) → AreVersions (facts_of_content c) (map lent xs) → list_any (λ e. differs_at (facts_of_content t) e.0 e.1.now) xs ≡ disagree t c
-listed_disagree t c xs are = any_map (λ (e : VersionKey × VersionValue). differs_at (facts_of_content t) e.0 e.1) lent xs ∙ disagree_listed (facts_of_content t) (facts_of_content c) (map lent xs) are
+-- what is sent conflicts where one of its versions differs
+pub listed_conflict : (t : Content) (c : Content) (xs : List (VersionKey × Bor VersionValue)) → AreVersions (facts_of_content c) (map borrowed xs) → list_any (λ e. value_conflicts_at (facts_of_content t) e.0 e.1.now) xs ≡ contents_conflict t c
+listed_conflict t c xs are = any_map (λ (e : VersionKey × VersionValue). value_conflicts_at (facts_of_content t) e.0 e.1) borrowed xs ∙ conflict_listed (facts_of_content t) (facts_of_content c) (map borrowed xs) are
 
 -- the facts that all versions of facts make are these facts
 pub listed_whole : (f : FactsValue) (es : List (VersionKey × VersionValue)) → AreVersions f es → facts_listed es ≡ f
@@ -110,8 +110,8 @@ module _ (c : Content) (lawful : IsLawful c) where
   pub whole_is : record { base = 0; content = c } ≡ cut c 0
   whole_is = λ i. record { base = 0; content = record { log = c.log; horizon = c.horizon; rows = sym whole_rows i; ends = sym whole_ends i; streams = c.streams } }
 
-  pub whole_disagrees : (t : Content) → disagree t c ≡ disagree t (cut c 0).content
-  whole_disagrees t = ap (λ (f : FragmentValue). disagree t f.content) whole_is
+  pub whole_conflicts : (t : Content) → contents_conflict t c ≡ contents_conflict t (cut c 0).content
+  whole_conflicts t = ap (λ (f : FragmentValue). contents_conflict t f.content) whole_is
 
 pub no_gap_at_0 : (n : ℕ) → nat_lt n 0 ≡ false
 no_gap_at_0 n = grind (arith, nat_tests)
@@ -119,9 +119,9 @@ no_gap_at_0 n = grind (arith, nat_tests)
 -- ---- a peer's whole
 
 module _ (t c : Content) (lawful : IsLawful c) where
-  -- a peer's facts disagree with the taker's where its whole does
-  pub peer_disagrees : (f g : FactsValue) → f.rows ≡ t.rows → f.ends ≡ t.ends → g.rows ≡ c.rows → g.ends ≡ c.ends → disagree (with_facts f) (with_facts g) ≡ disagree t (cut c 0).content
-  peer_disagrees f g a b x y = (λ i. contradict same_row (a i) (x i) || contradict (λ a b. a == b) (b i) (y i)) ∙ whole_disagrees c lawful t
+  -- a peer's facts conflict with the target's where its whole does
+  pub peer_conflicts : (f g : FactsValue) → f.rows ≡ t.rows → f.ends ≡ t.ends → g.rows ≡ c.rows → g.ends ≡ c.ends → contents_conflict (with_facts f) (with_facts g) ≡ contents_conflict t (cut c 0).content
+  peer_conflicts f g a b x y = (λ i. maps_conflict same_row (a i) (x i) || maps_conflict (λ a b. a == b) (b i) (y i)) ∙ whole_conflicts c lawful t
 
   -- what is sent of a peer is its whole
   pub sent_whole : (config : ConfigValue) (base horizon : ℕ) (streams : List StreamContent) (xs es : List (VersionKey × VersionValue)) (f : FactsValue) → AreVersions f es → f.rows ≡ c.rows → f.ends ≡ c.ends
@@ -141,7 +141,7 @@ module _ (t c : Content) (lawful : IsLawful c) where
 
   -- a peer's log fits as its configuration does
   pub peer_fits : (config : ConfigValue) (log : config.log ≡ c.log) (streams : length (cut c 0).content.streams ≡ config.streams)
-      → None ≡ cond (not (config.log == t.log)) (Some ForeignLog) (cond (not (config.streams == length t.streams)) (Some WrongStreams) None) → misfit_by t (cut c 0) config.streams streams ≡ None
+      → None ≡ cond (not (config.log == t.log)) (Some ForeignLog) (cond (not (config.streams == length t.streams)) (Some WrongStreams) None) → wrong_log_by t (cut c 0) config.streams streams ≡ None
   peer_fits config log streams fits = ap (λ n. cond (not (n == t.log)) (Some ForeignLog) (cond (not (config.streams == length t.streams)) (Some WrongStreams) None)) (sym log) ∙ sym fits
 
 -- all versions of facts are those of the facts that they make
@@ -152,23 +152,23 @@ pub ok_along : {X Y : Type 0} (r : Result (Unit {0}) Refusal) (new : Y) (g : X �
 ok_along (Ok done) new g same is = is ∙ ap g same
 ok_along (Err why) new g same is = is
 
--- ---- merges of what stands for items
+-- ---- merges of what represents items
 
 inside : (a b : Content) → ◌≡◌ {A = Result Content Refusal} (Ok a) (Ok b) → a ≡ b
 inside a b e = cc
 
-differs : (a : Content) (why : Refusal) → ◌≡◌ {A = Result Content Refusal} (Ok a) (Err why) → ⊥
-differs a why e = cc
+has_conflict_with : (a : Content) (why : Refusal) → ◌≡◌ {A = Result Content Refusal} (Ok a) (Err why) → ⊥
+has_conflict_with a why e = cc
 
 pub merges_of : (old new peer : Content) (r : Result (Unit {0}) Refusal) → Merges old new peer r → MergesOf old new peer r
 merges_of old new peer (Ok done) gave config history own others g h is a b =
     let law = merge_law_proof config history is own others g h old peer a b in
-    (subst (Stands config history (own ++ others) (max g h)) (inside _ _ (sym law.1 ∙ gave)) law.2, tt)
+    (subst (Represents config history (own ++ others) (max g h)) (inside _ _ (sym law.1 ∙ gave)) law.2, tt)
 merges_of old new peer (Err why) gave config history own others g h is a b =
     let law = merge_law_proof config history is own others g h old peer a b in (
       tt,
       elim gave.1 [
-        | inl e ↦ absurd (differs _ why (sym law.1 ∙ e))
+        | inl e ↦ absurd (has_conflict_with _ why (sym law.1 ∙ e))
         | inr m ↦ m.0
       ],
     )

@@ -1,4 +1,4 @@
--- What becomes of a taker's own versions where the horizon rises.
+-- What becomes of a target's own versions where the horizon rises.
 use Rattle.std.proofs.Common.{◌≡◌, refl, sym, ap, ◌∙◌, ℕ, Bool, true, false, cond, ◌&&◌, ◌||◌, ◌==◌, nat_lt, nat_cmp, is_ge, arith, Option, Some, None, List, [], ◌∷◌, ◌++◌, max, length}
 use Rattle.std.proofs.lemmas.List.Folds.{list_any-append}
 use Rattle.std.proofs.lemmas.Bool.Decides.{nat_tests}

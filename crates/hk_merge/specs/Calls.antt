@@ -7,22 +7,22 @@ use Rattle.hk_log.specs.declared.item.Item.{Item}
 use Rattle.hk_model.specs.Content.{Content}
 use Rattle.hk_model.specs.Fragments.{FragmentValue, cut}
 use Rattle.hk_model.specs.Histories.{Transaction, IsHistory}
-use Rattle.hk_model.specs.Replicas.{Stands}
-use Rattle.hk_model.specs.Rules.{joined}
+use Rattle.hk_model.specs.Replicas.{Represents}
+use Rattle.hk_model.specs.Rules.{join_result}
 
 -- a join left what joining gives, or it changed nothing: it was refused so, or memory ran out where joining
 -- gives a content
 abbrev pub Joins : Content → Content → FragmentValue → Result (Unit {0}) Refusal → Type 0
-Joins old new f (Ok done) = joined old f ≡ Ok new
-Joins old new f (Err why) = (new ≡ old) × ((joined old f ≡ Err why) ⊎ ((why ≡ Memory) × ((c : Content) × (joined old f ≡ Ok c))))
+Joins old new f (Ok done) = join_result old f ≡ Ok new
+Joins old new f (Err why) = (new ≡ old) × ((join_result old f ≡ Err why) ⊎ ((why ≡ Memory) × ((c : Content) × (join_result old f ≡ Ok c))))
 
 -- a merge is the join of the whole
 abbrev pub Merges : Content → Content → Content → Result (Unit {0}) Refusal → Type 0
 Merges old new peer result = Joins old new (cut peer 0) result
 
--- where both stand for items of one history, the taker stands for all of them at the greater horizon, unless
+-- where both represent items of one history, the target represents all of them at the greater horizon, unless
 -- memory ran out
 abbrev pub MergesOf : Content → Content → Content → Result (Unit {0}) Refusal → Type 0
 MergesOf old new peer result =
-    (config : ConfigValue) (history : List Transaction) (own others : List Item) (g h : ℕ) → IsHistory config history → Stands config history own g old → Stands config history others h peer
-    → IfOk result (λ done. Stands config history (own ++ others) (max g h) new) × IfErr result (λ why. why ≡ Memory)
+    (config : ConfigValue) (history : List Transaction) (own others : List Item) (g h : ℕ) → IsHistory config history → Represents config history own g old → Represents config history others h peer
+    → IfOk result (λ done. Represents config history (own ++ others) (max g h) new) × IfErr result (λ why. why ≡ Memory)

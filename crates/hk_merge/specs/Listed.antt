@@ -8,8 +8,8 @@ use Rattle.hk_log.specs.Versions.{VersionValue}
 use Rattle.hk_model.specs.Streams.{StreamContent}
 use Rattle.hk_model.specs.Fragments.{FragmentValue}
 use Rattle.hk_state.specs.Facts.{FactsValue, entry_if}
-use Rattle.hk_state.specs.Versions.{lent}
-use Rattle.hk_merge.specs.declared.sent.Sent.{Sent}
+use Rattle.hk_state.specs.Versions.{borrowed}
+use Rattle.hk_merge.specs.declared.merge_input.MergeInput.{MergeInput}
 
 -- the rows of a list of versions
 abbrev pub rows_listed : List (VersionKey × VersionValue) → List (VersionKey × RowValue)
@@ -31,5 +31,5 @@ fragment_listed config base horizon streams versions =
     }
 
 -- the fragment that is sent
-abbrev pub fragment_sent : Sent → FragmentValue
-fragment_sent s = fragment_listed s.config s.base s.horizon s.got.now (map lent s.facts.now)
+abbrev pub fragment_sent : MergeInput → FragmentValue
+fragment_sent s = fragment_listed s.config s.base s.horizon s.got.now (map borrowed s.facts.now)

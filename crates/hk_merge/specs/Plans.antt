@@ -12,7 +12,7 @@ use Rattle.hk_facts.specs.Facts.{row_of, died_of}
 use Rattle.hk_state.specs.Facts.{FactsValue, known_at, entry_if}
 use Rattle.hk_state.specs.Reads.{facts_of_content}
 
--- ---- what is left of the taker's own, where the horizon rises to h: `whole` where the whole is sent, and then
+-- ---- what is left of the target's own, where the horizon rises to h: `whole` where the whole is sent, and then
 -- `sent` has the versions whose rows are
 
 module _ (whole : Bool) (h : ℕ) (sent : VersionKey → Bool) where
@@ -45,11 +45,11 @@ module _ (whole : Bool) (h : ℕ) (sent : VersionKey → Bool) where
 -- ---- what comes of what is sent, at the horizon h: `old` where rows born at or below it come too
 
 module _ (own : FactsValue) (old : Bool) (h : ℕ) where
-  -- the row that comes, where the taker has none
+  -- the row that comes, where the target has none
   abbrev pub row_comes : VersionKey → VersionValue → Option RowValue
   row_comes v sent = if (nat_lt h v.born || old) && not (is_some (row_of (known_at own v))) then sent.row else None
 
-  -- the end that comes, where the taker has none
+  -- the end that comes, where the target has none
   abbrev pub end_comes : VersionKey → VersionValue → Option ℕ
   end_comes v sent = if not (at_most h sent.died) && not (is_some (died_of (known_at own v))) then sent.died else None
 
@@ -64,7 +64,7 @@ module _ (own : FactsValue) (old : Bool) (h : ℕ) where
 abbrev pub keys_of_rows : List (VersionKey × VersionValue) → List VersionKey
 keys_of_rows versions = flat_map (λ e. if is_some e.1.row then e.0 ∷ [] else []) versions
 
--- ---- of a taker and what is sent to it, at a version
+-- ---- of a target and what is sent to it, at a version
 
 -- whether a test passes of what is known, where anything is
 abbrev pub passes : {A : Type 0} → (A → Bool) → Option A → Bool

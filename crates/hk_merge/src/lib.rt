@@ -4,8 +4,8 @@
 mod join;
 mod plan;
 mod refusals;
-mod sent;
+mod merge_input;
 
 pub use join::{join_agreed, join_sent, merge};
-pub use refusals::misfit;
-pub use sent::Sent;
+pub use refusals::wrong_log;
+pub use merge_input::MergeInput;

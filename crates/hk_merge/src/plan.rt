@@ -7,7 +7,7 @@ ghost use Rattle.hk_types.specs.declared.faults.Refusal.TheVariants.{Memory};
 ghost use Rattle.hk_model.specs.Content.{at_most};
 ghost use Rattle.hk_facts.specs.Facts.{row_of, died_of};
 ghost use Rattle.hk_state.specs.Facts.{entry_if};
-ghost use Rattle.hk_state.specs.Versions.{lent};
+ghost use Rattle.hk_state.specs.Versions.{borrowed};
 ghost use Rattle.hk_merge.specs.Plans.{stays, goes, row_back, end_back, all_gone, rows_back, ends_back, row_comes, end_comes, rows_come, ends_come, keys_of_rows};
 
 use hk_index::KeyIndex;
@@ -16,7 +16,7 @@ use hk_state::{Change, Facts};
 use hk_types::{Refusal, Row, Time, VersionKey};
 use std::alloc::{AllocError, Global};
 
-/// How the taker's own facts fare where the horizon rises.
+/// How the target's own facts fare where the horizon rises.
 #[derive(Drop)]
 pub(crate) struct Leaving {
     /// Whether the whole is sent.
@@ -47,7 +47,7 @@ fn has_ended(known: &Version, time: Time) -> bool
 }
 
 impl Leaving {
-    /// Whether a row of the taker's own stays.
+    /// Whether a row of the target's own stays.
     fn keeps_row(&self, version: &VersionKey, own: &Version) -> bool
         ensures { result ≡ stays self.now.whole self.now.horizon (set.contains self.now.sent) version.now own.now }
     {
@@ -61,7 +61,7 @@ impl Leaving {
         }
     }
 
-    /// Whether a row or an end of the taker's own goes.
+    /// Whether a row or an end of the target's own goes.
     fn goes(&self, version: &VersionKey, own: &Version) -> bool
         ensures { result ≡ goes self.now.whole self.now.horizon (set.contains self.now.sent) version.now own.now }
     {
@@ -69,7 +69,7 @@ impl Leaving {
     }
 }
 
-/// Adds to a change what becomes of a version of the taker's own.
+/// Adds to a change what becomes of a version of the target's own.
 fn leave_version(
     alloc: Global,
     change: &mut Change,
@@ -125,16 +125,16 @@ fn push_end(
     Ok(())
 }
 
-/// Adds to a change what becomes of the taker's own versions.
+/// Adds to a change what becomes of the target's own versions.
 pub(crate) fn leave(
     alloc: Global,
     change: &mut Change,
     leaving: &Leaving,
     own: &[(VersionKey, &Version)],
 ) -> Result<(), AllocError>
-    ensures drops { OnOk result (change.new.drops.items ≡ change.old.drops.items ++ all_gone leaving.now.whole leaving.now.horizon (set.contains leaving.now.sent) (map lent own.now)) }
-    ensures rows { OnOk result (change.new.rows.items ≡ change.old.rows.items ++ rows_back leaving.now.whole leaving.now.horizon (set.contains leaving.now.sent) (map lent own.now)) }
-    ensures ends { OnOk result (change.new.ends.items ≡ change.old.ends.items ++ ends_back leaving.now.whole leaving.now.horizon (set.contains leaving.now.sent) (map lent own.now)) }
+    ensures drops { OnOk result (change.new.drops.items ≡ change.old.drops.items ++ all_gone leaving.now.whole leaving.now.horizon (set.contains leaving.now.sent) (map borrowed own.now)) }
+    ensures rows { OnOk result (change.new.rows.items ≡ change.old.rows.items ++ rows_back leaving.now.whole leaving.now.horizon (set.contains leaving.now.sent) (map borrowed own.now)) }
+    ensures ends { OnOk result (change.new.ends.items ≡ change.old.ends.items ++ ends_back leaving.now.whole leaving.now.horizon (set.contains leaving.now.sent) (map borrowed own.now)) }
     ensures horizon { change.new.horizon ≡ change.old.horizon }
     ensures got { change.new.got ≡ change.old.got }
 {
@@ -197,8 +197,8 @@ pub(crate) fn take(
     own: &Facts,
     sent: &[(VersionKey, &Version)],
 ) -> Result<(), AllocError>
-    ensures rows { OnOk result (change.new.rows.items ≡ change.old.rows.items ++ rows_come own.now coming.now.old coming.now.horizon (map lent sent.now)) }
-    ensures ends { OnOk result (change.new.ends.items ≡ change.old.ends.items ++ ends_come own.now coming.now.old coming.now.horizon (map lent sent.now)) }
+    ensures rows { OnOk result (change.new.rows.items ≡ change.old.rows.items ++ rows_come own.now coming.now.old coming.now.horizon (map borrowed sent.now)) }
+    ensures ends { OnOk result (change.new.ends.items ≡ change.old.ends.items ++ ends_come own.now coming.now.old coming.now.horizon (map borrowed sent.now)) }
     ensures drops { change.new.drops.items ≡ change.old.drops.items }
     ensures horizon { change.new.horizon ≡ change.old.horizon }
     ensures got { change.new.got ≡ change.old.got }
@@ -214,7 +214,7 @@ pub(crate) fn with_rows(
     alloc: Global,
     versions: &[(VersionKey, &Version)],
 ) -> Result<KeyIndex, Refusal>
-    ensures ok { IfOk result (λ index. index ≡ set.from_list (keys_of_rows (map lent versions.now))) }
+    ensures ok { IfOk result (λ index. index ≡ set.from_list (keys_of_rows (map borrowed versions.now))) }
     ensures err { IfErr result (λ why. why ≡ Memory) }
 {
     let mut found = Vec::new(alloc);

@@ -6,20 +6,20 @@ use Rattle.hk_model.proofs.Members.{In}
 use Rattle.hk_model.proofs.Honest.{Contains_In}
 use Rattle.hk_model.proofs.Same.{same_streams}
 use Rattle.hk_model.proofs.Same.{SameItems as SameIn}
-use Rattle.hk_model.proofs.Laws.{readable_more, same, stands_both, join_law_proof, reply_law_proof, deliver_law_proof}
+use Rattle.hk_model.proofs.Laws.{readable_more, same, represents_both, join_law_proof, reply_law_proof, deliver_law_proof}
 use Rattle.hk_model.specs.Streams.{streams_of}
 use Rattle.hk_model.specs.Content.{Content, readable, least_closed}
-use Rattle.hk_model.specs.Canon.{canon}
+use Rattle.hk_model.specs.ContentOf.{content_of}
 use Rattle.hk_model.specs.Histories.{Transaction, IsHistory, AreItemsOf}
 use Rattle.hk_model.specs.Answers.{reply}
-use Rattle.hk_model.specs.Replicas.{Stands, Delivery, delivered, brought, accepted, nothing}
+use Rattle.hk_model.specs.Replicas.{Represents, Delivery, content_after_deliveries, delivered_items, accepted_horizon, empty_content}
 use Rattle.hk_model.specs.Replicas.Delivery.{Bring, PruneTo}
-use Rattle.hk_model.specs.Laws.{DeliverStands, DeliverReplies, JoinLaw, SameItems, SameContents, SameReadable, WorldLaw}
+use Rattle.hk_model.specs.Laws.{DeliverRepresents, DeliverReplies, JoinLaw, SameItems, SameContents, SameReadable, WorldLaw}
 
 -- ---- one replica, end to end
 
 -- an accepted horizon is at most the readable mark
-accepted_within : (config : ConfigValue) (items : List Item) (g : ℕ) (ds : List Delivery) → g ≤ least_closed (streams_of config.streams items) → accepted config items g ds ≤ least_closed (streams_of config.streams (brought items ds))
+accepted_within : (config : ConfigValue) (items : List Item) (g : ℕ) (ds : List Delivery) → g ≤ least_closed (streams_of config.streams items) → accepted_horizon config items g ds ≤ least_closed (streams_of config.streams (delivered_items items ds))
 accepted_within config items g [] within = within
 accepted_within config items g (Bring i ∷ ds) within =
     let more = readable_more config.streams items (i ∷ items) (λ j k. inr k) in
@@ -31,24 +31,24 @@ accepted_within config items g (PruneTo k ∷ ds) within =
       | false ↦ λ t. let l = ltb-false (least_closed (streams_of config.streams items)) k t in omega arith
     ] refl)
 
-pub deliver_stands_proof : DeliverStands
-deliver_stands_proof config h is ds all =
+pub deliver_represents_proof : DeliverRepresents
+deliver_represents_proof config h is ds all =
     let law = deliver_law_proof config h is ds all in
     record {
       of_history = all;
-      within = subst (λ (c : Content). accepted config [] 0 ds ≤ readable c) (sym law) (accepted_within config [] 0 ds (omega arith));
-      is_canon = law;
+      within = subst (λ (c : Content). accepted_horizon config [] 0 ds ≤ readable c) (sym law) (accepted_within config [] 0 ds (omega arith));
+      is_content_of = law;
     }
 
 pub deliver_replies_proof : DeliverReplies
 deliver_replies_proof config h is ds all t old soon q =
-    reply_law_proof config h is (brought [] ds) (accepted config [] 0 ds) (delivered (nothing config) ds) (deliver_stands_proof config h is ds all) t old soon q
+    reply_law_proof config h is (delivered_items [] ds) (accepted_horizon config [] 0 ds) (content_after_deliveries (empty_content config) ds) (deliver_represents_proof config h is ds all) t old soon q
 
 -- ---- joins
 
 pub joins_law_proof : JoinLaw
 joins_law_proof config h is p q g k r a b sa sb ra base =
-    (canon config (p ++ q) (max g k), join_law_proof config h is p q g k r a b sa sb ra base, stands_both config h is p q g k a b sa sb)
+    (content_of config (p ++ q) (max g k), join_law_proof config h is p q g k r a b sa sb ra base, represents_both config h is p q g k a b sa sb)
 
 -- ---- the same set of items
 
@@ -68,11 +68,11 @@ same_in p q s i = (
 
 pub same_contents_proof : SameContents
 same_contents_proof config h is p q g a b sa sb s =
-    sa.is_canon ∙ same config h is p q sa.of_history sb.of_history (same_in p q s) g ∙ sym sb.is_canon
+    sa.is_content_of ∙ same config h is p q sa.of_history sb.of_history (same_in p q s) g ∙ sym sb.is_content_of
 
 pub same_readable_proof : SameReadable
 same_readable_proof config h is p q g k a b sa sb s =
-    ap readable sa.is_canon ∙ ap least_closed (same_streams config.streams p q (same_in p q s)) ∙ sym (ap readable sb.is_canon)
+    ap readable sa.is_content_of ∙ ap least_closed (same_streams config.streams p q (same_in p q s)) ∙ sym (ap readable sb.is_content_of)
 
 pub world_law_proof : WorldLaw
 world_law_proof config h is p q g k a b sa sb s t old soon query =

@@ -1,4 +1,4 @@
--- Items of a history contradict each other nowhere, so their fragment is the part of base and horizon 0.
+-- Items of a history conflict with each other nowhere, so their fragment is the part of base and horizon 0.
 use Rattle.std.proofs.Common.{◌≡◌, refl, sym, ap, ◌∙◌, subst, Bool, true, false, cond, not, None, List, [], ◌∷◌, ◌==◌, ◌&&◌, ◌||◌, Ok, Err, eq-eqb, true≢false}
 use Rattle.std.proofs.lemmas.Bool.{and_parts}
 use Rattle.std.proofs.lemmas.List.Elements.{All-head, All-tail}
@@ -18,7 +18,7 @@ use Rattle.hk_model.specs.Rows.{version_key_cmp}
 use Rattle.hk_log.specs.declared.item.Item.{Item}
 use Rattle.hk_model.specs.Facts.{row_facts, end_facts}
 use Rattle.hk_model.specs.Fragments.{part}
-use Rattle.hk_model.specs.Rules.{first_misfit, gathered, gathered_unless, conflict}
+use Rattle.hk_model.specs.Rules.{first_wrong_log, gather_result, gather_result_unless, conflict}
 use Rattle.hk_types.specs.declared.faults.Refusal.TheVariants.{Conflict}
 use Rattle.hk_model.specs.Maps.{or_else}
 use Rattle.hk_model.specs.Histories.{Transaction, IsHistory, IsItemOf, AreItemsOf, entries_of}
@@ -40,15 +40,15 @@ no_conflict {X = X} same facts agree = by (conflict same facts) refl
     by false c = refl
 
 -- no item of a history is of another log
-all_fit : (config : ConfigValue) (h : List Transaction) → IsHistory config h → (items : List Item) → AreItemsOf config h items → first_misfit config items ≡ None
+all_fit : (config : ConfigValue) (h : List Transaction) → IsHistory config h → (items : List Item) → AreItemsOf config h items → first_wrong_log config items ≡ None
 all_fit config h is [] all = refl
 all_fit config h is (i ∷ items) all =
     (λ j. or_else (item_fits config h is i (All-head (IsItemOf config h) i items all) j) (all_fit config h is items (All-tail (IsItemOf config h) i items all) j))
 
-pub gathered_law : (config : ConfigValue) (h : List Transaction) → IsHistory config h → (items : List Item) → AreItemsOf config h items → gathered config items ≡ Ok (part config items 0 0)
+pub gathered_law : (config : ConfigValue) (h : List Transaction) → IsHistory config h → (items : List Item) → AreItemsOf config h items → gather_result config items ≡ Ok (part config items 0 0)
 gathered_law config h is items all =
     let own = items_part config h is items all in
     let rows : conflict same_row (row_facts items) ≡ false = no_conflict same_row (row_facts items) (λ v a b i j. same_row_if a b (facts_agree config (λ e. In e (entries_of config h)) (history_log config h is) items items own own v a b i j)) in
     let ends : conflict (λ a b. a == b) (end_facts items) ≡ false = no_conflict (λ a b. a == b) (end_facts items) (λ v a b i j. eq-eqb a b (ends_agree config (λ e. In e (entries_of config h)) (history_log config h is) items items own own v a b i j)) in
-    ap (gathered_unless config items) (all_fit config h is items all)
+    ap (gather_result_unless config items) (all_fit config h is items all)
     ∙ (λ i. cond (rows i || ends i) (Err Conflict) (Ok (part config items 0 0)))

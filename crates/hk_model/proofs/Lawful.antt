@@ -6,8 +6,8 @@ use Rattle.std.specs.Cmp.{nat_cmp_total as nat_total}
 use Rattle.std.specs.FinMap as finmap
 use Rattle.std.specs.FinSet as set
 use Rattle.hk_model.proofs.Writes.{All_In}
-use Rattle.hk_model.specs.Canon.{canon}
-use Rattle.hk_model.specs.Items.{log_of, stream_no, misfit}
+use Rattle.hk_model.specs.ContentOf.{content_of}
+use Rattle.hk_model.specs.Items.{log_of, stream_no, wrong_log}
 use Rattle.hk_model.specs.declared.took.Took.TheVariants.{Taken, Repeated}
 use Rattle.hk_model.specs.declared.took.Took.{Took}
 use Rattle.hk_types.specs.declared.faults.Refusal.TheVariants.{ForeignLog, WrongStreams, Gap, Conflict, AheadOfMark}
@@ -17,7 +17,7 @@ use Rattle.hk_model.proofs.Members.{In, In-map}
 use Rattle.std.proofs.lemmas.Bool.{and_parts, or_parts}
 use Rattle.std.specs.List.{list_all, range_with_len}
 use Rattle.hk_model.proofs.Logs.{fact_row, fact_end, row_found, end_found, row_born}
-use Rattle.hk_model.specs.Maps.{or_else, union, contradict}
+use Rattle.hk_model.specs.Maps.{or_else, union, maps_conflict}
 use Rattle.hk_types.specs.Values.{RowValue, ConfigValue}
 use Rattle.hk_types.specs.declared.version_key.VersionKey.{VersionKey}
 use Rattle.hk_types.specs.Values.{same_row}
@@ -26,10 +26,10 @@ use Rattle.hk_log.specs.Items.{EntryValue, MarkValue, IsEntry, was_born}
 use Rattle.hk_log.specs.declared.item.Item.{Item}
 use Rattle.hk_log.specs.declared.item.Item.TheVariants.{Commit, Closed}
 use Rattle.hk_model.specs.Facts.{rows_of, ends_of, entry_ends, row_facts, end_facts}
-use Rattle.hk_model.specs.Streams.{StreamContent, covers, by_count, settled, together, all_together, stream_of, streams_of, unknown, stream_at, is_told, marks_of}
+use Rattle.hk_model.specs.Streams.{StreamContent, covers, by_count, stream_with, together, all_together, stream_of, streams_of, unknown, stream_at, adds_nothing, marks_of}
 use Rattle.hk_model.specs.Content.{Content, readable, least_closed, at_most, without_ended}
 use Rattle.hk_model.specs.Fragments.{FragmentValue, cut, part}
-use Rattle.hk_model.specs.Rules.{joined_content, with_items, joined, disagree, taken, taken_unless, absorbed, contradicts, pruned, gathered, gathered_unless, first_misfit, conflict}
+use Rattle.hk_model.specs.Rules.{content_after_join, with_items, join_result, contents_conflict, take_result, take_result_unless, absorb_result, entry_conflicts, prune_result, gather_result, gather_result_unless, first_wrong_log, conflict}
 use Rattle.hk_model.specs.Lawful.{IsLawfulStream, IsLawful, IsLawfulFragment, IsItem}
 
 either_Some : {X : Type 0} (x y : Option X) (r : X) → or_else x y ≡ Some r → (x ≡ Some r) ⊎ (y ≡ Some r)
@@ -53,7 +53,7 @@ left_end ends t v d e =
     let k = kept (not (at_most t (finmap.get ends v))) (finmap.get ends v) d (sym (get-without_ended ends t ends v) ∙ e) in
     (k.1, above t d (ap (λ x. not (at_most t x)) (sym k.1) ∙ k.0))
 
-pub settled_lawful : (t : set.FinSet nat_cmp) (c : ℕ) (ms : List (ℕ × ℕ)) → IsLawfulStream (settled t c ms)
+pub settled_lawful : (t : set.FinSet nat_cmp) (c : ℕ) (ms : List (ℕ × ℕ)) → IsLawfulStream (stream_with t c ms)
 settled_lawful t c ms count upto e =
     let k = kept (not (covers t count)) (finmap.get (by_count ms) count) upto (sym (get-retain nat_total finmap.nat_cmp-IsAntisymmetric (by_count ms) (λ q. not (covers t q)) count) ∙ e) in
     not_true (covers t count) k.0
@@ -89,12 +89,12 @@ from_kept m n p q v r e =
       | inr k ↦ inr (kept (q v) (finmap.get n v) r (sym (get-retain version_key_total version_key_same n q v) ∙ k)).1
     ]
 
-pub joined_lawful : (t : Content) (f : FragmentValue) → IsLawful t → IsLawfulFragment f → length t.streams ≡ length f.content.streams → IsLawful (joined_content t f)
+pub joined_lawful : (t : Content) (f : FragmentValue) → IsLawful t → IsLawfulFragment f → length t.streams ≡ length f.content.streams → IsLawful (content_after_join t f)
 joined_lawful t f lt lf same =
     let h = max t.horizon f.content.horizon in
-    let row : (v : VersionKey) (r : RowValue) → finmap.get (joined_content t f).rows v ≡ Some r → (finmap.get t.rows v ≡ Some r) ⊎ (finmap.get f.content.rows v ≡ Some r) =
+    let row : (v : VersionKey) (r : RowValue) → finmap.get (content_after_join t f).rows v ≡ Some r → (finmap.get t.rows v ≡ Some r) ⊎ (finmap.get f.content.rows v ≡ Some r) =
     λ v r e. from_kept t.rows f.content.rows _ _ v r e in
-    let end : (v : VersionKey) (d : ℕ) → finmap.get (joined_content t f).ends v ≡ Some d → ((finmap.get t.ends v ≡ Some d) ⊎ (finmap.get f.content.ends v ≡ Some d)) × (max t.horizon f.content.horizon < d) =
+    let end : (v : VersionKey) (d : ℕ) → finmap.get (content_after_join t f).ends v ≡ Some d → ((finmap.get t.ends v ≡ Some d) ⊎ (finmap.get f.content.ends v ≡ Some d)) × (max t.horizon f.content.horizon < d) =
     λ v d e. elim (either_Some _ _ d (sym (get-union version_key_total version_key_same (without_ended t.ends h t.ends) (without_ended f.content.ends h f.content.ends) v) ∙ e)) [
       | inl l ↦ let k = left_end t.ends h v d l in (inl k.0, k.1)
       | inr r ↦ let k = left_end f.content.ends h v d r in (inr k.0, k.1)
@@ -217,7 +217,7 @@ marked_lawful c m l =
 pub same_Ok : {X E : Type 0} (x y : X) → ◌≡◌ {A = Result X E} (Ok x) (Ok y) → x ≡ y
 same_Ok x y e = cc
 
-pub fits_within : (log streams : ℕ) (i : Item) → misfit log streams i ≡ None → stream_no i ≤ streams
+pub fits_within : (log streams : ℕ) (i : Item) → wrong_log log streams i ≡ None → stream_no i ≤ streams
 fits_within log streams i e =
     elim (not (log_of i == log)) as (λ b. cond b (Some ForeignLog) (cond (nat_lt streams (stream_no i)) (Some WrongStreams) None) ≡ None → stream_no i ≤ streams) [
       | true ↦ λ f. absurd cc
@@ -227,28 +227,28 @@ fits_within log streams i e =
       ] refl f
     ] e
 
-absorbed_lawful : (c : Content) (i : Item) → IsLawful c → IsItem i → stream_no i ≤ length c.streams → (told : Took) (d : Content) → absorbed c i ≡ Ok (told, d) → IsLawful d
+absorbed_lawful : (c : Content) (i : Item) → IsLawful c → IsItem i → stream_no i ≤ length c.streams → (told : Took) (d : Content) → absorb_result c i ≡ Ok (told, d) → IsLawful d
 absorbed_lawful c (Commit e) l w within told d eq =
-    elim (set.contains (stream_at c.streams e.stream).taken e.number) as (λ b. ◌≡◌ {A = Result (Took × Content) Refusal} (cond b (Ok (Repeated, c)) (cond (contradicts c e) (Err Conflict) (Ok (Taken, with_items c (Commit e ∷ []))))) (Ok (told, d)) → IsLawful d) [
+    elim (set.contains (stream_at c.streams e.stream).taken e.number) as (λ b. ◌≡◌ {A = Result (Took × Content) Refusal} (cond b (Ok (Repeated, c)) (cond (entry_conflicts c e) (Err Conflict) (Ok (Taken, with_items c (Commit e ∷ []))))) (Ok (told, d)) → IsLawful d) [
       | true ↦ λ f. let s = ap (λ (z : Took × Content). z.1) (same_Ok (Repeated, c) (told, d) f) in subst IsLawful s l
-      | false ↦ λ f. elim (contradicts c e) as (λ b. contradicts c e ≡ b → ◌≡◌ {A = Result (Took × Content) Refusal} (cond b (Err Conflict) (Ok (Taken, with_items c (Commit e ∷ [])))) (Ok (told, d)) → IsLawful d) [
+      | false ↦ λ f. elim (entry_conflicts c e) as (λ b. entry_conflicts c e ≡ b → ◌≡◌ {A = Result (Took × Content) Refusal} (cond b (Err Conflict) (Ok (Taken, with_items c (Commit e ∷ [])))) (Ok (told, d)) → IsLawful d) [
         | true ↦ λ t g. absurd cc
         | false ↦ λ t g.
             let s = ap (λ (z : Took × Content). z.1) (same_Ok (Taken, with_items c (Commit e ∷ [])) (told, d) g) in
-            let late = (or_parts (contradict same_row c.rows (rows_of (Commit e ∷ [])) || contradict (λ a b. a == b) c.ends (ends_of (Commit e ∷ []))) (nat_le e.time (stream_at c.streams e.stream).closed) t).1 in
+            let late = (or_parts (maps_conflict same_row c.rows (rows_of (Commit e ∷ [])) || maps_conflict (λ a b. a == b) c.ends (ends_of (Commit e ∷ []))) (nat_le e.time (stream_at c.streams e.stream).closed) t).1 in
             subst IsLawful s (taken_lawful c e l w within (leb-false e.time (stream_at c.streams e.stream).closed late))
       ] refl f
     ] eq
-absorbed_lawful c (Closed m) l w within told d eq = let s = ap (λ (z : Took × Content). z.1) (same_Ok (cond (is_told (stream_at c.streams m.stream) m.count m.upto) Repeated Taken, with_items c (Closed m ∷ [])) (told, d) eq) in subst IsLawful s (marked_lawful c m l)
+absorbed_lawful c (Closed m) l w within told d eq = let s = ap (λ (z : Took × Content). z.1) (same_Ok (cond (adds_nothing (stream_at c.streams m.stream) m.count m.upto) Repeated Taken, with_items c (Closed m ∷ [])) (told, d) eq) in subst IsLawful s (marked_lawful c m l)
 
-pub taken_keeps : (c : Content) (i : Item) → IsLawful c → IsItem i → (told : Took) (d : Content) → taken c i ≡ Ok (told, d) → IsLawful d
-taken_keeps c i l w told d e = by (misfit c.log (length c.streams) i) refl e
+pub taken_keeps : (c : Content) (i : Item) → IsLawful c → IsItem i → (told : Took) (d : Content) → take_result c i ≡ Ok (told, d) → IsLawful d
+taken_keeps c i l w told d e = by (wrong_log c.log (length c.streams) i) refl e
   where
-    by : (x : Option Refusal) → misfit c.log (length c.streams) i ≡ x → taken_unless c i x ≡ Ok (told, d) → IsLawful d
+    by : (x : Option Refusal) → wrong_log c.log (length c.streams) i ≡ x → take_result_unless c i x ≡ Ok (told, d) → IsLawful d
     by (Some why) m f = absurd cc
     by None m f = absorbed_lawful c i l w (fits_within c.log (length c.streams) i m) told d f
 
-pub pruned_keeps : (c : Content) (h : ℕ) (d : Content) → IsLawful c → pruned c h ≡ Ok d → IsLawful d
+pub pruned_keeps : (c : Content) (h : ℕ) (d : Content) → IsLawful c → prune_result c h ≡ Ok d → IsLawful d
 pruned_keeps c h d l e =
     elim (nat_lt (readable c) h) as (λ b. nat_lt (readable c) h ≡ b → ◌≡◌ {A = Result Content Refusal} (cond b (Err (AheadOfMark (readable c))) (cond (nat_le h c.horizon) (Ok c) (Ok (after c h)))) (Ok d) → IsLawful d) [
       | true ↦ λ t f. absurd cc
@@ -261,16 +261,16 @@ pruned_keeps c h d l e =
     after : Content → ℕ → Content
     after c h = record c { horizon = h; rows = without_ended c.ends h c.rows; ends = without_ended c.ends h c.ends }
 
-pub joined_keeps : (t : Content) (f : FragmentValue) (d : Content) → IsLawful t → IsLawfulFragment f → joined t f ≡ Ok d → IsLawful d
+pub joined_keeps : (t : Content) (f : FragmentValue) (d : Content) → IsLawful t → IsLawfulFragment f → join_result t f ≡ Ok d → IsLawful d
 joined_keeps t f d lt lf e =
     elim (not (f.content.log == t.log)) as (λ b. ◌≡◌ {A = Result Content Refusal} (cond b (Err ForeignLog) (cond (not (length f.content.streams == length t.streams)) (Err WrongStreams) rest)) (Ok d) → IsLawful d) [
       | true ↦ λ g. absurd cc
       | false ↦ λ g. elim (length f.content.streams == length t.streams) as (λ b. (length f.content.streams == length t.streams) ≡ b → ◌≡◌ {A = Result Content Refusal} (cond (not b) (Err WrongStreams) rest) (Ok d) → IsLawful d) [
-        | true ↦ λ n k. elim (nat_lt (readable t) f.base) as (λ b. ◌≡◌ {A = Result Content Refusal} (cond b (Err (Gap f.base (readable t))) (cond (disagree t f.content) (Err Conflict) (Ok (joined_content t f)))) (Ok d) → IsLawful d) [
+        | true ↦ λ n k. elim (nat_lt (readable t) f.base) as (λ b. ◌≡◌ {A = Result Content Refusal} (cond b (Err (Gap f.base (readable t))) (cond (contents_conflict t f.content) (Err Conflict) (Ok (content_after_join t f)))) (Ok d) → IsLawful d) [
           | true ↦ λ m. absurd cc
-          | false ↦ λ m. elim (disagree t f.content) as (λ b. ◌≡◌ {A = Result Content Refusal} (cond b (Err Conflict) (Ok (joined_content t f))) (Ok d) → IsLawful d) [
+          | false ↦ λ m. elim (contents_conflict t f.content) as (λ b. ◌≡◌ {A = Result Content Refusal} (cond b (Err Conflict) (Ok (content_after_join t f))) (Ok d) → IsLawful d) [
             | true ↦ λ o. absurd cc
-            | false ↦ λ o. let s = same_Ok (joined_content t f) d o in subst IsLawful s (joined_lawful t f lt lf (sym (eqb-true (length f.content.streams) (length t.streams) n)))
+            | false ↦ λ o. let s = same_Ok (content_after_join t f) d o in subst IsLawful s (joined_lawful t f lt lf (sym (eqb-true (length f.content.streams) (length t.streams) n)))
           ] m
         ] k
         | false ↦ λ n k. absurd cc
@@ -278,17 +278,17 @@ joined_keeps t f d lt lf e =
     ] e
   where
     rest : Result Content Refusal
-    rest = cond (nat_lt (readable t) f.base) (Err (Gap f.base (readable t))) (cond (disagree t f.content) (Err Conflict) (Ok (joined_content t f)))
+    rest = cond (nat_lt (readable t) f.base) (Err (Gap f.base (readable t))) (cond (contents_conflict t f.content) (Err Conflict) (Ok (content_after_join t f)))
 
--- ---- canons and cuts
+-- ---- contents and cuts
 
 streams_lawful : (items : List Item) (ks : List ℕ) → All IsLawfulStream (map (stream_of items) ks)
 streams_lawful items [] = All-nil IsLawfulStream
 streams_lawful items (k ∷ ks) = All-cons IsLawfulStream (stream_of items k) (map (stream_of items) ks) (settled_lawful (stream_of items k).taken 0 (marks_of items k)) (streams_lawful items ks)
 
-pub canon_lawful : (config : ConfigValue) (items : List Item) (h : ℕ) → ((e : EntryValue) → In (Commit e) items → IsSound e) → h ≤ readable (canon config items h) → IsLawful (canon config items h)
-canon_lawful config items h sound within =
-    let ended : (v : VersionKey) (d : ℕ) → finmap.get (canon config items h).ends v ≡ Some d → (0 < v.born) × (v.born < d) × (h < d) = λ v d e.
+pub content_of_lawful : (config : ConfigValue) (items : List Item) (h : ℕ) → ((e : EntryValue) → In (Commit e) items → IsSound e) → h ≤ readable (content_of config items h) → IsLawful (content_of config items h)
+content_of_lawful config items h sound within =
+    let ended : (v : VersionKey) (d : ℕ) → finmap.get (content_of config items h).ends v ≡ Some d → (0 < v.born) × (v.born < d) × (h < d) = λ v d e.
     let k = left_end (ends_of items) h v d e in
     let f = fact_end v d items (end_found items v d k.0) in
     let m = In-map (λ (u : VersionKey). (u, f.0.time)) (v, d) f.0.ends f.2 in
@@ -332,16 +332,16 @@ cut_lawful c r l base =
     }
 
 -- the fragment of well-formed items
-pub gathered_keeps : (config : ConfigValue) (items : List Item) (f : FragmentValue) → All IsItem items → gathered config items ≡ Ok f → IsLawfulFragment f
-gathered_keeps config items f all e = by (first_misfit config items) e
+pub gathered_keeps : (config : ConfigValue) (items : List Item) (f : FragmentValue) → All IsItem items → gather_result config items ≡ Ok f → IsLawfulFragment f
+gathered_keeps config items f all e = by (first_wrong_log config items) e
   where
     sound : (e : EntryValue) → In (Commit e) items → IsSound e
     sound e i = entry_sound e (All_In IsItem items all (Commit e) i)
 
     whole : IsLawfulFragment (part config items 0 0)
-    whole = cut_lawful (canon config items 0) 0 (canon_lawful config items 0 sound (omega arith)) (inl refl)
+    whole = cut_lawful (content_of config items 0) 0 (content_of_lawful config items 0 sound (omega arith)) (inl refl)
 
-    by : (x : Option Refusal) → gathered_unless config items x ≡ Ok f → IsLawfulFragment f
+    by : (x : Option Refusal) → gather_result_unless config items x ≡ Ok f → IsLawfulFragment f
     by (Some why) e = absurd cc
     by None e = elim (conflict same_row (row_facts items) || conflict (λ a b. a == b) (end_facts items)) as (λ b. ◌≡◌ {A = Result FragmentValue Refusal} (cond b (Err Conflict) (Ok (part config items 0 0))) (Ok f) → IsLawfulFragment f) [
       | true ↦ λ g. absurd cc

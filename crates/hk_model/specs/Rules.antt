@@ -9,22 +9,22 @@ use Rattle.hk_types.specs.declared.faults.Refusal.{Refusal}
 use Rattle.hk_types.specs.declared.faults.Refusal.TheVariants.{ForeignLog, WrongStreams, Gap, Conflict, AheadOfMark}
 use Rattle.hk_model.specs.declared.took.Took.{Took}
 use Rattle.hk_model.specs.declared.took.Took.TheVariants.{Taken, Repeated}
-use Rattle.hk_model.specs.Maps.{or_else, union, contradict}
+use Rattle.hk_model.specs.Maps.{or_else, union, maps_conflict}
 use Rattle.hk_types.specs.declared.version_key.VersionKey.{VersionKey}
 use Rattle.hk_types.specs.Values.{same_row}
 use Rattle.hk_model.specs.Rows.{version_key_cmp}
 use Rattle.hk_log.specs.Items.{EntryValue}
 use Rattle.hk_log.specs.declared.item.Item.{Item}
 use Rattle.hk_log.specs.declared.item.Item.TheVariants.{Commit, Closed}
-use Rattle.hk_model.specs.Items.{misfit}
+use Rattle.hk_model.specs.Items.{wrong_log}
 use Rattle.hk_model.specs.Facts.{row_facts, end_facts, rows_of, ends_of}
-use Rattle.hk_model.specs.Streams.{streams_of, all_together, stream_at, is_told}
+use Rattle.hk_model.specs.Streams.{streams_of, all_together, stream_at, adds_nothing}
 use Rattle.hk_model.specs.Content.{Content, readable, ended_by, without_ended}
 use Rattle.hk_model.specs.Fragments.{FragmentValue, cut, part}
 
 -- whether some version has different rows, or different ends, in the two
-abbrev pub disagree : Content → Content → Bool
-disagree c d = contradict same_row c.rows d.rows || contradict (λ a b. a == b) c.ends d.ends
+abbrev pub contents_conflict : Content → Content → Bool
+contents_conflict c d = maps_conflict same_row c.rows d.rows || maps_conflict (λ a b. a == b) c.ends d.ends
 
 -- the content with the facts, numbers and marks of these items
 abbrev pub with_items : Content → List Item → Content
@@ -37,39 +37,39 @@ with_items c items =
       streams = all_together c.streams (streams_of (length c.streams) items);
     }
 
--- whether an entry whose number is new contradicts the content
-abbrev pub contradicts : Content → EntryValue → Bool
-contradicts c e =
-    contradict same_row c.rows (rows_of (Commit e ∷ []))
-    || contradict (λ a b. a == b) c.ends (ends_of (Commit e ∷ []))
+-- whether an entry whose number is new conflicts with the content
+abbrev pub entry_conflicts : Content → EntryValue → Bool
+entry_conflicts c e =
+    maps_conflict same_row c.rows (rows_of (Commit e ∷ []))
+    || maps_conflict (λ a b. a == b) c.ends (ends_of (Commit e ∷ []))
     || nat_le e.time (stream_at c.streams e.stream).closed
 
 -- whether an item tells a content something new
 abbrev pub took : Content → Item → Took
 took c (Commit e) = if set.contains (stream_at c.streams e.stream).taken e.number then Repeated else Taken
-took c (Closed m) = if is_told (stream_at c.streams m.stream) m.count m.upto then Repeated else Taken
+took c (Closed m) = if adds_nothing (stream_at c.streams m.stream) m.count m.upto then Repeated else Taken
 
 -- what an absorb gives, of an item of the content's log
-abbrev pub absorbed : Content → Item → Result (Took × Content) Refusal
-absorbed c (Commit e) =
+abbrev pub absorb_result : Content → Item → Result (Took × Content) Refusal
+absorb_result c (Commit e) =
     if set.contains (stream_at c.streams e.stream).taken e.number then Ok (Repeated, c)
-    else if contradicts c e then Err Conflict
+    else if entry_conflicts c e then Err Conflict
     else Ok (Taken, with_items c (Commit e ∷ []))
-absorbed c (Closed m) =
-    Ok (if is_told (stream_at c.streams m.stream) m.count m.upto then Repeated else Taken, with_items c (Closed m ∷ []))
+absorb_result c (Closed m) =
+    Ok (if adds_nothing (stream_at c.streams m.stream) m.count m.upto then Repeated else Taken, with_items c (Closed m ∷ []))
 
 -- what it gives, where nothing kept the item from it
-abbrev pub taken_unless : Content → Item → Option Refusal → Result (Took × Content) Refusal
-taken_unless c item (Some why) = Err why
-taken_unless c item None = absorbed c item
+abbrev pub take_result_unless : Content → Item → Option Refusal → Result (Took × Content) Refusal
+take_result_unless c item (Some why) = Err why
+take_result_unless c item None = absorb_result c item
 
 -- what an absorb gives
-abbrev pub taken : Content → Item → Result (Took × Content) Refusal
-taken c item = taken_unless c item (misfit c.log (length c.streams) item)
+abbrev pub take_result : Content → Item → Result (Took × Content) Refusal
+take_result c item = take_result_unless c item (wrong_log c.log (length c.streams) item)
 
 -- the content that a fragment's join leaves, where nothing is refused
-abbrev pub joined_content : Content → FragmentValue → Content
-joined_content t f =
+abbrev pub content_after_join : Content → FragmentValue → Content
+content_after_join t f =
     let h = max t.horizon f.content.horizon in
     let own_are_old = (t.horizon == h) || nat_lt 0 f.base in
     let sent_are_old = (f.base == 0) && (f.content.horizon == h) in
@@ -84,21 +84,21 @@ joined_content t f =
     }
 
 -- what a fragment's join gives
-abbrev pub joined : Content → FragmentValue → Result Content Refusal
-joined t f =
+abbrev pub join_result : Content → FragmentValue → Result Content Refusal
+join_result t f =
     if not (f.content.log == t.log) then Err ForeignLog
     else if not (length f.content.streams == length t.streams) then Err WrongStreams
     else if nat_lt (readable t) f.base then Err (Gap f.base (readable t))
-    else if disagree t f.content then Err Conflict
-    else Ok (joined_content t f)
+    else if contents_conflict t f.content then Err Conflict
+    else Ok (content_after_join t f)
 
 -- what a merge gives: the join of the whole
-abbrev pub merged : Content → Content → Result Content Refusal
-merged t s = joined t (cut s 0)
+abbrev pub merge_result : Content → Content → Result Content Refusal
+merge_result t s = join_result t (cut s 0)
 
 -- what a prune gives
-abbrev pub pruned : Content → ℕ → Result Content Refusal
-pruned c h =
+abbrev pub prune_result : Content → ℕ → Result Content Refusal
+prune_result c h =
     if nat_lt (readable c) h then Err (AheadOfMark (readable c))
     else if nat_le h c.horizon then Ok c
     else Ok (record c { horizon = h; rows = without_ended c.ends h c.rows; ends = without_ended c.ends h c.ends })
@@ -108,17 +108,17 @@ abbrev pub conflict : {X : Type 0} → (X → X → Bool) → List (VersionKey �
 conflict same facts = list_any (λ e. list_any (λ f. eq_by_cmp version_key_cmp e.0 f.0 && not (same e.1 f.1)) facts) facts
 
 -- why the first of the items that is none of the log is none
-abbrev pub first_misfit : ConfigValue → List Item → Option Refusal
-first_misfit config [] = None
-first_misfit config (item ∷ items) = or_else (misfit config.log config.streams item) (first_misfit config items)
+abbrev pub first_wrong_log : ConfigValue → List Item → Option Refusal
+first_wrong_log config [] = None
+first_wrong_log config (item ∷ items) = or_else (wrong_log config.log config.streams item) (first_wrong_log config items)
 
 -- the fragment of these items, where all are of the log: base 0, horizon 0 and all that they tell
-abbrev pub gathered_unless : ConfigValue → List Item → Option Refusal → Result FragmentValue Refusal
-gathered_unless config items (Some why) = Err why
-gathered_unless config items None =
+abbrev pub gather_result_unless : ConfigValue → List Item → Option Refusal → Result FragmentValue Refusal
+gather_result_unless config items (Some why) = Err why
+gather_result_unless config items None =
     if conflict same_row (row_facts items) || conflict (λ a b. a == b) (end_facts items) then Err Conflict
     else Ok (part config items 0 0)
 
 -- the fragment of these items
-abbrev pub gathered : ConfigValue → List Item → Result FragmentValue Refusal
-gathered config items = gathered_unless config items (first_misfit config items)
+abbrev pub gather_result : ConfigValue → List Item → Result FragmentValue Refusal
+gather_result config items = gather_result_unless config items (first_wrong_log config items)

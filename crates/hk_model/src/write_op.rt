@@ -36,7 +36,7 @@ impl WriteOp {
         }
     }
 
-    /// The same write again. The only error is want of memory.
+    /// The same write again. The only error is out of memory.
     pub fn copy(&self, alloc: Global) -> Result<WriteOp, AllocError>
         ensures { IfOk result (λ write. write ≡ self.now) }
     {

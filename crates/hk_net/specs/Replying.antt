@@ -6,12 +6,12 @@ use Rattle.hk_types.specs.declared.faults.Refusal.{Refusal}
 use Rattle.hk_types.specs.declared.faults.Refusal.TheVariants as refusals
 use Rattle.hk_model.specs.declared.front.Front.{Front as FrontMarks}
 use Rattle.hk_model.specs.Fragments.{FragmentValue}
-use Rattle.hk_model.specs.Rules.{gathered}
+use Rattle.hk_model.specs.Rules.{gather_result}
 use Rattle.hk_wire.specs.declared.reply.Reply.{Reply}
 use Rattle.hk_wire.specs.declared.request.Request.{Request}
 use Rattle.hk_wire.specs.declared.request.Request.TheVariants as asked
 use Rattle.hk_wire.specs.Replies.{ReplyValue, Done, Front, Fragment, Answer, Refused, reply_seen}
-use Rattle.hk_session.specs.Steps.{told, handed}
+use Rattle.hk_session.specs.Steps.{query_reply, fragment_reply}
 use Rattle.hk_node.specs.declared.op.Op.{Op}
 use Rattle.hk_node.specs.declared.op.Op.TheVariants.{Join, Prune as PruneTo}
 use Rattle.hk_node.specs.Lists.{last_of}
@@ -33,7 +33,7 @@ join_of (Err why) = None
 
 -- the operation that a request asks for, if any: items ask for the join of the one fragment that they make
 abbrev pub op_of : ConfigValue → Request → Option Op
-op_of config (asked.Items items) = join_of (gathered config items.items)
+op_of config (asked.Items items) = join_of (gather_result config items.items)
 op_of config (asked.JoinThis fragment) = Some (Join fragment)
 op_of config (asked.MergeThis fragment) = Some (Join fragment)
 op_of config (asked.Prune horizon) = Some (PruneTo horizon)
@@ -51,9 +51,9 @@ IsChangeReply ops wanted reply = ⊥
 -- what is replied to a request by a seat with this list
 abbrev pub IsReplyTo : List Op → Request → ReplyValue → Type 0
 IsReplyTo ops asked.Front reply = IsOrOutOfMemory (front_reply (node_front (replay ops))) reply
-IsReplyTo ops (asked.Delta base) reply = IsOrOutOfMemory (handed (node_delta (replay ops) base)) reply
-IsReplyTo ops asked.Full reply = IsOrOutOfMemory (handed (node_whole (replay ops))) reply
-IsReplyTo ops (asked.Ask t query) reply = IsOrOutOfMemory (told (node_reply (replay ops) t query)) reply
+IsReplyTo ops (asked.Delta base) reply = IsOrOutOfMemory (fragment_reply (node_delta (replay ops) base)) reply
+IsReplyTo ops asked.Full reply = IsOrOutOfMemory (fragment_reply (node_whole (replay ops))) reply
+IsReplyTo ops (asked.Ask t query) reply = IsOrOutOfMemory (query_reply (node_reply (replay ops) t query)) reply
 IsReplyTo ops request reply = IsChangeReply ops (op_of (config_of ops) request) reply
 
 -- what a host over a node may do: its seat's list is legal and begins with the one before, and the reply is of that list

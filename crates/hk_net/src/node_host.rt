@@ -3,9 +3,9 @@
 ghost use Rattle.std.specs.Prelude.{◌≡◌, true, Some, None, Option, IfOk, OnOk};
 ghost use mathlib.Core.List.{IsPrefix};
 ghost use Rattle.hk_types.specs.Values.{ConfigValue};
-ghost use Rattle.hk_model.specs.Rules.{gathered};
+ghost use Rattle.hk_model.specs.Rules.{gather_result};
 ghost use Rattle.hk_wire.specs.Replies.{reply_seen};
-ghost use Rattle.hk_session.specs.Steps.{told, handed};
+ghost use Rattle.hk_session.specs.Steps.{query_reply, fragment_reply};
 ghost use Rattle.hk_node.specs.declared.op.Op.{Op};
 ghost use Rattle.hk_node.specs.declared.op.Op.TheVariants.{Join, Prune as PruneTo};
 ghost use Rattle.hk_node.specs.Lists.{last_of};
@@ -79,7 +79,7 @@ impl<'a, J: NodeName, N: Wait + Drop, R: Wait> NodeHost<'a, J, N, R> {
     fn learn(&mut self, receipt: Receipt<J>) -> Reply
         ensures legal { is_legal self.new ≡ true }
         ensures seen { IsPrefix self.old self.new }
-        ensures told { (op : Op) → last_of receipt ≡ Some op → IsChangeReply self.new (Some op) (reply_seen result) }
+        ensures query_reply { (op : Op) → last_of receipt ≡ Some op → IsChangeReply self.new (Some op) (reply_seen result) }
     {
         let ops = receipt.ops();
         self.seat.learn(receipt);
@@ -90,7 +90,7 @@ impl<'a, J: NodeName, N: Wait + Drop, R: Wait> NodeHost<'a, J, N, R> {
     /// The one fragment that items make.
     fn gather(&self, items: &[Item]) -> Result<Fragment, Refusal>
         ensures legal { is_legal self.now ≡ true }
-        ensures gives { OnOk result (gathered (config_of self.now) items.now ≡ result) }
+        ensures gives { OnOk result (gather_result (config_of self.now) items.now ≡ result) }
     {
         fragment_of(self.alloc, self.seat.config(), items)
     }
@@ -98,7 +98,7 @@ impl<'a, J: NodeName, N: Wait + Drop, R: Wait> NodeHost<'a, J, N, R> {
     fn take_items(&mut self, items: &[Item]) -> Reply
         ensures legal { is_legal self.new ≡ true }
         ensures seen { IsPrefix self.old self.new }
-        ensures told { IsChangeReply self.new (join_of (gathered (config_of self.new) items.now)) (reply_seen result) }
+        ensures query_reply { IsChangeReply self.new (join_of (gather_result (config_of self.new) items.now)) (reply_seen result) }
     {
         match self.gather(items) {
             Ok(fragment) => self.join(fragment),
@@ -109,7 +109,7 @@ impl<'a, J: NodeName, N: Wait + Drop, R: Wait> NodeHost<'a, J, N, R> {
     fn join(&mut self, fragment: Fragment) -> Reply
         ensures legal { is_legal self.new ≡ true }
         ensures seen { IsPrefix self.old self.new }
-        ensures told { IsChangeReply self.new (Some (Join fragment)) (reply_seen result) }
+        ensures query_reply { IsChangeReply self.new (Some (Join fragment)) (reply_seen result) }
     {
         match self.node.join(self.rt, fragment) {
             Ok(receipt) => self.learn(receipt),
@@ -120,7 +120,7 @@ impl<'a, J: NodeName, N: Wait + Drop, R: Wait> NodeHost<'a, J, N, R> {
     fn prune(&mut self, horizon: Time) -> Reply
         ensures legal { is_legal self.new ≡ true }
         ensures seen { IsPrefix self.old self.new }
-        ensures told { IsChangeReply self.new (Some (PruneTo horizon)) (reply_seen result) }
+        ensures query_reply { IsChangeReply self.new (Some (PruneTo horizon)) (reply_seen result) }
     {
         match self.node.prune(self.rt, horizon) {
             Ok(receipt) => self.learn(receipt),
@@ -131,7 +131,7 @@ impl<'a, J: NodeName, N: Wait + Drop, R: Wait> NodeHost<'a, J, N, R> {
     fn front(&mut self) -> Reply
         ensures legal { is_legal self.new ≡ true }
         ensures seen { IsPrefix self.old self.new }
-        ensures told { IsOrOutOfMemory (front_reply (node_front (replay self.new))) (reply_seen result) }
+        ensures query_reply { IsOrOutOfMemory (front_reply (node_front (replay self.new))) (reply_seen result) }
     {
         match self.seat.front() {
             Ok(front) => Reply::Front(front),
@@ -142,7 +142,7 @@ impl<'a, J: NodeName, N: Wait + Drop, R: Wait> NodeHost<'a, J, N, R> {
     fn delta(&mut self, base: Time) -> Reply
         ensures legal { is_legal self.new ≡ true }
         ensures seen { IsPrefix self.old self.new }
-        ensures told { IsOrOutOfMemory (handed (node_delta (replay self.new) base)) (reply_seen result) }
+        ensures query_reply { IsOrOutOfMemory (fragment_reply (node_delta (replay self.new) base)) (reply_seen result) }
     {
         match self.seat.delta_since(base) {
             Ok(fragment) => Reply::Fragment(fragment),
@@ -153,7 +153,7 @@ impl<'a, J: NodeName, N: Wait + Drop, R: Wait> NodeHost<'a, J, N, R> {
     fn whole(&mut self) -> Reply
         ensures legal { is_legal self.new ≡ true }
         ensures seen { IsPrefix self.old self.new }
-        ensures told { IsOrOutOfMemory (handed (node_whole (replay self.new))) (reply_seen result) }
+        ensures query_reply { IsOrOutOfMemory (fragment_reply (node_whole (replay self.new))) (reply_seen result) }
     {
         match self.seat.whole() {
             Ok(fragment) => Reply::Fragment(fragment),
@@ -164,7 +164,7 @@ impl<'a, J: NodeName, N: Wait + Drop, R: Wait> NodeHost<'a, J, N, R> {
     fn ask(&mut self, time: Time, query: &Query) -> Reply
         ensures legal { is_legal self.new ≡ true }
         ensures seen { IsPrefix self.old self.new }
-        ensures told { IsOrOutOfMemory (told (node_reply (replay self.new) time query.now)) (reply_seen result) }
+        ensures query_reply { IsOrOutOfMemory (query_reply (node_reply (replay self.new) time query.now)) (reply_seen result) }
     {
         match self.seat.ask(time, query) {
             Ok(answer) => Reply::Answer(answer),

@@ -11,15 +11,15 @@ use Rattle.hk_types.specs.declared.faults.Refusal.TheVariants.{ForeignLog, Wrong
 use Rattle.hk_model.specs.Maps.{or_else}
 use Rattle.hk_model.specs.Content.{Content, readable, without_ended}
 use Rattle.hk_model.specs.Fragments.{FragmentValue}
-use Rattle.hk_model.specs.Rules.{joined, joined_content, disagree, pruned}
+use Rattle.hk_model.specs.Rules.{join_result, content_after_join, contents_conflict, prune_result}
 use Rattle.hk_node.specs.declared.op.Hold.{Hold}
 use Rattle.hk_node.specs.declared.op.Op.{Op}
 use Rattle.hk_node.specs.declared.op.Op.TheVariants.{Start, Join, Merge, Prune, Hold as HoldAt, Release}
 use Rattle.hk_node.specs.NodeContent.{NodeContent}
-use Rattle.hk_node.specs.Replay.{is_before, first_of_two, least_hold, is_hold, full_refusal, passed_hold, held_refusal, join_refused, refused, after_join, after_prune, begun, effect, applied, replay, legal_from, is_legal}
+use Rattle.hk_node.specs.Replay.{is_before, first_of_two, least_hold, is_hold, full_refusal, passed_hold, held_refusal, join_refused, refusal_of, after_join, after_prune, start_content, effect, content_after_op, replay, legal_from, is_legal}
 use Rattle.hk_node.specs.Lists.{hold_time, hold_times, releases, is_released}
 use Rattle.hk_node.specs.Holds.{HoldLaw}
-use Rattle.hk_node.proofs.Legal.{and_left, and_right, none_of, applied-is}
+use Rattle.hk_node.proofs.Legal.{and_left, and_right, none_of, content_after_op-is}
 
 -- where no refusal came, its test was false
 pub passed : (b : Bool) (e : Refusal) (o : Option Refusal) → (if b then Some e else o) ≡ None → (b ≡ false) × (o ≡ None)
@@ -70,10 +70,10 @@ passes_none c n held e = two (nat_lt c.content.horizon n) refl e
         let m : max c.content.horizon n ≡ c.content.horizon = grind (arith, nat_tests) in
         subst (λ (k : ℕ). All (λ h. k ≤ h.at) c.holds) (sym m) held
 
-joined_horizon : (t : Content) (f : FragmentValue) (d : Content) → joined t f ≡ Ok d → d.horizon ≡ max t.horizon f.content.horizon
+joined_horizon : (t : Content) (f : FragmentValue) (d : Content) → join_result t f ≡ Ok d → d.horizon ≡ max t.horizon f.content.horizon
 joined_horizon t f d e = go _ _ _ _ e
   where
-    go : (a b g k : Bool) → (if a then Err ForeignLog else if b then Err WrongStreams else if g then Err (Gap f.base (readable t)) else if k then Err Conflict else Ok (joined_content t f)) ≡ Ok d → d.horizon ≡ max t.horizon f.content.horizon
+    go : (a b g k : Bool) → (if a then Err ForeignLog else if b then Err WrongStreams else if g then Err (Gap f.base (readable t)) else if k then Err Conflict else Ok (content_after_join t f)) ≡ Ok d → d.horizon ≡ max t.horizon f.content.horizon
     go true b g k e = absurd (cc)
     go false true g k e = absurd (cc)
     go false false true k e = absurd (cc)
@@ -84,7 +84,7 @@ joined_horizon t f d e = go _ _ _ _ e
         horizon_or (Ok c) = c.horizon
         horizon_or (Err why) = 0
 
-after_join_held : (c : NodeContent) (f : FragmentValue) (r : Result Content Refusal) → joined c.content f ≡ r → IsHeld c → All (λ h. max c.content.horizon f.content.horizon ≤ h.at) c.holds → IsHeld (after_join c r)
+after_join_held : (c : NodeContent) (f : FragmentValue) (r : Result Content Refusal) → join_result c.content f ≡ r → IsHeld c → All (λ h. max c.content.horizon f.content.horizon ≤ h.at) c.holds → IsHeld (after_join c r)
 after_join_held c f (Ok d) e held above = subst (λ (k : ℕ). All (λ h. k ≤ h.at) c.holds) (sym (joined_horizon c.content f d e)) above
 after_join_held c f (Err why) e held above = held
 
@@ -111,17 +111,17 @@ pub record PruneTests (c : NodeContent) (n : ℕ) : Type 0 where
   pub none_passed : held_refusal c n ≡ None
   pub room : full_refusal c ≡ None
 
-pub prune_tests : (c : NodeContent) (n : ℕ) → refused c (Prune n) ≡ None → PruneTests c n
+pub prune_tests : (c : NodeContent) (n : ℕ) → refusal_of c (Prune n) ≡ None → PruneTests c n
 prune_tests c n e =
     let a = passed c.damaged Damaged _ e in
     let b = passed (nat_lt (readable c.content) n) (AheadOfMark (readable c.content)) _ a.1 in
     let h = passed_or (held_refusal c n) (full_refusal c) b.1 in
     record { whole = a.0; in_reach = not_below (readable c.content) n b.0; none_passed = h.0; room = h.1 }
 
-join_held : (c : NodeContent) (f : FragmentValue) → join_refused c f ≡ None → IsHeld c → IsHeld (after_join c (joined c.content f))
-join_held c f e held = after_join_held c f (joined c.content f) refl held (passes_none c f.content.horizon held (join_tests c f e).none_passed)
+join_held : (c : NodeContent) (f : FragmentValue) → join_refused c f ≡ None → IsHeld c → IsHeld (after_join c (join_result c.content f))
+join_held c f e held = after_join_held c f (join_result c.content f) refl held (passes_none c f.content.horizon held (join_tests c f e).none_passed)
 
-pruned_horizon : (c : Content) (n : ℕ) (d : Content) → pruned c n ≡ Ok d → d.horizon ≡ max c.horizon n
+pruned_horizon : (c : Content) (n : ℕ) (d : Content) → prune_result c n ≡ Ok d → d.horizon ≡ max c.horizon n
 pruned_horizon c n d e = go (nat_lt (readable c) n) (nat_le n c.horizon) refl e
   where
     horizon_or : Result Content Refusal → ℕ
@@ -142,30 +142,30 @@ pruned_horizon c n d e = go (nat_lt (readable c) n) (nat_le n c.horizon) refl e
     go false true is e = same (Ok c) e ∙ low is
     go false false is e = same (Ok (record c { horizon = n; rows = without_ended c.ends n c.rows; ends = without_ended c.ends n c.ends })) e ∙ high is
 
-after_prune_held : (c : NodeContent) (n : ℕ) (r : Result Content Refusal) → pruned c.content n ≡ r → IsHeld c → All (λ h. max c.content.horizon n ≤ h.at) c.holds → IsHeld (after_prune c r)
+after_prune_held : (c : NodeContent) (n : ℕ) (r : Result Content Refusal) → prune_result c.content n ≡ r → IsHeld c → All (λ h. max c.content.horizon n ≤ h.at) c.holds → IsHeld (after_prune c r)
 after_prune_held c n (Ok d) e held above = subst (λ (k : ℕ). All (λ h. k ≤ h.at) c.holds) (sym (pruned_horizon c.content n d e)) above
 after_prune_held c n (Err why) e held above = held
 
-effect_held : (c : NodeContent) (op : Op) → refused c op ≡ None → IsHeld c → IsHeld (effect c op)
+effect_held : (c : NodeContent) (op : Op) → refusal_of c op ≡ None → IsHeld c → IsHeld (effect c op)
 effect_held c (Start config) e held = absurd (cc)
 effect_held c (Join f) e held = join_held c f e held
 effect_held c (Merge f) e held = join_held c f e held
-effect_held c (Prune n) e held = after_prune_held c n (pruned c.content n) refl held (passes_none c n held (prune_tests c n e).none_passed)
+effect_held c (Prune n) e held = after_prune_held c n (prune_result c.content n) refl held (passes_none c n held (prune_tests c n e).none_passed)
 effect_held c (HoldAt at) e held =
     let a = passed c.damaged Damaged _ e in
     let low : c.content.horizon ≤ at = not_below at c.content.horizon (passed (nat_lt at c.content.horizon) (TooOld c.content.horizon) _ a.1).0 in
     All-push (λ (h : Hold). c.content.horizon ≤ h.at) c.holds (record { reader = c.hold_count + 1; at = at }) held low
 effect_held c (Release reader at) e held = All-filter (λ h. not (is_hold reader at h)) (λ (h : Hold). c.content.horizon ≤ h.at) c.holds held
 
-from_held : (c : NodeContent) (ops : List Op) → legal_from c ops ≡ true → IsHeld c → IsHeld (fold applied c ops)
+from_held : (c : NodeContent) (ops : List Op) → legal_from c ops ≡ true → IsHeld c → IsHeld (fold content_after_op c ops)
 from_held c [] legal held = held
 from_held c (op ∷ ops) legal held =
-    let none : refused c op ≡ None = none_of (refused c op) (and_left (is_none (refused c op)) _ legal) in
-    from_held (applied c op) ops (and_right (is_none (refused c op)) _ legal) (subst IsHeld (sym (applied-is c op none)) (effect_held c op none held))
+    let none : refusal_of c op ≡ None = none_of (refusal_of c op) (and_left (is_none (refusal_of c op)) _ legal) in
+    from_held (content_after_op c op) ops (and_right (is_none (refusal_of c op)) _ legal) (subst IsHeld (sym (content_after_op-is c op none)) (effect_held c op none held))
 
 pub hold_law_proof : HoldLaw
 hold_law_proof [] legal = absurd (cc)
-hold_law_proof (Start config ∷ ops) legal = from_held (begun config) ops legal (All-nil (λ (h : Hold). 0 ≤ h.at))
+hold_law_proof (Start config ∷ ops) legal = from_held (start_content config) ops legal (All-nil (λ (h : Hold). 0 ≤ h.at))
 hold_law_proof (Join f ∷ ops) legal = absurd (cc)
 hold_law_proof (Merge f ∷ ops) legal = absurd (cc)
 hold_law_proof (Prune n ∷ ops) legal = absurd (cc)
@@ -215,11 +215,11 @@ after_prune_stays : (reader at : ℕ) (c : NodeContent) (r : Result Content Refu
 after_prune_stays reader at c (Ok d) h = h
 after_prune_stays reader at c (Err why) h = h
 
-effect_stays : (reader at : ℕ) (c : NodeContent) (op : Op) → refused c op ≡ None → releases reader at op ≡ false → Stays reader at c → Stays reader at (effect c op)
+effect_stays : (reader at : ℕ) (c : NodeContent) (op : Op) → refusal_of c op ≡ None → releases reader at op ≡ false → Stays reader at c → Stays reader at (effect c op)
 effect_stays reader at c (Start config) e apart h = absurd (cc)
-effect_stays reader at c (Join f) e apart h = after_join_stays reader at c (joined c.content f) h
-effect_stays reader at c (Merge f) e apart h = after_join_stays reader at c (joined c.content f) h
-effect_stays reader at c (Prune n) e apart h = after_prune_stays reader at c (pruned c.content n) h
+effect_stays reader at c (Join f) e apart h = after_join_stays reader at c (join_result c.content f) h
+effect_stays reader at c (Merge f) e apart h = after_join_stays reader at c (join_result c.content f) h
+effect_stays reader at c (Prune n) e apart h = after_prune_stays reader at c (prune_result c.content n) h
 effect_stays reader at c (HoldAt t) e apart h = any_left (is_hold reader at) c.holds _ h
 effect_stays reader at c (Release r t) e apart h = any_filter (is_hold reader at) (λ g. not (is_hold r t g)) c.holds (λ g is. other_hold reader at r t g apart is) h
 
@@ -227,12 +227,12 @@ or_false : (a b : Bool) → a || b ≡ false → (a ≡ false) × (b ≡ false)
 or_false true b h = absurd (cc)
 or_false false b h = (refl, h)
 
-from_stays : (reader at : ℕ) (c : NodeContent) (ops : List Op) → legal_from c ops ≡ true → is_released reader at ops ≡ false → Stays reader at c → Stays reader at (fold applied c ops)
+from_stays : (reader at : ℕ) (c : NodeContent) (ops : List Op) → legal_from c ops ≡ true → is_released reader at ops ≡ false → Stays reader at c → Stays reader at (fold content_after_op c ops)
 from_stays reader at c [] legal apart h = h
 from_stays reader at c (op ∷ ops) legal apart h =
-    let none : refused c op ≡ None = none_of (refused c op) (and_left (is_none (refused c op)) _ legal) in
+    let none : refusal_of c op ≡ None = none_of (refusal_of c op) (and_left (is_none (refusal_of c op)) _ legal) in
     let two = or_false (releases reader at op) (is_released reader at ops) apart in
-    from_stays reader at (applied c op) ops (and_right (is_none (refused c op)) _ legal) two.1 (subst (Stays reader at) (sym (applied-is c op none)) (effect_stays reader at c op none two.0 h))
+    from_stays reader at (content_after_op c op) ops (and_right (is_none (refusal_of c op)) _ legal) two.1 (subst (Stays reader at) (sym (content_after_op-is c op none)) (effect_stays reader at c op none two.0 h))
 
 -- ---- the numbers of holds
 
@@ -245,11 +245,11 @@ after_prune_count c (Ok d) = refl
 after_prune_count c (Err why) = refl
 
 -- an operation gives a hold, or none
-effect_count : (c : NodeContent) (op : Op) → refused c op ≡ None → (effect c op).hold_count ≡ c.hold_count + length (hold_times (op ∷ []))
+effect_count : (c : NodeContent) (op : Op) → refusal_of c op ≡ None → (effect c op).hold_count ≡ c.hold_count + length (hold_times (op ∷ []))
 effect_count c (Start config) e = absurd (cc)
-effect_count c (Join f) e = after_join_count c (joined c.content f) ∙ omega arith
-effect_count c (Merge f) e = after_join_count c (joined c.content f) ∙ omega arith
-effect_count c (Prune n) e = after_prune_count c (pruned c.content n) ∙ omega arith
+effect_count c (Join f) e = after_join_count c (join_result c.content f) ∙ omega arith
+effect_count c (Merge f) e = after_join_count c (join_result c.content f) ∙ omega arith
+effect_count c (Prune n) e = after_prune_count c (prune_result c.content n) ∙ omega arith
 effect_count c (HoldAt at) e = refl
 effect_count c (Release r t) e = omega arith
 
@@ -260,19 +260,19 @@ one_more op ops = go (hold_time op)
     go None = omega arith
     go (Some at) = omega arith
 
-from_count : (c : NodeContent) (ops : List Op) → legal_from c ops ≡ true → (fold applied c ops).hold_count ≡ c.hold_count + length (hold_times ops)
+from_count : (c : NodeContent) (ops : List Op) → legal_from c ops ≡ true → (fold content_after_op c ops).hold_count ≡ c.hold_count + length (hold_times ops)
 from_count c [] legal = omega arith
 from_count c (op ∷ ops) legal =
-    let none : refused c op ≡ None = none_of (refused c op) (and_left (is_none (refused c op)) _ legal) in
-    let one : (applied c op).hold_count ≡ c.hold_count + length (hold_times (op ∷ [])) = ap (λ (d : NodeContent). d.hold_count) (applied-is c op none) ∙ effect_count c op none in
-    let rest = from_count (applied c op) ops (and_right (is_none (refused c op)) _ legal) in
+    let none : refusal_of c op ≡ None = none_of (refusal_of c op) (and_left (is_none (refusal_of c op)) _ legal) in
+    let one : (content_after_op c op).hold_count ≡ c.hold_count + length (hold_times (op ∷ [])) = ap (λ (d : NodeContent). d.hold_count) (content_after_op-is c op none) ∙ effect_count c op none in
+    let rest = from_count (content_after_op c op) ops (and_right (is_none (refusal_of c op)) _ legal) in
     let all = one_more op ops in
     omega (arith, one, rest, all)
 
 -- a legal list gave as many holds as it has
 pub replay_count : (ops : List Op) → is_legal ops ≡ true → (replay ops).hold_count ≡ length (hold_times ops)
 replay_count [] legal = absurd (cc)
-replay_count (Start config ∷ ops) legal = let e = from_count (begun config) ops legal in omega (arith, e)
+replay_count (Start config ∷ ops) legal = let e = from_count (start_content config) ops legal in omega (arith, e)
 replay_count (Join f ∷ ops) legal = absurd (cc)
 replay_count (Merge f ∷ ops) legal = absurd (cc)
 replay_count (Prune n ∷ ops) legal = absurd (cc)
@@ -280,21 +280,21 @@ replay_count (HoldAt at ∷ ops) legal = absurd (cc)
 replay_count (Release r at ∷ ops) legal = absurd (cc)
 
 -- the k-th hold of operations stands at their end, where they do not release it
-from_given : (c : NodeContent) (ops : List Op) (k n at : ℕ) → legal_from c ops ≡ true → slice_get (hold_times ops) k ≡ Some at → n ≡ c.hold_count + k + 1 → is_released n at ops ≡ false → Stays n at (fold applied c ops)
+from_given : (c : NodeContent) (ops : List Op) (k n at : ℕ) → legal_from c ops ≡ true → slice_get (hold_times ops) k ≡ Some at → n ≡ c.hold_count + k + 1 → is_released n at ops ≡ false → Stays n at (fold content_after_op c ops)
 from_given c [] k n at legal there num apart = absurd (cc)
 from_given c (op ∷ ops) k n at legal there num apart =
-    let none : refused c op ≡ None = none_of (refused c op) (and_left (is_none (refused c op)) _ legal) in
-    let on : legal_from (applied c op) ops ≡ true = and_right (is_none (refused c op)) _ legal in
+    let none : refusal_of c op ≡ None = none_of (refusal_of c op) (and_left (is_none (refusal_of c op)) _ legal) in
+    let on : legal_from (content_after_op c op) ops ≡ true = and_right (is_none (refusal_of c op)) _ legal in
     let two = or_false (releases n at op) (is_released n at ops) apart in
-    let step = applied-is c op none in
-    let count : (applied c op).hold_count ≡ c.hold_count + length (hold_times (op ∷ [])) = ap (λ (d : NodeContent). d.hold_count) step ∙ effect_count c op none in
-    go op k there num step count two.1 (λ j e d. from_given (applied c op) ops j n at on e d two.1) (from_stays n at (applied c op) ops on two.1)
+    let step = content_after_op-is c op none in
+    let count : (content_after_op c op).hold_count ≡ c.hold_count + length (hold_times (op ∷ [])) = ap (λ (d : NodeContent). d.hold_count) step ∙ effect_count c op none in
+    go op k there num step count two.1 (λ j e d. from_given (content_after_op c op) ops j n at on e d two.1) (from_stays n at (content_after_op c op) ops on two.1)
   where
-    go : (o : Op) (j : ℕ) → slice_get (hold_times (o ∷ ops)) j ≡ Some at → n ≡ c.hold_count + j + 1 → applied c op ≡ effect c o → (applied c op).hold_count ≡ c.hold_count + length (hold_times (o ∷ []))
+    go : (o : Op) (j : ℕ) → slice_get (hold_times (o ∷ ops)) j ≡ Some at → n ≡ c.hold_count + j + 1 → content_after_op c op ≡ effect c o → (content_after_op c op).hold_count ≡ c.hold_count + length (hold_times (o ∷ []))
         → is_released n at ops ≡ false
-        → ((i : ℕ) → slice_get (hold_times ops) i ≡ Some at → n ≡ (applied c op).hold_count + i + 1 → Stays n at (fold applied (applied c op) ops))
-        → (Stays n at (applied c op) → Stays n at (fold applied (applied c op) ops))
-        → Stays n at (fold applied (applied c op) ops)
+        → ((i : ℕ) → slice_get (hold_times ops) i ≡ Some at → n ≡ (content_after_op c op).hold_count + i + 1 → Stays n at (fold content_after_op (content_after_op c op) ops))
+        → (Stays n at (content_after_op c op) → Stays n at (fold content_after_op (content_after_op c op) ops))
+        → Stays n at (fold content_after_op (content_after_op c op) ops)
     go (HoldAt a) zero there num step count apart more stay =
         let same : a ≡ at = cc there in
         let is : is_hold n at (record { reader = c.hold_count + 1; at = a }) ≡ true = grind (arith, nat_tests) in
@@ -325,8 +325,8 @@ old_is_released (Start config ∷ ops) k t legal there low = go (is_released (k 
     go : (b : Bool) → is_released (k + 1) t ops ≡ b → is_released (k + 1) t ops ≡ true
     go true is = is
     go false is =
-        let stays = from_given (begun config) ops k (k + 1) t legal there (omega arith) is in
-        let above : (replay (Start config ∷ ops)).content.horizon ≤ t = any_above _ (k + 1) t (fold applied (begun config) ops).holds (hold_law_proof (Start config ∷ ops) legal) stays in
+        let stays = from_given (start_content config) ops k (k + 1) t legal there (omega arith) is in
+        let above : (replay (Start config ∷ ops)).content.horizon ≤ t = any_above _ (k + 1) t (fold content_after_op (start_content config) ops).holds (hold_law_proof (Start config ∷ ops) legal) stays in
         absurd (omega (arith, above, low))
 old_is_released (Join f ∷ ops) k t legal there low = absurd (cc)
 old_is_released (Merge f ∷ ops) k t legal there low = absurd (cc)

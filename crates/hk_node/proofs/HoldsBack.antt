@@ -12,7 +12,7 @@ use Rattle.hk_model.specs.Fragments.{FragmentValue, cut}
 use Rattle.hk_node.specs.declared.op.Op.{Op}
 use Rattle.hk_node.specs.NodeContent.{NodeContent}
 use Rattle.hk_node.specs.Replay.{replay, is_legal}
-use Rattle.hk_node.specs.Replies.{Answers, Gives, node_reply, node_delta}
+use Rattle.hk_node.specs.Replies.{Answers, GivesOrMemory, node_reply, node_delta}
 use Rattle.hk_node.specs.Holds.{HoldsBack}
 use Rattle.hk_node.proofs.Holds.{old_is_released}
 
@@ -44,7 +44,7 @@ reply_holds_back ops t q (Err why) legal gives k n there = λ e.
     (λ (g : node_reply (replay ops) t q ≡ Err why). old_is_released ops k t legal there (reply_old (replay ops) t q n (g ∙ ap Err e)))
     gives
 
-pub delta_holds_back : (ops : List Op) (t : ℕ) (result : Result FragmentValue Refusal) → is_legal ops ≡ true → Gives (node_delta (replay ops) t) result → HoldsBack ops t result
+pub delta_holds_back : (ops : List Op) (t : ℕ) (result : Result FragmentValue Refusal) → is_legal ops ≡ true → GivesOrMemory (node_delta (replay ops) t) result → HoldsBack ops t result
 delta_holds_back ops t (Ok f) legal gives k n there = tt
 delta_holds_back ops t (Err why) legal gives k n there = λ e.
     ⊎_elim

@@ -6,7 +6,7 @@ use Rattle.hk_model.specs.Content.{Content}
 use Rattle.hk_node.specs.declared.op.Op.{Op}
 use Rattle.hk_node.specs.declared.op.Op.TheVariants.{Start, Join, Merge, Prune, Hold as HoldAt, Release}
 use Rattle.hk_node.specs.NodeContent.{NodeContent}
-use Rattle.hk_node.specs.Replay.{refused, effect, unless, applied, begun, replay, config_of, tail_of, legal_from, is_legal}
+use Rattle.hk_node.specs.Replay.{refusal_of, effect, unless, content_after_op, start_content, replay, config_of, tail_of, legal_from, is_legal}
 use Rattle.hk_node.specs.Lists.{last_of}
 
 pub fold-snoc : {A B : Type 0} (f : A → B → A) (a : A) (xs : List B) (x : B) → fold f a (xs ++ x ∷ []) ≡ f (fold f a xs) x
@@ -29,21 +29,21 @@ pub none_of : {A : Type 0} (o : Option A) → is_none o ≡ true → o ≡ None
 none_of None h = refl
 none_of (Some e) h = absurd (cc)
 
-pub applied-is : (c : NodeContent) (op : Op) → refused c op ≡ None → applied c op ≡ effect c op
-applied-is c op h = ap (λ o. unless o c (effect c op)) h
+pub content_after_op-is : (c : NodeContent) (op : Op) → refusal_of c op ≡ None → content_after_op c op ≡ effect c op
+content_after_op-is c op h = ap (λ o. unless o c (effect c op)) h
 
-pub replay-snoc : (xs : List Op) (op : Op) → is_legal xs ≡ true → replay (xs ++ op ∷ []) ≡ applied (replay xs) op
+pub replay-snoc : (xs : List Op) (op : Op) → is_legal xs ≡ true → replay (xs ++ op ∷ []) ≡ content_after_op (replay xs) op
 replay-snoc [] op h = absurd (cc)
-replay-snoc (Start config ∷ xs) op h = fold-snoc applied (begun config) xs op
+replay-snoc (Start config ∷ xs) op h = fold-snoc content_after_op (start_content config) xs op
 replay-snoc (Join f ∷ xs) op h = absurd (cc)
 replay-snoc (Merge f ∷ xs) op h = absurd (cc)
 replay-snoc (Prune t ∷ xs) op h = absurd (cc)
 replay-snoc (HoldAt t ∷ xs) op h = absurd (cc)
 replay-snoc (Release r t ∷ xs) op h = absurd (cc)
 
-pub from-snoc : (c : NodeContent) (xs : List Op) (op : Op) → legal_from c xs ≡ true → refused (fold applied c xs) op ≡ None → legal_from c (xs ++ op ∷ []) ≡ true
-from-snoc c [] op h n = and_both (is_none (refused c op)) true (ap is_none n) refl
-from-snoc c (x ∷ xs) op h n = and_both (is_none (refused c x)) (legal_from (applied c x) (xs ++ op ∷ [])) (and_left (is_none (refused c x)) _ h) (from-snoc (applied c x) xs op (and_right (is_none (refused c x)) _ h) n)
+pub from-snoc : (c : NodeContent) (xs : List Op) (op : Op) → legal_from c xs ≡ true → refusal_of (fold content_after_op c xs) op ≡ None → legal_from c (xs ++ op ∷ []) ≡ true
+from-snoc c [] op h n = and_both (is_none (refusal_of c op)) true (ap is_none n) refl
+from-snoc c (x ∷ xs) op h n = and_both (is_none (refusal_of c x)) (legal_from (content_after_op c x) (xs ++ op ∷ [])) (and_left (is_none (refusal_of c x)) _ h) (from-snoc (content_after_op c x) xs op (and_right (is_none (refusal_of c x)) _ h) n)
 
 -- a legal list that goes on is of the same log
 pub config-snoc : (xs : List Op) (op : Op) → is_legal xs ≡ true → config_of (xs ++ op ∷ []) ≡ config_of xs
@@ -56,9 +56,9 @@ config-snoc (HoldAt t ∷ xs) op h = absurd (cc)
 config-snoc (Release r t ∷ xs) op h = absurd (cc)
 
 -- a legal list goes on with an operation that is not refused
-pub legal-snoc : (xs : List Op) (op : Op) → is_legal xs ≡ true → refused (replay xs) op ≡ None → is_legal (xs ++ op ∷ []) ≡ true
+pub legal-snoc : (xs : List Op) (op : Op) → is_legal xs ≡ true → refusal_of (replay xs) op ≡ None → is_legal (xs ++ op ∷ []) ≡ true
 legal-snoc [] op h n = absurd (cc)
-legal-snoc (Start config ∷ xs) op h n = from-snoc (begun config) xs op h n
+legal-snoc (Start config ∷ xs) op h n = from-snoc (start_content config) xs op h n
 legal-snoc (Join f ∷ xs) op h n = absurd (cc)
 legal-snoc (Merge f ∷ xs) op h n = absurd (cc)
 legal-snoc (Prune t ∷ xs) op h n = absurd (cc)

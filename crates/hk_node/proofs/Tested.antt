@@ -12,7 +12,7 @@ use Rattle.hk_node.specs.declared.op.Hold.{Hold}
 use Rattle.hk_node.specs.declared.op.Op.{Op}
 use Rattle.hk_node.specs.declared.op.Op.TheVariants.{Start, Join, Merge, Prune, Hold as HoldAt, Release}
 use Rattle.hk_node.specs.NodeContent.{NodeContent}
-use Rattle.hk_node.specs.Replay.{is_hold, least_hold, full_refusal, passed_hold, held_refusal, join_refused, refused, replay}
+use Rattle.hk_node.specs.Replay.{is_hold, least_hold, full_refusal, passed_hold, held_refusal, join_refused, refusal_of, replay}
 use Rattle.hk_node.specs.Changes.{Lists, all_of, IsCaughtUp, Refuses}
 
 -- whether a refusal is that of a test
@@ -59,7 +59,7 @@ join_tested c f =
     (if_tested (nat_lt (readable c.content) f.base) (Gap f.base (readable c.content)) _ refl
     (or_tested (held_refusal c f.content.horizon) (full_refusal c) (held_tested c f.content.horizon) (full_tested c)))))
 
-pub refused_tested : (c : NodeContent) (op : Op) → AreTested (refused c op)
+pub refused_tested : (c : NodeContent) (op : Op) → AreTested (refusal_of c op)
 refused_tested c (Start config) = refl
 refused_tested c (Join f) = join_tested c f
 refused_tested c (Merge f) = join_tested c f
@@ -74,14 +74,14 @@ refused_tested c (Release reader at) = if_tested c.damaged Damaged _ refl (go (l
     go true = full_tested c
     go false = refl
 
-by_test : (old : Lists) (op : Op) (why : Refusal) (new : Lists) → is_tested why ≡ true → refused (replay (all_of old)) op ≡ Some why → IsCaughtUp old new → Refuses old op why new
+by_test : (old : Lists) (op : Op) (why : Refusal) (new : Lists) → is_tested why ≡ true → refusal_of (replay (all_of old)) op ≡ Some why → IsCaughtUp old new → Refuses old op why new
 by_test old op Memory new t r u = absurd (cc)
 by_test old op (Unpublished n) new t r u = absurd (cc)
 by_test old op Conflict new t r u = absurd (cc)
 by_test old op why new t r u = (r, u)
 
 -- a change that its tests refuse, once what waited is published
-pub test_refuses : (old new : Lists) (op : Op) (why : Refusal) → IsCaughtUp old new → Some why ≡ refused (replay new.0) op → Refuses old op why new
+pub test_refuses : (old new : Lists) (op : Op) (why : Refusal) → IsCaughtUp old new → Some why ≡ refusal_of (replay new.0) op → Refuses old op why new
 test_refuses old new op why up e =
-    let r : refused (replay (all_of old)) op ≡ Some why = ap (λ (l : Lists). refused (replay l.0) op) (sym up) ∙ sym e in
+    let r : refusal_of (replay (all_of old)) op ≡ Some why = ap (λ (l : Lists). refusal_of (replay l.0) op) (sym up) ∙ sym e in
     by_test old op why new (subst AreTested (sym e) (refused_tested (replay new.0) op)) r up

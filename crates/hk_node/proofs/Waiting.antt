@@ -5,7 +5,7 @@ use Rattle.hk_types.specs.declared.faults.Refusal.{Refusal}
 use Rattle.hk_types.specs.declared.faults.Refusal.TheVariants.{Unpublished}
 use Rattle.hk_node.specs.declared.op.Op.{Op}
 use Rattle.hk_node.specs.declared.op.Op.TheVariants.{Hold as HoldAt}
-use Rattle.hk_node.specs.Replay.{replay, refused, is_legal}
+use Rattle.hk_node.specs.Replay.{replay, refusal_of, is_legal}
 use Rattle.hk_node.specs.Lists.{hold_time, hold_times, last_of}
 use Rattle.hk_node.specs.Changes.{Lists, all_of, Refuses, IsHandedOut}
 use Rattle.hk_node.proofs.Legal.{legal-snoc, last_snoc}

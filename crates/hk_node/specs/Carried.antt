@@ -6,11 +6,11 @@ use Rattle.hk_log.specs.declared.item.Item.{Item}
 use Rattle.hk_model.specs.declared.answer.Answer.{Answer}
 use Rattle.hk_model.specs.declared.query.Query.{Query}
 use Rattle.hk_model.specs.Answers.{answer, answer_seen}
-use Rattle.hk_model.specs.Canon.{canon}
+use Rattle.hk_model.specs.ContentOf.{content_of}
 use Rattle.hk_model.specs.Content.{readable}
 use Rattle.hk_model.specs.Fragments.{FragmentValue, part}
 use Rattle.hk_model.specs.Histories.{Transaction, IsHistory, AreItemsOf, table_at}
-use Rattle.hk_model.specs.Replicas.{Stands}
+use Rattle.hk_model.specs.Replicas.{Represents}
 use Rattle.hk_node.specs.declared.op.Op.{Op}
 use Rattle.hk_node.specs.declared.op.Op.TheVariants.{Start, Join, Merge, Prune, Hold as HoldAt, Release}
 use Rattle.hk_node.specs.NodeContent.{NodeContent}
@@ -19,7 +19,7 @@ use Rattle.hk_node.specs.Replay.{config_of, replay, is_legal, tail_of}
 -- a fragment is a part of a history: of these items, at this horizon
 pub record IsPart (config : ConfigValue) (history : List Transaction) (items : List Item) (horizon : ℕ) (f : FragmentValue) : Type 0 where
   pub of_history : AreItemsOf config history items
-  pub within : horizon ≤ readable (canon config items horizon)
+  pub within : horizon ≤ readable (content_of config items horizon)
   pub base : (f.base ≡ 0) ⊎ (horizon ≤ f.base)
   pub is_part : f ≡ part config items horizon f.base
 
@@ -39,11 +39,11 @@ Brings config history (Start other ∷ ops) own g all h = ⊥
 abbrev pub Carries : List Transaction → List Op → List Item → ℕ → Type 0
 Carries history ops items horizon = Brings (config_of ops) history (tail_of ops) [] 0 items horizon
 
--- where a legal list carries parts of one history, its content stands for them, and there is no damage
+-- where a legal list carries parts of one history, its content represents them, and there is no damage
 abbrev pub CarryLaw : Type 0
 CarryLaw =
     (history : List Transaction) (ops : List Op) (items : List Item) (horizon : ℕ) → is_legal ops ≡ true → IsHistory (config_of ops) history → Carries history ops items horizon
-    → Stands (config_of ops) history items horizon (replay ops).content × ((replay ops).damaged ≡ false)
+    → Represents (config_of ops) history items horizon (replay ops).content × ((replay ops).damaged ≡ false)
 
 -- where the list carries parts of one history, the answer is that on the primary's rows
 abbrev pub IsOfPrimary : List Op → ℕ → Query → Result Answer Refusal → Type 0

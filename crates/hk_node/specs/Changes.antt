@@ -6,7 +6,7 @@ use Rattle.hk_node.specs.declared.op.Op.{Op}
 use Rattle.hk_node.specs.declared.op.Hold.{Hold}
 use Rattle.hk_node.specs.declared.op.Op.TheVariants.{Hold as HoldAt}
 use Rattle.hk_node.specs.Lists.{hold_times, last_of}
-use Rattle.hk_node.specs.Replay.{replay, refused, is_legal}
+use Rattle.hk_node.specs.Replay.{replay, refusal_of, is_legal}
 
 -- the published list, and what waits: at most one operation
 abbrev pub Lists : Type 0
@@ -29,16 +29,16 @@ abbrev pub IsWaiting : Lists → Op → Lists → Type 0
 IsWaiting old op new = new ≡ (all_of old, op ∷ [])
 
 -- a refusal of a change: out of memory, with nothing changed where what waited could not be published; the
--- operation waits, and has the number that is named; a contradiction, and the node is damaged; or one of its tests
+-- operation waits, and has the number that is named; a conflict, and the node is damaged; or one of its tests
 abbrev pub Refuses : Lists → Op → Refusal → Lists → Type 0
-Refuses old op Memory new = (new ≡ old) ⊎ ((refused (replay (all_of old)) op ≡ None) × IsCaughtUp old new)
-Refuses old op (Unpublished n) new = (refused (replay (all_of old)) op ≡ None) × IsWaiting old op new × (n ≡ length (all_of old) + 1)
-Refuses old op Conflict new = (refused (replay (all_of old)) op ≡ None) × IsMade old op new × ((replay (all_of old ++ op ∷ [])).damaged ≡ true)
-Refuses old op why new = (refused (replay (all_of old)) op ≡ Some why) × IsCaughtUp old new
+Refuses old op Memory new = (new ≡ old) ⊎ ((refusal_of (replay (all_of old)) op ≡ None) × IsCaughtUp old new)
+Refuses old op (Unpublished n) new = (refusal_of (replay (all_of old)) op ≡ None) × IsWaiting old op new × (n ≡ length (all_of old) + 1)
+Refuses old op Conflict new = (refusal_of (replay (all_of old)) op ≡ None) × IsMade old op new × ((replay (all_of old ++ op ∷ [])).damaged ≡ true)
+Refuses old op why new = (refusal_of (replay (all_of old)) op ≡ Some why) × IsCaughtUp old new
 
 -- a change: it was made, and the receipt names the list that ends with it; or it was refused
 abbrev pub Changes : Lists → Op → Result (List Op) Refusal → Lists → Type 0
-Changes old op (Ok told) new = (refused (replay (all_of old)) op ≡ None) × IsMade old op new × (told ≡ all_of old ++ op ∷ []) × ((replay (all_of old ++ op ∷ [])).damaged ≡ false)
+Changes old op (Ok told) new = (refusal_of (replay (all_of old)) op ≡ None) × IsMade old op new × (told ≡ all_of old ++ op ∷ []) × ((replay (all_of old ++ op ∷ [])).damaged ≡ false)
 Changes old op (Err why) new = Refuses old op why new
 
 -- what a change answers at some legal list, whichever it was when the lock was got

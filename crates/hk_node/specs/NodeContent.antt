@@ -5,7 +5,7 @@ use Rattle.hk_model.specs.Content.{Content}
 use Rattle.hk_model.specs.Codes.{content_code}
 use Rattle.hk_node.specs.declared.op.Hold.{Hold}
 
--- the content of its replica, the holds that stand, whether it met a contradiction, how many holds it gave, and
+-- the content of its replica, the holds that stand, whether it met a conflict, how many holds it gave, and
 -- how many operations it made
 pub record NodeContent : Type 0 where
   pub content : Content

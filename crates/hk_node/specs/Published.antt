@@ -8,7 +8,7 @@ use Rattle.hk_node.specs.declared.op.Op.{Op}
 use Rattle.hk_node.specs.declared.replica.Replica.{Replica}
 use Rattle.hk_node.specs.declared.replica.Logged.{Logged}
 use Rattle.hk_node.specs.Book.{no_book}
-use Rattle.hk_node.specs.Replay.{applied, replay, is_legal}
+use Rattle.hk_node.specs.Replay.{content_after_op, replay, is_legal}
 
 -- what a reader or the writer knows: of which node, and which operations
 abbrev pub View : Type 0
@@ -19,7 +19,7 @@ no_view = (no_book, [])
 
 -- a copy after an operation
 abbrev pub next : Replica → Logged → Replica
-next x o = record { body = applied x.body o.op; prefix = o.prefix }
+next x o = record { body = content_after_op x.body o.op; prefix = o.prefix }
 
 -- a copy is the replay of its list, which is legal
 abbrev pub IsReplay : Replica → Type 0

@@ -7,8 +7,8 @@ use Rattle.hk_types.specs.declared.faults.Refusal.TheVariants.{ForeignLog, Wrong
 use Rattle.hk_model.specs.Maps.{or_else}
 use Rattle.hk_model.specs.Content.{Content, readable}
 use Rattle.hk_model.specs.Fragments.{FragmentValue}
-use Rattle.hk_model.specs.Replicas.{nothing}
-use Rattle.hk_model.specs.Rules.{joined, pruned}
+use Rattle.hk_model.specs.Replicas.{empty_content}
+use Rattle.hk_model.specs.Rules.{join_result, prune_result}
 use Rattle.hk_node.specs.declared.op.Hold.{Hold}
 use Rattle.hk_node.specs.declared.op.Op.{Op}
 use Rattle.hk_node.specs.declared.op.Op.TheVariants.{Start, Join, Merge, Prune, Hold as HoldAt, Release}
@@ -60,20 +60,20 @@ join_refusal c log streams base horizon =
 abbrev pub join_refused : NodeContent → FragmentValue → Option Refusal
 join_refused c f = join_refusal c f.content.log (length f.content.streams) f.base f.content.horizon
 
--- why an operation is refused, if it is. A contradiction is no refusal of a join: it damages the node
-abbrev pub refused : NodeContent → Op → Option Refusal
-refused c (Start config) = Some Damaged
-refused c (Join f) = join_refused c f
-refused c (Merge f) = join_refused c f
-refused c (Prune h) =
+-- why an operation is refused, if it is. A conflict is no refusal of a join: it damages the node
+abbrev pub refusal_of : NodeContent → Op → Option Refusal
+refusal_of c (Start config) = Some Damaged
+refusal_of c (Join f) = join_refused c f
+refusal_of c (Merge f) = join_refused c f
+refusal_of c (Prune h) =
     if c.damaged then Some Damaged
     else if nat_lt (readable c.content) h then Some (AheadOfMark (readable c.content))
     else or_else (held_refusal c h) (full_refusal c)
-refused c (HoldAt at) =
+refusal_of c (HoldAt at) =
     if c.damaged then Some Damaged
     else if nat_lt at c.content.horizon then Some (TooOld c.content.horizon)
     else full_refusal c
-refused c (Release reader at) =
+refusal_of c (Release reader at) =
     if c.damaged then Some Damaged
     else if list_any (is_hold reader at) c.holds then full_refusal c
     else Some NoHold
@@ -89,15 +89,15 @@ after_prune c (Ok content) = record c { content = content; op_count = c.op_count
 after_prune c (Err why) = record c { op_count = c.op_count + 1 }
 
 -- what a node holds at its start
-abbrev pub begun : ConfigValue → NodeContent
-begun config = record { content = nothing config; holds = []; damaged = false; hold_count = 0; op_count = 1 }
+abbrev pub start_content : ConfigValue → NodeContent
+start_content config = record { content = empty_content config; holds = []; damaged = false; hold_count = 0; op_count = 1 }
 
 -- what an operation makes of what a node holds, where it is not refused
 abbrev pub effect : NodeContent → Op → NodeContent
-effect c (Start config) = begun config
-effect c (Join f) = after_join c (joined c.content f)
-effect c (Merge f) = after_join c (joined c.content f)
-effect c (Prune h) = after_prune c (pruned c.content h)
+effect c (Start config) = start_content config
+effect c (Join f) = after_join c (join_result c.content f)
+effect c (Merge f) = after_join c (join_result c.content f)
+effect c (Prune h) = after_prune c (prune_result c.content h)
 effect c (HoldAt at) = record c { holds = c.holds ++ (record { reader = c.hold_count + 1; at = at }) ∷ []; hold_count = c.hold_count + 1; op_count = c.op_count + 1 }
 effect c (Release reader at) = record c { holds = filter (λ h. not (is_hold reader at h)) c.holds; op_count = c.op_count + 1 }
 
@@ -106,8 +106,8 @@ unless None kept next = next
 unless (Some why) kept next = kept
 
 -- a refused operation changes nothing
-abbrev pub applied : NodeContent → Op → NodeContent
-applied c op = unless (refused c op) c (effect c op)
+abbrev pub content_after_op : NodeContent → Op → NodeContent
+content_after_op c op = unless (refusal_of c op) c (effect c op)
 
 -- ---- lists of operations
 
@@ -122,14 +122,14 @@ tail_of (op ∷ ops) = ops
 
 -- what a list of operations comes to
 abbrev pub replay : List Op → NodeContent
-replay ops = fold applied (begun (config_of ops)) (tail_of ops)
+replay ops = fold content_after_op (start_content (config_of ops)) (tail_of ops)
 
 -- whether no operation is refused at its place
 abbrev pub legal_from : NodeContent → List Op → Bool
 legal_from c [] = true
-legal_from c (op ∷ ops) = is_none (refused c op) && legal_from (applied c op) ops
+legal_from c (op ∷ ops) = is_none (refusal_of c op) && legal_from (content_after_op c op) ops
 
 -- whether a list begins with a start, and none of the others is refused at its place
 abbrev pub is_legal : List Op → Bool
-is_legal (Start config ∷ ops) = legal_from (begun config) ops
+is_legal (Start config ∷ ops) = legal_from (start_content config) ops
 is_legal _ = false

@@ -26,8 +26,8 @@ abbrev pub node_whole : NodeContent → Result FragmentValue Refusal
 node_whole c = if c.damaged then Err Damaged else Ok (cut c.content 0)
 
 -- a call gave just this, or memory ran out
-abbrev pub Gives : {X : Type 0} → Result X Refusal → Result X Refusal → Type 0
-Gives wanted result = MatchResult result (λ x. wanted ≡ Ok x) (λ why. (why ≡ Memory) ⊎ (wanted ≡ Err why))
+abbrev pub GivesOrMemory : {X : Type 0} → Result X Refusal → Result X Refusal → Type 0
+GivesOrMemory wanted result = MatchResult result (λ x. wanted ≡ Ok x) (λ why. (why ≡ Memory) ⊎ (wanted ≡ Err why))
 
 abbrev pub Answers : Result AnswerValue Refusal → Result Answer Refusal → Type 0
 Answers wanted result = MatchResult result (λ a. wanted ≡ Ok (answer_seen a)) (λ why. (why ≡ Memory) ⊎ (wanted ≡ Err why))

@@ -3,16 +3,16 @@
 ghost use Rattle.std.specs.Prelude.{◌≡◌, ◌<◌, ◌≤◌, ◌^◌, None, IfOk, IfErr, MatchResult};
 ghost use Rattle.hk_types.specs.declared.faults.Refusal.TheVariants.{Memory};
 ghost use Rattle.hk_model.specs.Maps.{or_else};
-ghost use Rattle.hk_model.specs.Rules.{joined, pruned};
+ghost use Rattle.hk_model.specs.Rules.{join_result, prune_result};
 ghost use Rattle.hk_node.specs.declared.op.Op.TheVariants.{Prune as PruneTo, Hold as HoldAt, Release};
 ghost use Rattle.hk_node.specs.Replay as spec;
 ghost use Rattle.std.specs.List.{list_any};
-ghost use Rattle.hk_node.specs.Replay.{is_hold, applied, begun, effect, full_refusal, held_refusal, join_refusal, refused};
-ghost use Rattle.hk_node.specs.Replies.{Answers, Gives, node_delta, node_front, node_reply, node_whole};
+ghost use Rattle.hk_node.specs.Replay.{is_hold, content_after_op, start_content, effect, full_refusal, held_refusal, join_refusal, refusal_of};
+ghost use Rattle.hk_node.specs.Replies.{Answers, GivesOrMemory, node_delta, node_front, node_reply, node_whole};
 
 use crate::op::{Hold, LAST_OP, Op};
 use hk_delta::{Fragment, delta_since, join, whole_of};
-use hk_merge::misfit;
+use hk_merge::wrong_log;
 use hk_model::{Answer, Front, Query};
 use hk_query::ask;
 use hk_state::{ReplicaState, front_of};
@@ -30,7 +30,7 @@ pub fn next_op(count: u64) -> Result<u64, Refusal>
     Ok(count + 1)
 }
 
-/// What a copy holds: the state of a replica, the holds that stand, whether it met a contradiction, and the counts of
+/// What a copy holds: the state of a replica, the holds that stand, whether it met a conflict, and the counts of
 /// holds and of operations.
 #[derive(Drop)]
 pub struct Body {
@@ -93,7 +93,7 @@ fn is_among(holds: &[Hold], reader: u64, at: Time) -> bool
 impl Body {
     /// What a copy of a new node of this log holds. The only refusal is `Memory`.
     pub fn new(alloc: Global, config: Config) -> Result<Body, Refusal>
-        ensures ok { IfOk result (λ body. body ≡ begun config) }
+        ensures ok { IfOk result (λ body. body ≡ start_content config) }
         ensures err { IfErr result (λ why. why ≡ Memory) }
     {
         Ok(Body {
@@ -143,7 +143,7 @@ impl Body {
         if self.damaged {
             return Some(Refusal::Damaged);
         }
-        if let Some(why) = misfit(&self.state, config) {
+        if let Some(why) = wrong_log(&self.state, config) {
             return Some(why);
         }
         let readable = self.state.readable();
@@ -160,7 +160,7 @@ impl Body {
     }
 
     fn prune_refused(&self, time: Time) -> Option<Refusal>
-        ensures { result ≡ refused self.now (PruneTo time) }
+        ensures { result ≡ refusal_of self.now (PruneTo time) }
     {
         if self.damaged {
             return Some(Refusal::Damaged);
@@ -173,7 +173,7 @@ impl Body {
     }
 
     fn hold_refused(&self, time: Time) -> Option<Refusal>
-        ensures { result ≡ refused self.now (HoldAt time) }
+        ensures { result ≡ refusal_of self.now (HoldAt time) }
     {
         if self.damaged {
             return Some(Refusal::Damaged);
@@ -186,7 +186,7 @@ impl Body {
     }
 
     fn release_refused(&self, reader: u64, at: Time) -> Option<Refusal>
-        ensures { result ≡ refused self.now (Release reader at) }
+        ensures { result ≡ refusal_of self.now (Release reader at) }
     {
         if self.damaged {
             return Some(Refusal::Damaged);
@@ -200,7 +200,7 @@ impl Body {
     /// Why an operation is refused, if it is. It takes no memory. Costs by the streams, and by the holds that stand
     /// where a horizon would rise.
     pub fn refusal(&self, op: &Op) -> Option<Refusal>
-        ensures { result ≡ refused self.now op.now }
+        ensures { result ≡ refusal_of self.now op.now }
     {
         match op {
             Op::Start(_) => Some(Refusal::Damaged),
@@ -214,7 +214,7 @@ impl Body {
 
     fn join(&mut self, fragment: &Fragment) -> Result<(), AllocError>
         requires { self.old.op_count < 2 ^ 62 }
-        ensures { MatchResult result (λ _. self.new ≡ spec.after_join self.old (joined self.old.content fragment.now)) (λ _. self.new ≡ self.old) }
+        ensures { MatchResult result (λ _. self.new ≡ spec.after_join self.old (join_result self.old.content fragment.now)) (λ _. self.new ≡ self.old) }
     {
         match join(&mut self.state, fragment) {
             Ok(()) => {}
@@ -226,8 +226,8 @@ impl Body {
     }
 
     fn prune(&mut self, time: Time) -> Result<(), AllocError>
-        requires { refused self.old (PruneTo time) ≡ None }
-        ensures { MatchResult result (λ _. self.new ≡ spec.after_prune self.old (pruned self.old.content time)) (λ _. self.new ≡ self.old) }
+        requires { refusal_of self.old (PruneTo time) ≡ None }
+        ensures { MatchResult result (λ _. self.new ≡ spec.after_prune self.old (prune_result self.old.content time)) (λ _. self.new ≡ self.old) }
     {
         if self.state.prune(time).is_err() {
             return Err(AllocError);
@@ -258,7 +258,7 @@ impl Body {
 
     /// Makes an operation that is not refused. It changes nothing where memory is refused.
     fn make(&mut self, op: &Op) -> Result<(), AllocError>
-        requires { refused self.old op.now ≡ None }
+        requires { refusal_of self.old op.now ≡ None }
         ensures { MatchResult result (λ _. self.new ≡ effect self.old op.now) (λ _. self.new ≡ self.old) }
     {
         match op {
@@ -276,7 +276,7 @@ impl Body {
 
     /// Makes an operation, which does nothing where it is refused. It changes nothing where memory is refused.
     pub fn apply(&mut self, op: &Op) -> Result<(), AllocError>
-        ensures { MatchResult result (λ _. self.new ≡ applied self.old op.now) (λ _. self.new ≡ self.old) }
+        ensures { MatchResult result (λ _. self.new ≡ content_after_op self.old op.now) (λ _. self.new ≡ self.old) }
     {
         match self.refusal(op) {
             Some(_) => Ok(()),
@@ -284,7 +284,7 @@ impl Body {
         }
     }
 
-    /// Whether it met a contradiction.
+    /// Whether it met a conflict.
     pub fn is_damaged(&self) -> bool
         ensures { result ≡ self.now.damaged }
     {
@@ -321,7 +321,7 @@ impl Body {
 
     /// What it holds since a time.
     pub fn delta_since(&self, alloc: Global, base: Time) -> Result<Fragment, Refusal>
-        ensures { Gives (node_delta self.now base) result }
+        ensures { GivesOrMemory (node_delta self.now base) result }
     {
         if self.damaged {
             return Err(Refusal::Damaged);
@@ -331,7 +331,7 @@ impl Body {
 
     /// All that it holds.
     pub fn whole(&self, alloc: Global) -> Result<Fragment, Refusal>
-        ensures { Gives (node_whole self.now) result }
+        ensures { GivesOrMemory (node_whole self.now) result }
     {
         if self.damaged {
             return Err(Refusal::Damaged);

@@ -3,7 +3,7 @@
 ghost use Rattle.std.specs.Prelude.{◌≡◌, ◌<◌, ◌≤◌, ◌^◌, ◌++◌, ◌∷◌, [], true, false, length, None, IsTrue, IfSome};
 ghost use mathlib.Core.List.{IsPrefix};
 ghost use Rattle.hk_node.specs.declared.op.Op.TheVariants.{Start as StartOf};
-ghost use Rattle.hk_node.specs.Replay.{config_of, is_legal, refused, replay};
+ghost use Rattle.hk_node.specs.Replay.{config_of, is_legal, refusal_of, replay};
 ghost use Rattle.hk_node.specs.Book.{counter_of};
 
 use crate::op::Op;
@@ -169,7 +169,7 @@ impl Prefix {
     /// than this prefix.
     pub fn extended(&self, counter: &Counter, op: &Op) -> Option<Prefix>
         requires counter { counter.now.word.book ≡ self.now.0 }
-        requires legal { refused (replay self.now.1) op.now ≡ None }
+        requires legal { refusal_of (replay self.now.1) op.now ≡ None }
         ensures { IfSome result (λ p. p ≡ (self.now.0, self.now.1 ++ op.now ∷ [])) }
     {
         let count = self.ops.checked_sub(1)?;

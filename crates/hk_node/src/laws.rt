@@ -23,7 +23,7 @@ use std::sync::Wait;
 /// What waits is published first; where that is refused, it is `Memory` and nothing changed. Then the operation is
 /// tested after all others, and its refusal answered. Then it is added and published: `Memory` where it could not be
 /// added; `Unpublished` with its number where it could not be published, and then it waits, and the next publish shows
-/// it; `Conflict` where it met a contradiction, which damages the node for good.
+/// it; `Conflict` where it met a conflict, which damages the node for good.
 #[tactic(auto, using(crate::proofs::Legal::last_snoc))]
 pub fn change<J: NodeName, R: Wait + Drop>(
     publisher: &mut Publisher<J, R>,
@@ -147,7 +147,7 @@ pub fn hold_law()
     ensures { HoldLaw }
 {}
 
-/// Where every join and merge of a list carries a part of one history, the content stands for the union of their items
+/// Where every join and merge of a list carries a part of one history, the content represents the union of their items
 /// at the greatest horizon joined or pruned to, and the node is not damaged.
 pub fn carry_law()
     ensures { CarryLaw }

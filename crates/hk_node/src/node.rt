@@ -116,7 +116,7 @@ impl<J: NodeName, R: Wait + Drop> Node<J, R> {
     ///
     /// Refusals in order: `Damaged`; `ForeignLog`, `WrongStreams` and `Gap` as the join of a fragment into a state;
     /// `Held` with the hold of the least time, and of the least number there, that the horizon would pass; `NodeFull`;
-    /// `Memory`; `Unpublished`; `Conflict` where fragment and state contradict each other, which damages the node for
+    /// `Memory`; `Unpublished`; `Conflict` where fragment and state conflict with each other, which damages the node for
     /// good. The fragment is dropped with a refusal: who would try again keeps a copy.
     pub fn join<W: Wait>(&self, rt: &W, fragment: Fragment) -> Result<Receipt<J>, Refusal>
         ensures legal { IfOk result (λ list. is_legal list ≡ true) }

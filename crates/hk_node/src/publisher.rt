@@ -4,7 +4,7 @@ ghost use Rattle.std.specs.Prelude.{◌≡◌, ◌++◌, ◌∷◌, [], drop, fo
 ghost use Rattle.left_right.specs.Sides.{view as known};
 ghost use Rattle.hk_node.specs.declared.op.Op.TheVariants.{Start as StartOf};
 ghost use Rattle.hk_types.specs.declared.faults.Refusal.TheVariants.{Memory};
-ghost use Rattle.hk_node.specs.Replay.{begun, is_legal, join_refusal, refused, replay};
+ghost use Rattle.hk_node.specs.Replay.{start_content, is_legal, join_refusal, refusal_of, replay};
 ghost use Rattle.hk_node.specs.Published.{IsReady, IsReplay, next, queue};
 
 use crate::book::{Counter, NodeName, Prefix};
@@ -116,7 +116,7 @@ pub(crate) fn copies_of<R: Wait + Drop>(
 ) -> Result<Copies<R>, Refusal>
     requires list { prefix.now.1 ≡ StartOf config ∷ [] }
     requires places { (0 < places) × (places ≤ 64) }
-    ensures shown { IfOk result (λ c. c.writer.desk.shown.value ≡ record { body = begun config; prefix = prefix.now }) }
+    ensures shown { IfOk result (λ c. c.writer.desk.shown.value ≡ record { body = start_content config; prefix = prefix.now }) }
     ensures none { IfOk result (λ c. drop c.writer.behind c.writer.log.items ≡ []) }
     ensures view { IfOk result (λ c. known c.writer.desk.place ≡ prefix.now) }
     ensures err { IfErr result (λ why. why ≡ Memory) }
@@ -164,7 +164,7 @@ impl<J: NodeName, R: Wait + Drop> Publisher<J, R> {
     /// What lies under the lock of a new node.
     pub(crate) fn new(copies: Copies<R>, counter: Counter, config: Config) -> Publisher<J, R>
         requires list { copies.writer.desk.shown.value.prefix.1 ≡ StartOf config ∷ [] }
-        requires body { copies.writer.desk.shown.value.body ≡ begun config }
+        requires body { copies.writer.desk.shown.value.body ≡ start_content config }
         requires book { (copies.writer.desk.shown.value.prefix.0 ≡ J.book) × (counter.word.book ≡ J.book) }
         requires none { drop copies.writer.behind copies.writer.log.items ≡ [] }
         ensures { result ≡ (StartOf config ∷ [], []) }
@@ -211,7 +211,7 @@ impl<J: NodeName, R: Wait + Drop> Publisher<J, R> {
         self.published().body.hold_count()
     }
 
-    /// Whether the published list has a contradiction.
+    /// Whether the published list has a conflict.
     pub fn is_damaged(&self) -> bool
         ensures { result ≡ (replay self.now.0).damaged }
     {
@@ -220,7 +220,7 @@ impl<J: NodeName, R: Wait + Drop> Publisher<J, R> {
 
     /// Why an operation is refused after the published list, if it is.
     pub fn refusal(&self, op: &Op) -> Option<Refusal>
-        ensures { result ≡ refused (replay self.now.0) op.now }
+        ensures { result ≡ refusal_of (replay self.now.0) op.now }
     {
         self.published().body.refusal(op)
     }
@@ -234,7 +234,7 @@ impl<J: NodeName, R: Wait + Drop> Publisher<J, R> {
 
     /// The published list with one operation more, which the node's list has from now on.
     pub fn extended(&self, op: &Op) -> Option<Prefix>
-        requires { refused (replay self.now.0) op.now ≡ None }
+        requires { refusal_of (replay self.now.0) op.now ≡ None }
         ensures { IfSome result (λ p. p ≡ (J.book, self.now.0 ++ op.now ∷ [])) }
     {
         self.published().extended(&self.counter, op)
@@ -243,7 +243,7 @@ impl<J: NodeName, R: Wait + Drop> Publisher<J, R> {
     /// Puts an operation behind the published list, to wait.
     pub fn put(&mut self, op: Op, prefix: Prefix)
         requires none { self.old.1 ≡ [] }
-        requires legal { refused (replay self.old.0) op ≡ None }
+        requires legal { refusal_of (replay self.old.0) op ≡ None }
         requires prefix { prefix ≡ (J.book, self.old.0 ++ op ∷ []) }
         ensures { self.new ≡ (self.old.0, op ∷ []) }
     {

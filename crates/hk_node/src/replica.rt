@@ -2,7 +2,7 @@
 
 ghost use Rattle.std.specs.Prelude.{◌≡◌, ◌++◌, ◌∷◌, [], None, IfOk, IfSome, IfErr};
 ghost use Rattle.hk_types.specs.declared.faults.Refusal.TheVariants.{Memory};
-ghost use Rattle.hk_node.specs.Replay.{begun, refused, replay};
+ghost use Rattle.hk_node.specs.Replay.{start_content, refusal_of, replay};
 
 use crate::body::Body;
 use crate::book::{Counter, Prefix};
@@ -21,7 +21,7 @@ pub struct Replica {
 impl Replica {
     /// A copy of a new node of this log. The only refusal is `Memory`.
     pub fn new(alloc: Global, config: Config, prefix: Prefix) -> Result<Replica, Refusal>
-        ensures ok { IfOk result (λ replica. replica ≡ record { body = begun config; prefix = prefix }) }
+        ensures ok { IfOk result (λ replica. replica ≡ record { body = start_content config; prefix = prefix }) }
         ensures err { IfErr result (λ why. why ≡ Memory) }
     {
         let body = Body::new(alloc, config)?;
@@ -32,7 +32,7 @@ impl Replica {
     pub fn extended(&self, counter: &Counter, op: &Op) -> Option<Prefix>
         requires counter { counter.now.word.book ≡ self.now.prefix.0 }
         requires replayed { self.now.body ≡ replay self.now.prefix.1 }
-        requires legal { refused self.now.body op.now ≡ None }
+        requires legal { refusal_of self.now.body op.now ≡ None }
         ensures { IfSome result (λ p. p ≡ (self.now.prefix.0, self.now.prefix.1 ++ op.now ∷ [])) }
     {
         self.prefix.extended(counter, op)

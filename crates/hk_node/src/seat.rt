@@ -8,7 +8,7 @@ ghost use Rattle.hk_node.specs.Carried.{IsOfPrimary};
 ghost use Rattle.hk_node.specs.Holds.{HoldsBack};
 ghost use Rattle.hk_node.specs.Published.{IsOf, IsReplay};
 ghost use Rattle.hk_node.specs.Replay.{config_of, is_legal, replay};
-ghost use Rattle.hk_node.specs.Replies.{Answers, Gives, node_delta, node_front, node_reply, node_whole};
+ghost use Rattle.hk_node.specs.Replies.{Answers, GivesOrMemory, node_delta, node_front, node_reply, node_whole};
 
 use crate::book::{NodeName, Prefix};
 use crate::node::Receipt;
@@ -183,7 +183,7 @@ impl<J: NodeName> ReaderSeat<J> {
     fn delta(&mut self, base: Time) -> Result<Fragment, Refusal>
         ensures legal { is_legal self.new ≡ true }
         ensures seen { IsPrefix self.old self.new }
-        ensures delta { Gives (node_delta (replay self.new) base) result }
+        ensures delta { GivesOrMemory (node_delta (replay self.new) base) result }
     {
         let reading = self.enter()?;
         let delta = reading.get().body.delta_since(self.alloc, base);
@@ -193,7 +193,7 @@ impl<J: NodeName> ReaderSeat<J> {
 
     /// What the node answers to a query at a time, from a list of operations that begins with all that was seen.
     ///
-    /// Refusals in order: `Damaged` where the node met a contradiction; then as a state's: `TooOld` below the horizon,
+    /// Refusals in order: `Damaged` where the node met a conflict; then as a state's: `TooOld` below the horizon,
     /// `NotYet` above the readable mark, `Memory`. Costs as asking a state does.
     pub fn ask(&mut self, time: Time, query: &Query) -> Result<Answer, Refusal>
         ensures legal { is_legal self.new ≡ true }
@@ -211,7 +211,7 @@ impl<J: NodeName> ReaderSeat<J> {
     pub fn front(&mut self) -> Result<Front, Refusal>
         ensures legal { is_legal self.new ≡ true }
         ensures seen { IsPrefix self.old self.new }
-        ensures front { Gives (node_front (replay self.new)) result }
+        ensures front { GivesOrMemory (node_front (replay self.new)) result }
     {
         let reading = self.enter()?;
         let front = reading.get().body.front();
@@ -226,7 +226,7 @@ impl<J: NodeName> ReaderSeat<J> {
     pub fn delta_since(&mut self, base: Time) -> Result<Fragment, Refusal>
         ensures legal { is_legal self.new ≡ true }
         ensures seen { IsPrefix self.old self.new }
-        ensures delta { Gives (node_delta (replay self.new) base) result }
+        ensures delta { GivesOrMemory (node_delta (replay self.new) base) result }
 
         // A base that is held is too old only where the hold was released.
         ensures held { HoldsBack self.new base result }
@@ -239,7 +239,7 @@ impl<J: NodeName> ReaderSeat<J> {
     pub fn whole(&mut self) -> Result<Fragment, Refusal>
         ensures legal { is_legal self.new ≡ true }
         ensures seen { IsPrefix self.old self.new }
-        ensures whole { Gives (node_whole (replay self.new)) result }
+        ensures whole { GivesOrMemory (node_whole (replay self.new)) result }
     {
         let reading = self.enter()?;
         let whole = reading.get().body.whole(self.alloc);

@@ -18,7 +18,7 @@ use Rattle.hk_model.specs.declared.write_op.WriteOp.{WriteOp}
 use Rattle.hk_model.proofs.Commits.{rises, present}
 use Rattle.hk_model.proofs.Maps.{row_key_total}
 use Rattle.hk_model.proofs.Visible.{get_entry}
-use Rattle.hk_primary.specs.Calls.{judged, timed, time_of, Tells, grown}
+use Rattle.hk_primary.specs.Calls.{verdict_of, verdict_time, time_of, Tells, primary_after}
 use Rattle.hk_primary.specs.Log.{PrimaryValue}
 use Rattle.hk_primary.specs.Txns.{TxnValue, AreWrites}
 use Rattle.hk_primary.specs.Verdicts.{clock, accepted_after, committed_after, AcceptedLaw}
@@ -73,27 +73,27 @@ accepted_law_proof config after h stream read_at d t are e =
 
 -- ---- an accepted transaction is the one that was handed in
 
-accepted_shape : (after : ℕ) (h : List Transaction) (stream : ℕ) (ws : List WriteOp) (a b : Option RowKey) (time : ℕ) → Ok (Some time) ≡ timed (accepted_after after h stream ws a b) → accepted_after after h stream ws a b ≡ Ok (Some (record { time = time; stream = stream; writes = ws }))
+accepted_shape : (after : ℕ) (h : List Transaction) (stream : ℕ) (ws : List WriteOp) (a b : Option RowKey) (time : ℕ) → Ok (Some time) ≡ verdict_time (accepted_after after h stream ws a b) → accepted_after after h stream ws a b ≡ Ok (Some (record { time = time; stream = stream; writes = ws }))
 accepted_shape after h stream ws (Some k) b time e = absurd cc
 accepted_shape after h stream ws None (Some k) time e = absurd cc
 accepted_shape after h stream [] None None time e = absurd cc
 accepted_shape after h stream (w ∷ ws) None None time e =
     let yes : Result (Option Transaction) Refusal = Ok (Some (record { time = clock after h + 1; stream = stream; writes = w ∷ ws })) in
     let goal : Result (Option Transaction) Refusal = Ok (Some (record { time = time; stream = stream; writes = w ∷ ws })) in
-    elim (nat_le (2 ^ 62) (clock after h)) as (λ b. Ok (Some time) ≡ timed (cond b (Err ClockFull) yes) → cond b (Err ClockFull) yes ≡ goal) [
+    elim (nat_le (2 ^ 62) (clock after h)) as (λ b. Ok (Some time) ≡ verdict_time (cond b (Err ClockFull) yes) → cond b (Err ClockFull) yes ≡ goal) [
       | true ↦ λ f. absurd cc
       | false ↦ λ f. let same : clock after h + 1 ≡ time = cc in λ i. Ok (Some (record { time = same i; stream = stream; writes = w ∷ ws }))
     ] e
 
-pub judged_shape : (p : PrimaryValue) (txn : TxnValue) (stream time : ℕ) → Ok (Some time) ≡ timed (judged p txn stream) → judged p txn stream ≡ Ok (Some (record { time = time; stream = stream; writes = finmap.values txn.writes }))
+pub judged_shape : (p : PrimaryValue) (txn : TxnValue) (stream time : ℕ) → Ok (Some time) ≡ verdict_time (verdict_of p txn stream) → verdict_of p txn stream ≡ Ok (Some (record { time = time; stream = stream; writes = finmap.values txn.writes }))
 judged_shape p txn stream time e =
     let ws = finmap.values txn.writes in
     let h = p.history in
     let rest = accepted_after p.after h stream ws (first_conflict h txn.read_at ws) (first_absent (tables_of h) ws) in
     let goal : Result (Option Transaction) Refusal = Ok (Some (record { time = time; stream = stream; writes = ws })) in
-    elim (nat_lt stream 1 || nat_lt p.config.streams stream) as (λ c. Ok (Some time) ≡ timed (cond c (Err NoStream) (cond (nat_lt (last h) txn.read_at) (Err (NotYet (last h))) rest)) → cond c (Err NoStream) (cond (nat_lt (last h) txn.read_at) (Err (NotYet (last h))) rest) ≡ goal) [
+    elim (nat_lt stream 1 || nat_lt p.config.streams stream) as (λ c. Ok (Some time) ≡ verdict_time (cond c (Err NoStream) (cond (nat_lt (last h) txn.read_at) (Err (NotYet (last h))) rest)) → cond c (Err NoStream) (cond (nat_lt (last h) txn.read_at) (Err (NotYet (last h))) rest) ≡ goal) [
       | true ↦ λ g. absurd cc
-      | false ↦ elim (nat_lt (last h) txn.read_at) as (λ x. Ok (Some time) ≡ timed (cond x (Err (NotYet (last h))) rest) → cond x (Err (NotYet (last h))) rest ≡ goal) [
+      | false ↦ elim (nat_lt (last h) txn.read_at) as (λ x. Ok (Some time) ≡ verdict_time (cond x (Err (NotYet (last h))) rest) → cond x (Err (NotYet (last h))) rest ≡ goal) [
         | true ↦ λ g. absurd cc
         | false ↦ λ g. accepted_shape p.after h stream ws (first_conflict h txn.read_at ws) (first_absent (tables_of h) ws) time g
       ]
@@ -114,43 +114,43 @@ module _ (p : PrimaryValue) (txn : TxnValue) (stream : ℕ) (above : 1 ≤ strea
   no_way : (nat_lt stream 1 || nat_lt p.config.streams stream) ≡ false
   no_way = λ i. le-ltb stream 1 above i || le-ltb p.config.streams stream within i
 
-  judged_is : judged p txn stream ≡ accepted_after p.after p.history stream ws None None
+  judged_is : verdict_of p txn stream ≡ accepted_after p.after p.history stream ws None None
   judged_is =
       (λ i. cond (no_way i) (Err NoStream) (cond (le-ltb (last p.history) txn.read_at read i) (Err (NotYet (last p.history))) (accepted_after p.after p.history stream ws (none_found (λ k. (k, last_written p.history k)) (first_conflict p.history txn.read_at ws) no_conflict i) (sym no_absent i))))
 
-  no_values : (xs : List WriteOp) → length xs ≡ 0 → timed (accepted_after p.after p.history stream xs None None) ≡ Ok None
+  no_values : (xs : List WriteOp) → length xs ≡ 0 → verdict_time (accepted_after p.after p.history stream xs None None) ≡ Ok None
   no_values [] e = refl
   no_values (x ∷ xs) e = absurd (omega arith)
 
-  pub judged_empty : (finmap.len txn.writes == 0) ≡ true → Ok None ≡ timed (judged p txn stream)
+  pub judged_empty : (finmap.len txn.writes == 0) ≡ true → Ok None ≡ verdict_time (verdict_of p txn stream)
   judged_empty e =
       let none = eqb-true (finmap.len txn.writes) 0 e in
       let long : length ws ≡ 0 = omega (arith, length-map (finmap.entries txn.writes) (λ (x : RowKey × WriteOp). x.1), finmap.len-entries txn.writes) in
-      sym (ap timed judged_is ∙ no_values ws long)
+      sym (ap verdict_time judged_is ∙ no_values ws long)
 
-  some_values : (xs : List WriteOp) → (length xs ≡ 0 → ⊥) → timed (accepted_after p.after p.history stream xs None None) ≡ cond (nat_le (2 ^ 62) (clock p.after p.history)) (Err ClockFull) (Ok (Some (clock p.after p.history + 1)))
+  some_values : (xs : List WriteOp) → (length xs ≡ 0 → ⊥) → verdict_time (accepted_after p.after p.history stream xs None None) ≡ cond (nat_le (2 ^ 62) (clock p.after p.history)) (Err ClockFull) (Ok (Some (clock p.after p.history + 1)))
   some_values [] n = absurd (n refl)
-  some_values (x ∷ xs) n = elim (nat_le (2 ^ 62) (clock p.after p.history)) as (λ b. timed (cond {A = Result (Option Transaction) Refusal} b (Err ClockFull) (Ok (Some (record { time = clock p.after p.history + 1; stream = stream; writes = x ∷ xs })))) ≡ cond b (Err ClockFull) (Ok (Some (clock p.after p.history + 1)))) [ true ↦ refl | false ↦ refl ]
+  some_values (x ∷ xs) n = elim (nat_le (2 ^ 62) (clock p.after p.history)) as (λ b. verdict_time (cond {A = Result (Option Transaction) Refusal} b (Err ClockFull) (Ok (Some (record { time = clock p.after p.history + 1; stream = stream; writes = x ∷ xs })))) ≡ cond b (Err ClockFull) (Ok (Some (clock p.after p.history + 1)))) [ true ↦ refl | false ↦ refl ]
 
-  judged_some : (finmap.len txn.writes == 0) ≡ false → timed (judged p txn stream) ≡ cond (nat_le (2 ^ 62) (clock p.after p.history)) (Err ClockFull) (Ok (Some (clock p.after p.history + 1)))
+  judged_some : (finmap.len txn.writes == 0) ≡ false → verdict_time (verdict_of p txn stream) ≡ cond (nat_le (2 ^ 62) (clock p.after p.history)) (Err ClockFull) (Ok (Some (clock p.after p.history + 1)))
   judged_some e =
-      ap timed judged_is ∙ some_values ws (λ z. let long : finmap.len txn.writes ≡ 0 = omega (arith, length-map (finmap.entries txn.writes) (λ (x : RowKey × WriteOp). x.1), finmap.len-entries txn.writes) in true≢false (sym (eq-eqb (finmap.len txn.writes) 0 long) ∙ e))
+      ap verdict_time judged_is ∙ some_values ws (λ z. let long : finmap.len txn.writes ≡ 0 = omega (arith, length-map (finmap.entries txn.writes) (λ (x : RowKey × WriteOp). x.1), finmap.len-entries txn.writes) in true≢false (sym (eq-eqb (finmap.len txn.writes) 0 long) ∙ e))
 
   full_or_not : (n : ℕ) → nat_le (2 ^ 62) n ≡ nat_lt (2 ^ 62) (n + 1)
   full_or_not n = grind (arith, nat_tests)
 
-  pub judged_time : (finmap.len txn.writes == 0) ≡ false → (n time : ℕ) → n ≡ clock p.after p.history → Ok time ≡ checked_time (n + 1) → Ok (Some time) ≡ timed (judged p txn stream)
+  pub judged_time : (finmap.len txn.writes == 0) ≡ false → (n time : ℕ) → n ≡ clock p.after p.history → Ok time ≡ checked_time (n + 1) → Ok (Some time) ≡ verdict_time (verdict_of p txn stream)
   judged_time e n time is ok =
-      elim (nat_lt (2 ^ 62) (n + 1)) as (λ b. nat_lt (2 ^ 62) (n + 1) ≡ b → ◌≡◌ {A = Result ℕ FormFault} (Ok time) (cond b (Err BadNumber) (Ok (n + 1))) → Ok (Some time) ≡ timed (judged p txn stream)) [
+      elim (nat_lt (2 ^ 62) (n + 1)) as (λ b. nat_lt (2 ^ 62) (n + 1) ≡ b → ◌≡◌ {A = Result ℕ FormFault} (Ok time) (cond b (Err BadNumber) (Ok (n + 1))) → Ok (Some time) ≡ verdict_time (verdict_of p txn stream)) [
         | true ↦ λ t f. absurd cc
         | false ↦ λ t f.
             let same : time ≡ n + 1 = cc in
             sym (judged_some e ∙ (λ i. cond ((ap (nat_le (2 ^ 62)) (sym is) ∙ full_or_not n ∙ t) i) (Err ClockFull) (Ok (Some (clock p.after p.history + 1)))) ∙ ap (λ m. Ok (Some m)) (ap (λ k. k + 1) (sym is) ∙ sym same))
       ] refl ok
 
-  pub judged_full : (finmap.len txn.writes == 0) ≡ false → (n : ℕ) (why : FormFault) → n ≡ clock p.after p.history → Err why ≡ checked_time (n + 1) → Err ClockFull ≡ timed (judged p txn stream)
+  pub judged_full : (finmap.len txn.writes == 0) ≡ false → (n : ℕ) (why : FormFault) → n ≡ clock p.after p.history → Err why ≡ checked_time (n + 1) → Err ClockFull ≡ verdict_time (verdict_of p txn stream)
   judged_full e n why is err =
-      elim (nat_lt (2 ^ 62) (n + 1)) as (λ b. nat_lt (2 ^ 62) (n + 1) ≡ b → ◌≡◌ {A = Result ℕ FormFault} (Err why) (cond b (Err BadNumber) (Ok (n + 1))) → Err ClockFull ≡ timed (judged p txn stream)) [
+      elim (nat_lt (2 ^ 62) (n + 1)) as (λ b. nat_lt (2 ^ 62) (n + 1) ≡ b → ◌≡◌ {A = Result ℕ FormFault} (Err why) (cond b (Err BadNumber) (Ok (n + 1))) → Err ClockFull ≡ verdict_time (verdict_of p txn stream)) [
         | true ↦ λ t f. sym (judged_some e ∙ (λ i. cond ((ap (nat_le (2 ^ 62)) (sym is) ∙ full_or_not n ∙ t) i) (Err ClockFull) (Ok (Some (clock p.after p.history + 1)))))
         | false ↦ λ t f. absurd cc
       ] refl err

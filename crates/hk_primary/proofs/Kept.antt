@@ -22,7 +22,7 @@ use Rattle.hk_model.specs.Facts.{row_facts, end_facts, rows_of, ends_of}
 use Rattle.hk_model.specs.Maps.{or_else}
 use Rattle.hk_state.specs.Facts.{FactsValue, with_entry}
 use Rattle.hk_primary.specs.Log.{IsNext, IsPrimary, history_of, transaction_of}
-use Rattle.hk_primary.specs.Looks.{IsLatest, standing}
+use Rattle.hk_primary.specs.Looks.{IsLatest, put_time_of_row}
 use Rattle.hk_primary.proofs.Reading.{history_is, items_are, log_has, logged-push, read_on-push}
 use Rattle.hk_primary.proofs.Latest.{written_by, put_by, written_is, put_is}
 
@@ -51,7 +51,7 @@ module _ (config : ConfigValue) (newest : ℕ) (items : List Item) (facts : Fact
   last_written_is k o latest =
       written_is config history is_history items (items_are config items p.logged) (λ e i. log_has config items e p.logged i) facts p.rows_are p.ends_are k o (subst (λ n. IsLatest facts n k o) p.newest_is latest)
 
-  pub standing_is : (k : RowKey) (o : Option (ℕ × Option ℕ)) → IsLatest facts newest k o → put_by o ≡ standing history k
+  pub standing_is : (k : RowKey) (o : Option (ℕ × Option ℕ)) → IsLatest facts newest k o → put_by o ≡ put_time_of_row history k
   standing_is k o latest =
       put_is config history is_history items (items_are config items p.logged) (λ e i. log_has config items e p.logged i) facts p.rows_are p.ends_are k o (subst (λ n. IsLatest facts n k o) p.newest_is latest)
 

@@ -10,18 +10,18 @@ use Rattle.hk_log.specs.declared.item.Item.{Item}
 use Rattle.hk_log.specs.declared.item.Item.TheVariants.{Commit}
 use Rattle.hk_model.specs.Rows.{RowKey, row_key_cmp, row_key_of, version_of}
 use Rattle.hk_model.specs.Facts.{entry_rows, entry_ends, rows_of, ends_of}
-use Rattle.hk_model.specs.Histories.{Transaction, written_key, tables_of, last, last_put, entries_of, entry_of, all_written, IsHistory, AreItemsOf, RemovesPresent}
+use Rattle.hk_model.specs.Histories.{Transaction, written_key, tables_of, last, last_put, entries_of, entry_of, tables_after_writes, IsHistory, AreItemsOf, RemovesPresent}
 use Rattle.hk_model.specs.Commits.{last_written}
 use Rattle.hk_model.specs.declared.write_op.WriteOp.{WriteOp}
 use Rattle.hk_model.specs.declared.write_op.WriteOp.TheVariants.{Put, Remove}
 use Rattle.hk_model.proofs.Members.{In, In-map}
-use Rattle.hk_model.proofs.Writes.{All_In, put_at, puts, puts-true, put-puts, is_written, key_tied, tied_key, get-unwritten, get-all_written, unwritten-unput}
-use Rattle.hk_model.proofs.Histories.{put_entry, entry_end, put_last, unput_last, last_put_last, entry_time, end_after, row_put, row_stands, table_unended}
+use Rattle.hk_model.proofs.Writes.{All_In, put_at, puts, puts-true, put-puts, is_written, key_tied, tied_key, get-unwritten, get-tables_after_writes, unwritten-unput}
+use Rattle.hk_model.proofs.Histories.{put_entry, entry_end, put_last, unput_last, last_put_last, entry_time, end_after, row_put, is_valid_row, table_unended}
 use Rattle.hk_model.proofs.Formed.{put_time}
 use Rattle.hk_model.proofs.Logs.{IsPart, fact_row, row_fact, fact_end, end_fact, row_born, row_found, end_found, find_row, find_end}
 use Rattle.hk_model.proofs.Honest.{history_log, items_part}
 use Rattle.hk_state.specs.Facts.{FactsValue}
-use Rattle.hk_primary.specs.Looks.{IsLatest, standing}
+use Rattle.hk_primary.specs.Looks.{IsLatest, put_time_of_row}
 
 -- ---- when a row was last written
 
@@ -87,7 +87,7 @@ there_written config (t ∷ earlier) is k e =
         written_now t earlier k (any_written k (Put table key row) t.writes i s)
         ∙ sym (put_last earlier t k (ap (puts t.writes) s ∙ put-puts t.writes (record { table = table; key = key }) row i))
     wrote (Remove table key) i s =
-        let gone = ap (λ l. is_some (finmap.get (all_written (tables_of earlier) t.writes) l)) s ∙ ap is_some (get-all_written t.writes (tables_of earlier) is.0.keys_rise (Remove table key) i) in
+        let gone = ap (λ l. is_some (finmap.get (tables_after_writes (tables_of earlier) t.writes) l)) s ∙ ap is_some (get-tables_after_writes t.writes (tables_of earlier) is.0.keys_rise (Remove table key) i) in
         absurd (true≢false (sym e ∙ gone))
 
 -- a row whose last version ended was last written there
@@ -173,10 +173,10 @@ module _ (config : ConfigValue) (h : List Transaction) (is : IsHistory config h)
   end_get : (v : VersionKey) (d : ℕ) (e : EntryValue) → In e (entries_of config h) → In (v, d) (entry_ends e) → finmap.get (ends_of items) v ≡ Some d
   end_get v d e i j = find_end config (λ e. In e (entries_of config h)) (history_log config h is) items part v d (end_fact v d e items (all e i) j)
 
-  stands_none : (k : RowKey) → finmap.contains_key (tables_of h) k ≡ false → standing h k ≡ None
+  stands_none : (k : RowKey) → finmap.contains_key (tables_of h) k ≡ false → put_time_of_row h k ≡ None
   stands_none k e = ap (λ b. cond b (Some (last_put h k)) None) e
 
-  stands_some : (k : RowKey) → finmap.contains_key (tables_of h) k ≡ true → standing h k ≡ Some (last_put h k)
+  stands_some : (k : RowKey) → finmap.contains_key (tables_of h) k ≡ true → put_time_of_row h k ≡ Some (last_put h k)
   stands_some k e = ap (λ b. cond b (Some (last_put h k)) None) e
 
   module _ (f : FactsValue) (rows_are : f.rows ≡ rows_of items) (ends_are : f.ends ≡ ends_of items) (k : RowKey) where
@@ -217,7 +217,7 @@ module _ (config : ConfigValue) (h : List Transaction) (is : IsHistory config h)
     open_there : (b : ℕ) (r : RowValue) → b ≡ last_put h k → finmap.get (rows_of items) (version_of k b) ≡ Some r → finmap.get (ends_of items) (version_of k b) ≡ None → finmap.contains_key (tables_of h) k ≡ true
     open_there b r last row none =
         let e = row_in (version_of k b) r row in
-        elim (row_stands config h is e.0 e.1 (version_of k b) r e.2) [
+        elim (is_valid_row config h is e.0 e.1 (version_of k b) r e.2) [
           | inl now ↦ ap is_some now.0
           | inr ended ↦ let g : None ≡ Some ended.0 = sym none ∙ end_get (version_of k b) ended.0 ended.1 ended.2 ended.3 in absurd cc
         ]
@@ -240,7 +240,7 @@ module _ (config : ConfigValue) (h : List Transaction) (is : IsHistory config h)
         last ∙ sym (there_written config h is k (open_there b latest.0.0 last (sym (get_row b) ∙ latest.0.1) (sym (get_end b) ∙ sym latest.1)))
     written_is (Some (b, Some d)) latest = sym (ended_last b d (born_last (b, Some d) latest) (sym (get_end b) ∙ sym latest.1))
 
-    pub put_is : (o : Option (ℕ × Option ℕ)) → IsLatest f (last h) k o → put_by o ≡ standing h k
+    pub put_is : (o : Option (ℕ × Option ℕ)) → IsLatest f (last h) k o → put_by o ≡ put_time_of_row h k
     put_is None latest = sym (stands_none k (not_there (unput latest)))
     put_is (Some (b, None)) latest =
         let last = born_last (b, None) latest in

@@ -8,7 +8,7 @@ use Rattle.hk_log.specs.declared.item.Item.{Item}
 use Rattle.hk_model.specs.Rows.{version_key_cmp}
 use Rattle.hk_model.specs.Facts.{rows_of, ends_of}
 use Rattle.hk_model.specs.Content.{at_most, without_ended}
-use Rattle.hk_model.specs.Canon.{canon}
+use Rattle.hk_model.specs.ContentOf.{content_of}
 use Rattle.hk_model.specs.Answers.{visible}
 use Rattle.hk_model.specs.Histories.{Transaction, table_at, entries_of, IsHistory}
 use Rattle.hk_model.proofs.Members.{In}
@@ -49,10 +49,10 @@ module _ (config : ConfigValue) (newest : ℕ) (items : List Item) (facts : Fact
   all_kept : {X : Type 0} (m : finmap.FinMap version_key_cmp X) → without_ended (ends_of items) 0 m ≡ m
   all_kept m = finmap.same_map version_key_total version_key_same _ _ (λ v. get-without_ended (ends_of items) 0 m v ∙ ap (λ b. cond (not b) (finmap.get m v) None) (none_ended v))
 
-  rows_kept : facts.rows ≡ (canon config items 0).rows
+  rows_kept : facts.rows ≡ (content_of config items 0).rows
   rows_kept = p.rows_are ∙ sym (all_kept (rows_of items))
 
-  ends_kept : facts.ends ≡ (canon config items 0).ends
+  ends_kept : facts.ends ≡ (content_of config items 0).ends
   ends_kept = p.ends_are ∙ sym (all_kept (ends_of items))
 
   pub shown_is : (t : ℕ) → visible (with_facts facts) t ≡ table_at history t

@@ -12,8 +12,8 @@ use Rattle.hk_primary.specs.Txns.{TxnValue}
 use Rattle.hk_primary.specs.Verdicts.{committed_after}
 
 -- what a primary makes of a transaction on a stream
-abbrev pub judged : PrimaryValue → TxnValue → ℕ → Result (Option Transaction) Refusal
-judged p txn stream = committed_after p.config p.after p.history stream txn.read_at txn.writes
+abbrev pub verdict_of : PrimaryValue → TxnValue → ℕ → Result (Option Transaction) Refusal
+verdict_of p txn stream = committed_after p.config p.after p.history stream txn.read_at txn.writes
 
 -- the time of a transaction, if there is one
 abbrev pub time_of : Option Transaction → Option ℕ
@@ -21,9 +21,9 @@ time_of None = None
 time_of (Some t) = Some t.time
 
 -- the verdict, by its time
-abbrev pub timed : Result (Option Transaction) Refusal → Result (Option ℕ) Refusal
-timed (Ok t) = Ok (time_of t)
-timed (Err why) = Err why
+abbrev pub verdict_time : Result (Option Transaction) Refusal → Result (Option ℕ) Refusal
+verdict_time (Ok t) = Ok (time_of t)
+verdict_time (Err why) = Err why
 
 -- a commit told what the verdict says; memory runs out only where a transaction is accepted
 abbrev pub Tells : Result (Option Transaction) Refusal → Result (Option ℕ) (TxnValue × Refusal) → Type 0
@@ -34,14 +34,14 @@ Tells (Err why) (Ok time) = ⊥
 Tells (Err why) (Err e) = e.1 ≡ why
 
 -- an accepted transaction extends the history, and its entry the log
-abbrev pub extended : PrimaryValue → Transaction → PrimaryValue
-extended p t = with_item p (t ∷ p.history) (Commit (entry_of p.config p.history t))
+abbrev pub with_transaction : PrimaryValue → Transaction → PrimaryValue
+with_transaction p t = with_item p (t ∷ p.history) (Commit (entry_of p.config p.history t))
 
 -- the primary after this verdict
-abbrev pub grown : PrimaryValue → Result (Option Transaction) Refusal → PrimaryValue
-grown p (Ok (Some t)) = extended p t
-grown p (Ok None) = p
-grown p (Err why) = p
+abbrev pub primary_after : PrimaryValue → Result (Option Transaction) Refusal → PrimaryValue
+primary_after p (Ok (Some t)) = with_transaction p t
+primary_after p (Ok None) = p
+primary_after p (Err why) = p
 
 -- how many items a commit emitted that answered this time, if one
 abbrev pub items_of : Option ℕ → ℕ

@@ -18,8 +18,8 @@ IsLatest f t k (Some v) =
     × ((born : ℕ) (r : RowValue) → finmap.get f.rows (version_of k born) ≡ Some r → born ≤ t → born ≤ v.0)
 
 -- the time at which the row that is there was put in, if one is there
-abbrev pub standing : List Transaction → RowKey → Option ℕ
-standing history k = if finmap.contains_key (tables_of history) k then Some (last_put history k) else None
+abbrev pub put_time_of_row : List Transaction → RowKey → Option ℕ
+put_time_of_row history k = if finmap.contains_key (tables_of history) k then Some (last_put history k) else None
 
 -- the versions that these writes end
 abbrev pub ended_by_all : List Transaction → List WriteOp → List VersionKey

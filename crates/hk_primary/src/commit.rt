@@ -5,7 +5,7 @@ ghost use Rattle.std.specs.FinMap as finmap;
 ghost use Rattle.hk_types.specs.declared.faults.Refusal.TheVariants.{Memory};
 ghost use Rattle.hk_log.specs.declared.item.Item.TheVariants.{Commit};
 ghost use Rattle.hk_model.specs.Histories.{Follows};
-ghost use Rattle.hk_primary.specs.Calls.{Tells, extended, grown, judged, timed};
+ghost use Rattle.hk_primary.specs.Calls.{Tells, with_transaction, primary_after, verdict_of, verdict_time};
 ghost use Rattle.hk_primary.specs.Log.{IsNext, transaction_of, with_item};
 ghost use Rattle.hk_primary.specs.Txns.{AreWrites};
 ghost use Rattle.hk_primary.specs.Verdicts.{clock};
@@ -29,7 +29,7 @@ impl Primary {
 
     /// What a commit of a transaction on a stream tells, where memory suffices.
     fn judge(&self, txn: &Txn, stream: StreamNo) -> Result<Option<Time>, Refusal>
-        ensures verdict { result ≡ timed (judged self.now txn.now stream) }
+        ensures verdict { result ≡ verdict_time (verdict_of self.now txn.now stream) }
         ensures lawful { AreWrites txn.now.writes }
     {
         let read_at = txn.read_at();
@@ -83,7 +83,7 @@ impl Primary {
     /// Emits the entry of an accepted transaction.
     fn store(&mut self, txn: &Txn, stream: StreamNo, time: Time) -> Result<(), Refusal>
         requires { Follows self.old.config self.old.history (record { time = time; stream = stream; writes = finmap.values txn.now.writes }) }
-        ensures ok { OnOk result (self.new ≡ extended self.old (record { time = time; stream = stream; writes = finmap.values txn.now.writes })) }
+        ensures ok { OnOk result (self.new ≡ with_transaction self.old (record { time = time; stream = stream; writes = finmap.values txn.now.writes })) }
         ensures err { IfErr result (λ why. why ≡ Memory) }
         ensures kept { OnErr result (self.new ≡ self.old) }
     {
@@ -102,8 +102,8 @@ impl Primary {
     /// the transaction back and changes nothing. The cost grows as the number of writes times the logarithm of
     /// the number of versions.
     pub fn commit(&mut self, txn: Txn, stream: StreamNo) -> Result<Option<Time>, (Txn, Refusal)>
-        ensures told { Tells (judged self.old txn stream) result }
-        ensures done { OnOk result (self.new ≡ grown self.old (judged self.old txn stream)) }
+        ensures told { Tells (verdict_of self.old txn stream) result }
+        ensures done { OnOk result (self.new ≡ primary_after self.old (verdict_of self.old txn stream)) }
         ensures kept { OnErr result (self.new ≡ self.old) }
         ensures back { IfErr result (λ e. e.0 ≡ txn) }
     {

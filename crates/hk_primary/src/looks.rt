@@ -5,7 +5,7 @@ ghost use Rattle.std.specs.Option.{option_map};
 ghost use Rattle.std.specs.FinMap as finmap;
 ghost use Rattle.hk_model.specs.Commits.{first_absent, first_conflict, last_written};
 ghost use Rattle.hk_model.specs.Histories.{tables_of};
-ghost use Rattle.hk_primary.specs.Looks.{IsLatest, removes_none, standing};
+ghost use Rattle.hk_primary.specs.Looks.{IsLatest, removes_none, put_time_of_row};
 
 use crate::primary::Primary;
 use crate::row_key::RowKey;
@@ -56,7 +56,7 @@ impl Primary {
     /// The time of the commit that put in the row that is there now, if one is there. It takes no memory. The
     /// cost grows as the logarithm of the number of versions.
     pub(crate) fn put_at(&self, key: RowKey) -> Option<Time>
-        ensures { result ≡ standing self.now.history key }
+        ensures { result ≡ put_time_of_row self.now.history key }
     {
         let (born, died) = latest(&self.facts, self.newest, key)?;
         if died.is_some() {

@@ -5,7 +5,7 @@ ghost use Rattle.hk_types.specs.declared.faults.Refusal.TheVariants.{Memory, NoS
 ghost use Rattle.hk_model.specs.Answers.{answer, answer_seen};
 ghost use Rattle.hk_model.specs.Histories.{last, table_at};
 ghost use Rattle.hk_model.specs.Worlds.{mark_now};
-ghost use Rattle.hk_primary.specs.Calls.{AtSome, NotAnswered, Tells, items_of, judged};
+ghost use Rattle.hk_primary.specs.Calls.{AtSome, NotAnswered, Tells, items_of, verdict_of};
 ghost use Rattle.hk_primary.specs.Txns.{no_writes};
 
 use crate::primary::Primary;
@@ -57,7 +57,7 @@ impl<K: Naming> Held<K> {
         stream: StreamNo,
     ) -> Result<Option<Time>, (Txn, Refusal)>
         requires { 0 < share.old.parts }
-        ensures told { AtSome K.config K.after (λ p. Tells (judged p txn stream) result) }
+        ensures told { AtSome K.config K.after (λ p. Tells (verdict_of p txn stream) result) }
         ensures back { IfErr result (λ e. e.0 ≡ txn) }
         ensures parts { share.new.parts ≡ share.old.parts }
         ensures counted { IfOk result (λ time. share.new.amount ≡ share.old.amount + items_of time) }
@@ -205,7 +205,7 @@ impl<K: Naming> SharedPrimary<K> {
         stream: StreamNo,
     ) -> Result<Option<Time>, (Txn, Refusal)>
         requires { 0 < share.old.parts }
-        ensures told { AtSome K.config K.after (λ p. Tells (judged p txn stream) result) }
+        ensures told { AtSome K.config K.after (λ p. Tells (verdict_of p txn stream) result) }
         ensures back { IfErr result (λ e. e.0 ≡ txn) }
         ensures parts { share.new.parts ≡ share.old.parts }
         ensures counted { IfOk result (λ time. share.new.amount ≡ share.old.amount + items_of time) }

@@ -12,15 +12,15 @@ use Rattle.hk_query.specs.Primary.{IsOfPrimary}
 inside : (a b : AnswerValue) → ◌≡◌ {A = Result AnswerValue Refusal} (Ok a) (Ok b) → a ≡ b
 inside a b e = cc
 
-differs : (a : AnswerValue) (why : Refusal) → ◌≡◌ {A = Result AnswerValue Refusal} (Ok a) (Err why) → ⊥
-differs a why e = cc
+has_conflict_with : (a : AnswerValue) (why : Refusal) → ◌≡◌ {A = Result AnswerValue Refusal} (Ok a) (Err why) → ⊥
+has_conflict_with a why e = cc
 
 pub of_primary : (c : Content) (t : ℕ) (query : Query) (r : Result Answer Refusal) → MatchResult r (λ a. reply c t query ≡ Ok (answer_seen a)) (λ why. (reply c t query ≡ Err why) ⊎ ((why ≡ Memory) × (reply c t query ≡ Ok (answer (visible c t) query)))) → IsOfPrimary c t query r
-of_primary c t query (Ok a) gave config history items horizon is stands old soon = (inside _ _ (sym gave ∙ reply_law_proof config history is items horizon c stands t old soon query), tt)
-of_primary c t query (Err why) gave config history items horizon is stands old soon = (
+of_primary c t query (Ok a) gave config history items horizon is represents old soon = (inside _ _ (sym gave ∙ reply_law_proof config history is items horizon c represents t old soon query), tt)
+of_primary c t query (Err why) gave config history items horizon is represents old soon = (
   tt,
   elim gave [
-    | inl e ↦ absurd (differs _ why (sym (reply_law_proof config history is items horizon c stands t old soon query) ∙ e))
+    | inl e ↦ absurd (has_conflict_with _ why (sym (reply_law_proof config history is items horizon c represents t old soon query) ∙ e))
     | inr m ↦ m.0
   ],
 )

@@ -8,12 +8,12 @@ use Rattle.hk_model.specs.declared.answer.Answer.{Answer}
 use Rattle.hk_model.specs.declared.query.Query.{Query}
 use Rattle.hk_model.specs.Content.{Content, readable}
 use Rattle.hk_model.specs.Histories.{Transaction, IsHistory, table_at}
-use Rattle.hk_model.specs.Replicas.{Stands}
+use Rattle.hk_model.specs.Replicas.{Represents}
 use Rattle.hk_model.specs.Answers.{answer, answer_seen}
 
--- where the content stands for items of a history, from its horizon to its readable mark the answer is that
+-- where the content represents items of a history, from its horizon to its readable mark the answer is that
 -- on the primary's rows at that time, unless memory ran out
 abbrev pub IsOfPrimary : Content → ℕ → Query → Result Answer Refusal → Type 0
 IsOfPrimary c t query result =
-    (config : ConfigValue) (history : List Transaction) (items : List Item) (horizon : ℕ) → IsHistory config history → Stands config history items horizon c → horizon ≤ t → t ≤ readable c
+    (config : ConfigValue) (history : List Transaction) (items : List Item) (horizon : ℕ) → IsHistory config history → Represents config history items horizon c → horizon ≤ t → t ≤ readable c
     → IfOk result (λ a. answer_seen a ≡ answer (table_at history t) query) × IfErr result (λ why. why ≡ Memory)

@@ -1,4 +1,4 @@
-pub mod Talking
+pub mod Transcripts
 pub mod Pieces
 pub mod Whole
 pub mod Settling

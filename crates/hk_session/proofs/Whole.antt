@@ -10,10 +10,10 @@ use Rattle.hk_codec.specs.Fields.{◌>>=◌, check, byte_at, number_at, bytes_at
 use Rattle.hk_codec.specs.Reading.{end_at, row_at, moment_at, counted_ends_at, counted_rows_at, entry_at, mark_at, HeadValue, head_at, kind_at, item_at}
 use Rattle.hk_codec.specs.Framing.{len_of, rest_at, framed, value_of}
 use Rattle.hk_codec.specs.Frames.{frame_at}
-use Rattle.hk_wire.specs.Readers.{Reader, both, after, barred, made, kinded, listed, counted, time_at}
+use Rattle.hk_wire.specs.Readers.{Reader, both, after, fault_where, mapped_value, by_kind, list_by, list_by_count, time_at}
 use Rattle.hk_wire.specs.Answers.{row_at as value_row_at}
-use Rattle.hk_delta.specs.Parts.{follows, end_stands}
-use Rattle.hk_wire.specs.Fragments.{number_follows, extra_at, waiting_count_at, waiting_at, stream_of, stream_at, version_at, died_at, known_of, fact_at, least_told, no_stream, bounds_at, streams_at, stream_count_at, fragment_head_at, facts_at, fragment_at}
+use Rattle.hk_delta.specs.Parts.{follows, is_valid_end}
+use Rattle.hk_wire.specs.Fragments.{number_follows, extra_at, waiting_count_at, waiting_at, stream_of, stream_at, version_at, died_at, known_of, fact_at, least_closed_of, no_stream, bounds_at, streams_at, stream_count_at, fragment_head_at, facts_at, fragment_at}
 use Rattle.hk_wire.specs.Messages.{head_at as message_head_at, message_at}
 use Rattle.hk_wire.specs.Queries.{query_of, query_at}
 use Rattle.hk_wire.specs.declared.request.Request.{Request}
@@ -77,19 +77,19 @@ both_whole a b h k bytes = bind_whole (a bytes) _ (h bytes) (λ x. bind_whole (b
 pub after_whole : {A B : Type 0} (a : Reader A) (b : A → Reader B) → Whole a → ((x : A) → Whole (b x)) → Whole (after a b)
 after_whole a b h k bytes = bind_whole (a bytes) _ (h bytes) (λ x. bind_whole (b x.0 x.1) _ (k x.0 x.1) (λ _. refl))
 
-pub barred_whole : {A : Type 0} (a : Reader A) (bad : A → Bool) (fault : FormFault) → is_other fault ≡ true → Whole a → Whole (barred a bad fault)
+pub barred_whole : {A : Type 0} (a : Reader A) (bad : A → Bool) (fault : FormFault) → is_other fault ≡ true → Whole a → Whole (fault_where a bad fault)
 barred_whole a bad fault other h bytes = bind_whole (a bytes) _ (h bytes) (λ x. bind_whole (check (bad x.0) fault) _ (check_whole (bad x.0) fault other) (λ _. refl))
 
-pub made_whole : {A B : Type 0} (f : A → B) (r : Reader A) → Whole r → Whole (made f r)
+pub made_whole : {A B : Type 0} (f : A → B) (r : Reader A) → Whole r → Whole (mapped_value f r)
 made_whole f r h bytes = bind_whole (r bytes) _ (h bytes) (λ _. refl)
 
-pub kinded_whole : {A : Type 0} (of : ℕ → Reader A) → ((k : ℕ) → Whole (of k)) → Whole (kinded of)
+pub kinded_whole : {A : Type 0} (of : ℕ → Reader A) → ((k : ℕ) → Whole (of k)) → Whole (by_kind of)
 kinded_whole of h bytes = bind_whole (byte_at bytes) _ (byte_whole bytes) (λ k. h k.0 k.1)
 
-pub listed_whole : {X P : Type 0} (count_at : Reader ℕ) (place : X → P) (one : Option P → Reader X) → Whole count_at → ((before : Option P) → Whole (one before)) → Whole (listed count_at place one)
+pub listed_whole : {X P : Type 0} (count_at : Reader ℕ) (place : X → P) (one : Option P → Reader X) → Whole count_at → ((before : Option P) → Whole (one before)) → Whole (list_by count_at place one)
 listed_whole count_at place one h k bytes = bind_whole (count_at bytes) _ (h bytes) (λ count. list_whole place one k count.0 None count.1)
 
-pub counted_whole : {X P : Type 0} (place : X → P) (one : Option P → Reader X) → ((before : Option P) → Whole (one before)) → Whole (counted place one)
+pub counted_whole : {X P : Type 0} (place : X → P) (one : Option P → Reader X) → ((before : Option P) → Whole (one before)) → Whole (list_by_count place one)
 counted_whole place one k bytes = listed_whole (number_at w32) place one (number_whole w32) k bytes
 
 pub time_whole : Whole time_at
@@ -197,7 +197,7 @@ row_value_whole bytes = made_whole _ (both (number_at w32) body_at) (both_whole 
 extra_whole : (prefix : ℕ) (before : Option ℕ) → Whole (extra_at prefix before)
 unfolding extra_at
 extra_whole prefix before bytes =
-    barred_whole (barred (number_at w64) (λ n. not (number_follows before n)) BadOrder) (λ n. leb n (prefix + 1) || ltb (2 ^ 62) n) BadNumber refl
+    barred_whole (fault_where (number_at w64) (λ n. not (number_follows before n)) BadOrder) (λ n. leb n (prefix + 1) || ltb (2 ^ 62) n) BadNumber refl
     (barred_whole (number_at w64) (λ n. not (number_follows before n)) BadOrder refl (number_whole w64)) bytes
 
 waiting_whole : (prefix : ℕ) (before : Option ℕ) → Whole (waiting_at prefix before)
@@ -205,14 +205,14 @@ unfolding waiting_at
 waiting_whole prefix before bytes =
     barred_whole (both (waiting_count_at prefix before) time_at) (λ m. ltb m.1 m.0) BadNumber refl
     (both_whole (waiting_count_at prefix before) time_at
-    (barred_whole (barred (number_at w64) (λ n. not (number_follows before n)) BadOrder) (λ n. leb n prefix) BadNumber refl
+    (barred_whole (fault_where (number_at w64) (λ n. not (number_follows before n)) BadOrder) (λ n. leb n prefix) BadNumber refl
     (barred_whole (number_at w64) (λ n. not (number_follows before n)) BadOrder refl (number_whole w64)))
     time_whole) bytes
 
 stream_of_whole : (prefix : ℕ) → Whole (stream_of prefix)
 stream_of_whole prefix =
-    both_whole time_at (both (counted (λ n. n) (extra_at prefix)) (counted (λ m. m.0) (waiting_at prefix))) time_whole
-    (both_whole (counted (λ n. n) (extra_at prefix)) (counted (λ m. m.0) (waiting_at prefix))
+    both_whole time_at (both (list_by_count (λ n. n) (extra_at prefix)) (list_by_count (λ m. m.0) (waiting_at prefix))) time_whole
+    (both_whole (list_by_count (λ n. n) (extra_at prefix)) (list_by_count (λ m. m.0) (waiting_at prefix))
     (counted_whole (λ n. n) (extra_at prefix) (extra_whole prefix)) (counted_whole (λ m. m.0) (waiting_at prefix) (waiting_whole prefix)))
 
 stream_whole : Whole stream_at
@@ -222,13 +222,13 @@ stream_whole bytes = made_whole _ (after time_at stream_of) (after_whole time_at
 version_whole : (before : Option VersionKey) → Whole (version_at before)
 unfolding version_at
 version_whole before bytes =
-    barred_whole (barred (made _ (both (number_at w16) (both (number_at w64) (number_at w64)))) (λ v. not (follows before v)) BadOrder) (λ v. ltb v.born 1 || ltb (2 ^ 62) v.born) BadNumber refl
-    (barred_whole (made _ (both (number_at w16) (both (number_at w64) (number_at w64)))) (λ v. not (follows before v)) BadOrder refl
+    barred_whole (fault_where (mapped_value _ (both (number_at w16) (both (number_at w64) (number_at w64)))) (λ v. not (follows before v)) BadOrder) (λ v. ltb v.born 1 || ltb (2 ^ 62) v.born) BadNumber refl
+    (barred_whole (mapped_value _ (both (number_at w16) (both (number_at w64) (number_at w64)))) (λ v. not (follows before v)) BadOrder refl
     (made_whole _ (both (number_at w16) (both (number_at w64) (number_at w64)))
     (both_whole (number_at w16) (both (number_at w64) (number_at w64)) (number_whole w16) (both_whole (number_at w64) (number_at w64) (number_whole w64) (number_whole w64))))) bytes
 
 died_whole : (base horizon born : ℕ) → Whole (died_at base horizon born)
-died_whole base horizon born = barred_whole time_at (λ died. not (end_stands base horizon born (Some died))) BadNumber refl time_whole
+died_whole base horizon born = barred_whole time_at (λ died. not (is_valid_end base horizon born (Some died))) BadNumber refl time_whole
 
 known_whole : (base horizon born flags : ℕ) → Whole (known_of base horizon born flags)
 unfolding known_of
@@ -241,7 +241,7 @@ known_whole base horizon born flags bytes =
 fact_whole : (base horizon : ℕ) (before : Option VersionKey) → Whole (fact_at base horizon before)
 unfolding fact_at
 fact_whole base horizon before bytes =
-    after_whole (version_at before) (λ v. kinded (known_of base horizon v.born)) (version_whole before) (λ v. kinded_whole (known_of base horizon v.born) (known_whole base horizon v.born)) bytes
+    after_whole (version_at before) (λ v. by_kind (known_of base horizon v.born)) (version_whole before) (λ v. kinded_whole (known_of base horizon v.born) (known_whole base horizon v.born)) bytes
 
 bounds_whole : Whole bounds_at
 unfolding bounds_at
@@ -254,7 +254,7 @@ stream_count_whole bytes = barred_whole (number_at w16) (λ n. ltb n 1 || ltb 64
 streams_whole : (horizon count : ℕ) → Whole (streams_at horizon count)
 unfolding streams_at
 streams_whole horizon count bytes =
-    barred_whole (list_at no_stream (λ _. stream_at) count None) (λ streams. ltb (least_told streams) horizon) BadNumber refl (list_whole no_stream (λ _. stream_at) (λ _. stream_whole) count None) bytes
+    barred_whole (list_at no_stream (λ _. stream_at) count None) (λ streams. ltb (least_closed_of streams) horizon) BadNumber refl (list_whole no_stream (λ _. stream_at) (λ _. stream_whole) count None) bytes
 
 fragment_head_whole : Whole fragment_head_at
 fragment_head_whole = both_whole (number_at w64) (both stream_count_at bounds_at) (number_whole w64) (both_whole stream_count_at bounds_at stream_count_whole bounds_whole)

@@ -1,4 +1,4 @@
 pub mod Endings
 pub mod Steps
-pub mod Talk
+pub mod Transcript
 pub mod Values

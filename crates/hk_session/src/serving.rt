@@ -7,7 +7,7 @@ ghost use Rattle.hk_wire.specs.declared.request.Request.{Request};
 ghost use Rattle.hk_wire.specs.declared.reply.Reply.{Reply};
 ghost use Rattle.hk_wire.specs.Requests.{ReadsRequests};
 ghost use Rattle.hk_session.specs.declared.ended.Ended.TheVariants as ends;
-ghost use Rattle.hk_session.specs.Talk.{Answers, said, Sends, all_said, fault_met, Refuses, Stops, Spoke, GoesOn, Ends, IsMidway, IsDone, IsStopped, Talk, TalksInPart};
+ghost use Rattle.hk_session.specs.Transcript.{Answers, reply_bytes, Sends, replies_bytes, fault_met, Refuses, Stops, SessionStep, GoesOn, Ends, IsMidway, IsDone, IsStopped, Transcript, PartialTranscript};
 
 use crate::counted::Counted;
 use crate::ended::Ended;
@@ -26,7 +26,7 @@ fn answer_one<W: Write, H: Host>(
     host: &mut H,
 ) -> Option<Ended>
     requires { writer.old.faults ≡ 0 }
-    ensures says { (reply : Reply) × H.may host.old request reply host.new × Sends (said reply) (W.contents writer.old.device) (W.contents writer.new.device) result }
+    ensures says { (reply : Reply) × H.may host.old request reply host.new × Sends (reply_bytes reply) (W.contents writer.old.device) (W.contents writer.new.device) result }
     ensures quiet { result ≢ Some ends.WriteFault → writer.new.faults ≡ 0 }
     ensures fault { result ≡ Some ends.WriteFault → 0 < writer.new.faults }
 {
@@ -43,7 +43,7 @@ fn answer_all<W: Write, H: Host>(
 ) -> Option<Ended>
     requires { writer.old.faults ≡ 0 }
     ensures all { IfNone result ((replies : List Reply) × Answers H.may host.old requests.items replies host.new
-        × Appends (W.contents writer.old.device) (W.contents writer.new.device) (all_said replies)) }
+        × Appends (W.contents writer.old.device) (W.contents writer.new.device) (replies_bytes replies)) }
     ensures part { IfSome result (Stops H.may host.old host.new (W.contents writer.old.device) (W.contents writer.new.device) requests.items) }
     ensures quiet { result ≢ Some ends.WriteFault → writer.new.faults ≡ 0 }
     ensures fault { result ≡ Some ends.WriteFault → 0 < writer.new.faults }
@@ -93,7 +93,7 @@ fn take_in(
 }
 
 /// Takes the next piece of the stream, and answers the requests that are whole now. `None` goes on.
-fn hear<W: Write, H: Host>(
+fn handle_piece<W: Write, H: Host>(
     alloc: Global,
     piece: &[u8],
     feeder: &mut RequestFeeder,
@@ -103,9 +103,9 @@ fn hear<W: Write, H: Host>(
     requires quiet { writer.old.faults ≡ 0 }
     requires open { (left : List ℕ) × (feeder.old ≡ Ok left) }
     ensures goes_on { (left : List ℕ) → feeder.old ≡ Ok left → IfNone result ((after : List ℕ) × (feeder.new ≡ Ok after)
-        × Spoke H.may host.old host.new (W.contents writer.old.device) (W.contents writer.new.device) (left ++ piece.now) (GoesOn after)) }
+        × SessionStep H.may host.old host.new (W.contents writer.old.device) (W.contents writer.new.device) (left ++ piece.now) (GoesOn after)) }
     ensures ends { (left : List ℕ) → feeder.old ≡ Ok left → IfSome result (λ e.
-        Spoke H.may host.old host.new (W.contents writer.old.device) (W.contents writer.new.device) (left ++ piece.now) (Ends e)) }
+        SessionStep H.may host.old host.new (W.contents writer.old.device) (W.contents writer.new.device) (left ++ piece.now) (Ends e)) }
     ensures midway { IfSome result IsMidway }
     ensures quiet { result ≢ Some ends.WriteFault → writer.new.faults ≡ 0 }
     ensures fault { result ≡ Some ends.WriteFault → 0 < writer.new.faults }
@@ -151,8 +151,8 @@ fn run<R: Read, W: Write, H: Host>(
     requires reader { reader.old.faults ≡ 0 }
     requires writer { writer.old.faults ≡ 0 }
     // The bytes read, and what was done and written for them.
-    ensures talk { (bytes : List ℕ) × Consumes (R.remaining reader.old.device) (R.remaining reader.new.device) bytes
-        × Spoke H.may host.old host.new (W.contents writer.old.device) (W.contents writer.new.device) bytes (Ends result) }
+    ensures transcript { (bytes : List ℕ) × Consumes (R.remaining reader.old.device) (R.remaining reader.new.device) bytes
+        × SessionStep H.may host.old host.new (W.contents writer.old.device) (W.contents writer.new.device) bytes (Ends result) }
     // All bytes were read.
     ensures clean { result ≡ ends.Clean → IsAtEnd (R.remaining reader.new.device) }
     ensures cut { result ≡ ends.Fault faults.Truncated → IsAtEnd (R.remaining reader.new.device) }
@@ -174,7 +174,7 @@ fn run<R: Read, W: Write, H: Host>(
                 if count == 0 {
                     return finish(alloc, feeder, writer);
                 }
-                if let Some(ended) = hear(alloc, &buffer[..count], &mut feeder, writer, host) {
+                if let Some(ended) = handle_piece(alloc, &buffer[..count], &mut feeder, writer, host) {
                     return ended;
                 }
             }
@@ -187,7 +187,7 @@ fn run<R: Read, W: Write, H: Host>(
 ///
 /// `Clean` is an end of the input between requests. A form fault, an end inside a frame included, is told by
 /// `Refused` with its number, after the replies to the requests before it, and ends the session. A reply without
-/// a spelling is told as `Refused` with 2. Where memory for the session's own buffers runs out nothing more is
+/// an encoding is told as `Refused` with 2. Where memory for the session's own buffers runs out nothing more is
 /// written, and the last requests may stay unanswered. A failed write, or one that takes 0 bytes, ends it, and so
 /// does a failed read, an interrupted one too; so does the read number 2^32, where it does not end otherwise. The
 /// writer is never flushed: who hands in one that keeps bytes back flushes it after.
@@ -204,13 +204,13 @@ pub fn serve<R: Read, W: Write, H: Host>(
     requires writer { writer.old.faults ≡ 0 }
     // What was written talks of what was read.
     ensures whole { IsDone result → (bytes text : List ℕ) × Consumes (R.remaining reader.old.device) (R.remaining reader.new.device) bytes
-        × Appends (W.contents writer.old.device) (W.contents writer.new.device) text × Talk H.may host.old host.new bytes text }
+        × Appends (W.contents writer.old.device) (W.contents writer.new.device) text × Transcript H.may host.old host.new bytes text }
     // What was written is a front of what talks of a front of what was read: of whole requests, or of all bytes.
     ensures stopped { IsStopped result → (bytes part : List ℕ) × Consumes (R.remaining reader.old.device) (R.remaining reader.new.device) bytes
-        × Appends (W.contents writer.old.device) (W.contents writer.new.device) part × TalksInPart H.may host.old host.new bytes part }
+        × Appends (W.contents writer.old.device) (W.contents writer.new.device) part × PartialTranscript H.may host.old host.new bytes part }
     // The bytes read, and what was done and written for them.
-    ensures talk { (bytes : List ℕ) × Consumes (R.remaining reader.old.device) (R.remaining reader.new.device) bytes
-        × Spoke H.may host.old host.new (W.contents writer.old.device) (W.contents writer.new.device) bytes (Ends result) }
+    ensures transcript { (bytes : List ℕ) × Consumes (R.remaining reader.old.device) (R.remaining reader.new.device) bytes
+        × SessionStep H.may host.old host.new (W.contents writer.old.device) (W.contents writer.new.device) bytes (Ends result) }
     // All bytes were read.
     ensures clean { result ≡ ends.Clean → IsAtEnd (R.remaining reader.new.device) }
     ensures cut { result ≡ ends.Fault faults.Truncated → IsAtEnd (R.remaining reader.new.device) }

@@ -6,8 +6,8 @@ ghost use Rattle.hk_types.specs.declared.faults.Refusal.TheVariants.{Memory};
 ghost use Rattle.hk_model.specs.Content.{Content};
 ghost use Rattle.hk_model.specs.Answers.{reply};
 ghost use Rattle.hk_model.specs.Fragments.{cut};
-ghost use Rattle.hk_model.specs.Rules.{gathered, joined, pruned};
-ghost use Rattle.hk_session.specs.Steps.{config_of, joined_if, settled, changed, told, since, handed, IsGiven, Step, Changes};
+ghost use Rattle.hk_model.specs.Rules.{gather_result, join_result, prune_result};
+ghost use Rattle.hk_session.specs.Steps.{config_of, joined_if, change_reply, change_step, query_reply, since, fragment_reply, IsGiven, Step, Changes};
 
 use crate::host::Host;
 use hk_delta::{Fragment, delta_since, fragment_of, join, whole_of};
@@ -96,14 +96,14 @@ impl StateHost {
 
     fn join_items(&mut self, items: &[Item]) -> Result<(), Refusal>
         ensures ops { self.new ≡ record self.old { content = self.new.content } }
-        ensures gives { Changes self.old.content self.new.content (joined_if self.old.content (gathered (config_of self.old.content) items.now)) result }
+        ensures gives { Changes self.old.content self.new.content (joined_if self.old.content (gather_result (config_of self.old.content) items.now)) result }
     {
         let fragment = fragment_of(self.alloc, self.state.config(), items)?;
         join(&mut self.state, &fragment)
     }
 
     fn take_items(&mut self, items: &[Item]) -> Reply
-        ensures { IsGiven self.old (changed self.old (joined_if self.old.content (gathered (config_of self.old.content) items.now))) result self.new }
+        ensures { IsGiven self.old (change_step self.old (joined_if self.old.content (gather_result (config_of self.old.content) items.now))) result self.new }
     {
         if self.is_full() {
             return Reply::Refused(Refusal::NodeFull);
@@ -113,7 +113,7 @@ impl StateHost {
     }
 
     fn join_this(&mut self, fragment: &Fragment) -> Reply
-        ensures { IsGiven self.old (changed self.old (joined self.old.content fragment.now)) result self.new }
+        ensures { IsGiven self.old (change_step self.old (join_result self.old.content fragment.now)) result self.new }
     {
         if self.is_full() {
             return Reply::Refused(Refusal::NodeFull);
@@ -123,7 +123,7 @@ impl StateHost {
     }
 
     fn prune(&mut self, horizon: Time) -> Reply
-        ensures { IsGiven self.old (changed self.old (pruned self.old.content horizon)) result self.new }
+        ensures { IsGiven self.old (change_step self.old (prune_result self.old.content horizon)) result self.new }
     {
         if self.is_full() {
             return Reply::Refused(Refusal::NodeFull);
@@ -133,7 +133,7 @@ impl StateHost {
     }
 
     fn whole(&self) -> Reply
-        ensures { IsGiven self.now (handed (Ok (cut self.now.content 0)), self.now) result self.now }
+        ensures { IsGiven self.now (fragment_reply (Ok (cut self.now.content 0)), self.now) result self.now }
     {
         match whole_of(self.alloc, &self.state) {
             Ok(fragment) => Reply::Fragment(fragment),
@@ -142,7 +142,7 @@ impl StateHost {
     }
 
     fn delta(&self, base: Time) -> Reply
-        ensures { IsGiven self.now (handed (since self.now.content base), self.now) result self.now }
+        ensures { IsGiven self.now (fragment_reply (since self.now.content base), self.now) result self.now }
     {
         match delta_since(self.alloc, &self.state, base) {
             Ok(fragment) => Reply::Fragment(fragment),
@@ -151,7 +151,7 @@ impl StateHost {
     }
 
     fn ask(&self, time: Time, query: &Query) -> Reply
-        ensures { IsGiven self.now (told (reply self.now.content time query.now), self.now) result self.now }
+        ensures { IsGiven self.now (query_reply (reply self.now.content time query.now), self.now) result self.now }
     {
         match ask(self.alloc, &self.state, time, query) {
             Ok(answer) => Reply::Answer(answer),

@@ -11,97 +11,97 @@ use Rattle.hk_log.specs.declared.item.Item.{Item}
 use Rattle.hk_log.specs.declared.item.Item.TheVariants.{Commit, Closed}
 use Rattle.hk_model.specs.declared.took.Took.{Took}
 use Rattle.hk_model.specs.declared.took.Took.TheVariants.{Taken, Repeated}
-use Rattle.hk_model.specs.Items.{misfit}
-use Rattle.hk_model.specs.Streams.{StreamContent, stream_at, all_together, streams_of, is_told}
+use Rattle.hk_model.specs.Items.{wrong_log}
+use Rattle.hk_model.specs.Streams.{StreamContent, stream_at, all_together, streams_of, adds_nothing}
 use Rattle.hk_model.specs.Content.{Content}
-use Rattle.hk_model.specs.Rules.{taken, taken_unless, absorbed, contradicts, with_items}
+use Rattle.hk_model.specs.Rules.{take_result, take_result_unless, absorb_result, entry_conflicts, with_items}
 use Rattle.hk_model.specs.Lawful.{IsItem}
 use Rattle.hk_model.proofs.Lawful.{taken_keeps, fits_within}
 use Rattle.hk_model.proofs.Outcomes.{taken_same_log}
 use Rattle.hk_model.proofs.Changes.{no_more_facts, same_if_told}
 use Rattle.hk_state.specs.Calls.{Absorbs}
-use Rattle.hk_state.specs.Facts.{FactsValue, with_entry, disputes}
-use Rattle.hk_state.specs.Replica.{content_of, IsReplica}
+use Rattle.hk_state.specs.Facts.{FactsValue, with_entry, conflicts_with_entry}
+use Rattle.hk_state.specs.Replica.{content_of_parts, IsReplica}
 
 pub at_most : (m x : ℕ) → is_le (nat_cmp m x) ≡ nat_le m x
 at_most m x = grind (arith, nat_tests)
 
 -- why an item is none of the log, in the words of the code
-abbrev pub misfit_by : ConfigValue → ℕ → ℕ → Option Refusal
-misfit_by config log stream = cond (not (log == config.log)) (Some ForeignLog) (cond (nat_lt config.streams stream) (Some WrongStreams) None)
+abbrev pub wrong_log_by : ConfigValue → ℕ → ℕ → Option Refusal
+wrong_log_by config log stream = cond (not (log == config.log)) (Some ForeignLog) (cond (nat_lt config.streams stream) (Some WrongStreams) None)
 
 module _ (config : ConfigValue) (h : ℕ) (facts : FactsValue) (got : List StreamContent) (is : IsReplica config h facts got) where
   abbrev here : Content
-  here = content_of config h facts got
+  here = content_of_parts config h facts got
 
-  fits : (log stream : ℕ) → cond (not (log == config.log)) (Some ForeignLog) (cond (nat_lt (length got) stream) (Some WrongStreams) None) ≡ misfit_by config log stream
+  fits : (log stream : ℕ) → cond (not (log == config.log)) (Some ForeignLog) (cond (nat_lt (length got) stream) (Some WrongStreams) None) ≡ wrong_log_by config log stream
   fits log stream = ap (λ n. cond (not (log == config.log)) (Some ForeignLog) (cond (nat_lt n stream) (Some WrongStreams) None)) is.as_many
 
   -- what is taken leaves a state
-  keeps : (item : Item) (told : Took) (facts' : FactsValue) (got' : List StreamContent) → IsItem item → taken here item ≡ Ok (told, content_of config h facts' got') → IsReplica config h facts' got'
+  keeps : (item : Item) (told : Took) (facts' : FactsValue) (got' : List StreamContent) → IsItem item → take_result here item ≡ Ok (told, content_of_parts config h facts' got') → IsReplica config h facts' got'
   keeps item told facts' got' w e = record {
-    as_many = (taken_same_log here item told (content_of config h facts' got') e).1 ∙ is.as_many;
-    lawful = taken_keeps here item is.lawful w told (content_of config h facts' got') e;
+    as_many = (taken_same_log here item told (content_of_parts config h facts' got') e).1 ∙ is.as_many;
+    lawful = taken_keeps here item is.lawful w told (content_of_parts config h facts' got') e;
   }
 
   -- ---- entries
 
   module _ (e : EntryValue) (w : IsEntry e) where
-    pub entry_misfit : (why : Refusal) → misfit_by config e.log e.stream ≡ Some why → Absorbs here here (Commit e) (Err why)
-    entry_misfit why m = (refl, inl (ap (taken_unless here (Commit e)) (fits e.log e.stream ∙ m)))
+    pub entry_wrong_log : (why : Refusal) → wrong_log_by config e.log e.stream ≡ Some why → Absorbs here here (Commit e) (Err why)
+    entry_wrong_log why m = (refl, inl (ap (take_result_unless here (Commit e)) (fits e.log e.stream ∙ m)))
 
-    fitting : misfit_by config e.log e.stream ≡ None → taken here (Commit e) ≡ absorbed here (Commit e)
-    fitting m = ap (taken_unless here (Commit e)) (fits e.log e.stream ∙ m)
+    fitting : wrong_log_by config e.log e.stream ≡ None → take_result here (Commit e) ≡ absorb_result here (Commit e)
+    fitting m = ap (take_result_unless here (Commit e)) (fits e.log e.stream ∙ m)
 
-    pub entry_repeated : misfit_by config e.log e.stream ≡ None → set.contains (stream_at got e.stream).taken e.number ≡ true → Absorbs here here (Commit e) (Ok Repeated)
-    entry_repeated m old = fitting m ∙ ap (λ b. cond b (Ok (Repeated, here)) (cond (contradicts here e) (Err Conflict) (Ok (Taken, with_items here (Commit e ∷ []))))) old
+    pub entry_repeated : wrong_log_by config e.log e.stream ≡ None → set.contains (stream_at got e.stream).taken e.number ≡ true → Absorbs here here (Commit e) (Ok Repeated)
+    entry_repeated m old = fitting m ∙ ap (λ b. cond b (Ok (Repeated, here)) (cond (entry_conflicts here e) (Err Conflict) (Ok (Taken, with_items here (Commit e ∷ []))))) old
 
-    unrepeated : misfit_by config e.log e.stream ≡ None → set.contains (stream_at got e.stream).taken e.number ≡ false → taken here (Commit e) ≡ cond (contradicts here e) (Err Conflict) (Ok (Taken, with_items here (Commit e ∷ [])))
-    unrepeated m new = fitting m ∙ ap (λ b. cond b (Ok (Repeated, here)) (cond (contradicts here e) (Err Conflict) (Ok (Taken, with_items here (Commit e ∷ []))))) new
+    unrepeated : wrong_log_by config e.log e.stream ≡ None → set.contains (stream_at got e.stream).taken e.number ≡ false → take_result here (Commit e) ≡ cond (entry_conflicts here e) (Err Conflict) (Ok (Taken, with_items here (Commit e ∷ [])))
+    unrepeated m new = fitting m ∙ ap (λ b. cond b (Ok (Repeated, here)) (cond (entry_conflicts here e) (Err Conflict) (Ok (Taken, with_items here (Commit e ∷ []))))) new
 
-    pub entry_conflict : misfit_by config e.log e.stream ≡ None → set.contains (stream_at got e.stream).taken e.number ≡ false → (disputes facts e || nat_le e.time (stream_at got e.stream).closed) ≡ true → Absorbs here here (Commit e) (Err Conflict)
+    pub entry_conflict : wrong_log_by config e.log e.stream ≡ None → set.contains (stream_at got e.stream).taken e.number ≡ false → (conflicts_with_entry facts e || nat_le e.time (stream_at got e.stream).closed) ≡ true → Absorbs here here (Commit e) (Err Conflict)
     entry_conflict m new c = (refl, inl (unrepeated m new ∙ ap (λ b. cond b (Err Conflict) (Ok (Taken, with_items here (Commit e ∷ [])))) c))
 
-    pub entry_result : misfit_by config e.log e.stream ≡ None → set.contains (stream_at got e.stream).taken e.number ≡ false → (disputes facts e || nat_le e.time (stream_at got e.stream).closed) ≡ false
+    pub entry_result : wrong_log_by config e.log e.stream ≡ None → set.contains (stream_at got e.stream).taken e.number ≡ false → (conflicts_with_entry facts e || nat_le e.time (stream_at got e.stream).closed) ≡ false
         → (r : Result Took Refusal) (facts' : FactsValue) (got' : List StreamContent) → IfOk r (λ took. took ≡ Taken) → OnOk r (facts' ≡ with_entry facts e) → OnOk r (got' ≡ all_together got (streams_of (length got) (Commit e ∷ []))) → IfErr r (λ why. why ≡ Memory) → OnErr r (facts' ≡ facts) → OnErr r (got' ≡ got)
-        → Absorbs here (content_of config h facts' got') (Commit e) r × IsReplica config h facts' got'
+        → Absorbs here (content_of_parts config h facts' got') (Commit e) r × IsReplica config h facts' got'
     entry_result m new agrees (Ok took) facts' got' told f g err sf sg =
-        let t : taken here (Commit e) ≡ Ok (Taken, with_items here (Commit e ∷ [])) = unrepeated m new ∙ ap (λ b. cond b (Err Conflict) (Ok (Taken, with_items here (Commit e ∷ [])))) agrees in
-        let left : with_items here (Commit e ∷ []) ≡ content_of config h facts' got' = λ i. content_of config h (sym f i) (sym g i) in
-        let all : taken here (Commit e) ≡ Ok (took, content_of config h facts' got') = t ∙ (λ i. Ok (sym told i, left i)) in
+        let t : take_result here (Commit e) ≡ Ok (Taken, with_items here (Commit e ∷ [])) = unrepeated m new ∙ ap (λ b. cond b (Err Conflict) (Ok (Taken, with_items here (Commit e ∷ [])))) agrees in
+        let left : with_items here (Commit e ∷ []) ≡ content_of_parts config h facts' got' = λ i. content_of_parts config h (sym f i) (sym g i) in
+        let all : take_result here (Commit e) ≡ Ok (took, content_of_parts config h facts' got') = t ∙ (λ i. Ok (sym told i, left i)) in
         (all, keeps (Commit e) took facts' got' w all)
     entry_result m new agrees (Err why) facts' got' told f g err sf sg =
-        let t : taken here (Commit e) ≡ Ok (Taken, with_items here (Commit e ∷ [])) = unrepeated m new ∙ ap (λ b. cond b (Err Conflict) (Ok (Taken, with_items here (Commit e ∷ [])))) agrees in
-        (((λ i. content_of config h (sf i) (sg i)), inr (err, (with_items here (Commit e ∷ []), t))), subst (λ (x : FactsValue). IsReplica config h x got') (sym sf) (subst (IsReplica config h facts) (sym sg) is))
+        let t : take_result here (Commit e) ≡ Ok (Taken, with_items here (Commit e ∷ [])) = unrepeated m new ∙ ap (λ b. cond b (Err Conflict) (Ok (Taken, with_items here (Commit e ∷ [])))) agrees in
+        (((λ i. content_of_parts config h (sf i) (sg i)), inr (err, (with_items here (Commit e ∷ []), t))), subst (λ (x : FactsValue). IsReplica config h x got') (sym sf) (subst (IsReplica config h facts) (sym sg) is))
 
   -- ---- marks
 
   module _ (k : MarkValue) (w : IsMark k) where
-    pub mark_misfit : (why : Refusal) → misfit_by config k.log k.stream ≡ Some why → Absorbs here here (Closed k) (Err why)
-    mark_misfit why m = (refl, inl (ap (taken_unless here (Closed k)) (fits k.log k.stream ∙ m)))
+    pub mark_wrong_log : (why : Refusal) → wrong_log_by config k.log k.stream ≡ Some why → Absorbs here here (Closed k) (Err why)
+    mark_wrong_log why m = (refl, inl (ap (take_result_unless here (Closed k)) (fits k.log k.stream ∙ m)))
 
-    told_of : Took
-    told_of = cond (is_told (stream_at got k.stream) k.count k.upto) Repeated Taken
+    outcome_of : Took
+    outcome_of = cond (adds_nothing (stream_at got k.stream) k.count k.upto) Repeated Taken
 
-    mark_taken : misfit_by config k.log k.stream ≡ None → taken here (Closed k) ≡ Ok (told_of, with_items here (Closed k ∷ []))
-    unfolding told_of
-    mark_taken m = ap (taken_unless here (Closed k)) (fits k.log k.stream ∙ m)
+    mark_taken : wrong_log_by config k.log k.stream ≡ None → take_result here (Closed k) ≡ Ok (outcome_of, with_items here (Closed k ∷ []))
+    unfolding outcome_of
+    mark_taken m = ap (take_result_unless here (Closed k)) (fits k.log k.stream ∙ m)
 
-    pub mark_repeated : misfit_by config k.log k.stream ≡ None → is_told (stream_at got k.stream) k.count k.upto ≡ true → Absorbs here here (Closed k) (Ok Repeated)
-    unfolding told_of
+    pub mark_repeated : wrong_log_by config k.log k.stream ≡ None → adds_nothing (stream_at got k.stream) k.count k.upto ≡ true → Absorbs here here (Closed k) (Ok Repeated)
+    unfolding outcome_of
     mark_repeated m told =
         let above = w.stream_least in
         let within = fits_within config.log (length got) (Closed k) (fits k.log k.stream ∙ m) in
         mark_taken m ∙ (λ i. Ok (cond (told i) Repeated Taken, same_if_told here is.lawful k (omega arith) within told i))
 
-    pub mark_result : misfit_by config k.log k.stream ≡ None → is_told (stream_at got k.stream) k.count k.upto ≡ false
+    pub mark_result : wrong_log_by config k.log k.stream ≡ None → adds_nothing (stream_at got k.stream) k.count k.upto ≡ false
         → (r : Result Took Refusal) (got' : List StreamContent) → IfOk r (λ took. took ≡ Taken) → OnOk r (got' ≡ all_together got (streams_of (length got) (Closed k ∷ []))) → IfErr r (λ why. why ≡ Memory) → OnErr r (got' ≡ got)
-        → Absorbs here (content_of config h facts got') (Closed k) r × IsReplica config h facts got'
-    unfolding told_of
+        → Absorbs here (content_of_parts config h facts got') (Closed k) r × IsReplica config h facts got'
+    unfolding outcome_of
     mark_result m new (Ok took) got' told g err sg =
-        let left : with_items here (Closed k ∷ []) ≡ content_of config h facts got' = λ i. record { log = config.log; horizon = h; rows = no_more_facts facts.rows i; ends = no_more_facts facts.ends i; streams = sym g i } in
-        let all : taken here (Closed k) ≡ Ok (took, content_of config h facts got') = mark_taken m ∙ (λ i. Ok (cond (new i) Repeated Taken, left i)) ∙ (λ i. Ok (sym told i, content_of config h facts got')) in
+        let left : with_items here (Closed k ∷ []) ≡ content_of_parts config h facts got' = λ i. record { log = config.log; horizon = h; rows = no_more_facts facts.rows i; ends = no_more_facts facts.ends i; streams = sym g i } in
+        let all : take_result here (Closed k) ≡ Ok (took, content_of_parts config h facts got') = mark_taken m ∙ (λ i. Ok (cond (new i) Repeated Taken, left i)) ∙ (λ i. Ok (sym told i, content_of_parts config h facts got')) in
         (all, keeps (Closed k) took facts got' w all)
     mark_result m new (Err why) got' told g err sg =
-        let t : taken here (Closed k) ≡ Ok (Taken, with_items here (Closed k ∷ [])) = mark_taken m ∙ (λ i. Ok (cond (new i) Repeated Taken, with_items here (Closed k ∷ []))) in
-        (((λ i. content_of config h facts (sg i)), inr (err, (with_items here (Closed k ∷ []), t))), subst (IsReplica config h facts) (sym sg) is)
+        let t : take_result here (Closed k) ≡ Ok (Taken, with_items here (Closed k ∷ [])) = mark_taken m ∙ (λ i. Ok (cond (new i) Repeated Taken, with_items here (Closed k ∷ []))) in
+        (((λ i. content_of_parts config h facts (sg i)), inr (err, (with_items here (Closed k ∷ []), t))), subst (IsReplica config h facts) (sym sg) is)

@@ -11,29 +11,29 @@ use Rattle.hk_facts.specs.declared.fact.Fact.{Fact}
 use Rattle.hk_facts.specs.declared.fact.Part.{Part}
 use Rattle.hk_facts.specs.Facts.{row_of, died_of, without}
 use Rattle.hk_facts.specs.Chains.{ChainValue, put_by, chain_forget}
-use Rattle.hk_facts.specs.Keyed.{KeyedValue, or_empty, if_filled, version_in, keyed_put, keyed_forget}
+use Rattle.hk_facts.specs.TableChains.{TableChainsValue, or_empty, if_filled, version_in, keyed_put, keyed_forget}
 use Rattle.hk_facts.proofs.Parts.{nothing_left}
 use Rattle.hk_facts.proofs.Trees.{seen, IfErr_map}
 use Rattle.hk_facts.proofs.Filled.{known_there, known_absent, filled_none, alter_empty}
-use Rattle.hk_state.specs.Facts.{FactsValue, TablesValue, stored, facts_of, no_facts, known_at, AllKnown, facts_put}
+use Rattle.hk_state.specs.Facts.{FactsValue, TablesValue, stored_version, facts_of, no_facts, known_at, AllKnown, facts_put}
 use Rattle.hk_model.specs.Rows.{version_key_cmp}
 use Rattle.hk_state.proofs.Stored.{get_row, get_end, known_stored, nothing_known}
 use Rattle.hk_state.proofs.Changed.{same_facts, facts_put_err, known_put, row_known, died_known}
 
 -- ---- what is looked up
 
-module _ (m : BTreeMap ℕ KeyedValue) (t k : ℕ) where
-  pub chain_some : AllKnown (seen m) → (keyed : KeyedValue) (r : Option (Bor ChainValue)) → Some keyed ≡ tree.get nat_cmp m t → option_copied r ≡ finmap.get keyed k → IfSome r (λ c. (born : ℕ) → finmap.get c.now born ≡ known_at (facts_of (seen m)) (record { table = t; key = k; born = born }))
+module _ (m : BTreeMap ℕ TableChainsValue) (t k : ℕ) where
+  pub chain_some : AllKnown (seen m) → (keyed : TableChainsValue) (r : Option (Bor ChainValue)) → Some keyed ≡ tree.get nat_cmp m t → option_copied r ≡ finmap.get keyed k → IfSome r (λ c. (born : ℕ) → finmap.get c.now born ≡ known_at (facts_of (seen m)) (record { table = t; key = k; born = born }))
   chain_some known keyed None has is = tt
   chain_some known keyed (Some c) has is = λ born. sym (known_stored (seen m) known (record { table = t; key = k; born = born }) ∙ known_there m t (λ x. version_in x k born) keyed has ∙ ap (option_and_then (λ c. finmap.get c born)) (sym is))
 
-  pub chain_has : AllKnown (seen m) → (keyed : KeyedValue) (chain : ChainValue) → Some keyed ≡ tree.get nat_cmp m t → finmap.get keyed k ≡ Some chain → (born : ℕ) → finmap.get chain born ≡ known_at (facts_of (seen m)) (record { table = t; key = k; born = born })
+  pub chain_has : AllKnown (seen m) → (keyed : TableChainsValue) (chain : ChainValue) → Some keyed ≡ tree.get nat_cmp m t → finmap.get keyed k ≡ Some chain → (born : ℕ) → finmap.get chain born ≡ known_at (facts_of (seen m)) (record { table = t; key = k; born = born })
   chain_has known keyed chain has is born = sym (known_stored (seen m) known (record { table = t; key = k; born = born }) ∙ known_there m t (λ x. version_in x k born) keyed has ∙ ap (option_and_then (λ c. finmap.get c born)) is)
 
-  pub chain_lacks : (keyed : KeyedValue) → Some keyed ≡ tree.get nat_cmp m t → finmap.get keyed k ≡ None → (born : ℕ) → known_at (facts_of (seen m)) (record { table = t; key = k; born = born }) ≡ None
+  pub chain_lacks : (keyed : TableChainsValue) → Some keyed ≡ tree.get nat_cmp m t → finmap.get keyed k ≡ None → (born : ℕ) → known_at (facts_of (seen m)) (record { table = t; key = k; born = born }) ≡ None
   chain_lacks keyed has is born = nothing_known (seen m) (record { table = t; key = k; born = born }) (known_there m t (λ x. version_in x k born) keyed has ∙ ap (option_and_then (λ c. finmap.get c born)) is)
 
-  pub chain_none : (keyed : KeyedValue) (r : Option (Bor ChainValue)) → Some keyed ≡ tree.get nat_cmp m t → option_copied r ≡ finmap.get keyed k → IfNone r ((born : ℕ) → known_at (facts_of (seen m)) (record { table = t; key = k; born = born }) ≡ None)
+  pub chain_none : (keyed : TableChainsValue) (r : Option (Bor ChainValue)) → Some keyed ≡ tree.get nat_cmp m t → option_copied r ≡ finmap.get keyed k → IfNone r ((born : ℕ) → known_at (facts_of (seen m)) (record { table = t; key = k; born = born }) ≡ None)
   chain_none keyed None has is = λ born. nothing_known (seen m) (record { table = t; key = k; born = born }) (known_there m t (λ x. version_in x k born) keyed has ∙ ap (option_and_then (λ c. finmap.get c born)) (sym is))
   chain_none keyed (Some c) has is = tt
 
@@ -48,7 +48,7 @@ known_end f v = died_known (record { row = finmap.get f.rows v; died = finmap.ge
 
 -- ---- no tables
 
-pub stored_nothing : (q : VersionKey) → stored finmap.empty q ≡ None
+pub stored_nothing : (q : VersionKey) → stored_version finmap.empty q ≡ None
 stored_nothing q = ap (option_and_then (λ k. version_in k q.key q.born)) (finmap.get-empty nat_cmp q.table)
 
 pub nothing_seen : {X : Type 0} (m : BTreeMap ℕ X) → m.entries ≡ [] → finmap.empty ≡ seen m
@@ -65,11 +65,11 @@ module _ (fact : Fact) (m : TablesValue) (v : VersionKey) where
   kept_known (Err why) n ok err known = subst (λ (x : TablesValue). AllKnown x) (sym err) known
 
   pub fact_refused : {A : Type 0} (r : Result A Refusal)
-      → IfErr r (λ why. (put_by (λ k. keyed_put (or_empty k) v.key v.born fact) m v.table ≡ Err why) ⊎ ((why ≡ Memory) × (stored m v ≡ None)))
+      → IfErr r (λ why. (put_by (λ k. keyed_put (or_empty k) v.key v.born fact) m v.table ≡ Err why) ⊎ ((why ≡ Memory) × (stored_version m v ≡ None)))
       → IfErr r (λ why. (facts_put (facts_of m) v fact ≡ Err why) ⊎ ((why ≡ Memory) × (known_at (facts_of m) v ≡ None)))
   fact_refused r e = IfErr_map r (λ why. either) e
     where
-      either : {why : Refusal} → (put_by (λ k. keyed_put (or_empty k) v.key v.born fact) m v.table ≡ Err why) ⊎ ((why ≡ Memory) × (stored m v ≡ None)) → (facts_put (facts_of m) v fact ≡ Err why) ⊎ ((why ≡ Memory) × (known_at (facts_of m) v ≡ None))
+      either : {why : Refusal} → (put_by (λ k. keyed_put (or_empty k) v.key v.born fact) m v.table ≡ Err why) ⊎ ((why ≡ Memory) × (stored_version m v ≡ None)) → (facts_put (facts_of m) v fact ≡ Err why) ⊎ ((why ≡ Memory) × (known_at (facts_of m) v ≡ None))
       either {why} (inl is) = inl (facts_put_err fact m v why is)
       either {why} (inr is) = inr (is.0, nothing_known m v is.1)
 

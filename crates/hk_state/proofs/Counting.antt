@@ -19,7 +19,7 @@ use Rattle.hk_model.proofs.Writes.{In_filter, filter_In}
 use Rattle.hk_model.proofs.Visible.{T_both, get_entry}
 use Rattle.hk_model.proofs.Listed.{Rises, sorted_from, sorted_filter, same_sorted, In-filter_map, filter_map-In, map_In_pair}
 use Rattle.hk_facts.specs.Chains.{ChainValue, row_at}
-use Rattle.hk_facts.specs.Keyed.{KeyedValue}
+use Rattle.hk_facts.specs.TableChains.{TableChainsValue}
 use Rattle.hk_state.specs.Facts.{known_at}
 use Rattle.hk_state.specs.Reads.{chains_at}
 use Rattle.hk_state.proofs.Reading.{facts_in, row_found, row_missed}
@@ -93,7 +93,7 @@ module _ (c : Content) (table t : ℕ) where
       by None h = h
       by (Some r) h = ap suc h
 
-  module _ (keyed : KeyedValue) (has : (key : ℕ) (chain : ChainValue) → finmap.get keyed key ≡ Some chain → (born : ℕ) → finmap.get chain born ≡ known_at (facts_in c) (record { table = table; key = key; born = born }))
+  module _ (keyed : TableChainsValue) (has : (key : ℕ) (chain : ChainValue) → finmap.get keyed key ≡ Some chain → (born : ℕ) → finmap.get chain born ≡ known_at (facts_in c) (record { table = table; key = key; born = born }))
       (none : (key : ℕ) → finmap.get keyed key ≡ None → (born : ℕ) → known_at (facts_in c) (record { table = table; key = key; born = born }) ≡ None) where
     abbrev key_of : ℕ → RowKey
     key_of key = record { table = table; key = key }
@@ -116,8 +116,8 @@ module _ (c : Content) (table t : ℕ) where
             let seen : finmap.get (visible c t) k ≡ Some r = ap (finmap.get (visible c t)) p.0 ∙ sym (row_here w.0.0 w.0.1 got) ∙ p.1 in
             filter_In in_table (k, r) (finmap.entries (visible c t)) (In-find row_key_cmp row_key_total row_key_same k r (finmap.entries (visible c t)) (sym (finmap.get-entries (visible c t) k) ∙ seen)) (ap (λ q. q.table == table) p.0 ∙ eq-eqb table table refl)
 
-        differs : (r : RowValue) → ◌≡◌ {A = Option RowValue} None (Some r) → ⊥
-        differs r e = cc
+        has_conflict_with : (r : RowValue) → ◌≡◌ {A = Option RowValue} None (Some r) → ⊥
+        has_conflict_with r e = cc
 
         same_key : (k : RowKey) → k.table ≡ table → k ≡ key_of k.key
         same_key k e = λ i. record { table = e i; key = k.key }
@@ -127,7 +127,7 @@ module _ (c : Content) (table t : ℕ) where
             let row : row_at chain t ≡ Some r = row_here k.key chain h ∙ ap (finmap.get (visible c t)) (sym (same_key k e)) ∙ got in
             filter_map-In row_of_chain (k.key, chain) (k, r) (finmap.entries keyed) (In-find nat_cmp nat_cmp_total finmap.nat_cmp-IsAntisymmetric k.key chain (finmap.entries keyed) (sym (finmap.get-entries keyed k.key) ∙ h))
             (ap (option_map {U = RowKey × RowValue} (λ r. (key_of k.key, r))) row ∙ (λ i. Some (sym (same_key k e) i, r)))
-        by k r e got None h = absurd (differs r (row_missed c (key_of k.key) t (none k.key h) ∙ ap (finmap.get (visible c t)) (sym (same_key k e)) ∙ got))
+        by k r e got None h = absurd (has_conflict_with r (row_missed c (key_of k.key) t (none k.key h) ∙ ap (finmap.get (visible c t)) (sym (same_key k e)) ∙ got))
 
         back : (k : RowKey) (r : RowValue) → In (k, r) (filter in_table (finmap.entries (visible c t))) → In (k, r) (filter_map row_of_chain (finmap.entries keyed))
         back k r i =
@@ -142,10 +142,10 @@ module _ (c : Content) (table t : ℕ) where
 pub none_counted : (c : Content) (table t : ℕ) → ((key born : ℕ) → known_at (facts_in c) (record { table = table; key = key; born = born }) ≡ None) → 0 ≡ length (rows_where (λ k row. k.table == table) (visible c t))
 none_counted c table t none =
     sym (ap (λ (es : List (ℕ × ChainValue)). length (filter (λ e. is_some (row_at e.1 t)) es)) (no_entries (finmap.entries (finmap.empty {X = ChainValue} {R = nat_cmp})) (sym (finmap.len-entries (finmap.empty {X = ChainValue} {R = nat_cmp})) ∙ finmap.len-empty nat_cmp ChainValue)))
-    ∙ chains_counted c table t finmap.empty (λ key chain e. absurd (differs chain (sym (finmap.get-empty nat_cmp key) ∙ e))) (λ key e born. none key born)
+    ∙ chains_counted c table t finmap.empty (λ key chain e. absurd (has_conflict_with chain (sym (finmap.get-empty nat_cmp key) ∙ e))) (λ key e born. none key born)
   where
-    differs : (chain : ChainValue) → ◌≡◌ {A = Option ChainValue} None (Some chain) → ⊥
-    differs chain e = cc
+    has_conflict_with : (chain : ChainValue) → ◌≡◌ {A = Option ChainValue} None (Some chain) → ⊥
+    has_conflict_with chain e = cc
 
     no_entries : {X : Type 0} (es : List X) → length es ≡ 0 → es ≡ []
     no_entries [] e = refl

@@ -12,8 +12,8 @@ use Rattle.hk_model.specs.Content.{at_most, ended_by}
 use Rattle.hk_model.proofs.Maps.{version_key_total}
 use Rattle.hk_facts.specs.Facts.{died_of}
 use Rattle.hk_facts.specs.Chains.{ChainValue}
-use Rattle.hk_facts.specs.Keyed.{KeyedValue}
-use Rattle.hk_state.specs.Facts.{TablesValue, stored, facts_of, entry_if, read_all}
+use Rattle.hk_facts.specs.TableChains.{TableChainsValue}
+use Rattle.hk_state.specs.Facts.{TablesValue, stored_version, facts_of, entry_if, read_all}
 use Rattle.hk_state.specs.Drops.{is_among, end_by, ended_of_chain, ended_of_keyed}
 use Rattle.hk_state.proofs.Stored.{get_read, get_end}
 
@@ -39,13 +39,13 @@ ended_listed tables h q =
     ap (λ l. list_any (eq_by_cmp version_key_cmp q) l) (flat_alike _ _ (λ t. keyed t.0 t.1) (finmap.entries tables) ∙ map_flat key_of _ (finmap.entries tables))
     ∙ sym (is_some-find version_key_cmp q (read_all (end_by h) tables))
     ∙ ap is_some (sym (finmap.get-from_entries version_key_total (read_all (end_by h) tables) q) ∙ get_read (end_by h) q tables)
-    ∙ each (stored tables q)
+    ∙ each (stored_version tables q)
     ∙ ap (at_most h) (sym (get_end tables q))
   where
     chain : (t k : ℕ) (c : ChainValue) → ended_of_chain h t k c ≡ map key_of (flat_map (λ v. entry_if (record { table = t; key = k; born = v.0 }) (end_by h v.1)) (finmap.entries c))
     chain t k c = map_flat key_of (λ v. entry_if (record { table = t; key = k; born = v.0 }) (end_by h v.1)) (finmap.entries c)
 
-    keyed : (t : ℕ) (m : KeyedValue) → ended_of_keyed h t m ≡ map key_of (flat_map (λ k. flat_map (λ v. entry_if (record { table = t; key = k.0; born = v.0 }) (end_by h v.1)) (finmap.entries k.1)) (finmap.entries m))
+    keyed : (t : ℕ) (m : TableChainsValue) → ended_of_keyed h t m ≡ map key_of (flat_map (λ k. flat_map (λ v. entry_if (record { table = t; key = k.0; born = v.0 }) (end_by h v.1)) (finmap.entries k.1)) (finmap.entries m))
     keyed t m = flat_alike (λ k. ended_of_chain h t k.0 k.1) (λ k. map key_of (flat_map (λ v. entry_if (record { table = t; key = k.0; born = v.0 }) (end_by h v.1)) (finmap.entries k.1))) (λ k. chain t k.0 k.1) (finmap.entries m) ∙ map_flat key_of (λ k. flat_map (λ v. entry_if (record { table = t; key = k.0; born = v.0 }) (end_by h v.1)) (finmap.entries k.1)) (finmap.entries m)
 
     test : (b : Bool) (d : ℕ) → is_some (cond b (Some d) None) ≡ b

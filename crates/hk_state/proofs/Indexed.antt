@@ -13,13 +13,13 @@ use Rattle.hk_model.specs.Rows.{version_key_cmp}
 use Rattle.hk_model.specs.Maps.{or_else}
 use Rattle.hk_model.proofs.Maps.{version_key_total}
 use Rattle.hk_index.specs.Tagged.{TaggedVersion, tagged_cmp}
-use Rattle.hk_index.proofs.Labels.{tagged_total, tied_parts}
+use Rattle.hk_index.proofs.TagKeys.{tagged_total, tied_parts}
 use Rattle.hk_facts.specs.declared.fact.Fact.{Fact}
 use Rattle.hk_facts.specs.declared.fact.Fact.TheVariants.{Row, End}
 use Rattle.hk_facts.specs.declared.fact.Part.{Part}
 use Rattle.hk_facts.specs.declared.fact.Part.TheVariants.{Row as RowPart, End as EndPart, Whole}
 use Rattle.hk_facts.specs.Facts.{if_known}
-use Rattle.hk_state.specs.Facts.{FactsValue, no_facts, known_at, with_fact_at, facts_put, facts_without, clashes_at}
+use Rattle.hk_state.specs.Facts.{FactsValue, no_facts, known_at, with_fact_at, facts_put, facts_without, conflicts_at}
 use Rattle.hk_state.specs.Indexed.{is_tagged, has_fact, AreTagged, AreKeyed, AreIndexed, tag_lost}
 use Rattle.hk_state.proofs.Stored.{tied, key_tied}
 use Rattle.hk_state.proofs.Changed.{get-added, get-without, tied_is}
@@ -143,10 +143,10 @@ module _ (f : FactsValue) (tags : Tags) (is : AreTagged f tags) (v : VersionKey)
   pub part_gone : (part : Part) (tag : ℕ) → tag_lost f v part ≡ Some tag → AreTagged (facts_without f v part) (set.remove tags (at_tag tag v))
   part_gone RowPart tag e = row_gone tag (had tag (finmap.get f.rows v) e) (facts_without f v RowPart) (λ q. get-without f.rows v q)
   part_gone Whole tag e = row_gone tag (had tag (finmap.get f.rows v) e) (facts_without f v Whole) (λ q. get-without f.rows v q)
-  part_gone EndPart tag e = absurd (differs e)
+  part_gone EndPart tag e = absurd (has_conflict_with e)
     where
-      differs : ◌≡◌ {A = Option ℕ} None (Some tag) → ⊥
-      differs e = cc
+      has_conflict_with : ◌≡◌ {A = Option ℕ} None (Some tag) → ⊥
+      has_conflict_with e = cc
 
   pub part_rowless : (part : Part) → tag_lost f v part ≡ None → AreTagged (facts_without f v part) tags
   part_rowless RowPart e = none_gone (no_row (finmap.get f.rows v) e) (facts_without f v RowPart) (λ q. get-without f.rows v q)
@@ -286,7 +286,7 @@ module _ (f : FactsValue) (keys : Keys) (is : AreKeyed f keys) (v : VersionKey) 
 
 -- what a put leaves
 pub put_is : (f g : FactsValue) (v : VersionKey) (fact : Fact) → facts_put f v fact ≡ Ok g → g ≡ with_fact_at f v fact
-put_is f g v fact e = go (clashes_at f v fact) (with_fact_at f v fact) e
+put_is f g v fact e = go (conflicts_at f v fact) (with_fact_at f v fact) e
   where
     go : (b : Bool) (w : FactsValue) → cond b (Err Conflict) (Ok w) ≡ Ok g → g ≡ w
     go true w e = cc

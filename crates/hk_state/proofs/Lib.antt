@@ -3,7 +3,7 @@ pub mod Changed
 pub mod ByTable
 pub mod Undone
 pub mod Replicas
-pub mod Contradicts
+pub mod Conflicts
 pub mod Listed
 pub mod Absorbing
 pub mod Ended

@@ -1,4 +1,4 @@
--- A contradiction of an entry is found by a walk over its lists.
+-- A conflict of an entry is found by a walk over its lists.
 use Rattle.std.proofs.Common.{◌≡◌, refl, sym, ap, ◌∙◌, ℕ, Bool, true, false, cond, ◌&&◌, ◌||◌, ◌==◌, nat_lt, T, Option, Some, None, List, [], ◌∷◌, ◌++◌, map, nat_cmp, is_eq, is_lt, Ordering, Less, Equal, Greater, arith}
 use Rattle.std.proofs.lemmas.Bool.Decides.{nat_tests}
 use Rattle.std.specs.Cmp.{tied_itself, first_so, second_so}
@@ -12,10 +12,10 @@ use Rattle.hk_types.specs.declared.version_key.VersionKey.{VersionKey}
 use Rattle.hk_log.specs.Items.{EntryValue, is_before, rise_after, end_place, row_place}
 use Rattle.hk_log.specs.declared.item.Item.TheVariants.{Commit}
 use Rattle.hk_model.specs.Rows.{version_key_cmp}
-use Rattle.hk_model.specs.Maps.{differ, contradict}
-use Rattle.hk_model.specs.Facts.{inserted, rows_of, ends_of}
+use Rattle.hk_model.specs.Maps.{values_conflict, maps_conflict}
+use Rattle.hk_model.specs.Facts.{inserted_version, rows_of, ends_of}
 use Rattle.hk_model.proofs.Maps.{version_key_total, version_key_same}
-use Rattle.hk_state.proofs.Contradicts.{contradict_over}
+use Rattle.hk_state.proofs.Conflicts.{maps_conflict_over}
 
 firstT : (a b : Bool) → T (a && b) → T a
 firstT true b t = tt
@@ -94,14 +94,14 @@ nothing_more [] = refl
 nothing_more (x ∷ xs) = ap (λ ys. x ∷ ys) (nothing_more xs)
 
 module _ {A X : Type 0} (alike : X → X → Bool) (m : finmap.FinMap version_key_cmp X) (f : A → VersionKey × X) where
-  listed : (xs : List A) → T (is_sorted version_key_cmp (map f xs)) → contradict alike m (finmap.from_entries (map f xs ++ [])) ≡ list_any (λ x. differ alike (finmap.get m (f x).0) (Some (f x).1)) xs
+  listed : (xs : List A) → T (is_sorted version_key_cmp (map f xs)) → maps_conflict alike m (finmap.from_entries (map f xs ++ [])) ≡ list_any (λ x. values_conflict alike (finmap.get m (f x).0) (Some (f x).1)) xs
   listed xs s =
-      ap (λ es. contradict alike m (finmap.from_entries es)) (nothing_more (map f xs))
-      ∙ contradict_over version_key_total version_key_same alike m n (finmap.keys n) (finmap.contains_key-keys n)
-      ∙ any_alike _ _ (λ k. ap (λ o. differ alike (finmap.get m k) o) (finmap.get-from_entries version_key_total (map f xs) k)) (finmap.keys n)
-      ∙ ap (λ es. list_any (λ k. differ alike (finmap.get m k) (find version_key_cmp k (map f xs))) (map (λ x. x.0) es)) same
-      ∙ any_entry (λ k o. differ alike (finmap.get m k) o) (map f xs) s
-      ∙ any_map (λ e. differ alike (finmap.get m e.0) (Some e.1)) f xs
+      ap (λ es. maps_conflict alike m (finmap.from_entries es)) (nothing_more (map f xs))
+      ∙ maps_conflict_over version_key_total version_key_same alike m n (finmap.keys n) (finmap.contains_key-keys n)
+      ∙ any_alike _ _ (λ k. ap (λ o. values_conflict alike (finmap.get m k) o) (finmap.get-from_entries version_key_total (map f xs) k)) (finmap.keys n)
+      ∙ ap (λ es. list_any (λ k. values_conflict alike (finmap.get m k) (find version_key_cmp k (map f xs))) (map (λ x. x.0) es)) same
+      ∙ any_entry (λ k o. values_conflict alike (finmap.get m k) o) (map f xs) s
+      ∙ any_map (λ e. values_conflict alike (finmap.get m e.0) (Some e.1)) f xs
     where
       n : finmap.FinMap version_key_cmp X
       n = finmap.from_entries (map f xs)
@@ -110,17 +110,17 @@ module _ {A X : Type 0} (alike : X → X → Bool) (m : finmap.FinMap version_ke
       same = same_entries version_key_cmp version_key_total version_key_same (finmap.entries (finmap.from_entries (map f xs))) (map f xs) (finmap.entries_sorted (finmap.from_entries (map f xs))) s
           (λ q. sym (finmap.get-entries (finmap.from_entries (map f xs)) q) ∙ finmap.get-from_entries version_key_total (map f xs) q)
 
-pub rows_listed : (m : finmap.FinMap version_key_cmp RowValue) (e : EntryValue) → rise_after None (map row_place e.rows) ≡ true → contradict same_row m (rows_of (Commit e ∷ [])) ≡ list_any (λ r. differ same_row (finmap.get m (inserted e.time r).0) (Some r.2)) e.rows
-rows_listed m e rise = listed same_row m (inserted e.time) e.rows (sorted_after (inserted e.time) row_place (λ a b h. before_less a.0 a.1 b.0 b.1 e.time e.time h) None e.rows rise)
+pub rows_listed : (m : finmap.FinMap version_key_cmp RowValue) (e : EntryValue) → rise_after None (map row_place e.rows) ≡ true → maps_conflict same_row m (rows_of (Commit e ∷ [])) ≡ list_any (λ r. values_conflict same_row (finmap.get m (inserted_version e.time r).0) (Some r.2)) e.rows
+rows_listed m e rise = listed same_row m (inserted_version e.time) e.rows (sorted_after (inserted_version e.time) row_place (λ a b h. before_less a.0 a.1 b.0 b.1 e.time e.time h) None e.rows rise)
 
-pub ends_listed : (m : finmap.FinMap version_key_cmp ℕ) (e : EntryValue) → rise_after None (map end_place e.ends) ≡ true → contradict (λ a b. a == b) m (ends_of (Commit e ∷ [])) ≡ list_any (λ v. differ (λ a b. a == b) (finmap.get m v) (Some e.time)) e.ends
+pub ends_listed : (m : finmap.FinMap version_key_cmp ℕ) (e : EntryValue) → rise_after None (map end_place e.ends) ≡ true → maps_conflict (λ a b. a == b) m (ends_of (Commit e ∷ [])) ≡ list_any (λ v. values_conflict (λ a b. a == b) (finmap.get m v) (Some e.time)) e.ends
 ends_listed m e rise = listed (λ a b. a == b) m (λ v. (v, e.time)) e.ends (sorted_after (λ v. (v, e.time)) end_place (λ a b h. before_less a.table a.key b.table b.key a.born b.born h) None e.ends rise)
 
-pub row_dispute : (m : finmap.FinMap version_key_cmp RowValue) (e : EntryValue) (rows : List (ℕ × ℕ × RowValue)) (t : ℕ) (b : Bool) → rise_after None (map row_place e.rows) ≡ true → rows ≡ e.rows → t ≡ e.time → b ≡ list_any (λ r. differ same_row (finmap.get m (inserted t r).0) (Some r.2)) rows → b ≡ contradict same_row m (rows_of (Commit e ∷ []))
-row_dispute m e rows t b rise is at found = found ∙ (λ i. list_any (λ r. differ same_row (finmap.get m (inserted (at i) r).0) (Some r.2)) (is i)) ∙ sym (rows_listed m e rise)
+pub row_conflict : (m : finmap.FinMap version_key_cmp RowValue) (e : EntryValue) (rows : List (ℕ × ℕ × RowValue)) (t : ℕ) (b : Bool) → rise_after None (map row_place e.rows) ≡ true → rows ≡ e.rows → t ≡ e.time → b ≡ list_any (λ r. values_conflict same_row (finmap.get m (inserted_version t r).0) (Some r.2)) rows → b ≡ maps_conflict same_row m (rows_of (Commit e ∷ []))
+row_conflict m e rows t b rise is at found = found ∙ (λ i. list_any (λ r. values_conflict same_row (finmap.get m (inserted_version (at i) r).0) (Some r.2)) (is i)) ∙ sym (rows_listed m e rise)
 
-pub end_dispute : (m : finmap.FinMap version_key_cmp ℕ) (e : EntryValue) (ends : List VersionKey) (t : ℕ) (b : Bool) → rise_after None (map end_place e.ends) ≡ true → ends ≡ e.ends → t ≡ e.time → b ≡ list_any (λ v. differ (λ a b. a == b) (finmap.get m v) (Some t)) ends → b ≡ contradict (λ a b. a == b) m (ends_of (Commit e ∷ []))
-end_dispute m e ends t b rise is at found = found ∙ (λ i. list_any (λ v. differ (λ a b. a == b) (finmap.get m v) (Some (at i))) (is i)) ∙ sym (ends_listed m e rise)
+pub end_conflict : (m : finmap.FinMap version_key_cmp ℕ) (e : EntryValue) (ends : List VersionKey) (t : ℕ) (b : Bool) → rise_after None (map end_place e.ends) ≡ true → ends ≡ e.ends → t ≡ e.time → b ≡ list_any (λ v. values_conflict (λ a b. a == b) (finmap.get m v) (Some t)) ends → b ≡ maps_conflict (λ a b. a == b) m (ends_of (Commit e ∷ []))
+end_conflict m e ends t b rise is at found = found ∙ (λ i. list_any (λ v. values_conflict (λ a b. a == b) (finmap.get m v) (Some (at i))) (is i)) ∙ sym (ends_listed m e rise)
 
 pub found_first : (r x y : Bool) → r ≡ x → r ≡ true → r ≡ (x || y)
 found_first r x y is t = t ∙ ap (λ b. b || y) (sym t ∙ is)

@@ -31,10 +31,10 @@ module _ (c : Content) (k : RowKey) where
   no_row born e = sym (known_row (facts_in c) (version_of k born)) ∙ ap row_of e
 
   pub row_missed : (t : ℕ) → ((born : ℕ) → known_at (facts_in c) (version_of k born) ≡ None) → None ≡ finmap.get (visible c t) k
-  row_missed t none = sym (none_visible c t k (λ born r here. absurd (differs r (sym (no_row born (none born)) ∙ here))))
+  row_missed t none = sym (none_visible c t k (λ born r here. absurd (has_conflict_with r (sym (no_row born (none born)) ∙ here))))
     where
-      differs : (r : RowValue) → ◌≡◌ {A = Option RowValue} None (Some r) → ⊥
-      differs r e = cc
+      has_conflict_with : (r : RowValue) → ◌≡◌ {A = Option RowValue} None (Some r) → ⊥
+      has_conflict_with r e = cc
 
   pub none_shown : (t born : ℕ) → ((born : ℕ) → known_at (facts_in c) (version_of k born) ≡ None) → None ≡ row_shown c t (version_of k born)
   none_shown t born none = either (shows c t (version_of k born)) ∙ ap (λ o. cond (shows c t (version_of k born)) o None) (sym (no_row born (none born)))

@@ -12,7 +12,7 @@ use Rattle.hk_model.specs.Maps.{or_else, union}
 use Rattle.hk_model.proofs.Maps.{version_key_total, version_key_same, get-retain, get-union}
 use Rattle.hk_state.specs.Facts.{FactsValue}
 use Rattle.hk_state.specs.Drops.{is_among, without_all}
-use Rattle.hk_state.specs.Changes.{with_listed, replaced, meets}
+use Rattle.hk_state.specs.Changes.{with_listed, facts_after_replace, meets}
 use Rattle.hk_state.proofs.Stored.{key_tied}
 use Rattle.hk_state.proofs.Changed.{same_facts, tied_is}
 
@@ -44,10 +44,10 @@ module _ {X : Type 0} (drops : List VersionKey) where
       either true e = sym (none_listed es apart q e)
       either false e = refl
 
-pub replaced_apart : (f : FactsValue) (drops : List VersionKey) (rows : List (VersionKey × RowValue)) (ends : List (VersionKey × ℕ)) → meets drops rows ends ≡ false → without_all (with_listed f rows ends) drops ≡ replaced f drops rows ends
+pub replaced_apart : (f : FactsValue) (drops : List VersionKey) (rows : List (VersionKey × RowValue)) (ends : List (VersionKey × ℕ)) → meets drops rows ends ≡ false → without_all (with_listed f rows ends) drops ≡ facts_after_replace f drops rows ends
 replaced_apart f drops rows ends apart =
     let parts = neither (list_any (λ r. is_among drops r.0) rows) (list_any (λ e. is_among drops e.0) ends) apart in
-    same_facts (without_all (with_listed f rows ends) drops) (replaced f drops rows ends) (listed_later drops f.rows rows parts.0) (listed_later drops f.ends ends parts.1)
+    same_facts (without_all (with_listed f rows ends) drops) (facts_after_replace f drops rows ends) (listed_later drops f.rows rows parts.0) (listed_later drops f.ends ends parts.1)
 
 among_any : {X : Type 0} (drops : List VersionKey) (es : List (VersionKey × X)) → list_any (λ e. set.contains (set.from_list {R = version_key_cmp} drops) e.0) es ≡ list_any (λ e. is_among drops e.0) es
 among_any drops [] = refl

@@ -3,17 +3,17 @@ use Rattle.std.proofs.Common.{◌≡◌, refl, sym, subst, ℕ, List, [], length
 use Rattle.std.proofs.lemmas.List.{length-replicate}
 use Rattle.hk_types.specs.Values.{ConfigValue}
 use Rattle.hk_model.specs.Content.{Content, readable}
-use Rattle.hk_model.specs.Canon.{canon}
+use Rattle.hk_model.specs.ContentOf.{content_of}
 use Rattle.hk_model.specs.Lawful.{IsLawful}
 use Rattle.hk_model.specs.Streams.{unknown}
-use Rattle.hk_model.specs.Replicas.{nothing}
-use Rattle.hk_model.proofs.Lawful.{canon_lawful}
-use Rattle.hk_model.proofs.Laws.{nothing_canon}
+use Rattle.hk_model.specs.Replicas.{empty_content}
+use Rattle.hk_model.proofs.Lawful.{content_of_lawful}
+use Rattle.hk_model.proofs.Laws.{nothing_content_of}
 use Rattle.hk_state.specs.Facts.{no_facts}
-use Rattle.hk_state.specs.Replica.{content_of, IsReplica}
+use Rattle.hk_state.specs.Replica.{content_of_parts, IsReplica}
 
-pub nothing_lawful : (config : ConfigValue) → IsLawful (nothing config)
-nothing_lawful config = subst IsLawful (sym (nothing_canon config)) (canon_lawful config [] 0 (λ e i. elim i [ ]) (omega arith))
+pub nothing_lawful : (config : ConfigValue) → IsLawful (empty_content config)
+nothing_lawful config = subst IsLawful (sym (nothing_content_of config)) (content_of_lawful config [] 0 (λ e i. elim i [ ]) (omega arith))
 
 pub new_replica : (config : ConfigValue) → IsReplica config 0 no_facts (replicate config.streams unknown)
 new_replica config = record { as_many = length-replicate config.streams unknown; lawful = nothing_lawful config }

@@ -14,8 +14,8 @@ use Rattle.hk_model.specs.Maps.{or_else}
 use Rattle.hk_model.proofs.Maps.{version_key_total, find-append}
 use Rattle.hk_facts.specs.Facts.{row_of, died_of, if_known}
 use Rattle.hk_facts.specs.Chains.{ChainValue}
-use Rattle.hk_facts.specs.Keyed.{KeyedValue, version_in}
-use Rattle.hk_state.specs.Facts.{TablesValue, stored, entry_if, read_all, facts_of, known_at, AllKnown}
+use Rattle.hk_facts.specs.TableChains.{TableChainsValue, version_in}
+use Rattle.hk_state.specs.Facts.{TablesValue, stored_version, entry_if, read_all, facts_of, known_at, AllKnown}
 
 firstT : (a b : Bool) → T (a && b) → T a
 firstT true b t = tt
@@ -94,7 +94,7 @@ module _ {Y : Type 0} (read : VersionValue → Option Y) (q : VersionKey) where
       assoc true y z = refl
       assoc false y z = refl
 
-  in_keyed : (t : ℕ) (m : KeyedValue) → find version_key_cmp q (flat_map (λ k. flat_map (λ v. entry_if (record { table = t; key = k.0; born = v.0 }) (read v.1)) (finmap.entries k.1)) (finmap.entries m))
+  in_keyed : (t : ℕ) (m : TableChainsValue) → find version_key_cmp q (flat_map (λ k. flat_map (λ v. entry_if (record { table = t; key = k.0; born = v.0 }) (read v.1)) (finmap.entries k.1)) (finmap.entries m))
       ≡ cond (eq_by_cmp nat_cmp q.table t) (option_and_then (λ c. option_and_then read (finmap.get c q.born)) (finmap.get m q.key)) None
   in_keyed t m =
       find_flat version_key_cmp q q.key _ (λ c. option_and_then read (finmap.get c q.born)) (eq_by_cmp nat_cmp q.table t) (λ k. in_chain t k.0 k.1) (finmap.entries m) (finmap.entries_sorted m)
@@ -104,7 +104,7 @@ module _ {Y : Type 0} (read : VersionValue → Option Y) (q : VersionKey) where
   joins f g None = refl
   joins f g (Some a) = refl
 
-  pub get_read : (tables : TablesValue) → finmap.get (finmap.from_entries {R = version_key_cmp} (read_all read tables)) q ≡ option_and_then read (stored tables q)
+  pub get_read : (tables : TablesValue) → finmap.get (finmap.from_entries {R = version_key_cmp} (read_all read tables)) q ≡ option_and_then read (stored_version tables q)
   get_read tables =
       finmap.get-from_entries version_key_total (read_all read tables) q
       ∙ find_flat version_key_cmp q q.table _ (λ m. option_and_then (λ c. option_and_then read (finmap.get c q.born)) (finmap.get m q.key)) true (λ t. in_keyed t.0 t.1) (finmap.entries tables) (finmap.entries_sorted tables)
@@ -112,33 +112,33 @@ module _ {Y : Type 0} (read : VersionValue → Option Y) (q : VersionKey) where
       ∙ inner (finmap.get tables q.table)
       ∙ joins (λ m. version_in m q.key q.born) read (finmap.get tables q.table)
     where
-      inner : (x : Option KeyedValue) → option_and_then (λ m. option_and_then (λ c. option_and_then read (finmap.get c q.born)) (finmap.get m q.key)) x ≡ option_and_then (λ m. option_and_then read (version_in m q.key q.born)) x
+      inner : (x : Option TableChainsValue) → option_and_then (λ m. option_and_then (λ c. option_and_then read (finmap.get c q.born)) (finmap.get m q.key)) x ≡ option_and_then (λ m. option_and_then read (version_in m q.key q.born)) x
       inner None = refl
       inner (Some m) = joins (λ c. finmap.get c q.born) read (finmap.get m q.key)
 
-pub get_row : (tables : TablesValue) (q : VersionKey) → finmap.get (facts_of tables).rows q ≡ row_of (stored tables q)
-get_row tables q = get_read (λ v. v.row) q tables ∙ is (stored tables q)
+pub get_row : (tables : TablesValue) (q : VersionKey) → finmap.get (facts_of tables).rows q ≡ row_of (stored_version tables q)
+get_row tables q = get_read (λ v. v.row) q tables ∙ is (stored_version tables q)
   where
     is : (x : Option VersionValue) → option_and_then (λ v. v.row) x ≡ row_of x
     is None = refl
     is (Some v) = refl
 
-pub get_end : (tables : TablesValue) (q : VersionKey) → finmap.get (facts_of tables).ends q ≡ died_of (stored tables q)
-get_end tables q = get_read (λ v. v.died) q tables ∙ is (stored tables q)
+pub get_end : (tables : TablesValue) (q : VersionKey) → finmap.get (facts_of tables).ends q ≡ died_of (stored_version tables q)
+get_end tables q = get_read (λ v. v.died) q tables ∙ is (stored_version tables q)
   where
     is : (x : Option VersionValue) → option_and_then (λ v. v.died) x ≡ died_of x
     is None = refl
     is (Some v) = refl
 
 -- what is known is what is stored
-pub known_stored : (tables : TablesValue) → AllKnown tables → (q : VersionKey) → known_at (facts_of tables) q ≡ stored tables q
+pub known_stored : (tables : TablesValue) → AllKnown tables → (q : VersionKey) → known_at (facts_of tables) q ≡ stored_version tables q
 known_stored tables known q =
     (λ i. if_known (record { row = get_row tables q i; died = get_end tables q i }))
-    ∙ each (stored tables q) (λ v e. known q v e)
+    ∙ each (stored_version tables q) (λ v e. known q v e)
   where
     each : (x : Option VersionValue) → ((v : VersionValue) → x ≡ Some v → is_known v ≡ true) → if_known (record { row = row_of x; died = died_of x }) ≡ x
     each None k = refl
     each (Some v) k = ap (λ b. cond b (Some v) None) (k v refl)
 
-pub nothing_known : (tables : TablesValue) (q : VersionKey) → stored tables q ≡ None → known_at (facts_of tables) q ≡ None
+pub nothing_known : (tables : TablesValue) (q : VersionKey) → stored_version tables q ≡ None → known_at (facts_of tables) q ≡ None
 nothing_known tables q none = (λ i. if_known (record { row = get_row tables q i; died = get_end tables q i })) ∙ ap (λ x. if_known (record { row = row_of x; died = died_of x })) none

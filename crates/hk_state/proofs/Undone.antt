@@ -9,21 +9,21 @@ use Rattle.hk_types.specs.declared.version_key.VersionKey.{VersionKey}
 use Rattle.hk_types.specs.declared.faults.Refusal.{Refusal}
 use Rattle.hk_types.specs.declared.faults.Refusal.TheVariants.{Conflict}
 use Rattle.hk_model.specs.Rows.{version_key_cmp}
-use Rattle.hk_model.specs.Maps.{or_else, union, differ}
+use Rattle.hk_model.specs.Maps.{or_else, union, values_conflict}
 use Rattle.hk_model.proofs.Maps.{version_key_total, version_key_same, find-append, get-union}
 use Rattle.hk_facts.specs.declared.fact.Fact.{Fact}
 use Rattle.hk_facts.specs.declared.fact.Fact.TheVariants.{Row, End}
 use Rattle.hk_facts.specs.declared.fact.Part.{Part}
 use Rattle.hk_facts.specs.declared.fact.Part.TheVariants.{Row as RowPart, End as EndPart}
-use Rattle.hk_state.specs.Facts.{FactsValue, added, with_fact_at, facts_put, facts_without}
+use Rattle.hk_state.specs.Facts.{FactsValue, with_added, with_fact_at, facts_put, facts_without}
 use Rattle.hk_state.specs.Indexed.{IsNew}
-use Rattle.hk_state.specs.Journal.{undone}
+use Rattle.hk_state.specs.Journal.{without_journal}
 use Rattle.hk_state.proofs.Stored.{tied, key_tied}
-use Rattle.hk_state.proofs.Changed.{get-added, get-without, tied_is}
+use Rattle.hk_state.proofs.Changed.{get-with_added, get-without, tied_is}
 
 -- ---- a longer journal
 
-pub undone_push : (js : List (VersionKey × Part)) (v : VersionKey) (part : Part) (f : FactsValue) → undone (js ++ (v, part) ∷ []) f ≡ undone js (facts_without f v part)
+pub undone_push : (js : List (VersionKey × Part)) (v : VersionKey) (part : Part) (f : FactsValue) → without_journal (js ++ (v, part) ∷ []) f ≡ without_journal js (facts_without f v part)
 undone_push [] v part f = refl
 undone_push (j ∷ js) v part f = ap (λ g. facts_without g j.0 j.1) (undone_push js v part f)
 
@@ -37,8 +37,8 @@ module _ {X : Type 0} (m : finmap.FinMap version_key_cmp X) (v : VersionKey) (no
       here q true t = sym (ap (finmap.get m) (tied_is q v t) ∙ none)
       here q false t = refl
 
-  remove_added : (x : X) → finmap.remove (added m v x) v ≡ m
-  remove_added x = finmap.same_map version_key_total version_key_same _ _ (λ q. get-without (added m v x) v q ∙ ap (cond (tied q v) None) (get-added m v x q) ∙ here q (tied q v) refl)
+  remove_added : (x : X) → finmap.remove (with_added m v x) v ≡ m
+  remove_added x = finmap.same_map version_key_total version_key_same _ _ (λ q. get-without (with_added m v x) v q ∙ ap (cond (tied q v) None) (get-with_added m v x q) ∙ here q (tied q v) refl)
     where
       here : (q : VersionKey) (b : Bool) → tied q v ≡ b → cond b None (cond b (or_else (finmap.get m v) (Some x)) (finmap.get m q)) ≡ finmap.get m q
       here q true t = sym (ap (finmap.get m) (tied_is q v t) ∙ none)
@@ -57,8 +57,8 @@ without_new f v (Row row) none = ap (λ m. record { rows = m; ends = f.ends }) (
 without_new f v (End died) none = ap (λ m. record { rows = f.rows; ends = m }) (remove_added f.ends v none died)
 
 open_put : (f : FactsValue) (v : VersionKey) (fact : Fact) → IsNew f v fact → facts_put f v fact ≡ Ok (with_fact_at f v fact)
-open_put f v (Row row) none = ap (λ o. cond (differ same_row o (Some row)) (Err Conflict) (Ok (with_fact_at f v (Row row)))) none
-open_put f v (End died) none = ap (λ o. cond (differ (λ a b. a == b) o (Some died)) (Err Conflict) (Ok (with_fact_at f v (End died)))) none
+open_put f v (Row row) none = ap (λ o. cond (values_conflict same_row o (Some row)) (Err Conflict) (Ok (with_fact_at f v (Row row)))) none
+open_put f v (End died) none = ap (λ o. cond (values_conflict (λ a b. a == b) o (Some died)) (Err Conflict) (Ok (with_fact_at f v (End died)))) none
 
 inside : (x y : FactsValue) → ◌≡◌ {A = Result FactsValue Refusal} (Ok x) (Ok y) → y ≡ x
 inside x y e = cc
@@ -73,12 +73,12 @@ module _ {A : Type 0} (r : Result A Refusal) (f g : FactsValue) (v : VersionKey)
       cases (Ok a) is = inside (with_fact_at f v fact) g (sym (open_put f v fact free) ∙ is)
       cases (Err why) is = is
 
-  pub put_back : (js ks : List (VersionKey × Part)) → ks ≡ js ++ (v, part_of fact) ∷ [] → OnOk r (facts_put f v fact ≡ Ok g) → OnErr r (g ≡ f) → undone ks g ≡ undone js f
+  pub put_back : (js ks : List (VersionKey × Part)) → ks ≡ js ++ (v, part_of fact) ∷ [] → OnOk r (facts_put f v fact ≡ Ok g) → OnErr r (g ≡ f) → without_journal ks g ≡ without_journal js f
   put_back js ks noted is = cases r (put_open is)
     where
-      cases : (r : Result A Refusal) → OnOk r (g ≡ with_fact_at f v fact) → OnErr r (g ≡ f) → undone ks g ≡ undone js f
-      cases (Ok a) ok err = ap (λ l. undone l g) noted ∙ undone_push js v (part_of fact) g ∙ ap (λ h. undone js (facts_without h v (part_of fact))) ok ∙ ap (undone js) (without_new f v fact free)
-      cases (Err why) ok err = ap (λ l. undone l g) noted ∙ undone_push js v (part_of fact) g ∙ ap (λ h. undone js (facts_without h v (part_of fact))) err ∙ ap (undone js) (without_open f v fact free)
+      cases : (r : Result A Refusal) → OnOk r (g ≡ with_fact_at f v fact) → OnErr r (g ≡ f) → without_journal ks g ≡ without_journal js f
+      cases (Ok a) ok err = ap (λ l. without_journal l g) noted ∙ undone_push js v (part_of fact) g ∙ ap (λ h. without_journal js (facts_without h v (part_of fact))) ok ∙ ap (without_journal js) (without_new f v fact free)
+      cases (Err why) ok err = ap (λ l. without_journal l g) noted ∙ undone_push js v (part_of fact) g ∙ ap (λ h. without_journal js (facts_without h v (part_of fact))) err ∙ ap (without_journal js) (without_open f v fact free)
 
 pub none_there : {X Y : Type 0} (now : Y → X) (r : Option Y) (o : Option X) → option_map now r ≡ o → is_some r ≡ false → o ≡ None
 none_there now None o is e = sym is
@@ -108,9 +108,9 @@ module _ {X : Type 0} (m : finmap.FinMap version_key_cmp X) where
   get_union : (es : List (VersionKey × X)) (q : VersionKey) → finmap.get (union m (finmap.from_entries es)) q ≡ or_else (finmap.get m q) (find version_key_cmp q es)
   get_union es q = get-union version_key_total version_key_same m (finmap.from_entries es) q ∙ ap (or_else (finmap.get m q)) (finmap.get-from_entries version_key_total es q)
 
-  pub union_push : (es : List (VersionKey × X)) (v : VersionKey) (x : X) → added (union m (finmap.from_entries es)) v x ≡ union m (finmap.from_entries (es ++ (v, x) ∷ []))
+  pub union_push : (es : List (VersionKey × X)) (v : VersionKey) (x : X) → with_added (union m (finmap.from_entries es)) v x ≡ union m (finmap.from_entries (es ++ (v, x) ∷ []))
   union_push es v x = finmap.same_map version_key_total version_key_same _ _ (λ q.
-      get-added (union m (finmap.from_entries es)) v x q
+      get-with_added (union m (finmap.from_entries es)) v x q
       ∙ here q (tied q v) refl
       ∙ ap (λ o. or_else (finmap.get m q) o) (sym (find-append version_key_cmp q es ((v, x) ∷ []) ∙ ap (λ b. or_else (find version_key_cmp q es) (cond b (Some x) None)) (key_tied q v)))
       ∙ sym (get_union (es ++ (v, x) ∷ []) q))
@@ -132,16 +132,16 @@ map_push g [] x = refl
 map_push g (y ∷ ys) x = ap (λ zs. g y ∷ zs) (map_push g ys x)
 
 -- one more of a list
-pub add_more : {A X : Type 0} (g : A → VersionKey × X) (m now new : finmap.FinMap version_key_cmp X) (xs : List A) (i : ℕ) (x : A) → x ≡ get_or xs i x → i < length xs → now ≡ union m (finmap.from_entries (map g (take i xs))) → new ≡ added now (g x).0 (g x).1 → new ≡ union m (finmap.from_entries (map g (take (i + 1) xs)))
+pub add_more : {A X : Type 0} (g : A → VersionKey × X) (m now new : finmap.FinMap version_key_cmp X) (xs : List A) (i : ℕ) (x : A) → x ≡ get_or xs i x → i < length xs → now ≡ union m (finmap.from_entries (map g (take i xs))) → new ≡ with_added now (g x).0 (g x).1 → new ≡ union m (finmap.from_entries (map g (take (i + 1) xs)))
 add_more g m now new xs i x is below before one =
     one
-    ∙ ap (λ n. added n (g x).0 (g x).1) before
+    ∙ ap (λ n. with_added n (g x).0 (g x).1) before
     ∙ union_push m (map g (take i xs)) (g x).0 (g x).1
     ∙ ap (λ es. union m (finmap.from_entries es)) (sym (ap (map g) (take_more xs i x below ∙ ap (λ y. take i xs ++ y ∷ []) (sym is)) ∙ map_push g (take i xs) x))
 
-pub add_one : {X : Type 0} (m now new : finmap.FinMap version_key_cmp X) (es : List (VersionKey × X)) (i : ℕ) (e : VersionKey × X) → e ≡ get_or es i e → i < length es → now ≡ union m (finmap.from_entries (take i es)) → new ≡ added now e.0 e.1 → new ≡ union m (finmap.from_entries (take (i + 1) es))
+pub add_one : {X : Type 0} (m now new : finmap.FinMap version_key_cmp X) (es : List (VersionKey × X)) (i : ℕ) (e : VersionKey × X) → e ≡ get_or es i e → i < length es → now ≡ union m (finmap.from_entries (take i es)) → new ≡ with_added now e.0 e.1 → new ≡ union m (finmap.from_entries (take (i + 1) es))
 add_one m now new es i e is below before one =
     one
-    ∙ ap (λ n. added n e.0 e.1) before
+    ∙ ap (λ n. with_added n e.0 e.1) before
     ∙ union_push m (take i es) e.0 e.1
     ∙ ap (λ fs. union m (finmap.from_entries fs)) (sym (take_more es i e below ∙ ap (λ y. take i es ++ y ∷ []) (sym is)))

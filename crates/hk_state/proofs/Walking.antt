@@ -12,8 +12,8 @@ use Rattle.hk_types.specs.Values.{same_row}
 use Rattle.hk_types.specs.declared.version_key.VersionKey.{VersionKey}
 use Rattle.hk_log.specs.Versions.{VersionValue}
 use Rattle.hk_model.specs.Rows.{version_key_cmp}
-use Rattle.hk_model.specs.Maps.{differ}
-use Rattle.hk_model.specs.Rules.{disagree}
+use Rattle.hk_model.specs.Maps.{values_conflict}
+use Rattle.hk_model.specs.Rules.{contents_conflict}
 use Rattle.hk_model.proofs.Maps.{version_key_total, version_key_same}
 use Rattle.hk_index.specs.Listed.{Lists}
 use Rattle.hk_index.proofs.Sets.{any-filter}
@@ -21,11 +21,11 @@ use Rattle.hk_state.specs.Facts.{FactsValue, known_at}
 use Rattle.hk_state.specs.Indexed.{AreKeyed, has_fact}
 use Rattle.hk_state.specs.Drops.{is_among}
 use Rattle.hk_state.specs.Reads.{with_facts}
-use Rattle.hk_state.specs.Versions.{AreVersions, disagree_at, differs_at}
+use Rattle.hk_state.specs.Versions.{AreVersions, conflict_at, value_conflicts_at}
 use Rattle.hk_facts.specs.Facts.{row_of, died_of}
 use Rattle.hk_state.proofs.ByTable.{known_row, known_end}
 use Rattle.hk_state.proofs.Indexed.{known_fact}
-use Rattle.hk_state.proofs.Contradicts.{contradict_wide}
+use Rattle.hk_state.proofs.Conflicts.{maps_conflict_wide}
 
 module _ (f : FactsValue) where
   abbrev pub knows : VersionKey → Bool
@@ -94,23 +94,23 @@ or_right true b e = refl
 or_right false b e = e
 
 -- a disagreement is found by a walk over a list of the second's versions
-pub disagree_over : (f g : FactsValue) (ks : List VersionKey) → ((k : VersionKey) → is_among ks k ≡ has_fact g k) → list_any (disagree_at f g) ks ≡ disagree (with_facts f) (with_facts g)
-disagree_over f g ks among =
-    any_either (λ v. differ same_row (finmap.get f.rows v) (finmap.get g.rows v)) (λ v. differ (λ a b. a == b) (finmap.get f.ends v) (finmap.get g.ends v)) ks
-    ∙ (λ i. sym (contradict_wide version_key_total version_key_same same_row f.rows g.rows ks (λ k e. among k ∙ or_left (is_some (finmap.get g.rows k)) (is_some (finmap.get g.ends k)) e)) i
-    || sym (contradict_wide version_key_total version_key_same (λ a b. a == b) f.ends g.ends ks (λ k e. among k ∙ or_right (is_some (finmap.get g.rows k)) (is_some (finmap.get g.ends k)) e)) i)
+pub conflict_over : (f g : FactsValue) (ks : List VersionKey) → ((k : VersionKey) → is_among ks k ≡ has_fact g k) → list_any (conflict_at f g) ks ≡ contents_conflict (with_facts f) (with_facts g)
+conflict_over f g ks among =
+    any_either (λ v. values_conflict same_row (finmap.get f.rows v) (finmap.get g.rows v)) (λ v. values_conflict (λ a b. a == b) (finmap.get f.ends v) (finmap.get g.ends v)) ks
+    ∙ (λ i. sym (maps_conflict_wide version_key_total version_key_same same_row f.rows g.rows ks (λ k e. among k ∙ or_left (is_some (finmap.get g.rows k)) (is_some (finmap.get g.ends k)) e)) i
+    || sym (maps_conflict_wide version_key_total version_key_same (λ a b. a == b) f.ends g.ends ks (λ k e. among k ∙ or_right (is_some (finmap.get g.rows k)) (is_some (finmap.get g.ends k)) e)) i)
 
 -- and so by a walk over the second's index by key
-pub disagree_walked : (f g : FactsValue) (keys : set.FinSet version_key_cmp) (ks : List VersionKey) → AreKeyed g keys → Lists ks keys → list_any (disagree_at f g) ks ≡ disagree (with_facts f) (with_facts g)
-disagree_walked f g keys ks keyed lists = disagree_over f g ks (λ k. among_keys g keys ks keyed lists k ∙ known_fact g k)
+pub conflict_walked : (f g : FactsValue) (keys : set.FinSet version_key_cmp) (ks : List VersionKey) → AreKeyed g keys → Lists ks keys → list_any (conflict_at f g) ks ≡ contents_conflict (with_facts f) (with_facts g)
+conflict_walked f g keys ks keyed lists = conflict_over f g ks (λ k. among_keys g keys ks keyed lists k ∙ known_fact g k)
 
 -- or over a list of all versions
-pub disagree_listed : (f g : FactsValue) (es : List (VersionKey × VersionValue)) → AreVersions g es → list_any (λ e. differs_at f e.0 e.1) es ≡ disagree (with_facts f) (with_facts g)
-disagree_listed f g es are = each es are.known ∙ disagree_over f g (map (λ e. e.0) es) (λ k. sym (are.all k) ∙ known_fact g k)
+pub conflict_listed : (f g : FactsValue) (es : List (VersionKey × VersionValue)) → AreVersions g es → list_any (λ e. value_conflicts_at f e.0 e.1) es ≡ contents_conflict (with_facts f) (with_facts g)
+conflict_listed f g es are = each es are.known ∙ conflict_over f g (map (λ e. e.0) es) (λ k. sym (are.all k) ∙ known_fact g k)
   where
-    one : (e : VersionKey × VersionValue) → known_at g e.0 ≡ Some e.1 → differs_at f e.0 e.1 ≡ disagree_at f g e.0
-    one e known = λ i. differ same_row (finmap.get f.rows e.0) ((sym (ap row_of known) ∙ known_row g e.0) i) || differ (λ a b. a == b) (finmap.get f.ends e.0) ((sym (ap died_of known) ∙ known_end g e.0) i)
+    one : (e : VersionKey × VersionValue) → known_at g e.0 ≡ Some e.1 → value_conflicts_at f e.0 e.1 ≡ conflict_at f g e.0
+    one e known = λ i. values_conflict same_row (finmap.get f.rows e.0) ((sym (ap row_of known) ∙ known_row g e.0) i) || values_conflict (λ a b. a == b) (finmap.get f.ends e.0) ((sym (ap died_of known) ∙ known_end g e.0) i)
 
-    each : (xs : List (VersionKey × VersionValue)) → All (IsKnown g) xs → list_any (λ e. differs_at f e.0 e.1) xs ≡ list_any (disagree_at f g) (map (λ e. e.0) xs)
+    each : (xs : List (VersionKey × VersionValue)) → All (IsKnown g) xs → list_any (λ e. value_conflicts_at f e.0 e.1) xs ≡ list_any (conflict_at f g) (map (λ e. e.0) xs)
     each [] known = refl
     each (x ∷ xs) known = λ i. one x (All-head (IsKnown g) x xs known) i || each xs (All-tail (IsKnown g) x xs known) i

@@ -8,30 +8,30 @@ use Rattle.hk_model.specs.declared.took.Took.{Took}
 use Rattle.hk_model.specs.declared.took.Took.TheVariants.{Taken}
 use Rattle.hk_model.specs.Content.{Content, readable}
 use Rattle.hk_model.specs.Histories.{Transaction, IsHistory, IsItemOf}
-use Rattle.hk_model.specs.Replicas.{Stands}
-use Rattle.hk_model.specs.Rules.{taken, pruned}
+use Rattle.hk_model.specs.Replicas.{Represents}
+use Rattle.hk_model.specs.Rules.{take_result, prune_result}
 
 -- an absorb left and told what taking gives, or it changed nothing: it was refused so, or memory ran out
 -- where the item would have been taken
 abbrev pub Absorbs : Content → Content → Item → Result Took Refusal → Type 0
-Absorbs old new item (Ok took) = taken old item ≡ Ok (took, new)
-Absorbs old new item (Err why) = (new ≡ old) × ((taken old item ≡ Err why) ⊎ ((why ≡ Memory) × ((c : Content) × (taken old item ≡ Ok (Taken, c)))))
+Absorbs old new item (Ok took) = take_result old item ≡ Ok (took, new)
+Absorbs old new item (Err why) = (new ≡ old) × ((take_result old item ≡ Err why) ⊎ ((why ≡ Memory) × ((c : Content) × (take_result old item ≡ Ok (Taken, c)))))
 
 -- a prune left what pruning gives, or it changed nothing: it was refused so, or memory ran out
 abbrev pub Prunes : Content → Content → ℕ → Result (Unit {0}) Refusal → Type 0
-Prunes old new h (Ok done) = pruned old h ≡ Ok new
-Prunes old new h (Err why) = (new ≡ old) × ((pruned old h ≡ Err why) ⊎ ((why ≡ Memory) × ((c : Content) × (pruned old h ≡ Ok c))))
+Prunes old new h (Ok done) = prune_result old h ≡ Ok new
+Prunes old new h (Err why) = (new ≡ old) × ((prune_result old h ≡ Err why) ⊎ ((why ≡ Memory) × ((c : Content) × (prune_result old h ≡ Ok c))))
 
--- where the old state stands for items of a history and the item is another, the new state stands for them
+-- where the old state represents items of a history and the item is another, the new state represents them
 -- all, unless memory ran out
 abbrev pub AbsorbsOf : Content → Content → Item → Result Took Refusal → Type 0
 AbsorbsOf old new item result =
-    (config : ConfigValue) (history : List Transaction) (items : List Item) (horizon : ℕ) → IsHistory config history → Stands config history items horizon old → IsItemOf config history item
-    → IfOk result (λ took. Stands config history (item ∷ items) horizon new) × IfErr result (λ why. why ≡ Memory)
+    (config : ConfigValue) (history : List Transaction) (items : List Item) (horizon : ℕ) → IsHistory config history → Represents config history items horizon old → IsItemOf config history item
+    → IfOk result (λ took. Represents config history (item ∷ items) horizon new) × IfErr result (λ why. why ≡ Memory)
 
--- where the old state stands for items of a history, a prune up to its readable mark leaves one that stands
+-- where the old state represents items of a history, a prune up to its readable mark leaves one that stands
 -- for them at the greater horizon, unless memory ran out
 abbrev pub PrunesOf : Content → Content → ℕ → Result (Unit {0}) Refusal → Type 0
 PrunesOf old new h result =
-    (config : ConfigValue) (history : List Transaction) (items : List Item) (horizon : ℕ) → Stands config history items horizon old → h ≤ readable old
-    → IfOk result (λ done. Stands config history items (max horizon h) new) × IfErr result (λ why. why ≡ Memory)
+    (config : ConfigValue) (history : List Transaction) (items : List Item) (horizon : ℕ) → Represents config history items horizon old → h ≤ readable old
+    → IfOk result (λ done. Represents config history items (max horizon h) new) × IfErr result (λ why. why ≡ Memory)

@@ -16,8 +16,8 @@ abbrev pub with_listed : FactsValue → List (VersionKey × RowValue) → List (
 with_listed f rows ends = record { rows = union f.rows (finmap.from_entries rows); ends = union f.ends (finmap.from_entries ends) }
 
 -- the facts without these versions, and then with these rows and ends, where none are known
-abbrev pub replaced : FactsValue → List VersionKey → List (VersionKey × RowValue) → List (VersionKey × ℕ) → FactsValue
-replaced f drops rows ends = with_listed (without_all f drops) rows ends
+abbrev pub facts_after_replace : FactsValue → List VersionKey → List (VersionKey × RowValue) → List (VersionKey × ℕ) → FactsValue
+facts_after_replace f drops rows ends = with_listed (without_all f drops) rows ends
 
 -- whether a row or an end is of one of these versions
 abbrev pub meets : List VersionKey → List (VersionKey × RowValue) → List (VersionKey × ℕ) → Bool
@@ -25,7 +25,7 @@ meets drops rows ends = list_any (λ r. is_among drops r.0) rows || list_any (λ
 
 -- the content after a change: the drops go first, then the rows and ends come, and horizon and streams are
 -- replaced
-abbrev pub changed : Content → Change → Content
-changed c change =
-    let f = replaced (facts_of_content c) change.drops.items change.rows.items change.ends.items in
+abbrev pub content_after_change : Content → Change → Content
+content_after_change c change =
+    let f = facts_after_replace (facts_of_content c) change.drops.items change.rows.items change.ends.items in
     record { log = c.log; horizon = change.horizon; rows = f.rows; ends = f.ends; streams = change.got }

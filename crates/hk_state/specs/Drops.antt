@@ -8,7 +8,7 @@ use Rattle.hk_log.specs.Versions.{VersionValue}
 use Rattle.hk_model.specs.Rows.{version_key_cmp}
 use Rattle.hk_model.specs.Content.{at_most, without_ended}
 use Rattle.hk_facts.specs.Chains.{ChainValue}
-use Rattle.hk_facts.specs.Keyed.{KeyedValue}
+use Rattle.hk_facts.specs.TableChains.{TableChainsValue}
 use Rattle.hk_state.specs.Facts.{FactsValue, entry_if}
 
 -- whether a version is among these
@@ -32,5 +32,5 @@ abbrev pub ended_of_chain : ℕ → ℕ → ℕ → ChainValue → List VersionK
 ended_of_chain h table key c = flat_map (λ v. map (λ e. e.0) (entry_if (record { table = table; key = key; born = v.0 }) (end_by h v.1))) (finmap.entries c)
 
 -- those of all chains of a table
-abbrev pub ended_of_keyed : ℕ → ℕ → KeyedValue → List VersionKey
+abbrev pub ended_of_keyed : ℕ → ℕ → TableChainsValue → List VersionKey
 ended_of_keyed h table m = flat_map (λ k. ended_of_chain h table k.0 k.1) (finmap.entries m)

@@ -13,14 +13,14 @@ use Rattle.hk_log.specs.Items.{EntryValue}
 use Rattle.hk_log.specs.Versions.{VersionValue, is_known}
 use Rattle.hk_log.specs.declared.item.Item.TheVariants.{Commit}
 use Rattle.hk_model.specs.Rows.{version_key_cmp}
-use Rattle.hk_model.specs.Maps.{differ, union, contradict}
+use Rattle.hk_model.specs.Maps.{values_conflict, union, maps_conflict}
 use Rattle.hk_model.specs.Facts.{rows_of, ends_of}
 use Rattle.hk_model.specs.Codes.{version_key_code, row_code}
 use Rattle.hk_facts.specs.declared.fact.Fact.{Fact}
 use Rattle.hk_facts.specs.declared.fact.Fact.TheVariants.{Row, End}
 use Rattle.hk_facts.specs.declared.fact.Part.{Part}
 use Rattle.hk_facts.specs.declared.fact.Part.TheVariants.{Row as RowPart, End as EndPart, Whole}
-use Rattle.hk_facts.specs.Keyed.{KeyedValue, version_in}
+use Rattle.hk_facts.specs.TableChains.{TableChainsValue, version_in}
 use Rattle.hk_facts.specs.Facts.{if_known}
 
 -- the value of a `Facts`
@@ -40,11 +40,11 @@ no_facts = record { rows = finmap.empty; ends = finmap.empty }
 -- ---- as they are stored: the chains of each table
 
 abbrev pub TablesValue : Type 0
-TablesValue = finmap.FinMap nat_cmp KeyedValue
+TablesValue = finmap.FinMap nat_cmp TableChainsValue
 
 -- what is known of a version
-abbrev pub stored : TablesValue → VersionKey → Option VersionValue
-stored tables v = option_and_then (λ k. version_in k v.key v.born) (finmap.get tables v.table)
+abbrev pub stored_version : TablesValue → VersionKey → Option VersionValue
+stored_version tables v = option_and_then (λ k. version_in k v.key v.born) (finmap.get tables v.table)
 
 -- an entry, where there is a value
 abbrev pub entry_if : {Y : Type 0} → VersionKey → Option Y → List (VersionKey × Y)
@@ -62,7 +62,7 @@ facts_of tables = record { rows = finmap.from_entries (read_all (λ v. v.row) ta
 
 -- of each stored version something is known
 abbrev pub AllKnown : TablesValue → Type 0
-AllKnown tables = (q : VersionKey) (v : VersionValue) → stored tables q ≡ Some v → is_known v ≡ true
+AllKnown tables = (q : VersionKey) (v : VersionValue) → stored_version tables q ≡ Some v → is_known v ≡ true
 
 -- ---- what calls do
 
@@ -71,22 +71,22 @@ abbrev pub known_at : FactsValue → VersionKey → Option VersionValue
 known_at f v = if_known (record { row = finmap.get f.rows v; died = finmap.get f.ends v })
 
 -- the map with this at the key, unless something stands there
-abbrev pub added : {X : Type 0} → finmap.FinMap version_key_cmp X → VersionKey → X → finmap.FinMap version_key_cmp X
-added m v x = if finmap.contains_key m v then m else finmap.insert m v x
+abbrev pub with_added : {X : Type 0} → finmap.FinMap version_key_cmp X → VersionKey → X → finmap.FinMap version_key_cmp X
+with_added m v x = if finmap.contains_key m v then m else finmap.insert m v x
 
 -- whether a version has another row, or another end, than the fact says
-abbrev pub clashes_at : FactsValue → VersionKey → Fact → Bool
-clashes_at f v (Row row) = differ same_row (finmap.get f.rows v) (Some row)
-clashes_at f v (End died) = differ (λ a b. a == b) (finmap.get f.ends v) (Some died)
+abbrev pub conflicts_at : FactsValue → VersionKey → Fact → Bool
+conflicts_at f v (Row row) = values_conflict same_row (finmap.get f.rows v) (Some row)
+conflicts_at f v (End died) = values_conflict (λ a b. a == b) (finmap.get f.ends v) (Some died)
 
 -- the facts with one more
 abbrev pub with_fact_at : FactsValue → VersionKey → Fact → FactsValue
-with_fact_at f v (Row row) = record { rows = added f.rows v row; ends = f.ends }
-with_fact_at f v (End died) = record { rows = f.rows; ends = added f.ends v died }
+with_fact_at f v (Row row) = record { rows = with_added f.rows v row; ends = f.ends }
+with_fact_at f v (End died) = record { rows = f.rows; ends = with_added f.ends v died }
 
--- the facts with one more, unless it clashes
+-- the facts with one more, unless it conflicts
 abbrev pub facts_put : FactsValue → VersionKey → Fact → Result FactsValue Refusal
-facts_put f v fact = if clashes_at f v fact then Err Conflict else Ok (with_fact_at f v fact)
+facts_put f v fact = if conflicts_at f v fact then Err Conflict else Ok (with_fact_at f v fact)
 
 -- the facts without a part of a version
 abbrev pub facts_without : FactsValue → VersionKey → Part → FactsValue
@@ -99,5 +99,5 @@ abbrev pub with_entry : FactsValue → EntryValue → FactsValue
 with_entry f e = record { rows = union f.rows (rows_of (Commit e ∷ [])); ends = union f.ends (ends_of (Commit e ∷ [])) }
 
 -- whether an entry gives a version another row, or another end
-abbrev pub disputes : FactsValue → EntryValue → Bool
-disputes f e = contradict same_row f.rows (rows_of (Commit e ∷ [])) || contradict (λ a b. a == b) f.ends (ends_of (Commit e ∷ []))
+abbrev pub conflicts_with_entry : FactsValue → EntryValue → Bool
+conflicts_with_entry f e = maps_conflict same_row f.rows (rows_of (Commit e ∷ [])) || maps_conflict (λ a b. a == b) f.ends (ends_of (Commit e ∷ []))

@@ -5,6 +5,6 @@ use Rattle.hk_facts.specs.declared.fact.Part.{Part}
 use Rattle.hk_state.specs.Facts.{FactsValue, facts_without}
 
 -- the facts without the parts that a journal names
-abbrev pub undone : List (VersionKey × Part) → FactsValue → FactsValue
-undone [] f = f
-undone (j ∷ journal) f = facts_without (undone journal f) j.0 j.1
+abbrev pub without_journal : List (VersionKey × Part) → FactsValue → FactsValue
+without_journal [] f = f
+without_journal (j ∷ journal) f = facts_without (without_journal journal f) j.0 j.1

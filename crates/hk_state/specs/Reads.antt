@@ -6,7 +6,7 @@ use Rattle.hk_types.specs.declared.version_key.VersionKey.{VersionKey}
 use Rattle.hk_model.specs.Content.{Content}
 use Rattle.hk_model.specs.Answers.{shows}
 use Rattle.hk_facts.specs.Chains.{row_at}
-use Rattle.hk_facts.specs.Keyed.{KeyedValue}
+use Rattle.hk_facts.specs.TableChains.{TableChainsValue}
 use Rattle.hk_state.specs.Facts.{FactsValue}
 
 -- the row of a version, where the version shows at t
@@ -18,7 +18,7 @@ abbrev pub with_facts : FactsValue → Content
 with_facts f = record { log = 0; horizon = 0; rows = f.rows; ends = f.ends; streams = [] }
 
 -- how many chains have a row at t
-abbrev pub chains_at : KeyedValue → ℕ → ℕ
+abbrev pub chains_at : TableChainsValue → ℕ → ℕ
 chains_at keyed t = length (filter (λ e. is_some (row_at e.1 t)) (finmap.entries keyed))
 
 -- the facts of a content

@@ -7,10 +7,10 @@ use Rattle.hk_model.specs.Streams.{StreamContent}
 use Rattle.hk_state.specs.Facts.{FactsValue}
 
 -- the content of these parts
-abbrev pub content_of : ConfigValue → ℕ → FactsValue → List StreamContent → Content
-content_of config horizon facts streams = record { log = config.log; horizon = horizon; rows = facts.rows; ends = facts.ends; streams = streams }
+abbrev pub content_of_parts : ConfigValue → ℕ → FactsValue → List StreamContent → Content
+content_of_parts config horizon facts streams = record { log = config.log; horizon = horizon; rows = facts.rows; ends = facts.ends; streams = streams }
 
 -- what holds of the parts of every state, whatever came in
 pub record IsReplica (config : ConfigValue) (horizon : ℕ) (facts : FactsValue) (streams : List StreamContent) : Type 0 where
   pub as_many : length streams ≡ config.streams
-  pub lawful : IsLawful (content_of config horizon facts streams)
+  pub lawful : IsLawful (content_of_parts config horizon facts streams)

@@ -6,14 +6,14 @@ use Rattle.hk_types.specs.Values.{same_row}
 use Rattle.hk_types.specs.declared.version_key.VersionKey.{VersionKey}
 use Rattle.hk_log.specs.Versions.{VersionValue}
 use Rattle.hk_model.specs.Rows.{version_key_cmp}
-use Rattle.hk_model.specs.Maps.{differ}
+use Rattle.hk_model.specs.Maps.{values_conflict}
 use Rattle.std.specs.FinMap as finmap
 use Rattle.hk_state.specs.Facts.{FactsValue, known_at}
 use Rattle.hk_state.specs.Drops.{is_among}
 
--- a version key with what is lent of its version
-abbrev pub lent : VersionKey × Bor VersionValue → VersionKey × VersionValue
-lent e = (e.0, e.1.now)
+-- a version key with what is borrowed of its version
+abbrev pub borrowed : VersionKey × Bor VersionValue → VersionKey × VersionValue
+borrowed e = (e.0, e.1.now)
 
 -- the list has each version of which anything is known, with what is known of it, in rising order
 pub record AreVersions (f : FactsValue) (versions : List (VersionKey × VersionValue)) : Type 0 where
@@ -22,9 +22,9 @@ pub record AreVersions (f : FactsValue) (versions : List (VersionKey × VersionV
   pub rising : IsStrictlySortedBy version_key_cmp (map (λ e. e.0) versions)
 
 -- whether a version has another row, or another end, than this
-abbrev pub differs_at : FactsValue → VersionKey → VersionValue → Bool
-differs_at f v known = differ same_row (finmap.get f.rows v) known.row || differ (λ a b. a == b) (finmap.get f.ends v) known.died
+abbrev pub value_conflicts_at : FactsValue → VersionKey → VersionValue → Bool
+value_conflicts_at f v known = values_conflict same_row (finmap.get f.rows v) known.row || values_conflict (λ a b. a == b) (finmap.get f.ends v) known.died
 
 -- whether a version has another row, or another end, in the first than in the second
-abbrev pub disagree_at : FactsValue → FactsValue → VersionKey → Bool
-disagree_at f g v = differ same_row (finmap.get f.rows v) (finmap.get g.rows v) || differ (λ a b. a == b) (finmap.get f.ends v) (finmap.get g.ends v)
+abbrev pub conflict_at : FactsValue → FactsValue → VersionKey → Bool
+conflict_at f g v = values_conflict same_row (finmap.get f.rows v) (finmap.get g.rows v) || values_conflict (λ a b. a == b) (finmap.get f.ends v) (finmap.get g.ends v)

@@ -7,7 +7,7 @@ ghost use Rattle.hk_model.specs.declared.took.Took.TheVariants.{Taken};
 ghost use Rattle.hk_model.specs.Streams.{all_together, streams_of};
 ghost use Rattle.hk_state.specs.Calls.{Absorbs, AbsorbsOf};
 ghost use Rattle.hk_state.specs.Facts.{with_entry};
-ghost use Rattle.hk_state.specs.Journal.{undone};
+ghost use Rattle.hk_state.specs.Journal.{without_journal};
 
 use crate::facts::Facts;
 use crate::replica::ReplicaState;
@@ -18,7 +18,7 @@ use hk_model::Took;
 use hk_types::{Config, Refusal, StreamNo, VersionKey};
 
 /// Why an item with this log and this stream is none of the configuration's log, if it is none.
-fn misfit(config: Config, log: u64, stream: StreamNo) -> Option<Refusal>
+fn wrong_log(config: Config, log: u64, stream: StreamNo) -> Option<Refusal>
     ensures { result ≡ (if not (log == config.log) then Some Foreign else if nat_lt config.streams stream then Some Wrong else None) }
 {
     if log != config.log() {
@@ -42,7 +42,7 @@ fn take_noted(
     ensures got { OnOk result (got.new ≡ all_together got.old (streams_of (length got.old) (Commit entry.now ∷ []))) }
     ensures err { IfErr result (λ why. why ≡ Memory) }
     ensures kept { OnErr result (got.new ≡ got.old) }
-    ensures back { undone journal.new.items facts.new ≡ undone journal.old.items facts.old }
+    ensures back { without_journal journal.new.items facts.new ≡ without_journal journal.old.items facts.old }
 {
     facts.add_writes(journal, entry)?;
     got.add_number(entry.stream(), entry.number())
@@ -83,13 +83,13 @@ impl ReplicaState {
         ensures { Absorbs self.old self.new (Commit entry.now) result }
     {
         let stream = entry.stream();
-        if let Some(why) = misfit(self.config, entry.log(), stream) {
+        if let Some(why) = wrong_log(self.config, entry.log(), stream) {
             return Err(why);
         }
         if self.got.has(stream, entry.number()) {
             return Ok(Took::Repeated);
         }
-        if self.facts.disputes(entry) || entry.time() <= self.got.closed(stream) {
+        if self.facts.conflicts_with_entry(entry) || entry.time() <= self.got.closed(stream) {
             return Err(Refusal::Conflict);
         }
         take_entry(&mut self.facts, &mut self.got, entry)
@@ -98,10 +98,10 @@ impl ReplicaState {
     fn absorb_mark(&mut self, mark: &Mark) -> Result<Took, Refusal>
         ensures { Absorbs self.old self.new (Closed mark.now) result }
     {
-        if let Some(why) = misfit(self.config, mark.log(), mark.stream()) {
+        if let Some(why) = wrong_log(self.config, mark.log(), mark.stream()) {
             return Err(why);
         }
-        if self.got.is_told(mark.stream(), mark.n(), mark.m()) {
+        if self.got.adds_nothing(mark.stream(), mark.n(), mark.m()) {
             return Ok(Took::Repeated);
         }
         take_mark(&mut self.got, mark)
@@ -117,7 +117,7 @@ impl ReplicaState {
     /// the entry's writes times the logarithm of what is held.
     pub fn absorb(&mut self, item: &Item) -> Result<Took, Refusal>
         ensures gives { Absorbs self.old self.new item.now result }
-        ensures stands { AbsorbsOf self.old self.new item.now result }
+        ensures represents { AbsorbsOf self.old self.new item.now result }
     {
         match item {
             Item::Commit(entry) => self.absorb_entry(entry),

@@ -8,9 +8,9 @@ ghost use Rattle.hk_types.specs.declared.faults.Refusal.TheVariants.{Memory};
 ghost use Rattle.hk_facts.specs.declared.fact.Fact.TheVariants.{Row as RowFact};
 ghost use Rattle.hk_model.specs.Maps.{union};
 ghost use Rattle.hk_model.specs.Lawful.{IsLawful};
-ghost use Rattle.hk_state.specs.Changes.{with_listed, replaced, meets, changed};
+ghost use Rattle.hk_state.specs.Changes.{with_listed, facts_after_replace, meets, content_after_change};
 ghost use Rattle.hk_state.specs.Facts.{FactsValue, with_fact_at};
-ghost use Rattle.hk_state.specs.Journal.{undone};
+ghost use Rattle.hk_state.specs.Journal.{without_journal};
 
 use crate::facts::Facts;
 use crate::journal::note;
@@ -47,11 +47,11 @@ impl ReplicaState {
     ///
     /// The only refusal is `Memory`, and it changes nothing. The cost grows as the length of the change
     /// times the logarithm of what is held. Where a version that is dropped has a row or an end added, as
-    /// no log brings about that does not contradict itself, it grows with what is held.
+    /// no log brings about that does not conflict with itself, it grows with what is held.
     pub fn apply(&mut self, change: Change) -> Result<(), Refusal>
-        requires lawful { IsLawful (changed self.old change) }
+        requires lawful { IsLawful (content_after_change self.old change) }
         requires as_many { length change.got ≡ length self.old.streams }
-        ensures ok { OnOk result (self.new ≡ changed self.old change) }
+        ensures ok { OnOk result (self.new ≡ content_after_change self.old change) }
         ensures err { IfErr result (λ why. why ≡ Memory) }
         ensures kept { OnErr result (self.new ≡ self.old) }
     {
@@ -78,7 +78,7 @@ impl Facts {
         rows: Vec<(VersionKey, Row)>,
         ends: &[(VersionKey, Time)],
     ) -> Result<(), Refusal>
-        ensures ok { OnOk result (self.new ≡ replaced self.old drops.now rows.items ends.now) }
+        ensures ok { OnOk result (self.new ≡ facts_after_replace self.old drops.now rows.items ends.now) }
         ensures err { IfErr result (λ why. why ≡ Memory) }
         ensures kept { OnErr result (self.new ≡ self.old) }
     {
@@ -98,7 +98,7 @@ impl Facts {
         rows: Vec<(VersionKey, Row)>,
         ends: &[(VersionKey, Time)],
     ) -> Result<(), Refusal>
-        ensures ok { OnOk result (self.new ≡ replaced self.old drops.now rows.items ends.now) }
+        ensures ok { OnOk result (self.new ≡ facts_after_replace self.old drops.now rows.items ends.now) }
         ensures err { IfErr result (λ why. why ≡ Memory) }
         ensures kept { OnErr result (self.new ≡ self.old) }
     {
@@ -136,7 +136,7 @@ impl Facts {
     ) -> Result<(), Refusal>
         ensures ok { OnOk result (self.new ≡ with_listed self.old rows.items ends.now) }
         ensures err { IfErr result (λ why. why ≡ Memory) }
-        ensures back { undone journal.new.items self.new ≡ undone journal.old.items self.old }
+        ensures back { without_journal journal.new.items self.new ≡ without_journal journal.old.items self.old }
     {
         self.add_all_rows(journal, rows)?;
         self.add_all_ends(journal, ends)
@@ -149,7 +149,7 @@ impl Facts {
     ) -> Result<(), Refusal>
         ensures ok { OnOk result (self.new ≡ record { rows = union self.old.rows (finmap.from_entries rows.items); ends = self.old.ends }) }
         ensures err { IfErr result (λ why. why ≡ Memory) }
-        ensures back { undone journal.new.items self.new ≡ undone journal.old.items self.old }
+        ensures back { without_journal journal.new.items self.new ≡ without_journal journal.old.items self.old }
     {
         for (version, row) in rows {
             self.add_own_row(journal, &version, row)?;
@@ -164,7 +164,7 @@ impl Facts {
     ) -> Result<(), Refusal>
         ensures ok { OnOk result (self.new ≡ record { rows = self.old.rows; ends = union self.old.ends (finmap.from_entries ends.now) }) }
         ensures err { IfErr result (λ why. why ≡ Memory) }
-        ensures back { undone journal.new.items self.new ≡ undone journal.old.items self.old }
+        ensures back { without_journal journal.new.items self.new ≡ without_journal journal.old.items self.old }
     {
         for (version, died) in ends {
             self.add_end(journal, version, *died)?;
@@ -181,7 +181,7 @@ impl Facts {
     ) -> Result<(), Refusal>
         ensures ok { OnOk result (self.new ≡ with_fact_at self.old version.now (RowFact row)) }
         ensures err { IfErr result (λ why. why ≡ Memory) }
-        ensures back { undone journal.new.items self.new ≡ undone journal.old.items self.old }
+        ensures back { without_journal journal.new.items self.new ≡ without_journal journal.old.items self.old }
     {
         if self.row_at(version).is_some() {
             return Ok(());

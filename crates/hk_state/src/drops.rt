@@ -19,7 +19,7 @@ impl Facts {
         }
     }
 
-    /// Drops each version whose end is known and at most `until`. The only error is want of memory, and it
+    /// Drops each version whose end is known and at most `until`. The only error is out of memory, and it
     /// changes nothing. The cost grows with the number of facts.
     pub fn drop_until(&mut self, until: Time) -> Result<(), AllocError>
         ensures ok { OnOk result (self.new ≡ pruned_facts self.old until) }

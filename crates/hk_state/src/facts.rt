@@ -112,7 +112,7 @@ impl Facts {
     }
 
     /// Adds a fact on a version. One that is known already changes nothing, and one that differs from what
-    /// is known is a contradiction. Want of memory comes only where nothing like it is known of the
+    /// is known is a conflict. Out of memory comes only where nothing like it is known of the
     /// version. A refusal changes nothing. The cost grows as the logarithm of the number of facts.
     pub fn put(&mut self, version: &VersionKey, fact: Fact) -> Result<(), Refusal>
         ensures ok { OnOk result (facts_put self.old version.now fact ≡ Ok self.new) }
@@ -167,7 +167,7 @@ impl Facts {
         Some(row.tag())
     }
 
-    /// The versions whose end is known and at most `until`. The only error is want of memory. The cost
+    /// The versions whose end is known and at most `until`. The only error is out of memory. The cost
     /// grows with the number of facts.
     pub fn ended(&self, until: Time) -> Result<Vec<VersionKey>, AllocError>
         ensures { IfOk result (λ versions. (q : VersionKey) → is_among versions.items q ≡ ended_by self.now.ends until q) }

@@ -4,10 +4,10 @@ ghost use Rattle.std.specs.Prelude.{◌≡◌, ◌++◌, ◌∷◌, [], map, OnO
 ghost use Rattle.std.specs.FinMap as finmap;
 ghost use Rattle.hk_types.specs.declared.faults.Refusal.TheVariants.{Memory};
 ghost use Rattle.hk_model.specs.Maps.{union};
-ghost use Rattle.hk_model.specs.Facts.{inserted};
+ghost use Rattle.hk_model.specs.Facts.{inserted_version};
 ghost use Rattle.hk_facts.specs.declared.fact.Fact.TheVariants.{Row as RowFact, End as EndFact};
 ghost use Rattle.hk_state.specs.Facts.{FactsValue, with_fact_at, with_entry};
-ghost use Rattle.hk_state.specs.Journal.{undone};
+ghost use Rattle.hk_state.specs.Journal.{without_journal};
 
 use crate::facts::Facts;
 use hk_facts::{Fact, Part};
@@ -28,7 +28,7 @@ pub(crate) fn note(
 }
 
 impl Facts {
-    /// Adds all rows and ends of an entry, where none are known. The only refusal is want of memory, and
+    /// Adds all rows and ends of an entry, where none are known. The only refusal is out of memory, and
     /// it changes nothing. The cost grows as the number of writes times the logarithm of the number of
     /// facts.
     pub fn add_entry(&mut self, entry: &Entry) -> Result<(), Refusal>
@@ -52,7 +52,7 @@ impl Facts {
     ) -> Result<(), Refusal>
         ensures ok { OnOk result (self.new ≡ with_entry self.old entry.now) }
         ensures err { IfErr result (λ why. why ≡ Memory) }
-        ensures back { undone journal.new.items self.new ≡ undone journal.old.items self.old }
+        ensures back { without_journal journal.new.items self.new ≡ without_journal journal.old.items self.old }
     {
         self.add_rows(journal, entry.rows(), entry.time())?;
         self.add_ends(journal, entry.ends(), entry.time())
@@ -64,9 +64,9 @@ impl Facts {
         rows: &[(Table, Key, Row)],
         time: Time,
     ) -> Result<(), Refusal>
-        ensures ok { OnOk result (self.new ≡ record { rows = union self.old.rows (finmap.from_entries (map (inserted time) rows.now)); ends = self.old.ends }) }
+        ensures ok { OnOk result (self.new ≡ record { rows = union self.old.rows (finmap.from_entries (map (inserted_version time) rows.now)); ends = self.old.ends }) }
         ensures err { IfErr result (λ why. why ≡ Memory) }
-        ensures back { undone journal.new.items self.new ≡ undone journal.old.items self.old }
+        ensures back { without_journal journal.new.items self.new ≡ without_journal journal.old.items self.old }
     {
         for (table, key, row) in rows {
             let version = VersionKey {
@@ -87,7 +87,7 @@ impl Facts {
     ) -> Result<(), Refusal>
         ensures ok { OnOk result (self.new ≡ record { rows = self.old.rows; ends = union self.old.ends (finmap.from_entries (map (λ v. (v, time)) ends.now)) }) }
         ensures err { IfErr result (λ why. why ≡ Memory) }
-        ensures back { undone journal.new.items self.new ≡ undone journal.old.items self.old }
+        ensures back { without_journal journal.new.items self.new ≡ without_journal journal.old.items self.old }
     {
         for version in ends {
             self.add_end(journal, version, time)?;
@@ -96,7 +96,7 @@ impl Facts {
     }
 
     /// Adds a copy of a row where none is known, and names it in the journal first. The only refusal is
-    /// want of memory.
+    /// out of memory.
     pub fn add_row(
         &mut self,
         journal: &mut Vec<(VersionKey, Part)>,
@@ -105,7 +105,7 @@ impl Facts {
     ) -> Result<(), Refusal>
         ensures ok { OnOk result (self.new ≡ with_fact_at self.old version.now (RowFact row.now)) }
         ensures err { IfErr result (λ why. why ≡ Memory) }
-        ensures back { undone journal.new.items self.new ≡ undone journal.old.items self.old }
+        ensures back { without_journal journal.new.items self.new ≡ without_journal journal.old.items self.old }
     {
         if self.row_at(version).is_some() {
             return Ok(());
@@ -125,7 +125,7 @@ impl Facts {
     ) -> Result<(), Refusal>
         ensures ok { OnOk result (self.new ≡ with_fact_at self.old version.now (EndFact died)) }
         ensures err { IfErr result (λ why. why ≡ Memory) }
-        ensures back { undone journal.new.items self.new ≡ undone journal.old.items self.old }
+        ensures back { without_journal journal.new.items self.new ≡ without_journal journal.old.items self.old }
     {
         if self.end_at(version).is_some() {
             return Ok(());
@@ -136,7 +136,7 @@ impl Facts {
 
     /// Takes back what a journal names, the last first. It cannot fail.
     pub fn take_back(&mut self, mut journal: Vec<(VersionKey, Part)>)
-        ensures { self.new ≡ undone journal.items self.old }
+        ensures { self.new ≡ without_journal journal.items self.old }
     {
         while let Some((version, part)) = journal.pop() {
             self.forget(&version, part);

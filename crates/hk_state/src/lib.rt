@@ -4,7 +4,7 @@
 mod absorb;
 mod apply;
 mod copy;
-mod disputes;
+mod conflicts_with_entry;
 mod drops;
 mod facts;
 mod journal;

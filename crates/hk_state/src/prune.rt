@@ -23,7 +23,7 @@ impl ReplicaState {
     /// refusal changes nothing. Costs by the facts that are held, and by those that go times the logarithm.
     pub fn prune(&mut self, time: Time) -> Result<(), Refusal>
         ensures gives { Prunes self.old self.new time result }
-        ensures stands { PrunesOf self.old self.new time result }
+        ensures represents { PrunesOf self.old self.new time result }
         ensures below { time ≤ self.old.horizon → IsOk result }
     {
         self.raise_horizon(time)

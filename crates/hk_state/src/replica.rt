@@ -8,7 +8,7 @@ ghost use Rattle.hk_model.specs.Rows.{RowKey};
 ghost use Rattle.hk_model.specs.Content.{readable};
 ghost use Rattle.hk_model.specs.Lawful.{IsLawful};
 ghost use Rattle.hk_model.specs.Streams.{stream_at};
-ghost use Rattle.hk_model.specs.Replicas.{nothing};
+ghost use Rattle.hk_model.specs.Replicas.{empty_content};
 
 use crate::facts::Facts;
 use hk_marks::Got;
@@ -30,13 +30,13 @@ pub struct ReplicaState {
 impl Model for ReplicaState {
     ghost use Rattle.hk_model.specs.Content.{Content};
     ghost use Rattle.hk_model.specs.Codes.{content_code};
-    ghost use Rattle.hk_state.specs.Replica.{content_of, IsReplica};
+    ghost use Rattle.hk_state.specs.Replica.{content_of_parts, IsReplica};
 
     ghost Value = { Content };
 
     ghost coded = { content_code };
 
-    ghost view = { λ a. content_of a.config a.horizon a.facts a.got };
+    ghost view = { λ a. content_of_parts a.config a.horizon a.facts a.got };
 
     ghost invariant = { λ a. IsReplica a.config a.horizon a.facts a.got };
 }
@@ -45,7 +45,7 @@ impl ReplicaState {
     /// The state of a replica that took nothing. The only refusal is `Memory`. Costs by the number of
     /// streams.
     pub fn new(alloc: Global, config: Config) -> Result<ReplicaState, Refusal>
-        ensures ok { IfOk result (λ state. state ≡ nothing config) }
+        ensures ok { IfOk result (λ state. state ≡ empty_content config) }
         ensures err { IfErr result (λ why. why ≡ Memory) }
     {
         let got = Got::new(alloc, config)?;

@@ -13,7 +13,7 @@ ghost use Rattle.hk_state.specs.Reads.{chains_at, with_facts};
 ghost use Rattle.hk_state.specs.Drops.{is_among, end_by, ended_of_chain, ended_of_keyed};
 ghost use Rattle.hk_state.specs.Facts.{entry_if, no_facts, known_at, facts_put, facts_without};
 
-use hk_facts::{Chain, Fact, Keyed, Part};
+use hk_facts::{Chain, Fact, TableChains, Part};
 use hk_log::Version;
 use hk_types::{Key, Refusal, Row, Table, Time, VersionKey};
 use std::alloc::{AllocError, Global};
@@ -24,14 +24,14 @@ use std::marker::Model;
 /// chain is empty, and of each version something is known.
 #[derive(Drop)]
 pub struct Tables {
-    tables: BTreeMap<Table, Keyed>,
+    tables: BTreeMap<Table, TableChains>,
     alloc: Global,
 }
 
 impl Model for Tables {
     ghost use Rattle.std.specs.Ordering.{nat_cmp};
     ghost use Rattle.std.specs.FinMap as finmap;
-    ghost use Rattle.hk_facts.specs.Keyed.{AllFilled};
+    ghost use Rattle.hk_facts.specs.TableChains.{AllFilled};
     ghost use Rattle.hk_state.specs.Facts.{FactsValue, facts_code, facts_of, AllKnown};
 
     ghost Value = { FactsValue };
@@ -103,7 +103,7 @@ impl Tables {
     }
 
     /// Adds a fact on a version. One that is known already changes nothing, and one that differs from what
-    /// is known is a contradiction. Want of memory comes only where nothing is known of the version. A
+    /// is known is a conflict. Out of memory comes only where nothing is known of the version. A
     /// refusal changes nothing. The cost grows as the logarithm of the number of facts.
     pub fn put(&mut self, version: &VersionKey, fact: Fact) -> Result<(), Refusal>
         ensures ok { OnOk result (facts_put self.old version.now fact ≡ Ok self.new) }
@@ -113,7 +113,7 @@ impl Tables {
         if let Some(keyed) = self.tables.get_mut(&version.table) {
             return keyed.put(version.key, version.born, fact);
         }
-        let keyed = Keyed::of_fact(self.alloc, version.key, version.born, fact)?;
+        let keyed = TableChains::of_fact(self.alloc, version.key, version.born, fact)?;
         insert(&mut self.tables, version.table, keyed)?;
         Ok(())
     }
@@ -132,7 +132,7 @@ impl Tables {
         self.tables.remove(&version.table);
     }
 
-    /// The versions whose end is known and at most `until`. The only error is want of memory. The cost grows
+    /// The versions whose end is known and at most `until`. The only error is out of memory. The cost grows
     /// with the number of facts.
     pub fn ended(&self, until: Time) -> Result<Vec<VersionKey>, AllocError>
         ensures { IfOk result (λ versions. (q : VersionKey) → is_among versions.items q ≡ ended_by self.now.ends until q) }
@@ -155,7 +155,7 @@ impl Tables {
         }
     }
 
-    /// The same facts again. The only error is want of memory. The cost grows a little faster than the
+    /// The same facts again. The only error is out of memory. The cost grows a little faster than the
     /// number of facts.
     pub fn copy(&self, alloc: Global) -> Result<Tables, AllocError>
         ensures { IfOk result (λ facts. facts ≡ self.now) }
@@ -169,7 +169,7 @@ impl Tables {
 }
 
 /// How many chains have a row at a time.
-fn count_chains(keyed: &Keyed, time: Time) -> usize
+fn count_chains(keyed: &TableChains, time: Time) -> usize
     ensures { result ≡ chains_at keyed.now time }
 {
     keyed
@@ -181,7 +181,7 @@ fn count_chains(keyed: &Keyed, time: Time) -> usize
 fn list_keyed(
     found: &mut Vec<VersionKey>,
     table: Table,
-    keyed: &Keyed,
+    keyed: &TableChains,
     until: Time,
 ) -> Result<(), AllocError>
     ensures { OnOk result (found.new.items ≡ found.old.items ++ ended_of_keyed until table keyed.now) }
@@ -228,7 +228,7 @@ fn list_version(
     Ok(())
 }
 
-fn insert(tables: &mut BTreeMap<Table, Keyed>, table: Table, keyed: Keyed) -> Result<(), AllocError>
+fn insert(tables: &mut BTreeMap<Table, TableChains>, table: Table, keyed: TableChains) -> Result<(), AllocError>
     ensures ok { OnOk result (Updates nat_cmp tables.old tables.new table (Some keyed)) }
     ensures err { OnErr result (tables.new.entries ≡ tables.old.entries) }
 {

@@ -5,10 +5,10 @@ ghost use Rattle.std.specs.Option.{option_copied};
 ghost use Rattle.std.specs.List.{list_any};
 ghost use Rattle.std.specs.Map.Iter.{ShowsInOrder, deref};
 ghost use Rattle.hk_types.specs.declared.version_key.VersionKey.{VersionKey};
-ghost use Rattle.hk_model.specs.Rules.{disagree};
+ghost use Rattle.hk_model.specs.Rules.{contents_conflict};
 ghost use Rattle.hk_state.specs.Facts.{known_at};
 ghost use Rattle.hk_state.specs.Reads.{with_facts};
-ghost use Rattle.hk_state.specs.Versions.{AreVersions, lent, differs_at, disagree_at};
+ghost use Rattle.hk_state.specs.Versions.{AreVersions, borrowed, value_conflicts_at, conflict_at};
 
 use crate::facts::Facts;
 use hk_log::Version;
@@ -25,15 +25,15 @@ impl Facts {
         chain.version(version.born)
     }
 
-    /// All versions of which anything is known, in rising order. The only error is want of memory. The
+    /// All versions of which anything is known, in rising order. The only error is out of memory. The
     /// cost grows a little faster than the number of facts.
     pub fn versions(&self, alloc: Global) -> Result<Vec<(VersionKey, &Version)>, AllocError>
-        ensures { IfOk result (λ versions. AreVersions self.now (map lent versions.items)) }
+        ensures { IfOk result (λ versions. AreVersions self.now (map borrowed versions.items)) }
     {
         let mut found = Vec::new(alloc);
         for version in self.keys.iter() {
             if let Some(known) = self.version(version) {
-                push_lent(&mut found, *version, known)?;
+                push_borrowed(&mut found, *version, known)?;
             }
         }
         Ok(found)
@@ -41,54 +41,54 @@ impl Facts {
 
     /// Whether a version has another row, or another end, than this. It takes no memory. The cost grows as
     /// the logarithm of the number of facts.
-    pub fn differs_at(&self, version: &VersionKey, known: &Version) -> bool
-        ensures { result ≡ differs_at self.now version.now known.now }
+    pub fn value_conflicts_at(&self, version: &VersionKey, known: &Version) -> bool
+        ensures { result ≡ value_conflicts_at self.now version.now known.now }
     {
         if let Some(died) = known.died()
-            && self.has_end_unlike(version, died)
+            && self.has_conflicting_end(version, died)
         {
             return true;
         }
         match known.row() {
-            Some(row) => self.has_row_unlike(version, row),
+            Some(row) => self.has_conflicting_row(version, row),
             None => false,
         }
     }
 
     /// Whether some version has another row, or another end, here than there. It takes no memory. The cost
     /// grows as the number of facts there times the logarithm of the number of facts.
-    pub fn disagrees(&self, other: &Facts) -> bool
-        ensures { result ≡ disagree (with_facts self.now) (with_facts other.now) }
+    pub fn conflicts_with(&self, other: &Facts) -> bool
+        ensures { result ≡ contents_conflict (with_facts self.now) (with_facts other.now) }
     {
-        self.disagrees_on(other, other.keys.iter())
+        self.conflicts_on(other, other.keys.iter())
     }
 
     /// Whether one of these versions has another row, or another end, here than there.
-    fn disagrees_on(&self, other: &Facts, versions: Iter<'_, VersionKey>) -> bool
+    fn conflicts_on(&self, other: &Facts, versions: Iter<'_, VersionKey>) -> bool
         requires { ShowsInOrder (deref {X = VersionKey}) }
-        ensures { result ≡ list_any (disagree_at self.now other.now) versions.entry }
+        ensures { result ≡ list_any (conflict_at self.now other.now) versions.entry }
     {
         let mut versions = versions;
-        versions.any(|version| self.disagrees_at(other, version))
+        versions.any(|version| self.content_conflicts_at(other, version))
     }
 
     /// Whether a version has another row, or another end, here than there.
-    fn disagrees_at(&self, other: &Facts, version: &VersionKey) -> bool
-        ensures { result ≡ disagree_at self.now other.now version.now }
+    fn content_conflicts_at(&self, other: &Facts, version: &VersionKey) -> bool
+        ensures { result ≡ conflict_at self.now other.now version.now }
     {
         match other.version(version) {
-            Some(known) => self.differs_at(version, known),
+            Some(known) => self.value_conflicts_at(version, known),
             None => false,
         }
     }
 }
 
-fn push_lent<'a>(
+fn push_borrowed<'a>(
     found: &mut Vec<(VersionKey, &'a Version)>,
     version: VersionKey,
     known: &'a Version,
 ) -> Result<(), AllocError>
-    ensures { OnOk result (map lent found.new.items ≡ map lent found.old.items ++ (version, known.now) ∷ []) }
+    ensures { OnOk result (map borrowed found.new.items ≡ map borrowed found.old.items ++ (version, known.now) ∷ []) }
 {
     match found.push((version, known)) {
         Ok(()) => Ok(()),

@@ -123,13 +123,13 @@ fn every_number_of_workers_gives_the_fragment(rt: HostRuntime) -> Result<(), Fai
     let config = Config::new(7, 2)?;
     let whole = items(alloc, &[6, 5, 4, 3, 2, 1, 1])?;
     let foreign = items(alloc, &[1, 7, 8])?;
-    let disputed = items(alloc, &[1, 7])?;
+    let conflicting = items(alloc, &[1, 7])?;
     for workers in 1..=16 {
         let built = build(&rt, alloc, config, &whole, workers, &OpenGate)?;
         assert!(rt; is_whole(&built), "by {workers} workers");
         let told = refused(build(&rt, alloc, config, &foreign, workers, &OpenGate));
         assert_eq!(rt; told, 20, "by {workers} workers");
-        let told = refused(build(&rt, alloc, config, &disputed, workers, &OpenGate));
+        let told = refused(build(&rt, alloc, config, &conflicting, workers, &OpenGate));
         assert_eq!(rt; told, 23, "by {workers} workers");
     }
     Ok(())

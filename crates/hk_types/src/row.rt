@@ -75,7 +75,7 @@ impl Row {
         self.body.as_slice()
     }
 
-    /// The same row again, its body copied. The only error is want of memory.
+    /// The same row again, its body copied. The only error is out of memory.
     pub fn copy(&self, alloc: Global) -> Result<Row, AllocError>
         ensures { IfOk result (λ row. row ≡ self.now) }
     {

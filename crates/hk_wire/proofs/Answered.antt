@@ -1,4 +1,4 @@
--- Answers: what is read is spelled so, and what is spelled so is read again.
+-- Answers: what is read is encoded so, and what is encoded so is read again.
 use Rattle.std.proofs.Common.{◌≡◌, ℕ, ◌^◌, ◌<◌, ◌≤◌, Bool, true, false, not, ◌&&◌, ltb, List, [], ◌∷◌, ◌++◌, length, Option, Some, None, Ok, refl, sym, ap, ◌∙◌, append_assoc}
 use Rattle.std.specs.Int.{w16, w32, w64}
 use Rattle.std.specs.List.{flat_map, AllByRecursion}
@@ -10,7 +10,7 @@ use Rattle.hk_codec.specs.Fields.{IsBytes, number, number_at, body_at}
 use Rattle.hk_codec.proofs.Steps.{Takes, both as both_true}
 use Rattle.hk_codec.proofs.Found.{body_takes}
 use Rattle.hk_codec.proofs.Again.{body_again}
-use Rattle.hk_wire.specs.Readers.{both, kinded, counted, Chained}
+use Rattle.hk_wire.specs.Readers.{both, by_kind, list_by_count, Chained}
 use Rattle.hk_wire.specs.Answers.{row_text, keyed_text, presence, present_text, answer_kind, answer_fields, answer_text, key_follows, keys_rise, answer_keeps_rules, RowFits, PresentFits, KeyedFits, AnswerFits, row_at, key_at, keyed_at, rows_at, present_of, answer_of, answer_at}
 use Rattle.hk_wire.proofs.Parsing.{IsField, field32, field64, both_field, barred_field, made_field, same_field, counted_field, this_or, made_takes, nothing_takes, made_again, kinded_field}
 
@@ -77,7 +77,7 @@ rows_text rows = number w32 (length rows) ++ flat_map keyed_text rows
 rows_field : IsField rows_at rows_text AreRows
 unfolding rows_at
 rows_field =
-    same_field (counted (λ (e : ℕ × RowValue). e.0) keyed_at) rows_text (λ rows. (length rows < 2 ^ 32) × Chained (λ (e : ℕ × RowValue). e.0) KeyFits None rows) AreRows
+    same_field (list_by_count (λ (e : ℕ × RowValue). e.0) keyed_at) rows_text (λ rows. (length rows < 2 ^ 32) × Chained (λ (e : ℕ × RowValue). e.0) KeyFits None rows) AreRows
     (λ rows h. (fit_each None rows h.1, and_true (ltb (length rows) (2 ^ 32)) (keys_rise None rows) (lt-ltb _ _ h.0) (rise_all None rows h.1)))
     (λ rows h. let b = both_true (ltb (length rows) (2 ^ 32)) (keys_rise None rows) h.1 in (ltb-true _ _ b.0, chained None rows h.0 b.1))
     (counted_field (λ (e : ℕ × RowValue). e.0) keyed_at keyed_text KeyFits keyed_field)
@@ -104,7 +104,7 @@ unfolding present_of
 present_again None rest h = refl
 present_again (Some row) rest h = made_again some_of row_at _ _ row_field row rest h
 
-one_field : IsField (kinded present_of) (λ row. presence row ∷ present_text row) PresentFits
+one_field : IsField (by_kind present_of) (λ row. presence row ∷ present_text row) PresentFits
 one_field = kinded_field present_of presence present_text PresentFits (record { takes = present_takes; again = present_again })
 
 -- ---- answers
@@ -128,7 +128,7 @@ answer_takes : (k : ℕ) (bytes : List ℕ) (x : AnswerValue × List ℕ) → Is
 unfolding answer_of
 answer_takes k bytes x fits e =
     this_or k 1 _ _ x (IsAnswerOf k bytes x) e
-    (λ is f. made_takes one_of (kinded present_of) _ _ one_field answer_kind answer_fields AnswerKeeps k (λ a. sym is) (λ a. refl) (λ a h. (h, refl)) bytes x fits f)
+    (λ is f. made_takes one_of (by_kind present_of) _ _ one_field answer_kind answer_fields AnswerKeeps k (λ a. sym is) (λ a. refl) (λ a h. (h, refl)) bytes x fits f)
     (λ e2. this_or k 2 _ _ x (IsAnswerOf k bytes x) e2
     (λ is f. made_takes rows_of rows_at _ _ rows_field answer_kind answer_fields AnswerKeeps k (λ a. sym is) (λ a. refl) (λ a h. h) bytes x fits f)
     (λ e3. this_or k 3 _ _ x (IsAnswerOf k bytes x) e3
@@ -137,7 +137,7 @@ answer_takes k bytes x fits e =
 
 answer_again : (a : AnswerValue) (rest : List ℕ) → AnswerKeeps a → answer_of (answer_kind a) (answer_fields a ++ rest) ≡ Ok (a, rest)
 unfolding answer_of
-answer_again (One row) rest h = made_again one_of (kinded present_of) _ _ one_field row rest h.0
+answer_again (One row) rest h = made_again one_of (by_kind present_of) _ _ one_field row rest h.0
 answer_again (Rows rows) rest h = made_again rows_of rows_at _ _ rows_field rows rest h
 answer_again (Number n) rest h = made_again number_of (number_at w64) _ _ field64 n rest h.0
 

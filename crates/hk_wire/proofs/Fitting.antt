@@ -22,10 +22,10 @@ use Rattle.hk_model.specs.Fragments.{FragmentValue}
 use Rattle.hk_model.proofs.Streams.{tied_counts}
 use Rattle.hk_marks.specs.Seen.{IsNumbered}
 use Rattle.hk_marks.specs.Steps.{extra_numbers}
-use Rattle.hk_delta.specs.Parts.{Known, versions_listed, follows, row_stands, end_stands, stands, facts_fault}
+use Rattle.hk_delta.specs.Parts.{Known, versions_listed, follows, is_valid_row, is_valid_end, is_valid_fact, facts_fault}
 use Rattle.hk_wire.specs.Readers.{Chained}
 use Rattle.hk_wire.specs.Answers.{PresentFits}
-use Rattle.hk_wire.specs.Fragments.{greatest_reached, stream_seen, fragment_seen, number_follows, least_told, ExtraFits, WaitingFits, StreamFits, FactFits, PartsFit, DiedFits, KnownFits, FragmentFits}
+use Rattle.hk_wire.specs.Fragments.{greatest_reached, wire_stream_of, wire_fragment_of, number_follows, least_closed_of, ExtraFits, WaitingFits, StreamFits, FactFits, PartsFit, DiedFits, KnownFits, FragmentFits}
 use Rattle.hk_wire.proofs.Telling.{greatest_covered_too, reached_law, extra_told}
 
 first : (a b : Bool) → (a && b) ≡ true → a ≡ true
@@ -121,7 +121,7 @@ prefix_of s = greatest_reached s.taken (set.items s.taken)
 abbrev extras_of : StreamContent → finmap.FinMap nat_cmp ℕ
 extras_of s = finmap.from_entries {R = nat_cmp} (map (λ n. (n, n)) (set.items (extra_numbers s)))
 
-stream_fits : (s : StreamContent) → IsLawfulStream s → IsNumbered s → StreamFits (stream_seen s)
+stream_fits : (s : StreamContent) → IsLawfulStream s → IsNumbered s → StreamFits (wire_stream_of s)
 stream_fits s lawful is =
     record {
       prefix = covered_most s.taken is.numbers (prefix_of s) all;
@@ -141,17 +141,17 @@ stream_fits s lawful is =
     law : (n : ℕ) → covers s.taken n ≡ leb n (prefix_of s)
     law n = reached_law s.taken n
 
-streams_fit : (ss : List StreamContent) → All IsLawfulStream ss → All IsNumbered ss → AllByRecursion StreamFits (map stream_seen ss)
+streams_fit : (ss : List StreamContent) → All IsLawfulStream ss → All IsNumbered ss → AllByRecursion StreamFits (map wire_stream_of ss)
 streams_fit [] lawful are = tt
 streams_fit (s ∷ ss) lawful are =
     (stream_fits s (All-head IsLawfulStream s ss lawful) (All-head IsNumbered s ss are), streams_fit ss (All-tail IsLawfulStream s ss lawful) (All-tail IsNumbered s ss are))
 
-least_same : (ss : List StreamContent) → least_told (map stream_seen ss) ≡ least_closed ss
+least_same : (ss : List StreamContent) → least_closed_of (map wire_stream_of ss) ≡ least_closed ss
 least_same [] = refl
 least_same (s ∷ []) = refl
 least_same (s ∷ t ∷ more) = ap (min s.closed) (least_same (t ∷ more))
 
-count_same : (ss : List StreamContent) → length (map stream_seen ss) ≡ length ss
+count_same : (ss : List StreamContent) → length (map wire_stream_of ss) ≡ length ss
 count_same [] = refl
 count_same (s ∷ ss) = ap suc (count_same ss)
 
@@ -161,7 +161,7 @@ passed : (b : Bool) (why : FormFault) (rest : Option FormFault) → cond (not b)
 passed true why rest e = (refl, e)
 passed false why rest e = absurd cc
 
-parts_fit : (base horizon born : ℕ) (row : Option RowValue) (died : Option ℕ) → (is_some row || is_some died) ≡ true → row_stands base born row ≡ true → end_stands base horizon born died ≡ true → PresentFits row → DiedFits died → PartsFit base horizon born row died
+parts_fit : (base horizon born : ℕ) (row : Option RowValue) (died : Option ℕ) → (is_some row || is_some died) ≡ true → is_valid_row base born row ≡ true → is_valid_end base horizon born died ≡ true → PresentFits row → DiedFits died → PartsFit base horizon born row died
 parts_fit base horizon born None None known r d fits ends = absurd cc
 parts_fit base horizon born (Some row) None known r d fits ends = (ltb-true base born r, fits)
 parts_fit base horizon born None (Some died) known r d fits ends = (ends, d)
@@ -171,13 +171,13 @@ facts_chained : (base horizon : ℕ) (before : Option VersionKey) (facts : List 
 facts_chained base horizon before [] h fit = tt
 facts_chained base horizon before (e ∷ facts) h fit =
     let order = passed (follows before e.0) BadOrder _ h in
-    let rest = passed (stands base horizon e) BadNumber _ order.1 in
-    let a : (nat_lt 0 e.0.born && is_known e.1 && row_stands base e.0.born e.1.row && end_stands base horizon e.0.born e.1.died) ≡ true = rest.0 in
-    let b = first (nat_lt 0 e.0.born && is_known e.1 && row_stands base e.0.born e.1.row) (end_stands base horizon e.0.born e.1.died) a in
-    let c = first (nat_lt 0 e.0.born && is_known e.1) (row_stands base e.0.born e.1.row) b in (
+    let rest = passed (is_valid_fact base horizon e) BadNumber _ order.1 in
+    let a : (nat_lt 0 e.0.born && is_known e.1 && is_valid_row base e.0.born e.1.row && is_valid_end base horizon e.0.born e.1.died) ≡ true = rest.0 in
+    let b = first (nat_lt 0 e.0.born && is_known e.1 && is_valid_row base e.0.born e.1.row) (is_valid_end base horizon e.0.born e.1.died) a in
+    let c = first (nat_lt 0 e.0.born && is_known e.1) (is_valid_row base e.0.born e.1.row) b in (
       (
         ((order.0, (fit.0.name.table, (fit.0.name.key, (ltb-true 0 e.0.born (first (nat_lt 0 e.0.born) (is_known e.1) c), fit.0.name.born))))),
-        parts_fit base horizon e.0.born e.1.row e.1.died (second (nat_lt 0 e.0.born) (is_known e.1) c) (second (nat_lt 0 e.0.born && is_known e.1) (row_stands base e.0.born e.1.row) b) (second (nat_lt 0 e.0.born && is_known e.1 && row_stands base e.0.born e.1.row) (end_stands base horizon e.0.born e.1.died) a) fit.0.row fit.0.died,
+        parts_fit base horizon e.0.born e.1.row e.1.died (second (nat_lt 0 e.0.born) (is_known e.1) c) (second (nat_lt 0 e.0.born && is_known e.1) (is_valid_row base e.0.born e.1.row) b) (second (nat_lt 0 e.0.born && is_known e.1 && is_valid_row base e.0.born e.1.row) (is_valid_end base horizon e.0.born e.1.died) a) fit.0.row fit.0.died,
       ),
       facts_chained base horizon (Some e.0) facts rest.1 fit.1,
     )
@@ -185,7 +185,7 @@ facts_chained base horizon before (e ∷ facts) h fit =
 -- ---- fragments
 
 pub fragment_fits : (f : FragmentValue) → f.content.log < 2 ^ 64 → 1 ≤ length f.content.streams → length f.content.streams ≤ 64 → f.base ≤ 2 ^ 62 → f.content.horizon ≤ 2 ^ 62 → IsLawfulFragment f → All IsNumbered f.content.streams
-    → facts_fault f.base f.content.horizon None (versions_listed f.content) ≡ None → AllByRecursion KnownFits (versions_listed f.content) → FragmentFits (fragment_seen f)
+    → facts_fault f.base f.content.horizon None (versions_listed f.content) ≡ None → AllByRecursion KnownFits (versions_listed f.content) → FragmentFits (wire_fragment_of f)
 fragment_fits f log least most base horizon lawful numbered faultless fit =
     let count = count_same f.content.streams in
     record {

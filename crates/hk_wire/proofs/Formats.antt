@@ -1,4 +1,4 @@
--- Queries and requests: what is read is spelled so, and what is spelled so is read again.
+-- Queries and requests: what is read is encoded so, and what is encoded so is read again.
 use Rattle.std.proofs.Common.{◌≡◌, ℕ, zero, suc, ◌^◌, ◌<◌, ◌≤◌, Bool, true, false, not, ◌&&◌, eqb, ltb, leb, List, [], ◌∷◌, ◌++◌, length, take, drop, Option, Some, None, Result, Ok, refl, sym, ap, subst, ◌∙◌, arith}
 use Rattle.std.specs.Int.{w16, w32, w64}
 use Rattle.std.specs.List.{flat_map, AllByRecursion}
@@ -11,18 +11,18 @@ use Rattle.hk_model.specs.declared.query.Query.{Query}
 use Rattle.hk_model.specs.declared.query.Query.TheVariants.{Get, Range, ByTag, Count}
 use Rattle.hk_codec.specs.Fields.{IsBytes, ◌>>=◌, number, number_at, bytes_at, list_at}
 use Rattle.hk_codec.specs.Framing.{IsFormat}
-use Rattle.hk_codec.specs.Spelling.{rest_text, IsItem}
+use Rattle.hk_codec.specs.Encoding.{rest_text, IsEncodableItem}
 use Rattle.hk_codec.specs.Reading.{item_at}
-use Rattle.hk_codec.specs.Frames.{spelling, frame_at}
+use Rattle.hk_codec.specs.Frames.{encoding_of, frame_at}
 use Rattle.hk_codec.proofs.Steps.{IsBytes-drop, bind_ok, ok_is, Takes, both as both_true}
 use Rattle.hk_codec.proofs.Numbers.{guard_ok}
 use Rattle.hk_codec.proofs.InFrames.{frame_takes, frame_again}
 use Rattle.hk_codec.proofs.Items.{item_format}
-use Rattle.hk_wire.specs.Readers.{both, barred, listed, time_at, Chained}
+use Rattle.hk_wire.specs.Readers.{both, fault_where, list_by, time_at, Chained}
 use Rattle.hk_wire.specs.Messages.{message_at}
 use Rattle.hk_wire.specs.Queries.{query_kind, query_fields, query_text, QueryFits, query_of, query_at}
 use Rattle.hk_wire.specs.Requests.{RequestValue, Items, Front, Delta, Full, Ask, JoinThis, MergeThis, Prune, whole_at, frame_taken, item_frame_at, item_count_at, item_frames_at, no_place, items_at, keeps_rules, request_kind, request_body, request_rest, RequestFits, IsRequest, request_of, request_at}
-use Rattle.hk_wire.specs.Fragments.{FragmentTold, fragment_text, fragment_at, FragmentFits, is_counted}
+use Rattle.hk_wire.specs.Fragments.{WireFragment, fragment_text, fragment_at, FragmentFits, is_counted}
 use Rattle.hk_wire.proofs.Answered.{not_false, true_not}
 use Rattle.hk_wire.proofs.Fragmented.{fragment_field}
 use Rattle.hk_wire.proofs.Parsing.{IsField, field16, field32, field64, time_field, both_field, barred_field, same_field, listed_field, this_or, made_takes, nothing_takes, made_again, kinded_field, message_format, same_format}
@@ -90,13 +90,13 @@ ask_field : IsField (both time_at query_at) (λ p. number w64 p.0 ++ query_text 
 ask_field = both_field time_at query_at (number w64) query_text (λ n. n ≤ 2 ^ 62) QueryFits time_field query_field
 
 -- fragments of base 0
-abbrev IsWhole : FragmentTold → Type 0
+abbrev IsWhole : WireFragment → Type 0
 IsWhole f = FragmentFits f × ((eqb f.base 0 && is_counted f) ≡ true)
 
 whole_field : IsField whole_at fragment_text IsWhole
 unfolding whole_at
 whole_field =
-    same_field (barred fragment_at (λ f. not (eqb f.base 0)) BadNumber) fragment_text (λ f. (FragmentFits f × (is_counted f ≡ true)) × (not (eqb f.base 0) ≡ false)) IsWhole
+    same_field (fault_where fragment_at (λ f. not (eqb f.base 0)) BadNumber) fragment_text (λ f. (FragmentFits f × (is_counted f ≡ true)) × (not (eqb f.base 0) ≡ false)) IsWhole
     (λ f h. (h.0.0, and_true (eqb f.base 0) (is_counted f) (not_false (eqb f.base 0) h.1) h.0.1))
     (λ f h. let b = both_true (eqb f.base 0) (is_counted f) h.1 in ((h.0, b.1), true_not (eqb f.base 0) b.0))
     (barred_field fragment_at (λ f. not (eqb f.base 0)) BadNumber fragment_text (λ f. FragmentFits f × (is_counted f ≡ true)) fragment_field)
@@ -111,26 +111,26 @@ frame_is (Some frame) bytes x e =
     let same = ok_is (frame.0, a.0.1) x a.2 in
     (frame.1, ap (λ (y : Item × List ℕ). Some (y.0, frame.1)) same, sym (ap (λ (y : Item × List ℕ). y.1) same) ∙ sym (ap (λ (y : List ℕ × List ℕ). y.1) g.1))
 
-frame_field : IsField item_frame_at spelling IsItem
+frame_field : IsField item_frame_at encoding_of IsEncodableItem
 unfolding item_frame_at bytes_at
 frame_field =
     record {
       takes = λ bytes x fits e.
           let a = bind_ok (frame_at bytes) (λ frame. frame_taken frame bytes) x e in
           let b = frame_is a.0 bytes x a.2 in
-          let f = frame_takes 28 4229152 item_at rest_text IsItem item_format bytes x.0 b.0 fits (a.1 ∙ ap (λ (o : Option (Item × ℕ)). Ok o) b.1) in
-          (record { parts = f.parts ∙ ap (λ (t : List ℕ). spelling x.0 ++ t) (sym b.2); rest_fits = subst IsBytes (sym b.2) (IsBytes-drop b.0 bytes fits) }, f.value);
+          let f = frame_takes 28 4229152 item_at rest_text IsEncodableItem item_format bytes x.0 b.0 fits (a.1 ∙ ap (λ (o : Option (Item × ℕ)). Ok o) b.1) in
+          (record { parts = f.parts ∙ ap (λ (t : List ℕ). encoding_of x.0 ++ t) (sym b.2); rest_fits = subst IsBytes (sym b.2) (IsBytes-drop b.0 bytes fits) }, f.value);
       again = λ x rest h.
-          let long : ltb (length (spelling x ++ rest)) (length (spelling x)) ≡ false = le-ltb _ _ (omega (arith, length-append (spelling x) rest)) in
-          ap (λ (r : Result (Option (Item × ℕ)) FormFault). r >>= λ frame. frame_taken frame (spelling x ++ rest)) (frame_again 28 4229152 item_at rest_text IsItem item_format x rest h)
-          ∙ rw (long, drop_at (spelling x) rest (length (spelling x)) refl) refl;
+          let long : ltb (length (encoding_of x ++ rest)) (length (encoding_of x)) ≡ false = le-ltb _ _ (omega (arith, length-append (encoding_of x) rest)) in
+          ap (λ (r : Result (Option (Item × ℕ)) FormFault). r >>= λ frame. frame_taken frame (encoding_of x ++ rest)) (frame_again 28 4229152 item_at rest_text IsEncodableItem item_format x rest h)
+          ∙ rw (long, drop_at (encoding_of x) rest (length (encoding_of x)) refl) refl;
     }
 
-items_chained : (before : Option (Unit {0})) (items : List Item) → AllByRecursion IsItem items → Chained no_place (λ _. IsItem) before items
+items_chained : (before : Option (Unit {0})) (items : List Item) → AllByRecursion IsEncodableItem items → Chained no_place (λ _. IsEncodableItem) before items
 items_chained before [] h = tt
 items_chained before (i ∷ items) h = (h.0, items_chained (Some tt) items h.1)
 
-items_each : (before : Option (Unit {0})) (items : List Item) → Chained no_place (λ _. IsItem) before items → AllByRecursion IsItem items
+items_each : (before : Option (Unit {0})) (items : List Item) → Chained no_place (λ _. IsEncodableItem) before items → AllByRecursion IsEncodableItem items
 items_each before [] h = tt
 items_each before (i ∷ items) h = (h.0, items_each (Some tt) items h.1)
 
@@ -143,22 +143,22 @@ any_before (suc n) bytes = refl
 count_field : IsField item_count_at (number w32) (λ n. n ≤ 65536)
 unfolding item_count_at
 count_field =
-    same_field (barred (number_at w32) (λ n. ltb 65536 n) BadCount) (number w32) (λ n. (n < 2 ^ 32) × (ltb 65536 n ≡ false)) (λ n. n ≤ 65536)
+    same_field (fault_where (number_at w32) (λ n. ltb 65536 n) BadCount) (number w32) (λ n. (n < 2 ^ 32) × (ltb 65536 n ≡ false)) (λ n. n ≤ 65536)
     (λ n h. ltb-false 65536 n h.1) (λ n h. (omega (arith, h), le-ltb 65536 n h))
     (barred_field (number_at w32) (λ n. ltb 65536 n) BadCount (number w32) (λ n. n < 2 ^ 32) field32)
 
 abbrev AreItems : List Item → Type 0
-AreItems items = AllByRecursion IsItem items × (leb (length items) 65536 ≡ true)
+AreItems items = AllByRecursion IsEncodableItem items × (leb (length items) 65536 ≡ true)
 
 abbrev items_text : List Item → List ℕ
-items_text items = number w32 (length items) ++ flat_map spelling items
+items_text items = number w32 (length items) ++ flat_map encoding_of items
 
 items_field : IsField items_at items_text AreItems
 unfolding items_at
 items_field =
-    same_field (listed item_count_at no_place (λ _. item_frame_at)) items_text (λ items. (length items ≤ 65536) × Chained no_place (λ _. IsItem) None items) AreItems
+    same_field (list_by item_count_at no_place (λ _. item_frame_at)) items_text (λ items. (length items ≤ 65536) × Chained no_place (λ _. IsEncodableItem) None items) AreItems
     (λ items h. (items_each None items h.1, le-leb _ _ h.0)) (λ items h. (leb-true _ _ h.1, items_chained None items h.0))
-    (listed_field no_place (λ _. item_frame_at) spelling (λ _. IsItem) (λ _. frame_field) item_count_at (λ n. n ≤ 65536) count_field)
+    (listed_field no_place (λ _. item_frame_at) encoding_of (λ _. IsEncodableItem) (λ _. frame_field) item_count_at (λ n. n ≤ 65536) count_field)
 
 abbrev delta_of : ℕ → RequestValue
 delta_of base = Delta base
@@ -169,10 +169,10 @@ ask_of p = Ask p.0 p.1
 abbrev prune_of : ℕ → RequestValue
 prune_of horizon = Prune horizon
 
-abbrev join_of : FragmentTold → RequestValue
+abbrev join_of : WireFragment → RequestValue
 join_of fragment = JoinThis fragment
 
-abbrev merge_of : FragmentTold → RequestValue
+abbrev merge_of : WireFragment → RequestValue
 merge_of fragment = MergeThis fragment
 
 abbrev items_of : List Item → RequestValue

@@ -1,4 +1,4 @@
--- Fragments: what is read is spelled so, and what is spelled so is read again.
+-- Fragments: what is read is encoded so, and what is encoded so is read again.
 use Rattle.std.proofs.Common.{◌≡◌, ℕ, ◌+◌, ◌^◌, ◌<◌, ◌≤◌, Bool, true, false, cond, not, ◌&&◌, ◌||◌, ◌⊎◌, inl, inr, ltb, leb, eqb, List, [], ◌∷◌, ◌++◌, length, Option, Some, None, Result, Ok, Err, refl, sym, ap, subst, ◌∙◌, append_assoc, arith}
 use Rattle.std.specs.Int.{w16, w32, w64}
 use Rattle.std.specs.List.{flat_map, AllByRecursion}
@@ -8,12 +8,12 @@ use Rattle.hk_types.specs.declared.version_key.VersionKey.{VersionKey}
 use Rattle.hk_types.specs.declared.faults.FormFault.{FormFault}
 use Rattle.hk_types.specs.declared.faults.FormFault.TheVariants.{BadStream, BadNumber, BadOrder}
 use Rattle.hk_log.specs.Versions.{VersionValue}
-use Rattle.hk_delta.specs.Parts.{Known, follows, end_stands}
+use Rattle.hk_delta.specs.Parts.{Known, follows, is_valid_end}
 use Rattle.hk_codec.specs.Fields.{IsBytes, ◌>>=◌, number, number_at, list_at}
 use Rattle.hk_codec.proofs.Steps.{bind_ok, ok_is, neither, both as both_true, Takes, Takes-then}
-use Rattle.hk_wire.specs.Readers.{Reader, both, after, barred, made, kinded, counted, time_at, Chained}
+use Rattle.hk_wire.specs.Readers.{Reader, both, after, fault_where, mapped_value, by_kind, list_by_count, time_at, Chained}
 use Rattle.hk_wire.specs.Answers.{row_text, row_at, RowFits}
-use Rattle.hk_wire.specs.Fragments.{StreamTold, FragmentTold, mark_text, extras_text, waits_text, stream_text, known_flags, known_parts, version_text, fact_text, fragment_text, number_follows, extra_at, waiting_count_at, waiting_at, stream_of, stream_at, version_at, died_at, known_of, fact_at, least_told, no_stream, bounds_at, streams_at, stream_count_at, fragment_head_at, facts_at, fragment_at, ExtraFits, WaitingFits, StreamFits, VersionFits, EndFits, PartsFit, FactFits, FragmentFits, stream_is_counted, streams_are_counted, is_counted}
+use Rattle.hk_wire.specs.Fragments.{WireStream, WireFragment, mark_text, extras_text, waits_text, stream_text, known_flags, known_parts, version_text, fact_text, fragment_text, number_follows, extra_at, waiting_count_at, waiting_at, stream_of, stream_at, version_at, died_at, known_of, fact_at, least_closed_of, no_stream, bounds_at, streams_at, stream_count_at, fragment_head_at, facts_at, fragment_at, ExtraFits, WaitingFits, StreamFits, VersionFits, EndFits, PartsFit, FactFits, FragmentFits, stream_is_counted, streams_are_counted, is_counted}
 use Rattle.hk_wire.proofs.Parsing.{IsField, field16, field64, time_field, both_field, barred_field, same_field, made_field, kinded_field, counted_field, many_field, this_or, made_takes, made_again}
 use Rattle.hk_wire.proofs.Answered.{row_field, not_false, true_not}
 
@@ -54,8 +54,8 @@ extra_back prefix before n h = ((omega (arith, h.1.1), true_not (number_follows 
 extra_field : (prefix : ℕ) (before : Option ℕ) → IsField (extra_at prefix before) (number w64) (ExtraFits prefix before)
 unfolding extra_at
 extra_field prefix before =
-    same_field (barred (barred (number_at w64) (λ n. not (number_follows before n)) BadOrder) (λ n. leb n (prefix + 1) || ltb (2 ^ 62) n) BadNumber) (number w64) _ (ExtraFits prefix before) (extra_there prefix before) (extra_back prefix before)
-    (barred_field (barred (number_at w64) (λ n. not (number_follows before n)) BadOrder) (λ n. leb n (prefix + 1) || ltb (2 ^ 62) n) BadNumber (number w64) (λ n. (n < 2 ^ 64) × (not (number_follows before n) ≡ false))
+    same_field (fault_where (fault_where (number_at w64) (λ n. not (number_follows before n)) BadOrder) (λ n. leb n (prefix + 1) || ltb (2 ^ 62) n) BadNumber) (number w64) _ (ExtraFits prefix before) (extra_there prefix before) (extra_back prefix before)
+    (barred_field (fault_where (number_at w64) (λ n. not (number_follows before n)) BadOrder) (λ n. leb n (prefix + 1) || ltb (2 ^ 62) n) BadNumber (number w64) (λ n. (n < 2 ^ 64) × (not (number_follows before n) ≡ false))
     (barred_field (number_at w64) (λ n. not (number_follows before n)) BadOrder (number w64) (λ n. n < 2 ^ 64) field64))
 
 abbrev IsCount : ℕ → Option ℕ → ℕ → Type 0
@@ -63,7 +63,7 @@ IsCount prefix before n = ((n < 2 ^ 64) × (not (number_follows before n) ≡ fa
 
 count_field : (prefix : ℕ) (before : Option ℕ) → IsField (waiting_count_at prefix before) (number w64) (IsCount prefix before)
 count_field prefix before =
-    barred_field (barred (number_at w64) (λ n. not (number_follows before n)) BadOrder) (λ n. leb n prefix) BadNumber (number w64) (λ n. (n < 2 ^ 64) × (not (number_follows before n) ≡ false))
+    barred_field (fault_where (number_at w64) (λ n. not (number_follows before n)) BadOrder) (λ n. leb n prefix) BadNumber (number w64) (λ n. (n < 2 ^ 64) × (not (number_follows before n) ≡ false))
     (barred_field (number_at w64) (λ n. not (number_follows before n)) BadOrder (number w64) (λ n. n < 2 ^ 64) field64)
 
 waiting_there : (prefix : ℕ) (before : Option ℕ) (m : ℕ × ℕ) → (IsCount prefix before m.0 × (m.1 ≤ 2 ^ 62)) × (ltb m.1 m.0 ≡ false) → WaitingFits prefix before m
@@ -76,7 +76,7 @@ waiting_back prefix before m h =
 waiting_field : (prefix : ℕ) (before : Option ℕ) → IsField (waiting_at prefix before) mark_text (WaitingFits prefix before)
 unfolding waiting_at
 waiting_field prefix before =
-    same_field (barred (both (waiting_count_at prefix before) time_at) (λ m. ltb m.1 m.0) BadNumber) mark_text _ (WaitingFits prefix before) (waiting_there prefix before) (waiting_back prefix before)
+    same_field (fault_where (both (waiting_count_at prefix before) time_at) (λ m. ltb m.1 m.0) BadNumber) mark_text _ (WaitingFits prefix before) (waiting_there prefix before) (waiting_back prefix before)
     (barred_field (both (waiting_count_at prefix before) time_at) (λ m. ltb m.1 m.0) BadNumber mark_text (λ m. IsCount prefix before m.0 × (m.1 ≤ 2 ^ 62))
     (both_field (waiting_count_at prefix before) time_at (number w64) (number w64) (IsCount prefix before) (λ n. n ≤ 2 ^ 62) (count_field prefix before) time_field))
 
@@ -87,7 +87,7 @@ abbrev pub AreWaiting : ℕ → List (ℕ × ℕ) → Type 0
 AreWaiting prefix waiting = (length waiting < 2 ^ 32) × Chained (λ (m : ℕ × ℕ). m.0) (WaitingFits prefix) None waiting
 
 -- what can be told of a stream and counted
-pub record StreamIs (s : StreamTold) : Type 0 where
+pub record StreamIs (s : WireStream) : Type 0 where
   pub prefix : s.prefix ≤ 2 ^ 62
   pub closed : s.closed ≤ 2 ^ 62
   pub extra : AreExtras s.prefix s.extra
@@ -101,12 +101,12 @@ behind_text p = number w64 p.0 ++ (extras_text p.1.0 ++ waits_text p.1.1)
 
 behind_field : (prefix : ℕ) → IsField (stream_of prefix) behind_text (BehindFits prefix)
 behind_field prefix =
-    both_field time_at (both (counted (λ n. n) (extra_at prefix)) (counted (λ m. m.0) (waiting_at prefix))) (number w64) (λ p. extras_text p.0 ++ waits_text p.1) (λ n. n ≤ 2 ^ 62) (λ p. AreExtras prefix p.0 × AreWaiting prefix p.1) time_field
-    (both_field (counted (λ n. n) (extra_at prefix)) (counted (λ m. m.0) (waiting_at prefix)) extras_text waits_text (AreExtras prefix) (AreWaiting prefix)
+    both_field time_at (both (list_by_count (λ n. n) (extra_at prefix)) (list_by_count (λ m. m.0) (waiting_at prefix))) (number w64) (λ p. extras_text p.0 ++ waits_text p.1) (λ n. n ≤ 2 ^ 62) (λ p. AreExtras prefix p.0 × AreWaiting prefix p.1) time_field
+    (both_field (list_by_count (λ n. n) (extra_at prefix)) (list_by_count (λ m. m.0) (waiting_at prefix)) extras_text waits_text (AreExtras prefix) (AreWaiting prefix)
     (counted_field (λ (n : ℕ). n) (extra_at prefix) (number w64) (ExtraFits prefix) (extra_field prefix))
     (counted_field (λ (m : ℕ × ℕ). m.0) (waiting_at prefix) mark_text (WaitingFits prefix) (waiting_field prefix)))
 
-abbrev stream_told : ℕ × (ℕ × (List ℕ × List (ℕ × ℕ))) → StreamTold
+abbrev stream_told : ℕ × (ℕ × (List ℕ × List (ℕ × ℕ))) → WireStream
 stream_told p = record { prefix = p.0; closed = p.1.0; extra = p.1.1.0; waiting = p.1.1.1 }
 
 pub stream_field : IsField stream_at stream_text StreamIs
@@ -125,7 +125,7 @@ version_of p = record { table = p.0; key = p.1.0; born = p.1.1 }
 abbrev IsNamed : VersionKey → Type 0
 IsNamed v = (v.table < 2 ^ 16) × ((v.key < 2 ^ 64) × (v.born < 2 ^ 64))
 
-name_field : IsField (made version_of (both (number_at w16) (both (number_at w64) (number_at w64)))) version_text IsNamed
+name_field : IsField (mapped_value version_of (both (number_at w16) (both (number_at w64) (number_at w64)))) version_text IsNamed
 name_field =
     made_field version_of (λ v. (v.table, (v.key, v.born))) (both (number_at w16) (both (number_at w64) (number_at w64))) (λ p. number w16 p.0 ++ (number w64 p.1.0 ++ number w64 p.1.1)) version_text (λ p. (p.0 < 2 ^ 16) × ((p.1.0 < 2 ^ 64) × (p.1.1 < 2 ^ 64))) IsNamed
     (both_field (number_at w16) (both (number_at w64) (number_at w64)) (number w16) (λ p. number w64 p.0 ++ number w64 p.1) (λ n. n < 2 ^ 16) (λ p. (p.0 < 2 ^ 64) × (p.1 < 2 ^ 64)) field16
@@ -144,15 +144,15 @@ version_back before v h =
 version_field : (before : Option VersionKey) → IsField (version_at before) version_text (VersionFits before)
 unfolding version_at
 version_field before =
-    same_field (barred (barred (made version_of (both (number_at w16) (both (number_at w64) (number_at w64)))) (λ v. not (follows before v)) BadOrder) (λ v. ltb v.born 1 || ltb (2 ^ 62) v.born) BadNumber) version_text _ (VersionFits before) (version_there before) (version_back before)
-    (barred_field (barred (made version_of (both (number_at w16) (both (number_at w64) (number_at w64)))) (λ v. not (follows before v)) BadOrder) (λ v. ltb v.born 1 || ltb (2 ^ 62) v.born) BadNumber version_text (λ v. IsNamed v × (not (follows before v) ≡ false))
-    (barred_field (made version_of (both (number_at w16) (both (number_at w64) (number_at w64)))) (λ v. not (follows before v)) BadOrder version_text IsNamed name_field))
+    same_field (fault_where (fault_where (mapped_value version_of (both (number_at w16) (both (number_at w64) (number_at w64)))) (λ v. not (follows before v)) BadOrder) (λ v. ltb v.born 1 || ltb (2 ^ 62) v.born) BadNumber) version_text _ (VersionFits before) (version_there before) (version_back before)
+    (barred_field (fault_where (mapped_value version_of (both (number_at w16) (both (number_at w64) (number_at w64)))) (λ v. not (follows before v)) BadOrder) (λ v. ltb v.born 1 || ltb (2 ^ 62) v.born) BadNumber version_text (λ v. IsNamed v × (not (follows before v) ≡ false))
+    (barred_field (mapped_value version_of (both (number_at w16) (both (number_at w64) (number_at w64)))) (λ v. not (follows before v)) BadOrder version_text IsNamed name_field))
 
 died_field : (base horizon born : ℕ) → IsField (died_at base horizon born) (number w64) (EndFits base horizon born)
 died_field base horizon born =
-    same_field (barred time_at (λ died. not (end_stands base horizon born (Some died))) BadNumber) (number w64) (λ died. (died ≤ 2 ^ 62) × (not (end_stands base horizon born (Some died)) ≡ false)) (EndFits base horizon born)
-    (λ died h. (h.0, not_false (end_stands base horizon born (Some died)) h.1)) (λ died h. (h.0, true_not (end_stands base horizon born (Some died)) h.1))
-    (barred_field time_at (λ died. not (end_stands base horizon born (Some died))) BadNumber (number w64) (λ n. n ≤ 2 ^ 62) time_field)
+    same_field (fault_where time_at (λ died. not (is_valid_end base horizon born (Some died))) BadNumber) (number w64) (λ died. (died ≤ 2 ^ 62) × (not (is_valid_end base horizon born (Some died)) ≡ false)) (EndFits base horizon born)
+    (λ died h. (h.0, not_false (is_valid_end base horizon born (Some died)) h.1)) (λ died h. (h.0, true_not (is_valid_end base horizon born (Some died)) h.1))
+    (barred_field time_at (λ died. not (is_valid_end base horizon born (Some died))) BadNumber (number w64) (λ n. n ≤ 2 ^ 62) time_field)
 
 abbrev pub KnownFits : ℕ → ℕ → ℕ → VersionValue → Type 0
 KnownFits base horizon born x = PartsFit base horizon born x.row x.died
@@ -196,13 +196,13 @@ known_again base horizon born None (Some died) rest h = made_again end_only (die
 known_again base horizon born (Some row) None rest h = rw (lt-leb born base h.0) (made_again row_only row_at _ _ row_field row rest h.1)
 known_again base horizon born (Some row) (Some died) rest h = rw (lt-leb born base h.0) (made_again row_and_end (both row_at (died_at base horizon born)) _ _ (both_parts base horizon born) (row, died) rest h.1)
 
-known_field : (base horizon born : ℕ) → IsField (kinded (known_of base horizon born)) (λ x. known_flags x ∷ known_parts x) (KnownFits base horizon born)
+known_field : (base horizon born : ℕ) → IsField (by_kind (known_of base horizon born)) (λ x. known_flags x ∷ known_parts x) (KnownFits base horizon born)
 known_field base horizon born = kinded_field (known_of base horizon born) known_flags known_parts (KnownFits base horizon born) (record { takes = known_takes base horizon born; again = λ x rest h. known_again base horizon born x.row x.died rest h })
 
 fact_field : (base horizon : ℕ) (before : Option VersionKey) → IsField (fact_at base horizon before) fact_text (FactFits base horizon before)
 unfolding fact_at fact_text
 fact_field base horizon before =
-    after_field (version_at before) (λ v. kinded (known_of base horizon v.born)) version_text (λ x. known_flags x ∷ known_parts x) (VersionFits before) (λ v x. KnownFits base horizon v.born x) (version_field before) (λ v. known_field base horizon v.born)
+    after_field (version_at before) (λ v. by_kind (known_of base horizon v.born)) version_text (λ x. known_flags x ∷ known_parts x) (VersionFits before) (λ v x. KnownFits base horizon v.born x) (version_field before) (λ v. known_field base horizon v.born)
 
 abbrev pub AreFacts : ℕ → ℕ → List Known → Type 0
 AreFacts base horizon facts = (length facts < 2 ^ 32) × Chained (λ (e : Known). e.0) (FactFits base horizon) None facts
@@ -245,28 +245,28 @@ head_field =
     both_field (number_at w64) (both stream_count_at bounds_at) (number w64) (λ p. number w16 p.0 ++ bounds_text p.1) (λ n. n < 2 ^ 64) (λ p. StreamCount p.0 × BoundsFit p.1) field64
     (both_field stream_count_at bounds_at (number w16) bounds_text StreamCount BoundsFit stream_count_field bounds_field)
 
-abbrev AreStreams : ℕ → ℕ → List StreamTold → Type 0
-AreStreams horizon n streams = ((length streams ≡ n) × Chained no_stream (λ _. StreamIs) None streams) × (ltb (least_told streams) horizon ≡ false)
+abbrev AreStreams : ℕ → ℕ → List WireStream → Type 0
+AreStreams horizon n streams = ((length streams ≡ n) × Chained no_stream (λ _. StreamIs) None streams) × (ltb (least_closed_of streams) horizon ≡ false)
 
 streams_field : (horizon n : ℕ) → IsField (streams_at horizon n) (flat_map stream_text) (AreStreams horizon n)
 unfolding streams_at
 streams_field horizon n =
-    barred_field (list_at no_stream (λ _. stream_at) n None) (λ streams. ltb (least_told streams) horizon) BadNumber (flat_map stream_text) (λ streams. (length streams ≡ n) × Chained no_stream (λ _. StreamIs) None streams)
+    barred_field (list_at no_stream (λ _. stream_at) n None) (λ streams. ltb (least_closed_of streams) horizon) BadNumber (flat_map stream_text) (λ streams. (length streams ≡ n) × Chained no_stream (λ _. StreamIs) None streams)
     (many_field no_stream (λ _. stream_at) stream_text (λ _. StreamIs) (λ _. stream_field) n)
 
 -- what can be told of a fragment and counted
-record FragmentIs (f : FragmentTold) : Type 0 where
+record FragmentIs (f : WireFragment) : Type 0 where
   pub head : HeadFits (f.log, (length f.streams, (f.base, f.horizon)))
   pub streams : AreStreams f.horizon (length f.streams) f.streams
   pub facts : AreFacts f.base f.horizon f.facts
 
 abbrev Read : Type 0
-Read = ((ℕ × (ℕ × (ℕ × ℕ))) × List StreamTold) × List Known
+Read = ((ℕ × (ℕ × (ℕ × ℕ))) × List WireStream) × List Known
 
-abbrev told_of : Read → FragmentTold
-told_of p = record { log = p.0.0.0; base = p.0.0.1.1.0; horizon = p.0.0.1.1.1; streams = p.0.1; facts = p.1 }
+abbrev outcome_of : Read → WireFragment
+outcome_of p = record { log = p.0.0.0; base = p.0.0.1.1.0; horizon = p.0.0.1.1.1; streams = p.0.1; facts = p.1 }
 
-abbrev read_of : FragmentTold → Read
+abbrev read_of : WireFragment → Read
 read_of f = (((f.log, (length f.streams, (f.base, f.horizon))), f.streams), f.facts)
 
 abbrev read_text : Read → List ℕ
@@ -281,18 +281,18 @@ read_field =
     (after_field fragment_head_at (λ h. streams_at h.1.1.1 h.1.0) head_text (flat_map stream_text) HeadFits (λ h. AreStreams h.1.1.1 h.1.0) head_field (λ h. streams_field h.1.1.1 h.1.0))
     (λ p. facts_field p.0.1.1.0 p.0.1.1.1)
 
-same_text : (f : FragmentTold) → read_text (read_of f) ≡ fragment_text f
+same_text : (f : WireFragment) → read_text (read_of f) ≡ fragment_text f
 unfolding fragment_text
 same_text f = simp append_assoc
 
 told_field : IsField fragment_at fragment_text FragmentIs
 unfolding fragment_at
 told_field =
-    made_field told_of read_of (after (after fragment_head_at (λ h. streams_at h.1.1.1 h.1.0)) (λ p. facts_at p.0.1.1.0 p.0.1.1.1)) read_text fragment_text ReadFits FragmentIs read_field
+    made_field outcome_of read_of (after (after fragment_head_at (λ h. streams_at h.1.1.1 h.1.0)) (λ p. facts_at p.0.1.1.0 p.0.1.1.1)) read_text fragment_text ReadFits FragmentIs read_field
     (λ p h.
     let len : length p.0.1 ≡ p.0.0.1.0 = h.0.1.0.0 in
-    let same : read_text p ≡ read_text (read_of (told_of p)) = ap (λ (n : ℕ). (head_text (p.0.0.0, (n, p.0.0.1.1)) ++ flat_map stream_text p.0.1) ++ facts_text p.1) (sym len) in (
-      same ∙ same_text (told_of p),
+    let same : read_text p ≡ read_text (read_of (outcome_of p)) = ap (λ (n : ℕ). (head_text (p.0.0.0, (n, p.0.0.1.1)) ++ flat_map stream_text p.0.1) ++ facts_text p.1) (sym len) in (
+      same ∙ same_text (outcome_of p),
       record {
         head = subst (λ (n : ℕ). HeadFits (p.0.0.0, (n, p.0.0.1.1))) (sym len) h.0.0;
         streams = subst (λ (n : ℕ). AreStreams p.0.0.1.1.1 n p.0.1) (sym len) h.0.1;
@@ -307,23 +307,23 @@ and_true : (a b : Bool) → a ≡ true → b ≡ true → (a && b) ≡ true
 and_true true b p q = q
 and_true false b p q = absurd cc
 
-counted_there : (s : StreamTold) → StreamIs s → StreamFits s × (stream_is_counted s ≡ true)
+counted_there : (s : WireStream) → StreamIs s → StreamFits s × (stream_is_counted s ≡ true)
 counted_there s h =
     (record { prefix = h.prefix; closed = h.closed; extra = h.extra.1; waiting = h.waiting.1 }, and_true (ltb (length s.extra) (2 ^ 32)) (ltb (length s.waiting) (2 ^ 32)) (lt-ltb _ _ h.extra.0) (lt-ltb _ _ h.waiting.0))
 
-counted_back : (s : StreamTold) → StreamFits s → stream_is_counted s ≡ true → StreamIs s
+counted_back : (s : WireStream) → StreamFits s → stream_is_counted s ≡ true → StreamIs s
 counted_back s h c =
     let b = both_true (ltb (length s.extra) (2 ^ 32)) (ltb (length s.waiting) (2 ^ 32)) c in
     record { prefix = h.prefix; closed = h.closed; extra = (ltb-true _ _ b.0, h.extra); waiting = (ltb-true _ _ b.1, h.waiting) }
 
-streams_there : (before : Option (Unit {0})) (streams : List StreamTold) → Chained no_stream (λ _. StreamIs) before streams → AllByRecursion StreamFits streams × (streams_are_counted streams ≡ true)
+streams_there : (before : Option (Unit {0})) (streams : List WireStream) → Chained no_stream (λ _. StreamIs) before streams → AllByRecursion StreamFits streams × (streams_are_counted streams ≡ true)
 streams_there before [] h = (tt, refl)
 streams_there before (s ∷ streams) h =
     let first = counted_there s h.0 in
     let others = streams_there (Some tt) streams h.1 in
     ((first.0, others.0), and_true (stream_is_counted s) (streams_are_counted streams) first.1 others.1)
 
-streams_back : (before : Option (Unit {0})) (streams : List StreamTold) → AllByRecursion StreamFits streams → streams_are_counted streams ≡ true → Chained no_stream (λ _. StreamIs) before streams
+streams_back : (before : Option (Unit {0})) (streams : List WireStream) → AllByRecursion StreamFits streams → streams_are_counted streams ≡ true → Chained no_stream (λ _. StreamIs) before streams
 streams_back before [] h c = tt
 streams_back before (s ∷ streams) h c =
     let b = both_true (stream_is_counted s) (streams_are_counted streams) c in

@@ -8,29 +8,29 @@ use Rattle.hk_types.specs.Numbers.{checked_stream}
 use Rattle.hk_types.specs.declared.faults.FormFault.{FormFault}
 use Rattle.hk_model.specs.Streams.{StreamContent, stream_at as content_at, unknown, covers}
 use Rattle.hk_model.specs.Content.{least_closed}
-use Rattle.hk_marks.specs.Steps.{raised}
+use Rattle.hk_marks.specs.Steps.{with_prefix}
 use Rattle.hk_codec.specs.declared.cursor.ReadError.{ReadError}
 use Rattle.hk_codec.specs.declared.cursor.ReadError.TheVariants.{Memory, Fault}
 use Rattle.hk_codec.specs.Fields.{Fails, number_at, list_at}
 use Rattle.hk_codec.proofs.Loop.{with_front, goes_on, ends, is_done}
 use Rattle.hk_wire.specs.Readers.{time_at}
-use Rattle.hk_wire.specs.Fragments.{stream_seen, stream_at, no_stream, least_told}
-use Rattle.hk_wire.specs.FragmentSteps.{begun, extras_at, waits_at, streams_at, TakesExtra, TakesWaits, IsReady}
+use Rattle.hk_wire.specs.Fragments.{wire_stream_of, stream_at, no_stream, least_closed_of}
+use Rattle.hk_wire.specs.FragmentSteps.{stream_without_marks, extras_at, waits_at, streams_at, TakesExtra, TakesWaits, IsReady}
 use Rattle.hk_wire.proofs.Streaming.{raised_unknown, covers_taken, told_back}
 use Rattle.hk_wire.proofs.Taking.{at_its_place, front_none, less_none}
 
 -- ---- one stream
 
 -- a stream of which the prefix and the closed time were just told
-pub just_begun : (old got : List StreamContent) (s prefix closed : ℕ) → 1 ≤ s → s ≤ length old → content_at old s ≡ unknown → got ≡ set_at old (s - 1) (raised (content_at old s) prefix closed) → content_at got s ≡ begun prefix closed
+pub just_begun : (old got : List StreamContent) (s prefix closed : ℕ) → 1 ≤ s → s ≤ length old → content_at old s ≡ unknown → got ≡ set_at old (s - 1) (with_prefix (content_at old s) prefix closed) → content_at got s ≡ stream_without_marks prefix closed
 just_begun old got s prefix closed least most is step =
     ap (λ (g : List StreamContent). content_at g s) step
     ∙ at_its_place old s _ least most
-    ∙ ap (λ (x : StreamContent). raised x prefix closed) is
+    ∙ ap (λ (x : StreamContent). with_prefix x prefix closed) is
     ∙ raised_unknown prefix closed
 
-pub begun_itself : (x : StreamContent) (prefix closed : ℕ) → x ≡ begun prefix closed → x ≡ begun prefix x.closed
-begun_itself x prefix closed is = is ∙ ap (λ (c : ℕ). begun prefix c) (sym (ap (λ (y : StreamContent). y.closed) is))
+pub begun_itself : (x : StreamContent) (prefix closed : ℕ) → x ≡ stream_without_marks prefix closed → x ≡ stream_without_marks prefix x.closed
+begun_itself x prefix closed is = is ∙ ap (λ (c : ℕ). stream_without_marks prefix c) (sym (ap (λ (y : StreamContent). y.closed) is))
 
 -- after its numbers no mark waits yet
 pub is_ready : (prefix count closed : ℕ) (bytes rest : List ℕ) (x : StreamContent) → TakesExtra prefix count closed bytes rest x → IsReady prefix x
@@ -41,12 +41,12 @@ is_ready prefix count closed bytes rest x h =
     }
 
 -- what was read of a stream
-pub stream_read : (prefix closed count many : ℕ) (b0 b1 b2 b3 b4 b5 b6 : List ℕ) (x y z : StreamContent) → x ≡ begun prefix closed → time_at b0 ≡ Ok (prefix, b1) → time_at b1 ≡ Ok (closed, b2) → number_at w32 b2 ≡ Ok (count, b3) → TakesExtra prefix count x.closed b3 b4 y → number_at w32 b4 ≡ Ok (many, b5) → TakesWaits prefix many y b5 b6 z
-    → stream_at b0 ≡ Ok (stream_seen z, b6)
+pub stream_read : (prefix closed count many : ℕ) (b0 b1 b2 b3 b4 b5 b6 : List ℕ) (x y z : StreamContent) → x ≡ stream_without_marks prefix closed → time_at b0 ≡ Ok (prefix, b1) → time_at b1 ≡ Ok (closed, b2) → number_at w32 b2 ≡ Ok (count, b3) → TakesExtra prefix count x.closed b3 b4 y → number_at w32 b4 ≡ Ok (many, b5) → TakesWaits prefix many y b5 b6 z
+    → stream_at b0 ≡ Ok (wire_stream_of z, b6)
 unfolding stream_at
 stream_read prefix closed count many b0 b1 b2 b3 b4 b5 b6 x y z is first second third h fourth k =
     let time : z.closed ≡ closed = ap (λ (u : StreamContent). u.closed) k.made ∙ ap (λ (u : StreamContent). u.closed) h.made ∙ ap (λ (u : StreamContent). u.closed) is in
-    let told : stream_seen z ≡ record { prefix = prefix; closed = closed; extra = h.extra; waiting = k.waiting } =
+    let told : wire_stream_of z ≡ record { prefix = prefix; closed = closed; extra = h.extra; waiting = k.waiting } =
     told_back z prefix h.extra k.waiting (ap (λ (u : StreamContent). u.taken) k.made ∙ ap (λ (u : StreamContent). u.taken) h.made) (ap (λ (u : StreamContent). u.waiting) k.made) h.fit k.fit
     ∙ ap (λ (c : ℕ). record { prefix = prefix; closed = c; extra = h.extra; waiting = k.waiting }) time in
     rw (told, first, second, third, h.read, fourth, k.read) refl
@@ -80,7 +80,7 @@ unknown_all (suc n) (suc j) = unknown_all n j
 pub record StreamsSoFar (count i : ℕ) (got : List StreamContent) (bytes rest : List ℕ) : Type 0 where
   pub len : length got ≡ count
   pub others : (j : ℕ) → i ≤ j → get_or got j unknown ≡ unknown
-  pub read : with_front (map stream_seen (take i got)) (streams_at (count - i) None rest) ≡ streams_at count None bytes
+  pub read : with_front (map wire_stream_of (take i got)) (streams_at (count - i) None rest) ≡ streams_at count None bytes
 
 pub streams_begin : (count : ℕ) (got : List StreamContent) (bytes : List ℕ) → count ≡ length got → got ≡ replicate (length got) unknown → StreamsSoFar count 0 got bytes bytes
 streams_begin count got bytes len is =
@@ -100,26 +100,26 @@ apart : (i j : ℕ) → i + 1 ≤ j → j ≡ i → ⊥
 apart i j le is = omega (arith, le, is)
 
 module _ (count i : ℕ) (got : List StreamContent) (bytes rest : List ℕ) (h : StreamsSoFar count i got bytes rest) where
-  pub streams_go : (x : StreamContent) (after : List ℕ) (next : List StreamContent) → i < count → stream_at rest ≡ Ok (stream_seen x, after) → next ≡ set_at got i x → StreamsSoFar count (i + 1) next bytes after
+  pub streams_go : (x : StreamContent) (after : List ℕ) (next : List StreamContent) → i < count → stream_at rest ≡ Ok (wire_stream_of x, after) → next ≡ set_at got i x → StreamsSoFar count (i + 1) next bytes after
   streams_go x after next lt e is =
       let within : i < length got = omega (arith, h.len) in
-      let front : map stream_seen (take (i + 1) next) ≡ map stream_seen (take i got) ++ stream_seen x ∷ [] =
-      ap (λ (g : List StreamContent). map stream_seen (take (i + 1) g)) is ∙ ap (map stream_seen) (take-set_at got i (i + 1) x refl within) ∙ map-append stream_seen (take i got) (x ∷ []) in
+      let front : map wire_stream_of (take (i + 1) next) ≡ map wire_stream_of (take i got) ++ wire_stream_of x ∷ [] =
+      ap (λ (g : List StreamContent). map wire_stream_of (take (i + 1) g)) is ∙ ap (map wire_stream_of) (take-set_at got i (i + 1) x refl within) ∙ map-append wire_stream_of (take i got) (x ∷ []) in
       record {
         len = ap length is ∙ length-set got i x ∙ h.len;
         others = λ j le. ap (λ (g : List StreamContent). get_or g j unknown) is ∙ get_or-set_other got i j x unknown (apart i j le) ∙ h.others j (omega (arith, le));
         read =
             (λ k. with_front (front k) (any_before (count - (i + 1)) after k))
-            ∙ goes_on no_stream (λ _. stream_at) (map stream_seen (take i got)) count i None rest (stream_seen x) after (streams_at count None bytes) lt e h.read;
+            ∙ goes_on no_stream (λ _. stream_at) (map wire_stream_of (take i got)) count i None rest (wire_stream_of x) after (streams_at count None bytes) lt e h.read;
       }
 
   pub streams_end : (e : ReadError) → i < count → Fails e (stream_at rest) → Fails e (streams_at count None bytes)
-  streams_end e lt f = ends no_stream (λ _. stream_at) e (map stream_seen (take i got)) count i None rest (streams_at count None bytes) lt f h.read
+  streams_end e lt f = ends no_stream (λ _. stream_at) e (map wire_stream_of (take i got)) count i None rest (streams_at count None bytes) lt f h.read
 
-  pub streams_done : count ≤ i → streams_at count None bytes ≡ Ok (map stream_seen got, rest)
+  pub streams_done : count ≤ i → streams_at count None bytes ≡ Ok (map wire_stream_of got, rest)
   streams_done le =
-      is_done no_stream (λ _. stream_at) (map stream_seen (take i got)) count i None rest (streams_at count None bytes) le h.read
-      ∙ ap (λ (g : List StreamContent). Ok (map stream_seen g, rest)) (take_all i got (omega (arith, h.len)))
+      is_done no_stream (λ _. stream_at) (map wire_stream_of (take i got)) count i None rest (streams_at count None bytes) le h.read
+      ∙ ap (λ (g : List StreamContent). Ok (map wire_stream_of g, rest)) (take_all i got (omega (arith, h.len)))
 
 -- streams have numbers from 1
 pub stream_there : (n : ℕ) → 1 ≤ n → n ≤ 64 → checked_stream n ≡ Ok n
@@ -132,13 +132,13 @@ is_stream n s least most e = same (e ∙ stream_there n least most)
     same h = cc
 
 pub no_fault : (n : ℕ) (f : FormFault) → 1 ≤ n → n ≤ 64 → Err f ≡ checked_stream n → ⊥
-no_fault n f least most e = differ (e ∙ stream_there n least most)
+no_fault n f least most e = values_conflict (e ∙ stream_there n least most)
   where
-    differ : ◌≡◌ {A = Result ℕ FormFault} (Err f) (Ok n) → ⊥
-    differ h = cc
+    values_conflict : ◌≡◌ {A = Result ℕ FormFault} (Err f) (Ok n) → ⊥
+    values_conflict h = cc
 
 -- the least closed time is told
-pub least_seen : (streams : List StreamContent) → least_told (map stream_seen streams) ≡ least_closed streams
+pub least_seen : (streams : List StreamContent) → least_closed_of (map wire_stream_of streams) ≡ least_closed streams
 least_seen [] = refl
 least_seen (s ∷ []) = refl
 least_seen (s ∷ t ∷ more) = ap (min s.closed) (least_seen (t ∷ more))

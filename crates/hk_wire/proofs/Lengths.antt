@@ -1,4 +1,4 @@
--- How long the spellings are.
+-- How long the encodings are.
 use Rattle.std.proofs.Common.{◌≡◌, ℕ, suc, ◌+◌, ◌*◌, ◌<◌, List, [], ◌∷◌, Option, Some, None, length, take, get_or, refl, ap, ◌∙◌, arith}
 use Rattle.std.specs.List.{flat_map}
 use Rattle.std.proofs.lemmas.List.{length-append, append-nil, take_more}
@@ -15,9 +15,9 @@ use Rattle.hk_wire.specs.Refusals.{refusal_text}
 use Rattle.hk_wire.specs.Replies.{Done, Front as Told, Fragment, Answer, Refused, reply_rest}
 use Rattle.hk_wire.specs.Queries.{query_text}
 use Rattle.hk_log.specs.declared.item.Item.{Item}
-use Rattle.hk_codec.specs.Frames.{spelling}
+use Rattle.hk_codec.specs.Frames.{encoding_of}
 use Rattle.hk_wire.specs.Requests.{Items, Front as AskFront, Delta, Full, Ask, JoinThis, MergeThis, Prune, request_rest}
-use Rattle.hk_wire.specs.Fragments.{StreamTold, FragmentTold, mark_text, stream_text, parts_text, fact_text, fragment_text}
+use Rattle.hk_wire.specs.Fragments.{WireStream, WireFragment, mark_text, stream_text, parts_text, fact_text, fragment_text}
 use Rattle.hk_log.specs.Versions.{VersionValue}
 use Rattle.hk_types.specs.declared.version_key.VersionKey.{VersionKey}
 use Rattle.hk_codec.specs.Fields.{number}
@@ -130,7 +130,7 @@ each_len text n each (x ∷ xs) =
 mark_len : (m : ℕ × ℕ) → length (mark_text m) ≡ 16
 mark_len m = simp (length-append, len64) refl
 
-pub stream_text_len : (s : StreamTold) → length (stream_text s) ≡ 24 + 8 * length s.extra + 16 * length s.waiting
+pub stream_text_len : (s : WireStream) → length (stream_text s) ≡ 24 + 8 * length s.extra + 16 * length s.waiting
 unfolding stream_text
 stream_text_len s =
     let e = each_len (number w64) 8 (λ n. len64 n) s.extra in
@@ -147,24 +147,24 @@ fact_text_len v x = simp (length-append, len64, len16) (parts x.row x.died)
     parts (Some r) None = omega arith
     parts (Some r) (Some d) = simp length-append (omega arith)
 
-pub fragment_text_len : (f : FragmentTold) → length (fragment_text f) ≡ 30 + (length (flat_map stream_text f.streams) + length (flat_map fact_text f.facts))
+pub fragment_text_len : (f : WireFragment) → length (fragment_text f) ≡ 30 + (length (flat_map stream_text f.streams) + length (flat_map fact_text f.facts))
 unfolding fragment_text
 fragment_text_len f = simp (length-append, len64, len32, len16) (omega arith)
 
-pub join_this_len : (f : FragmentTold) → length (request_rest (JoinThis f)) ≡ 2 + length (fragment_text f)
+pub join_this_len : (f : WireFragment) → length (request_rest (JoinThis f)) ≡ 2 + length (fragment_text f)
 unfolding request_rest
 join_this_len f = omega arith
 
-pub merge_this_len : (f : FragmentTold) → length (request_rest (MergeThis f)) ≡ 2 + length (fragment_text f)
+pub merge_this_len : (f : WireFragment) → length (request_rest (MergeThis f)) ≡ 2 + length (fragment_text f)
 unfolding request_rest
 merge_this_len f = omega arith
 
-pub fragment_rest_len : (f : FragmentTold) → length (reply_rest (Fragment f)) ≡ 2 + length (fragment_text f)
+pub fragment_rest_len : (f : WireFragment) → length (reply_rest (Fragment f)) ≡ 2 + length (fragment_text f)
 unfolding reply_rest
 fragment_rest_len f = omega arith
 
 -- ---- items
 
-pub items_rest_len : (items : List Item) → length (request_rest (Items items)) ≡ 6 + length (flat_map spelling items)
+pub items_rest_len : (items : List Item) → length (request_rest (Items items)) ≡ 6 + length (flat_map encoding_of items)
 unfolding request_rest
 items_rest_len items = simp (length-append, len32) (omega arith)

@@ -13,4 +13,4 @@ pub mod Standing
 pub mod Putting
 pub mod Telling
 pub mod Fitting
-pub mod Spelled
+pub mod Encoded

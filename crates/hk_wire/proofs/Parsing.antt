@@ -1,4 +1,4 @@
--- Readers and spellings that undo each other, and how they are put together.
+-- Readers and encodings that undo each other, and how they are put together.
 use Rattle.std.proofs.Common.{◌≡◌, ℕ, zero, suc, ◌^◌, ◌<◌, ◌≤◌, Bool, true, false, cond, eqb, ltb, leb, List, [], ◌∷◌, ◌++◌, length, Result, Ok, refl, sym, ap, subst, ◌∙◌, append_assoc, arith, Option, Some, None}
 use Rattle.std.specs.List.{flat_map}
 use Rattle.std.proofs.lemmas.List.Concat.{flat_map-cons}
@@ -12,10 +12,10 @@ use Rattle.hk_codec.specs.Framing.{IsFormat}
 use Rattle.hk_codec.proofs.Steps.{bind_ok, check_ok, ok_is, passes, Takes, Takes-then}
 use Rattle.hk_codec.proofs.Numbers.{IsWide, wide16, wide32, wide64, number_takes, number_again}
 use Rattle.hk_codec.proofs.Found.{byte_takes}
-use Rattle.hk_wire.specs.Readers.{Reader, both, barred, made, kinded, listed, counted, time_at, Chained}
+use Rattle.hk_wire.specs.Readers.{Reader, both, fault_where, mapped_value, by_kind, list_by, list_by_count, time_at, Chained}
 use Rattle.hk_wire.specs.Messages.{message_text, head_at, message_at}
 
--- what is read is spelled so, and what is spelled so is read again
+-- what is read is encoded so, and what is encoded so is read again
 pub record IsField {X : Type 0} (read : Reader X) (text : X → List ℕ) (Is : X → Type 0) : Type 0 where
   pub takes : (bytes : List ℕ) (x : X × List ℕ) → IsBytes bytes → read bytes ≡ Ok x → Takes bytes (text x.0) x.1 × Is x.0
   pub again : (x : X) (rest : List ℕ) → Is x → read (text x ++ rest) ≡ Ok (x, rest)
@@ -50,7 +50,7 @@ both_field {A = A} {B = B} a b s t P Q f g =
     }
 
 -- with a fault where the value is barred
-pub barred_field : {A : Type 0} (a : Reader A) (bad : A → Bool) (fault : FormFault) (s : A → List ℕ) (P : A → Type 0) → IsField a s P → IsField (barred a bad fault) s (λ x. P x × (bad x ≡ false))
+pub barred_field : {A : Type 0} (a : Reader A) (bad : A → Bool) (fault : FormFault) (s : A → List ℕ) (P : A → Type 0) → IsField a s P → IsField (fault_where a bad fault) s (λ x. P x × (bad x ≡ false))
 barred_field {A = A} a bad fault s P f =
     record {
       takes = λ bytes x fits e.
@@ -74,13 +74,13 @@ same_field r s P Q there back f =
 pub time_field : IsField time_at (number w64) (λ n. n ≤ 2 ^ 62)
 unfolding time_at
 time_field =
-    same_field (barred (number_at w64) (λ n. ltb (2 ^ 62) n) BadNumber) (number w64) (λ n. (n < 2 ^ 64) × (ltb (2 ^ 62) n ≡ false)) (λ n. n ≤ 2 ^ 62)
+    same_field (fault_where (number_at w64) (λ n. ltb (2 ^ 62) n) BadNumber) (number w64) (λ n. (n < 2 ^ 64) × (ltb (2 ^ 62) n ≡ false)) (λ n. n ≤ 2 ^ 62)
     (λ n h. ltb-false (2 ^ 62) n h.1) (λ n h. (omega (arith, h), le-ltb (2 ^ 62) n h))
     (barred_field (number_at w64) (λ n. ltb (2 ^ 62) n) BadNumber (number w64) (λ n. n < 2 ^ 64) field64)
 
 -- what is made of a value, where the value can be made back
 pub made_field : {A B : Type 0} (f : A → B) (g : B → A) (r : Reader A) (s : A → List ℕ) (t : B → List ℕ) (P : A → Type 0) (Q : B → Type 0) → IsField r s P
-    → ((a : A) → P a → (s a ≡ t (f a)) × Q (f a)) → ((b : B) → Q b → (f (g b) ≡ b) × ((t b ≡ s (g b)) × P (g b))) → IsField (made f r) t Q
+    → ((a : A) → P a → (s a ≡ t (f a)) × Q (f a)) → ((b : B) → Q b → (f (g b) ≡ b) × ((t b ≡ s (g b)) × P (g b))) → IsField (mapped_value f r) t Q
 made_field {A = A} {B = B} f g r s t P Q field there back =
     record {
       takes = λ bytes x fits e.
@@ -91,19 +91,19 @@ made_field {A = A} {B = B} f g r s t P Q field there back =
           (subst (λ (w : List ℕ). Takes bytes w y.0.1) v.0 u.0, v.1);
       again = λ b rest h.
           let v = back b h in
-          ap (λ (w : List ℕ). made f r (w ++ rest)) v.1.0
+          ap (λ (w : List ℕ). mapped_value f r (w ++ rest)) v.1.0
           ∙ ap (λ (y : Result (A × List ℕ) FormFault). y >>= λ p. Ok (f p.0, p.1)) (field.again (g b) rest v.1.1)
           ∙ ap (λ (c : B). Ok (c, rest)) v.0;
     }
 
 -- ---- kinds
 
--- a reader by kinds and a spelling that undo each other
+-- a reader by kinds and an encoding that undo each other
 pub record AreKinds {X : Type 0} (of_kind : ℕ → Reader X) (kind : X → ℕ) (text : X → List ℕ) (Is : X → Type 0) : Type 0 where
   pub takes : (k : ℕ) (bytes : List ℕ) (x : X × List ℕ) → IsBytes bytes → of_kind k bytes ≡ Ok x → (kind x.0 ≡ k) × (Takes bytes (text x.0) x.1 × Is x.0)
   pub again : (x : X) (rest : List ℕ) → Is x → of_kind (kind x) (text x ++ rest) ≡ Ok (x, rest)
 
-pub kinded_field : {X : Type 0} (of_kind : ℕ → Reader X) (kind : X → ℕ) (text : X → List ℕ) (Is : X → Type 0) → AreKinds of_kind kind text Is → IsField (kinded of_kind) (λ x. kind x ∷ text x) Is
+pub kinded_field : {X : Type 0} (of_kind : ℕ → Reader X) (kind : X → ℕ) (text : X → List ℕ) (Is : X → Type 0) → AreKinds of_kind kind text Is → IsField (by_kind of_kind) (λ x. kind x ∷ text x) Is
 unfolding byte_at
 kinded_field {X = X} of_kind kind text Is f =
     record {
@@ -126,7 +126,7 @@ this_or k c x y z P e this other = by (eqb k c) refl e
 -- a value of a kind, made of what a reader gives
 pub made_takes : {A X : Type 0} (f : A → X) (r : Reader A) (s : A → List ℕ) (P : A → Type 0) → IsField r s P
     → (kind : X → ℕ) (text : X → List ℕ) (Is : X → Type 0) (k : ℕ) → ((a : A) → kind (f a) ≡ k) → ((a : A) → text (f a) ≡ s a) → ((a : A) → P a → Is (f a))
-    → (bytes : List ℕ) (x : X × List ℕ) → IsBytes bytes → made f r bytes ≡ Ok x → (kind x.0 ≡ k) × (Takes bytes (text x.0) x.1 × Is x.0)
+    → (bytes : List ℕ) (x : X × List ℕ) → IsBytes bytes → mapped_value f r bytes ≡ Ok x → (kind x.0 ≡ k) × (Takes bytes (text x.0) x.1 × Is x.0)
 made_takes {A = A} {X = X} f r s P field kind text Is k kinds texts is bytes x fits e =
     let y = bind_ok (r bytes) (λ a. Ok (f a.0, a.1)) x e in
     let u = field.takes bytes y.0 fits y.1 in
@@ -139,7 +139,7 @@ nothing_takes {X = X} v kind text Is k kinds texts is bytes x fits e =
     subst (λ (p : X × List ℕ). (kind p.0 ≡ k) × (Takes bytes (text p.0) p.1 × Is p.0)) {x = (v, bytes)} (ok_is (v, bytes) x e)
     (kinds, (subst (λ (t : List ℕ). Takes bytes t bytes) (sym texts) (record { parts = refl; rest_fits = fits }), is))
 
-pub made_again : {A X : Type 0} (f : A → X) (r : Reader A) (s : A → List ℕ) (P : A → Type 0) → IsField r s P → (a : A) (rest : List ℕ) → P a → made f r (s a ++ rest) ≡ Ok (f a, rest)
+pub made_again : {A X : Type 0} (f : A → X) (r : Reader A) (s : A → List ℕ) (P : A → Type 0) → IsField r s P → (a : A) (rest : List ℕ) → P a → mapped_value f r (s a ++ rest) ≡ Ok (f a, rest)
 made_again {A = A} f r s P field a rest h = ap (λ (y : Result (A × List ℕ) FormFault). y >>= λ p. Ok (f p.0, p.1)) (field.again a rest h)
 
 -- ---- messages
@@ -229,7 +229,7 @@ module _ {X P : Type 0} (place : X → P) (one : Option P → Reader X) (text : 
         again = λ xs rest h. ap (λ (k : ℕ). list_at place one k None (flat_map text xs ++ rest)) (sym h.0) ∙ list_again xs None rest h.1;
       }
 
-  pub listed_field : (count_at : Reader ℕ) (Most : ℕ → Type 0) → IsField count_at (number w32) Most → IsField (listed count_at place one) (λ xs. number w32 (length xs) ++ flat_map text xs) (λ xs. Most (length xs) × Chained place Fit None xs)
+  pub listed_field : (count_at : Reader ℕ) (Most : ℕ → Type 0) → IsField count_at (number w32) Most → IsField (list_by count_at place one) (λ xs. number w32 (length xs) ++ flat_map text xs) (λ xs. Most (length xs) × Chained place Fit None xs)
   listed_field count_at Most counts =
       record {
         takes = λ bytes x fits e.
@@ -239,10 +239,10 @@ module _ {X P : Type 0} (place : X → P) (one : Option P → Reader X) (text : 
             let both = Takes-then bytes (number w32 a.0.0) a.0.1 (flat_map text x.0) x.1 t.0 l.takes in
             (subst (λ (k : ℕ). Takes bytes (number w32 k ++ flat_map text x.0) x.1) (sym l.len) both, (subst Most (sym l.len) t.1, l.each));
         again = λ xs rest h.
-            ap (listed count_at place one) (append_assoc (number w32 (length xs)) (flat_map text xs) rest)
+            ap (list_by count_at place one) (append_assoc (number w32 (length xs)) (flat_map text xs) rest)
             ∙ ap (λ (r : Result (ℕ × List ℕ) FormFault). r >>= λ count. list_at place one count.0 None count.1) (counts.again (length xs) (flat_map text xs ++ rest) h.0)
             ∙ list_again xs None rest h.1;
       }
 
-  pub counted_field : IsField (counted place one) (λ xs. number w32 (length xs) ++ flat_map text xs) (λ xs. (length xs < 2 ^ 32) × Chained place Fit None xs)
+  pub counted_field : IsField (list_by_count place one) (λ xs. number w32 (length xs) ++ flat_map text xs) (λ xs. (length xs < 2 ^ 32) × Chained place Fit None xs)
   counted_field = listed_field (number_at w32) (λ n. n < 2 ^ 32) field32

@@ -1,4 +1,4 @@
--- Refusals: what is read is spelled so, and what is spelled so is read again.
+-- Refusals: what is read is encoded so, and what is encoded so is read again.
 use Rattle.std.proofs.Common.{◌≡◌, ℕ, ◌^◌, ◌<◌, ◌≤◌, Bool, true, false, cond, not, eqb, List, [], ◌∷◌, ◌++◌, Option, Some, None, Ok, refl, sym, ap, subst, ◌∙◌, arith}
 use Rattle.std.specs.Int.{w64}
 use Rattle.std.specs.List.{AllByRecursion}
@@ -9,7 +9,7 @@ use Rattle.hk_types.specs.declared.faults.Refusal.{Refusal}
 use Rattle.hk_types.specs.declared.faults.Refusal.TheVariants.{Form, ForeignLog, WrongStreams, Gap, Conflict, AheadOfMark, TooOld, NotYet, WriteConflict, NoRow, TwiceWritten, TooManyWrites, NoStream, ClockFull, Held, Damaged, Unpublished, NodeFull, NoHold, NoSuch, Memory}
 use Rattle.hk_codec.specs.Fields.{IsBytes, number, number_at}
 use Rattle.hk_codec.proofs.Steps.{Takes}
-use Rattle.hk_wire.specs.Readers.{both, barred, time_at}
+use Rattle.hk_wire.specs.Readers.{both, fault_where, time_at}
 use Rattle.hk_wire.specs.Refusals.{refusal_fields, refusal_text, is_sent, RefusalFits, zero_at, plain_refusals, first_with, plain, plain_of, refusal_of, refusal_at}
 use Rattle.hk_wire.proofs.Parsing.{IsField, field64, time_field, both_field, barred_field, made_field, this_or, made_takes, made_again, kinded_field}
 
@@ -32,7 +32,7 @@ zero_is n e = by (eqb n 0) refl e
 zero_field : IsField zero_at zero_text Always
 unfolding zero_at
 zero_field =
-    made_field (λ (n : ℕ). tt) (λ (u : Unit {0}). 0) (barred (number_at w64) (λ n. not (eqb n 0)) BadNumber) (number w64) zero_text (λ n. (n < 2 ^ 64) × (not (eqb n 0) ≡ false)) Always
+    made_field (λ (n : ℕ). tt) (λ (u : Unit {0}). 0) (fault_where (number_at w64) (λ n. not (eqb n 0)) BadNumber) (number w64) zero_text (λ n. (n < 2 ^ 64) × (not (eqb n 0) ≡ false)) Always
     (barred_field (number_at w64) (λ n. not (eqb n 0)) BadNumber (number w64) (λ n. n < 2 ^ 64) field64)
     (λ n h. (ap (number w64) (zero_is n h.1), tt)) (λ u h. (refl, (refl, (omega arith, refl))))
 

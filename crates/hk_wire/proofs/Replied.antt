@@ -1,4 +1,4 @@
--- Replies: what is read is spelled so, and what is spelled so is read again.
+-- Replies: what is read is encoded so, and what is encoded so is read again.
 use Rattle.std.proofs.Common.{◌≡◌, ℕ, zero, suc, ◌^◌, ◌<◌, ◌≤◌, Bool, true, false, ◌&&◌, ◌||◌, eqb, ltb, leb, List, ◌∷◌, ◌++◌, length, Ok, refl, sym, arith}
 use Rattle.std.specs.Int.{w64}
 use Rattle.std.proofs.lemmas.Bool.{ltb-true, ltb-false, lt-ltb, le-ltb, leb-true, le-leb, eqb-false, ne_eqb}
@@ -9,10 +9,10 @@ use Rattle.hk_codec.specs.Framing.{IsFormat}
 use Rattle.hk_codec.proofs.Steps.{Takes, neither, both as both_true}
 use Rattle.hk_model.specs.Answers.{AnswerValue}
 use Rattle.hk_wire.specs.Answers.{answer_at}
-use Rattle.hk_wire.specs.Fragments.{FragmentTold, fragment_at}
+use Rattle.hk_wire.specs.Fragments.{WireFragment, fragment_at}
 use Rattle.hk_wire.proofs.Fragmented.{fragment_field}
 use Rattle.hk_wire.proofs.Answered.{answer_field}
-use Rattle.hk_wire.specs.Readers.{both, barred, time_at}
+use Rattle.hk_wire.specs.Readers.{both, fault_where, time_at}
 use Rattle.hk_wire.specs.Messages.{message_at}
 use Rattle.hk_wire.specs.Refusals.{refusal_at}
 use Rattle.hk_wire.specs.Replies.{ReplyValue, Done, Front as Told, Fragment, Answer, Refused, reply_kind, reply_body, reply_rest, keeps_rules, ReplyFits, IsReply, ops_at, front_at, reply_of, reply_at}
@@ -54,7 +54,7 @@ ops_back n h =
 ops_field : IsField ops_at (number w64) IsOps
 unfolding ops_at
 ops_field =
-    same_field (barred (number_at w64) (λ ops. eqb ops 0 || ltb (2 ^ 62) ops) BadNumber) (number w64) (λ n. (n < 2 ^ 64) × ((eqb n 0 || ltb (2 ^ 62) n) ≡ false)) IsOps ops_there ops_back
+    same_field (fault_where (number_at w64) (λ ops. eqb ops 0 || ltb (2 ^ 62) ops) BadNumber) (number w64) (λ n. (n < 2 ^ 64) × ((eqb n 0 || ltb (2 ^ 62) n) ≡ false)) IsOps ops_there ops_back
     (barred_field (number_at w64) (λ ops. eqb ops 0 || ltb (2 ^ 62) ops) BadNumber (number w64) (λ n. n < 2 ^ 64) field64)
 
 -- ---- fronts
@@ -62,13 +62,13 @@ ops_field =
 abbrev front_text : ℕ × ℕ → List ℕ
 front_text p = number w64 p.0 ++ number w64 p.1
 
-abbrev IsFront : ℕ × ℕ → Type 0
-IsFront p = ((p.0 ≤ 2 ^ 62) × (p.1 ≤ 2 ^ 62)) × (leb p.0 p.1 ≡ true)
+abbrev IsPrefixOf : ℕ × ℕ → Type 0
+IsPrefixOf p = ((p.0 ≤ 2 ^ 62) × (p.1 ≤ 2 ^ 62)) × (leb p.0 p.1 ≡ true)
 
-front_field : IsField front_at front_text IsFront
+front_field : IsField front_at front_text IsPrefixOf
 unfolding front_at
 front_field =
-    same_field (barred (both time_at time_at) (λ p. ltb p.1 p.0) BadNumber) front_text (λ p. ((p.0 ≤ 2 ^ 62) × (p.1 ≤ 2 ^ 62)) × (ltb p.1 p.0 ≡ false)) IsFront
+    same_field (fault_where (both time_at time_at) (λ p. ltb p.1 p.0) BadNumber) front_text (λ p. ((p.0 ≤ 2 ^ 62) × (p.1 ≤ 2 ^ 62)) × (ltb p.1 p.0 ≡ false)) IsPrefixOf
     (λ p h. (h.0, le-leb p.0 p.1 (ltb-false p.1 p.0 h.1))) (λ p h. (h.0, le-ltb p.1 p.0 (leb-true p.0 p.1 h.1)))
     (barred_field (both time_at time_at) (λ p. ltb p.1 p.0) BadNumber front_text (λ p. (p.0 ≤ 2 ^ 62) × (p.1 ≤ 2 ^ 62))
     (both_field time_at time_at (number w64) (number w64) (λ n. n ≤ 2 ^ 62) (λ n. n ≤ 2 ^ 62) time_field time_field))
@@ -78,10 +78,10 @@ front_field =
 abbrev done_of : ℕ → ReplyValue
 done_of ops = Done ops
 
-abbrev told_of : ℕ × ℕ → ReplyValue
-told_of p = Told p.0 p.1
+abbrev outcome_of : ℕ × ℕ → ReplyValue
+outcome_of p = Told p.0 p.1
 
-abbrev fragment_of : FragmentTold → ReplyValue
+abbrev fragment_of : WireFragment → ReplyValue
 fragment_of f = Fragment f
 
 abbrev answered_of : AnswerValue → ReplyValue
@@ -102,7 +102,7 @@ reply_takes k bytes x fits e =
     this_or k 32 _ _ x (IsReplyOf k bytes x) e
     (λ is f. made_takes done_of ops_at _ _ ops_field reply_kind reply_body Keeps k (λ a. sym is) (λ a. refl) (λ a h. h) bytes x fits f)
     (λ e2. this_or k 33 _ _ x (IsReplyOf k bytes x) e2
-    (λ is f. made_takes told_of front_at _ _ front_field reply_kind reply_body Keeps k (λ a. sym is) (λ a. refl) (λ a h. h) bytes x fits f)
+    (λ is f. made_takes outcome_of front_at _ _ front_field reply_kind reply_body Keeps k (λ a. sym is) (λ a. refl) (λ a h. h) bytes x fits f)
     (λ e3. this_or k 34 _ _ x (IsReplyOf k bytes x) e3
     (λ is f. made_takes fragment_of fragment_at _ _ fragment_field reply_kind reply_body Keeps k (λ a. sym is) (λ a. refl) (λ a h. h) bytes x fits f)
     (λ e6. this_or k 35 _ _ x (IsReplyOf k bytes x) e6
@@ -114,7 +114,7 @@ reply_takes k bytes x fits e =
 reply_again : (r : ReplyValue) (rest : List ℕ) → Keeps r → reply_of (reply_kind r) (reply_body r ++ rest) ≡ Ok (r, rest)
 unfolding reply_of
 reply_again (Done ops) rest h = made_again done_of ops_at _ _ ops_field ops rest h
-reply_again (Told horizon readable) rest h = made_again told_of front_at _ _ front_field (horizon, readable) rest h
+reply_again (Told horizon readable) rest h = made_again outcome_of front_at _ _ front_field (horizon, readable) rest h
 reply_again (Fragment f) rest h = made_again fragment_of fragment_at _ _ fragment_field f rest h
 reply_again (Answer a) rest h = made_again answered_of answer_at _ _ answer_field a rest h
 reply_again (Refused why) rest h = made_again refused_of refusal_at _ _ refusal_field why rest h

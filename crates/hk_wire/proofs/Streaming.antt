@@ -15,14 +15,14 @@ use Rattle.std.proofs.lemmas.Bool.Decides.{nat_tests}
 use Rattle.hk_model.specs.Streams.{StreamContent, covers, unknown}
 use Rattle.hk_model.proofs.Streams.{later, told, latest, latest-entries, latest-append, tied_counts}
 use Rattle.hk_marks.specs.Seen.{up_to, taken_seen, IsExtra}
-use Rattle.hk_marks.specs.Steps.{with_number, with_mark, raised, extra_numbers}
+use Rattle.hk_marks.specs.Steps.{with_number, with_mark, with_prefix, extra_numbers}
 use Rattle.hk_marks.proofs.Settled.{settled-done, mark_waits}
 use Rattle.hk_marks.proofs.Told.{later_comm}
 use Rattle.hk_marks.proofs.Trees.{contains-up_to, covers_seen}
 use Rattle.hk_marks.proofs.Readers.{entries-from_sorted}
 use Rattle.hk_wire.specs.Readers.{Chained}
-use Rattle.hk_wire.specs.Fragments.{greatest_reached, rising, stream_seen, ExtraFits, WaitingFits}
-use Rattle.hk_wire.specs.FragmentSteps.{stream_made, begun}
+use Rattle.hk_wire.specs.Fragments.{greatest_reached, rising_numbers, wire_stream_of, ExtraFits, WaitingFits}
+use Rattle.hk_wire.specs.FragmentSteps.{stream_made, stream_without_marks}
 use Rattle.hk_wire.proofs.Behind.{places_rise, chained_more, last_of}
 
 -- ---- what is taken
@@ -76,7 +76,7 @@ extra_more prefix closed extra n =
         ∙ sym (set.contains-union nat_cmp_total (up_to prefix) (set.from_list (extra ++ n ∷ [])) q))
 
 -- the prefix and the closed time of a stream of which nothing is known
-pub raised_unknown : (prefix closed : ℕ) → raised unknown prefix closed ≡ begun prefix closed
+pub raised_unknown : (prefix closed : ℕ) → with_prefix unknown prefix closed ≡ stream_without_marks prefix closed
 raised_unknown prefix closed =
     settled-done (set.union set.empty (up_to prefix)) (max unknown.closed closed) unknown.waiting (λ q m e. absurd (cc (nothing_waits q)))
     ∙ (λ i. record { taken = taken i; closed = time i; waiting = waits i })
@@ -198,7 +198,7 @@ keys_paired [] = refl
 keys_paired (k ∷ ks) = ap (λ l. k ∷ l) (keys_paired ks)
 
 -- the numbers of a set in rising order
-pub rising_items : (ks : List ℕ) (s : set.FinSet nat_cmp) → IsStrictlySortedBy nat_cmp ks → set.from_list ks ≡ s → rising (set.items s) ≡ ks
+pub rising_items : (ks : List ℕ) (s : set.FinSet nat_cmp) → IsStrictlySortedBy nat_cmp ks → set.from_list ks ≡ s → rising_numbers (set.items s) ≡ ks
 rising_items ks s sorted is =
     ap finmap.keys same
     ∙ ap keys_of (entries-from_sorted (paired ks) (subst (IsStrictlySortedBy nat_cmp) (sym (keys_paired ks)) sorted))
@@ -242,15 +242,15 @@ map_same (x ∷ xs) = ap (λ l. x ∷ l) (map_same xs)
 
 -- what is told of a stream is what it was made of
 pub told_back : (s : StreamContent) (prefix : ℕ) (extra : List ℕ) (waiting : List (ℕ × ℕ)) → s.taken ≡ taken_of prefix extra → s.waiting ≡ finmap.from_entries waiting → Chained (λ n. n) (ExtraFits prefix) None extra → Chained (λ m. m.0) (WaitingFits prefix) None waiting
-    → stream_seen s ≡ record { prefix = prefix; closed = s.closed; extra = extra; waiting = waiting }
+    → wire_stream_of s ≡ record { prefix = prefix; closed = s.closed; extra = extra; waiting = waiting }
 told_back s prefix extra waiting is_taken is_waiting h k =
     let p : greatest_reached s.taken (set.items s.taken) ≡ prefix = prefix_reached s.taken prefix (λ n. ap (λ (t : set.FinSet nat_cmp). covers t n) is_taken ∙ covers_taken prefix extra h n) in
     let rise : IsStrictlySortedBy nat_cmp extra = subst (IsStrictlySortedBy nat_cmp) (map_same extra) (places_rise (λ (n : ℕ). n) (ExtraFits prefix) (λ before n f. f.0) extra h) in
-    let e : rising (set.items (extra_numbers s)) ≡ extra = rising_items extra (extra_numbers s) rise (extras_are prefix extra s is_taken h) in
+    let e : rising_numbers (set.items (extra_numbers s)) ≡ extra = rising_items extra (extra_numbers s) rise (extras_are prefix extra s is_taken h) in
     let w : finmap.entries s.waiting ≡ waiting = ap finmap.entries is_waiting ∙ entries-from_sorted waiting (counts_rise prefix waiting k) in
     λ i. record { prefix = p i; closed = s.closed; extra = e i; waiting = w i }
 
 -- ---- what a stream's readers give
 
-pub extras_listed : (xs : List ℕ) (s : StreamContent) → IsStrictlyIncreasing xs → set.from_list xs ≡ extra_numbers s → (stream_seen s).extra ≡ xs
+pub extras_listed : (xs : List ℕ) (s : StreamContent) → IsStrictlyIncreasing xs → set.from_list xs ≡ extra_numbers s → (wire_stream_of s).extra ≡ xs
 extras_listed xs s rise is = rising_items xs (extra_numbers s) (sorted_from_strictly_increasing xs rise) is

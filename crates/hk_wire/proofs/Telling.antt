@@ -20,7 +20,7 @@ use Rattle.hk_marks.specs.Seen.{IsNumbered}
 use Rattle.hk_marks.specs.Steps.{extra_numbers}
 use Rattle.hk_delta.specs.Parts.{known_of, versions_listed}
 use Rattle.hk_delta.proofs.Listed.{listed_of, pairs}
-use Rattle.hk_wire.specs.Fragments.{FragmentTold, StreamTold, greatest_reached, rising, stream_seen, fragment_seen}
+use Rattle.hk_wire.specs.Fragments.{WireFragment, WireStream, greatest_reached, rising_numbers, wire_stream_of, wire_fragment_of}
 use Rattle.hk_wire.proofs.Streaming.{reached_there, paired, find_paired}
 
 -- ---- streams
@@ -74,21 +74,21 @@ is_some-cond : (b : Bool) (q : ℕ) → is_some (cond b (Some q) None) ≡ b
 is_some-cond true q = refl
 is_some-cond false q = refl
 
-rising_has : (ks : List ℕ) (q : ℕ) → list_any (eq_by_cmp nat_cmp q) (rising ks) ≡ list_any (eq_by_cmp nat_cmp q) ks
+rising_has : (ks : List ℕ) (q : ℕ) → list_any (eq_by_cmp nat_cmp q) (rising_numbers ks) ≡ list_any (eq_by_cmp nat_cmp q) ks
 rising_has ks q =
     sym (finmap.contains_key-keys (finmap.from_entries {R = nat_cmp} (paired ks)) q)
     ∙ ap is_some (finmap.get-from_entries nat_cmp_total (paired ks) q ∙ find_paired q ks)
     ∙ is_some-cond (list_any (eq_by_cmp nat_cmp q) ks) q
 
 -- the extra numbers are those that are taken and not covered
-pub extra_told : (s : StreamContent) (q : ℕ) → list_any (eq_by_cmp nat_cmp q) (stream_seen s).extra ≡ (set.contains s.taken q && not (covers s.taken q))
+pub extra_told : (s : StreamContent) (q : ℕ) → list_any (eq_by_cmp nat_cmp q) (wire_stream_of s).extra ≡ (set.contains s.taken q && not (covers s.taken q))
 extra_told s q =
     rising_has (set.items (extra_numbers s)) q
     ∙ sym (set.contains-items (extra_numbers s) q)
     ∙ set.contains-retain s.taken (λ n. not (covers s.taken n)) q (λ x t. ap (λ n. not (covers s.taken n)) (sym (finmap.nat_cmp-IsAntisymmetric q x t)))
 
 -- a number is taken where it is told: up to the prefix, or as an extra one
-taken_told : (s : StreamContent) → set.contains s.taken 0 ≡ false → (q : ℕ) → set.contains s.taken q ≡ ((ltb 0 q && leb q (stream_seen s).prefix) || list_any (eq_by_cmp nat_cmp q) (stream_seen s).extra)
+taken_told : (s : StreamContent) → set.contains s.taken 0 ≡ false → (q : ℕ) → set.contains s.taken q ≡ ((ltb 0 q && leb q (wire_stream_of s).prefix) || list_any (eq_by_cmp nat_cmp q) (wire_stream_of s).extra)
 taken_told s one q =
     by q (set.contains s.taken q) refl (covers s.taken q) refl
     ∙ (λ i. (ltb 0 q && reached_law s.taken q i) || sym (extra_told s q) i)
@@ -104,21 +104,21 @@ taken_told s one q =
     by (suc n) false e true c = absurd (true≢false (sym (first (set.contains s.taken (suc n)) (covers s.taken n) c) ∙ e))
     by (suc n) false e false c = rw (positive n) refl
 
-stream_same : (s t : StreamContent) → IsNumbered s → IsNumbered t → stream_seen s ≡ stream_seen t → s ≡ t
+stream_same : (s t : StreamContent) → IsNumbered s → IsNumbered t → wire_stream_of s ≡ wire_stream_of t → s ≡ t
 stream_same s t one other e =
     let taken : s.taken ≡ t.taken = set.same_set nat_cmp_total finmap.nat_cmp-IsAntisymmetric s.taken t.taken (λ q.
-    taken_told s one.from_one q ∙ ap (λ (u : StreamTold). (ltb 0 q && leb q u.prefix) || list_any (eq_by_cmp nat_cmp q) u.extra) e ∙ sym (taken_told t other.from_one q)) in
-    let closed : s.closed ≡ t.closed = ap (λ (u : StreamTold). u.closed) e in
-    let waiting : s.waiting ≡ t.waiting = finmap.same_entries_map s.waiting t.waiting (ap (λ (u : StreamTold). u.waiting) e) in
+    taken_told s one.from_one q ∙ ap (λ (u : WireStream). (ltb 0 q && leb q u.prefix) || list_any (eq_by_cmp nat_cmp q) u.extra) e ∙ sym (taken_told t other.from_one q)) in
+    let closed : s.closed ≡ t.closed = ap (λ (u : WireStream). u.closed) e in
+    let waiting : s.waiting ≡ t.waiting = finmap.same_entries_map s.waiting t.waiting (ap (λ (u : WireStream). u.waiting) e) in
     λ i. record { taken = taken i; closed = closed i; waiting = waiting i }
 
-streams_same : (ss ts : List StreamContent) → All IsNumbered ss → All IsNumbered ts → map stream_seen ss ≡ map stream_seen ts → ss ≡ ts
+streams_same : (ss ts : List StreamContent) → All IsNumbered ss → All IsNumbered ts → map wire_stream_of ss ≡ map wire_stream_of ts → ss ≡ ts
 streams_same [] [] h k e = refl
 streams_same [] (t ∷ ts) h k e = absurd cc
 streams_same (s ∷ ss) [] h k e = absurd cc
 streams_same (s ∷ ss) (t ∷ ts) h k e =
-    let here : stream_seen s ≡ stream_seen t = cc in
-    let rest : map stream_seen ss ≡ map stream_seen ts = cc in
+    let here : wire_stream_of s ≡ wire_stream_of t = cc in
+    let rest : map wire_stream_of ss ≡ map wire_stream_of ts = cc in
     (λ i. stream_same s t (All-head IsNumbered s ss h) (All-head IsNumbered t ts k) here i ∷ streams_same ss ts (All-tail IsNumbered s ss h) (All-tail IsNumbered t ts k) rest i)
 
 -- ---- facts
@@ -140,14 +140,14 @@ known_told c v =
 
 -- ---- fragments
 
-pub fragment_same : (f g : FragmentValue) → All IsNumbered f.content.streams → All IsNumbered g.content.streams → fragment_seen f ≡ fragment_seen g → f ≡ g
+pub fragment_same : (f g : FragmentValue) → All IsNumbered f.content.streams → All IsNumbered g.content.streams → wire_fragment_of f ≡ wire_fragment_of g → f ≡ g
 fragment_same f g one other e =
     let known : (v : VersionKey) → known_of f.content v ≡ known_of g.content v =
-    λ v. known_told f.content v ∙ ap (λ (t : FragmentTold). found_known (find version_key_cmp v t.facts)) e ∙ sym (known_told g.content v) in
+    λ v. known_told f.content v ∙ ap (λ (t : WireFragment). found_known (find version_key_cmp v t.facts)) e ∙ sym (known_told g.content v) in
     let rows : f.content.rows ≡ g.content.rows = finmap.same_map version_key_total version_key_same f.content.rows g.content.rows (λ v. ap (λ (x : VersionValue). x.row) (known v)) in
     let ends : f.content.ends ≡ g.content.ends = finmap.same_map version_key_total version_key_same f.content.ends g.content.ends (λ v. ap (λ (x : VersionValue). x.died) (known v)) in
-    let streams : f.content.streams ≡ g.content.streams = streams_same f.content.streams g.content.streams one other (ap (λ (t : FragmentTold). t.streams) e) in
-    let log : f.content.log ≡ g.content.log = ap (λ (t : FragmentTold). t.log) e in
-    let base : f.base ≡ g.base = ap (λ (t : FragmentTold). t.base) e in
-    let horizon : f.content.horizon ≡ g.content.horizon = ap (λ (t : FragmentTold). t.horizon) e in
+    let streams : f.content.streams ≡ g.content.streams = streams_same f.content.streams g.content.streams one other (ap (λ (t : WireFragment). t.streams) e) in
+    let log : f.content.log ≡ g.content.log = ap (λ (t : WireFragment). t.log) e in
+    let base : f.base ≡ g.base = ap (λ (t : WireFragment). t.base) e in
+    let horizon : f.content.horizon ≡ g.content.horizon = ap (λ (t : WireFragment). t.horizon) e in
     λ i. record { base = base i; content = record { log = log i; horizon = horizon i; rows = rows i; ends = ends i; streams = streams i } }

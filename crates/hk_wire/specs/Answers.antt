@@ -1,4 +1,4 @@
--- Answers: their spelling and their reading.
+-- Answers: their encoding and their reading.
 use Rattle.std.specs.Prelude.{ℕ, ◌^◌, ◌<◌, ◌≤◌, Bool, true, not, ◌&&◌, nat_lt, ◌==◌, if◌then◌else◌, List, [], ◌∷◌, ◌++◌, length, Option, Some, None, Err}
 use Rattle.std.specs.Int.{w16, w32, w64}
 use Rattle.std.specs.List.{flat_map, AllByRecursion}
@@ -6,7 +6,7 @@ use Rattle.hk_types.specs.Values.{RowValue}
 use Rattle.hk_types.specs.declared.faults.FormFault.TheVariants.{BadNumber, BadOrder}
 use Rattle.hk_model.specs.Answers.{AnswerValue, One, Rows, Number}
 use Rattle.hk_codec.specs.Fields.{number, number_at, body_at, list_at}
-use Rattle.hk_wire.specs.Readers.{Reader, both, barred, made, nothing, kinded, counted}
+use Rattle.hk_wire.specs.Readers.{Reader, both, fault_where, mapped_value, nothing, by_kind, list_by_count}
 
 -- a row: the tag, the length of the body, the body
 unfoldable pub row_text : RowValue → List ℕ
@@ -37,7 +37,7 @@ answer_fields (One row) = presence row ∷ present_text row
 answer_fields (Rows rows) = number w32 (length rows) ++ flat_map keyed_text rows
 answer_fields (Number n) = number w64 n
 
--- the spelling of an answer
+-- the encoding of an answer
 unfoldable pub answer_text : AnswerValue → List ℕ
 answer_text a = answer_kind a ∷ answer_fields a
 
@@ -79,11 +79,11 @@ AnswerFits (Number n) = n < 2 ^ 64
 
 -- a row
 unfoldable pub row_at : Reader RowValue
-row_at bytes = made (λ p. record { tag = p.0; body = p.1 }) (both (number_at w32) body_at) bytes
+row_at bytes = mapped_value (λ p. record { tag = p.0; body = p.1 }) (both (number_at w32) body_at) bytes
 
 -- a key after the one before it
 abbrev pub key_at : Option ℕ → Reader ℕ
-key_at before bytes = barred (number_at w64) (λ key. not (key_follows before key)) BadOrder bytes
+key_at before bytes = fault_where (number_at w64) (λ key. not (key_follows before key)) BadOrder bytes
 
 -- a key after the one before it, and its row
 unfoldable pub keyed_at : Option ℕ → Reader (ℕ × RowValue)
@@ -95,23 +95,23 @@ keyed_rows_at count before bytes = list_at (λ e. e.0) keyed_at count before byt
 
 -- the rows behind their count
 unfoldable pub rows_at : Reader (List (ℕ × RowValue))
-rows_at bytes = counted (λ e. e.0) keyed_at bytes
+rows_at bytes = list_by_count (λ e. e.0) keyed_at bytes
 
 -- what follows the byte that tells whether there is a row
 unfoldable pub present_of : ℕ → Reader (Option RowValue)
 present_of kind bytes =
     if kind == 0 then nothing None bytes
-    else if kind == 1 then made (λ row. Some row) row_at bytes
+    else if kind == 1 then mapped_value (λ row. Some row) row_at bytes
     else Err BadNumber
 
 -- the answer of a kind
 unfoldable pub answer_of : ℕ → Reader AnswerValue
 answer_of kind bytes =
-    if kind == 1 then made (λ row. One row) (kinded present_of) bytes
-    else if kind == 2 then made (λ rows. Rows rows) rows_at bytes
-    else if kind == 3 then made (λ n. Number n) (number_at w64) bytes
+    if kind == 1 then mapped_value (λ row. One row) (by_kind present_of) bytes
+    else if kind == 2 then mapped_value (λ rows. Rows rows) rows_at bytes
+    else if kind == 3 then mapped_value (λ n. Number n) (number_at w64) bytes
     else Err BadNumber
 
 -- an answer behind its kind
 unfoldable pub answer_at : Reader AnswerValue
-answer_at bytes = kinded answer_of bytes
+answer_at bytes = by_kind answer_of bytes

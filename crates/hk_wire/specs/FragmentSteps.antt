@@ -8,15 +8,15 @@ use Rattle.hk_marks.specs.Seen.{up_to}
 use Rattle.hk_delta.specs.Parts.{Known}
 use Rattle.hk_codec.specs.Fields.{list_at}
 use Rattle.hk_wire.specs.Readers.{Reader, Chained}
-use Rattle.hk_wire.specs.Fragments.{StreamTold, extra_at, waiting_at, stream_at, fact_at, no_stream, ExtraFits, WaitingFits}
+use Rattle.hk_wire.specs.Fragments.{WireStream, extra_at, waiting_at, stream_at, fact_at, no_stream, ExtraFits, WaitingFits}
 
 -- the stream of which this is told: the numbers up to the prefix and the extra ones are taken, and the marks wait
-abbrev pub stream_made : StreamTold → StreamContent
+abbrev pub stream_made : WireStream → StreamContent
 stream_made s = record { taken = set.union (up_to s.prefix) (set.from_list s.extra); closed = s.closed; waiting = finmap.from_entries s.waiting }
 
 -- with neither extra numbers nor waiting marks
-abbrev pub begun : ℕ → ℕ → StreamContent
-begun prefix closed = stream_made (record { prefix = prefix; closed = closed; extra = []; waiting = [] })
+abbrev pub stream_without_marks : ℕ → ℕ → StreamContent
+stream_without_marks prefix closed = stream_made (record { prefix = prefix; closed = closed; extra = []; waiting = [] })
 
 -- so many extra numbers, the first of them after the one before it
 abbrev pub extras_at : ℕ → ℕ → Option ℕ → Reader (List ℕ)
@@ -27,12 +27,12 @@ abbrev pub waits_at : ℕ → ℕ → Option ℕ → Reader (List (ℕ × ℕ))
 waits_at prefix count before bytes = list_at (λ m. m.0) (waiting_at prefix) count before bytes
 
 -- so many streams
-abbrev pub streams_at : ℕ → Option (Unit {0}) → Reader (List StreamTold)
+abbrev pub streams_at : ℕ → Option (Unit {0}) → Reader (List WireStream)
 streams_at count before bytes = list_at no_stream (λ _. stream_at) count before bytes
 
 -- so many facts
-abbrev pub facts_at : ℕ → ℕ → ℕ → Option VersionKey → Reader (List Known)
-facts_at base horizon count before bytes = list_at (λ e. e.0) (fact_at base horizon) count before bytes
+abbrev pub fact_list_at : ℕ → ℕ → ℕ → Option VersionKey → Reader (List Known)
+fact_list_at base horizon count before bytes = list_at (λ e. e.0) (fact_at base horizon) count before bytes
 
 -- a stream that was closed at a time has taken the extra numbers that the bytes have
 pub record TakesExtra (prefix count closed : ℕ) (bytes rest : List ℕ) (after : StreamContent) : Type 0 where

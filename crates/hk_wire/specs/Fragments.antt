@@ -1,4 +1,4 @@
--- Fragments: what their bytes tell, their spelling and their reading.
+-- Fragments: what their bytes tell, their encoding and their reading.
 use Rattle.std.specs.Prelude.{◌≡◌, ◌⊎◌, ℕ, ◌+◌, ◌^◌, ◌<◌, ◌≤◌, Bool, true, not, ◌&&◌, ◌||◌, max, min, nat_lt, nat_le, ◌==◌, if◌then◌else◌, List, [], ◌∷◌, ◌++◌, length, map, Option, Some, None, Err}
 use Rattle.std.specs.Int.{w16, w32, w64}
 use Rattle.std.specs.List.{flat_map, AllByRecursion}
@@ -12,25 +12,25 @@ use Rattle.hk_log.specs.Versions.{VersionValue}
 use Rattle.hk_model.specs.Streams.{StreamContent, covers}
 use Rattle.hk_model.specs.Fragments.{FragmentValue}
 use Rattle.hk_marks.specs.Steps.{extra_numbers}
-use Rattle.hk_delta.specs.Parts.{Known, versions_listed, follows, end_stands}
+use Rattle.hk_delta.specs.Parts.{Known, versions_listed, follows, is_valid_end}
 use Rattle.hk_codec.specs.Fields.{number, number_at, list_at}
-use Rattle.hk_wire.specs.Readers.{Reader, both, after, barred, made, kinded, counted, time_at, Chained}
+use Rattle.hk_wire.specs.Readers.{Reader, both, after, fault_where, mapped_value, by_kind, list_by_count, time_at, Chained}
 use Rattle.hk_wire.specs.Answers.{row_text, row_at, RowFits, PresentFits}
 
 -- what is told of a stream: the number up to which all are taken, the closed time, the taken numbers above it,
 -- and the waiting marks by their counts
-pub record StreamTold : Type 0 where
+pub record WireStream : Type 0 where
   pub prefix : ℕ
   pub closed : ℕ
   pub extra : List ℕ
   pub waiting : List (ℕ × ℕ)
 
 -- what is told of a fragment: its facts as one list of versions
-pub record FragmentTold : Type 0 where
+pub record WireFragment : Type 0 where
   pub log : ℕ
   pub base : ℕ
   pub horizon : ℕ
-  pub streams : List StreamTold
+  pub streams : List WireStream
   pub facts : List Known
 
 -- the greatest of these numbers up to which all are taken, else 0
@@ -39,31 +39,31 @@ greatest_reached taken [] = 0
 greatest_reached taken (q ∷ numbers) = if covers taken q then max q (greatest_reached taken numbers) else greatest_reached taken numbers
 
 -- these numbers in rising order, each once
-abbrev pub rising : List ℕ → List ℕ
-rising numbers = finmap.keys (finmap.from_entries {R = nat_cmp} (map (λ n. (n, n)) numbers))
+abbrev pub rising_numbers : List ℕ → List ℕ
+rising_numbers numbers = finmap.keys (finmap.from_entries {R = nat_cmp} (map (λ n. (n, n)) numbers))
 
 -- what is told of a stream
-abbrev pub stream_seen : StreamContent → StreamTold
-stream_seen s =
+abbrev pub wire_stream_of : StreamContent → WireStream
+wire_stream_of s =
     record {
       prefix = greatest_reached s.taken (set.items s.taken);
       closed = s.closed;
-      extra = rising (set.items (extra_numbers s));
+      extra = rising_numbers (set.items (extra_numbers s));
       waiting = finmap.entries s.waiting;
     }
 
 -- what is told of a fragment
-abbrev pub fragment_seen : FragmentValue → FragmentTold
-fragment_seen f =
+abbrev pub wire_fragment_of : FragmentValue → WireFragment
+wire_fragment_of f =
     record {
       log = f.content.log;
       base = f.base;
       horizon = f.content.horizon;
-      streams = map stream_seen f.content.streams;
+      streams = map wire_stream_of f.content.streams;
       facts = versions_listed f.content;
     }
 
--- ---- spelling
+-- ---- encoding
 
 -- a count and a time
 abbrev pub mark_text : ℕ × ℕ → List ℕ
@@ -77,7 +77,7 @@ extras_text extra = number w32 (length extra) ++ flat_map (number w64) extra
 abbrev pub waits_text : List (ℕ × ℕ) → List ℕ
 waits_text waiting = number w32 (length waiting) ++ flat_map mark_text waiting
 
-unfoldable pub stream_text : StreamTold → List ℕ
+unfoldable pub stream_text : WireStream → List ℕ
 stream_text s = number w64 s.prefix ++ (number w64 s.closed ++ (extras_text s.extra ++ waits_text s.waiting))
 
 -- 1 with a row, 2 with an end, 3 with both
@@ -108,7 +108,7 @@ version_text v = number w16 v.table ++ (number w64 v.key ++ number w64 v.born)
 unfoldable pub fact_text : Known → List ℕ
 fact_text e = version_text e.0 ++ (known_flags e.1 ∷ known_parts e.1)
 
-unfoldable pub fragment_text : FragmentTold → List ℕ
+unfoldable pub fragment_text : WireFragment → List ℕ
 fragment_text f =
     number w64 f.log ++ (number w16 (length f.streams) ++ (number w64 f.base ++ (number w64 f.horizon
     ++ (flat_map stream_text f.streams ++ (number w32 (length f.facts) ++ flat_map fact_text f.facts)))))
@@ -123,69 +123,69 @@ number_follows (Some before) n = nat_lt before n
 -- an extra number: after the one before it, above the prefix and the next number, and at most 2^62
 unfoldable pub extra_at : ℕ → Option ℕ → Reader ℕ
 extra_at prefix before bytes =
-    barred (barred (number_at w64) (λ n. not (number_follows before n)) BadOrder) (λ n. nat_le n (prefix + 1) || nat_lt (2 ^ 62) n) BadNumber bytes
+    fault_where (fault_where (number_at w64) (λ n. not (number_follows before n)) BadOrder) (λ n. nat_le n (prefix + 1) || nat_lt (2 ^ 62) n) BadNumber bytes
 
 -- the count of a waiting mark: after the one before it, and above the prefix
 abbrev pub waiting_count_at : ℕ → Option ℕ → Reader ℕ
 waiting_count_at prefix before bytes =
-    barred (barred (number_at w64) (λ n. not (number_follows before n)) BadOrder) (λ n. nat_le n prefix) BadNumber bytes
+    fault_where (fault_where (number_at w64) (λ n. not (number_follows before n)) BadOrder) (λ n. nat_le n prefix) BadNumber bytes
 
 -- a waiting mark: its time is not below its count
 unfoldable pub waiting_at : ℕ → Option ℕ → Reader (ℕ × ℕ)
-waiting_at prefix before bytes = barred (both (waiting_count_at prefix before) time_at) (λ m. nat_lt m.1 m.0) BadNumber bytes
+waiting_at prefix before bytes = fault_where (both (waiting_count_at prefix before) time_at) (λ m. nat_lt m.1 m.0) BadNumber bytes
 
 -- what is told of a stream behind its prefix
 abbrev pub stream_of : ℕ → Reader (ℕ × (List ℕ × List (ℕ × ℕ)))
-stream_of prefix bytes = both time_at (both (counted (λ n. n) (extra_at prefix)) (counted (λ m. m.0) (waiting_at prefix))) bytes
+stream_of prefix bytes = both time_at (both (list_by_count (λ n. n) (extra_at prefix)) (list_by_count (λ m. m.0) (waiting_at prefix))) bytes
 
 -- a stream
-unfoldable pub stream_at : Reader StreamTold
-stream_at bytes = made (λ s. record { prefix = s.0; closed = s.1.0; extra = s.1.1.0; waiting = s.1.1.1 }) (after time_at stream_of) bytes
+unfoldable pub stream_at : Reader WireStream
+stream_at bytes = mapped_value (λ s. record { prefix = s.0; closed = s.1.0; extra = s.1.1.0; waiting = s.1.1.1 }) (after time_at stream_of) bytes
 
 -- a version after the one before it, born at 1 or later
 unfoldable pub version_at : Option VersionKey → Reader VersionKey
 version_at before bytes =
-    barred (barred (made (λ p. record { table = p.0; key = p.1.0; born = p.1.1 }) (both (number_at w16) (both (number_at w64) (number_at w64)))) (λ v. not (follows before v)) BadOrder)
+    fault_where (fault_where (mapped_value (λ p. record { table = p.0; key = p.1.0; born = p.1.1 }) (both (number_at w16) (both (number_at w64) (number_at w64)))) (λ v. not (follows before v)) BadOrder)
     (λ v. nat_lt v.born 1 || nat_lt (2 ^ 62) v.born) BadNumber bytes
 
 -- an end above the base, the horizon and the birth of its version
 abbrev pub died_at : ℕ → ℕ → ℕ → Reader ℕ
-died_at base horizon born bytes = barred time_at (λ died. not (end_stands base horizon born (Some died))) BadNumber bytes
+died_at base horizon born bytes = fault_where time_at (λ died. not (is_valid_end base horizon born (Some died))) BadNumber bytes
 
 -- what is known of a version, by its flags; a row is of a version that was born above the base
 unfoldable pub known_of : ℕ → ℕ → ℕ → ℕ → Reader VersionValue
 known_of base horizon born flags bytes =
-    if flags == 2 then made (λ died. record { row = None; died = Some died }) (died_at base horizon born) bytes
+    if flags == 2 then mapped_value (λ died. record { row = None; died = Some died }) (died_at base horizon born) bytes
     else if nat_le born base then Err BadNumber
-    else if flags == 1 then made (λ row. record { row = Some row; died = None }) row_at bytes
-    else if flags == 3 then made (λ p. record { row = Some p.0; died = Some p.1 }) (both row_at (died_at base horizon born)) bytes
+    else if flags == 1 then mapped_value (λ row. record { row = Some row; died = None }) row_at bytes
+    else if flags == 3 then mapped_value (λ p. record { row = Some p.0; died = Some p.1 }) (both row_at (died_at base horizon born)) bytes
     else Err BadNumber
 
 -- a fact after the version before it
 unfoldable pub fact_at : ℕ → ℕ → Option VersionKey → Reader Known
-fact_at base horizon before bytes = after (version_at before) (λ v. kinded (known_of base horizon v.born)) bytes
+fact_at base horizon before bytes = after (version_at before) (λ v. by_kind (known_of base horizon v.born)) bytes
 
 -- the least closed time of the streams
-abbrev pub least_told : List StreamTold → ℕ
-least_told [] = 0
-least_told (s ∷ []) = s.closed
-least_told (s ∷ t ∷ more) = min s.closed (least_told (t ∷ more))
+abbrev pub least_closed_of : List WireStream → ℕ
+least_closed_of [] = 0
+least_closed_of (s ∷ []) = s.closed
+least_closed_of (s ∷ t ∷ more) = min s.closed (least_closed_of (t ∷ more))
 
 -- streams stand in their order
-abbrev pub no_stream : StreamTold → Unit {0}
+abbrev pub no_stream : WireStream → Unit {0}
 no_stream s = tt
 
 -- a base that is 0 or not below the horizon, and the horizon
 unfoldable pub bounds_at : Reader (ℕ × ℕ)
-bounds_at bytes = barred (both time_at time_at) (λ p. not ((p.0 == 0) || nat_le p.1 p.0)) BadNumber bytes
+bounds_at bytes = fault_where (both time_at time_at) (λ p. not ((p.0 == 0) || nat_le p.1 p.0)) BadNumber bytes
 
 -- so many streams, of which none is closed below the horizon
-unfoldable pub streams_at : ℕ → ℕ → Reader (List StreamTold)
-streams_at horizon count bytes = barred (list_at no_stream (λ _. stream_at) count None) (λ streams. nat_lt (least_told streams) horizon) BadNumber bytes
+unfoldable pub streams_at : ℕ → ℕ → Reader (List WireStream)
+streams_at horizon count bytes = fault_where (list_at no_stream (λ _. stream_at) count None) (λ streams. nat_lt (least_closed_of streams) horizon) BadNumber bytes
 
 -- a number of streams, 1 to 64
 unfoldable pub stream_count_at : Reader ℕ
-stream_count_at bytes = barred (number_at w16) (λ n. nat_lt n 1 || nat_lt 64 n) BadStream bytes
+stream_count_at bytes = fault_where (number_at w16) (λ n. nat_lt n 1 || nat_lt 64 n) BadStream bytes
 
 -- the log, the number of streams, the base and the horizon
 abbrev pub fragment_head_at : Reader (ℕ × (ℕ × (ℕ × ℕ)))
@@ -193,12 +193,12 @@ fragment_head_at bytes = both (number_at w64) (both stream_count_at bounds_at) b
 
 -- the facts behind their count
 abbrev pub facts_at : ℕ → ℕ → Reader (List Known)
-facts_at base horizon bytes = counted (λ e. e.0) (fact_at base horizon) bytes
+facts_at base horizon bytes = list_by_count (λ e. e.0) (fact_at base horizon) bytes
 
 -- a fragment: the head, the streams, the facts
-unfoldable pub fragment_at : Reader FragmentTold
+unfoldable pub fragment_at : Reader WireFragment
 fragment_at bytes =
-    made (λ p. record { log = p.0.0.0; base = p.0.0.1.1.0; horizon = p.0.0.1.1.1; streams = p.0.1; facts = p.1 })
+    mapped_value (λ p. record { log = p.0.0.0; base = p.0.0.1.1.0; horizon = p.0.0.1.1.1; streams = p.0.1; facts = p.1 })
     (after (after fragment_head_at (λ h. streams_at h.1.1.1 h.1.0)) (λ p. facts_at p.0.1.1.0 p.0.1.1.1)) bytes
 
 -- ---- what can be told
@@ -212,7 +212,7 @@ abbrev pub WaitingFits : ℕ → Option ℕ → ℕ × ℕ → Type 0
 WaitingFits prefix before m = (number_follows before m.0 ≡ true) × ((prefix < m.0) × ((m.0 ≤ m.1) × (m.1 ≤ 2 ^ 62)))
 
 -- a stream: its times are times, and its numbers and marks stand in their places
-pub record StreamFits (s : StreamTold) : Type 0 where
+pub record StreamFits (s : WireStream) : Type 0 where
   pub prefix : s.prefix ≤ 2 ^ 62
   pub closed : s.closed ≤ 2 ^ 62
   pub extra : Chained (λ n. n) (ExtraFits s.prefix) None s.extra
@@ -224,7 +224,7 @@ VersionFits before v = (follows before v ≡ true) × ((v.table < 2 ^ 16) × ((v
 
 -- an end above the base, the horizon and the birth of its version
 abbrev pub EndFits : ℕ → ℕ → ℕ → ℕ → Type 0
-EndFits base horizon born died = (died ≤ 2 ^ 62) × (end_stands base horizon born (Some died) ≡ true)
+EndFits base horizon born died = (died ≤ 2 ^ 62) × (is_valid_end base horizon born (Some died) ≡ true)
 
 -- a row, an end or both, the row of a version that was born above the base
 abbrev pub PartsFit : ℕ → ℕ → ℕ → Option RowValue → Option ℕ → Type 0
@@ -255,27 +255,27 @@ pub record KnownFits (e : Known) : Type 0 where
   pub died : DiedFits e.1.died
 
 -- a fragment whose parts fit their fields and keep the rules of fragments
-pub record FragmentFits (f : FragmentTold) : Type 0 where
+pub record FragmentFits (f : WireFragment) : Type 0 where
   pub log : f.log < 2 ^ 64
   pub least : 1 ≤ length f.streams
   pub most : length f.streams ≤ 64
   pub base : f.base ≤ 2 ^ 62
   pub horizon : f.horizon ≤ 2 ^ 62
   pub base_above : (f.base ≡ 0) ⊎ (f.horizon ≤ f.base)
-  pub within : f.horizon ≤ least_told f.streams
+  pub within : f.horizon ≤ least_closed_of f.streams
   pub streams : AllByRecursion StreamFits f.streams
   pub facts : Chained (λ e. e.0) (FactFits f.base f.horizon) None f.facts
 
 -- ---- what can be counted
 
 -- whether the numbers and the marks of a stream can be counted
-abbrev pub stream_is_counted : StreamTold → Bool
+abbrev pub stream_is_counted : WireStream → Bool
 stream_is_counted s = nat_lt (length s.extra) (2 ^ 32) && nat_lt (length s.waiting) (2 ^ 32)
 
-abbrev pub streams_are_counted : List StreamTold → Bool
+abbrev pub streams_are_counted : List WireStream → Bool
 streams_are_counted [] = true
 streams_are_counted (s ∷ streams) = stream_is_counted s && streams_are_counted streams
 
 -- whether all of a fragment can be counted
-abbrev pub is_counted : FragmentTold → Bool
+abbrev pub is_counted : WireFragment → Bool
 is_counted f = streams_are_counted f.streams && nat_lt (length f.facts) (2 ^ 32)

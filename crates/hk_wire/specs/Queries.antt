@@ -1,11 +1,11 @@
--- Queries: their spelling and their reading.
+-- Queries: their encoding and their reading.
 use Rattle.std.specs.Prelude.{ℕ, ◌^◌, ◌<◌, ◌==◌, if◌then◌else◌, List, ◌∷◌, ◌++◌, Err}
 use Rattle.std.specs.Int.{w16, w32, w64}
 use Rattle.hk_types.specs.declared.faults.FormFault.TheVariants.{BadNumber}
 use Rattle.hk_model.specs.declared.query.Query.{Query}
 use Rattle.hk_model.specs.declared.query.Query.TheVariants.{Get, Range, ByTag, Count}
 use Rattle.hk_codec.specs.Fields.{number, number_at}
-use Rattle.hk_wire.specs.Readers.{Reader, both, made, kinded}
+use Rattle.hk_wire.specs.Readers.{Reader, both, mapped_value, by_kind}
 
 -- the kind byte of a query
 abbrev pub query_kind : Query → ℕ
@@ -21,7 +21,7 @@ query_fields (Range table low high) = number w16 table ++ (number w64 low ++ num
 query_fields (ByTag table tag) = number w16 table ++ number w32 tag
 query_fields (Count table) = number w16 table
 
--- the spelling of a query
+-- the encoding of a query
 unfoldable pub query_text : Query → List ℕ
 query_text q = query_kind q ∷ query_fields q
 
@@ -35,12 +35,12 @@ QueryFits (Count table) = table < 2 ^ 16
 -- the query of a kind
 unfoldable pub query_of : ℕ → Reader Query
 query_of kind bytes =
-    if kind == 1 then made (λ p. Get p.0 p.1) (both (number_at w16) (number_at w64)) bytes
-    else if kind == 2 then made (λ p. Range p.0 p.1.0 p.1.1) (both (number_at w16) (both (number_at w64) (number_at w64))) bytes
-    else if kind == 3 then made (λ p. ByTag p.0 p.1) (both (number_at w16) (number_at w32)) bytes
-    else if kind == 4 then made (λ table. Count table) (number_at w16) bytes
+    if kind == 1 then mapped_value (λ p. Get p.0 p.1) (both (number_at w16) (number_at w64)) bytes
+    else if kind == 2 then mapped_value (λ p. Range p.0 p.1.0 p.1.1) (both (number_at w16) (both (number_at w64) (number_at w64))) bytes
+    else if kind == 3 then mapped_value (λ p. ByTag p.0 p.1) (both (number_at w16) (number_at w32)) bytes
+    else if kind == 4 then mapped_value (λ table. Count table) (number_at w16) bytes
     else Err BadNumber
 
 -- a query behind its kind
 unfoldable pub query_at : Reader Query
-query_at bytes = kinded query_of bytes
+query_at bytes = by_kind query_of bytes

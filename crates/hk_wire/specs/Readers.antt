@@ -18,32 +18,32 @@ abbrev pub after : {A B : Type 0} → Reader A → (A → Reader B) → Reader (
 after first second bytes = first bytes >>= λ a. second a.0 a.1 >>= λ b. Ok ((a.0, b.0), b.1)
 
 -- a value, with a fault where it is barred
-abbrev pub barred : {A : Type 0} → Reader A → (A → Bool) → FormFault → Reader A
-barred reader bad fault bytes = reader bytes >>= λ a. check (bad a.0) fault >>= λ _. Ok a
+abbrev pub fault_where : {A : Type 0} → Reader A → (A → Bool) → FormFault → Reader A
+fault_where reader bad fault bytes = reader bytes >>= λ a. check (bad a.0) fault >>= λ _. Ok a
 
 -- what is made of a value
-abbrev pub made : {A B : Type 0} → (A → B) → Reader A → Reader B
-made f reader bytes = reader bytes >>= λ a. Ok (f a.0, a.1)
+abbrev pub mapped_value : {A B : Type 0} → (A → B) → Reader A → Reader B
+mapped_value f reader bytes = reader bytes >>= λ a. Ok (f a.0, a.1)
 
 -- nothing
 abbrev pub nothing : {A : Type 0} → A → Reader A
 nothing x bytes = Ok (x, bytes)
 
 -- a byte that tells the kind, and then what it says
-abbrev pub kinded : {A : Type 0} → (ℕ → Reader A) → Reader A
-kinded of_kind bytes = byte_at bytes >>= λ kind. of_kind kind.0 kind.1
+abbrev pub by_kind : {A : Type 0} → (ℕ → Reader A) → Reader A
+by_kind of_kind bytes = byte_at bytes >>= λ kind. of_kind kind.0 kind.1
 
 -- a time, 0 to 2^62
 unfoldable pub time_at : Reader ℕ
-time_at bytes = barred (number_at w64) (λ n. nat_lt (2 ^ 62) n) BadNumber bytes
+time_at bytes = fault_where (number_at w64) (λ n. nat_lt (2 ^ 62) n) BadNumber bytes
 
 -- a list behind its count, each element read by `one`, which is told the place of the element before it
-abbrev pub listed : {X P : Type 0} → Reader ℕ → (X → P) → (Option P → Reader X) → Reader (List X)
-listed count_at place one bytes = count_at bytes >>= λ count. list_at place one count.0 None count.1
+abbrev pub list_by : {X P : Type 0} → Reader ℕ → (X → P) → (Option P → Reader X) → Reader (List X)
+list_by count_at place one bytes = count_at bytes >>= λ count. list_at place one count.0 None count.1
 
 -- a list behind a count of four bytes
-abbrev pub counted : {X P : Type 0} → (X → P) → (Option P → Reader X) → Reader (List X)
-counted place one bytes = listed (number_at w32) place one bytes
+abbrev pub list_by_count : {X P : Type 0} → (X → P) → (Option P → Reader X) → Reader (List X)
+list_by_count place one bytes = list_by (number_at w32) place one bytes
 
 -- each element fits behind the place of the element before it
 abbrev pub Chained : {X P : Type 0} → (X → P) → (Option P → X → Type 0) → Option P → List X → Type 0

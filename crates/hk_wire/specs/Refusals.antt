@@ -1,4 +1,4 @@
--- Refusals that are sent: their spelling and their reading.
+-- Refusals that are sent: their encoding and their reading.
 use Rattle.std.specs.Prelude.{ℕ, ◌^◌, ◌<◌, ◌≤◌, Bool, true, false, not, ◌==◌, if◌then◌else◌, List, [], ◌∷◌, ◌++◌, Option, Some, None, Err}
 use Rattle.std.specs.Int.{w64}
 use Rattle.hk_types.specs.FaultNumbers.{refusal_number}
@@ -6,7 +6,7 @@ use Rattle.hk_types.specs.declared.faults.FormFault.TheVariants.{Truncated, TooL
 use Rattle.hk_types.specs.declared.faults.Refusal.{Refusal}
 use Rattle.hk_types.specs.declared.faults.Refusal.TheVariants.{Form, ForeignLog, WrongStreams, Gap, Conflict, AheadOfMark, TooOld, NotYet, WriteConflict, NoRow, TwiceWritten, TooManyWrites, NoStream, ClockFull, Held, Damaged, Unpublished, NodeFull, NoHold, NoSuch, Memory}
 use Rattle.hk_codec.specs.Fields.{number, number_at}
-use Rattle.hk_wire.specs.Readers.{Reader, both, barred, made, kinded, time_at}
+use Rattle.hk_wire.specs.Readers.{Reader, both, fault_where, mapped_value, by_kind, time_at}
 
 -- the two numbers that a refusal names, and 0 in the place of one that it doesn't
 abbrev pub refusal_pair : Refusal → ℕ × ℕ
@@ -22,7 +22,7 @@ refusal_pair other = (0, 0)
 abbrev pub refusal_fields : Refusal → List ℕ
 refusal_fields r = number w64 (refusal_pair r).0 ++ number w64 (refusal_pair r).1
 
--- the spelling of a refusal
+-- the encoding of a refusal
 unfoldable pub refusal_text : Refusal → List ℕ
 refusal_text r = refusal_number r ∷ refusal_fields r
 
@@ -48,7 +48,7 @@ RefusalFits other = Unit {0}
 
 -- a field that must be 0
 unfoldable pub zero_at : Reader (Unit {0})
-zero_at bytes = made (λ _. tt) (barred (number_at w64) (λ n. not (n == 0)) BadNumber) bytes
+zero_at bytes = mapped_value (λ _. tt) (fault_where (number_at w64) (λ n. not (n == 0)) BadNumber) bytes
 
 -- the refusals that name no number and are sent
 abbrev pub plain_refusals : List Refusal
@@ -68,19 +68,19 @@ plain n = first_with n plain_refusals
 -- a refusal that names no number: both fields are 0
 abbrev pub plain_of : Option Refusal → Reader Refusal
 plain_of None bytes = Err BadNumber
-plain_of (Some r) bytes = made (λ _. r) (both zero_at zero_at) bytes
+plain_of (Some r) bytes = mapped_value (λ _. r) (both zero_at zero_at) bytes
 
 -- what follows a refusal's number
 unfoldable pub refusal_of : ℕ → Reader Refusal
 refusal_of n bytes =
-    if n == 22 then made (λ p. Gap p.0 p.1) (both time_at time_at) bytes
-    else if n == 24 then made (λ p. AheadOfMark p.0) (both time_at zero_at) bytes
-    else if n == 25 then made (λ p. TooOld p.0) (both time_at zero_at) bytes
-    else if n == 26 then made (λ p. NotYet p.0) (both time_at zero_at) bytes
-    else if n == 40 then made (λ p. Held p.0 p.1) (both (number_at w64) time_at) bytes
-    else if n == 42 then made (λ p. Unpublished p.0) (both (number_at w64) zero_at) bytes
+    if n == 22 then mapped_value (λ p. Gap p.0 p.1) (both time_at time_at) bytes
+    else if n == 24 then mapped_value (λ p. AheadOfMark p.0) (both time_at zero_at) bytes
+    else if n == 25 then mapped_value (λ p. TooOld p.0) (both time_at zero_at) bytes
+    else if n == 26 then mapped_value (λ p. NotYet p.0) (both time_at zero_at) bytes
+    else if n == 40 then mapped_value (λ p. Held p.0 p.1) (both (number_at w64) time_at) bytes
+    else if n == 42 then mapped_value (λ p. Unpublished p.0) (both (number_at w64) zero_at) bytes
     else plain_of (plain n) bytes
 
 -- a refusal: its number, and then the two fields
 unfoldable pub refusal_at : Reader Refusal
-refusal_at bytes = kinded refusal_of bytes
+refusal_at bytes = by_kind refusal_of bytes

@@ -1,17 +1,17 @@
--- Replies: their spelling and their reading.
+-- Replies: their encoding and their reading.
 use Rattle.std.specs.Prelude.{◌≡◌, ℕ, ◌^◌, ◌<◌, ◌≤◌, Bool, true, ◌&&◌, ◌||◌, nat_le, nat_lt, ◌==◌, if◌then◌else◌, List, ◌++◌, length, Result, Err}
 use Rattle.std.specs.Int.{w64}
 use Rattle.hk_types.specs.declared.faults.FormFault.{FormFault}
 use Rattle.hk_types.specs.declared.faults.FormFault.TheVariants.{BadKind, BadNumber}
 use Rattle.hk_codec.specs.Fields.{number, number_at}
-use Rattle.hk_codec.specs.Framing.{spelled, Begins, AddsValues}
+use Rattle.hk_codec.specs.Framing.{encoded, Begins, AddsValues}
 use Rattle.hk_wire.specs.declared.reply.Reply.{Reply}
 use Rattle.hk_wire.specs.declared.reply.Reply.TheVariants as replied
 use Rattle.hk_types.specs.declared.faults.Refusal.{Refusal}
 use Rattle.hk_model.specs.Answers.{AnswerValue, answer_seen}
 use Rattle.hk_wire.specs.Answers.{answer_text, answer_at, answer_keeps_rules, AnswerFits}
-use Rattle.hk_wire.specs.Fragments.{FragmentTold, fragment_seen, fragment_text, fragment_at, FragmentFits, is_counted}
-use Rattle.hk_wire.specs.Readers.{Reader, both, barred, made, time_at}
+use Rattle.hk_wire.specs.Fragments.{WireFragment, wire_fragment_of, fragment_text, fragment_at, FragmentFits, is_counted}
+use Rattle.hk_wire.specs.Readers.{Reader, both, fault_where, mapped_value, time_at}
 use Rattle.hk_wire.specs.Messages.{message_text, message_at}
 use Rattle.hk_wire.specs.Refusals.{refusal_text, refusal_at, RefusalFits, is_sent}
 
@@ -19,7 +19,7 @@ use Rattle.hk_wire.specs.Refusals.{refusal_text, refusal_at, RefusalFits, is_sen
 pub data ReplyValue : Type 0 where
   Done : ℕ → ReplyValue
   Front : ℕ → ℕ → ReplyValue
-  Fragment : FragmentTold → ReplyValue
+  Fragment : WireFragment → ReplyValue
   Answer : AnswerValue → ReplyValue
   Refused : Refusal → ReplyValue
 
@@ -27,7 +27,7 @@ pub data ReplyValue : Type 0 where
 abbrev pub reply_seen : Reply → ReplyValue
 reply_seen (replied.Done ops) = Done ops
 reply_seen (replied.Front front) = Front front.horizon front.readable
-reply_seen (replied.Fragment fragment) = Fragment (fragment_seen fragment)
+reply_seen (replied.Fragment fragment) = Fragment (wire_fragment_of fragment)
 reply_seen (replied.Answer a) = Answer (answer_seen a)
 reply_seen (replied.Refused why) = Refused why
 
@@ -51,9 +51,9 @@ reply_body (Refused why) = refusal_text why
 unfoldable pub reply_rest : ReplyValue → List ℕ
 reply_rest r = message_text (reply_kind r) (reply_body r)
 
--- its spelling: the length of the rest, and the rest
+-- its encoding: the length of the rest, and the rest
 abbrev pub reply_text : ReplyValue → List ℕ
-reply_text r = spelled reply_rest r
+reply_text r = encoded reply_rest r
 
 -- whether a reply keeps the rules of its kind
 abbrev pub keeps_rules : ReplyValue → Bool
@@ -63,9 +63,9 @@ keeps_rules (Fragment fragment) = is_counted fragment
 keeps_rules (Answer a) = answer_keeps_rules a
 keeps_rules (Refused why) = is_sent why
 
--- whether a reply has a spelling: it keeps its rules, and its rest has at most 2^28 bytes
-abbrev pub has_spelling : ReplyValue → Bool
-has_spelling r = keeps_rules r && nat_le (length (reply_rest r)) 268435456
+-- whether a reply has an encoding: it keeps its rules, and its rest has at most 2^28 bytes
+abbrev pub is_encodable : ReplyValue → Bool
+is_encodable r = keeps_rules r && nat_le (length (reply_rest r)) 268435456
 
 -- a reply whose numbers fit their fields
 abbrev pub ReplyFits : ReplyValue → Type 0
@@ -75,33 +75,33 @@ ReplyFits (Fragment fragment) = FragmentFits fragment
 ReplyFits (Answer a) = AnswerFits a
 ReplyFits (Refused why) = RefusalFits why
 
--- what has a spelling
+-- what has an encoding
 abbrev pub IsReply : ReplyValue → Type 0
-IsReply r = ReplyFits r × (has_spelling r ≡ true)
+IsReply r = ReplyFits r × (is_encodable r ≡ true)
 
 -- a number of operations, 1 to 2^62
 unfoldable pub ops_at : Reader ℕ
-ops_at bytes = barred (number_at w64) (λ ops. ops == 0 || nat_lt (2 ^ 62) ops) BadNumber bytes
+ops_at bytes = fault_where (number_at w64) (λ ops. ops == 0 || nat_lt (2 ^ 62) ops) BadNumber bytes
 
 -- a horizon, and a readable mark that is not below it
 unfoldable pub front_at : Reader (ℕ × ℕ)
-front_at bytes = barred (both time_at time_at) (λ p. nat_lt p.1 p.0) BadNumber bytes
+front_at bytes = fault_where (both time_at time_at) (λ p. nat_lt p.1 p.0) BadNumber bytes
 
 -- the body of a kind
 unfoldable pub reply_of : ℕ → Reader ReplyValue
 reply_of kind bytes =
-    if kind == 32 then made (λ ops. Done ops) ops_at bytes
-    else if kind == 33 then made (λ p. Front p.0 p.1) front_at bytes
-    else if kind == 34 then made (λ fragment. Fragment fragment) fragment_at bytes
-    else if kind == 35 then made (λ a. Answer a) answer_at bytes
-    else if kind == 36 then made (λ why. Refused why) refusal_at bytes
+    if kind == 32 then mapped_value (λ ops. Done ops) ops_at bytes
+    else if kind == 33 then mapped_value (λ p. Front p.0 p.1) front_at bytes
+    else if kind == 34 then mapped_value (λ fragment. Fragment fragment) fragment_at bytes
+    else if kind == 35 then mapped_value (λ a. Answer a) answer_at bytes
+    else if kind == 36 then mapped_value (λ why. Refused why) refusal_at bytes
     else Err BadKind
 
 -- the reply that is all of the rest of a frame
 unfoldable pub reply_at : List ℕ → Result ReplyValue FormFault
 reply_at bytes = message_at reply_of bytes
 
--- The text begins with the spellings of these replies. After them comes less than a frame, which is left, or
+-- The text begins with the encodings of these replies. After them comes less than a frame, which is left, or
 -- bytes with this fault.
 abbrev pub ReadsReplies : List ℕ → List Reply → Result (List ℕ) FormFault → Type 0
 ReadsReplies text replies left = Begins 2 268435456 reply_at (λ r. reply_rest (reply_seen r)) (λ r. IsReply (reply_seen r)) text replies left

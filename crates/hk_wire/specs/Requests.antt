@@ -1,4 +1,4 @@
--- Requests: their spelling and their reading.
+-- Requests: their encoding and their reading.
 use Rattle.std.specs.Prelude.{◌≡◌, ℕ, ◌^◌, ◌≤◌, Bool, true, not, ◌&&◌, nat_le, nat_lt, ◌==◌, if◌then◌else◌, List, [], ◌++◌, length, Option, Some, None, Result, Ok, Err}
 use Rattle.std.specs.List.{flat_map, AllByRecursion}
 use Rattle.std.specs.Int.{w32, w64}
@@ -7,14 +7,14 @@ use Rattle.hk_types.specs.declared.faults.FormFault.TheVariants.{BadKind, BadNum
 use Rattle.hk_log.specs.declared.item.Item.{Item}
 use Rattle.hk_model.specs.declared.query.Query.{Query}
 use Rattle.hk_codec.specs.Fields.{◌>>=◌, number, number_at, bytes_at, list_at}
-use Rattle.hk_codec.specs.Spelling.{IsItem}
-use Rattle.hk_codec.specs.Frames.{spelling, frame_at}
-use Rattle.hk_codec.specs.Framing.{spelled, Begins, AddsValues}
+use Rattle.hk_codec.specs.Encoding.{IsEncodableItem}
+use Rattle.hk_codec.specs.Frames.{encoding_of, frame_at}
+use Rattle.hk_codec.specs.Framing.{encoded, Begins, AddsValues}
 use Rattle.hk_wire.specs.declared.request.Request.{Request}
 use Rattle.hk_wire.specs.declared.request.Request.TheVariants as asked
-use Rattle.hk_wire.specs.Readers.{Reader, both, barred, made, nothing, listed, time_at}
+use Rattle.hk_wire.specs.Readers.{Reader, both, fault_where, mapped_value, nothing, list_by, time_at}
 use Rattle.hk_wire.specs.Messages.{message_text, message_at}
-use Rattle.hk_wire.specs.Fragments.{FragmentTold, fragment_seen, fragment_text, fragment_at, FragmentFits, is_counted}
+use Rattle.hk_wire.specs.Fragments.{WireFragment, wire_fragment_of, fragment_text, fragment_at, FragmentFits, is_counted}
 use Rattle.hk_wire.specs.Queries.{query_text, query_at, QueryFits}
 
 -- the value of a `Request`
@@ -24,8 +24,8 @@ pub data RequestValue : Type 0 where
   Delta : ℕ → RequestValue
   Full : RequestValue
   Ask : ℕ → Query → RequestValue
-  JoinThis : FragmentTold → RequestValue
-  MergeThis : FragmentTold → RequestValue
+  JoinThis : WireFragment → RequestValue
+  MergeThis : WireFragment → RequestValue
   Prune : ℕ → RequestValue
 
 -- the value that a `Request` has
@@ -35,8 +35,8 @@ request_seen asked.Front = Front
 request_seen (asked.Delta base) = Delta base
 request_seen asked.Full = Full
 request_seen (asked.Ask t query) = Ask t query
-request_seen (asked.JoinThis fragment) = JoinThis (fragment_seen fragment)
-request_seen (asked.MergeThis fragment) = MergeThis (fragment_seen fragment)
+request_seen (asked.JoinThis fragment) = JoinThis (wire_fragment_of fragment)
+request_seen (asked.MergeThis fragment) = MergeThis (wire_fragment_of fragment)
 request_seen (asked.Prune horizon) = Prune horizon
 
 -- the kind byte of a request
@@ -52,7 +52,7 @@ request_kind (Prune horizon) = 23
 
 -- its body
 abbrev pub request_body : RequestValue → List ℕ
-request_body (Items items) = number w32 (length items) ++ flat_map spelling items
+request_body (Items items) = number w32 (length items) ++ flat_map encoding_of items
 request_body Front = []
 request_body (Delta base) = number w64 base
 request_body Full = []
@@ -65,9 +65,9 @@ request_body (Prune horizon) = number w64 horizon
 unfoldable pub request_rest : RequestValue → List ℕ
 request_rest r = message_text (request_kind r) (request_body r)
 
--- its spelling: the length of the rest, and the rest
+-- its encoding: the length of the rest, and the rest
 abbrev pub request_text : RequestValue → List ℕ
-request_text r = spelled request_rest r
+request_text r = encoded request_rest r
 
 -- whether a request keeps the rules of its kind
 abbrev pub keeps_rules : RequestValue → Bool
@@ -80,13 +80,13 @@ keeps_rules (JoinThis fragment) = is_counted fragment
 keeps_rules (MergeThis fragment) = (fragment.base == 0) && is_counted fragment
 keeps_rules (Prune horizon) = true
 
--- whether a request has a spelling: it keeps its rules, and its rest has at most 2^28 bytes
-abbrev pub has_spelling : RequestValue → Bool
-has_spelling r = keeps_rules r && nat_le (length (request_rest r)) 268435456
+-- whether a request has an encoding: it keeps its rules, and its rest has at most 2^28 bytes
+abbrev pub is_encodable : RequestValue → Bool
+is_encodable r = keeps_rules r && nat_le (length (request_rest r)) 268435456
 
 -- a request whose numbers fit their fields
 abbrev pub RequestFits : RequestValue → Type 0
-RequestFits (Items items) = AllByRecursion IsItem items
+RequestFits (Items items) = AllByRecursion IsEncodableItem items
 RequestFits Front = Unit {0}
 RequestFits (Delta base) = base ≤ 2 ^ 62
 RequestFits Full = Unit {0}
@@ -95,9 +95,9 @@ RequestFits (JoinThis fragment) = FragmentFits fragment
 RequestFits (MergeThis fragment) = FragmentFits fragment
 RequestFits (Prune horizon) = horizon ≤ 2 ^ 62
 
--- what has a spelling
+-- what has an encoding
 abbrev pub IsRequest : RequestValue → Type 0
-IsRequest r = RequestFits r × (has_spelling r ≡ true)
+IsRequest r = RequestFits r × (is_encodable r ≡ true)
 
 -- a whole item frame, and the bytes after it
 abbrev pub frame_taken : Option (Item × ℕ) → Reader Item
@@ -110,7 +110,7 @@ item_frame_at bytes = frame_at bytes >>= λ frame. frame_taken frame bytes
 
 -- a count of items, at most 65,536
 unfoldable pub item_count_at : Reader ℕ
-item_count_at bytes = barred (number_at w32) (λ count. nat_lt 65536 count) BadCount bytes
+item_count_at bytes = fault_where (number_at w32) (λ count. nat_lt 65536 count) BadCount bytes
 
 -- items stand in any order
 abbrev pub no_place : Item → Unit {0}
@@ -122,30 +122,30 @@ item_frames_at count before bytes = list_at no_place (λ _. item_frame_at) count
 
 -- the items behind their count
 unfoldable pub items_at : Reader (List Item)
-items_at bytes = listed item_count_at no_place (λ _. item_frame_at) bytes
+items_at bytes = list_by item_count_at no_place (λ _. item_frame_at) bytes
 
 -- a fragment of base 0
-unfoldable pub whole_at : Reader FragmentTold
-whole_at bytes = barred fragment_at (λ fragment. not (fragment.base == 0)) BadNumber bytes
+unfoldable pub whole_at : Reader WireFragment
+whole_at bytes = fault_where fragment_at (λ fragment. not (fragment.base == 0)) BadNumber bytes
 
 -- the body of a kind
 unfoldable pub request_of : ℕ → Reader RequestValue
 request_of kind bytes =
-    if kind == 16 then made (λ items. Items items) items_at bytes
+    if kind == 16 then mapped_value (λ items. Items items) items_at bytes
     else if kind == 17 then nothing Front bytes
-    else if kind == 18 then made (λ base. Delta base) time_at bytes
+    else if kind == 18 then mapped_value (λ base. Delta base) time_at bytes
     else if kind == 19 then nothing Full bytes
-    else if kind == 20 then made (λ p. Ask p.0 p.1) (both time_at query_at) bytes
-    else if kind == 21 then made (λ fragment. JoinThis fragment) fragment_at bytes
-    else if kind == 22 then made (λ fragment. MergeThis fragment) whole_at bytes
-    else if kind == 23 then made (λ horizon. Prune horizon) time_at bytes
+    else if kind == 20 then mapped_value (λ p. Ask p.0 p.1) (both time_at query_at) bytes
+    else if kind == 21 then mapped_value (λ fragment. JoinThis fragment) fragment_at bytes
+    else if kind == 22 then mapped_value (λ fragment. MergeThis fragment) whole_at bytes
+    else if kind == 23 then mapped_value (λ horizon. Prune horizon) time_at bytes
     else Err BadKind
 
 -- the request that is all of the rest of a frame
 unfoldable pub request_at : List ℕ → Result RequestValue FormFault
 request_at bytes = message_at request_of bytes
 
--- The text begins with the spellings of these requests. After them comes less than a frame, which is left,
+-- The text begins with the encodings of these requests. After them comes less than a frame, which is left,
 -- or bytes with this fault.
 abbrev pub ReadsRequests : List ℕ → List Request → Result (List ℕ) FormFault → Type 0
 ReadsRequests text requests left = Begins 2 268435456 request_at (λ r. request_rest (request_seen r)) (λ r. IsRequest (request_seen r)) text requests left

@@ -3,7 +3,7 @@
 ghost use Rattle.std.specs.Prelude.{◌≡◌, ◌≤◌, ◌<◌, ◌*◌, ◌^◌, ◌+◌, ◌++◌, None, true, All, length, take, OnOk, OnErr};
 ghost use Rattle.std.specs.Int.{w32};
 ghost use Rattle.std.specs.List.{flat_map};
-ghost use Rattle.hk_codec.specs.Fields.{Gives, GivesOrRunsOut, number};
+ghost use Rattle.hk_codec.specs.Fields.{GivesValue, GivesOrRunsOut, number};
 ghost use Rattle.hk_model.specs.Answers.{answer_seen};
 ghost use Rattle.hk_wire.specs.Answers as spec;
 
@@ -48,7 +48,7 @@ fn key_follows(before: Option<Key>, key: Key) -> bool
 
 /// Reads a key after the one before it.
 fn read_key(cursor: &mut Cursor, before: Option<Key>) -> Result<Key, FormFault>
-    ensures { Gives (λ x. (x, cursor.new)) result (spec.key_at before cursor.old) }
+    ensures { GivesValue (λ x. (x, cursor.new)) result (spec.key_at before cursor.old) }
 {
     let key = Key::new(cursor.u64()?);
     if !key_follows(before, key) {

@@ -1,4 +1,4 @@
-//! The one spelling of a message.
+//! The one encoding of a message.
 
 ghost use Rattle.std.specs.Prelude.{◌≡◌, ◌≤◌, ◌⊎◌, ◌++◌, ℕ, true, false, [], ◌∷◌, Ok, length, take, OnOk, OnErr, IfErr, IfSome, MatchOption};
 ghost use Rattle.std.specs.Int.{w32};
@@ -60,9 +60,9 @@ fn rest_len(request: &Request) -> u64
     }
 }
 
-/// How many bytes the rest of a request's frame has, or `None` where it has no spelling.
+/// How many bytes the rest of a request's frame has, or `None` where it has no encoding.
 fn request_len(request: &Request) -> Option<u32>
-    ensures len { MatchOption result (requests.has_spelling (requests.request_seen request.now) ≡ false) (λ len. (requests.has_spelling (requests.request_seen request.now) ≡ true) × (len ≡ length (requests.request_rest (requests.request_seen request.now)))) }
+    ensures len { MatchOption result (requests.is_encodable (requests.request_seen request.now) ≡ false) (λ len. (requests.is_encodable (requests.request_seen request.now) ≡ true) × (len ≡ length (requests.request_rest (requests.request_seen request.now)))) }
     ensures rules { IfSome result (λ _. requests.keeps_rules (requests.request_seen request.now) ≡ true) }
     ensures request { IfSome result (λ _. requests.IsRequest (requests.request_seen request.now)) }
 {
@@ -77,7 +77,7 @@ fn request_len(request: &Request) -> Option<u32>
 }
 
 /// Adds a request's frame, whose rest has so many bytes.
-#[tactic(auto, using(std::proofs::Common::append_assoc, hk_codec::proofs::Prefix::kept_all, hk_codec::proofs::Prefix::kept_before, hk_codec::proofs::Prefix::kept_both), unfolding(hk_codec::specs::Framing::spelled, crate::specs::Requests::request_rest))]
+#[tactic(auto, using(std::proofs::Common::append_assoc, hk_codec::proofs::Prefix::kept_all, hk_codec::proofs::Prefix::kept_before, hk_codec::proofs::Prefix::kept_both), unfolding(hk_codec::specs::Framing::encoded, crate::specs::Requests::request_rest))]
 fn put_request(out: &mut Vec<u8>, request: &Request, rest: u32) -> Result<(), AllocError>
     requires len { rest ≡ length (requests.request_rest (requests.request_seen request.now)) }
     requires rules { requests.keeps_rules (requests.request_seen request.now) ≡ true }
@@ -115,19 +115,19 @@ fn put_request(out: &mut Vec<u8>, request: &Request, rest: u32) -> Result<(), Al
     }
 }
 
-/// Adds a request's one spelling at the end. A request without a spelling is refused `Form(TooLong)`: more
+/// Adds a request's one encoding at the end. A request without an encoding is refused `Form(TooLong)`: more
 /// than 65,536 items, a fragment with more than 2^32 - 1 of a counted thing, a fragment to merge whose base is
 /// not 0, and a rest of more than 2^28 bytes. After that comes `Memory`. On a refusal the output is as before.
 /// The whole frame is reserved at once; the cost is one growth of the output at most and three passes over the
 /// request: one that tests it, one that counts its bytes and one that writes them.
 ///
-/// A `RequestFeeder` that is given the spelling alone gives a request of that value, and holds nothing.
+/// A `RequestFeeder` that is given the encoding alone gives a request of that value, and holds nothing.
 pub fn encode_request(request: &Request, out: &mut Vec<u8>) -> Result<(), Refusal>
-    ensures ok { OnOk result ((requests.has_spelling (requests.request_seen request.now) ≡ true) × (out.new.items ≡ out.old.items ++ requests.request_text (requests.request_seen request.now))) }
+    ensures ok { OnOk result ((requests.is_encodable (requests.request_seen request.now) ≡ true) × (out.new.items ≡ out.old.items ++ requests.request_text (requests.request_seen request.now))) }
     ensures request { OnOk result (requests.IsRequest (requests.request_seen request.now)) }
     ensures reads { OnOk result (requests.ReadsRequests (requests.request_text (requests.request_seen request.now)) (request.now ∷ []) (Ok [])) }
     ensures err { OnErr result (out.new.items ≡ out.old.items) }
-    ensures why { IfErr result (λ e. ((e ≡ refusals.Form faults.TooLong) × (requests.has_spelling (requests.request_seen request.now) ≡ false)) ⊎ ((e ≡ refusals.Memory) × (requests.has_spelling (requests.request_seen request.now) ≡ true))) }
+    ensures why { IfErr result (λ e. ((e ≡ refusals.Form faults.TooLong) × (requests.is_encodable (requests.request_seen request.now) ≡ false)) ⊎ ((e ≡ refusals.Memory) × (requests.is_encodable (requests.request_seen request.now) ≡ true))) }
 {
     let Some(rest) = request_len(request) else {
         return Err(Refusal::Form(FormFault::TooLong));

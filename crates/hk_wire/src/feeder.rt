@@ -38,11 +38,11 @@ impl RequestFeeder {
     }
 
     /// Takes the next piece of the stream, and adds the requests of the frames that are whole now. A fault is
-    /// answered once the bytes have it, after the requests before it, and then for ever; a reply's kind is
+    /// answered once the bytes have it, after the requests before it, and then permanently; a reply's kind is
     /// `BadKind`. Where memory runs out, which is `Memory`, the feeder and the list are as before. The cost
     /// is one pass over the frames that are whole now, and one copy of the bytes that are left.
     pub fn feed(&mut self, piece: &[u8], out: &mut Vec<Request>) -> Result<(), Refusal>
-        // What is held and the piece begin with the spellings of the added requests. What follows them is held.
+        // What is held and the piece begin with the encodings of the added requests. What follows them is held.
         ensures reads { (rest : List ℕ) → self.old ≡ Ok rest → (result ≡ Err refusals.Memory) ⊎ ((result ≡ answer self.new) × AddsRequests out.old.items out.new.items (rest ++ piece.now) self.new) }
         // A fault stays.
         ensures fault { (f : FormFault) → self.old ≡ Err f → (result ≡ Err (refusals.Form f)) × (self.new ≡ Err f) × (out.new.items ≡ out.old.items) }

@@ -21,7 +21,7 @@ use std::alloc::AllocError;
 /// How many numbers above the prefix are taken.
 fn extra_count(got: &Got, s: StreamNo) -> usize
     requires { s ≤ length got.now }
-    ensures { result ≡ length (spec.stream_seen (stream_at got.now s)).extra }
+    ensures { result ≡ length (spec.wire_stream_of (stream_at got.now s)).extra }
 {
     got.extra_numbers(s).len()
 }
@@ -29,7 +29,7 @@ fn extra_count(got: &Got, s: StreamNo) -> usize
 /// How many marks wait.
 fn waiting_count(got: &Got, s: StreamNo) -> usize
     requires { s ≤ length got.now }
-    ensures { result ≡ length (spec.stream_seen (stream_at got.now s)).waiting }
+    ensures { result ≡ length (spec.wire_stream_of (stream_at got.now s)).waiting }
 {
     got.waiting_marks(s).len()
 }
@@ -37,14 +37,14 @@ fn waiting_count(got: &Got, s: StreamNo) -> usize
 /// Whether the numbers and the marks of a stream can be counted.
 fn stream_is_counted(got: &Got, s: StreamNo) -> bool
     requires { s ≤ length got.now }
-    ensures { result ≡ spec.stream_is_counted (spec.stream_seen (stream_at got.now s)) }
+    ensures { result ≡ spec.stream_is_counted (spec.wire_stream_of (stream_at got.now s)) }
 {
     extra_count(got, s) < 4_294_967_296 && waiting_count(got, s) < 4_294_967_296
 }
 
 /// Whether the numbers and the marks of the streams can be counted.
 fn streams_are_counted(got: &Got) -> bool
-    ensures { result ≡ spec.streams_are_counted (map spec.stream_seen got.now) }
+    ensures { result ≡ spec.streams_are_counted (map spec.wire_stream_of got.now) }
 {
     for index in 0..got.streams() {
         let Ok(s) = StreamNo::new(index + 1) else {
@@ -59,7 +59,7 @@ fn streams_are_counted(got: &Got) -> bool
 
 /// Whether all of a fragment can be counted: no count is above 2^32 - 1.
 pub(crate) fn is_counted(fragment: &Fragment) -> bool
-    ensures { result ≡ spec.is_counted (spec.fragment_seen fragment.now) }
+    ensures { result ≡ spec.is_counted (spec.wire_fragment_of fragment.now) }
 {
     streams_are_counted(fragment.got()) && fragment.facts().len() < 4_294_967_296
 }
@@ -68,8 +68,8 @@ pub(crate) fn is_counted(fragment: &Fragment) -> bool
 #[tactic(auto, using(crate::proofs::Lengths::stream_text_len))]
 fn stream_len(got: &Got, s: StreamNo) -> u64
     requires known { s ≤ length got.now }
-    requires counted { spec.stream_is_counted (spec.stream_seen (stream_at got.now s)) ≡ true }
-    ensures len { result ≡ length (spec.stream_text (spec.stream_seen (stream_at got.now s))) }
+    requires counted { spec.stream_is_counted (spec.wire_stream_of (stream_at got.now s)) ≡ true }
+    ensures len { result ≡ length (spec.stream_text (spec.wire_stream_of (stream_at got.now s))) }
     ensures bound { result ≤ 2 ^ 37 }
 {
     24 + 8 * extra_count(got, s) as u64 + 16 * waiting_count(got, s) as u64
@@ -77,8 +77,8 @@ fn stream_len(got: &Got, s: StreamNo) -> u64
 
 /// How many bytes the streams have.
 fn streams_len(got: &Got) -> u64
-    requires { spec.streams_are_counted (map spec.stream_seen got.now) ≡ true }
-    ensures len { result ≡ length (flat_map spec.stream_text (map spec.stream_seen got.now)) }
+    requires { spec.streams_are_counted (map spec.wire_stream_of got.now) ≡ true }
+    ensures len { result ≡ length (flat_map spec.stream_text (map spec.wire_stream_of got.now)) }
     ensures bound { result ≤ 2 ^ 43 }
 {
     let mut total = 0;
@@ -164,10 +164,10 @@ fn head_len(config: Config, base: Time, horizon: Time) -> u64
 /// How many bytes a fragment that can be counted has.
 #[tactic(auto, using(crate::proofs::Lengths::fragment_text_len))]
 pub(crate) fn fragment_len(fragment: &Fragment) -> u64
-    requires { spec.is_counted (spec.fragment_seen fragment.now) ≡ true }
-    ensures len { result ≡ length (spec.fragment_text (spec.fragment_seen fragment.now)) }
+    requires { spec.is_counted (spec.wire_fragment_of fragment.now) ≡ true }
+    ensures len { result ≡ length (spec.fragment_text (spec.wire_fragment_of fragment.now)) }
     ensures bound { result ≤ 2 ^ 60 }
-    ensures fits { spec.FragmentFits (spec.fragment_seen fragment.now) }
+    ensures fits { spec.FragmentFits (spec.wire_fragment_of fragment.now) }
 {
     let head = head_len(fragment.config(), fragment.base(), fragment.horizon());
     head + 4 + streams_len(fragment.got()) + facts_len(fragment.facts())
@@ -177,8 +177,8 @@ pub(crate) fn fragment_len(fragment: &Fragment) -> u64
 #[tactic(auto, using(std::proofs::Common::append_assoc, hk_codec::proofs::Prefix::kept_all, hk_codec::proofs::Prefix::kept_before, hk_codec::proofs::Prefix::kept_both))]
 fn put_extras(out: &mut Vec<u8>, got: &Got, s: StreamNo) -> Result<(), AllocError>
     requires known { s ≤ length got.now }
-    requires counted { spec.stream_is_counted (spec.stream_seen (stream_at got.now s)) ≡ true }
-    ensures ok { OnOk result (out.new.items ≡ out.old.items ++ spec.extras_text (spec.stream_seen (stream_at got.now s)).extra) }
+    requires counted { spec.stream_is_counted (spec.wire_stream_of (stream_at got.now s)) ≡ true }
+    ensures ok { OnOk result (out.new.items ≡ out.old.items ++ spec.extras_text (spec.wire_stream_of (stream_at got.now s)).extra) }
     ensures kept { OnErr result (take (length out.old.items) out.new.items ≡ out.old.items) }
 {
     put_u32(out, extra_count(got, s) as u32)?;
@@ -202,8 +202,8 @@ fn put_mark(out: &mut Vec<u8>, count: u64, upto: Time) -> Result<(), AllocError>
 #[tactic(auto, using(std::proofs::Common::append_assoc, hk_codec::proofs::Prefix::kept_all, hk_codec::proofs::Prefix::kept_before, hk_codec::proofs::Prefix::kept_both))]
 fn put_waits(out: &mut Vec<u8>, got: &Got, s: StreamNo) -> Result<(), AllocError>
     requires known { s ≤ length got.now }
-    requires counted { spec.stream_is_counted (spec.stream_seen (stream_at got.now s)) ≡ true }
-    ensures ok { OnOk result (out.new.items ≡ out.old.items ++ spec.waits_text (spec.stream_seen (stream_at got.now s)).waiting) }
+    requires counted { spec.stream_is_counted (spec.wire_stream_of (stream_at got.now s)) ≡ true }
+    ensures ok { OnOk result (out.new.items ≡ out.old.items ++ spec.waits_text (spec.wire_stream_of (stream_at got.now s)).waiting) }
     ensures kept { OnErr result (take (length out.old.items) out.new.items ≡ out.old.items) }
 {
     put_u32(out, waiting_count(got, s) as u32)?;
@@ -216,7 +216,7 @@ fn put_waits(out: &mut Vec<u8>, got: &Got, s: StreamNo) -> Result<(), AllocError
 /// The number up to which all are taken.
 fn prefix(got: &Got, s: StreamNo) -> u64
     requires { s ≤ length got.now }
-    ensures { result ≡ (spec.stream_seen (stream_at got.now s)).prefix }
+    ensures { result ≡ (spec.wire_stream_of (stream_at got.now s)).prefix }
 {
     got.prefix(s)
 }
@@ -225,8 +225,8 @@ fn prefix(got: &Got, s: StreamNo) -> u64
 #[tactic(auto, using(std::proofs::Common::append_assoc, hk_codec::proofs::Prefix::kept_all, hk_codec::proofs::Prefix::kept_before, hk_codec::proofs::Prefix::kept_both), unfolding(crate::specs::Fragments::stream_text))]
 fn put_stream(out: &mut Vec<u8>, got: &Got, s: StreamNo) -> Result<(), AllocError>
     requires known { s ≤ length got.now }
-    requires counted { spec.stream_is_counted (spec.stream_seen (stream_at got.now s)) ≡ true }
-    ensures ok { OnOk result (out.new.items ≡ out.old.items ++ spec.stream_text (spec.stream_seen (stream_at got.now s))) }
+    requires counted { spec.stream_is_counted (spec.wire_stream_of (stream_at got.now s)) ≡ true }
+    ensures ok { OnOk result (out.new.items ≡ out.old.items ++ spec.stream_text (spec.wire_stream_of (stream_at got.now s))) }
     ensures kept { OnErr result (take (length out.old.items) out.new.items ≡ out.old.items) }
 {
     put_u64(out, prefix(got, s))?;
@@ -238,8 +238,8 @@ fn put_stream(out: &mut Vec<u8>, got: &Got, s: StreamNo) -> Result<(), AllocErro
 /// Adds what is told of the streams.
 #[tactic(auto, using(std::proofs::Common::append_assoc, hk_codec::proofs::Prefix::kept_all, hk_codec::proofs::Prefix::kept_before, hk_codec::proofs::Prefix::kept_both))]
 fn put_streams(out: &mut Vec<u8>, got: &Got) -> Result<(), AllocError>
-    requires { spec.streams_are_counted (map spec.stream_seen got.now) ≡ true }
-    ensures ok { OnOk result (out.new.items ≡ out.old.items ++ flat_map spec.stream_text (map spec.stream_seen got.now)) }
+    requires { spec.streams_are_counted (map spec.wire_stream_of got.now) ≡ true }
+    ensures ok { OnOk result (out.new.items ≡ out.old.items ++ flat_map spec.stream_text (map spec.wire_stream_of got.now)) }
     ensures kept { OnErr result (take (length out.old.items) out.new.items ≡ out.old.items) }
 {
     for index in 0..got.streams() {
@@ -317,8 +317,8 @@ fn put_facts(out: &mut Vec<u8>, facts: &[(VersionKey, Version)]) -> Result<(), A
 /// Adds a fragment's bytes.
 #[tactic(auto, using(std::proofs::Common::append_assoc, hk_codec::proofs::Prefix::kept_all, hk_codec::proofs::Prefix::kept_before, hk_codec::proofs::Prefix::kept_both), unfolding(crate::specs::Fragments::fragment_text))]
 pub(crate) fn put_fragment(out: &mut Vec<u8>, fragment: &Fragment) -> Result<(), AllocError>
-    requires { spec.is_counted (spec.fragment_seen fragment.now) ≡ true }
-    ensures ok { OnOk result (out.new.items ≡ out.old.items ++ spec.fragment_text (spec.fragment_seen fragment.now)) }
+    requires { spec.is_counted (spec.wire_fragment_of fragment.now) ≡ true }
+    ensures ok { OnOk result (out.new.items ≡ out.old.items ++ spec.fragment_text (spec.wire_fragment_of fragment.now)) }
     ensures kept { OnErr result (take (length out.old.items) out.new.items ≡ out.old.items) }
 {
     let config = fragment.config();

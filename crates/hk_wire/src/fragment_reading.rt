@@ -1,7 +1,7 @@
 //! Fragments, read from the front of bytes.
 
 ghost use Rattle.std.specs.Prelude.{◌≡◌, ◌≤◌, ◌^◌, ◌<◌, ◌-◌, ◌==◌, ◌||◌, nat_le, None, Ok, true, length, map, replicate, slice_set, OnOk, IfOk, IfErr};
-ghost use Rattle.hk_codec.specs.Fields.{Gives, GivesOrRunsOut, Fails};
+ghost use Rattle.hk_codec.specs.Fields.{GivesValue, GivesOrRunsOut, Fails};
 ghost use Rattle.hk_model.specs.Streams.{stream_at, unknown};
 ghost use Rattle.hk_model.specs.Content.{least_closed};
 ghost use Rattle.hk_delta.specs.Parts as parts;
@@ -39,7 +39,7 @@ struct Head {
 /// Reads the base and the horizon.
 #[tactic(auto, unfolding(crate::specs::Fragments::bounds_at))]
 fn read_bounds(cursor: &mut Cursor) -> Result<(Time, Time), FormFault>
-    ensures read { Gives (λ x. (x, cursor.new)) result (spec.bounds_at cursor.old) }
+    ensures read { GivesValue (λ x. (x, cursor.new)) result (spec.bounds_at cursor.old) }
     ensures above { IfOk result (λ x. ((x.0 == 0) || nat_le x.1 x.0) ≡ true) }
 {
     let base = read_time(cursor)?;
@@ -53,7 +53,7 @@ fn read_bounds(cursor: &mut Cursor) -> Result<(Time, Time), FormFault>
 /// Reads the log, the number of its streams, the base and the horizon.
 #[tactic(auto, unfolding(crate::specs::Fragments::stream_count_at))]
 fn read_fragment_head(cursor: &mut Cursor) -> Result<Head, FormFault>
-    ensures read { Gives (λ x. ((x.config.log, (x.config.streams, (x.base, x.horizon))), cursor.new)) result (spec.fragment_head_at cursor.old) }
+    ensures read { GivesValue (λ x. ((x.config.log, (x.config.streams, (x.base, x.horizon))), cursor.new)) result (spec.fragment_head_at cursor.old) }
     ensures above { IfOk result (λ x. ((x.base == 0) || nat_le x.horizon x.base) ≡ true) }
 {
     let log = cursor.u64()?;
@@ -81,7 +81,7 @@ fn number_follows(before: Option<u64>, number: u64) -> bool
 #[tactic(auto, unfolding(crate::specs::Fragments::extra_at))]
 fn read_extra(cursor: &mut Cursor, prefix: u64, before: Option<u64>) -> Result<u64, FormFault>
     requires { prefix ≤ 2 ^ 62 }
-    ensures read { Gives (λ x. (x, cursor.new)) result (spec.extra_at prefix before cursor.old) }
+    ensures read { GivesValue (λ x. (x, cursor.new)) result (spec.extra_at prefix before cursor.old) }
     ensures fits { IfOk result (λ number. spec.ExtraFits prefix before number) }
 {
     let number = cursor.u64()?;
@@ -105,7 +105,7 @@ fn read_extras(
     requires least { 1 ≤ s }
     requires known { s ≤ length got.old }
     requires most { prefix ≤ 2 ^ 62 }
-    requires starts { stream_at got.old s ≡ steps.begun prefix (stream_at got.old s).closed }
+    requires starts { stream_at got.old s ≡ steps.stream_without_marks prefix (stream_at got.old s).closed }
     ensures ok { OnOk result (steps.TakesExtra prefix count (stream_at got.old s).closed cursor.old cursor.new (stream_at got.new s)) }
     ensures only { OnOk result (got.new ≡ slice_set got.old (s - 1) (stream_at got.new s)) }
     ensures err { IfErr result (λ e. Fails e (steps.extras_at prefix count None cursor.old)) }
@@ -127,7 +127,7 @@ fn read_waiting_count(
     prefix: u64,
     before: Option<u64>,
 ) -> Result<u64, FormFault>
-    ensures read { Gives (λ x. (x, cursor.new)) result (spec.waiting_count_at prefix before cursor.old) }
+    ensures read { GivesValue (λ x. (x, cursor.new)) result (spec.waiting_count_at prefix before cursor.old) }
     ensures follows { IfOk result (λ count. spec.number_follows before count ≡ true) }
     ensures above { IfOk result (λ count. prefix < count) }
 {
@@ -148,7 +148,7 @@ fn read_waiting(
     prefix: u64,
     before: Option<u64>,
 ) -> Result<(u64, Time), FormFault>
-    ensures read { Gives (λ x. (x, cursor.new)) result (spec.waiting_at prefix before cursor.old) }
+    ensures read { GivesValue (λ x. (x, cursor.new)) result (spec.waiting_at prefix before cursor.old) }
     ensures fits { IfOk result (λ mark. spec.WaitingFits prefix before mark) }
 {
     let count = read_waiting_count(cursor, prefix, before)?;
@@ -191,7 +191,7 @@ fn read_stream(cursor: &mut Cursor, got: &mut Got, s: StreamNo) -> Result<(), Re
     requires least { 1 ≤ s }
     requires known { s ≤ length got.old }
     requires starts { stream_at got.old s ≡ unknown }
-    ensures ok { OnOk result (spec.stream_at cursor.old ≡ Ok (spec.stream_seen (stream_at got.new s), cursor.new)) }
+    ensures ok { OnOk result (spec.stream_at cursor.old ≡ Ok (spec.wire_stream_of (stream_at got.new s), cursor.new)) }
     ensures err { IfErr result (λ e. Fails e (spec.stream_at cursor.old)) }
     ensures only { OnOk result (got.new ≡ slice_set got.old (s - 1) (stream_at got.new s)) }
 {
@@ -211,7 +211,7 @@ fn read_streams(cursor: &mut Cursor, got: &mut Got, count: u16) -> Result<(), Re
     requires all { count ≡ length got.old }
     requires most { count ≤ 64 }
     requires starts { got.old ≡ replicate (length got.old) unknown }
-    ensures ok { OnOk result (steps.streams_at count None cursor.old ≡ Ok (map spec.stream_seen got.new, cursor.new)) }
+    ensures ok { OnOk result (steps.streams_at count None cursor.old ≡ Ok (map spec.wire_stream_of got.new, cursor.new)) }
     ensures err { IfErr result (λ e. Fails e (steps.streams_at count None cursor.old)) }
     ensures all { OnOk result (length got.new ≡ length got.old) }
 {
@@ -230,7 +230,7 @@ fn read_got(
     config: Config,
     horizon: Time,
 ) -> Result<Got, ReadError>
-    ensures read { GivesOrRunsOut (λ x. (map spec.stream_seen x, cursor.new)) result (spec.streams_at horizon config.streams cursor.old) }
+    ensures read { GivesOrRunsOut (λ x. (map spec.wire_stream_of x, cursor.new)) result (spec.streams_at horizon config.streams cursor.old) }
     ensures all { IfOk result (λ x. length x ≡ config.streams) }
     ensures reach { IfOk result (λ x. horizon ≤ least_closed x) }
 {
@@ -263,7 +263,7 @@ fn follows(before: Option<VersionKey>, table: Table, key: Key, born: u64) -> boo
 /// Reads the name of a version, after the one before it.
 #[tactic(auto, unfolding(crate::specs::Fragments::version_at))]
 fn read_version(cursor: &mut Cursor, before: Option<VersionKey>) -> Result<VersionKey, FormFault>
-    ensures { Gives (λ x. (x, cursor.new)) result (spec.version_at before cursor.old) }
+    ensures { GivesValue (λ x. (x, cursor.new)) result (spec.version_at before cursor.old) }
 {
     let table = Table::new(cursor.u16()?);
     let key = Key::new(cursor.u64()?);
@@ -280,7 +280,7 @@ fn read_version(cursor: &mut Cursor, before: Option<VersionKey>) -> Result<Versi
 
 /// Reads an end above the base, the horizon and the birth of its version.
 fn read_died(cursor: &mut Cursor, base: Time, horizon: Time, born: Time) -> Result<Time, FormFault>
-    ensures { Gives (λ x. (x, cursor.new)) result (spec.died_at base horizon born cursor.old) }
+    ensures { GivesValue (λ x. (x, cursor.new)) result (spec.died_at base horizon born cursor.old) }
 {
     let died = read_time(cursor)?;
     let above = base.number() < died.number()
@@ -352,7 +352,7 @@ fn read_many(
     horizon: Time,
     count: u32,
 ) -> Result<Vec<(VersionKey, Version)>, ReadError>
-    ensures { GivesOrRunsOut (λ x. (x.items, cursor.new)) result (steps.facts_at base horizon count None cursor.old) }
+    ensures { GivesOrRunsOut (λ x. (x.items, cursor.new)) result (steps.fact_list_at base horizon count None cursor.old) }
 {
     let room = (count as usize).min(cursor.len() / LEAST_FACT_BYTES);
     let mut facts = Vec::with_capacity(alloc, room)?;
@@ -368,7 +368,7 @@ fn read_many(
 /// Reads a fragment.
 #[tactic(auto, unfolding(crate::specs::Fragments::fragment_at))]
 pub(crate) fn read_fragment(alloc: Global, cursor: &mut Cursor) -> Result<Fragment, ReadError>
-    ensures { GivesOrRunsOut (λ x. (spec.fragment_seen x, cursor.new)) result (spec.fragment_at cursor.old) }
+    ensures { GivesOrRunsOut (λ x. (spec.wire_fragment_of x, cursor.new)) result (spec.fragment_at cursor.old) }
 {
     let head = read_fragment_head(cursor)?;
     let got = read_got(alloc, cursor, head.config, head.horizon)?;
@@ -381,7 +381,7 @@ pub(crate) fn read_fragment(alloc: Global, cursor: &mut Cursor) -> Result<Fragme
 /// Reads a fragment of base 0.
 #[tactic(auto, unfolding(crate::specs::Requests::whole_at))]
 pub(crate) fn read_whole(alloc: Global, cursor: &mut Cursor) -> Result<Fragment, ReadError>
-    ensures { GivesOrRunsOut (λ x. (spec.fragment_seen x, cursor.new)) result (whole_at cursor.old) }
+    ensures { GivesOrRunsOut (λ x. (spec.wire_fragment_of x, cursor.new)) result (whole_at cursor.old) }
 {
     let fragment = read_fragment(alloc, cursor)?;
     if fragment.base().number() != 0 {

@@ -2,7 +2,7 @@
 
 ghost use Rattle.std.specs.Prelude.{◌≡◌, length, nat_lt, true};
 ghost use Rattle.hk_types.specs.declared.faults.FormFault.TheVariants.{WrongLength};
-ghost use Rattle.hk_codec.specs.Fields.{Gives, check};
+ghost use Rattle.hk_codec.specs.Fields.{GivesValue, check};
 ghost use Rattle.hk_wire.specs.Messages.{head_at};
 ghost use Rattle.hk_wire.specs.Readers.{time_at};
 
@@ -18,7 +18,7 @@ pub(crate) const MOST_REST_BYTES: u32 = 268_435_456;
 /// Reads the version and the kind.
 #[tactic(auto, unfolding(crate::specs::Messages::head_at))]
 pub(crate) fn read_head(cursor: &mut Cursor) -> Result<u8, FormFault>
-    ensures { Gives (λ x. (x, cursor.new)) result (head_at cursor.old) }
+    ensures { GivesValue (λ x. (x, cursor.new)) result (head_at cursor.old) }
 {
     if cursor.u8()? != VERSION {
         return Err(FormFault::BadVersion);
@@ -28,7 +28,7 @@ pub(crate) fn read_head(cursor: &mut Cursor) -> Result<u8, FormFault>
 
 /// Tests that no byte is left.
 pub(crate) fn read_end(cursor: &Cursor) -> Result<(), FormFault>
-    ensures { Gives (λ _. true) result (check (nat_lt 0 (length cursor.now)) WrongLength) }
+    ensures { GivesValue (λ _. true) result (check (nat_lt 0 (length cursor.now)) WrongLength) }
 {
     if !cursor.is_empty() {
         return Err(FormFault::WrongLength);
@@ -39,7 +39,7 @@ pub(crate) fn read_end(cursor: &Cursor) -> Result<(), FormFault>
 /// Reads a time.
 #[tactic(auto, unfolding(crate::specs::Readers::time_at))]
 pub(crate) fn read_time(cursor: &mut Cursor) -> Result<Time, FormFault>
-    ensures { Gives (λ x. (x, cursor.new)) result (time_at cursor.old) }
+    ensures { GivesValue (λ x. (x, cursor.new)) result (time_at cursor.old) }
 {
     Time::new(cursor.u64()?)
 }

@@ -3,9 +3,9 @@
 ghost use Rattle.std.specs.Prelude.{◌≡◌, ◌≤◌, ◌*◌, ◌++◌, None, All, length, take, OnOk, OnErr};
 ghost use Rattle.std.specs.Int.{w32};
 ghost use Rattle.std.specs.List.{flat_map};
-ghost use Rattle.hk_codec.specs.Fields.{Gives, GivesOrRunsOut, number};
-ghost use Rattle.hk_codec.specs.Frames.{spelling};
-ghost use Rattle.hk_codec.specs.Spelling.{IsItem};
+ghost use Rattle.hk_codec.specs.Fields.{GivesValue, GivesOrRunsOut, number};
+ghost use Rattle.hk_codec.specs.Frames.{encoding_of};
+ghost use Rattle.hk_codec.specs.Encoding.{IsEncodableItem};
 ghost use Rattle.hk_wire.specs.Requests as spec;
 
 use hk_codec::{Cursor, ReadError, frame_len, next_frame, put_frame, put_u32};
@@ -36,7 +36,7 @@ fn read_item_frame(alloc: Global, cursor: &mut Cursor) -> Result<Item, ReadError
 /// Reads a count of items.
 #[tactic(auto, unfolding(crate::specs::Requests::item_count_at))]
 fn read_item_count(cursor: &mut Cursor) -> Result<u32, FormFault>
-    ensures { Gives (λ x. (x, cursor.new)) result (spec.item_count_at cursor.old) }
+    ensures { GivesValue (λ x. (x, cursor.new)) result (spec.item_count_at cursor.old) }
 {
     let count = cursor.u32()?;
     if count as usize > MOST_ITEMS {
@@ -70,9 +70,9 @@ pub(crate) fn read_items(alloc: Global, cursor: &mut Cursor) -> Result<Vec<Item>
 /// How many bytes the items have, without their count.
 pub(crate) fn items_len(items: &[Item]) -> u64
     requires { length items.now ≤ 65536 }
-    ensures len { result ≡ length (flat_map spelling items.now) }
+    ensures len { result ≡ length (flat_map encoding_of items.now) }
     ensures bound { result ≤ 4229156 * length items.now }
-    ensures fits { All IsItem items.now }
+    ensures fits { All IsEncodableItem items.now }
 {
     let mut total = 0;
     for item in items {
@@ -85,7 +85,7 @@ pub(crate) fn items_len(items: &[Item]) -> u64
 #[tactic(auto, using(std::proofs::Common::append_assoc, hk_codec::proofs::Prefix::kept_all, hk_codec::proofs::Prefix::kept_before, hk_codec::proofs::Prefix::kept_both))]
 pub(crate) fn put_items(out: &mut Vec<u8>, items: &[Item]) -> Result<(), AllocError>
     requires { length items.now ≤ 65536 }
-    ensures ok { OnOk result (out.new.items ≡ out.old.items ++ (number w32 (length items.now) ++ flat_map spelling items.now)) }
+    ensures ok { OnOk result (out.new.items ≡ out.old.items ++ (number w32 (length items.now) ++ flat_map encoding_of items.now)) }
     ensures kept { OnErr result (take (length out.old.items) out.new.items ≡ out.old.items) }
 {
     put_u32(out, items.len() as u32)?;

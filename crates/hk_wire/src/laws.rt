@@ -4,19 +4,19 @@ ghost use Rattle.std.specs.Prelude.{◌≡◌, ◌++◌, List, ℕ, Result, Ok, 
 ghost use Rattle.hk_types.specs.declared.faults.FormFault.{FormFault};
 ghost use Rattle.hk_wire.specs.declared.request.Request.{Request};
 ghost use Rattle.hk_wire.specs.declared.reply.Reply.{Reply};
-ghost use Rattle.hk_wire.specs.Fragments.{fragment_seen};
+ghost use Rattle.hk_wire.specs.Fragments.{wire_fragment_of};
 ghost use Rattle.hk_wire.specs.Requests.{RequestValue, IsRequest, request_seen, request_text, ReadsRequests};
 ghost use Rattle.hk_wire.specs.Replies.{ReplyValue, IsReply, reply_seen, reply_text, ReadsReplies};
 
 use hk_delta::Fragment;
 
-/// No request has two spellings, no spelling is that of two requests, and none begins another.
-pub fn one_request_spelling()
+/// No request has two encodings, no encoding is that of two requests, and none begins another.
+pub fn one_request_encoding()
     ensures { (i j : RequestValue) (a b : List ℕ) → IsRequest i → IsRequest j → request_text i ++ a ≡ request_text j ++ b → (i ≡ j) × (a ≡ b) }
 {}
 
-/// No reply has two spellings, no spelling is that of two replies, and none begins another.
-pub fn one_reply_spelling()
+/// No reply has two encodings, no encoding is that of two replies, and none begins another.
+pub fn one_reply_encoding()
     ensures { (i j : ReplyValue) (a b : List ℕ) → IsReply i → IsReply j → reply_text i ++ a ≡ reply_text j ++ b → (i ≡ j) × (a ≡ b) }
 {}
 
@@ -41,8 +41,8 @@ pub fn one_reply_reading()
 {}
 
 /// What the bytes of a fragment tell is the whole of it: no two fragments are told alike.
-pub fn one_fragment_told(one: &Fragment, other: &Fragment)
-    ensures { fragment_seen one.now ≡ fragment_seen other.now → one.now ≡ other.now }
+pub fn one_wire_fragment(one: &Fragment, other: &Fragment)
+    ensures { wire_fragment_of one.now ≡ wire_fragment_of other.now → one.now ≡ other.now }
 {
     let (_one, _other) = (one.got(), other.got());
 }

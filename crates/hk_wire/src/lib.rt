@@ -1,9 +1,9 @@
 //! Messages: what is asked of a replica and what it replies, as bytes.
 //!
 //! A message stands in a frame of its own: a length of four bytes, the high one first, and then as many bytes,
-//! which are the version 1, the kind and the body. Each message has at most one spelling, which `encode_request`
+//! which are the version 1, the kind and the body. Each message has at most one encoding, which `encode_request`
 //! and `encode_reply` add at the end of bytes. A `RequestFeeder` and a `ReplyFeeder` read the messages of a
-//! stream that comes in any pieces, and give exactly those whose spellings the bytes begin with, and the first
+//! stream that comes in any pieces, and give exactly those whose encodings the bytes begin with, and the first
 //! fault of what follows them.
 #![tactic(auto)]
 
@@ -26,8 +26,8 @@ mod request;
 pub use encoding::encode_request;
 pub use feeder::RequestFeeder;
 pub use laws::{
-    one_fragment_told, one_reply_reading, one_reply_spelling, one_request_reading,
-    one_request_spelling, reply_pieces_join, request_pieces_join,
+    one_wire_fragment, one_reply_reading, one_reply_encoding, one_request_reading,
+    one_request_encoding, reply_pieces_join, request_pieces_join,
 };
 pub use reply::Reply;
 pub use reply_encoding::encode_reply;

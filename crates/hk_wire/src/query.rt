@@ -1,7 +1,7 @@
 //! Queries as bytes.
 
 ghost use Rattle.std.specs.Prelude.{◌≡◌, ◌≤◌, ◌++◌, length, take, OnOk, OnErr};
-ghost use Rattle.hk_codec.specs.Fields.{Gives};
+ghost use Rattle.hk_codec.specs.Fields.{GivesValue};
 ghost use Rattle.hk_wire.specs.Queries as spec;
 
 use crate::field_len::{key_len, table_len, tag_len};
@@ -22,7 +22,7 @@ const COUNT: u8 = 4;
 /// Reads the query of a kind.
 #[tactic(auto, unfolding(crate::specs::Queries::query_of))]
 fn read_of(cursor: &mut Cursor, kind: u8) -> Result<Query, FormFault>
-    ensures { Gives (λ x. (x, cursor.new)) result (spec.query_of kind cursor.old) }
+    ensures { GivesValue (λ x. (x, cursor.new)) result (spec.query_of kind cursor.old) }
 {
     match kind {
         GET => {
@@ -52,7 +52,7 @@ fn read_of(cursor: &mut Cursor, kind: u8) -> Result<Query, FormFault>
 /// Reads a query.
 #[tactic(auto, unfolding(crate::specs::Queries::query_at))]
 pub(crate) fn read_query(cursor: &mut Cursor) -> Result<Query, FormFault>
-    ensures { Gives (λ x. (x, cursor.new)) result (spec.query_at cursor.old) }
+    ensures { GivesValue (λ x. (x, cursor.new)) result (spec.query_at cursor.old) }
 {
     let kind = cursor.u8()?;
     read_of(cursor, kind)

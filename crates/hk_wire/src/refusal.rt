@@ -1,7 +1,7 @@
 //! Refusals as bytes.
 
 ghost use Rattle.std.specs.Prelude.{◌≡◌, ◌≤◌, ◌++◌, length, take, OnOk, OnErr};
-ghost use Rattle.hk_codec.specs.Fields.{Gives};
+ghost use Rattle.hk_codec.specs.Fields.{GivesValue};
 ghost use Rattle.hk_wire.specs.Refusals as spec;
 
 use crate::field_len::{number_len, time_len};
@@ -13,7 +13,7 @@ use std::alloc::AllocError;
 /// Reads a field that must be 0.
 #[tactic(auto, unfolding(crate::specs::Refusals::zero_at))]
 fn read_zero(cursor: &mut Cursor) -> Result<(), FormFault>
-    ensures { Gives (λ x. (x, cursor.new)) result (spec.zero_at cursor.old) }
+    ensures { GivesValue (λ x. (x, cursor.new)) result (spec.zero_at cursor.old) }
 {
     if cursor.u64()? != 0 {
         return Err(FormFault::BadNumber);
@@ -51,7 +51,7 @@ fn plain(number: u8) -> Option<Refusal>
 
 /// Reads a refusal that names no number.
 fn read_plain(cursor: &mut Cursor, number: u8) -> Result<Refusal, FormFault>
-    ensures { Gives (λ x. (x, cursor.new)) result (spec.plain_of (spec.plain number) cursor.old) }
+    ensures { GivesValue (λ x. (x, cursor.new)) result (spec.plain_of (spec.plain number) cursor.old) }
 {
     let Some(refusal) = plain(number) else {
         return Err(FormFault::BadNumber);
@@ -64,7 +64,7 @@ fn read_plain(cursor: &mut Cursor, number: u8) -> Result<Refusal, FormFault>
 /// Reads what follows a refusal's number.
 #[tactic(auto, unfolding(crate::specs::Refusals::refusal_of))]
 fn read_of(cursor: &mut Cursor, number: u8) -> Result<Refusal, FormFault>
-    ensures { Gives (λ x. (x, cursor.new)) result (spec.refusal_of number cursor.old) }
+    ensures { GivesValue (λ x. (x, cursor.new)) result (spec.refusal_of number cursor.old) }
 {
     match number {
         22 => {
@@ -104,7 +104,7 @@ fn read_of(cursor: &mut Cursor, number: u8) -> Result<Refusal, FormFault>
 /// Reads a refusal.
 #[tactic(auto, unfolding(crate::specs::Refusals::refusal_at))]
 pub(crate) fn read_refusal(cursor: &mut Cursor) -> Result<Refusal, FormFault>
-    ensures { Gives (λ x. (x, cursor.new)) result (spec.refusal_at cursor.old) }
+    ensures { GivesValue (λ x. (x, cursor.new)) result (spec.refusal_at cursor.old) }
 {
     let number = cursor.u8()?;
     read_of(cursor, number)

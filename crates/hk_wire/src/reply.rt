@@ -1,6 +1,6 @@
 //! Replies.
 
-ghost use Rattle.hk_codec.specs.Fields.{Gives, GivesOrRunsOut};
+ghost use Rattle.hk_codec.specs.Fields.{GivesValue, GivesOrRunsOut};
 ghost use Rattle.hk_wire.specs.Replies as spec;
 
 use crate::answer::read_answer;
@@ -42,7 +42,7 @@ pub(crate) const REFUSED: u8 = 36;
 /// Reads a number of operations.
 #[tactic(auto, unfolding(crate::specs::Replies::ops_at))]
 fn read_ops(cursor: &mut Cursor) -> Result<u64, FormFault>
-    ensures { Gives (λ x. (x, cursor.new)) result (spec.ops_at cursor.old) }
+    ensures { GivesValue (λ x. (x, cursor.new)) result (spec.ops_at cursor.old) }
 {
     let ops = cursor.u64()?;
     if ops == 0 || ops > LAST_TIME {
@@ -54,7 +54,7 @@ fn read_ops(cursor: &mut Cursor) -> Result<u64, FormFault>
 /// Reads a front.
 #[tactic(auto, unfolding(crate::specs::Replies::front_at))]
 fn read_front(cursor: &mut Cursor) -> Result<Front, FormFault>
-    ensures { Gives (λ x. ((x.horizon, x.readable), cursor.new)) result (spec.front_at cursor.old) }
+    ensures { GivesValue (λ x. ((x.horizon, x.readable), cursor.new)) result (spec.front_at cursor.old) }
 {
     let horizon = read_time(cursor)?;
     let readable = read_time(cursor)?;
@@ -121,7 +121,7 @@ impl Framed for Reply {
 
     ghost rest_text = { reply_rest };
 
-    ghost IsTold = { IsReply };
+    ghost IsEncodable = { IsReply };
 
     const LEAST_BYTES: usize = 2;
 

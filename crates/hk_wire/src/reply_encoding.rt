@@ -1,4 +1,4 @@
-//! The one spelling of a reply.
+//! The one encoding of a reply.
 
 ghost use Rattle.std.specs.Prelude.{◌≡◌, ◌≤◌, ◌⊎◌, ◌++◌, ℕ, true, false, [], ◌∷◌, Ok, length, take, OnOk, OnErr, IfErr, IfSome, MatchOption};
 ghost use Rattle.hk_types.specs.declared.faults.FormFault.TheVariants as faults;
@@ -45,10 +45,10 @@ fn rest_len(reply: &Reply) -> u64
     }
 }
 
-/// How many bytes the rest of a reply's frame has, or `None` where it has no spelling.
+/// How many bytes the rest of a reply's frame has, or `None` where it has no encoding.
 fn reply_len(reply: &Reply) -> Option<u32>
     ensures reply { IfSome result (λ _. replies.IsReply (replies.reply_seen reply.now)) }
-    ensures len { MatchOption result (replies.has_spelling (replies.reply_seen reply.now) ≡ false) (λ len. (replies.has_spelling (replies.reply_seen reply.now) ≡ true) × (len ≡ length (replies.reply_rest (replies.reply_seen reply.now)))) }
+    ensures len { MatchOption result (replies.is_encodable (replies.reply_seen reply.now) ≡ false) (λ len. (replies.is_encodable (replies.reply_seen reply.now) ≡ true) × (len ≡ length (replies.reply_rest (replies.reply_seen reply.now)))) }
 {
     if !keeps_rules(reply) {
         return None;
@@ -61,7 +61,7 @@ fn reply_len(reply: &Reply) -> Option<u32>
 }
 
 /// Adds a reply's frame, whose rest has so many bytes.
-#[tactic(auto, using(std::proofs::Common::append_assoc, hk_codec::proofs::Prefix::kept_all, hk_codec::proofs::Prefix::kept_before, hk_codec::proofs::Prefix::kept_both), unfolding(hk_codec::specs::Framing::spelled, crate::specs::Replies::reply_rest))]
+#[tactic(auto, using(std::proofs::Common::append_assoc, hk_codec::proofs::Prefix::kept_all, hk_codec::proofs::Prefix::kept_before, hk_codec::proofs::Prefix::kept_both), unfolding(hk_codec::specs::Framing::encoded, crate::specs::Replies::reply_rest))]
 fn put_reply(out: &mut Vec<u8>, reply: &Reply, rest: u32) -> Result<(), AllocError>
     requires len { rest ≡ length (replies.reply_rest (replies.reply_seen reply.now)) }
     requires rules { replies.keeps_rules (replies.reply_seen reply.now) ≡ true }
@@ -93,20 +93,20 @@ fn put_reply(out: &mut Vec<u8>, reply: &Reply, rest: u32) -> Result<(), AllocErr
     }
 }
 
-/// Adds a reply's one spelling at the end. A reply without a spelling is refused `Form(TooLong)`: a number of
+/// Adds a reply's one encoding at the end. A reply without an encoding is refused `Form(TooLong)`: a number of
 /// operations that is 0 or above 2^62, a horizon above the readable mark, a fragment with more than 2^32 - 1 of
 /// a counted thing, rows whose keys do not rise strictly, a refusal of a transaction, and a rest of more than
 /// 2^28 bytes. After that comes `Memory`. On a refusal the output is as before. The whole frame is reserved at
 /// once; the cost is one growth of the output at most and three passes over the reply: one that tests it, one
 /// that counts its bytes and one that writes them.
 ///
-/// A `ReplyFeeder` that is given the spelling alone gives a reply of that value, and holds nothing.
+/// A `ReplyFeeder` that is given the encoding alone gives a reply of that value, and holds nothing.
 pub fn encode_reply(reply: &Reply, out: &mut Vec<u8>) -> Result<(), Refusal>
-    ensures ok { OnOk result ((replies.has_spelling (replies.reply_seen reply.now) ≡ true) × (out.new.items ≡ out.old.items ++ replies.reply_text (replies.reply_seen reply.now))) }
+    ensures ok { OnOk result ((replies.is_encodable (replies.reply_seen reply.now) ≡ true) × (out.new.items ≡ out.old.items ++ replies.reply_text (replies.reply_seen reply.now))) }
     ensures reply { OnOk result (replies.IsReply (replies.reply_seen reply.now)) }
     ensures reads { OnOk result (replies.ReadsReplies (replies.reply_text (replies.reply_seen reply.now)) (reply.now ∷ []) (Ok [])) }
     ensures err { OnErr result (out.new.items ≡ out.old.items) }
-    ensures why { IfErr result (λ e. ((e ≡ refusals.Form faults.TooLong) × (replies.has_spelling (replies.reply_seen reply.now) ≡ false)) ⊎ ((e ≡ refusals.Memory) × (replies.has_spelling (replies.reply_seen reply.now) ≡ true))) }
+    ensures why { IfErr result (λ e. ((e ≡ refusals.Form faults.TooLong) × (replies.is_encodable (replies.reply_seen reply.now) ≡ false)) ⊎ ((e ≡ refusals.Memory) × (replies.is_encodable (replies.reply_seen reply.now) ≡ true))) }
 {
     let Some(rest) = reply_len(reply) else {
         return Err(Refusal::Form(FormFault::TooLong));

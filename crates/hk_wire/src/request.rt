@@ -116,7 +116,7 @@ impl Framed for Request {
 
     ghost rest_text = { request_rest };
 
-    ghost IsTold = { IsRequest };
+    ghost IsEncodable = { IsRequest };
 
     const LEAST_BYTES: usize = 2;
 

@@ -9,9 +9,9 @@ ghost use Rattle.std.specs.FinMap as finmap;
 ghost use Rattle.std.specs.FinSet as set;
 ghost use Rattle.std.specs.BTreeMap as tree;
 ghost use Rattle.std.specs.BTreeSet as sorted;
-ghost use Rattle.hk_model.specs.Streams.{all_together, covers, settled, together};
+ghost use Rattle.hk_model.specs.Streams.{all_together, covers, stream_with, together};
 ghost use Rattle.hk_marks.specs.Seen.{taken_seen, waiting_seen, IsExtra};
-ghost use Rattle.hk_marks.specs.Room.{among, HasRoom, Widens, Without};
+ghost use Rattle.hk_marks.specs.Room.{has_number, HasRoom, Widens, Without};
 
 use super::{Stream, close_up_to, raise_waiting, settle, take_up_to};
 use hk_types::Time;
@@ -59,7 +59,7 @@ fn missing_counts(
 }
 
 fn remove_numbers(extra: &mut BTreeSet<u64>, numbers: &[u64])
-    ensures { (q : ℕ) → sorted.contains nat_cmp extra.new q ≡ cond (among numbers.now q) false (sorted.contains nat_cmp extra.old q) }
+    ensures { (q : ℕ) → sorted.contains nat_cmp extra.new q ≡ cond (has_number numbers.now q) false (sorted.contains nat_cmp extra.old q) }
 {
     for number in numbers {
         extra.remove(number);
@@ -68,8 +68,8 @@ fn remove_numbers(extra: &mut BTreeSet<u64>, numbers: &[u64])
 
 /// Inserts all of these new numbers, or none.
 fn insert_numbers(extra: &mut BTreeSet<u64>, numbers: &[u64]) -> Result<(), AllocError>
-    requires { (q : ℕ) → among numbers.now q ≡ true → sorted.contains nat_cmp extra.old q ≡ false }
-    ensures ok { OnOk result ((q : ℕ) → sorted.contains nat_cmp extra.new q ≡ cond (among numbers.now q) true (sorted.contains nat_cmp extra.old q)) }
+    requires { (q : ℕ) → has_number numbers.now q ≡ true → sorted.contains nat_cmp extra.old q ≡ false }
+    ensures ok { OnOk result ((q : ℕ) → sorted.contains nat_cmp extra.new q ≡ cond (has_number numbers.now q) true (sorted.contains nat_cmp extra.old q)) }
     ensures err { OnErr result ((q : ℕ) → sorted.contains nat_cmp extra.new q ≡ sorted.contains nat_cmp extra.old q) }
 {
     for number in numbers {
@@ -82,7 +82,7 @@ fn insert_numbers(extra: &mut BTreeSet<u64>, numbers: &[u64]) -> Result<(), Allo
 }
 
 fn remove_counts(waiting: &mut BTreeMap<u64, Time>, counts: &[u64])
-    ensures { (q : ℕ) → tree.get nat_cmp waiting.new q ≡ cond (among counts.now q) None (tree.get nat_cmp waiting.old q) }
+    ensures { (q : ℕ) → tree.get nat_cmp waiting.new q ≡ cond (has_number counts.now q) None (tree.get nat_cmp waiting.old q) }
 {
     for count in counts {
         waiting.remove(count);
@@ -91,8 +91,8 @@ fn remove_counts(waiting: &mut BTreeMap<u64, Time>, counts: &[u64])
 
 /// Inserts a mark of time 0 for each of these new counts, or none.
 fn insert_counts(waiting: &mut BTreeMap<u64, Time>, counts: &[u64]) -> Result<(), AllocError>
-    requires { (q : ℕ) → among counts.now q ≡ true → tree.get nat_cmp waiting.old q ≡ None }
-    ensures ok { OnOk result ((q : ℕ) → tree.get nat_cmp waiting.new q ≡ cond (among counts.now q) (Some 0) (tree.get nat_cmp waiting.old q)) }
+    requires { (q : ℕ) → has_number counts.now q ≡ true → tree.get nat_cmp waiting.old q ≡ None }
+    ensures ok { OnOk result ((q : ℕ) → tree.get nat_cmp waiting.new q ≡ cond (has_number counts.now q) (Some 0) (tree.get nat_cmp waiting.old q)) }
     ensures err { OnErr result ((q : ℕ) → tree.get nat_cmp waiting.new q ≡ tree.get nat_cmp waiting.old q) }
 {
     for count in counts {
@@ -163,7 +163,7 @@ impl Stream {
 
     /// Takes back the room that was made.
     fn take_back(&mut self, missing: &Missing)
-        requires { (q : ℕ) → among missing.now.numbers.items q ≡ true → covers self.old.taken q ≡ false }
+        requires { (q : ℕ) → has_number missing.now.numbers.items q ≡ true → covers self.old.taken q ≡ false }
         ensures { Without self.old self.new missing.now.numbers.items missing.now.counts.items }
     {
         remove_numbers(&mut self.extra, &missing.numbers);

@@ -1,6 +1,6 @@
 //! Chains of versions.
 
-use hk_facts::{Fact, Keyed, Part};
+use hk_facts::{Fact, TableChains, Part};
 use hk_types::{Key, Row, Tag, Time};
 use std::alloc::{AllocError, Global};
 use std::test::Fail;
@@ -20,7 +20,7 @@ fn row(alloc: Global, byte: u8) -> Result<Row, AllocError> {
 #[test]
 fn each_key_has_its_chain(rt: HostRuntime) -> Result<(), Fail> {
     let (five, six) = (Key::new(5), Key::new(6));
-    let mut keyed = Keyed::of_fact(rt.alloc(), six, time(1)?, Fact::Row(row(rt.alloc(), 0x43)?))?;
+    let mut keyed = TableChains::of_fact(rt.alloc(), six, time(1)?, Fact::Row(row(rt.alloc(), 0x43)?))?;
     keyed.put(five, time(2)?, Fact::Row(row(rt.alloc(), 0x41)?))?;
     keyed.put(five, time(2)?, Fact::End(time(3)?))?;
     let copy = keyed.copy(rt.alloc())?;
@@ -36,6 +36,6 @@ fn each_key_has_its_chain(rt: HostRuntime) -> Result<(), Fail> {
     assert!(rt; keyed.chain(five).is_none());
     keyed.forget(six, time(1)?, Part::Whole);
     assert!(rt; keyed.is_empty());
-    assert!(rt; Keyed::new(rt.alloc()).is_empty());
+    assert!(rt; TableChains::new(rt.alloc()).is_empty());
     Ok(())
 }

@@ -78,7 +78,7 @@ fn stream(alloc: Global) -> Result<Vec<u8>, Fail> {
 }
 
 #[test]
-fn spells_and_reads_the_worked_frames(rt: HostRuntime) -> Result<(), Fail> {
+fn encodes_and_reads_the_worked_frames(rt: HostRuntime) -> Result<(), Fail> {
     let alloc = rt.alloc();
     let mut bytes = Vec::new(alloc);
     encode(&entry(alloc, 1, None, &[0x41])?, &mut bytes)?;

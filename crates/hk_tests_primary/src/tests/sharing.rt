@@ -77,16 +77,16 @@ fn both_commit<K: Naming + Send + Sync, R: Threads + Wait + Sync>(
     let one = transaction(alloc, 0, &[(5, 0x41)])?;
     let other = transaction(alloc, 0, &[(6, 0x42)])?;
     let (left, right) = (stream(1)?, stream(2)?);
-    let lent = &primary;
+    let borrowed = &primary;
     let part = all.split_off(1, 0);
     let ((first, mut whole), (second, back)) = thread::join(
         rt,
         ||
             requires { 0 < all.parts }
-        { committed(rt, lent, all, one, left) },
+        { committed(rt, borrowed, all, one, left) },
         ||
             requires { 0 < part.parts }
-        { committed(rt, lent, part, other, right) },
+        { committed(rt, borrowed, part, other, right) },
     );
     whole.merge(back);
     let count = primary.item_count(rt, &mut whole);

@@ -116,14 +116,14 @@ fn framed(alloc: Global, head: &str, body: &str) -> Result<Vec<u8>, Fail> {
     Ok(bytes)
 }
 
-/// The spelling of a reply.
+/// The encoding of a reply.
 fn reply_bytes(alloc: Global, reply: &Reply) -> Result<Vec<u8>, Fail> {
     let mut bytes = Vec::new(alloc);
     encode_reply(reply, &mut bytes)?;
     Ok(bytes)
 }
 
-/// The spelling of a request.
+/// The encoding of a request.
 fn request_bytes(alloc: Global, request: &Request) -> Result<Vec<u8>, Fail> {
     let mut bytes = Vec::new(alloc);
     encode_request(request, &mut bytes)?;
@@ -131,7 +131,7 @@ fn request_bytes(alloc: Global, request: &Request) -> Result<Vec<u8>, Fail> {
 }
 
 #[test]
-fn spells_the_fragments_of_requests(rt: HostRuntime) -> Result<(), Fail> {
+fn encodes_the_fragments_of_requests(rt: HostRuntime) -> Result<(), Fail> {
     let alloc = rt.alloc();
     let bytes = request_bytes(alloc, &Request::JoinThis(delta(alloc)?))?;
     assert!(rt; bytes == framed(alloc, "0000006d 01 15", DELTA)?);
@@ -147,7 +147,7 @@ fn spells_the_fragments_of_requests(rt: HostRuntime) -> Result<(), Fail> {
 }
 
 #[test]
-fn spells_and_reads_fragments_of_replies_cut_anywhere(rt: HostRuntime) -> Result<(), Fail> {
+fn encodes_and_reads_fragments_of_replies_cut_anywhere(rt: HostRuntime) -> Result<(), Fail> {
     let alloc = rt.alloc();
     for (head, body, fragment) in [
         ("0000006d 01 22", DELTA, delta(alloc)?),

@@ -37,7 +37,7 @@ fn tallied(alloc: Global, asked: &str) -> Result<(u8, u64, Vec<u8>), Fail> {
 }
 
 #[test]
-fn a_reply_without_a_spelling_is_too_long(rt: HostRuntime) -> Result<(), Fail> {
+fn a_reply_without_a_encoding_is_too_long(rt: HostRuntime) -> Result<(), Fail> {
     let (ended, count, written) = tallied(rt.alloc(), "00000002 01 11 00000002 01 13")?;
     let said =
         "00000013 01 24 02 0000000000000000 0000000000000000 0000000a 01 20 0000000000000001";

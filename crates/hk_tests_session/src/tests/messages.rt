@@ -76,7 +76,7 @@ fn request(alloc: Global, which: usize) -> Result<Request, Fail> {
     }
 }
 
-/// Requests, spelled again.
+/// Requests, encoded again.
 fn asked_again(alloc: Global, requests: &[Request]) -> Result<Vec<u8>, Fail> {
     let mut again = Vec::new(alloc);
     for request in requests {
@@ -85,7 +85,7 @@ fn asked_again(alloc: Global, requests: &[Request]) -> Result<Vec<u8>, Fail> {
     Ok(again)
 }
 
-/// The requests of bytes that come in two pieces, spelled again.
+/// The requests of bytes that come in two pieces, encoded again.
 pub(super) fn fed(alloc: Global, bytes: &[u8], cut: usize) -> Result<Vec<u8>, Fail> {
     let cut = cut.min(bytes.len());
     let (first, second) = bytes.split_at(cut);
@@ -98,7 +98,7 @@ pub(super) fn fed(alloc: Global, bytes: &[u8], cut: usize) -> Result<Vec<u8>, Fa
 }
 
 #[test]
-fn spells_and_reads_each_request_cut_anywhere(rt: HostRuntime) -> Result<(), Fail> {
+fn encodes_and_reads_each_request_cut_anywhere(rt: HostRuntime) -> Result<(), Fail> {
     let alloc = rt.alloc();
     for which in 0..9usize {
         let want = bytes_of(alloc, REQUESTS[which])?;
@@ -172,7 +172,7 @@ fn reply(alloc: Global, which: usize) -> Result<Reply, Fail> {
     }
 }
 
-/// Replies, spelled again.
+/// Replies, encoded again.
 fn replied_again(alloc: Global, replies: &[Reply]) -> Result<Vec<u8>, Fail> {
     let mut again = Vec::new(alloc);
     for reply in replies {
@@ -181,7 +181,7 @@ fn replied_again(alloc: Global, replies: &[Reply]) -> Result<Vec<u8>, Fail> {
     Ok(again)
 }
 
-/// The replies of bytes that come in two pieces, spelled again.
+/// The replies of bytes that come in two pieces, encoded again.
 pub(super) fn heard(alloc: Global, bytes: &[u8], cut: usize) -> Result<Vec<u8>, Fail> {
     let cut = cut.min(bytes.len());
     let (first, second) = bytes.split_at(cut);
@@ -194,7 +194,7 @@ pub(super) fn heard(alloc: Global, bytes: &[u8], cut: usize) -> Result<Vec<u8>, 
 }
 
 #[test]
-fn spells_and_reads_each_reply_cut_anywhere(rt: HostRuntime) -> Result<(), Fail> {
+fn encodes_and_reads_each_reply_cut_anywhere(rt: HostRuntime) -> Result<(), Fail> {
     let alloc = rt.alloc();
     for which in 0..11usize {
         let want = bytes_of(alloc, REPLIES[which])?;
@@ -211,8 +211,8 @@ fn spells_and_reads_each_reply_cut_anywhere(rt: HostRuntime) -> Result<(), Fail>
     Ok(())
 }
 
-/// A reply that has no spelling.
-fn unspelled(alloc: Global, which: u8) -> Result<Reply, Fail> {
+/// A reply that has no encoding.
+fn unencodable(alloc: Global, which: u8) -> Result<Reply, Fail> {
     match which {
         0 => Ok(Reply::Done { ops: 0 }),
         1 => Ok(Reply::Done {
@@ -232,11 +232,11 @@ fn unspelled(alloc: Global, which: u8) -> Result<Reply, Fail> {
 }
 
 #[test]
-fn refuses_what_has_no_spelling(rt: HostRuntime) -> Result<(), Fail> {
+fn refuses_what_has_no_encoding(rt: HostRuntime) -> Result<(), Fail> {
     let alloc = rt.alloc();
     for which in 0..5u8 {
         let mut bytes = Vec::from_slice(alloc, &[9])?;
-        let refused = encode_reply(&unspelled(alloc, which)?, &mut bytes);
+        let refused = encode_reply(&unencodable(alloc, which)?, &mut bytes);
         assert!(rt;
             refused == Err(Refusal::Form(FormFault::TooLong)),
             "reply {which}"

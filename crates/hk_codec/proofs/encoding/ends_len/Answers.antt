@@ -1,7 +1,7 @@
 use Rattle.std.proofs.Common.{arith, subst, All}
 use Rattle.std.proofs.lemmas.List.{take_all}
 use Rattle.std.proofs.lemmas.List.Elements.{All-more}
-use Rattle.hk_codec.specs.Spelling.{EndFits}
+use Rattle.hk_codec.specs.Encoding.{EndFits}
 use Rattle.hk_codec.proofs.encoding.ends_len.Goals as goal
 
 pub loop-end-preserved : goal.loop-end-preserved

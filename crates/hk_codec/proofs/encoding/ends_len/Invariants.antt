@@ -1,5 +1,5 @@
 use Rattle.std.proofs.Common.{◌≡◌, ◌*◌, take, All}
-use Rattle.hk_codec.specs.Spelling as spec
+use Rattle.hk_codec.specs.Encoding as spec
 use Rattle.hk_codec.proofs.encoding.ends_len.Given as goal
 
 abbrev pub invariant-loop-end : goal.invariant-loop-end

@@ -2,56 +2,56 @@ use Rattle.std.proofs.Common.{◌≡◌, refl, sym, ap, ◌∙◌, subst, map, n
 use Rattle.hk_model.specs.Content.{readable}
 use Rattle.hk_model.specs.Fragments.{FragmentValue}
 use Rattle.hk_model.specs.Lawful.{IsLawfulFragment}
-use Rattle.hk_model.specs.Rules.{disagree, joined_content}
+use Rattle.hk_model.specs.Rules.{contents_conflict, content_after_join}
 use Rattle.hk_state.proofs.Pruning.{not_below}
-use Rattle.hk_state.specs.Versions.{lent}
-use Rattle.hk_merge.proofs.Refusing.{join_conflict, join_gives, join_starved, ok_along}
-use Rattle.hk_delta.proofs.Sents.{listed_disagrees, listed_are, sent_is, fits_by}
+use Rattle.hk_state.specs.Versions.{borrowed}
+use Rattle.hk_merge.proofs.Refusing.{join_conflict, join_gives, join_refusal_without_memory, ok_along}
+use Rattle.hk_delta.proofs.MergeInputs.{listed_conflicts, listed_are, sent_is, fits_by}
 use Rattle.hk_delta.proofs.joining.join_fragment.Goals as goal
 
-pub returns-then-differs : goal.returns-then-differs
-returns-then-differs c =
-    let t = c.args.taker.now in
+pub returns-then-has_conflict_with : goal.returns-then-has_conflict_with
+returns-then-has_conflict_with c =
+    let t = c.args.target.now in
     let f = c.args.fragment.now in
     let streams = sym c.config-config.ensures.streams in
     let fit = fits_by t f c.config-config.result c.config-config.ensures.log streams (sym c.in_default.ensures) in
     let gap : nat_lt (readable t) f.base ≡ false = (λ i. nat_lt (sym c.readable-readable.ensures.value i) (sym c.base-base.ensures.value i)) ∙ sym (not_below c.readable-readable.result c.base-base.result) ∙ sym c.lt.ensures ∙ c.if-lt.false in
-    (refl, inl (join_conflict t f c.config-config.result.streams streams fit gap (sym (listed_disagrees t f.content c.facts.result.now c.facts.ensures.value) ∙ sym c.differs.ensures ∙ c.if-differs.true)))
+    (refl, inl (join_conflict t f c.config-config.result.streams streams fit gap (sym (listed_conflicts t f.content c.facts.result.now c.facts.ensures.value) ∙ sym c.has_conflict_with.ensures ∙ c.if-has_conflict_with.true)))
 
 pub returns-in_err-versions : goal.returns-in_err-versions
 returns-in_err-versions c =
-    let t = c.args.taker.now in
+    let t = c.args.target.now in
     let f = c.args.fragment.now in
     let streams = sym c.config-config.ensures.streams in
     let fit = fits_by t f c.config-config.result c.config-config.ensures.log streams (sym c.in_default.ensures) in
     let gap : nat_lt (readable t) f.base ≡ false = (λ i. nat_lt (sym c.readable-readable.ensures.value i) (sym c.base-base.ensures.value i)) ∙ sym (not_below c.readable-readable.result c.base-base.result) ∙ sym c.lt.ensures ∙ c.if-lt.false in
-    let agree = sym (listed_disagrees t f.content c.facts.result.now c.facts.ensures.value) ∙ sym c.differs.ensures ∙ c.if-differs.false in
-    join_starved t f c.config-config.result.streams streams fit gap agree c.from_residual.result c.from_residual.ensures.0 c.from_residual.ensures.1
+    let agree = sym (listed_conflicts t f.content c.facts.result.now c.facts.ensures.value) ∙ sym c.has_conflict_with.ensures ∙ c.if-has_conflict_with.false in
+    join_refusal_without_memory t f c.config-config.result.streams streams fit gap agree c.from_residual.result c.from_residual.ensures.0 c.from_residual.ensures.1
 
 pub join_agreed-requires-clause-listed : goal.join_agreed-requires-clause-listed
-join_agreed-requires-clause-listed c = listed_are c.args.fragment.now.content (map lent c.deref.result.now) (ap (map lent) c.deref.ensures.value ∙ c.in_ok-versions.ensures ∙ c.facts-2.ensures.value)
+join_agreed-requires-clause-listed c = listed_are c.args.fragment.now.content (map borrowed c.deref.result.now) (ap (map borrowed) c.deref.ensures.value ∙ c.in_ok-versions.ensures ∙ c.facts-2.ensures.value)
 
 pub join_agreed-requires-clause-lawful : goal.join_agreed-requires-clause-lawful
 join_agreed-requires-clause-lawful c =
     subst IsLawfulFragment
-    (sym (sent_is c.args.fragment.now c.config-config.result c.base-base.result c.horizon.result c.got.result.now (map lent c.deref.result.now) c.config-config.ensures.log c.base-base.ensures.value c.horizon.ensures.value c.got.ensures.value (ap (map lent) c.deref.ensures.value ∙ c.in_ok-versions.ensures ∙ c.facts-2.ensures.value)))
+    (sym (sent_is c.args.fragment.now c.config-config.result c.base-base.result c.horizon.result c.got.result.now (map borrowed c.deref.result.now) c.config-config.ensures.log c.base-base.ensures.value c.horizon.ensures.value c.got.ensures.value (ap (map borrowed) c.deref.ensures.value ∙ c.in_ok-versions.ensures ∙ c.facts-2.ensures.value)))
     c.base-base.ensures.lawful
 
 pub join_agreed-requires-clause-agree : goal.join_agreed-requires-clause-agree
 join_agreed-requires-clause-agree c =
-    let t = c.args.taker.now in
+    let t = c.args.target.now in
     let f = c.args.fragment.now in
-    ap (λ (g : FragmentValue). disagree t g.content) (sent_is f c.config-config.result c.base-base.result c.horizon.result c.got.result.now (map lent c.deref.result.now) c.config-config.ensures.log c.base-base.ensures.value c.horizon.ensures.value c.got.ensures.value (ap (map lent) c.deref.ensures.value ∙ c.in_ok-versions.ensures ∙ c.facts-2.ensures.value))
-    ∙ sym (listed_disagrees t f.content c.facts.result.now c.facts.ensures.value) ∙ sym c.differs.ensures ∙ c.if-differs.false
+    ap (λ (g : FragmentValue). contents_conflict t g.content) (sent_is f c.config-config.result c.base-base.result c.horizon.result c.got.result.now (map borrowed c.deref.result.now) c.config-config.ensures.log c.base-base.ensures.value c.horizon.ensures.value c.got.ensures.value (ap (map borrowed) c.deref.ensures.value ∙ c.in_ok-versions.ensures ∙ c.facts-2.ensures.value))
+    ∙ sym (listed_conflicts t f.content c.facts.result.now c.facts.ensures.value) ∙ sym c.has_conflict_with.ensures ∙ c.if-has_conflict_with.false
 
 pub returns : goal.returns
 returns c =
-    let t = c.args.taker.now in
+    let t = c.args.target.now in
     let f = c.args.fragment.now in
     let streams = sym c.config-config.ensures.streams in
     let fit = fits_by t f c.config-config.result c.config-config.ensures.log streams (sym c.in_default.ensures) in
     let gap : nat_lt (readable t) f.base ≡ false = (λ i. nat_lt (sym c.readable-readable.ensures.value i) (sym c.base-base.ensures.value i)) ∙ sym (not_below c.readable-readable.result c.base-base.result) ∙ sym c.lt.ensures ∙ c.if-lt.false in
-    let agree = sym (listed_disagrees t f.content c.facts.result.now c.facts.ensures.value) ∙ sym c.differs.ensures ∙ c.if-differs.false in
-    let sent = sent_is f c.config-config.result c.base-base.result c.horizon.result c.got.result.now (map lent c.deref.result.now) c.config-config.ensures.log c.base-base.ensures.value c.horizon.ensures.value c.got.ensures.value (ap (map lent) c.deref.ensures.value ∙ c.in_ok-versions.ensures ∙ c.facts-2.ensures.value) in
+    let agree = sym (listed_conflicts t f.content c.facts.result.now c.facts.ensures.value) ∙ sym c.has_conflict_with.ensures ∙ c.if-has_conflict_with.false in
+    let sent = sent_is f c.config-config.result c.base-base.result c.horizon.result c.got.result.now (map borrowed c.deref.result.now) c.config-config.ensures.log c.base-base.ensures.value c.horizon.ensures.value c.got.ensures.value (ap (map borrowed) c.deref.ensures.value ∙ c.in_ok-versions.ensures ∙ c.facts-2.ensures.value) in
     let e = c.join_agreed.ensures in
-    join_gives t f c.config-config.result.streams streams fit gap agree c.join_agreed.result c.join_agreed.new.taker (ok_along c.join_agreed.result c.join_agreed.new.taker (joined_content t) sent e.ok) e.err e.kept
+    join_gives t f c.config-config.result.streams streams fit gap agree c.join_agreed.result c.join_agreed.new.target (ok_along c.join_agreed.result c.join_agreed.new.target (content_after_join t) sent e.ok) e.err e.kept

@@ -1,6 +1,6 @@
 use Rattle.std.proofs.Common.{◌≡◌, map, take}
-use Rattle.hk_state.specs.Versions.{lent}
+use Rattle.hk_state.specs.Versions.{borrowed}
 use Rattle.hk_delta.proofs.joining.lend.Given as goal
 
 abbrev pub invariant-loop-version : goal.invariant-loop-version
-invariant-loop-version l = map lent l.versions.items ≡ take l.version-index l.facts
+invariant-loop-version l = map borrowed l.versions.items ≡ take l.version-index l.facts

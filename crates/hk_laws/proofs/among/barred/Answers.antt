@@ -10,7 +10,7 @@ not_below a b e = grind arith
 
 pub returns : goal.returns
 returns c =
-    let a = c.args.taker.now in
+    let a = c.args.target.now in
     let b = c.args.source.now in
     let base = c.args.base in
     let from = not_below base c.horizon-horizon.result (sym c.lt.ensures ∙ c.if-lt.false) in

@@ -17,6 +17,6 @@ returns c =
     let low = c.split_at_mut-low-2.result.0.now in
     let high = c.split_at_mut-low-2.result.1.now in
     let before : c.args.from < length low = omega (arith, c.split_at_mut-low-2.ensures.front_len, c.requires.apart) in
-    let some : 0 < length high = omega (arith, c.split_at_mut-low-2.ensures.back_len, c.requires.taker) in
+    let some : 0 < length high = omega (arith, c.split_at_mut-low-2.ensures.back_len, c.requires.target) in
     subst (λ (rs : List Content). merges_among rs c.args.to c.args.from (low ++ set high 0 c.merge-2.new.state) c.merge-2.result) (sym c.split_at_mut-low-2.ensures.value)
     (into_high low high c.index-high-0-2.result c.index-low-from.result c.merge-2.new.state c.merge-2.result c.args.to c.args.from c.split_at_mut-low-2.ensures.front_len before some c.merge-2.ensures)

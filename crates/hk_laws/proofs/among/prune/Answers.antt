@@ -1,9 +1,9 @@
-use Rattle.hk_model.specs.Worlds.{told_by}
-use Rattle.hk_model.specs.Rules.{pruned}
+use Rattle.hk_model.specs.Worlds.{outcome_by}
+use Rattle.hk_model.specs.Rules.{prune_result}
 use Rattle.hk_laws.proofs.Acted.{acts_alone}
 use Rattle.hk_laws.proofs.among.prune.Goals as goal
 
 pub returns : goal.returns
 returns c =
     acts_alone c.args.replicas.now c.args.replica c.in-Some.place c.in-Some.ensures.0 c.in-Some.ensures.1
-    (λ r. told_by r (pruned r c.args.horizon)) c.index-replicas-place.result c.prune.new.state c.prune.result c.prune.ensures
+    (λ r. outcome_by r (prune_result r c.args.horizon)) c.index-replicas-place.result c.prune.new.state c.prune.result c.prune.ensures

@@ -1,7 +1,7 @@
 use Rattle.std.proofs.Common.{refl, ap, sym, ◌∙◌}
-use Rattle.hk_model.specs.Rules.{gathered}
-use Rattle.hk_model.specs.Worlds.{told_batch}
-use Rattle.hk_laws.specs.Calls.{told_first}
+use Rattle.hk_model.specs.Rules.{gather_result}
+use Rattle.hk_model.specs.Worlds.{outcome_of_batch}
+use Rattle.hk_laws.specs.Calls.{is_first_outcome}
 use Rattle.hk_laws.proofs.Lacking.{refusal_gives, batch_first}
 use Rattle.hk_laws.proofs.joining.batch.Goals as goal
 
@@ -10,4 +10,4 @@ returns-in-Err c =
     let state = c.args.state.now in
     let config = c.args.config in
     let items = c.args.items.now in
-    refusal_gives (told_batch state) (gathered config items) state state c.in-Err.why c.refused.result (λ w. refl) (λ f e. sym (ap (λ x. told_first (told_batch state x).0) e) ∙ batch_first state config items) refl c.in-Err.ensures.gives c.refused.ensures
+    refusal_gives (outcome_of_batch state) (gather_result config items) state state c.in-Err.why c.refused.result (λ w. refl) (λ f e. sym (ap (λ x. is_first_outcome (outcome_of_batch state x).0) e) ∙ batch_first state config items) refl c.in-Err.ensures.gives c.refused.ensures

@@ -1,10 +1,10 @@
 use Rattle.std.proofs.Common.{sym, ap, ◌∙◌, ◌<◌, arith}
-use Rattle.hk_model.specs.Worlds.{numbered}
+use Rattle.hk_model.specs.Worlds.{at_number}
 use Rattle.hk_laws.proofs.Numbered.{numbered_zero, numbered_got}
 use Rattle.hk_laws.proofs.lists.numbered.Goals as goal
 
 pub returns-then-number-eq0 : goal.returns-then-number-eq0
-returns-then-number-eq0 g c = numbered_zero c.args.list.now ∙ ap (numbered c.args.list.now) (sym c.if-number-eq0.true)
+returns-then-number-eq0 g c = numbered_zero c.args.list.now ∙ ap (at_number c.args.list.now) (sym c.if-number-eq0.true)
 
 pub returns : goal.returns
 returns g c =

@@ -2,27 +2,27 @@ use Rattle.std.proofs.Common.{refl, sym, ap, subst, map, inl}
 use Rattle.hk_model.specs.Fragments.{FragmentValue, cut}
 use Rattle.hk_model.specs.Lawful.{IsLawfulFragment}
 use Rattle.hk_model.proofs.Lawful.{cut_lawful}
-use Rattle.hk_state.specs.Versions.{lent}
+use Rattle.hk_state.specs.Versions.{borrowed}
 use Rattle.hk_merge.specs.Calls.{Joins}
 use Rattle.hk_merge.proofs.Refusing.{sent_whole, listed_itself}
 use Rattle.hk_merge.proofs.join.merge_whole.Goals as goal
 
 pub join_sent-requires-clause-listed : goal.join_sent-requires-clause-listed
-join_sent-requires-clause-listed c = listed_itself c.facts.result.now (map lent c.in-Ok.versions.items) (map lent c.deref.result.now) c.in-Ok.ensures (ap (map lent) c.deref.ensures.value)
+join_sent-requires-clause-listed c = listed_itself c.facts.result.now (map borrowed c.in-Ok.versions.items) (map borrowed c.deref.result.now) c.in-Ok.ensures (ap (map borrowed) c.deref.ensures.value)
 
 pub join_sent-requires-clause-lawful : goal.join_sent-requires-clause-lawful
 join_sent-requires-clause-lawful c =
     let p = c.args.peer.now in
     let lawful = c.horizon-horizon.ensures.lawful in
     subst IsLawfulFragment
-    (sym (sent_whole c.args.taker.now p lawful c.config.result c.zero.result c.horizon-horizon.result c.got.result.now (map lent c.deref.result.now) (map lent c.in-Ok.versions.items) c.facts.result.now c.in-Ok.ensures c.facts.ensures.rows c.facts.ensures.ends c.config.ensures.log c.zero.ensures c.horizon-horizon.ensures.value c.got.ensures (ap (map lent) c.deref.ensures.value)))
+    (sym (sent_whole c.args.target.now p lawful c.config.result c.zero.result c.horizon-horizon.result c.got.result.now (map borrowed c.deref.result.now) (map borrowed c.in-Ok.versions.items) c.facts.result.now c.in-Ok.ensures c.facts.ensures.rows c.facts.ensures.ends c.config.ensures.log c.zero.ensures c.horizon-horizon.ensures.value c.got.ensures (ap (map borrowed) c.deref.ensures.value)))
     (cut_lawful p 0 lawful (inl refl))
 
 pub returns : goal.returns
 returns c =
-    let t = c.args.taker.now in
+    let t = c.args.target.now in
     let p = c.args.peer.now in
     let lawful = c.horizon-horizon.ensures.lawful in
-    subst (λ (f : FragmentValue). Joins t c.join_sent.new.taker f c.join_sent.result)
-    (sent_whole t p lawful c.config.result c.zero.result c.horizon-horizon.result c.got.result.now (map lent c.deref.result.now) (map lent c.in-Ok.versions.items) c.facts.result.now c.in-Ok.ensures c.facts.ensures.rows c.facts.ensures.ends c.config.ensures.log c.zero.ensures c.horizon-horizon.ensures.value c.got.ensures (ap (map lent) c.deref.ensures.value))
+    subst (λ (f : FragmentValue). Joins t c.join_sent.new.target f c.join_sent.result)
+    (sent_whole t p lawful c.config.result c.zero.result c.horizon-horizon.result c.got.result.now (map borrowed c.deref.result.now) (map borrowed c.in-Ok.versions.items) c.facts.result.now c.in-Ok.ensures c.facts.ensures.rows c.facts.ensures.ends c.config.ensures.log c.zero.ensures c.horizon-horizon.ensures.value c.got.ensures (ap (map borrowed) c.deref.ensures.value))
     c.join_sent.ensures.gives

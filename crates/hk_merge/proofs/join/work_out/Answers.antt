@@ -1,7 +1,7 @@
 use Rattle.std.proofs.Common.{◌≡◌, sym, ap, ◌∙◌, subst, map, max, length, ◌==◌, ◌&&◌, ◌||◌}
 use Rattle.hk_model.specs.Lawful.{IsLawful}
 use Rattle.hk_model.proofs.Lawful.{joined_lawful}
-use Rattle.hk_state.specs.Versions.{lent}
+use Rattle.hk_state.specs.Versions.{borrowed}
 use Rattle.hk_state.specs.Drops.{is_among}
 use Rattle.hk_merge.specs.Listed.{fragment_sent}
 use Rattle.hk_merge.specs.Plans.{old_come, gone_at}
@@ -11,9 +11,9 @@ use Rattle.hk_merge.proofs.join.work_out.Goals as goal
 
 pub returns : goal.returns
 returns c =
-    let t = c.args.taker.now in
+    let t = c.args.target.now in
     let f = fragment_sent c.args.sent.now in
-    let sent = map lent c.args.sent.now.facts.now in
+    let sent = map borrowed c.args.sent.now.facts.now in
     let b = c.in_ok-change.ensures in
     let r = c.in_ok-rise.ensures in
     let k = c.in_ok-take.ensures in

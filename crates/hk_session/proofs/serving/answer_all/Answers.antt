@@ -1,7 +1,7 @@
 use Rattle.std.proofs.Common.{[], ◌∷◌, ◌++◌, refl, sym}
 use Rattle.std.proofs.KnownBytes.{Appends-nil}
 use Rattle.std.specs.Vec.Iter.{into_iter_items}
-use Rattle.hk_session.proofs.Talking.{split_more, answered_more, said_one_more, stops_at}
+use Rattle.hk_session.proofs.Transcripts.{split_more, answered_more, said_one_more, stops_at}
 use Rattle.hk_session.proofs.serving.answer_all.Goals as goal
 
 pub returns-in-Some-answer_one-clause-part : goal.returns-in-Some-answer_one-clause-part

@@ -1,14 +1,14 @@
 use Rattle.std.proofs.Common.{arith, rules, ◌∙◌, ◌++◌, [], take}
 use Rattle.std.proofs.KnownBytes.{Consumes-nil, Consumes-trans}
-use Rattle.hk_session.specs.Talk.{GoesOn, Ends}
-use Rattle.hk_session.proofs.Talking.{at_start, Spoke-then, goes_on_joins, ends_joins, finished, none_read}
+use Rattle.hk_session.specs.Transcript.{GoesOn, Ends}
+use Rattle.hk_session.proofs.Transcripts.{at_start, SessionStep-then, goes_on_joins, ends_joins, finished, none_read}
 use Rattle.hk_session.proofs.serving.run.Goals as goal
 
 pub loop-init : goal.loop-init
 loop-init g c = (c.requires.reader, c.requires.writer, omega (arith, c.calls-bounded.ensures.bound), ([], c.new-feeder.ensures, [], Consumes-nil _, at_start g.H.Host.may c.args.host.now _))
 
-pub returns-then-count-eq0-clause-talk : goal.returns-then-count-eq0-clause-talk
-returns-then-count-eq0-clause-talk g c =
+pub returns-then-count-eq0-clause-transcript : goal.returns-then-count-eq0-clause-transcript
+returns-then-count-eq0-clause-transcript g c =
     let inv = c.loop.invariant.3 in
     let read = c.in-Ok.ensures.bytes in (
       inv.2,
@@ -16,13 +16,13 @@ returns-then-count-eq0-clause-talk g c =
       finished g.H.Host.may c.args.host.now c.loop.host _ _ _ inv.2 inv.0 c.loop.feeder c.finish.result inv.4 inv.1 c.finish.ensures.clean c.finish.ensures.cut,
     )
 
-pub returns-in-Some-clause-talk : goal.returns-in-Some-clause-talk
-returns-in-Some-clause-talk g c =
+pub returns-in-Some-clause-transcript : goal.returns-in-Some-clause-transcript
+returns-in-Some-clause-transcript g c =
     let inv = c.loop.invariant.3 in
     let piece = take c.in-Ok.count c.read.new.buf in (
       inv.2 ++ piece,
       Consumes-trans _ _ _ inv.2 piece inv.3 c.in-Ok.ensures.bytes.0,
-      Spoke-then g.H.Host.may c.args.host.now c.loop.host c.hear.new.host _ _ _ inv.2 inv.0 piece (Ends c.in-Some.ended) (ends_joins c.in-Some.ended) inv.4 (c.in-Some.ensures.ends inv.0 inv.1),
+      SessionStep-then g.H.Host.may c.args.host.now c.loop.host c.handle_piece.new.host _ _ _ inv.2 inv.0 piece (Ends c.in-Some.ended) (ends_joins c.in-Some.ended) inv.4 (c.in-Some.ensures.ends inv.0 inv.1),
     )
 
 pub loop-preserved : goal.loop-preserved
@@ -31,13 +31,13 @@ loop-preserved g c =
     let piece = take c.in-Ok.count c.read.new.buf in
     let on = c.in_default.ensures.goes_on inv.0 inv.1 in (
       c.in-Ok.ensures.ok ∙ c.loop.invariant.0,
-      c.hear.ensures.quiet (λ h. cc),
+      c.handle_piece.ensures.quiet (λ h. cc),
       search rules,
       (
         on.0,
         on.1,
         inv.2 ++ piece,
         Consumes-trans _ _ _ inv.2 piece inv.3 c.in-Ok.ensures.bytes.0,
-        Spoke-then g.H.Host.may c.args.host.now c.loop.host c.hear.new.host _ _ _ inv.2 inv.0 piece (GoesOn on.0) (goes_on_joins on.0) inv.4 on.2,
+        SessionStep-then g.H.Host.may c.args.host.now c.loop.host c.handle_piece.new.host _ _ _ inv.2 inv.0 piece (GoesOn on.0) (goes_on_joins on.0) inv.4 on.2,
       ),
     )

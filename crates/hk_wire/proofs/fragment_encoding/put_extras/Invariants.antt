@@ -8,4 +8,4 @@ use Rattle.hk_wire.specs.Fragments as spec
 use Rattle.hk_wire.proofs.fragment_encoding.put_extras.Given as goal
 
 abbrev pub invariant-loop-number : goal.invariant-loop-number
-invariant-loop-number l = l.out.items ≡ l.fn.out.items ++ (number w32 (length (spec.stream_seen (stream_at l.fn.got l.fn.s)).extra) ++ flat_map (number w64) (map (deref {X = ℕ}) l.yielded))
+invariant-loop-number l = l.out.items ≡ l.fn.out.items ++ (number w32 (length (spec.wire_stream_of (stream_at l.fn.got l.fn.s)).extra) ++ flat_map (number w64) (map (deref {X = ℕ}) l.yielded))

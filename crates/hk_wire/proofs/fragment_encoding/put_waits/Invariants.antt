@@ -8,4 +8,4 @@ use Rattle.hk_wire.specs.Fragments as spec
 use Rattle.hk_wire.proofs.fragment_encoding.put_waits.Given as goal
 
 abbrev pub invariant-loop-count : goal.invariant-loop-count
-invariant-loop-count l = l.out.items ≡ l.fn.out.items ++ (number w32 (length (spec.stream_seen (stream_at l.fn.got l.fn.s)).waiting) ++ flat_map spec.mark_text (map (deref_pair {K = ℕ} {X = ℕ}) l.yielded))
+invariant-loop-count l = l.out.items ≡ l.fn.out.items ++ (number w32 (length (spec.wire_stream_of (stream_at l.fn.got l.fn.s)).waiting) ++ flat_map spec.mark_text (map (deref_pair {K = ℕ} {X = ℕ}) l.yielded))

@@ -1,7 +1,7 @@
 use Rattle.std.proofs.Common.{◌≡◌, ◌-◌, None}
-use Rattle.hk_wire.specs.FragmentSteps.{facts_at}
+use Rattle.hk_wire.specs.FragmentSteps.{fact_list_at}
 use Rattle.hk_codec.proofs.Loop.{with_front}
 use Rattle.hk_wire.proofs.fragment_reading.read_many.Given as goal
 
 abbrev pub invariant-loop : goal.invariant-loop
-invariant-loop l = with_front l.facts.items (facts_at l.base l.horizon (l.count - l.counter) l.before l.cursor) ≡ facts_at l.base l.horizon l.count None l.fn.cursor
+invariant-loop l = with_front l.facts.items (fact_list_at l.base l.horizon (l.count - l.counter) l.before l.cursor) ≡ fact_list_at l.base l.horizon l.count None l.fn.cursor

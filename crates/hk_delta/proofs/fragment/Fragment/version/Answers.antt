@@ -11,7 +11,7 @@ use Rattle.hk_state.specs.Facts.{known_at}
 use Rattle.hk_state.specs.Reads.{facts_of_content}
 use Rattle.hk_delta.specs.Parts.{Known, fragment_seen, fragment_fault, versions_listed}
 use Rattle.hk_delta.proofs.Sound.{listed, facts_tested}
-use Rattle.hk_delta.proofs.Sents.{find_listed}
+use Rattle.hk_delta.proofs.MergeInputs.{find_listed}
 use Rattle.hk_delta.proofs.Searches.{searched_some, searched_none}
 use Rattle.hk_delta.proofs.fragment.Fragment.version.Goals as goal
 

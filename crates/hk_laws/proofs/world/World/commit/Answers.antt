@@ -1,7 +1,7 @@
 use Rattle.std.proofs.Common.{◌≡◌, sym, ap, ◌∙◌, subst, List, Option, Err, Result, MatchOption}
 use Rattle.std.specs.FinMap as finmap
 use Rattle.hk_types.specs.declared.faults.Refusal.{Refusal}
-use Rattle.hk_model.specs.Commits.{built, committed}
+use Rattle.hk_model.specs.Commits.{writes_result, commit_result}
 use Rattle.hk_model.specs.declared.write_op.WriteOp.{WriteOp}
 use Rattle.hk_model.specs.Histories.{Transaction}
 use Rattle.hk_model.specs.Worlds.{after_commit}
@@ -21,9 +21,9 @@ returns-in-Some c =
     let old = c.args.self.now in
     let ws = c.args.writes.items in
     let why = c.in-Some.why in
-    let tested = subst (λ (xs : List WriteOp). MatchOption c.misbuilt.result (IsBuilt xs) (λ x. built finmap.empty xs ≡ Err x)) c.deref.ensures.value c.misbuilt.ensures in
+    let tested = subst (λ (xs : List WriteOp). MatchOption c.misbuilt.result (IsBuilt xs) (λ x. writes_result finmap.empty xs ≡ Err x)) c.deref.ensures.value c.misbuilt.ensures in
     let bar = sym c.in-Some.ensures in
-    let tells : committed old.config old.world.history c.args.stream c.args.read_at ws ≡ Err c.unwrap_or.result =
+    let tells : commit_result old.config old.world.history c.args.stream c.args.read_at ws ≡ Err c.unwrap_or.result =
     barred_tells old.config old.world c.args.stream c.args.read_at ws c.misbuilt.result why tested bar ∙ ap (λ (x : Refusal). Err x) (sym c.unwrap_or.ensures)
     in (
       sym (ap (λ (x : Result (Option Transaction) Refusal). (after_commit old.config old.world x).0) tells),

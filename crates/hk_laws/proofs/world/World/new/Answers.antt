@@ -5,8 +5,8 @@ use Rattle.hk_model.proofs.Runs.{new_agree}
 use Rattle.hk_primary.specs.Log.{PrimaryValue}
 use Rattle.hk_laws.proofs.world.World.new.Goals as goal
 
-pub returns-clause-stands : goal.returns-clause-stands
-returns-clause-stands c =
+pub returns-clause-represents : goal.returns-clause-represents
+returns-clause-represents c =
     let config = c.args.config in
     let n = c.args.replicas in
     let replicas = c.in_ok-replicas.replicas.items in

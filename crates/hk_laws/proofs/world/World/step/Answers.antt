@@ -2,5 +2,5 @@ use Rattle.hk_model.specs.Events.{event_seen, told_seen}
 use Rattle.hk_laws.proofs.Stepping.{steps_of}
 use Rattle.hk_laws.proofs.world.World.step.Goals as goal
 
-pub returns-clause-stands : goal.returns-clause-stands
-returns-clause-stands c = steps_of c.args.self.now c.tell.new.self (event_seen c.args.event) (told_seen c.tell.result) c.tell.ensures
+pub returns-clause-represents : goal.returns-clause-represents
+returns-clause-represents c = steps_of c.args.self.now c.tell.new.self (event_seen c.args.event) (told_seen c.tell.result) c.tell.ensures

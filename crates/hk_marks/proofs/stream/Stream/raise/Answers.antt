@@ -1,6 +1,6 @@
 use Rattle.std.proofs.Common.{◌∙◌, sym}
 use Rattle.std.specs.FinMap as finmap
-use Rattle.hk_model.specs.Streams.{settled}
+use Rattle.hk_model.specs.Streams.{stream_with}
 use Rattle.hk_marks.specs.Seen.{waiting_seen}
 use Rattle.hk_marks.proofs.Trees.{covers_seen}
 use Rattle.hk_marks.proofs.stream.Stream.raise.Goals as goal
@@ -9,4 +9,4 @@ pub returns : goal.returns
 returns c =
     rw (← c.self.view_is) (
     sym (c.settle.ensures.settles _ (covers_seen _ _ c.take_up_to.ensures.extras))
-    ∙ (λ i. settled (c.take_up_to.ensures.taken i) (c.close_up_to.ensures i) (finmap.entries (waiting_seen c.self.inside.waiting))))
+    ∙ (λ i. stream_with (c.take_up_to.ensures.taken i) (c.close_up_to.ensures i) (finmap.entries (waiting_seen c.self.inside.waiting))))

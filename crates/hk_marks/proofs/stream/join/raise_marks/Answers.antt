@@ -6,7 +6,7 @@ use Rattle.std.specs.BTreeMap as tree
 use Rattle.std.specs.FinMap as finmap
 use Rattle.std.specs.Map.Iter.{deref_pair}
 use Rattle.hk_model.proofs.Streams.{later, told}
-use Rattle.hk_model.specs.Streams.{settled}
+use Rattle.hk_model.specs.Streams.{stream_with}
 use Rattle.hk_marks.specs.Seen.{waiting_seen}
 use Rattle.hk_marks.proofs.Trees.{get-waiting_seen}
 use Rattle.hk_marks.proofs.Joins.{raised_closed, raised_waiting, same_counts, of_true, covered}
@@ -16,7 +16,7 @@ pub loop-count-preserved-then-count-prefix : goal.loop-count-preserved-then-coun
 loop-count-preserved-then-count-prefix c = record {
   settles = λ t law.
       raised_closed t _ _ _ _ (finmap.entries (waiting_seen c.loop-count.waiting)) c.next.new.self (covered t _ _ law c.if-count-prefix.true) c.close_up_to.ensures
-      ∙ ap (λ (rest : List (ℕ × ℕ)). settled t c.loop-count.closed (finmap.entries (waiting_seen c.loop-count.waiting) ++ rest)) (sym c.in-Some.ensures.steps)
+      ∙ ap (λ (rest : List (ℕ × ℕ)). stream_with t c.loop-count.closed (finmap.entries (waiting_seen c.loop-count.waiting) ++ rest)) (sym c.in-Some.ensures.steps)
       ∙ c.loop-count.invariant.settles t law;
   same_counts = c.loop-count.invariant.same_counts;
 }
@@ -30,7 +30,7 @@ loop-count-preserved c =
       settles = λ t law.
           raised_waiting t c.loop-count.closed _ _ (waiting_seen c.loop-count.waiting) (waiting_seen c.raise_waiting.new.waiting) c.next.new.self
           (λ q. get-waiting_seen c.raise_waiting.new.waiting q ∙ found q ∙ ap (later (told (c.in-Some.count.now, c.in-Some.upto.now) q)) (sym (get-waiting_seen c.loop-count.waiting q)))
-          ∙ ap (λ (rest : List (ℕ × ℕ)). settled t c.loop-count.closed (finmap.entries (waiting_seen c.loop-count.waiting) ++ rest)) (sym c.in-Some.ensures.steps)
+          ∙ ap (λ (rest : List (ℕ × ℕ)). stream_with t c.loop-count.closed (finmap.entries (waiting_seen c.loop-count.waiting) ++ rest)) (sym c.in-Some.ensures.steps)
           ∙ c.loop-count.invariant.settles t law;
       same_counts = λ q. same_counts _ _ c.loop-count.waiting c.raise_waiting.new.waiting there found q ∙ c.loop-count.invariant.same_counts q;
     }

@@ -1,7 +1,7 @@
 use Rattle.std.proofs.Common.{◌≡◌, ◌+◌, true, length-append, None, List, [], ◌∷◌, ◌++◌, length, sym, ◌∙◌, ap, subst, arith}
 use Rattle.logbook.specs.Pages.{Book}
 use Rattle.hk_node.specs.declared.op.Op.{Op}
-use Rattle.hk_node.specs.Replay.{config_of, replay, refused, is_legal}
+use Rattle.hk_node.specs.Replay.{config_of, replay, refusal_of, is_legal}
 use Rattle.hk_node.proofs.Adding.{adds_moves, added}
 use Rattle.hk_node.proofs.Legal.{config-snoc, legal-snoc}
 use Rattle.hk_node.proofs.book.Prefix.extended.Goals as goal
@@ -33,7 +33,7 @@ invariant_of-result c =
     let more = c.in_ok-ops.ensures {u = tt} in
     let long = length-append b.seen.log (op ∷ []) in
     let count : c.in_ok-ops.ops ≡ length (b.seen.log ++ op ∷ []) = omega (arith, more.1, c.self.invariant.0, long) in
-    let may : refused (replay b.seen.log) op ≡ None = subst (λ (v : Book × List Op). refused (replay v.1) op ≡ None) (sym c.self.view_is) c.requires.legal in (
+    let may : refusal_of (replay b.seen.log) op ≡ None = subst (λ (v : Book × List Op). refusal_of (replay v.1) op ≡ None) (sym c.self.view_is) c.requires.legal in (
       count ∙ ap length (sym here),
       subst (λ (l : List Op). is_legal l ≡ true) (sym here) (legal-snoc b.seen.log op c.self.invariant.1 may),
       c.self.invariant.2 ∙ sym (config-snoc b.seen.log op c.self.invariant.1) ∙ ap config_of (sym here),

@@ -1,6 +1,6 @@
 use Rattle.std.proofs.Common.{◌≡◌, [], ◌∷◌, ◌++◌, List, None, drop, sym, ap, ◌∙◌, subst}
 use Rattle.hk_node.specs.declared.op.Op.{Op}
-use Rattle.hk_node.specs.Replay.{replay, refused}
+use Rattle.hk_node.specs.Replay.{replay, refusal_of}
 use Rattle.hk_node.specs.Changes.{Lists}
 use Rattle.hk_node.specs.Published.{queue, ops_of}
 use Rattle.hk_node.proofs.Publishing.{none_pending, puts}
@@ -16,5 +16,5 @@ invariant_of-self g c =
     let empty : ops_of (queue pend d.late) ≡ [] = ap (λ (l : Lists). l.1) c.self.view_is ∙ c.requires.none in
     puts g.J.NodeName.book d.counter.word.book shown (queue pend d.late) pend (record { op = op; prefix = c.args.prefix }) c.self.invariant
     (none_pending pend d.late empty)
-    (subst (λ (l : List Op). refused (replay l) op ≡ None) (sym list) c.requires.legal)
+    (subst (λ (l : List Op). refusal_of (replay l) op ≡ None) (sym list) c.requires.legal)
     (c.requires.prefix ∙ (λ i. (g.J.NodeName.book, sym list i ++ op ∷ [])))

@@ -4,7 +4,7 @@ use Rattle.hk_log.specs.Items.{EntryValue}
 use Rattle.hk_log.specs.declared.item.Item.TheVariants.{Commit}
 use Rattle.hk_facts.proofs.Trees.{OnOk_map}
 use Rattle.hk_model.specs.Histories.{Transaction, Follows, entry_of}
-use Rattle.hk_primary.specs.Calls.{extended}
+use Rattle.hk_primary.specs.Calls.{with_transaction}
 use Rattle.hk_primary.specs.Log.{PrimaryValue, IsNext, transaction_of, with_item}
 use Rattle.hk_primary.proofs.Entered.{read_back}
 use Rattle.hk_primary.proofs.primary.Primary.store.Goals as goal
@@ -14,7 +14,7 @@ next_entry p t e f is =
     let back : transaction_of e ≡ t = ap transaction_of is ∙ read_back p.config p.history t f in
     record { follows = subst (Follows p.config p.history) (sym back) f; is_entry = is ∙ ap (entry_of p.config p.history) (sym back) }
 
-entered : (p : PrimaryValue) (t : Transaction) (e : EntryValue) → Follows p.config p.history t → e ≡ entry_of p.config p.history t → with_item p (transaction_of e ∷ p.history) (Commit e) ≡ extended p t
+entered : (p : PrimaryValue) (t : Transaction) (e : EntryValue) → Follows p.config p.history t → e ≡ entry_of p.config p.history t → with_item p (transaction_of e ∷ p.history) (Commit e) ≡ with_transaction p t
 entered p t e f is = λ i. with_item p ((ap transaction_of is ∙ read_back p.config p.history t f) i ∷ p.history) (Commit (is i))
 
 pub add-requires : goal.add-requires

@@ -1,13 +1,13 @@
 use Rattle.std.proofs.Common.{◌≡◌, map, take}
 use Rattle.std.specs.FinMap as finmap
 use Rattle.hk_model.specs.Maps.{union}
-use Rattle.hk_model.specs.Facts.{inserted}
-use Rattle.hk_state.specs.Journal.{undone}
+use Rattle.hk_model.specs.Facts.{inserted_version}
+use Rattle.hk_state.specs.Journal.{without_journal}
 use Rattle.hk_state.proofs.facts.Facts.add_rows.Given as goal
 
 abbrev pub invariant-loop-table : goal.invariant-loop-table
 invariant-loop-table l = record {
-  rows : l.self.rows ≡ union l.initial.self.rows (finmap.from_entries (map (inserted l.fn.time) (take l.table-index l.rows)));
+  rows : l.self.rows ≡ union l.initial.self.rows (finmap.from_entries (map (inserted_version l.fn.time) (take l.table-index l.rows)));
   ends : l.self.ends ≡ l.initial.self.ends;
-  back : undone l.journal.items l.self ≡ undone l.initial.journal.items l.initial.self;
+  back : without_journal l.journal.items l.self ≡ without_journal l.initial.journal.items l.initial.self;
 }

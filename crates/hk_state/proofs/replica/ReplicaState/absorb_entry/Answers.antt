@@ -5,9 +5,9 @@ use Rattle.hk_model.specs.Content.{Content}
 use Rattle.hk_model.specs.Streams.{stream_at}
 use Rattle.hk_log.specs.declared.item.Item.TheVariants.{Commit}
 use Rattle.hk_state.specs.Calls.{Absorbs}
-use Rattle.hk_state.specs.Facts.{disputes}
-use Rattle.hk_state.specs.Replica.{content_of, IsReplica}
-use Rattle.hk_state.proofs.Absorbing.{misfit_by, at_most, entry_result}
+use Rattle.hk_state.specs.Facts.{conflicts_with_entry}
+use Rattle.hk_state.specs.Replica.{content_of_parts, IsReplica}
+use Rattle.hk_state.proofs.Absorbing.{wrong_log_by, at_most, entry_result}
 use Rattle.hk_state.proofs.replica.ReplicaState.absorb_entry.Goals as goal
 
 pub invariant_of-self : goal.invariant_of-self
@@ -15,10 +15,10 @@ invariant_of-self c =
     let a = c.self.inside in
     let e = c.args.entry.now in
     let t = c.take_entry.ensures in
-    let none : misfit_by a.config e.log e.stream ≡ None = (λ i. misfit_by a.config (sym c.log.ensures i) (sym c.stream-stream.ensures i)) ∙ sym c.in_default.ensures in
+    let none : wrong_log_by a.config e.log e.stream ≡ None = (λ i. wrong_log_by a.config (sym c.log.ensures i) (sym c.stream-stream.ensures i)) ∙ sym c.in_default.ensures in
     let new : set.contains (stream_at a.got e.stream).taken e.number ≡ false = (λ i. set.contains (stream_at a.got (sym c.stream-stream.ensures i)).taken (sym c.number.ensures.value i)) ∙ sym c.has.ensures ∙ c.if-has.false in
-    let agrees : (disputes a.facts e || nat_le e.time (stream_at a.got e.stream).closed) ≡ false =
-    (λ i. (sym c.disputes.ensures ∙ c.if-disputes.false) i || nat_le (sym c.time.ensures i) (stream_at a.got (sym c.stream-stream.ensures i)).closed)
+    let agrees : (conflicts_with_entry a.facts e || nat_le e.time (stream_at a.got e.stream).closed) ≡ false =
+    (λ i. (sym c.conflicts_with_entry.ensures ∙ c.if-conflicts_with_entry.false) i || nat_le (sym c.time.ensures i) (stream_at a.got (sym c.stream-stream.ensures i)).closed)
     ∙ (λ i. nat_le c.time.result (sym c.closed.ensures i)) ∙ sym (at_most c.time.result c.closed.result) ∙ sym c.le.ensures ∙ c.if-le.false in
     (entry_result a.config a.horizon a.facts a.got c.self.invariant e c.number.ensures.lawful none new agrees c.take_entry.result c.take_entry.new.facts c.take_entry.new.got t.told t.facts t.got t.err t.same_facts t.same_got).1
 
@@ -27,11 +27,11 @@ returns c =
     let a = c.self.inside in
     let e = c.args.entry.now in
     let t = c.take_entry.ensures in
-    let none : misfit_by a.config e.log e.stream ≡ None = (λ i. misfit_by a.config (sym c.log.ensures i) (sym c.stream-stream.ensures i)) ∙ sym c.in_default.ensures in
+    let none : wrong_log_by a.config e.log e.stream ≡ None = (λ i. wrong_log_by a.config (sym c.log.ensures i) (sym c.stream-stream.ensures i)) ∙ sym c.in_default.ensures in
     let new : set.contains (stream_at a.got e.stream).taken e.number ≡ false = (λ i. set.contains (stream_at a.got (sym c.stream-stream.ensures i)).taken (sym c.number.ensures.value i)) ∙ sym c.has.ensures ∙ c.if-has.false in
-    let agrees : (disputes a.facts e || nat_le e.time (stream_at a.got e.stream).closed) ≡ false =
-    (λ i. (sym c.disputes.ensures ∙ c.if-disputes.false) i || nat_le (sym c.time.ensures i) (stream_at a.got (sym c.stream-stream.ensures i)).closed)
+    let agrees : (conflicts_with_entry a.facts e || nat_le e.time (stream_at a.got e.stream).closed) ≡ false =
+    (λ i. (sym c.conflicts_with_entry.ensures ∙ c.if-conflicts_with_entry.false) i || nat_le (sym c.time.ensures i) (stream_at a.got (sym c.stream-stream.ensures i)).closed)
     ∙ (λ i. nat_le c.time.result (sym c.closed.ensures i)) ∙ sym (at_most c.time.result c.closed.result) ∙ sym c.le.ensures ∙ c.if-le.false in
-    let after : Content = content_of a.config a.horizon c.take_entry.new.facts c.take_entry.new.got in
+    let after : Content = content_of_parts a.config a.horizon c.take_entry.new.facts c.take_entry.new.got in
     subst (λ (x : Content). Absorbs x after (Commit e) c.take_entry.result) c.self.view_is
     (entry_result a.config a.horizon a.facts a.got c.self.invariant e c.number.ensures.lawful none new agrees c.take_entry.result c.take_entry.new.facts c.take_entry.new.got t.told t.facts t.got t.err t.same_facts t.same_got).0

@@ -1,5 +1,5 @@
 use Rattle.hk_state.proofs.Standing.{prunes_of}
 use Rattle.hk_state.proofs.replica.ReplicaState.prune.Goals as goal
 
-pub returns-clause-stands : goal.returns-clause-stands
-returns-clause-stands c = prunes_of c.args.self.now c.raise_horizon.new.self c.args.time c.raise_horizon.result c.raise_horizon.ensures.gives
+pub returns-clause-represents : goal.returns-clause-represents
+returns-clause-represents c = prunes_of c.args.self.now c.raise_horizon.new.self c.args.time c.raise_horizon.result c.raise_horizon.ensures.gives

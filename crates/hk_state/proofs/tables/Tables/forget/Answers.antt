@@ -1,5 +1,5 @@
 use Rattle.std.proofs.Common.{refl, sym, ap, ◌∙◌, subst, true≢false}
-use Rattle.hk_facts.specs.Keyed.{keyed_forget}
+use Rattle.hk_facts.specs.TableChains.{keyed_forget}
 use Rattle.hk_facts.proofs.Trees.{seen}
 use Rattle.hk_facts.proofs.Filled.{len_some, filled_there, filled_gone, change_absent, change_there, change_gone}
 use Rattle.hk_state.specs.Facts.{TablesValue, facts_of, AllKnown}

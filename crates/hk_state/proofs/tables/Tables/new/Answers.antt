@@ -1,5 +1,5 @@
 use Rattle.std.proofs.Common.{sym, ap, subst, ◌∙◌}
-use Rattle.hk_facts.specs.Keyed.{AllFilled}
+use Rattle.hk_facts.specs.TableChains.{AllFilled}
 use Rattle.hk_facts.proofs.Filled.{filled_nothing}
 use Rattle.hk_state.specs.Facts.{TablesValue, facts_of, AllKnown}
 use Rattle.hk_state.proofs.ByTable.{nothing_seen, known_nothing, empty_facts}

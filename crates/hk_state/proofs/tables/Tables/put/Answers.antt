@@ -1,8 +1,8 @@
 use Rattle.std.proofs.Common.{ap}
 use Rattle.std.specs.FinMap as finmap
 use Rattle.hk_facts.specs.Chains.{chain_put}
-use Rattle.hk_facts.specs.Keyed.{or_empty, keyed_put, version_in}
-use Rattle.hk_facts.proofs.Trees.{seen, put_there, put_new, write_back, want_of_memory, OnOk_map, OnErr_map}
+use Rattle.hk_facts.specs.TableChains.{or_empty, keyed_put, version_in}
+use Rattle.hk_facts.proofs.Trees.{seen, put_there, put_new, write_back, out_of_memory, OnOk_map, OnErr_map}
 use Rattle.hk_facts.proofs.Filled.{put_filled, kept_or_put, was_filled, filled_there, filled_new, known_absent, refused_there}
 use Rattle.hk_state.specs.Facts.{facts_of}
 use Rattle.hk_state.proofs.Stored.{nothing_known}
@@ -46,12 +46,12 @@ returns-in-Some-clause-kept c = rw (← c.self.view_is) (OnErr_map c.put.result 
 pub returns-in_err-keyed-clause-err : goal.returns-in_err-keyed-clause-err
 returns-in_err-keyed-clause-err c =
     let v = c.args.version.now in
-    rw (← c.self.view_is) (want_of_memory _ c.from_residual.result c.from_residual.ensures.1 (nothing_known (seen c.self.inside.tables) v (known_absent c.self.inside.tables v.table (λ x. version_in x v.key v.born) c.in_default.ensures.value)))
+    rw (← c.self.view_is) (out_of_memory _ c.from_residual.result c.from_residual.ensures.1 (nothing_known (seen c.self.inside.tables) v (known_absent c.self.inside.tables v.table (λ x. version_in x v.key v.born) c.in_default.ensures.value)))
 
 pub returns-in_err-insert-clause-err : goal.returns-in_err-insert-clause-err
 returns-in_err-insert-clause-err c =
     let v = c.args.version.now in
-    rw (← c.self.view_is) (want_of_memory _ c.from_residual-in_err-insert.result c.from_residual-in_err-insert.ensures.1 (nothing_known (seen c.self.inside.tables) v (known_absent c.self.inside.tables v.table (λ x. version_in x v.key v.born) c.in_default.ensures.value)))
+    rw (← c.self.view_is) (out_of_memory _ c.from_residual-in_err-insert.result c.from_residual-in_err-insert.ensures.1 (nothing_known (seen c.self.inside.tables) v (known_absent c.self.inside.tables v.table (λ x. version_in x v.key v.born) c.in_default.ensures.value)))
 
 pub invariant_of-self-2 : goal.invariant_of-self-2
 invariant_of-self-2 c =

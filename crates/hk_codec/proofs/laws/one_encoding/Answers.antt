@@ -1,0 +1,5 @@
+use Rattle.hk_codec.proofs.Items.{items_encode}
+use Rattle.hk_codec.proofs.laws.one_encoding.Goals as goal
+
+pub returns : goal.returns
+returns c = items_encode

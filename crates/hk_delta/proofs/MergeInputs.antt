@@ -1,0 +1,187 @@
+-- A content's list of versions is all that is known of them.
+use Rattle.std.proofs.Common.{◌≡◌, refl, sym, ap, ◌∙◌, subst, ℕ, Bool, not, ◌==◌, length, ◌++◌, ◌<◌, ◌≤◌, max, Result, Ok, Err, IfOk, IfErr, true, false, cond, ◌||◌, ◌⊎◌, inl, inr, Some, None, is_some, List, [], ◌∷◌, map, All, T}
+use Rattle.std.proofs.lemmas.List.Elements.{All-nil, All-cons}
+use Rattle.std.specs.declared.cmp.Ordering.{Ordering}
+use Rattle.std.specs.declared.cmp.Ordering.TheVariants.{Less, Equal}
+use Rattle.std.specs.Ordering.{eq_by_cmp, is_lt, is_eq}
+use Rattle.std.specs.Cmp.{Equal-is, tied_itself}
+use Rattle.std.specs.List.{AllByRecursion, list_any}
+use Rattle.std.specs.List.Sorted.{IsStrictlySortedBy}
+use Rattle.std.specs.FinMap as finmap
+use Rattle.std.specs.FinMap.Entries.{find, is_sorted, below_all}
+use Rattle.hk_types.specs.declared.version_key.VersionKey.{VersionKey}
+use Rattle.hk_log.specs.Versions.{VersionValue}
+use Rattle.hk_model.specs.Rows.{version_key_cmp}
+use Rattle.hk_model.specs.Content.{Content, readable}
+use Rattle.hk_model.proofs.Maps.{version_key_total, version_key_same}
+use Rattle.hk_model.proofs.Members.{In}
+use Rattle.hk_model.proofs.Visible.{T_both, less}
+use Rattle.hk_state.specs.Facts.{known_at}
+use Rattle.hk_state.specs.Reads.{facts_of_content}
+use Rattle.hk_state.specs.Versions.{AreVersions}
+use Rattle.hk_state.specs.Drops.{is_among}
+use Rattle.hk_types.specs.Values.{ConfigValue}
+use Rattle.hk_types.specs.declared.faults.Refusal.{Refusal}
+use Rattle.hk_types.specs.declared.faults.Refusal.TheVariants.{ForeignLog, WrongStreams, Memory, Gap}
+use Rattle.hk_model.specs.Streams.{StreamContent}
+use Rattle.hk_model.specs.Fragments.{FragmentValue}
+use Rattle.hk_model.specs.Rules.{contents_conflict, join_result}
+use Rattle.hk_state.specs.Versions.{value_conflicts_at}
+use Rattle.hk_state.proofs.Walking.{conflict_listed}
+use Rattle.hk_merge.specs.Listed.{facts_listed, fragment_listed}
+use Rattle.hk_merge.specs.Calls.{Joins}
+use Rattle.hk_merge.proofs.Refusing.{wrong_log_by, listed_itself, listed_whole}
+use Rattle.hk_log.specs.declared.item.Item.{Item}
+use Rattle.hk_model.specs.ContentOf.{content_of}
+use Rattle.hk_model.specs.Fragments.{part}
+use Rattle.hk_model.specs.Histories.{Transaction, IsHistory, AreItemsOf}
+use Rattle.hk_model.specs.Replicas.{Represents}
+use Rattle.hk_model.proofs.Laws.{join_law_proof}
+use Rattle.hk_model.proofs.Steps.{gap_step}
+use Rattle.hk_model.proofs.Laws.{stands_both}
+use Rattle.hk_delta.proofs.WrongLogs.{count_streams}
+use Rattle.hk_delta.specs.Joins.{JoinsOf}
+use Rattle.hk_delta.specs.Parts.{Known, versions_listed}
+use Rattle.hk_delta.proofs.Listed.{listed_of, pairs}
+
+-- in a rising list each version is found with what stands beside it
+find_head : (e : Known) (es : List Known) → find version_key_cmp e.0 (e ∷ es) ≡ Some e.1
+find_head e es = ap (λ r. cond (is_eq r) (Some e.1) (find version_key_cmp e.0 es)) (tied_itself version_key_total e.0)
+
+-- each is below those after it
+rise_all : (e : VersionKey) (es : List Known) → T (below_all version_key_cmp e es) → AllByRecursion (λ k. version_key_cmp e k ≡ Less) (map (λ (f : Known). f.0) es)
+rise_all e [] b = tt
+rise_all e (f ∷ es) b =
+    let both = T_both (is_lt (version_key_cmp e f.0)) (below_all version_key_cmp e es) b in
+    (less (version_key_cmp e f.0) both.0, rise_all e es both.1)
+
+rises : (es : List Known) → T (is_sorted version_key_cmp es) → IsStrictlySortedBy version_key_cmp (map (λ (f : Known). f.0) es)
+unfolding IsStrictlySortedBy
+rises [] s = tt
+rises (e ∷ es) s = let both = T_both (below_all version_key_cmp e.0 es) (is_sorted version_key_cmp es) s in (rise_all e.0 es both.0, rises es both.1)
+
+pub below_In : (k : VersionKey) (es : List Known) → T (below_all version_key_cmp k es) → (f : Known) → In f es → version_key_cmp k f.0 ≡ Less
+below_In k [] b f i = elim i [ ]
+below_In k (e ∷ es) b f i =
+    let both = T_both (is_lt (version_key_cmp k e.0)) (below_all version_key_cmp k es) b in
+    elim i [
+      | inl s ↦ ap (λ (g : Known). version_key_cmp k g.0) s ∙ less (version_key_cmp k e.0) both.0
+      | inr j ↦ below_In k es both.1 f j
+    ]
+
+apart : (k v : VersionKey) → version_key_cmp k v ≡ Less → eq_by_cmp version_key_cmp v k ≡ false
+apart k v l = by (eq_by_cmp version_key_cmp v k) refl
+  where
+    values_conflict : ◌≡◌ {A = Ordering} Less Equal → ⊥
+    values_conflict e = cc
+
+    by : (b : Bool) → eq_by_cmp version_key_cmp v k ≡ b → b ≡ false
+    by false e = refl
+    by true e =
+        let same = version_key_same v k ((Equal-is (version_key_cmp v k)).0 e) in
+        absurd (values_conflict (sym l ∙ ap (version_key_cmp k) same ∙ tied_itself version_key_total k))
+
+pub each_found : (es : List Known) → T (is_sorted version_key_cmp es) → (f : Known) → In f es → find version_key_cmp f.0 es ≡ Some f.1
+each_found [] s f i = elim i [ ]
+each_found (e ∷ es) s f i =
+    let both = T_both (below_all version_key_cmp e.0 es) (is_sorted version_key_cmp es) s in
+    elim i [
+      | inl t ↦ subst (λ (g : Known). find version_key_cmp g.0 (e ∷ es) ≡ Some g.1) (sym t) (find_head e es)
+      | inr j ↦ ap (λ b. cond b (Some e.1) (find version_key_cmp f.0 es)) (apart e.0 f.0 (below_In e.0 es both.0 f j)) ∙ each_found es both.1 f j
+    ]
+
+pub all_from : {P : Known → Type 0} (es : List Known) → ((f : Known) → In f es → P f) → All P es
+all_from {P = P} [] h = All-nil P
+all_from {P = P} (e ∷ es) h = All-cons P e es (h e (inl refl)) (all_from es (λ f i. h f (inr i)))
+
+among : (v : VersionKey) (es : List Known) → is_some (find version_key_cmp v es) ≡ is_among (map (λ (f : Known). f.0) es) v
+among v [] = refl
+among v (e ∷ es) = by (eq_by_cmp version_key_cmp v e.0) (among v es)
+  where
+    by : (b : Bool) → is_some (find version_key_cmp v es) ≡ is_among (map (λ (f : Known). f.0) es) v → is_some (cond b (Some e.1) (find version_key_cmp v es)) ≡ (b || is_among (map (λ (f : Known). f.0) es) v)
+    by true h = refl
+    by false h = h
+
+module _ (c : Content) where
+  listed_map : finmap.FinMap version_key_cmp VersionValue
+  listed_map = finmap.from_entries (pairs c)
+
+  pub find_listed : (v : VersionKey) → find version_key_cmp v (versions_listed c) ≡ known_at (facts_of_content c) v
+  find_listed v = sym (finmap.get-entries (finmap.from_entries {R = version_key_cmp} (pairs c)) v) ∙ finmap.get-from_entries version_key_total (pairs c) v ∙ listed_of c v
+
+  -- a content's list of versions is all that it knows
+  pub versions_are : AreVersions (facts_of_content c) (versions_listed c)
+  versions_are =
+      let sorted = finmap.entries_sorted (finmap.from_entries {R = version_key_cmp} (pairs c)) in
+      record {
+        known = all_from (versions_listed c) (λ f i. sym (find_listed f.0) ∙ each_found (versions_listed c) sorted f i);
+        all = λ v. sym (ap is_some (find_listed v)) ∙ among v (versions_listed c);
+        rising = rises (versions_listed c) sorted;
+      }
+
+-- what is borrowed of a content's list makes the content's facts
+pub listed_are : (c : Content) (xs : List Known) → xs ≡ versions_listed c → AreVersions (facts_listed xs) xs
+listed_are c xs is = listed_itself (facts_of_content c) (versions_listed c) xs (versions_are c) is
+
+-- what is sent of a fragment is the fragment
+pub sent_is : (f : FragmentValue) (config : ConfigValue) (base horizon : ℕ) (streams : List StreamContent) (xs : List Known) → config.log ≡ f.content.log → base ≡ f.base → horizon ≡ f.content.horizon → streams ≡ f.content.streams → xs ≡ versions_listed f.content
+    → fragment_listed config base horizon streams xs ≡ f
+sent_is f config base horizon streams xs log at same got is = λ i. record {
+  base = at i;
+  content = record {
+    log = log i;
+    horizon = same i;
+    rows = ((λ j. (facts_listed (is j)).rows) ∙ (λ j. (listed_whole (facts_of_content f.content) (versions_listed f.content) (versions_are f.content) j).rows)) i;
+    ends = ((λ j. (facts_listed (is j)).ends) ∙ (λ j. (listed_whole (facts_of_content f.content) (versions_listed f.content) (versions_are f.content) j).ends)) i;
+    streams = got i;
+  };
+}
+
+-- the list conflicts where the content does
+pub listed_conflicts : (t c : Content) (xs : List Known) → xs ≡ versions_listed c → list_any (λ e. value_conflicts_at (facts_of_content t) e.0 e.1) xs ≡ contents_conflict t c
+listed_conflicts t c xs is = ap (list_any (λ (e : Known). value_conflicts_at (facts_of_content t) e.0 e.1)) is ∙ conflict_listed (facts_of_content t) (facts_of_content c) (versions_listed c) (versions_are c)
+
+-- a fragment's log fits as its configuration does
+pub fits_by : (t : Content) (f : FragmentValue) (config : ConfigValue) (log : config.log ≡ f.content.log) (streams : length f.content.streams ≡ config.streams)
+    → cond (not (config.log == t.log)) (Some ForeignLog) (cond (not (config.streams == length t.streams)) (Some WrongStreams) None) ≡ None → wrong_log_by t f config.streams streams ≡ None
+fits_by t f config log streams fits = ap (λ n. cond (not (n == t.log)) (Some ForeignLog) (cond (not (config.streams == length t.streams)) (Some WrongStreams) None)) (sym log) ∙ fits
+
+-- ---- parts of one history
+
+inside : (a b : Content) → ◌≡◌ {A = Result Content Refusal} (Ok a) (Ok b) → a ≡ b
+inside a b e = cc
+
+has_conflict_with : (a : Content) (why : Refusal) → ◌≡◌ {A = Result Content Refusal} (Ok a) (Err why) → ⊥
+has_conflict_with a why e = cc
+
+same_refusal : (a b : Refusal) → ◌≡◌ {A = Result Content Refusal} (Err a) (Err b) → a ≡ b
+same_refusal a b e = cc
+
+module _ (config : ConfigValue) (history : List Transaction) (is : IsHistory config history) (own others : List Item) (g h base : ℕ) (old : Content) (a : Represents config history own g old) (of_history : AreItemsOf config history others) (reach : h ≤ readable (content_of config others h)) where
+  sender : Represents config history others h (content_of config others h)
+  sender = record { of_history = of_history; within = reach; is_content_of = refl }
+
+  near_result : (base ≡ 0) ⊎ (h ≤ base) → base ≤ readable old → join_result old (part config others h base) ≡ Ok (content_of config (own ++ others) (max g h))
+  near_result near low = join_law_proof config history is own others g h base old (content_of config others h) a sender low near
+
+  far_result : readable old < base → join_result old (part config others h base) ≡ Err (Gap base (readable old))
+  far_result high =
+      gap_step old (content_of config others h) base (sym (ap (λ (c : Content). c.log) a.is_content_of))
+      (count_streams config.streams others ∙ sym (ap (λ (c : Content). length c.streams) a.is_content_of ∙ count_streams config.streams own)) high
+
+  near_join : (new : Content) (r : Result (Unit {0}) Refusal) → join_result old (part config others h base) ≡ Ok (content_of config (own ++ others) (max g h)) → Joins old new (part config others h base) r
+      → IfOk r (λ done. Represents config history (own ++ others) (max g h) new) × IfErr r (λ why. why ≡ Memory)
+  near_join new (Ok done) law gave =
+      (subst (Represents config history (own ++ others) (max g h)) (inside _ _ (sym law ∙ gave)) (stands_both config history is own others g h old (content_of config others h) a sender), tt)
+  near_join new (Err why) law gave = (tt, elim gave.1 [ inl e ↦ absurd (has_conflict_with _ why (sym law ∙ e)) | inr m ↦ m.0 ])
+
+  far_join : (new : Content) (r : Result (Unit {0}) Refusal) → join_result old (part config others h base) ≡ Err (Gap base (readable old)) → Joins old new (part config others h base) r → (r ≡ Err (Gap base (readable old))) × (new ≡ old)
+  far_join new (Ok done) law gave = absurd (has_conflict_with _ _ (sym gave ∙ law))
+  far_join new (Err why) law gave = (elim gave.1 [ inl e ↦ ap Err (same_refusal why _ (sym e ∙ law)) | inr m ↦ absurd (has_conflict_with m.1.0 _ (sym m.1.1 ∙ law)) ], gave.0)
+
+pub joins_of : (old new : Content) (f : FragmentValue) (r : Result (Unit {0}) Refusal) → Joins old new f r → JoinsOf old new f r
+joins_of old new f r gave config history own others g h base is a of_history reach near f_is =
+    let sent = subst (λ (f : FragmentValue). Joins old new f r) f_is gave in (
+      λ low. near_join config history is own others g h base old a of_history reach new r (near_result config history is own others g h base old a of_history reach near low) sent,
+      λ high. far_join config history is own others g h base old a of_history reach new r (far_result config history is own others g h base old a of_history reach high) sent,
+    )

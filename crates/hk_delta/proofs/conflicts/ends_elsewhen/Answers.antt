@@ -1,7 +1,0 @@
-use Rattle.std.proofs.Common.{sym, ◌∙◌, ◌==◌}
-use Rattle.hk_delta.specs.Gathers.{clash}
-use Rattle.hk_delta.proofs.Conflicting.{any_map}
-use Rattle.hk_delta.proofs.conflicts.ends_elsewhen.Goals as goal
-
-pub returns-in-Commit : goal.returns-in-Commit
-returns-in-Commit c = rw (c.in-Commit.is) (c.entry_ends_elsewhen.ensures ∙ sym (any_map (clash (λ a b. a == b) (c.args.version, c.args.died)) (λ v. (v, c.in-Commit.entry.time)) c.in-Commit.entry.ends))

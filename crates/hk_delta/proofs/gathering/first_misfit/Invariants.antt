@@ -1,6 +1,0 @@
-use Rattle.std.proofs.Common.{◌≡◌, take, None}
-use Rattle.hk_model.specs.Rules.{first_misfit}
-use Rattle.hk_delta.proofs.gathering.first_misfit.Given as goal
-
-abbrev pub invariant-loop-item : goal.invariant-loop-item
-invariant-loop-item l = first_misfit l.config (take l.item-index l.items) ≡ None

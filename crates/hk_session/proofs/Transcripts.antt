@@ -1,0 +1,308 @@
+-- A session that goes on.
+use Rattle.std.proofs.Common.{◌≡◌, ◌≢◌, ℕ, ◌⊎◌, true, List, [], ◌∷◌, ◌++◌, take, Option, Some, None, Result, Ok, Err, refl, sym, ap, subst, ◌∙◌, append_assoc, append-nil, arith, inl, inr}
+use Rattle.std.specs.List.{flat_map, AllByRecursion}
+use Rattle.std.specs.Io.KnownBytes.{Appends, Consumes}
+use Rattle.std.proofs.KnownBytes.{Appends-nil, Appends-trans, Consumes-trans}
+use Rattle.std.proofs.lemmas.Grind.{flat_map-append}
+use Rattle.hk_types.specs.declared.faults.FormFault.{FormFault}
+use Rattle.hk_types.specs.declared.faults.FormFault.TheVariants.{Truncated}
+use Rattle.hk_types.specs.declared.faults.Refusal.{Refusal}
+use Rattle.hk_types.specs.declared.faults.Refusal.TheVariants as refusals
+use Rattle.hk_codec.specs.Framing.{answer}
+use Rattle.hk_wire.specs.declared.request.Request.{Request}
+use Rattle.hk_wire.specs.declared.reply.Reply.{Reply}
+use Rattle.hk_wire.specs.declared.reply.Reply.TheVariants as told
+use Rattle.hk_wire.specs.Replies.{Refused, is_encodable}
+use Rattle.hk_wire.proofs.Lengths.{refused_len}
+use Rattle.std.proofs.lemmas.Bool.{le-leb}
+use Rattle.hk_wire.specs.Requests.{ReadsRequests, AddsRequests}
+use Rattle.hk_session.specs.declared.ended.Ended.{Ended}
+use Rattle.hk_session.specs.declared.ended.Ended.TheVariants.{Clean, Fault, Memory, ReadFault, WriteFault}
+use Rattle.hk_session.specs.Transcript.{asked_text, IsAsked, Answers, refused_text, reply_bytes, replies_bytes, fault_of, fault_met, BeginsWith, IsPrefixOf, GoesOn, Ends, SessionStep, Refuses, Sends, Stops, IsMidway, IsDone, IsStopped, Transcript, PartialTranscript, closing_bytes}
+
+pub Answers-then : {H : Type 0} (may : H → Request → Reply → H → Type 0) (a b c : H) (xs ys : List Request) (rs ss : List Reply) → Answers may a xs rs b → Answers may b ys ss c → Answers may a (xs ++ ys) (rs ++ ss) c
+Answers-then {H} may a b c [] ys [] ss x y = subst (λ (s : H). Answers may s ys ss c) x y
+Answers-then may a b c (q ∷ xs) ys (r ∷ rs) ss x y = (x.0, x.1, Answers-then may x.0 b c xs ys rs ss x.2 y)
+Answers-then may a b c [] ys (r ∷ rs) ss x y = absurd x
+Answers-then may a b c (q ∷ xs) ys [] ss x y = absurd x
+
+each_both : (xs ys : List Request) → AllByRecursion IsAsked xs → AllByRecursion IsAsked ys → AllByRecursion IsAsked (xs ++ ys)
+each_both [] ys h k = k
+each_both (x ∷ xs) ys h k = (h.0, each_both xs ys h.1 k)
+
+each_front : (xs ys : List Request) → AllByRecursion IsAsked (xs ++ ys) → AllByRecursion IsAsked xs
+each_front [] ys h = tt
+each_front (x ∷ xs) ys h = (h.0, each_front xs ys h.1)
+
+-- the bytes that go on from what was left
+joined : (text left more rest : List ℕ) (xs ys : List Request) → text ≡ flat_map asked_text xs ++ left → left ++ more ≡ flat_map asked_text ys ++ rest → text ++ more ≡ flat_map asked_text (xs ++ ys) ++ rest
+joined text left more rest xs ys e f =
+    ap (λ (t : List ℕ). t ++ more) e ∙ append_assoc (flat_map asked_text xs) left more ∙ ap (λ (t : List ℕ). flat_map asked_text xs ++ t) f
+    ∙ sym (append_assoc (flat_map asked_text xs) (flat_map asked_text ys) rest) ∙ ap (λ (t : List ℕ). t ++ rest) (sym (flat_map-append asked_text xs ys))
+
+pub ReadsRequests-then : (text left more : List ℕ) (xs ys : List Request) (r : Result (List ℕ) FormFault) → ReadsRequests text xs (Ok left) → ReadsRequests (left ++ more) ys r → ReadsRequests (text ++ more) (xs ++ ys) r
+ReadsRequests-then text left more xs ys (Ok rest) h k = (joined text left more rest xs ys h.0 k.0, each_both xs ys h.1 k.1, k.2)
+ReadsRequests-then text left more xs ys (Err f) h k = (k.0, joined text left more k.0 xs ys h.0 k.1, each_both xs ys h.1 k.2, k.3)
+
+BeginsWith-then : (text left more : List ℕ) (xs ys : List Request) → ReadsRequests text xs (Ok left) → BeginsWith (left ++ more) ys → BeginsWith (text ++ more) (xs ++ ys)
+BeginsWith-then text left more xs ys h k = (k.0, joined text left more k.0 xs ys h.0 k.1, each_both xs ys h.1 k.2)
+
+IsPrefixOf-after : (s w t : List ℕ) → IsPrefixOf w t → IsPrefixOf (s ++ w) (s ++ t)
+IsPrefixOf-after s w t h = (h.0, append_assoc s w h.0 ∙ ap (λ (x : List ℕ). s ++ x) h.1)
+
+replies_bytes-both : (rs ss : List Reply) → replies_bytes (rs ++ ss) ≡ replies_bytes rs ++ replies_bytes ss
+replies_bytes-both rs ss = flat_map-append reply_bytes rs ss
+
+-- what was said of what was left holds of the whole
+abbrev pub Joins : (List ℕ → List Request → List Reply → List ℕ → Type 0) → Type 0
+Joins How = (text left more w : List ℕ) (xs ys : List Request) (rs ss : List Reply) → ReadsRequests text xs (Ok left) → How (left ++ more) ys ss w → How (text ++ more) (xs ++ ys) (rs ++ ss) (replies_bytes rs ++ w)
+
+said_more : (rs ss : List Reply) (w : List ℕ) → w ≡ replies_bytes ss → replies_bytes rs ++ w ≡ replies_bytes (rs ++ ss)
+said_more rs ss w e = ap (λ (t : List ℕ). replies_bytes rs ++ t) e ∙ sym (replies_bytes-both rs ss)
+
+said_more_and : (rs ss : List Reply) (w t : List ℕ) → w ≡ replies_bytes ss ++ t → replies_bytes rs ++ w ≡ replies_bytes (rs ++ ss) ++ t
+said_more_and rs ss w t e = ap (λ (x : List ℕ). replies_bytes rs ++ x) e ∙ sym (append_assoc (replies_bytes rs) (replies_bytes ss) t) ∙ ap (λ (x : List ℕ). x ++ t) (sym (replies_bytes-both rs ss))
+
+front_more : (rs ss : List Reply) (w : List ℕ) → IsPrefixOf w (replies_bytes ss) → IsPrefixOf (replies_bytes rs ++ w) (replies_bytes (rs ++ ss))
+front_more rs ss w h = subst (IsPrefixOf (replies_bytes rs ++ w)) (sym (replies_bytes-both rs ss)) (IsPrefixOf-after (replies_bytes rs) w (replies_bytes ss) h)
+
+front_more_and : (rs ss : List Reply) (w t : List ℕ) → IsPrefixOf w (replies_bytes ss ++ t) → IsPrefixOf (replies_bytes rs ++ w) (replies_bytes (rs ++ ss) ++ t)
+front_more_and rs ss w t h =
+    subst (IsPrefixOf (replies_bytes rs ++ w)) (sym (append_assoc (replies_bytes rs) (replies_bytes ss) t) ∙ ap (λ (x : List ℕ). x ++ t) (sym (replies_bytes-both rs ss))) (IsPrefixOf-after (replies_bytes rs) w (replies_bytes ss ++ t) h)
+
+pub goes_on_joins : (l : List ℕ) → Joins (GoesOn l)
+goes_on_joins l text left more w xs ys rs ss h k = (ReadsRequests-then text left more xs ys (Ok l) h k.0, said_more rs ss w k.1)
+
+pub ends_joins : (e : Ended) → Joins (Ends e)
+ends_joins Clean text left more w xs ys rs ss h k = (ReadsRequests-then text left more xs ys (Ok []) h k.0, said_more rs ss w k.1)
+ends_joins (Fault f) text left more w xs ys rs ss h k = (k.0, ReadsRequests-then text left more xs ys k.0 h k.1, k.2, said_more_and rs ss w (refused_text f) k.3)
+ends_joins Memory text left more w xs ys rs ss h k = (BeginsWith-then text left more xs ys h k.0, front_more rs ss w k.1)
+ends_joins ReadFault text left more w xs ys rs ss h k = (k.0, ReadsRequests-then text left more xs ys (Ok k.0) h k.1, said_more rs ss w k.2)
+ends_joins WriteFault text left more w xs ys rs ss h k =
+    elim k [
+      | inl a ↦ inl (BeginsWith-then text left more xs ys h a.0, front_more rs ss w a.1)
+      | inr a ↦ inr (a.0, a.1, ReadsRequests-then text left more xs ys a.0 h a.2, a.3, front_more_and rs ss w (refused_text a.1) a.4)
+    ]
+
+pub SessionStep-then : {H : Type 0} (may : H → Request → Reply → H → Type 0) (a b c : H) (o p q : Option (List ℕ)) (text left more : List ℕ) (How : List ℕ → List Request → List Reply → List ℕ → Type 0)
+    → Joins How → SessionStep may a b o p text (GoesOn left) → SessionStep may b c p q (left ++ more) How → SessionStep may a c o q (text ++ more) How
+SessionStep-then may a b c o p q text left more How joins s t =
+    record {
+      requests = s.requests ++ t.requests;
+      replies = s.replies ++ t.replies;
+      answers = Answers-then may a b c s.requests t.requests s.replies t.replies s.answers t.answers;
+      written = replies_bytes s.replies ++ t.written;
+      appended = subst (λ (w : List ℕ). Appends o q (w ++ t.written)) s.how.1 (Appends-trans o p q s.written t.written s.appended t.appended);
+      how = joins text left more t.written s.requests t.requests s.replies t.replies s.how.0 t.how;
+    }
+
+pub at_start : {H : Type 0} (may : H → Request → Reply → H → Type 0) (a : H) (o : Option (List ℕ)) → SessionStep may a a o o [] (GoesOn [])
+at_start may a o = record { requests = []; replies = []; answers = refl; written = []; appended = Appends-nil o; how = ((refl, tt, inl (omega arith)), refl) }
+
+-- ---- a piece
+
+begins_front : (text : List ℕ) (qs front back : List Request) → BeginsWith text qs → qs ≡ front ++ back → BeginsWith text front
+begins_front text qs front back h e =
+    let texts : flat_map asked_text qs ≡ flat_map asked_text front ++ flat_map asked_text back = ap (flat_map asked_text) e ∙ flat_map-append asked_text front back in
+    (flat_map asked_text back ++ h.0, h.1 ∙ ap (λ (t : List ℕ). t ++ h.0) texts ∙ append_assoc (flat_map asked_text front) (flat_map asked_text back) h.0, each_front front back (subst (AllByRecursion IsAsked) e h.2))
+
+pub begins_reads : (text : List ℕ) (qs : List Request) (r : Result (List ℕ) FormFault) → ReadsRequests text qs r → BeginsWith text qs
+begins_reads text qs (Ok left) h = (left, h.0, h.1)
+begins_reads text qs (Err f) h = (h.0, h.1, h.2)
+
+-- what was read where the list was empty
+pub added : (qs : List Request) (text : List ℕ) (r : Result (List ℕ) FormFault) → AddsRequests [] qs text r → ReadsRequests text qs r
+added qs text r h = subst (λ (xs : List Request). ReadsRequests text xs r) (sym h.1) h.2
+
+pub nothing_said : {H : Type 0} (may : H → Request → Reply → H → Type 0) (a : H) (o : Option (List ℕ)) (text : List ℕ) → SessionStep may a a o o text (Ends Memory)
+nothing_said may a o text = record { requests = []; replies = []; answers = refl; written = []; appended = Appends-nil o; how = ((text, refl, tt), ([], refl)) }
+
+pub part_said : {H : Type 0} (may : H → Request → Reply → H → Type 0) (a b : H) (o p : Option (List ℕ)) (text : List ℕ) (qs front back : List Request) (rs : List Reply) (part : List ℕ) (e : Ended)
+    → BeginsWith text qs → qs ≡ front ++ back → Answers may a front rs b → IsPrefixOf part (replies_bytes rs) → Appends o p part → (e ≡ Memory) ⊎ (e ≡ WriteFault) → SessionStep may a b o p text (Ends e)
+part_said may a b o p text qs front back rs part e h split answers is_front appended which =
+    let begins = begins_front text qs front back h split in
+    elim which [
+      | inl m ↦ subst (λ (x : Ended). SessionStep may a b o p text (Ends x)) (sym m) (record { requests = front; replies = rs; answers = answers; written = part; appended = appended; how = (begins, is_front) })
+      | inr w ↦ subst (λ (x : Ended). SessionStep may a b o p text (Ends x)) (sym w) (record { requests = front; replies = rs; answers = answers; written = part; appended = appended; how = inl (begins, is_front) })
+    ]
+
+pub all_answered : {H : Type 0} (may : H → Request → Reply → H → Type 0) (a b : H) (o p : Option (List ℕ)) (text : List ℕ) (qs : List Request) (rs : List Reply) (r : Result (List ℕ) FormFault)
+    → ReadsRequests text qs r → Answers may a qs rs b → Appends o p (replies_bytes rs) → None ≡ fault_met r → (after : List ℕ) × (r ≡ Ok after) × SessionStep may a b o p text (GoesOn after)
+all_answered may a b o p text qs rs (Ok left) h answers appended e = (left, refl, record { requests = qs; replies = rs; answers = answers; written = replies_bytes rs; appended = appended; how = (h, refl) })
+all_answered may a b o p text qs rs (Err f) h answers appended e = absurd cc
+
+-- the fault that follows was said, or not
+pub fault_said : {H : Type 0} (may : H → Request → Reply → H → Type 0) (a b : H) (o p q : Option (List ℕ)) (text : List ℕ) (qs : List Request) (rs : List Reply) (r : Result (List ℕ) FormFault) (f : FormFault) (e : Ended)
+    → ReadsRequests text qs r → fault_of r ≡ Some f → Answers may a qs rs b → Appends o p (replies_bytes rs) → Refuses f p q e → SessionStep may a b o q text (Ends e)
+fault_said may a b o p q text qs rs r f (Fault g) h of answers appended sent =
+    let both = Appends-trans o p q (replies_bytes rs) (refused_text f) appended sent.1 in
+    subst (λ (x : FormFault). SessionStep may a b o q text (Ends (Fault x))) (sym sent.0)
+    (record { requests = qs; replies = rs; answers = answers; written = replies_bytes rs ++ refused_text f; appended = both; how = (r, h, of, refl) })
+fault_said may a b o p q text qs rs r f Memory h of answers appended sent =
+    let both = subst (Appends o q) (append-nil (replies_bytes rs)) (Appends-trans o p q (replies_bytes rs) [] appended sent) in
+    record { requests = qs; replies = rs; answers = answers; written = replies_bytes rs; appended = both; how = (begins_reads text qs r h, ([], append-nil (replies_bytes rs))) }
+fault_said may a b o p q text qs rs r f WriteFault h of answers appended sent =
+    let both = Appends-trans o p q (replies_bytes rs) sent.0 appended sent.2 in
+    record { requests = qs; replies = rs; answers = answers; written = replies_bytes rs ++ sent.0; appended = both; how = inr (r, f, h, of, IsPrefixOf-after (replies_bytes rs) sent.0 (refused_text f) sent.1) }
+fault_said may a b o p q text qs rs r f Clean h of answers appended sent = absurd sent
+fault_said may a b o p q text qs rs r f ReadFault h of answers appended sent = absurd sent
+
+-- ---- replies
+
+fault_encoded : (f : FormFault) → is_encodable (Refused (refusals.Form f)) ≡ true
+fault_encoded f = le-leb _ _ (omega (arith, refused_len (refusals.Form f)))
+
+said_fault : (f : FormFault) → reply_bytes (told.Refused (refusals.Form f)) ≡ refused_text f
+said_fault f = rw (fault_encoded f) refl
+
+pub refused_all : (f : FormFault) (o p : Option (List ℕ)) → Sends (reply_bytes (told.Refused (refusals.Form f))) o p None → Appends o p (refused_text f)
+refused_all f o p h = subst (Appends o p) (said_fault f) h
+
+pub refused_part : (f : FormFault) (o p : Option (List ℕ)) (e : Ended) → Sends (reply_bytes (told.Refused (refusals.Form f))) o p (Some e) → Refuses f o p e
+refused_part f o p Clean h = absurd h
+refused_part f o p (Fault g) h = absurd h
+refused_part f o p Memory h = h
+refused_part f o p ReadFault h = absurd h
+refused_part f o p WriteFault h = (h.0, subst (IsPrefixOf h.0) (said_fault f) h.1, h.2)
+
+pub midway_of : (f : FormFault) (o p : Option (List ℕ)) (e : Ended) → f ≢ Truncated → Refuses f o p e → IsMidway e
+midway_of f o p Clean never h = absurd h
+midway_of f o p (Fault g) never h = λ k. never (sym h.0 ∙ k)
+midway_of f o p Memory never h = tt
+midway_of f o p ReadFault never h = absurd h
+midway_of f o p WriteFault never h = tt
+
+pub split_more : (qs front rest later : List Request) (x : Request) → qs ≡ front ++ rest → rest ≡ x ∷ later → qs ≡ (front ++ x ∷ []) ++ later
+split_more qs front rest later x e f = e ∙ ap (λ (t : List Request). front ++ t) f ∙ sym (append_assoc front (x ∷ []) later)
+
+pub answered_more : {H : Type 0} (may : H → Request → Reply → H → Type 0) (a b c : H) (front : List Request) (rs : List Reply) (x : Request) (r : Reply) → Answers may a front rs b → may b x r c → Answers may a (front ++ x ∷ []) (rs ++ r ∷ []) c
+answered_more may a b c front rs x r h k = Answers-then may a b c front (x ∷ []) rs (r ∷ []) h (c, k, refl)
+
+one_said : (r : Reply) → replies_bytes (r ∷ []) ≡ reply_bytes r
+one_said r = append-nil (reply_bytes r)
+
+pub said_one_more : (o p q : Option (List ℕ)) (rs : List Reply) (r : Reply) → Appends o p (replies_bytes rs) → Appends p q (reply_bytes r) → Appends o q (replies_bytes (rs ++ r ∷ []))
+said_one_more o p q rs r h k =
+    subst (Appends o q) (ap (λ (t : List ℕ). replies_bytes rs ++ t) (sym (one_said r)) ∙ sym (replies_bytes-both rs (r ∷ []))) (Appends-trans o p q (replies_bytes rs) (reply_bytes r) h k)
+
+pub stops_at : {H : Type 0} (may : H → Request → Reply → H → Type 0) (a b c : H) (o p q : Option (List ℕ)) (qs front rest later : List Request) (x : Request) (rs : List Reply) (r : Reply) (e : Ended)
+    → qs ≡ front ++ rest → rest ≡ x ∷ later → Answers may a front rs b → may b x r c → Appends o p (replies_bytes rs) → Sends (reply_bytes r) p q (Some e) → Stops may a c o q qs e
+stops_at may a b c o p q qs front rest later x rs r Memory split next h k sent more =
+    let both = subst (Appends o q) (append-nil (replies_bytes rs)) (Appends-trans o p q (replies_bytes rs) [] sent more) in
+    (front ++ x ∷ [], later, split_more qs front rest later x split next, rs ++ r ∷ [], answered_more may a b c front rs x r h k, replies_bytes rs, (replies_bytes (r ∷ []), sym (replies_bytes-both rs (r ∷ []))), both, inl refl)
+stops_at may a b c o p q qs front rest later x rs r WriteFault split next h k sent more =
+    let both = Appends-trans o p q (replies_bytes rs) more.0 sent more.2 in
+    let is_front = front_more rs (r ∷ []) more.0 (subst (IsPrefixOf more.0) (sym (one_said r)) more.1) in
+    (front ++ x ∷ [], later, split_more qs front rest later x split next, rs ++ r ∷ [], answered_more may a b c front rs x r h k, replies_bytes rs ++ more.0, is_front, both, inr refl)
+stops_at may a b c o p q qs front rest later x rs r Clean split next h k sent more = absurd more
+stops_at may a b c o p q qs front rest later x rs r (Fault f) split next h k sent more = absurd more
+stops_at may a b c o p q qs front rest later x rs r ReadFault split next h k sent more = absurd more
+
+-- what a feeder answers tells what it holds
+abbrev answers_ok : Result (Unit {0}) Refusal
+answers_ok = Ok tt
+
+abbrev answers_fault : FormFault → Result (Unit {0}) Refusal
+answers_fault f = Err (refusals.Form f)
+
+no_fault : (f : FormFault) → answers_ok ≡ answers_fault f → ⊥
+no_fault f e = cc
+
+pub took : (before qs : List Request) (text : List ℕ) (new : Result (List ℕ) FormFault) → before ≡ []
+    → (answers_ok ≡ Err refusals.Memory) ⊎ ((answers_ok ≡ answer new) × AddsRequests before qs text new) → ReadsRequests text qs new × (None ≡ fault_met new)
+took before qs text (Ok left) none h =
+    elim h [
+      | inl m ↦ absurd cc
+      | inr r ↦ (added qs text (Ok left) (subst (λ (xs : List Request). AddsRequests xs qs text (Ok left)) none r.1), refl)
+    ]
+took before qs text (Err f) none h =
+    elim h [
+      | inl m ↦ absurd cc
+      | inr r ↦ absurd (no_fault f r.0)
+    ]
+
+pub took_to : (before qs : List Request) (text : List ℕ) (new : Result (List ℕ) FormFault) (f : FormFault) → before ≡ []
+    → (answers_fault f ≡ Err refusals.Memory) ⊎ ((answers_fault f ≡ answer new) × AddsRequests before qs text new) → ReadsRequests text qs new × (Some f ≡ fault_met new)
+took_to before qs text (Ok left) f none h =
+    elim h [
+      | inl m ↦ absurd cc
+      | inr r ↦ absurd (no_fault f (sym r.0))
+    ]
+took_to before qs text (Err g) f none h =
+    elim h [
+      | inl m ↦ absurd cc
+      | inr r ↦ (added qs text (Err g) (subst (λ (xs : List Request). AddsRequests xs qs text (Err g)) none r.1), cc)
+    ]
+
+pub met : (new : Result (List ℕ) FormFault) (f : FormFault) → Some f ≡ fault_met new → new ≡ Err f
+met (Ok left) f e = absurd cc
+met (Err g) f e = cc
+
+-- ---- the end
+
+pub stopped : {H : Type 0} (may : H → Request → Reply → H → Type 0) (a b : H) (o p : Option (List ℕ)) (text left : List ℕ) → SessionStep may a b o p text (GoesOn left) → SessionStep may a b o p text (Ends ReadFault)
+stopped may a b o p text left s = record { requests = s.requests; replies = s.replies; answers = s.answers; written = s.written; appended = s.appended; how = (left, s.how.0, s.how.1) }
+
+pub finished : {H : Type 0} (may : H → Request → Reply → H → Type 0) (a b : H) (o p q : Option (List ℕ)) (text left : List ℕ) (feeder : Result (List ℕ) FormFault) (e : Ended)
+    → SessionStep may a b o p text (GoesOn left) → feeder ≡ Ok left → (feeder ≡ Ok [] → (e ≡ Clean) × Appends p q [])
+    → ((rest : List ℕ) → feeder ≡ Ok rest → rest ≢ [] → Refuses Truncated p q e) → SessionStep may a b o q text (Ends e)
+finished may a b o p q text [] feeder e s is clean cut =
+    let c = clean is in
+    let both = subst (Appends o q) (append-nil s.written) (Appends-trans o p q s.written [] s.appended c.1) in
+    subst (λ (x : Ended). SessionStep may a b o q text (Ends x)) (sym c.0) (record { requests = s.requests; replies = s.replies; answers = s.answers; written = s.written; appended = both; how = (s.how.0, s.how.1) })
+finished may a b o p q text (x ∷ left) feeder e s is clean cut =
+    fault_said may a b o p q text s.requests s.replies (Ok (x ∷ left)) Truncated e s.how.0 refl s.answers (subst (Appends o p) s.how.1 s.appended) (cut (x ∷ left) is (λ h. cc))
+
+-- ---- a reading
+
+pub none_read : (o p q : Option (List ℕ)) (bytes buf : List ℕ) (n : ℕ) → Consumes o p bytes → Consumes p q (take n buf) → n ≡ 0 → Consumes o q bytes
+none_read o p q bytes buf n h k zero_is = subst (Consumes o q) (ap (λ (i : ℕ). bytes ++ take i buf) zero_is ∙ append-nil bytes) (Consumes-trans o p q bytes (take n buf) h k)
+
+-- ---- the whole
+
+abbrev told_as : Option FormFault → List ℕ
+told_as None = []
+told_as (Some f) = refused_text f
+
+closing_bytes_is : (r : Result (List ℕ) FormFault) (f : FormFault) → fault_of r ≡ Some f → closing_bytes r ≡ refused_text f
+closing_bytes_is (Ok []) f e = absurd cc
+closing_bytes_is (Ok (b ∷ left)) f e = ap told_as e
+closing_bytes_is (Err g) f e = ap told_as e
+
+pub transcripts : {H : Type 0} (may : H → Request → Reply → H → Type 0) (a b : H) (o p : Option (List ℕ)) (bytes : List ℕ) (e : Ended) → IsDone e → SessionStep may a b o p bytes (Ends e) → (text : List ℕ) × Appends o p text × Transcript may a b bytes text
+transcripts may a b o p bytes Clean done s = (s.written, s.appended, record { requests = s.requests; left = Ok []; reads = s.how.0; replies = s.replies; answers = s.answers; told = s.how.1 ∙ sym (append-nil (replies_bytes s.replies)) })
+transcripts may a b o p bytes (Fault f) done s =
+    (s.written, s.appended, record { requests = s.requests; left = s.how.0; reads = s.how.1; replies = s.replies; answers = s.answers; told = s.how.3 ∙ ap (λ (t : List ℕ). replies_bytes s.replies ++ t) (sym (closing_bytes_is s.how.0 f s.how.2)) })
+transcripts may a b o p bytes Memory done s = absurd done
+transcripts may a b o p bytes ReadFault done s = absurd done
+transcripts may a b o p bytes WriteFault done s = absurd done
+
+-- the requests that the bytes begin with are whole
+prefix_transcript : {H : Type 0} (may : H → Request → Reply → H → Type 0) (a b : H) (bytes part : List ℕ) (qs : List Request) (rs : List Reply) → BeginsWith bytes qs → Answers may a qs rs b → IsPrefixOf part (replies_bytes rs) → PartialTranscript may a b bytes part
+prefix_transcript may a b bytes part qs rs h answers is_front =
+    let front = flat_map asked_text qs in
+    let reads : ReadsRequests front qs (Ok []) = (sym (append-nil front), h.2, inl (omega arith)) in
+    (front, h.0, h.1, inl (qs, reads), replies_bytes rs, is_front, record { requests = qs; left = Ok []; reads = reads; replies = rs; answers = answers; told = sym (append-nil (replies_bytes rs)) })
+
+pub partial_transcript : {H : Type 0} (may : H → Request → Reply → H → Type 0) (a b : H) (o p : Option (List ℕ)) (bytes : List ℕ) (e : Ended) → IsStopped e → SessionStep may a b o p bytes (Ends e) → (part : List ℕ) × Appends o p part × PartialTranscript may a b bytes part
+partial_transcript may a b o p bytes Clean done s = absurd done
+partial_transcript may a b o p bytes (Fault f) done s = absurd done
+partial_transcript may a b o p bytes ReadFault done s = absurd done
+partial_transcript may a b o p bytes Memory done s = (s.written, s.appended, prefix_transcript may a b bytes s.written s.requests s.replies s.how.0 s.answers s.how.1)
+partial_transcript may a b o p bytes WriteFault done s =
+    elim s.how [
+      | inl h ↦ (s.written, s.appended, prefix_transcript may a b bytes s.written s.requests s.replies h.0 s.answers h.1)
+      | inr h ↦ (
+        s.written,
+        s.appended,
+        (
+          bytes,
+          [],
+          sym (append-nil bytes),
+          inr refl,
+          replies_bytes s.replies ++ refused_text h.1,
+          h.4,
+          record { requests = s.requests; left = h.0; reads = h.2; replies = s.replies; answers = s.answers; told = ap (λ (t : List ℕ). replies_bytes s.replies ++ t) (sym (closing_bytes_is h.0 h.1 h.3)) },
+        ),
+      )
+    ]

@@ -1,0 +1,162 @@
+-- What a session writes, by what it read.
+use Rattle.std.specs.Prelude.{◌≡◌, ◌≢◌, ◌⊎◌, ℕ, if◌then◌else◌, List, [], ◌∷◌, ◌++◌, Option, Some, None, Result, Ok, Err}
+use Rattle.std.specs.List.{flat_map, AllByRecursion}
+use Rattle.std.specs.Io.KnownBytes.{Appends}
+use Rattle.hk_types.specs.declared.faults.FormFault.{FormFault}
+use Rattle.hk_types.specs.declared.faults.FormFault.TheVariants.{Truncated, TooLong}
+use Rattle.hk_types.specs.declared.faults.Refusal.TheVariants as refusals
+use Rattle.hk_codec.specs.Framing.{encoded}
+use Rattle.hk_wire.specs.declared.request.Request.{Request}
+use Rattle.hk_wire.specs.declared.reply.Reply.{Reply}
+use Rattle.hk_wire.specs.Requests.{request_seen, request_rest, IsRequest, ReadsRequests}
+use Rattle.hk_wire.specs.Replies.{Refused, reply_seen, reply_text, is_encodable}
+use Rattle.hk_session.specs.declared.ended.Ended.{Ended}
+use Rattle.hk_session.specs.declared.ended.Ended.TheVariants.{Clean, Fault, Memory, ReadFault, WriteFault}
+
+-- The host gives these replies to these requests, one each and in order, each as it may in the state that the one
+-- before left.
+abbrev pub Answers : {H : Type 0} → (H → Request → Reply → H → Type 0) → H → List Request → List Reply → H → Type 0
+Answers may old [] [] new = new ≡ old
+Answers {H} may old (q ∷ qs) (r ∷ rs) new = (mid : H) × may old q r mid × Answers may mid qs rs new
+Answers may old [] (r ∷ rs) new = ⊥
+Answers may old (q ∷ qs) [] new = ⊥
+
+-- what is written for a fault of form
+abbrev pub refused_text : FormFault → List ℕ
+refused_text f = reply_text (Refused (refusals.Form f))
+
+-- what is written for a reply: its encoding, or that it has none
+abbrev pub reply_bytes : Reply → List ℕ
+reply_bytes r = if is_encodable (reply_seen r) then reply_text (reply_seen r) else refused_text TooLong
+
+-- the replies one after the other
+abbrev pub replies_bytes : List Reply → List ℕ
+replies_bytes rs = flat_map reply_bytes rs
+
+-- what is written at the end, by what is left of the bytes
+abbrev pub closing_bytes : Result (List ℕ) FormFault → List ℕ
+closing_bytes (Ok []) = []
+closing_bytes (Ok (b ∷ left)) = refused_text Truncated
+closing_bytes (Err f) = refused_text f
+
+-- The text is what a host answers to all of the bytes: the replies to the requests that they encode, one each and in
+-- order, up to the first fault, which is then told. Bytes that end inside a frame have the fault `Truncated`.
+pub record Transcript {H : Type 0} (may : H → Request → Reply → H → Type 0) (old new : H) (bytes text : List ℕ) : Type 0 where
+  pub requests : List Request
+  pub left : Result (List ℕ) FormFault
+  pub reads : ReadsRequests bytes requests left
+  pub replies : List Reply
+  pub answers : Answers may old requests replies new
+  pub told : text ≡ replies_bytes replies ++ closing_bytes left
+
+-- the first of the two texts begins the second
+abbrev pub IsPrefixOf : List ℕ → List ℕ → Type 0
+IsPrefixOf front text = (rest : List ℕ) × (front ++ rest ≡ text)
+
+-- bytes that are whole requests
+abbrev pub AreWhole : List ℕ → Type 0
+AreWhole bytes = (requests : List Request) × ReadsRequests bytes requests (Ok [])
+
+-- a front of what a host answers to a front of the bytes, which is whole requests or all of them
+abbrev pub PartialTranscript : {H : Type 0} → (H → Request → Reply → H → Type 0) → H → H → List ℕ → List ℕ → Type 0
+PartialTranscript may old new bytes part = (front back : List ℕ) × (bytes ≡ front ++ back) × (AreWhole front ⊎ (back ≡ [])) × (text : List ℕ) × IsPrefixOf part text × Transcript may old new front text
+
+-- the fault that bytes have after whole requests, by what is left of them
+abbrev pub fault_of : Result (List ℕ) FormFault → Option FormFault
+fault_of (Ok []) = None
+fault_of (Ok (b ∷ left)) = Some Truncated
+fault_of (Err f) = Some f
+
+-- the fault that a feeder met
+abbrev pub fault_met : Result (List ℕ) FormFault → Option FormFault
+fault_met (Ok left) = None
+fault_met (Err f) = Some f
+
+-- the encoding of a request
+abbrev pub asked_text : Request → List ℕ
+asked_text = encoded (λ q. request_rest (request_seen q))
+
+-- a request that has an encoding
+abbrev pub IsAsked : Request → Type 0
+IsAsked q = IsRequest (request_seen q)
+
+-- the bytes begin with the encodings of these requests
+abbrev pub BeginsWith : List ℕ → List Request → Type 0
+BeginsWith bytes requests = (rest : List ℕ) × (bytes ≡ flat_map asked_text requests ++ rest) × AllByRecursion IsAsked requests
+
+-- A session that goes on has written the replies to all whole requests, and less than one is left.
+abbrev pub GoesOn : List ℕ → List ℕ → List Request → List Reply → List ℕ → Type 0
+GoesOn left bytes requests replies written = ReadsRequests bytes requests (Ok left) × (written ≡ replies_bytes replies)
+
+-- What was read and written where a session ended so. The requests are those that were answered.
+abbrev pub Ends : Ended → List ℕ → List Request → List Reply → List ℕ → Type 0
+-- the bytes are whole requests, and the replies to them were written
+Ends Clean bytes requests replies written = ReadsRequests bytes requests (Ok []) × (written ≡ replies_bytes replies)
+-- after the replies to the whole requests it was said which fault follows them
+Ends (Fault f) bytes requests replies written =
+    (left : Result (List ℕ) FormFault) × ReadsRequests bytes requests left × (fault_of left ≡ Some f) × (written ≡ replies_bytes replies ++ refused_text f)
+-- the replies to the whole requests were written and no more
+Ends ReadFault bytes requests replies written = (left : List ℕ) × ReadsRequests bytes requests (Ok left) × (written ≡ replies_bytes replies)
+-- a front of the replies to some of the requests
+Ends Memory bytes requests replies written = BeginsWith bytes requests × IsPrefixOf written (replies_bytes replies)
+-- a front of the replies to some of the requests, or of all replies and the fault that follows them
+Ends WriteFault bytes requests replies written =
+    (BeginsWith bytes requests × IsPrefixOf written (replies_bytes replies))
+    ⊎ ((left : Result (List ℕ) FormFault) × (f : FormFault) × ReadsRequests bytes requests left × (fault_of left ≡ Some f) × IsPrefixOf written (replies_bytes replies ++ refused_text f))
+
+-- What was said to the bytes: which requests of theirs were answered how, and what was written.
+pub record SessionStep {H : Type 0} (may : H → Request → Reply → H → Type 0) (old new : H) (before after : Option (List ℕ)) (bytes : List ℕ)
+    (How : List ℕ → List Request → List Reply → List ℕ → Type 0) : Type 0 where
+  pub requests : List Request
+  pub replies : List Reply
+  pub answers : Answers may old requests replies new
+  pub written : List ℕ
+  pub appended : Appends before after written
+  pub how : How bytes requests replies written
+
+-- what a call that writes this text did, where it answers so
+abbrev pub Sends : List ℕ → Option (List ℕ) → Option (List ℕ) → Option Ended → Type 0
+Sends text before after None = Appends before after text
+Sends text before after (Some Memory) = Appends before after []
+Sends text before after (Some WriteFault) = (part : List ℕ) × IsPrefixOf part text × Appends before after part
+Sends text before after (Some Clean) = ⊥
+Sends text before after (Some (Fault f)) = ⊥
+Sends text before after (Some ReadFault) = ⊥
+
+-- how a session can end before its reader does
+abbrev pub IsMidway : Ended → Type 0
+IsMidway Clean = ⊥
+IsMidway (Fault f) = f ≢ Truncated
+IsMidway Memory = Unit {0}
+IsMidway ReadFault = ⊥
+IsMidway WriteFault = Unit {0}
+
+-- what a call that says which fault ends the session did, where it answers so
+abbrev pub Refuses : FormFault → Option (List ℕ) → Option (List ℕ) → Ended → Type 0
+Refuses f before after (Fault g) = (g ≡ f) × Appends before after (refused_text f)
+Refuses f before after Memory = Appends before after []
+Refuses f before after WriteFault = (part : List ℕ) × IsPrefixOf part (refused_text f) × Appends before after part
+Refuses f before after Clean = ⊥
+Refuses f before after ReadFault = ⊥
+
+-- what a call that answers these requests did, where it answers so: some of them were answered
+abbrev pub Stops : {H : Type 0} → (H → Request → Reply → H → Type 0) → H → H → Option (List ℕ) → Option (List ℕ) → List Request → Ended → Type 0
+Stops {H} may old new before after requests e =
+    (front back : List Request) × (requests ≡ front ++ back) × (replies : List Reply) × Answers may old front replies new
+    × (part : List ℕ) × IsPrefixOf part (replies_bytes replies) × Appends before after part × ((e ≡ Memory) ⊎ (e ≡ WriteFault))
+
+-- a session that ended by what it read
+abbrev pub IsDone : Ended → Type 0
+IsDone Clean = Unit {0}
+IsDone (Fault f) = Unit {0}
+IsDone Memory = ⊥
+IsDone ReadFault = ⊥
+IsDone WriteFault = ⊥
+
+-- a session that could not go on writing
+abbrev pub IsStopped : Ended → Type 0
+IsStopped Clean = ⊥
+IsStopped (Fault f) = ⊥
+IsStopped Memory = Unit {0}
+IsStopped ReadFault = ⊥
+IsStopped WriteFault = Unit {0}

@@ -1,0 +1,7 @@
+use Rattle.hk_codec.proofs.Stream.{one_encoding_only}
+use Rattle.hk_wire.specs.Replies.{reply_at, reply_rest, IsReply}
+use Rattle.hk_wire.proofs.Replied.{reply_format}
+use Rattle.hk_wire.proofs.laws.one_reply_encoding.Goals as goal
+
+pub returns : goal.returns
+returns c = one_encoding_only 2 268435456 reply_at reply_rest IsReply reply_format

@@ -1,7 +1,0 @@
-use Rattle.hk_codec.proofs.Stream.{one_spelling_only}
-use Rattle.hk_wire.specs.Replies.{reply_at, reply_rest, IsReply}
-use Rattle.hk_wire.proofs.Replied.{reply_format}
-use Rattle.hk_wire.proofs.laws.one_reply_spelling.Goals as goal
-
-pub returns : goal.returns
-returns c = one_spelling_only 2 268435456 reply_at reply_rest IsReply reply_format

@@ -1,7 +1,0 @@
-use Rattle.hk_codec.proofs.Stream.{one_spelling_only}
-use Rattle.hk_wire.specs.Requests.{request_at, request_rest, IsRequest}
-use Rattle.hk_wire.proofs.Formats.{request_format}
-use Rattle.hk_wire.proofs.laws.one_request_spelling.Goals as goal
-
-pub returns : goal.returns
-returns c = one_spelling_only 2 268435456 request_at request_rest IsRequest request_format

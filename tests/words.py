@@ -1,0 +1,71 @@
+#!/usr/bin/env python3
+"""Checks that the words that docs/GLOSSARY.md replaced are gone from the sources and the definitions.
+
+Looks at crates/*/src and crates/*/specs, names and comments. Prints each place where an old word stands, and at the end
+'N passed, M failed': one for each old word.
+"""
+
+import pathlib
+import re
+import sys
+
+# an old word, as a part of a name or in a sentence, and the word to use
+OLD = [
+    (r"contradict\w*", "conflict"),
+    (r"clash\w*", "conflict"),
+    (r"disput\w*", "conflict"),
+    (r"disagree\w*", "conflict"),
+    (r"odds", "conflict"),
+    (r"elsewhen", "at another time"),
+    (r"canons?", "content_of"),
+    (r"Stands|StandsFor|stands for|stand for", "Represents, represents"),
+    (r"IsFront", "IsPrefixOf"),
+    (r"Talk\w*|talks?", "Transcript"),
+    (r"Spoke|farewell|hear", "SessionStep, closing_bytes, handle_piece"),
+    (r"FragmentTold|StreamTold|is_told|IsTold", "WireFragment, WireStream, adds_nothing, IsEncodable"),
+    (r"spell\w*|spelt", "encoding"),
+    (r"lent|push_lent", "borrowed"),
+    (r"takers?|givers?", "target, source"),
+    (r"Keyed|KeyedValue", "TableChains"),
+    (r"Label\w*|labels?|labelled", "TagKey"),
+    (r"starved", "refusal_without_memory"),
+    (r"misfits?", "wrong_log"),
+    (r"want of memory|want_of_memory", "out of memory"),
+    (r"for ever", "permanently"),
+]
+
+
+def pieces(line):
+    """The line, with each name also cut at its underscores."""
+    return line.replace("_", " ")
+
+
+def places(root, pattern):
+    """The lines under root that have the word, whole or as a part of a name."""
+    word = re.compile(r"(?<![A-Za-z])(?:%s)(?![A-Za-z])" % pattern)
+    for kind in ("src", "specs"):
+        for path in sorted(root.glob("crates/*/%s/**/*" % kind)):
+            if path.suffix not in (".rt", ".antt"):
+                continue
+            for number, line in enumerate(path.read_text(encoding="utf-8").split("\n"), 1):
+                if word.search(line) or word.search(pieces(line)):
+                    yield "%s:%d: %s" % (path.relative_to(root), number, line.strip()[:100])
+
+
+def main():
+    root = pathlib.Path(__file__).resolve().parent.parent
+    if len(sys.argv) > 1:
+        print("usage: tests/words.py", file=sys.stderr)
+        return 2
+    failed = 0
+    for pattern, instead in OLD:
+        found = list(places(root, pattern))
+        failed += bool(found)
+        for place in found:
+            print("FAILED old word, use %s: %s" % (instead, place))
+    print("%d passed, %d failed" % (len(OLD) - failed, failed))
+    return 1 if failed else 0
+
+
+if __name__ == "__main__":
+    sys.exit(main())
