@@ -2,9 +2,7 @@
 
 ghost use Rattle.std.specs.Prelude.{◌≡◌, ◌≤◌};
 
-use crate::frames::MOST_READS;
-use crate::output::Output;
-use crate::stop::Stop;
+use hk_commands::{MOST_READS, Output, Stop};
 use hk_types::FormFault;
 use hk_wire::{Reply, ReplyFeeder, Request, RequestFeeder, encode_request};
 use std::alloc::Global;

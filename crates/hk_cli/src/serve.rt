@@ -1,56 +1,25 @@
 //! The command `serve`.
 
-ghost use Rattle.std.specs.Prelude.{◌≡◌, ◌≤◌, ◌<◌, IfOk, IfSome};
+ghost use Rattle.std.specs.Prelude.{◌≡◌, ◌≤◌, IfOk};
 
 use crate::notice::Notice;
-use crate::output::Output;
-use crate::stop::Stop;
-use hk_net::serve_links;
+use hk_commands::{Output, Stop};
+use hk_net::{NetFault, serve_links};
 use hk_node::{NewList, NodeName, start};
 use hk_session::Ended;
-use hk_types::Config;
+use hk_types::{Config, Links, Refusal};
 use std::alloc::Global;
 use std::io::Write;
-use std::marker::{Brand, Model};
+use std::marker::Brand;
 use std::net::{Ipv4Addr, Net, TcpListener, TcpStream};
 use std::sync::Wait;
 use std::thread::Threads;
 
-/// How many links a node serves: 1 to 64. It has a place for each.
-#[derive(Clone, Copy, Debug, PartialEq, Eq)]
-pub struct Links {
-    count: u16,
-}
-
-impl Model for Links {
-    ghost use Rattle.std.specs.Prelude.{ℕ, ◌<◌, ◌≤◌};
-
-    ghost Value = { ℕ };
-
-    ghost view = { λ l. l.count };
-
-    ghost invariant = { λ l. (0 < l.count) × (l.count ≤ 64) };
-
-    ghost inverse = { λ n. record { count = n } };
-}
-
-impl Links {
-    /// So many links, unless there are none or more than 64.
-    pub fn new(count: u16) -> Option<Links>
-        ensures { IfSome result (λ links. links ≡ count) }
-    {
-        if count == 0 || count > 64 {
-            return None;
-        }
-        Some(Links { count })
-    }
-
-    /// How many they are.
-    fn count(self) -> usize
-        ensures value { result ≡ self }
-        ensures bound { (0 < result) × (result ≤ 64) }
-    {
-        usize::from(self.count)
+/// Why the command stops where serving did.
+fn stop_of(fault: NetFault) -> Stop {
+    match fault {
+        NetFault::Memory => Stop::Refused(Refusal::Memory),
+        NetFault::Socket => Stop::NetFault,
     }
 }
 
@@ -89,7 +58,7 @@ fn serve_list<
     let (node, seats) = start::<J, &R>(rt, alloc, list, links.count())?;
     output.print(&Notice::Listening(port))?;
     output.flush()?;
-    let ends = serve_links(rt, alloc, &listener, &node, seats)?;
+    let ends = serve_links(rt, alloc, &listener, &node, seats).map_err(stop_of)?;
     print_ends(&ends, output)
 }
 

@@ -202,10 +202,10 @@ pub fn serve<R: Read, W: Write, H: Host>(
 ) -> Ended
     requires reader { reader.old.faults ≡ 0 }
     requires writer { writer.old.faults ≡ 0 }
-    // What was written talks of what was read.
+    // What was written is the transcript of what was read.
     ensures whole { IsDone result → (bytes text : List ℕ) × Consumes (R.remaining reader.old.device) (R.remaining reader.new.device) bytes
         × Appends (W.contents writer.old.device) (W.contents writer.new.device) text × Transcript H.may host.old host.new bytes text }
-    // What was written is a front of what talks of a front of what was read: of whole requests, or of all bytes.
+    // What was written is a front of the transcript of a front of what was read: of whole requests, or of all bytes.
     ensures stopped { IsStopped result → (bytes part : List ℕ) × Consumes (R.remaining reader.old.device) (R.remaining reader.new.device) bytes
         × Appends (W.contents writer.old.device) (W.contents writer.new.device) part × PartialTranscript H.may host.old host.new bytes part }
     // The bytes read, and what was done and written for them.

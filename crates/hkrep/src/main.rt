@@ -1,9 +1,7 @@
 //! The program `hkrep`.
 #![tactic(auto)]
 
-mod arguments;
-
-use arguments::{Call, read_call};
+use hk_arguments::{Call, read_call};
 use hk_cli::{run_at, run_items, run_push, run_serve, run_world};
 use log::warn;
 use std::alloc::Global;

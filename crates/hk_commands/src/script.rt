@@ -1,7 +1,7 @@
 //! A script on its way: its world, and the transactions that are being written.
 
 ghost use Rattle.std.specs.Prelude.{◌≤◌};
-ghost use Rattle.hk_cli.specs.Scripts as spec;
+ghost use Rattle.hk_commands.specs.Scripts as spec;
 
 use crate::command::{Command, Opening, SLOTS};
 use crate::words::Unread;

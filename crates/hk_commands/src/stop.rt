@@ -2,15 +2,14 @@
 
 ghost use Rattle.std.specs.Prelude.{◌≡◌};
 ghost use Rattle.hk_types.specs.declared.faults.Refusal.TheVariants.{Form, Memory};
-ghost use Rattle.hk_cli.specs.declared.stop.Stop.TheVariants.{Refused};
+ghost use Rattle.hk_commands.specs.declared.stop.Stop.TheVariants.{Refused};
 
-use hk_net::NetFault;
 use hk_types::{FormFault, Refusal};
 use std::alloc::AllocError;
 
 /// Why a command stops.
 #[derive(Clone, Copy)]
-pub(crate) enum Stop {
+pub enum Stop {
     /// A fault of the input, or a refusal, out of memory included.
     Refused(Refusal),
     /// A read failed, or there were 2^32 reads without an end.
@@ -38,15 +37,6 @@ impl From<FormFault> for Stop {
 
     fn from(fault: FormFault) -> Stop {
         Stop::Refused(Refusal::Form(fault))
-    }
-}
-
-impl From<NetFault> for Stop {
-    fn from(fault: NetFault) -> Stop {
-        match fault {
-            NetFault::Memory => Stop::Refused(Refusal::Memory),
-            NetFault::Socket => Stop::NetFault,
-        }
     }
 }
 

@@ -2,8 +2,7 @@
 
 use clap::error::ErrorKind;
 use clap::{Arg, ArgAction, ArgMatches, Command, Error, value_parser};
-use hk_cli::Links;
-use hk_types::{Config, Key, LAST_TIME, Table, Time};
+use hk_types::{Config, Key, LAST_TIME, Links, Table, Time};
 use std::alloc::{AllocError, Global};
 
 /// What the program is asked to do.

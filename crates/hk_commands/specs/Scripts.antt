@@ -3,8 +3,8 @@ use Rattle.std.specs.Prelude.{ℕ, List, ◌++◌, codes}
 use Rattle.std.specs.Fmt.{decimal}
 use Rattle.hk_model.specs.Events.{told_seen}
 use Rattle.hk_lines.specs.Lines.{line_end, outcome_lines}
-use Rattle.hk_cli.specs.declared.script.Reply.{Reply}
-use Rattle.hk_cli.specs.declared.script.Reply.TheVariants.{Begun, Told}
+use Rattle.hk_commands.specs.declared.script.Reply.{Reply}
+use Rattle.hk_commands.specs.declared.script.Reply.TheVariants.{Begun, Told}
 
 -- what is printed where a transaction begins in a slot
 abbrev pub begun_line : ℕ → ℕ → List ℕ

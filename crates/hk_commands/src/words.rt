@@ -1,7 +1,7 @@
 //! The words of a line of a script.
 
 ghost use Rattle.std.specs.Prelude.{◌≡◌, ◌≤◌, IfOk};
-ghost use Rattle.hk_cli.specs.declared.words.Unread.TheVariants.{Memory};
+ghost use Rattle.hk_commands.specs.declared.words.Unread.TheVariants.{Memory};
 
 use hk_types::{Key, Row, StreamNo, Table, Tag, Time};
 use std::alloc::{AllocError, Global};

@@ -10,7 +10,7 @@ use std::io::Read;
 const PIECE_BYTES: usize = 65_536;
 
 /// The most reads of one input.
-pub(crate) const MOST_READS: u64 = 4_294_967_296;
+pub const MOST_READS: u64 = 4_294_967_296;
 
 /// What takes the items of an input, one after the other.
 pub(crate) trait Sink {

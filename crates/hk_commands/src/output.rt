@@ -13,14 +13,14 @@ const GATHERED_BYTES: usize = 65_536;
 
 /// The lines of a command on their way to a writer.
 #[derive(Drop)]
-pub(crate) struct Output<'a, W: Write> {
+pub struct Output<'a, W: Write> {
     alloc: Global,
     writer: &'a mut W,
     lines: String,
 }
 
 impl<'a, W: Write> Output<'a, W> {
-    pub(crate) fn new(alloc: Global, writer: &'a mut W) -> Output<'a, W> {
+    pub fn new(alloc: Global, writer: &'a mut W) -> Output<'a, W> {
         Output {
             alloc,
             writer,
@@ -29,7 +29,7 @@ impl<'a, W: Write> Output<'a, W> {
     }
 
     /// Adds the lines of a value, and writes what was gathered once that is much.
-    pub(crate) fn print<T: Printed>(&mut self, value: &T) -> Result<(), Stop> {
+    pub fn print<T: Printed>(&mut self, value: &T) -> Result<(), Stop> {
         value.print_to(self.alloc, &mut self.lines)?;
         if self.lines.len() >= GATHERED_BYTES {
             return self.flush();
@@ -38,7 +38,7 @@ impl<'a, W: Write> Output<'a, W> {
     }
 
     /// Writes what was gathered.
-    pub(crate) fn flush(&mut self) -> Result<(), Stop> {
+    pub fn flush(&mut self) -> Result<(), Stop> {
         let written = self.writer.write_all(self.lines.as_bytes());
         self.lines.clear();
         match written {
@@ -55,7 +55,7 @@ impl<'a, W: Write> Output<'a, W> {
     }
 
     /// Writes what was gathered, and then why the command stopped. The status of the command: 1.
-    pub(crate) fn stop(&mut self, stop: Stop) -> u8
+    pub fn stop(&mut self, stop: Stop) -> u8
         ensures { result ≡ 1 }
     {
         if self.print_stop(stop).is_ok() {

@@ -1,0 +1,20 @@
+//! The commands that need no network, over any reader and writer: `at`, `items` and `world`, with what prints their
+//! lines and says why one stopped.
+#![tactic(auto)]
+
+mod at;
+mod command;
+mod frames;
+mod items;
+mod output;
+mod script;
+mod stop;
+mod words;
+mod world;
+
+pub use at::run_at;
+pub use frames::MOST_READS;
+pub use items::run_items;
+pub use output::Output;
+pub use stop::Stop;
+pub use world::run_world;
