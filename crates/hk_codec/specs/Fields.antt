@@ -57,7 +57,7 @@ abbrev pub GivesValue : {X Y : Type 0} → (X → Y) → Result X FormFault → 
 GivesValue view (Ok x) read = read ≡ Ok (view x)
 GivesValue view (Err fault) read = read ≡ Err fault
 
--- an error is the fault that reading gives, or out of memory
+-- an error is the fault that reading gives, or that memory ran out
 abbrev pub Fails : {Y : Type 0} → ReadError → Result Y FormFault → Type 0
 Fails Memory read = Unit {0}
 Fails (Fault fault) read = read ≡ Err fault

@@ -80,7 +80,7 @@ Happens old new event (Err why) = (why ≡ Memory) × (new ≡ old) × (is_first
 abbrev pub Lacks : Running → Running → ToldValue → Type 0
 Lacks old new outcome = (outcome ≡ Refused Memory) × (new ≡ old)
 
--- the event told and left what the definition on contents gives; or out of memory was told where the definition
+-- the event told and left what the definition on contents gives; or it was told that memory ran out, where the definition
 -- tells no refusal that is tested before anything grows
 abbrev pub Steps : Running → Running → EventValue → ToldValue → Type 0
 Steps old new event outcome =
@@ -102,7 +102,7 @@ may_lack (Refused why) = is_of_writes why
 may_lack _ = true
 
 -- where the replicas represent items, at their horizons, the event told what the definition on items gives, and
--- each replica represents its items after it; or out of memory was told where that definition refuses nothing, or
+-- each replica represents its items after it; or it was told that memory ran out, where that definition refuses nothing, or
 -- a transaction for what it writes
 abbrev pub StepsOf : Running → Running → EventValue → ToldValue → Type 0
 StepsOf old new event outcome =
