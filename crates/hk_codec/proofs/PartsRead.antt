@@ -7,7 +7,7 @@ use Rattle.std.proofs.lemmas.List.{take_rest, drop-drop, take-append-drop}
 use Rattle.hk_types.specs.declared.faults.FormFault.{FormFault}
 use Rattle.hk_log.specs.declared.item.Item.{Item}
 use Rattle.hk_codec.specs.Encoding.{IsEncodableItem}
-use Rattle.hk_codec.specs.Frames.{encoding_of, Reads, Adds, held}
+use Rattle.hk_codec.specs.Frames.{encoding_of, Reads, Adds, rest_of}
 use Rattle.hk_codec.specs.Parts.{HasRead, IsPart}
 
 pub all_right : {A B : Type 0} (Q : B → Type 0) (xs : List A) (ys : List B) → AllZip (λ x y. Q y) xs ys → All Q ys
@@ -36,12 +36,12 @@ adds_after text before mid after used left s a =
     (s.items ++ a.0, a.1 ∙ ap (λ (t : List Item). t ++ a.0) s.added ∙ append_assoc before s.items a.0, reads_after text before mid used a.0 left s a.2)
 
 -- the same for a slice from a place on, and a place in it
-pub tail_adds : (text : List ℕ) (before mid after : List Item) (used more : ℕ) (fault : Option FormFault) → HasRead text before mid used → Adds mid after (take (length text - used) (drop used text)) (held (drop more (take (length text - used) (drop used text))) fault) → Adds before after text (held (drop (used + more) text) fault)
+pub tail_adds : (text : List ℕ) (before mid after : List Item) (used more : ℕ) (fault : Option FormFault) → HasRead text before mid used → Adds mid after (take (length text - used) (drop used text)) (rest_of (drop more (take (length text - used) (drop used text))) fault) → Adds before after text (rest_of (drop (used + more) text) fault)
 tail_adds text before mid after used more fault s a =
     let rest : take (length text - used) (drop used text) ≡ drop used text = take_rest text used in
-    let b : Adds mid after (drop used text) (held (drop more (drop used text)) fault) = subst (λ (t : List ℕ). Adds mid after t (held (drop more t) fault)) rest a in
+    let b : Adds mid after (drop used text) (rest_of (drop more (drop used text)) fault) = subst (λ (t : List ℕ). Adds mid after t (rest_of (drop more t) fault)) rest a in
     let place : drop more (drop used text) ≡ drop (used + more) text = drop-drop more used text in
-    adds_after text before mid after used _ s (subst (λ (t : List ℕ). Adds mid after (drop used text) (held t fault)) place b)
+    adds_after text before mid after used _ s (subst (λ (t : List ℕ). Adds mid after (drop used text) (rest_of t fault)) place b)
 
 pub first_of_all : {A : Type 0} (P : A → Type 0) (xs ys : List A) (x : A) → xs ≡ x ∷ ys → All P xs → P x
 first_of_all P xs ys x e all = (subst (All P) e all) 0 x (omega arith)

@@ -77,3 +77,33 @@ abbrev pub last_answer : Result (List ℕ) FormFault → Result (Unit {0}) Refus
 last_answer (Ok []) = Ok tt
 last_answer (Ok (b ∷ left)) = Err (refusals.Form Truncated)
 last_answer (Err fault) = Err (refusals.Form fault)
+
+-- A piece was fed to a feeder that holds less than a frame. Memory ran out, or the answer is that of the
+-- state after it, and what was held and the piece are read so far into the list.
+abbrev pub Feeds : {X : Type 0} → (List X → List X → List ℕ → Result (List ℕ) FormFault → Type 0) → Result (List ℕ) FormFault → Result (List ℕ) FormFault → List X → List X → List ℕ → Result (Unit {0}) Refusal → Type 0
+Feeds adds old new before after piece result =
+    (rest : List ℕ) → old ≡ Ok rest → (result ≡ Err refusals.Memory) ⊎ ((result ≡ answer new) × adds before after (rest ++ piece) new)
+
+-- a feeder that met a fault answers it, keeps it, and adds nothing
+abbrev pub KeepsFault : {X : Type 0} → Result (List ℕ) FormFault → Result (List ℕ) FormFault → List X → List X → Result (Unit {0}) Refusal → Type 0
+KeepsFault old new before after result = (f : FormFault) → old ≡ Err f → (result ≡ Err (refusals.Form f)) × (new ≡ Err f) × (after ≡ before)
+
+-- where memory ran out, the feeder and the list are as before
+abbrev pub KeepsOnMemory : {X : Type 0} → Result (List ℕ) FormFault → Result (List ℕ) FormFault → List X → List X → Result (Unit {0}) Refusal → Type 0
+KeepsOnMemory old new before after result = result ≡ Err refusals.Memory → (new ≡ old) × (after ≡ before)
+
+-- ---- laws of a format
+
+-- no value has two encodings, no encoding is that of two values, and none begins another
+abbrev pub OneEncoding : {X : Type 0} → (X → Type 0) → (X → List ℕ) → Type 0
+OneEncoding {X} IsValue encoding = (i j : X) (a b : List ℕ) → IsValue i → IsValue j → encoding i ++ a ≡ encoding j ++ b → (i ≡ j) × (a ≡ b)
+
+-- a text is read in one way: which values it begins with, as `seen` sees them, and what follows them
+abbrev pub OneReading : {X Y : Type 0} → (List X → Y) → (List ℕ → List X → Result (List ℕ) FormFault → Type 0) → Type 0
+OneReading {X} seen reads =
+    (text : List ℕ) (xs ys : List X) (l r : Result (List ℕ) FormFault) → reads text xs l → reads text ys r → (seen xs ≡ seen ys) × (l ≡ r)
+
+-- pieces that are read one after the other are read as the whole is
+abbrev pub PiecesJoin : {X : Type 0} → (List ℕ → List X → Result (List ℕ) FormFault → Type 0) → Type 0
+PiecesJoin {X} reads =
+    (text more left : List ℕ) (xs ys : List X) (r : Result (List ℕ) FormFault) → reads text xs (Ok left) → reads (left ++ more) ys r → reads (text ++ more) (xs ++ ys) r

@@ -1,9 +1,7 @@
 //! A stream of items that comes in pieces.
 
-ghost use Rattle.std.specs.Prelude.{◌≡◌, ◌≤◌, ◌++◌, ◌⊎◌, List, [], ℕ, length, drop, IfOk};
-ghost use Rattle.hk_types.specs.declared.faults.FormFault.{FormFault};
-ghost use Rattle.hk_types.specs.declared.faults.Refusal.TheVariants as refusals;
-ghost use Rattle.hk_codec.specs.Frames.{Adds, held, answer, last_answer};
+ghost use Rattle.std.specs.Prelude.{◌≡◌, ◌≤◌, [], length, drop, IfOk};
+ghost use Rattle.hk_codec.specs.Frames.{Adds, Feeds, KeepsFault, KeepsOnMemory, rest_of, last_answer};
 
 use crate::frame_feeder::FrameFeeder;
 use crate::frames::{Progress, take_frames};
@@ -44,11 +42,11 @@ impl Feeder {
     /// frames that are whole now, and one copy of the bytes that are left.
     pub fn feed(&mut self, piece: &[u8], out: &mut Vec<Item>) -> Result<(), Refusal>
         // What is held and the piece begin with the encodings of the added items. What follows them is held.
-        ensures reads { (rest : List ℕ) → self.old ≡ Ok rest → (result ≡ Err refusals.Memory) ⊎ ((result ≡ answer self.new) × Adds out.old.items out.new.items (rest ++ piece.now) self.new) }
+        ensures reads { Feeds Adds self.old self.new out.old.items out.new.items piece.now result }
         // A fault stays.
-        ensures fault { (f : FormFault) → self.old ≡ Err f → (result ≡ Err (refusals.Form f)) × (self.new ≡ Err f) × (out.new.items ≡ out.old.items) }
+        ensures fault { KeepsFault self.old self.new out.old.items out.new.items result }
         // Where memory runs out nothing changes.
-        ensures memory { result ≡ Err refusals.Memory → (self.new ≡ self.old) × (out.new.items ≡ out.old.items) }
+        ensures memory { KeepsOnMemory self.old self.new out.old.items out.new.items result }
     {
         self.frames.feed(piece, out)
     }
@@ -69,7 +67,7 @@ pub(crate) fn take_items(
     out: &mut Vec<Item>,
 ) -> Result<Progress, AllocError>
     ensures used { IfOk result (λ p. p.used ≤ length bytes.now) }
-    ensures read { IfOk result (λ p. Adds out.old.items out.new.items bytes.now (held (drop p.used bytes.now) p.fault)) }
+    ensures read { IfOk result (λ p. Adds out.old.items out.new.items bytes.now (rest_of (drop p.used bytes.now) p.fault)) }
 {
     take_frames(alloc, bytes, out)
 }

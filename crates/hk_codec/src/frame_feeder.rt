@@ -3,7 +3,7 @@
 ghost use Rattle.std.specs.Prelude.{◌≡◌, ◌≤◌, ◌++◌, ◌⊎◌, List, [], ℕ, length, take, drop, IfOk, OnOk, OnErr};
 ghost use Rattle.hk_types.specs.declared.faults.FormFault.{FormFault};
 ghost use Rattle.hk_types.specs.declared.faults.Refusal.TheVariants as refusals;
-ghost use Rattle.hk_codec.specs.Framing.{IsWhole, IsFormat, AddsValues, rest_of, answer, last_answer};
+ghost use Rattle.hk_codec.specs.Framing.{IsWhole, IsFormat, AddsValues, Feeds, KeepsFault, KeepsOnMemory, rest_of, last_answer};
 
 use crate::framed::Framed;
 use crate::frames::{LENGTH_BYTES, length_of, take_frames};
@@ -49,11 +49,12 @@ impl FrameFeeder {
     pub fn feed<T: Framed>(&mut self, piece: &[u8], out: &mut Vec<T>) -> Result<(), Refusal>
         requires { IsFormat T.LEAST_BYTES T.MOST_BYTES T.read T.rest_text T.IsEncodable }
         // What is held and the piece begin with the encodings of the added values. What follows them is held.
-        ensures reads { (rest : List ℕ) → self.old ≡ Ok rest → (result ≡ Err refusals.Memory) ⊎ ((result ≡ answer self.new) × AddsValues T.LEAST_BYTES T.MOST_BYTES T.read (λ x. T.rest_text (T.seen x)) (λ x. T.IsEncodable (T.seen x)) out.old.items out.new.items (rest ++ piece.now) self.new) }
+        ensures reads { Feeds (AddsValues T.LEAST_BYTES T.MOST_BYTES T.read (λ x. T.rest_text (T.seen x)) (λ x. T.IsEncodable (T.seen x)))
+            self.old self.new out.old.items out.new.items piece.now result }
         // A fault stays.
-        ensures fault { (f : FormFault) → self.old ≡ Err f → (result ≡ Err (refusals.Form f)) × (self.new ≡ Err f) × (out.new.items ≡ out.old.items) }
+        ensures fault { KeepsFault self.old self.new out.old.items out.new.items result }
         // Where memory runs out nothing changes.
-        ensures memory { result ≡ Err refusals.Memory → (self.new ≡ self.old) × (out.new.items ≡ out.old.items) }
+        ensures memory { KeepsOnMemory self.old self.new out.old.items out.new.items result }
     {
         if let Some(fault) = self.fault {
             return Err(Refusal::Form(fault));

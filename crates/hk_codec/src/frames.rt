@@ -49,7 +49,8 @@ pub fn frame_rest(bytes: &[u8], least: usize, most: usize) -> Result<Option<&[u8
 /// The value at the front and how many bytes its frame has, or `None` where a whole frame isn't there.
 #[tactic(auto, unfolding(crate::specs::Framing::framed))]
 pub fn next_frame<T: Framed>(alloc: Global, bytes: &[u8]) -> Result<Option<(T, usize)>, ReadError>
-    ensures { GivesOrRunsOut (option_map (λ x. (T.seen x.0, x.1))) result (framed T.LEAST_BYTES T.MOST_BYTES T.read bytes.now) }
+    ensures { GivesOrRunsOut (option_map (λ x. (T.seen x.0, x.1))) result
+        (framed T.LEAST_BYTES T.MOST_BYTES T.read bytes.now) }
 {
     match frame_rest(bytes, T::LEAST_BYTES, T::MOST_BYTES)? {
         None => Ok(None),

@@ -2,7 +2,7 @@
 
 ghost use Rattle.std.specs.Prelude.{◌≡◌, ◌≤◌, Ok, length, drop, All, IfOk, IfErr, IfSome};
 ghost use Rattle.hk_types.specs.declared.faults.Refusal.TheVariants as refusals;
-ghost use Rattle.hk_codec.specs.Frames.{Adds, Decodes, held};
+ghost use Rattle.hk_codec.specs.Frames.{Adds, Decodes, rest_of};
 ghost use Rattle.hk_codec.specs.Parts.{HasRead, IsPart};
 
 use crate::feeder::take_items;
@@ -132,7 +132,7 @@ fn take_side_by_side(
     out: &mut Vec<Item>,
 ) -> Result<Progress, Refusal>
     ensures used { IfOk result (λ p. p.used ≤ length bytes.now) }
-    ensures read { IfOk result (λ p. Adds out.old.items out.new.items bytes.now (held (drop p.used bytes.now) p.fault)) }
+    ensures read { IfOk result (λ p. Adds out.old.items out.new.items bytes.now (rest_of (drop p.used bytes.now) p.fault)) }
     ensures memory { IfErr result (λ e. e ≡ refusals.Memory) }
 {
     let spans = spans(alloc, bytes)?;

@@ -1,8 +1,9 @@
 -- Replies: their encoding and their reading.
-use Rattle.std.specs.Prelude.{◌≡◌, ℕ, ◌^◌, ◌<◌, ◌≤◌, Bool, true, ◌&&◌, ◌||◌, nat_le, nat_lt, ◌==◌, if◌then◌else◌, List, ◌++◌, length, Result, Err}
+use Rattle.std.specs.Prelude.{◌≡◌, ℕ, ◌^◌, ◌<◌, ◌≤◌, Bool, true, ◌&&◌, ◌||◌, nat_le, nat_lt, ◌==◌, if◌then◌else◌, List, ◌++◌, length, Result, Err, ◌⊎◌, false, [], ◌∷◌, Ok}
 use Rattle.std.specs.Int.{w64}
 use Rattle.hk_types.specs.declared.faults.FormFault.{FormFault}
-use Rattle.hk_types.specs.declared.faults.FormFault.TheVariants.{BadKind, BadNumber}
+use Rattle.hk_types.specs.declared.faults.Refusal.TheVariants as refusals
+use Rattle.hk_types.specs.declared.faults.FormFault.TheVariants.{BadKind, BadNumber, TooLong}
 use Rattle.hk_codec.specs.Fields.{number, number_at}
 use Rattle.hk_codec.specs.Framing.{encoded, Begins, AddsValues}
 use Rattle.hk_wire.specs.declared.reply.Reply.{Reply}
@@ -109,3 +110,16 @@ ReadsReplies text replies left = Begins 2 268435456 reply_at (λ r. reply_rest (
 -- what is added to a list where this text is read so far
 abbrev pub AddsReplies : List Reply → List Reply → List ℕ → Result (List ℕ) FormFault → Type 0
 AddsReplies before after text left = AddsValues 2 268435456 reply_at (λ r. reply_rest (reply_seen r)) (λ r. IsReply (reply_seen r)) before after text left
+
+-- a reply was added at the end, as its encoding
+abbrev pub Encodes : Reply → List ℕ → List ℕ → Type 0
+Encodes reply before after = (is_encodable (reply_seen reply) ≡ true) × (after ≡ before ++ reply_text (reply_seen reply))
+
+-- the encoding is read as the reply alone
+abbrev pub ReadsBack : Reply → Type 0
+ReadsBack reply = ReadsReplies (reply_text (reply_seen reply)) (reply ∷ []) (Ok [])
+
+-- why a reply was not added: it has no encoding, or memory ran out
+abbrev pub IsRefusedAs : Reply → Refusal → Type 0
+IsRefusedAs reply why =
+    ((why ≡ refusals.Form TooLong) × (is_encodable (reply_seen reply) ≡ false)) ⊎ ((why ≡ refusals.Memory) × (is_encodable (reply_seen reply) ≡ true))

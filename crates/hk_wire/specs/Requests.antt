@@ -1,9 +1,11 @@
 -- Requests: their encoding and their reading.
-use Rattle.std.specs.Prelude.{◌≡◌, ℕ, ◌^◌, ◌≤◌, Bool, true, not, ◌&&◌, nat_le, nat_lt, ◌==◌, if◌then◌else◌, List, [], ◌++◌, length, Option, Some, None, Result, Ok, Err}
+use Rattle.std.specs.Prelude.{◌≡◌, ℕ, ◌^◌, ◌≤◌, Bool, true, not, ◌&&◌, nat_le, nat_lt, ◌==◌, if◌then◌else◌, List, [], ◌++◌, length, Option, Some, None, Result, Ok, Err, ◌⊎◌, false, ◌∷◌}
 use Rattle.std.specs.List.{flat_map, AllByRecursion}
 use Rattle.std.specs.Int.{w32, w64}
 use Rattle.hk_types.specs.declared.faults.FormFault.{FormFault}
-use Rattle.hk_types.specs.declared.faults.FormFault.TheVariants.{BadKind, BadNumber, BadCount, WrongLength}
+use Rattle.hk_types.specs.declared.faults.Refusal.{Refusal}
+use Rattle.hk_types.specs.declared.faults.Refusal.TheVariants as refusals
+use Rattle.hk_types.specs.declared.faults.FormFault.TheVariants.{BadKind, BadNumber, BadCount, WrongLength, TooLong}
 use Rattle.hk_log.specs.declared.item.Item.{Item}
 use Rattle.hk_model.specs.declared.query.Query.{Query}
 use Rattle.hk_codec.specs.Fields.{◌>>=◌, number, number_at, bytes_at, list_at}
@@ -153,3 +155,16 @@ ReadsRequests text requests left = Begins 2 268435456 request_at (λ r. request_
 -- what is added to a list where this text is read so far
 abbrev pub AddsRequests : List Request → List Request → List ℕ → Result (List ℕ) FormFault → Type 0
 AddsRequests before after text left = AddsValues 2 268435456 request_at (λ r. request_rest (request_seen r)) (λ r. IsRequest (request_seen r)) before after text left
+
+-- a request was added at the end, as its encoding
+abbrev pub Encodes : Request → List ℕ → List ℕ → Type 0
+Encodes request before after = (is_encodable (request_seen request) ≡ true) × (after ≡ before ++ request_text (request_seen request))
+
+-- the encoding is read as the request alone
+abbrev pub ReadsBack : Request → Type 0
+ReadsBack request = ReadsRequests (request_text (request_seen request)) (request ∷ []) (Ok [])
+
+-- why a request was not added: it has no encoding, or memory ran out
+abbrev pub IsRefusedAs : Request → Refusal → Type 0
+IsRefusedAs request why =
+    ((why ≡ refusals.Form TooLong) × (is_encodable (request_seen request) ≡ false)) ⊎ ((why ≡ refusals.Memory) × (is_encodable (request_seen request) ≡ true))

@@ -123,11 +123,11 @@ fn put_request(out: &mut Vec<u8>, request: &Request, rest: u32) -> Result<(), Al
 ///
 /// A `RequestFeeder` that is given the encoding alone gives a request of that value, and holds nothing.
 pub fn encode_request(request: &Request, out: &mut Vec<u8>) -> Result<(), Refusal>
-    ensures ok { OnOk result ((requests.is_encodable (requests.request_seen request.now) ≡ true) × (out.new.items ≡ out.old.items ++ requests.request_text (requests.request_seen request.now))) }
+    ensures ok { OnOk result (requests.Encodes request.now out.old.items out.new.items) }
     ensures request { OnOk result (requests.IsRequest (requests.request_seen request.now)) }
-    ensures reads { OnOk result (requests.ReadsRequests (requests.request_text (requests.request_seen request.now)) (request.now ∷ []) (Ok [])) }
+    ensures reads { OnOk result (requests.ReadsBack request.now) }
     ensures err { OnErr result (out.new.items ≡ out.old.items) }
-    ensures why { IfErr result (λ e. ((e ≡ refusals.Form faults.TooLong) × (requests.is_encodable (requests.request_seen request.now) ≡ false)) ⊎ ((e ≡ refusals.Memory) × (requests.is_encodable (requests.request_seen request.now) ≡ true))) }
+    ensures why { IfErr result (λ why. requests.IsRefusedAs request.now why) }
 {
     let Some(rest) = request_len(request) else {
         return Err(Refusal::Form(FormFault::TooLong));

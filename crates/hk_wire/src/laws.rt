@@ -4,6 +4,7 @@ ghost use Rattle.std.specs.Prelude.{◌≡◌, ◌++◌, List, ℕ, Result, Ok, 
 ghost use Rattle.hk_types.specs.declared.faults.FormFault.{FormFault};
 ghost use Rattle.hk_wire.specs.declared.request.Request.{Request};
 ghost use Rattle.hk_wire.specs.declared.reply.Reply.{Reply};
+ghost use Rattle.hk_codec.specs.Framing.{OneEncoding, OneReading, PiecesJoin};
 ghost use Rattle.hk_wire.specs.Fragments.{wire_fragment_of};
 ghost use Rattle.hk_wire.specs.Requests.{RequestValue, IsRequest, request_seen, request_text, ReadsRequests};
 ghost use Rattle.hk_wire.specs.Replies.{ReplyValue, IsReply, reply_seen, reply_text, ReadsReplies};
@@ -12,32 +13,32 @@ use hk_delta::Fragment;
 
 /// No request has two encodings, no encoding is that of two requests, and none begins another.
 pub fn one_request_encoding()
-    ensures { (i j : RequestValue) (a b : List ℕ) → IsRequest i → IsRequest j → request_text i ++ a ≡ request_text j ++ b → (i ≡ j) × (a ≡ b) }
+    ensures { OneEncoding IsRequest request_text }
 {}
 
 /// No reply has two encodings, no encoding is that of two replies, and none begins another.
 pub fn one_reply_encoding()
-    ensures { (i j : ReplyValue) (a b : List ℕ) → IsReply i → IsReply j → reply_text i ++ a ≡ reply_text j ++ b → (i ≡ j) × (a ≡ b) }
+    ensures { OneEncoding IsReply reply_text }
 {}
 
 /// Pieces of requests that are read one after the other are read as the whole is.
 pub fn request_pieces_join()
-    ensures { (text more left : List ℕ) (xs ys : List Request) (r : Result (List ℕ) FormFault) → ReadsRequests text xs (Ok left) → ReadsRequests (left ++ more) ys r → ReadsRequests (text ++ more) (xs ++ ys) r }
+    ensures { PiecesJoin ReadsRequests }
 {}
 
 /// Pieces of replies that are read one after the other are read as the whole is.
 pub fn reply_pieces_join()
-    ensures { (text more left : List ℕ) (xs ys : List Reply) (r : Result (List ℕ) FormFault) → ReadsReplies text xs (Ok left) → ReadsReplies (left ++ more) ys r → ReadsReplies (text ++ more) (xs ++ ys) r }
+    ensures { PiecesJoin ReadsReplies }
 {}
 
 /// A text is read as requests in one way: which they are, and what follows them.
 pub fn one_request_reading()
-    ensures { (text : List ℕ) (xs ys : List Request) (l r : Result (List ℕ) FormFault) → ReadsRequests text xs l → ReadsRequests text ys r → (map request_seen xs ≡ map request_seen ys) × (l ≡ r) }
+    ensures { OneReading (map request_seen) ReadsRequests }
 {}
 
 /// A text is read as replies in one way: which they are, and what follows them.
 pub fn one_reply_reading()
-    ensures { (text : List ℕ) (xs ys : List Reply) (l r : Result (List ℕ) FormFault) → ReadsReplies text xs l → ReadsReplies text ys r → (map reply_seen xs ≡ map reply_seen ys) × (l ≡ r) }
+    ensures { OneReading (map reply_seen) ReadsReplies }
 {}
 
 /// What the bytes of a fragment tell is the whole of it: no two fragments are told alike.

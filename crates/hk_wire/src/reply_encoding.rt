@@ -102,11 +102,11 @@ fn put_reply(out: &mut Vec<u8>, reply: &Reply, rest: u32) -> Result<(), AllocErr
 ///
 /// A `ReplyFeeder` that is given the encoding alone gives a reply of that value, and holds nothing.
 pub fn encode_reply(reply: &Reply, out: &mut Vec<u8>) -> Result<(), Refusal>
-    ensures ok { OnOk result ((replies.is_encodable (replies.reply_seen reply.now) ≡ true) × (out.new.items ≡ out.old.items ++ replies.reply_text (replies.reply_seen reply.now))) }
+    ensures ok { OnOk result (replies.Encodes reply.now out.old.items out.new.items) }
     ensures reply { OnOk result (replies.IsReply (replies.reply_seen reply.now)) }
-    ensures reads { OnOk result (replies.ReadsReplies (replies.reply_text (replies.reply_seen reply.now)) (reply.now ∷ []) (Ok [])) }
+    ensures reads { OnOk result (replies.ReadsBack reply.now) }
     ensures err { OnErr result (out.new.items ≡ out.old.items) }
-    ensures why { IfErr result (λ e. ((e ≡ refusals.Form faults.TooLong) × (replies.is_encodable (replies.reply_seen reply.now) ≡ false)) ⊎ ((e ≡ refusals.Memory) × (replies.is_encodable (replies.reply_seen reply.now) ≡ true))) }
+    ensures why { IfErr result (λ why. replies.IsRefusedAs reply.now why) }
 {
     let Some(rest) = reply_len(reply) else {
         return Err(Refusal::Form(FormFault::TooLong));

@@ -3,7 +3,7 @@
 ghost use Rattle.std.specs.Prelude.{◌≡◌, ◌++◌, ◌⊎◌, List, [], ℕ};
 ghost use Rattle.hk_types.specs.declared.faults.FormFault.{FormFault};
 ghost use Rattle.hk_types.specs.declared.faults.Refusal.TheVariants as refusals;
-ghost use Rattle.hk_codec.specs.Framing.{answer, last_answer};
+ghost use Rattle.hk_codec.specs.Framing.{Feeds, KeepsFault, KeepsOnMemory, last_answer};
 ghost use Rattle.hk_wire.specs.Replies.{AddsReplies};
 
 use crate::reply::Reply;
@@ -43,11 +43,11 @@ impl ReplyFeeder {
     /// is one pass over the frames that are whole now, and one copy of the bytes that are left.
     pub fn feed(&mut self, piece: &[u8], out: &mut Vec<Reply>) -> Result<(), Refusal>
         // What is held and the piece begin with the encodings of the added replies. What follows them is held.
-        ensures reads { (rest : List ℕ) → self.old ≡ Ok rest → (result ≡ Err refusals.Memory) ⊎ ((result ≡ answer self.new) × AddsReplies out.old.items out.new.items (rest ++ piece.now) self.new) }
+        ensures reads { Feeds AddsReplies self.old self.new out.old.items out.new.items piece.now result }
         // A fault stays.
-        ensures fault { (f : FormFault) → self.old ≡ Err f → (result ≡ Err (refusals.Form f)) × (self.new ≡ Err f) × (out.new.items ≡ out.old.items) }
+        ensures fault { KeepsFault self.old self.new out.old.items out.new.items result }
         // Where memory runs out nothing changes.
-        ensures memory { result ≡ Err refusals.Memory → (self.new ≡ self.old) × (out.new.items ≡ out.old.items) }
+        ensures memory { KeepsOnMemory self.old self.new out.old.items out.new.items result }
     {
         self.frames.feed(piece, out)
     }
