@@ -22,7 +22,7 @@ use Rattle.hk_state.specs.Reads.{facts_of_content}
 use Rattle.hk_state.specs.Versions.{AreVersions}
 use Rattle.hk_delta.specs.Parts.{Known, values_by_version, fragment_seen, follows, is_valid_row, is_valid_end, is_valid_fact, facts_fault, fragment_fault}
 use Rattle.hk_delta.specs.Cuts.{row_above, end_above, left_above, all_left}
-use Rattle.hk_delta.proofs.Listed.{get-values_by_version}
+use Rattle.hk_delta.proofs.Listed.{get-among}
 use Rattle.hk_delta.proofs.Sound.{AllFollow, are_facts}
 use Rattle.hk_delta.proofs.Picked.{find_picked}
 
@@ -163,13 +163,13 @@ module _ (c : Content) (l : IsLawful c) (base : ℕ) where
 
       rows : values_by_version (λ x. x.row) (all_left base versions) ≡ finmap.retain_keys c.rows (λ v. nat_lt base v.born)
       rows = finmap.same_map version_key_total version_key_same _ _ (λ v.
-          get-values_by_version (λ x. x.row) (all_left base versions) sorted v
+          get-among (λ x. x.row) (all_left base versions) sorted v
           ∙ ap (option_and_then (λ x. x.row)) (find_picked (facts_of_content c) (left_above base) v versions are)
           ∙ row_found v ∙ sym (get-retain version_key_total version_key_same c.rows (λ v. nat_lt base v.born) v))
 
       ends : values_by_version (λ x. x.died) (all_left base versions) ≡ without_ended c.ends base c.ends
       ends = finmap.same_map version_key_total version_key_same _ _ (λ v.
-          get-values_by_version (λ x. x.died) (all_left base versions) sorted v
+          get-among (λ x. x.died) (all_left base versions) sorted v
           ∙ ap (option_and_then (λ x. x.died)) (find_picked (facts_of_content c) (left_above base) v versions are)
           ∙ end_found v ∙ sym (get-without_ended c.ends base c.ends v))
 

@@ -47,8 +47,8 @@ module _ {Y : Type 0} (read : VersionValue → Option Y) where
       found_at v e facts both.0 (found v facts both.1) (eq_by_cmp version_key_cmp v e.0) (read e.1) refl refl
 
   -- what is read of a version is what is read of what is known of it
-  pub get-values_by_version : (facts : List Known) → T (is_sorted version_key_cmp facts) → (v : VersionKey) → finmap.get (values_by_version read facts) v ≡ option_and_then read (find version_key_cmp v facts)
-  get-values_by_version facts s v = finmap.get-from_entries version_key_total (filter_map read_pair facts) v ∙ found v facts s
+  pub get-among : (facts : List Known) → T (is_sorted version_key_cmp facts) → (v : VersionKey) → finmap.get (values_by_version read facts) v ≡ option_and_then read (find version_key_cmp v facts)
+  get-among facts s v = finmap.get-from_entries version_key_total (filter_map read_pair facts) v ∙ found v facts s
 
 -- ---- a content's list
 

@@ -19,7 +19,7 @@ use Rattle.hk_model.proofs.Maps.{version_key_total, version_key_same}
 use Rattle.hk_model.proofs.Members.{In, In-find}
 use Rattle.hk_model.proofs.Visible.{T_both, less}
 use Rattle.hk_delta.specs.Parts.{Known, values_by_version, fragment_seen, follows, is_valid_row, is_valid_end, is_valid_fact, facts_fault, fragment_fault, versions_listed, IsFragment}
-use Rattle.hk_delta.proofs.Listed.{get-values_by_version, lists_back}
+use Rattle.hk_delta.proofs.Listed.{get-among, lists_back}
 
 -- a test that shows no fault failed, and what follows it shows none
 passed : (b : Bool) (f : FormFault) (rest : Option FormFault) → cond (not b) (Some f) rest ≡ None → (b ≡ true) × (rest ≡ None)
@@ -110,7 +110,7 @@ some_of read (Some x) y e = (x, refl, e)
 pub stated : {Y : Type 0} (read : VersionValue → Option Y) (base horizon : ℕ) (facts : List Known) → facts_fault base horizon None facts ≡ None → (v : VersionKey) (y : Y) → finmap.get (values_by_version read facts) v ≡ Some y → (x : VersionValue) × Parts base horizon v x × (read x ≡ Some y)
 stated read base horizon facts h v y e =
     let f = are_facts base horizon None facts h in
-    let w = some_of read (find version_key_cmp v facts) y (sym (get-values_by_version read facts f.sorted v) ∙ e) in
+    let w = some_of read (find version_key_cmp v facts) y (sym (get-among read facts f.sorted v) ∙ e) in
     (w.0, parts_of base horizon v w.0 (f.each v w.0 (In-find version_key_cmp version_key_total version_key_same v w.0 facts w.1)), w.2)
 
 zero_or : (base horizon : ℕ) → ((base == 0) || nat_le horizon base) ≡ true → (base ≡ 0) ⊎ (horizon ≤ base)
@@ -168,7 +168,7 @@ listed config base horizon streams facts h =
     let f = are_facts base horizon None facts h in
     lists_back (fragment_seen config base horizon streams facts).content facts f.sorted
     (λ v x e. (parts_of base horizon v x (f.each v x (In-find version_key_cmp version_key_total version_key_same v x facts e))).known)
-    (get-values_by_version (λ x. x.row) facts f.sorted) (get-values_by_version (λ x. x.died) facts f.sorted)
+    (get-among (λ x. x.row) facts f.sorted) (get-among (λ x. x.died) facts f.sorted)
 
 -- the facts of a fragment by its rules are faultless
 pub facts_tested : (base horizon : ℕ) (streams : List StreamContent) (facts : List Known) → fragment_fault base horizon streams facts ≡ None → facts_fault base horizon None facts ≡ None

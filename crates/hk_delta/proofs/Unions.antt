@@ -21,7 +21,7 @@ use Rattle.hk_marks.proofs.Numbered.{all_numbered}
 use Rattle.hk_merge.proofs.Rising.{as_many_together}
 use Rattle.hk_delta.specs.Parts.{Known, values_by_version, fragment_seen, facts_fault, IsFragment}
 use Rattle.hk_delta.specs.Unions.{both_known, known_in_either, union_of}
-use Rattle.hk_delta.proofs.Listed.{get-values_by_version}
+use Rattle.hk_delta.proofs.Listed.{get-among}
 use Rattle.hk_delta.proofs.Sound.{are_facts}
 
 or_none : {X : Type 0} (o : Option X) → o ≡ or_else o None
@@ -43,8 +43,8 @@ module _ {Y : Type 0} (read : VersionValue → Option Y) (reads : (x y : Version
   read_union : (own coming out : List Known) → T (is_sorted version_key_cmp own) → T (is_sorted version_key_cmp coming) → T (is_sorted version_key_cmp out)
       → ((v : VersionKey) → find version_key_cmp v out ≡ known_in_either (find version_key_cmp v own) (find version_key_cmp v coming)) → values_by_version read out ≡ union (values_by_version read own) (values_by_version read coming)
   read_union own coming out s t r found = finmap.same_map version_key_total version_key_same _ _ (λ v.
-      get-values_by_version read out r v ∙ ap (option_and_then read) (found v) ∙ read_either (find version_key_cmp v own) (find version_key_cmp v coming)
-      ∙ sym (get-union version_key_total version_key_same (values_by_version read own) (values_by_version read coming) v ∙ (λ i. or_else (get-values_by_version read own s v i) (get-values_by_version read coming t v i))))
+      get-among read out r v ∙ ap (option_and_then read) (found v) ∙ read_either (find version_key_cmp v own) (find version_key_cmp v coming)
+      ∙ sym (get-union version_key_total version_key_same (values_by_version read own) (values_by_version read coming) v ∙ (λ i. or_else (get-among read own s v i) (get-among read coming t v i))))
 
 not_below_zero : (n : ℕ) → nat_lt n 0 ≡ false
 not_below_zero n = grind (arith, nat_tests)

@@ -17,7 +17,7 @@ use Rattle.hk_model.specs.Streams.{StreamContent, covers, greatest_covered, by_c
 use Rattle.hk_model.proofs.Joins.{alike_differ, same_row_if}
 use Rattle.hk_model.proofs.Maps.{version_key_total, version_key_same, get-union, get-retain, get-without_ended, no_entry_conflict}
 use Rattle.hk_model.proofs.Repeats.{settled_itself}
-use Rattle.hk_model.proofs.Streams.{later, latest, latest-append, get-by_count, together-stream_with}
+use Rattle.hk_model.proofs.Streams.{later, latest, latest-append, get-by_count, together-settled}
 
 -- ---- streams
 
@@ -57,7 +57,7 @@ settled_twice t c ms = λ i. record {
 together_itself : (s : StreamContent) → IsLawfulStream s → together s s ≡ s
 together_itself s l =
     (λ i. together (sym (settled_itself s l) i) (sym (settled_itself s l) i))
-    ∙ together-stream_with s.taken s.taken s.closed s.closed (finmap.entries s.waiting) (finmap.entries s.waiting)
+    ∙ together-settled s.taken s.taken s.closed s.closed (finmap.entries s.waiting) (finmap.entries s.waiting)
     ∙ (λ i. stream_with (union_itself s.taken i) (same s.closed i) (finmap.entries s.waiting ++ finmap.entries s.waiting))
     ∙ settled_twice s.taken s.closed (finmap.entries s.waiting)
     ∙ settled_itself s l

@@ -21,8 +21,8 @@ use Rattle.hk_marks.specs.Room.{has_number, Widens, Without}
 
 -- ---- one more number of a list
 
-has_number-take_more : (xs : List ℕ) (i q : ℕ) → i < length xs → has_number (take (i + 1) xs) q ≡ (has_number (take i xs) q || eq_by_cmp nat_cmp q (get_or xs i 0))
-has_number-take_more xs i q within =
+among-take_more : (xs : List ℕ) (i q : ℕ) → i < length xs → has_number (take (i + 1) xs) q ≡ (has_number (take i xs) q || eq_by_cmp nat_cmp q (get_or xs i 0))
+among-take_more xs i q within =
     ap (λ l. has_number l q) (take_more xs i 0 within)
     ∙ list_any-append (eq_by_cmp nat_cmp q) (take i xs) (get_or xs i 0 ∷ [])
     ∙ ap (λ b. has_number (take i xs) q || b) (or_false (eq_by_cmp nat_cmp q (get_or xs i 0)))
@@ -38,7 +38,7 @@ more_of xs i q there after now before within step so_far =
     step
     ∙ (λ k. cond ((eq_by_cmp_equiv nat_cmp_total).symm (get_or xs i 0) q k) there (so_far k))
     ∙ either (eq_by_cmp nat_cmp q (get_or xs i 0)) (has_number (take i xs) q)
-    ∙ ap (λ b. cond b there before) (sym (has_number-take_more xs i q within))
+    ∙ ap (λ b. cond b there before) (sym (among-take_more xs i q within))
   where
     either : (a b : Bool) → cond a there (cond b there before) ≡ cond (b || a) there before
     either true true = refl
@@ -46,11 +46,11 @@ more_of xs i q there after now before within step so_far =
     either false true = refl
     either false false = refl
 
-has_number-take : (xs : List ℕ) (i q : ℕ) → has_number xs q ≡ false → has_number (take i xs) q ≡ false
-has_number-take [] zero q none = refl
-has_number-take [] (suc i) q none = refl
-has_number-take (x ∷ xs) zero q none = refl
-has_number-take (x ∷ xs) (suc i) q none = by (eq_by_cmp nat_cmp q x) none (has_number-take xs i q)
+among-take : (xs : List ℕ) (i q : ℕ) → has_number xs q ≡ false → has_number (take i xs) q ≡ false
+among-take [] zero q none = refl
+among-take [] (suc i) q none = refl
+among-take (x ∷ xs) zero q none = refl
+among-take (x ∷ xs) (suc i) q none = by (eq_by_cmp nat_cmp q x) none (among-take xs i q)
   where
     by : (b : Bool) → (b || has_number xs q) ≡ false → (has_number xs q ≡ false → has_number (take i xs) q ≡ false) → (b || has_number (take i xs) q) ≡ false
     by true e rest = absurd (true≢false e)
@@ -61,7 +61,7 @@ pub taken_back : {X : Type 0} (xs : List ℕ) (i q : ℕ) (gone there after now 
 taken_back xs i q gone there after now before back so_far apart =
     back ∙ elim (has_number xs q) as (λ b. has_number xs q ≡ b → cond b gone now ≡ before) [
       | true ↦ λ e. sym (apart e)
-      | false ↦ λ e. so_far ∙ ap (λ b. cond b there before) (has_number-take xs i q e)
+      | false ↦ λ e. so_far ∙ ap (λ b. cond b there before) (among-take xs i q e)
     ] refl
 
 -- all of a list are taken back after all of it came, where none was there
@@ -81,12 +81,12 @@ of_error (Err e) t p = p
 
 -- ---- what is missing
 
-has_number-filter : (p : ℕ → Bool) (xs : List ℕ) (q : ℕ) → has_number (filter p xs) q ≡ (has_number xs q && p q)
-has_number-filter p [] q = refl
-has_number-filter p (x ∷ xs) q =
+among-filter : (p : ℕ → Bool) (xs : List ℕ) (q : ℕ) → has_number (filter p xs) q ≡ (has_number xs q && p q)
+among-filter p [] q = refl
+among-filter p (x ∷ xs) q =
     elim (eq_by_cmp nat_cmp q x) as (λ b. eq_by_cmp nat_cmp q x ≡ b → has_number (cond (p x) (x ∷ filter p xs) (filter p xs)) q ≡ ((b || has_number xs q) && p q)) [
-      | true ↦ λ t. here q x p xs t (p x) (ap p (sym (tied_counts q x t))) (has_number-filter p xs q)
-      | false ↦ λ t. elsewhere q x p xs t (p x) ∙ has_number-filter p xs q
+      | true ↦ λ t. here q x p xs t (p x) (ap p (sym (tied_counts q x t))) (among-filter p xs q)
+      | false ↦ λ t. elsewhere q x p xs t (p x) ∙ among-filter p xs q
     ] refl
   where
     here : (q x : ℕ) (p : ℕ → Bool) (xs : List ℕ) → eq_by_cmp nat_cmp q x ≡ true → (b : Bool) → b ≡ p q → has_number (filter p xs) q ≡ (has_number xs q && p q) → has_number (cond b (x ∷ filter p xs) (filter p xs)) q ≡ p q
@@ -101,9 +101,9 @@ has_number-filter p (x ∷ xs) q =
     elsewhere q x p xs t true = ap (λ k. k || has_number (filter p xs) q) t
     elsewhere q x p xs t false = refl
 
-has_number-keys : (es : List (ℕ × ℕ)) (q : ℕ) → has_number (map (λ e. e.0) es) q ≡ is_some (lookup (is_at (nat_cmp q)) es)
-has_number-keys [] q = refl
-has_number-keys (e ∷ es) q = by (eq_by_cmp nat_cmp q e.0) (has_number-keys es q)
+among-keys : (es : List (ℕ × ℕ)) (q : ℕ) → has_number (map (λ e. e.0) es) q ≡ is_some (lookup (is_at (nat_cmp q)) es)
+among-keys [] q = refl
+among-keys (e ∷ es) q = by (eq_by_cmp nat_cmp q e.0) (among-keys es q)
   where
     by : (b : Bool) → has_number (map (λ e. e.0) es) q ≡ is_some (lookup (is_at (nat_cmp q)) es) → (b || has_number (map (λ e. e.0) es) q) ≡ is_some (cond b (Some e.1) (lookup (is_at (nat_cmp q)) es))
     by true rest = refl
@@ -112,14 +112,14 @@ has_number-keys (e ∷ es) q = by (eq_by_cmp nat_cmp q e.0) (has_number-keys es 
 -- the numbers that an other view's extra ones lack here
 pub missing_number : (p : ℕ) (extra others : BTreeSet ℕ) (ns : List ℕ) → ns ≡ filter (λ n. ltb (p + 1) n && not (sorted.contains nat_cmp extra n)) others.keys
     → (q : ℕ) → has_number ns q ≡ (sorted.contains nat_cmp others q && (ltb (p + 1) q && not (sorted.contains nat_cmp extra q)))
-missing_number p extra others ns is q = ap (λ l. has_number l q) is ∙ has_number-filter (λ n. ltb (p + 1) n && not (sorted.contains nat_cmp extra n)) others.keys q
+missing_number p extra others ns is q = ap (λ l. has_number l q) is ∙ among-filter (λ n. ltb (p + 1) n && not (sorted.contains nat_cmp extra n)) others.keys q
 
 -- the counts that an other view's waiting marks lack here
 pub missing_count : (p : ℕ) (waiting others : BTreeMap ℕ ℕ) (cs : List ℕ) → cs ≡ filter (λ n. ltb p n && not (is_some (tree.get nat_cmp waiting n))) (tree.keys others)
     → (q : ℕ) → has_number cs q ≡ (is_some (tree.get nat_cmp others q) && (ltb p q && not (is_some (tree.get nat_cmp waiting q))))
 missing_count p waiting others cs is q =
-    ap (λ l. has_number l q) is ∙ has_number-filter (λ n. ltb p n && not (is_some (tree.get nat_cmp waiting n))) (tree.keys others) q
-    ∙ ap (λ b. b && (ltb p q && not (is_some (tree.get nat_cmp waiting q)))) (has_number-keys others.entries q)
+    ap (λ l. has_number l q) is ∙ among-filter (λ n. ltb p n && not (is_some (tree.get nat_cmp waiting n))) (tree.keys others) q
+    ∙ ap (λ b. b && (ltb p q && not (is_some (tree.get nat_cmp waiting q)))) (among-keys others.entries q)
 
 not_true : (b : Bool) → not b ≡ true → b ≡ false
 not_true true e = absurd (true≢false (sym e))

@@ -9,7 +9,7 @@ use Rattle.std.specs.FinSet as set
 use Rattle.hk_log.specs.Items.{EntryValue, MarkValue}
 use Rattle.hk_log.specs.declared.item.Item.{Item}
 use Rattle.hk_log.specs.declared.item.Item.TheVariants.{Commit, Closed}
-use Rattle.hk_model.proofs.Streams.{later, latest, latest-append, or_zero, greatest_bound, greatest_above, together-stream_with}
+use Rattle.hk_model.proofs.Streams.{later, latest, latest-append, or_zero, greatest_bound, greatest_above, together-settled}
 use Rattle.hk_model.proofs.Repeats.{settled_itself, together_unknown}
 use Rattle.hk_model.specs.Streams.{StreamContent, stream_with, greatest_covered, together, all_together, stream_of, streams_of, stream_at, unknown}
 use Rattle.hk_model.specs.Lawful.{IsLawfulStream}
@@ -64,13 +64,13 @@ max_zero c = omega arith
 pub number_told : (s : StreamContent) → IsLawfulStream s → (n : ℕ) → together s (stream_with (set.insert set.empty n) 0 []) ≡ with_number s n
 number_told s l n =
     ap (λ x. together x (stream_with (set.insert set.empty n) 0 [])) (sym (settled_itself s l))
-    ∙ together-stream_with s.taken (set.insert set.empty n) s.closed 0 (finmap.entries s.waiting) []
+    ∙ together-settled s.taken (set.insert set.empty n) s.closed 0 (finmap.entries s.waiting) []
     ∙ (λ i. stream_with (union_one s.taken n i) (max_zero s.closed i) (no_more (finmap.entries s.waiting) i))
 
 pub mark_told : (s : StreamContent) → IsLawfulStream s → (n m : ℕ) → together s (stream_with set.empty 0 ((n, m) ∷ [])) ≡ with_mark s n m
 mark_told s l n m =
     ap (λ x. together x (stream_with set.empty 0 ((n, m) ∷ []))) (sym (settled_itself s l))
-    ∙ together-stream_with s.taken set.empty s.closed 0 (finmap.entries s.waiting) ((n, m) ∷ [])
+    ∙ together-settled s.taken set.empty s.closed 0 (finmap.entries s.waiting) ((n, m) ∷ [])
     ∙ (λ i. stream_with (union_none s.taken i) (max_zero s.closed i) (finmap.entries s.waiting ++ (n, m) ∷ []))
     ∙ settled_swap s.taken s.closed (finmap.entries s.waiting) ((n, m) ∷ [])
 

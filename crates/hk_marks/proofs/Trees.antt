@@ -12,7 +12,7 @@ use Rattle.std.specs.FinMap as finmap
 use Rattle.std.specs.FinMap.{find}
 use Rattle.std.specs.FinSet as set
 use Rattle.hk_model.specs.Streams.{covers, stream_with}
-use Rattle.hk_marks.proofs.Settled.{covers_prefix, stream_with-forget, stream_with-done, mark_covered, mark_waits}
+use Rattle.hk_marks.proofs.Settled.{covers_prefix, settled-forget, settled-done, mark_covered, mark_waits}
 use Rattle.hk_marks.specs.Seen.{up_to, taken_seen, waiting_seen, IsExtra, WaitsAbove, IsStored, stream_seen}
 use Rattle.hk_marks.specs.Steps.{with_number, with_mark}
 use Rattle.hk_model.proofs.Streams.{later, told}
@@ -164,14 +164,14 @@ pub settled_step : (p : ℕ) (t : set.FinSet nat_cmp) → ((n : ℕ) → covers 
     → stream_with t c (finmap.entries (waiting_seen m)) ≡ stream_with t d (finmap.entries (waiting_seen n))
 settled_step p t law c d m n k v below has u greater =
     let cov : covers t k ≡ true = (let e : leb k p ≡ true = grind (arith, nat_tests) in law k ∙ e) in
-    stream_with-forget t c (waiting_seen m) (waiting_seen n) k v cov (get-waiting_seen m k ∙ has)
+    settled-forget t c (waiting_seen m) (waiting_seen n) k v cov (get-waiting_seen m k ∙ has)
     (λ q. get-waiting_seen n q ∙ u.0 q ∙ ap (cond (eq_by_cmp nat_cmp k q) None) (sym (get-waiting_seen m q)))
     ∙ ap (λ x. stream_with t x (finmap.entries (waiting_seen n))) greater
 
 -- what is left waits
 pub settled_left : (p : ℕ) (t : set.FinSet nat_cmp) → ((n : ℕ) → covers t n ≡ leb n p) → (c : ℕ) (m : BTreeMap ℕ ℕ) → WaitsAbove p m
     → stream_with t c (finmap.entries (waiting_seen m)) ≡ record { taken = t; closed = c; waiting = waiting_seen m }
-settled_left p t law c m waits = stream_with-done t c (waiting_seen m) (λ q x e. let above : p < q = waits q x (sym (get-waiting_seen m q) ∙ e) in let f : leb q p ≡ false = grind (arith, nat_tests) in law q ∙ f)
+settled_left p t law c m waits = settled-done t c (waiting_seen m) (λ q x e. let above : p < q = waits q x (sym (get-waiting_seen m q) ∙ e) in let f : leb q p ≡ false = grind (arith, nat_tests) in law q ∙ f)
 
 -- what is left of the extra numbers was there
 pub fewer_extra : (n : ℕ) (extra after : BTreeSet ℕ) → sorted.Updates nat_cmp extra after n false → (q : ℕ) → sorted.contains nat_cmp after q ≡ true → sorted.contains nat_cmp extra q ≡ true

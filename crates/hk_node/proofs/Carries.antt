@@ -24,7 +24,7 @@ use Rattle.hk_node.specs.NodeContent.{NodeContent}
 use Rattle.hk_node.specs.Replay.{refusal_of, after_join, after_prune, start_content, effect, content_after_op, replay, config_of, legal_from, is_legal, join_refused}
 use Rattle.hk_node.specs.Replies.{Answers, node_reply}
 use Rattle.hk_node.specs.Carried.{IsPart, Brings, Carries, CarryLaw, IsOfPrimary}
-use Rattle.hk_node.proofs.Legal.{and_left, and_right, none_of, content_after_op-is}
+use Rattle.hk_node.proofs.Legal.{and_left, and_right, none_of, applied-is}
 use Rattle.hk_node.proofs.Holds.{join_tests, prune_tests}
 
 module _ (config : ConfigValue) (history : List Transaction) (is : IsHistory config history) where
@@ -51,23 +51,23 @@ module _ (config : ConfigValue) (history : List Transaction) (is : IsHistory con
   from_represents_for c (Join f ∷ ops) own all g h legal b s =
       let none : refusal_of c (Join f) ≡ None = none_of (refusal_of c (Join f)) (and_left (is_none (refusal_of c (Join f))) _ legal) in
       from_represents_for (content_after_op c (Join f)) ops (own ++ b.0) all (max g b.1) h (and_right (is_none (refusal_of c (Join f))) _ legal) b.3
-      (subst (RepresentsFor (own ++ b.0) (max g b.1)) (sym (content_after_op-is c (Join f) none)) (join_represents c f own b.0 g b.1 none b.2 s))
+      (subst (RepresentsFor (own ++ b.0) (max g b.1)) (sym (applied-is c (Join f) none)) (join_represents c f own b.0 g b.1 none b.2 s))
   from_represents_for c (Merge f ∷ ops) own all g h legal b s =
       let none : refusal_of c (Merge f) ≡ None = none_of (refusal_of c (Merge f)) (and_left (is_none (refusal_of c (Merge f))) _ legal) in
       from_represents_for (content_after_op c (Merge f)) ops (own ++ b.0) all (max g b.1) h (and_right (is_none (refusal_of c (Merge f))) _ legal) b.3
-      (subst (RepresentsFor (own ++ b.0) (max g b.1)) (sym (content_after_op-is c (Merge f) none)) (join_represents c f own b.0 g b.1 none b.2 s))
+      (subst (RepresentsFor (own ++ b.0) (max g b.1)) (sym (applied-is c (Merge f) none)) (join_represents c f own b.0 g b.1 none b.2 s))
   from_represents_for c (Prune n ∷ ops) own all g h legal b s =
       let none : refusal_of c (Prune n) ≡ None = none_of (refusal_of c (Prune n)) (and_left (is_none (refusal_of c (Prune n))) _ legal) in
       from_represents_for (content_after_op c (Prune n)) ops own all (max g n) h (and_right (is_none (refusal_of c (Prune n))) _ legal) b
-      (subst (RepresentsFor own (max g n)) (sym (content_after_op-is c (Prune n) none)) (prune_represents c own g n none s))
+      (subst (RepresentsFor own (max g n)) (sym (applied-is c (Prune n) none)) (prune_represents c own g n none s))
   from_represents_for c (HoldAt at ∷ ops) own all g h legal b s =
       let none : refusal_of c (HoldAt at) ≡ None = none_of (refusal_of c (HoldAt at)) (and_left (is_none (refusal_of c (HoldAt at))) _ legal) in
       from_represents_for (content_after_op c (HoldAt at)) ops own all g h (and_right (is_none (refusal_of c (HoldAt at))) _ legal) b
-      (subst (RepresentsFor own g) (sym (content_after_op-is c (HoldAt at) none)) s)
+      (subst (RepresentsFor own g) (sym (applied-is c (HoldAt at) none)) s)
   from_represents_for c (Release r t ∷ ops) own all g h legal b s =
       let none : refusal_of c (Release r t) ≡ None = none_of (refusal_of c (Release r t)) (and_left (is_none (refusal_of c (Release r t))) _ legal) in
       from_represents_for (content_after_op c (Release r t)) ops own all g h (and_right (is_none (refusal_of c (Release r t))) _ legal) b
-      (subst (RepresentsFor own g) (sym (content_after_op-is c (Release r t) none)) s)
+      (subst (RepresentsFor own g) (sym (applied-is c (Release r t) none)) s)
 
 pub carry_law_proof : CarryLaw
 carry_law_proof history [] items h legal is b = absurd (cc)

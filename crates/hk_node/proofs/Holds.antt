@@ -19,7 +19,7 @@ use Rattle.hk_node.specs.NodeContent.{NodeContent}
 use Rattle.hk_node.specs.Replay.{is_before, first_of_two, least_hold, is_hold, full_refusal, passed_hold, held_refusal, join_refused, refusal_of, after_join, after_prune, start_content, effect, content_after_op, replay, legal_from, is_legal}
 use Rattle.hk_node.specs.Lists.{hold_time, hold_times, releases, is_released}
 use Rattle.hk_node.specs.Holds.{HoldLaw}
-use Rattle.hk_node.proofs.Legal.{and_left, and_right, none_of, content_after_op-is}
+use Rattle.hk_node.proofs.Legal.{and_left, and_right, none_of, applied-is}
 
 -- where no refusal came, its test was false
 pub passed : (b : Bool) (e : Refusal) (o : Option Refusal) → (if b then Some e else o) ≡ None → (b ≡ false) × (o ≡ None)
@@ -161,7 +161,7 @@ from_held : (c : NodeContent) (ops : List Op) → legal_from c ops ≡ true → 
 from_held c [] legal held = held
 from_held c (op ∷ ops) legal held =
     let none : refusal_of c op ≡ None = none_of (refusal_of c op) (and_left (is_none (refusal_of c op)) _ legal) in
-    from_held (content_after_op c op) ops (and_right (is_none (refusal_of c op)) _ legal) (subst IsHeld (sym (content_after_op-is c op none)) (effect_held c op none held))
+    from_held (content_after_op c op) ops (and_right (is_none (refusal_of c op)) _ legal) (subst IsHeld (sym (applied-is c op none)) (effect_held c op none held))
 
 pub hold_law_proof : HoldLaw
 hold_law_proof [] legal = absurd (cc)
@@ -232,7 +232,7 @@ from_stays reader at c [] legal apart h = h
 from_stays reader at c (op ∷ ops) legal apart h =
     let none : refusal_of c op ≡ None = none_of (refusal_of c op) (and_left (is_none (refusal_of c op)) _ legal) in
     let two = or_false (releases reader at op) (is_released reader at ops) apart in
-    from_stays reader at (content_after_op c op) ops (and_right (is_none (refusal_of c op)) _ legal) two.1 (subst (Stays reader at) (sym (content_after_op-is c op none)) (effect_stays reader at c op none two.0 h))
+    from_stays reader at (content_after_op c op) ops (and_right (is_none (refusal_of c op)) _ legal) two.1 (subst (Stays reader at) (sym (applied-is c op none)) (effect_stays reader at c op none two.0 h))
 
 -- ---- the numbers of holds
 
@@ -264,7 +264,7 @@ from_count : (c : NodeContent) (ops : List Op) → legal_from c ops ≡ true →
 from_count c [] legal = omega arith
 from_count c (op ∷ ops) legal =
     let none : refusal_of c op ≡ None = none_of (refusal_of c op) (and_left (is_none (refusal_of c op)) _ legal) in
-    let one : (content_after_op c op).hold_count ≡ c.hold_count + length (hold_times (op ∷ [])) = ap (λ (d : NodeContent). d.hold_count) (content_after_op-is c op none) ∙ effect_count c op none in
+    let one : (content_after_op c op).hold_count ≡ c.hold_count + length (hold_times (op ∷ [])) = ap (λ (d : NodeContent). d.hold_count) (applied-is c op none) ∙ effect_count c op none in
     let rest = from_count (content_after_op c op) ops (and_right (is_none (refusal_of c op)) _ legal) in
     let all = one_more op ops in
     omega (arith, one, rest, all)
@@ -286,7 +286,7 @@ from_given c (op ∷ ops) k n at legal there num apart =
     let none : refusal_of c op ≡ None = none_of (refusal_of c op) (and_left (is_none (refusal_of c op)) _ legal) in
     let on : legal_from (content_after_op c op) ops ≡ true = and_right (is_none (refusal_of c op)) _ legal in
     let two = or_false (releases n at op) (is_released n at ops) apart in
-    let step = content_after_op-is c op none in
+    let step = applied-is c op none in
     let count : (content_after_op c op).hold_count ≡ c.hold_count + length (hold_times (op ∷ [])) = ap (λ (d : NodeContent). d.hold_count) step ∙ effect_count c op none in
     go op k there num step count two.1 (λ j e d. from_given (content_after_op c op) ops j n at on e d two.1) (from_stays n at (content_after_op c op) ops on two.1)
   where

@@ -29,8 +29,8 @@ pub none_of : {A : Type 0} (o : Option A) → is_none o ≡ true → o ≡ None
 none_of None h = refl
 none_of (Some e) h = absurd (cc)
 
-pub content_after_op-is : (c : NodeContent) (op : Op) → refusal_of c op ≡ None → content_after_op c op ≡ effect c op
-content_after_op-is c op h = ap (λ o. unless o c (effect c op)) h
+pub applied-is : (c : NodeContent) (op : Op) → refusal_of c op ≡ None → content_after_op c op ≡ effect c op
+applied-is c op h = ap (λ o. unless o c (effect c op)) h
 
 pub replay-snoc : (xs : List Op) (op : Op) → is_legal xs ≡ true → replay (xs ++ op ∷ []) ≡ content_after_op (replay xs) op
 replay-snoc [] op h = absurd (cc)

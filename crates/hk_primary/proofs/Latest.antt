@@ -15,7 +15,7 @@ use Rattle.hk_model.specs.Commits.{last_written}
 use Rattle.hk_model.specs.declared.write_op.WriteOp.{WriteOp}
 use Rattle.hk_model.specs.declared.write_op.WriteOp.TheVariants.{Put, Remove}
 use Rattle.hk_model.proofs.Members.{In, In-map}
-use Rattle.hk_model.proofs.Writes.{All_In, put_at, puts, puts-true, put-puts, is_written, key_tied, tied_key, get-unwritten, get-tables_after_writes, unwritten-unput}
+use Rattle.hk_model.proofs.Writes.{All_In, put_at, puts, puts-true, put-puts, is_written, key_tied, tied_key, get-unwritten, get-all_written, unwritten-unput}
 use Rattle.hk_model.proofs.Histories.{put_entry, entry_end, put_last, unput_last, last_put_last, entry_time, end_after, row_put, is_valid_row, table_unended}
 use Rattle.hk_model.proofs.Formed.{put_time}
 use Rattle.hk_model.proofs.Logs.{IsPart, fact_row, row_fact, fact_end, end_fact, row_born, row_found, end_found, find_row, find_end}
@@ -87,7 +87,7 @@ there_written config (t ∷ earlier) is k e =
         written_now t earlier k (any_written k (Put table key row) t.writes i s)
         ∙ sym (put_last earlier t k (ap (puts t.writes) s ∙ put-puts t.writes (record { table = table; key = key }) row i))
     wrote (Remove table key) i s =
-        let gone = ap (λ l. is_some (finmap.get (tables_after_writes (tables_of earlier) t.writes) l)) s ∙ ap is_some (get-tables_after_writes t.writes (tables_of earlier) is.0.keys_rise (Remove table key) i) in
+        let gone = ap (λ l. is_some (finmap.get (tables_after_writes (tables_of earlier) t.writes) l)) s ∙ ap is_some (get-all_written t.writes (tables_of earlier) is.0.keys_rise (Remove table key) i) in
         absurd (true≢false (sym e ∙ gone))
 
 -- a row whose last version ended was last written there

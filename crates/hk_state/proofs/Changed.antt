@@ -157,8 +157,8 @@ pub same_facts : (f g : FactsValue) → ((q : VersionKey) → finmap.get f.rows 
 same_facts f g rows ends = λ i. record { rows = finmap.same_map version_key_total version_key_same f.rows g.rows rows i; ends = finmap.same_map version_key_total version_key_same f.ends g.ends ends i }
 
 module _ {X : Type 0} where
-  pub get-with_added : (m : finmap.FinMap version_key_cmp X) (v : VersionKey) (x : X) (q : VersionKey) → finmap.get (with_added m v x) q ≡ cond (tied q v) (or_else (finmap.get m v) (Some x)) (finmap.get m q)
-  get-with_added m v x q = cases (finmap.get m v) refl
+  pub get-added : (m : finmap.FinMap version_key_cmp X) (v : VersionKey) (x : X) (q : VersionKey) → finmap.get (with_added m v x) q ≡ cond (tied q v) (or_else (finmap.get m v) (Some x)) (finmap.get m q)
+  get-added m v x q = cases (finmap.get m v) refl
     where
       here : (y : X) → finmap.get m v ≡ Some y → (b : Bool) → tied q v ≡ b → finmap.get m q ≡ cond b (Some y) (finmap.get m q)
       here y is true t = ap (finmap.get m) (tied_is q v t) ∙ is
@@ -227,12 +227,12 @@ module _ (m n : TablesValue) (v : VersionKey) (new : Option VersionValue) (is : 
 with_fact_is : (m n : TablesValue) (v : VersionKey) (fact : Fact) → ((q : VersionKey) → stored_version n q ≡ cond (tied q v) (Some (with_fact fact (stored_version m v))) (stored_version m q)) → with_fact_at (facts_of m) v fact ≡ facts_of n
 with_fact_is m n v (Row row) is =
     same_facts (with_fact_at (facts_of m) v (Row row)) (facts_of n)
-    (λ q. get-with_added (facts_of m).rows v row q ∙ ap (λ x. cond (tied q v) (or_else x (Some row)) (finmap.get (facts_of m).rows q)) (get_row m v) ∙ sym (row_changed m n v (Some (with_fact (Row row) (stored_version m v))) is q))
+    (λ q. get-added (facts_of m).rows v row q ∙ ap (λ x. cond (tied q v) (or_else x (Some row)) (finmap.get (facts_of m).rows q)) (get_row m v) ∙ sym (row_changed m n v (Some (with_fact (Row row) (stored_version m v))) is q))
     (λ q. sym (end_stays m n v (Some (with_fact (Row row) (stored_version m v))) is refl q))
 with_fact_is m n v (End died) is =
     same_facts (with_fact_at (facts_of m) v (End died)) (facts_of n)
     (λ q. sym (row_stays m n v (Some (with_fact (End died) (stored_version m v))) is refl q))
-    (λ q. get-with_added (facts_of m).ends v died q ∙ ap (λ x. cond (tied q v) (or_else x (Some died)) (finmap.get (facts_of m).ends q)) (get_end m v) ∙ sym (end_changed m n v (Some (with_fact (End died) (stored_version m v))) is q))
+    (λ q. get-added (facts_of m).ends v died q ∙ ap (λ x. cond (tied q v) (or_else x (Some died)) (finmap.get (facts_of m).ends q)) (get_end m v) ∙ sym (end_changed m n v (Some (with_fact (End died) (stored_version m v))) is q))
 
 conflicts_is : (m : TablesValue) (v : VersionKey) (fact : Fact) → conflicts_at (facts_of m) v fact ≡ fact_conflicts fact (stored_version m v)
 conflicts_is m v (Row row) = ap (λ x. values_conflict same_row x (Some row)) (get_row m v)

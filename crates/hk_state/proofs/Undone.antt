@@ -19,7 +19,7 @@ use Rattle.hk_state.specs.Facts.{FactsValue, with_added, with_fact_at, facts_put
 use Rattle.hk_state.specs.Indexed.{IsNew}
 use Rattle.hk_state.specs.Journal.{without_journal}
 use Rattle.hk_state.proofs.Stored.{tied, key_tied}
-use Rattle.hk_state.proofs.Changed.{get-with_added, get-without, tied_is}
+use Rattle.hk_state.proofs.Changed.{get-added, get-without, tied_is}
 
 -- ---- a longer journal
 
@@ -38,7 +38,7 @@ module _ {X : Type 0} (m : finmap.FinMap version_key_cmp X) (v : VersionKey) (no
       here q false t = refl
 
   remove_added : (x : X) → finmap.remove (with_added m v x) v ≡ m
-  remove_added x = finmap.same_map version_key_total version_key_same _ _ (λ q. get-without (with_added m v x) v q ∙ ap (cond (tied q v) None) (get-with_added m v x q) ∙ here q (tied q v) refl)
+  remove_added x = finmap.same_map version_key_total version_key_same _ _ (λ q. get-without (with_added m v x) v q ∙ ap (cond (tied q v) None) (get-added m v x q) ∙ here q (tied q v) refl)
     where
       here : (q : VersionKey) (b : Bool) → tied q v ≡ b → cond b None (cond b (or_else (finmap.get m v) (Some x)) (finmap.get m q)) ≡ finmap.get m q
       here q true t = sym (ap (finmap.get m) (tied_is q v t) ∙ none)
@@ -110,7 +110,7 @@ module _ {X : Type 0} (m : finmap.FinMap version_key_cmp X) where
 
   pub union_push : (es : List (VersionKey × X)) (v : VersionKey) (x : X) → with_added (union m (finmap.from_entries es)) v x ≡ union m (finmap.from_entries (es ++ (v, x) ∷ []))
   union_push es v x = finmap.same_map version_key_total version_key_same _ _ (λ q.
-      get-with_added (union m (finmap.from_entries es)) v x q
+      get-added (union m (finmap.from_entries es)) v x q
       ∙ here q (tied q v) refl
       ∙ ap (λ o. or_else (finmap.get m q) o) (sym (find-append version_key_cmp q es ((v, x) ∷ []) ∙ ap (λ b. or_else (find version_key_cmp q es) (cond b (Some x) None)) (key_tied q v)))
       ∙ sym (get_union (es ++ (v, x) ∷ []) q))
