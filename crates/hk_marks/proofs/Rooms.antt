@@ -188,7 +188,7 @@ module _ (p : ℕ) (extra : BTreeSet ℕ) (c : ℕ) (waiting : BTreeMap ℕ ℕ)
           waiting_there = λ q m. ap is_some (get-waiting_seen marks q) ∙ (is_lacking q m).0;
           uncovered = λ q m. covers_seen p wide widened_stored.extras q ∙ beyond q (is_missing q m).1;
           room = record {
-            numbers = λ q e. (λ i. contains-taken_seen p wide q i || (covers_seen r more right.extras q i || covers_seen p wide widened_stored.extras (q - 1) i)) ∙ has_number q (sym (contains-taken_seen r more q) ∙ e);
+            numbers = λ q e. (λ i. contains-taken_seen p wide q i || (covers_seen r more right.extras q i || covers_seen p wide widened_stored.extras (q - 1) i)) ∙ room_has_number q (sym (contains-taken_seen r more q) ∙ e);
             counts = λ q e. (λ i. covers_seen p wide widened_stored.extras q i || is_some (get-waiting_seen room q i)) ∙ has_count q (sym (ap is_some (get-waiting_seen marks q)) ∙ e);
           };
         }
@@ -208,8 +208,8 @@ module _ (p : ℕ) (extra : BTreeSet ℕ) (c : ℕ) (waiting : BTreeMap ℕ ℕ)
             beyond : (q : ℕ) → p + 1 < q → leb q p ≡ false
             beyond q l = grind (arith, nat_tests)
 
-            has_number : (q : ℕ) → ((ltb 0 q && leb q r) || sorted.contains nat_cmp more q) ≡ true → (((ltb 0 q && leb q p) || sorted.contains nat_cmp wide q) || (leb q r || leb (q - 1) p)) ≡ true
-            has_number q e =
+            room_has_number : (q : ℕ) → ((ltb 0 q && leb q r) || sorted.contains nat_cmp more q) ≡ true → (((ltb 0 q && leb q p) || sorted.contains nat_cmp wide q) || (leb q r || leb (q - 1) p)) ≡ true
+            room_has_number q e =
                 elim (leb (q - 1) p) as (λ b. leb (q - 1) p ≡ b → (((ltb 0 q && leb q p) || sorted.contains nat_cmp wide q) || (leb q r || b)) ≡ true) [
                   | true ↦ λ _. last_true ((ltb 0 q && leb q p) || sorted.contains nat_cmp wide q) (leb q r)
                   | false ↦ λ far. elim (leb q r) as (λ b. leb q r ≡ b → (((ltb 0 q && leb q p) || sorted.contains nat_cmp wide q) || (b || false)) ≡ true) [

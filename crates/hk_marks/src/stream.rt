@@ -119,7 +119,7 @@ fn close_up_to(closed: &mut Time, upto: Time)
 /// Forgets the marks that the prefix covers, and closes up to their times.
 fn settle(prefix: u64, closed: &mut Time, waiting: &mut BTreeMap<u64, Time>)
     ensures settles { (taken : set.FinSet nat_cmp) → ((n : ℕ) → covers taken n ≡ nat_le n prefix)
-        → settled taken closed.old (finmap.entries (waiting_seen waiting.old)) ≡ record { taken = taken; closed = closed.new; waiting = waiting_seen waiting.new } }
+        → stream_with taken closed.old (finmap.entries (waiting_seen waiting.old)) ≡ record { taken = taken; closed = closed.new; waiting = waiting_seen waiting.new } }
     ensures waits { WaitsAbove prefix waiting.new }
 {
     while let Some(count) = first_covered(prefix, waiting) {

@@ -83,7 +83,7 @@ impl StateHost {
     fn settle(&mut self, outcome: Result<(), Refusal>) -> Reply
         requires { self.old.ops < 2 ^ 62 }
         ensures { (before : Content) (given : Result Content Refusal) → Changes before self.old.content given outcome
-            → IsGiven (record self.old { content = before }) (settled (record self.old { content = before }) given) result self.new }
+            → IsGiven (record self.old { content = before }) (change_reply (record self.old { content = before }) given) result self.new }
     {
         match outcome {
             Ok(()) => {

@@ -133,7 +133,7 @@ fn raise_marks(
 )
     requires { (q : ℕ) → is_some (tree.get nat_cmp marks.now q) ≡ true → prefix < q → is_some (tree.get nat_cmp waiting.old q) ≡ true }
     ensures settles { (taken : set.FinSet nat_cmp) → ((n : ℕ) → covers taken n ≡ nat_le n prefix)
-        → settled taken closed.new (finmap.entries (waiting_seen waiting.new)) ≡ settled taken closed.old (finmap.entries (waiting_seen waiting.old) ++ marks.now.entries) }
+        → stream_with taken closed.new (finmap.entries (waiting_seen waiting.new)) ≡ stream_with taken closed.old (finmap.entries (waiting_seen waiting.old) ++ marks.now.entries) }
     ensures rising { tree.IsOrdered nat_cmp marks.now }
 {
     for (count, upto) in marks {
