@@ -10,12 +10,12 @@ use Rattle.hk_types.specs.declared.version_key.VersionKey.{VersionKey}
 use Rattle.hk_log.specs.Items.{EntryValue, MarkValue, IsEntry, IsMark, end_place, row_place, is_after, rise_after, was_born}
 use Rattle.hk_log.specs.declared.item.Item.{Item}
 use Rattle.hk_log.specs.declared.item.Item.TheVariants.{Commit, Closed}
-use Rattle.hk_codec.specs.Fields.{number, byte_at, number_at, bytes_at, body_at, list_at}
+use Rattle.hk_frames.specs.Fields.{number, byte_at, number_at, bytes_at, body_at, list_at}
 use Rattle.hk_codec.specs.Encoding.{end_text, row_text, head_text, entry_text, mark_text, rest_text, EndFits, RowFits, IsEncodableItem}
 use Rattle.hk_codec.specs.Reading.{HeadValue, end_at, row_at, moment_at, counted_ends_at, counted_rows_at, entry_at, mark_at, head_at, kind_at, item_at}
-use Rattle.hk_codec.proofs.Loop.{One}
-use Rattle.hk_codec.proofs.Steps.{both}
-use Rattle.hk_codec.proofs.Numbers.{wide16, wide32, wide64, number_again}
+use Rattle.hk_frames.proofs.Loop.{One}
+use Rattle.hk_frames.proofs.Steps.{both}
+use Rattle.hk_frames.proofs.Numbers.{wide16, wide32, wide64, number_again}
 use Rattle.hk_codec.proofs.Found.{EndIs}
 
 pub again16 : (n : ℕ) (rest : List ℕ) → n < 2 ^ 16 → number_at w16 (number w16 n ++ rest) ≡ Ok (n, rest)

@@ -8,11 +8,11 @@ use Rattle.hk_types.specs.declared.version_key.VersionKey.{VersionKey}
 use Rattle.hk_types.specs.declared.faults.FormFault.{FormFault}
 use Rattle.hk_types.specs.declared.faults.FormFault.TheVariants.{BadVersion, BadKind, BadStream, BadNumber, BadOrder, BadBody, WrongLength}
 use Rattle.hk_log.specs.Items.{MarkValue, IsMark, end_place, row_place, is_after, was_born}
-use Rattle.hk_codec.specs.Fields.{IsBytes, ◌>>=◌, check, number, byte_at, number_at, bytes_at, body_at}
+use Rattle.hk_frames.specs.Fields.{IsBytes, ◌>>=◌, check, number, byte_at, number_at, bytes_at, body_at}
 use Rattle.hk_codec.specs.Encoding.{end_text, row_text, head_text, mark_text, EndFits, RowFits}
 use Rattle.hk_codec.specs.Reading.{HeadValue, end_at, row_at, head_at, mark_at}
-use Rattle.hk_codec.proofs.Steps.{IsBytes-drop, IsBytes-rest, bind_ok, check_ok, ok_is, passes, neither, either, Takes, Takes-then}
-use Rattle.hk_codec.proofs.Numbers.{guard_ok, wide16, wide32, wide64, number_takes}
+use Rattle.hk_frames.proofs.Steps.{IsBytes-drop, IsBytes-rest, bind_ok, check_ok, ok_is, passes, neither, either, Takes, Takes-then}
+use Rattle.hk_frames.proofs.Numbers.{guard_ok, wide16, wide32, wide64, number_takes}
 
 pub byte_takes : (bytes : List ℕ) (x : ℕ × List ℕ) → IsBytes bytes → byte_at bytes ≡ Ok x → Takes bytes (x.0 ∷ []) x.1
 unfolding byte_at

@@ -9,8 +9,8 @@ use Rattle.hk_codec.specs.Frames.{encoding_of, Reads}
 use Rattle.hk_codec.proofs.Whole.{item_takes}
 use Rattle.hk_codec.proofs.Lengths.{rows_most, mark_rest_len, entry_rest_len}
 use Rattle.hk_codec.proofs.Again.{counts_are, item_again}
-use Rattle.hk_codec.specs.Framing.{IsFormat}
-use Rattle.hk_codec.proofs.Stream.{one_encoding_only, one_reading_only, pieces_join_up}
+use Rattle.hk_frames.specs.Framing.{IsFormat}
+use Rattle.hk_frames.proofs.Stream.{one_encoding_only, one_reading_only, pieces_join_up}
 
 at_least : (i : Item) → IsEncodableItem i → 28 ≤ length (rest_text i)
 at_least (Commit e) h = omega (arith, entry_rest_len e)

@@ -10,11 +10,11 @@ use Rattle.hk_types.specs.declared.version_key.VersionKey.{VersionKey}
 use Rattle.hk_log.specs.Items.{EntryValue, MarkValue}
 use Rattle.hk_log.specs.declared.item.Item.TheVariants.{Commit, Closed}
 use Rattle.hk_log.specs.declared.item.Item.{Item}
-use Rattle.hk_codec.specs.Fields.{number}
-use Rattle.hk_codec.specs.Framing.{encoded}
+use Rattle.hk_frames.specs.Fields.{number}
+use Rattle.hk_frames.specs.Framing.{encoded}
 use Rattle.hk_codec.specs.Frames.{encoding_of}
 use Rattle.hk_codec.specs.Encoding.{end_text, row_text, head_text, entry_text, mark_text, rest_text, RowFits}
-use Rattle.hk_codec.proofs.Numbers.{wide16, wide32, wide64, number_len}
+use Rattle.hk_frames.proofs.Numbers.{wide16, wide32, wide64, number_len}
 
 pub len16 : (n : ℕ) → length (number w16 n) ≡ 2
 len16 n = number_len w16 (2 ^ 16) wide16 n

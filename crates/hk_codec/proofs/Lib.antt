@@ -1,12 +1,6 @@
-pub mod Prefix
-pub mod Steps
-pub mod Numbers
-pub mod Loop
 pub mod Found
 pub mod Whole
 pub mod Lengths
 pub mod Again
-pub mod InFrames
-pub mod Stream
 pub mod Items
 pub mod PartsRead

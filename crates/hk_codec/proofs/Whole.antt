@@ -11,12 +11,12 @@ use Rattle.hk_types.specs.declared.faults.FormFault.TheVariants.{BadNumber, BadC
 use Rattle.hk_log.specs.Items.{EntryValue, IsEntry, end_place, row_place, is_after, rise_after, rise, was_born}
 use Rattle.hk_log.specs.declared.item.Item.{Item}
 use Rattle.hk_log.specs.declared.item.Item.TheVariants.{Commit, Closed}
-use Rattle.hk_codec.specs.Fields.{IsBytes, ◌>>=◌, check, number, number_at, list_at}
+use Rattle.hk_frames.specs.Fields.{IsBytes, ◌>>=◌, check, number, number_at, list_at}
 use Rattle.hk_codec.specs.Encoding.{end_text, row_text, head_text, entry_text, mark_text, rest_text, EndFits, RowFits, IsEncodableItem}
 use Rattle.hk_codec.specs.Reading.{HeadValue, end_at, row_at, ends_at, rows_at, moment_at, counted_ends_at, counted_rows_at, entry_at, mark_at, head_at, kind_at, item_at}
-use Rattle.hk_codec.proofs.Loop.{One}
-use Rattle.hk_codec.proofs.Steps.{bind_ok, check_ok, ok_is, neither, Takes, Takes-then}
-use Rattle.hk_codec.proofs.Numbers.{wide16, wide64, number_takes}
+use Rattle.hk_frames.proofs.Loop.{One}
+use Rattle.hk_frames.proofs.Steps.{bind_ok, check_ok, ok_is, neither, Takes, Takes-then}
+use Rattle.hk_frames.proofs.Numbers.{wide16, wide64, number_takes}
 use Rattle.hk_codec.proofs.Found.{HeadFits, head_takes, mark_takes, EndIs, end_takes, row_takes}
 
 and_true : (a b : Bool) → a ≡ true → b ≡ true → (a && b) ≡ true

@@ -7,7 +7,7 @@ use Rattle.hk_types.specs.declared.version_key.VersionKey.{VersionKey}
 use Rattle.hk_log.specs.Items.{EntryValue, MarkValue, IsEntry, IsMark}
 use Rattle.hk_log.specs.declared.item.Item.{Item}
 use Rattle.hk_log.specs.declared.item.Item.TheVariants.{Commit, Closed}
-use Rattle.hk_codec.specs.Fields.{number}
+use Rattle.hk_frames.specs.Fields.{number}
 
 -- table, key, born
 unfoldable pub end_text : VersionKey → List ℕ

@@ -6,8 +6,8 @@ use Rattle.hk_types.specs.declared.faults.FormFault.{FormFault}
 use Rattle.hk_types.specs.declared.faults.Refusal.{Refusal}
 use Rattle.hk_types.specs.declared.faults.Refusal.TheVariants as refusals
 use Rattle.hk_log.specs.declared.item.Item.{Item}
-use Rattle.hk_codec.specs.Framing.{framed, encoded, Begins}
-pub use Rattle.hk_codec.specs.Framing.{rest_of, answer, last_answer, Feeds, KeepsFault, KeepsOnMemory}
+use Rattle.hk_frames.specs.Framing.{framed, encoded, Begins}
+pub use Rattle.hk_frames.specs.Framing.{rest_of, answer, last_answer, Feeds, KeepsFault, KeepsOnMemory}
 use Rattle.hk_codec.specs.Encoding.{rest_text, IsEncodableItem}
 use Rattle.hk_codec.specs.Reading.{item_at}
 

@@ -1,5 +1,3 @@
-pub mod Fields
-pub mod Framing
 pub mod Encoding
 pub mod Reading
 pub mod Frames

@@ -8,7 +8,7 @@ use Rattle.hk_types.specs.declared.faults.FormFault.TheVariants.{BadVersion, Bad
 use Rattle.hk_log.specs.Items.{EntryValue, MarkValue, end_place, row_place, is_after}
 use Rattle.hk_log.specs.declared.item.Item.{Item}
 use Rattle.hk_log.specs.declared.item.Item.TheVariants.{Commit, Closed}
-use Rattle.hk_codec.specs.Fields.{◌>>=◌, check, byte_at, number_at, body_at, list_at}
+use Rattle.hk_frames.specs.Fields.{◌>>=◌, check, byte_at, number_at, body_at, list_at}
 
 -- an end after the place before it, of an entry with this time
 unfoldable pub end_at : ℕ → Option (ℕ × ℕ) → List ℕ → Result (VersionKey × List ℕ) FormFault

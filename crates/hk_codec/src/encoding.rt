@@ -5,18 +5,17 @@ ghost use Rattle.std.specs.Int.{w16};
 ghost use Rattle.std.specs.List.{flat_map};
 ghost use Rattle.hk_log.specs.Items.{IsMark};
 ghost use Rattle.hk_types.specs.declared.faults.Refusal.TheVariants as refusals;
-ghost use Rattle.hk_codec.specs.Fields.{number};
+ghost use Rattle.hk_frames.specs.Fields.{number};
 ghost use Rattle.hk_codec.specs.Encoding as spec;
 ghost use Rattle.hk_codec.specs.Frames.{encoding_of, Reads};
 
-use crate::fields::{put_body, put_u16, put_u32, put_u64};
-use crate::frames::LENGTH_BYTES;
 use crate::reading::{ENTRY_KIND, MARK_KIND, VERSION};
+use hk_frames::{LENGTH_BYTES, put_body, put_u16, put_u32, put_u64};
 use hk_log::{Entry, Item, Mark};
 use hk_types::{Key, Refusal, Row, StreamNo, Table, VersionKey};
 use std::alloc::AllocError;
 
-#[tactic(auto, using(std::proofs::Common::append_assoc, crate::proofs::Prefix::kept_all, crate::proofs::Prefix::kept_before), unfolding(crate::specs::Encoding::head_text))]
+#[tactic(auto, using(std::proofs::Common::append_assoc, hk_frames::proofs::Prefix::kept_all, hk_frames::proofs::Prefix::kept_before), unfolding(crate::specs::Encoding::head_text))]
 fn put_head(out: &mut Vec<u8>, kind: u8, log: u64, stream: StreamNo) -> Result<(), AllocError>
     ensures ok { OnOk result (out.new.items ≡ out.old.items ++ spec.head_text kind log stream) }
     ensures kept { OnErr result (take (length out.old.items) out.new.items ≡ out.old.items) }
@@ -27,7 +26,7 @@ fn put_head(out: &mut Vec<u8>, kind: u8, log: u64, stream: StreamNo) -> Result<(
     put_u16(out, stream.number())
 }
 
-#[tactic(auto, using(std::proofs::Common::append_assoc, crate::proofs::Prefix::kept_all, crate::proofs::Prefix::kept_before), unfolding(crate::specs::Encoding::end_text))]
+#[tactic(auto, using(std::proofs::Common::append_assoc, hk_frames::proofs::Prefix::kept_all, hk_frames::proofs::Prefix::kept_before), unfolding(crate::specs::Encoding::end_text))]
 fn put_end(out: &mut Vec<u8>, end: &VersionKey) -> Result<(), AllocError>
     ensures ok { OnOk result (out.new.items ≡ out.old.items ++ spec.end_text end.now) }
     ensures kept { OnErr result (take (length out.old.items) out.new.items ≡ out.old.items) }
@@ -37,7 +36,7 @@ fn put_end(out: &mut Vec<u8>, end: &VersionKey) -> Result<(), AllocError>
     put_u64(out, end.born.number())
 }
 
-#[tactic(auto, using(std::proofs::Common::append_assoc, crate::proofs::Prefix::kept_all, crate::proofs::Prefix::kept_before, crate::proofs::Prefix::kept_both), unfolding(crate::specs::Encoding::row_text))]
+#[tactic(auto, using(std::proofs::Common::append_assoc, hk_frames::proofs::Prefix::kept_all, hk_frames::proofs::Prefix::kept_before, hk_frames::proofs::Prefix::kept_both), unfolding(crate::specs::Encoding::row_text))]
 fn put_row(out: &mut Vec<u8>, table: Table, key: Key, row: &Row) -> Result<(), AllocError>
     ensures ok { OnOk result (out.new.items ≡ out.old.items ++ spec.row_text (table, key, row.now)) }
     ensures kept { OnErr result (take (length out.old.items) out.new.items ≡ out.old.items) }
@@ -48,7 +47,7 @@ fn put_row(out: &mut Vec<u8>, table: Table, key: Key, row: &Row) -> Result<(), A
     put_body(out, row.body())
 }
 
-#[tactic(auto, using(std::proofs::Common::append_assoc, crate::proofs::Prefix::kept_all, crate::proofs::Prefix::kept_before, crate::proofs::Prefix::kept_both))]
+#[tactic(auto, using(std::proofs::Common::append_assoc, hk_frames::proofs::Prefix::kept_all, hk_frames::proofs::Prefix::kept_before, hk_frames::proofs::Prefix::kept_both))]
 fn put_ends(out: &mut Vec<u8>, ends: &[VersionKey]) -> Result<(), AllocError>
     requires { length ends.now ≤ 1024 }
     ensures ok { OnOk result (out.new.items ≡ out.old.items ++ (number w16 (length ends.now) ++ flat_map spec.end_text ends.now)) }
@@ -61,7 +60,7 @@ fn put_ends(out: &mut Vec<u8>, ends: &[VersionKey]) -> Result<(), AllocError>
     Ok(())
 }
 
-#[tactic(auto, using(std::proofs::Common::append_assoc, crate::proofs::Prefix::kept_all, crate::proofs::Prefix::kept_before, crate::proofs::Prefix::kept_both))]
+#[tactic(auto, using(std::proofs::Common::append_assoc, hk_frames::proofs::Prefix::kept_all, hk_frames::proofs::Prefix::kept_before, hk_frames::proofs::Prefix::kept_both))]
 fn put_rows(out: &mut Vec<u8>, rows: &[(Table, Key, Row)]) -> Result<(), AllocError>
     requires { length rows.now ≤ 1024 }
     ensures ok { OnOk result (out.new.items ≡ out.old.items ++ (number w16 (length rows.now) ++ flat_map spec.row_text rows.now)) }
@@ -122,7 +121,7 @@ fn rows_len(rows: &[(Table, Key, Row)]) -> u32
     total
 }
 
-#[tactic(auto, using(std::proofs::Common::append_assoc, crate::proofs::Prefix::kept_all, crate::proofs::Prefix::kept_before, crate::proofs::Prefix::kept_both), unfolding(crate::specs::Encoding::entry_text))]
+#[tactic(auto, using(std::proofs::Common::append_assoc, hk_frames::proofs::Prefix::kept_all, hk_frames::proofs::Prefix::kept_before, hk_frames::proofs::Prefix::kept_both), unfolding(crate::specs::Encoding::entry_text))]
 fn put_entry(out: &mut Vec<u8>, entry: &Entry) -> Result<(), AllocError>
     ensures ok { OnOk result (out.new.items ≡ out.old.items ++ spec.entry_text entry.now) }
     ensures kept { OnErr result (take (length out.old.items) out.new.items ≡ out.old.items) }
@@ -133,7 +132,7 @@ fn put_entry(out: &mut Vec<u8>, entry: &Entry) -> Result<(), AllocError>
     put_rows(out, entry.rows())
 }
 
-#[tactic(auto, using(std::proofs::Common::append_assoc, crate::proofs::Prefix::kept_all, crate::proofs::Prefix::kept_before), unfolding(crate::specs::Encoding::mark_text))]
+#[tactic(auto, using(std::proofs::Common::append_assoc, hk_frames::proofs::Prefix::kept_all, hk_frames::proofs::Prefix::kept_before), unfolding(crate::specs::Encoding::mark_text))]
 fn put_mark(out: &mut Vec<u8>, mark: &Mark) -> Result<(), AllocError>
     ensures ok { OnOk result (out.new.items ≡ out.old.items ++ spec.mark_text mark.now) }
     ensures kept { OnErr result (take (length out.old.items) out.new.items ≡ out.old.items) }
@@ -163,7 +162,7 @@ fn rest_len(item: &Item) -> u32
     }
 }
 
-#[tactic(auto, using(std::proofs::Common::append_assoc, crate::proofs::Prefix::kept_all, crate::proofs::Prefix::kept_before, crate::proofs::Prefix::kept_both), unfolding(crate::specs::Encoding::rest_text))]
+#[tactic(auto, using(std::proofs::Common::append_assoc, hk_frames::proofs::Prefix::kept_all, hk_frames::proofs::Prefix::kept_before, hk_frames::proofs::Prefix::kept_both), unfolding(crate::specs::Encoding::rest_text))]
 fn put_rest(out: &mut Vec<u8>, item: &Item) -> Result<(), AllocError>
     ensures ok { OnOk result (out.new.items ≡ out.old.items ++ spec.rest_text item.now) }
     ensures kept { OnErr result (take (length out.old.items) out.new.items ≡ out.old.items) }
@@ -193,7 +192,7 @@ pub fn frame_len(item: &Item) -> u32
 
 /// Adds the item's encoding at the end, as `encode` does. The only error is out of memory; what was there
 /// before is then still the front.
-#[tactic(auto, using(std::proofs::Common::append_assoc, crate::proofs::Prefix::kept_all, crate::proofs::Prefix::kept_before, crate::proofs::Prefix::kept_both), unfolding(crate::specs::Framing::encoded))]
+#[tactic(auto, using(std::proofs::Common::append_assoc, hk_frames::proofs::Prefix::kept_all, hk_frames::proofs::Prefix::kept_before, hk_frames::proofs::Prefix::kept_both), unfolding(hk_frames::specs::Framing::encoded))]
 pub fn put_frame(out: &mut Vec<u8>, item: &Item) -> Result<(), AllocError>
     ensures ok { OnOk result (out.new.items ≡ out.old.items ++ encoding_of item.now) }
     ensures kept { OnErr result (take (length out.old.items) out.new.items ≡ out.old.items) }

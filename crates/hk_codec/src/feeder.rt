@@ -3,8 +3,7 @@
 ghost use Rattle.std.specs.Prelude.{◌≡◌, ◌≤◌, [], length, drop, IfOk};
 ghost use Rattle.hk_codec.specs.Frames.{Adds, Feeds, KeepsFault, KeepsOnMemory, rest_of, last_answer};
 
-use crate::frame_feeder::FrameFeeder;
-use crate::frames::{Progress, take_frames};
+use hk_frames::{FrameFeeder, Progress, take_frames};
 use hk_log::Item;
 use hk_types::{FormFault, Refusal};
 use std::alloc::{AllocError, Global};

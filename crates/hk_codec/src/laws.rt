@@ -3,7 +3,7 @@
 ghost use Rattle.std.specs.Prelude.{List};
 ghost use Rattle.hk_log.specs.declared.item.Item.{Item};
 ghost use Rattle.hk_codec.specs.Encoding.{IsEncodableItem};
-ghost use Rattle.hk_codec.specs.Framing.{OneEncoding, OneReading, PiecesJoin};
+ghost use Rattle.hk_frames.specs.Framing.{OneEncoding, OneReading, PiecesJoin};
 ghost use Rattle.hk_codec.specs.Frames.{encoding_of, Reads};
 
 /// No item has two encodings, no encoding is that of two items, and none begins another.

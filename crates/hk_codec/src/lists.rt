@@ -1,9 +1,9 @@
 //! The two lists of an entry.
 
-ghost use Rattle.hk_codec.specs.Fields.{GivesValue, GivesOrRunsOut};
+ghost use Rattle.hk_frames.specs.Fields.{GivesValue, GivesOrRunsOut};
 ghost use Rattle.hk_codec.specs.Reading as spec;
 
-use crate::cursor::{Cursor, ReadError};
+use hk_frames::{Cursor, ReadError};
 use hk_log::is_after;
 use hk_types::{FormFault, Key, Row, Table, Tag, Time, VersionKey};
 use std::alloc::Global;

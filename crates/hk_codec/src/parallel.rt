@@ -6,8 +6,7 @@ ghost use Rattle.hk_codec.specs.Frames.{Adds, Decodes, rest_of};
 ghost use Rattle.hk_codec.specs.Parts.{HasRead, IsPart};
 
 use crate::feeder::take_items;
-use crate::framed::Framed;
-use crate::frames::{LENGTH_BYTES, Progress, length_of};
+use hk_frames::{Framed, LENGTH_BYTES, Progress, length_of};
 use hk_log::Item;
 use hk_types::{FormFault, Refusal};
 use rayon::prelude::*;

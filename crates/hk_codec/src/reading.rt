@@ -1,11 +1,10 @@
 //! The rest of an item's frame.
 
-ghost use Rattle.hk_codec.specs.Fields.{IsBytes, GivesValue, GivesOrRunsOut};
+ghost use Rattle.hk_frames.specs.Fields.{IsBytes, GivesValue, GivesOrRunsOut};
 ghost use Rattle.hk_codec.specs.Reading as spec;
 
-use crate::cursor::{Cursor, ReadError};
-use crate::framed::Framed;
 use crate::lists::{read_ends, read_rows};
+use hk_frames::{Cursor, Framed, ReadError};
 use hk_log::{Entry, Item, MOST_WRITES, Mark};
 use hk_types::{FormFault, Key, Row, StreamNo, Table, Time, VersionKey};
 use std::alloc::Global;

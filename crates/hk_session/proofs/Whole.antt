@@ -6,9 +6,9 @@ use Rattle.hk_types.specs.declared.faults.FormFault.{FormFault}
 use Rattle.hk_types.specs.declared.faults.FormFault.TheVariants.{Truncated, BadVersion, BadKind, BadStream, BadNumber, BadOrder, BadCount, BadBody, WrongLength}
 use Rattle.hk_log.specs.Items.{end_place, row_place, is_after}
 use Rattle.hk_log.specs.declared.item.Item.{Item}
-use Rattle.hk_codec.specs.Fields.{◌>>=◌, check, byte_at, number_at, bytes_at, body_at, list_at}
+use Rattle.hk_frames.specs.Fields.{◌>>=◌, check, byte_at, number_at, bytes_at, body_at, list_at}
 use Rattle.hk_codec.specs.Reading.{end_at, row_at, moment_at, counted_ends_at, counted_rows_at, entry_at, mark_at, HeadValue, head_at, kind_at, item_at}
-use Rattle.hk_codec.specs.Framing.{len_of, rest_at, framed, value_of}
+use Rattle.hk_frames.specs.Framing.{len_of, rest_at, framed, value_of}
 use Rattle.hk_codec.specs.Frames.{frame_at}
 use Rattle.hk_wire.specs.Readers.{Reader, both, after, fault_where, mapped_value, by_kind, list_by, list_by_count, time_at}
 use Rattle.hk_wire.specs.Answers.{row_at as value_row_at}

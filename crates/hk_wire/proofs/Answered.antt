@@ -6,8 +6,8 @@ use Rattle.std.proofs.lemmas.Bool.{ltb-true, lt-ltb}
 use Rattle.hk_types.specs.Values.{RowValue}
 use Rattle.hk_types.specs.declared.faults.FormFault.TheVariants.{BadOrder}
 use Rattle.hk_model.specs.Answers.{AnswerValue, One, Rows, Number}
-use Rattle.hk_codec.specs.Fields.{IsBytes, number, number_at, body_at}
-use Rattle.hk_codec.proofs.Steps.{Takes, both as both_true}
+use Rattle.hk_frames.specs.Fields.{IsBytes, number, number_at, body_at}
+use Rattle.hk_frames.proofs.Steps.{Takes, both as both_true}
 use Rattle.hk_codec.proofs.Found.{body_takes}
 use Rattle.hk_codec.proofs.Again.{body_again}
 use Rattle.hk_wire.specs.Readers.{both, by_kind, list_by_count, Chained}

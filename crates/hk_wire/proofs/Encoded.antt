@@ -2,8 +2,8 @@
 use Rattle.std.proofs.Common.{◌≡◌, refl, ap, ◌∙◌, ℕ, List, [], ◌∷◌, ◌++◌, map, Result, Ok, Err}
 use Rattle.std.specs.List.{flat_map, AllByRecursion}
 use Rattle.hk_types.specs.declared.faults.FormFault.{FormFault}
-use Rattle.hk_codec.specs.Framing.{encoded, Begins}
-use Rattle.hk_codec.proofs.Stream.{one_value_begins, one_reading_only}
+use Rattle.hk_frames.specs.Framing.{encoded, Begins}
+use Rattle.hk_frames.proofs.Stream.{one_value_begins, one_reading_only}
 use Rattle.hk_wire.specs.declared.request.Request.{Request}
 use Rattle.hk_wire.specs.declared.reply.Reply.{Reply}
 use Rattle.hk_wire.specs.Requests.{request_seen, request_at, request_rest, request_text, IsRequest, ReadsRequests}

@@ -9,14 +9,14 @@ use Rattle.hk_types.specs.declared.faults.FormFault.TheVariants.{BadNumber, BadC
 use Rattle.hk_log.specs.declared.item.Item.{Item}
 use Rattle.hk_model.specs.declared.query.Query.{Query}
 use Rattle.hk_model.specs.declared.query.Query.TheVariants.{Get, Range, ByTag, Count}
-use Rattle.hk_codec.specs.Fields.{IsBytes, ◌>>=◌, number, number_at, bytes_at, list_at}
-use Rattle.hk_codec.specs.Framing.{IsFormat}
+use Rattle.hk_frames.specs.Fields.{IsBytes, ◌>>=◌, number, number_at, bytes_at, list_at}
+use Rattle.hk_frames.specs.Framing.{IsFormat}
 use Rattle.hk_codec.specs.Encoding.{rest_text, IsEncodableItem}
 use Rattle.hk_codec.specs.Reading.{item_at}
 use Rattle.hk_codec.specs.Frames.{encoding_of, frame_at}
-use Rattle.hk_codec.proofs.Steps.{IsBytes-drop, bind_ok, ok_is, Takes, both as both_true}
-use Rattle.hk_codec.proofs.Numbers.{guard_ok}
-use Rattle.hk_codec.proofs.InFrames.{frame_takes, frame_again}
+use Rattle.hk_frames.proofs.Steps.{IsBytes-drop, bind_ok, ok_is, Takes, both as both_true}
+use Rattle.hk_frames.proofs.Numbers.{guard_ok}
+use Rattle.hk_frames.proofs.InFrames.{frame_takes, frame_again}
 use Rattle.hk_codec.proofs.Items.{item_format}
 use Rattle.hk_wire.specs.Readers.{both, fault_where, list_by, time_at, Chained}
 use Rattle.hk_wire.specs.Messages.{message_at}

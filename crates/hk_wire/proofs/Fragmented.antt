@@ -9,8 +9,8 @@ use Rattle.hk_types.specs.declared.faults.FormFault.{FormFault}
 use Rattle.hk_types.specs.declared.faults.FormFault.TheVariants.{BadStream, BadNumber, BadOrder}
 use Rattle.hk_log.specs.Versions.{VersionValue}
 use Rattle.hk_delta.specs.Parts.{Known, follows, is_valid_end}
-use Rattle.hk_codec.specs.Fields.{IsBytes, ◌>>=◌, number, number_at, list_at}
-use Rattle.hk_codec.proofs.Steps.{bind_ok, ok_is, neither, both as both_true, Takes, Takes-then}
+use Rattle.hk_frames.specs.Fields.{IsBytes, ◌>>=◌, number, number_at, list_at}
+use Rattle.hk_frames.proofs.Steps.{bind_ok, ok_is, neither, both as both_true, Takes, Takes-then}
 use Rattle.hk_wire.specs.Readers.{Reader, both, after, fault_where, mapped_value, by_kind, list_by_count, time_at, Chained}
 use Rattle.hk_wire.specs.Answers.{row_text, row_at, RowFits}
 use Rattle.hk_wire.specs.Fragments.{WireStream, WireFragment, mark_text, extras_text, waits_text, stream_text, known_flags, known_parts, version_text, fact_text, fragment_text, number_follows, extra_at, waiting_count_at, waiting_at, stream_of, stream_at, version_at, died_at, known_of, fact_at, least_closed_of, no_stream, bounds_at, streams_at, stream_count_at, fragment_head_at, facts_at, fragment_at, ExtraFits, WaitingFits, StreamFits, VersionFits, EndFits, PartsFit, FactFits, FragmentFits, stream_is_counted, streams_are_counted, is_counted}

@@ -9,10 +9,10 @@ use Rattle.hk_types.specs.declared.faults.FormFault.{FormFault}
 use Rattle.hk_model.specs.Streams.{StreamContent, stream_at as content_at, unknown, covers}
 use Rattle.hk_model.specs.Content.{least_closed}
 use Rattle.hk_marks.specs.Steps.{with_prefix}
-use Rattle.hk_codec.specs.declared.cursor.ReadError.{ReadError}
-use Rattle.hk_codec.specs.declared.cursor.ReadError.TheVariants.{Memory, Fault}
-use Rattle.hk_codec.specs.Fields.{Fails, number_at, list_at}
-use Rattle.hk_codec.proofs.Loop.{with_front, goes_on, ends, is_done}
+use Rattle.hk_frames.specs.declared.cursor.ReadError.{ReadError}
+use Rattle.hk_frames.specs.declared.cursor.ReadError.TheVariants.{Memory, Fault}
+use Rattle.hk_frames.specs.Fields.{Fails, number_at, list_at}
+use Rattle.hk_frames.proofs.Loop.{with_front, goes_on, ends, is_done}
 use Rattle.hk_wire.specs.Readers.{time_at}
 use Rattle.hk_wire.specs.Fragments.{wire_stream_of, stream_at, no_stream, least_closed_of}
 use Rattle.hk_wire.specs.FragmentSteps.{stream_without_marks, extras_at, waits_at, streams_at, TakesExtra, TakesWaits, IsReady}

@@ -20,7 +20,7 @@ use Rattle.hk_wire.specs.Requests.{Items, Front as AskFront, Delta, Full, Ask, J
 use Rattle.hk_wire.specs.Fragments.{WireStream, WireFragment, mark_text, stream_text, parts_text, fact_text, fragment_text}
 use Rattle.hk_log.specs.Versions.{VersionValue}
 use Rattle.hk_types.specs.declared.version_key.VersionKey.{VersionKey}
-use Rattle.hk_codec.specs.Fields.{number}
+use Rattle.hk_frames.specs.Fields.{number}
 use Rattle.std.specs.Int.{w64}
 
 pub get_len : (table key : ℕ) → length (query_text (Get table key)) ≡ 11

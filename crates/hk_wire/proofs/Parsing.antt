@@ -7,10 +7,10 @@ use Rattle.std.proofs.lemmas.Bool.{ltb-false, le-ltb, le-leb, leb-true, eqb-true
 use Rattle.std.proofs.lemmas.List.{append-nil, nil_from_length}
 use Rattle.hk_types.specs.declared.faults.FormFault.{FormFault}
 use Rattle.hk_types.specs.declared.faults.FormFault.TheVariants.{BadVersion, BadNumber, WrongLength}
-use Rattle.hk_codec.specs.Fields.{IsBytes, ◌>>=◌, check, number, byte_at, number_at, list_at}
-use Rattle.hk_codec.specs.Framing.{IsFormat}
-use Rattle.hk_codec.proofs.Steps.{bind_ok, check_ok, ok_is, passes, Takes, Takes-then}
-use Rattle.hk_codec.proofs.Numbers.{IsWide, wide16, wide32, wide64, number_takes, number_again}
+use Rattle.hk_frames.specs.Fields.{IsBytes, ◌>>=◌, check, number, byte_at, number_at, list_at}
+use Rattle.hk_frames.specs.Framing.{IsFormat}
+use Rattle.hk_frames.proofs.Steps.{bind_ok, check_ok, ok_is, passes, Takes, Takes-then}
+use Rattle.hk_frames.proofs.Numbers.{IsWide, wide16, wide32, wide64, number_takes, number_again}
 use Rattle.hk_codec.proofs.Found.{byte_takes}
 use Rattle.hk_wire.specs.Readers.{Reader, both, fault_where, mapped_value, by_kind, list_by, list_by_count, time_at, Chained}
 use Rattle.hk_wire.specs.Messages.{message_text, head_at, message_at}

@@ -6,8 +6,8 @@ use Rattle.std.proofs.lemmas.List.{length-append, append-nil, take_more, map-app
 use Rattle.std.proofs.lemmas.Grind.{flat_map-append}
 use Rattle.std.proofs.lemmas.List.Concat.{flat_map-cons}
 use Rattle.hk_model.specs.Streams.{StreamContent, stream_at as content_at, unknown}
-use Rattle.hk_codec.specs.Fields.{number}
-use Rattle.hk_codec.proofs.Steps.{both as both_true}
+use Rattle.hk_frames.specs.Fields.{number}
+use Rattle.hk_frames.proofs.Steps.{both as both_true}
 use Rattle.hk_wire.specs.Fragments.{WireFragment, wire_stream_of, stream_text, fact_text, fragment_text, stream_is_counted, streams_are_counted}
 
 -- each stream of streams that can be counted can be counted

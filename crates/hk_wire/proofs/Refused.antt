@@ -7,8 +7,8 @@ use Rattle.hk_types.specs.FaultNumbers.{refusal_number}
 use Rattle.hk_types.specs.declared.faults.FormFault.TheVariants.{Truncated, TooLong, BadVersion, BadKind, BadStream, BadNumber, BadOrder, BadCount, BadBody, WrongLength}
 use Rattle.hk_types.specs.declared.faults.Refusal.{Refusal}
 use Rattle.hk_types.specs.declared.faults.Refusal.TheVariants.{Form, ForeignLog, WrongStreams, Gap, Conflict, AheadOfMark, TooOld, NotYet, WriteConflict, NoRow, TwiceWritten, TooManyWrites, NoStream, ClockFull, Held, Damaged, Unpublished, NodeFull, NoHold, NoSuch, Memory}
-use Rattle.hk_codec.specs.Fields.{IsBytes, number, number_at}
-use Rattle.hk_codec.proofs.Steps.{Takes}
+use Rattle.hk_frames.specs.Fields.{IsBytes, number, number_at}
+use Rattle.hk_frames.proofs.Steps.{Takes}
 use Rattle.hk_wire.specs.Readers.{both, fault_where, time_at}
 use Rattle.hk_wire.specs.Refusals.{refusal_fields, refusal_text, is_sent, RefusalFits, zero_at, plain_refusals, first_with, plain, plain_of, refusal_of, refusal_at}
 use Rattle.hk_wire.proofs.Parsing.{IsField, field64, time_field, both_field, barred_field, made_field, this_or, made_takes, made_again, kinded_field}

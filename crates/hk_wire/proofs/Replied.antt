@@ -4,9 +4,9 @@ use Rattle.std.specs.Int.{w64}
 use Rattle.std.proofs.lemmas.Bool.{ltb-true, ltb-false, lt-ltb, le-ltb, leb-true, le-leb, eqb-false, ne_eqb}
 use Rattle.hk_types.specs.declared.faults.FormFault.TheVariants.{BadNumber}
 use Rattle.hk_types.specs.declared.faults.Refusal.{Refusal}
-use Rattle.hk_codec.specs.Fields.{IsBytes, number, number_at}
-use Rattle.hk_codec.specs.Framing.{IsFormat}
-use Rattle.hk_codec.proofs.Steps.{Takes, neither, both as both_true}
+use Rattle.hk_frames.specs.Fields.{IsBytes, number, number_at}
+use Rattle.hk_frames.specs.Framing.{IsFormat}
+use Rattle.hk_frames.proofs.Steps.{Takes, neither, both as both_true}
 use Rattle.hk_model.specs.Answers.{AnswerValue}
 use Rattle.hk_wire.specs.Answers.{answer_at}
 use Rattle.hk_wire.specs.Fragments.{WireFragment, fragment_at}

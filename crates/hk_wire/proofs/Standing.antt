@@ -13,8 +13,8 @@ use Rattle.hk_model.specs.Fragments.{FragmentValue}
 use Rattle.hk_delta.specs.Parts.{Known, follows, is_valid_fact, is_valid_end, facts_fault, fragment_fault, checked_fragment, unless}
 use Rattle.hk_delta.specs.Parts as parts
 use Rattle.hk_delta.proofs.Sound.{listed}
-use Rattle.hk_codec.specs.Fields.{◌>>=◌, check, byte_at, number_at, list_at}
-use Rattle.hk_codec.proofs.Steps.{bind_ok, check_ok, ok_is, neither}
+use Rattle.hk_frames.specs.Fields.{◌>>=◌, check, byte_at, number_at, list_at}
+use Rattle.hk_frames.proofs.Steps.{bind_ok, check_ok, ok_is, neither}
 use Rattle.hk_wire.specs.Readers.{Reader, both, fault_where, mapped_value, by_kind, time_at}
 use Rattle.hk_wire.specs.Answers.{row_at}
 use Rattle.hk_wire.specs.Fragments.{version_at, died_at, known_of, fact_at, streams_at, fragment_head_at, fragment_at, wire_fragment_of, wire_stream_of, least_closed_of}

@@ -5,9 +5,9 @@ use Rattle.std.specs.FinMap as finmap
 use Rattle.std.proofs.lemmas.List.{get_or-set_same, set-set, set-get_or}
 use Rattle.hk_model.specs.Streams.{StreamContent, stream_at, unknown}
 use Rattle.hk_marks.specs.Steps.{with_number, with_mark}
-use Rattle.hk_codec.specs.declared.cursor.ReadError.{ReadError}
-use Rattle.hk_codec.specs.Fields.{Fails}
-use Rattle.hk_codec.proofs.Loop.{with_front, goes_on, ends, is_done}
+use Rattle.hk_frames.specs.declared.cursor.ReadError.{ReadError}
+use Rattle.hk_frames.specs.Fields.{Fails}
+use Rattle.hk_frames.proofs.Loop.{with_front, goes_on, ends, is_done}
 use Rattle.hk_types.specs.declared.faults.FormFault.{FormFault}
 use Rattle.hk_wire.specs.Readers.{Chained}
 use Rattle.hk_wire.specs.Fragments.{extra_at, waiting_at, ExtraFits, WaitingFits}

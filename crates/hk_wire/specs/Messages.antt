@@ -2,7 +2,7 @@
 use Rattle.std.specs.Prelude.{ℕ, true, false, ◌==◌, nat_lt, if◌then◌else◌, List, ◌∷◌, length, Result, Ok}
 use Rattle.hk_types.specs.declared.faults.FormFault.{FormFault}
 use Rattle.hk_types.specs.declared.faults.FormFault.TheVariants.{BadVersion, WrongLength}
-use Rattle.hk_codec.specs.Fields.{◌>>=◌, check, byte_at}
+use Rattle.hk_frames.specs.Fields.{◌>>=◌, check, byte_at}
 use Rattle.hk_wire.specs.Readers.{Reader}
 
 -- the rest of a message's frame: version 1, the kind, the body

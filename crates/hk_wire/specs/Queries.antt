@@ -4,7 +4,7 @@ use Rattle.std.specs.Int.{w16, w32, w64}
 use Rattle.hk_types.specs.declared.faults.FormFault.TheVariants.{BadNumber}
 use Rattle.hk_model.specs.declared.query.Query.{Query}
 use Rattle.hk_model.specs.declared.query.Query.TheVariants.{Get, Range, ByTag, Count}
-use Rattle.hk_codec.specs.Fields.{number, number_at}
+use Rattle.hk_frames.specs.Fields.{number, number_at}
 use Rattle.hk_wire.specs.Readers.{Reader, both, mapped_value, by_kind}
 
 -- the kind byte of a query

@@ -3,7 +3,7 @@ use Rattle.std.specs.Prelude.{ℕ, ◌^◌, Bool, nat_lt, List, [], ◌∷◌, O
 use Rattle.std.specs.Int.{w32, w64}
 use Rattle.hk_types.specs.declared.faults.FormFault.{FormFault}
 use Rattle.hk_types.specs.declared.faults.FormFault.TheVariants.{BadNumber}
-use Rattle.hk_codec.specs.Fields.{◌>>=◌, check, byte_at, number_at, list_at}
+use Rattle.hk_frames.specs.Fields.{◌>>=◌, check, byte_at, number_at, list_at}
 
 -- a reader gives a value at the front of bytes, and the bytes after it, or the first fault
 abbrev pub Reader : Type 0 → Type 0

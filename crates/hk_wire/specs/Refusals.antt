@@ -5,7 +5,7 @@ use Rattle.hk_types.specs.FaultNumbers.{refusal_number}
 use Rattle.hk_types.specs.declared.faults.FormFault.TheVariants.{Truncated, TooLong, BadVersion, BadKind, BadStream, BadNumber, BadOrder, BadCount, BadBody, WrongLength}
 use Rattle.hk_types.specs.declared.faults.Refusal.{Refusal}
 use Rattle.hk_types.specs.declared.faults.Refusal.TheVariants.{Form, ForeignLog, WrongStreams, Gap, Conflict, AheadOfMark, TooOld, NotYet, WriteConflict, NoRow, TwiceWritten, TooManyWrites, NoStream, ClockFull, Held, Damaged, Unpublished, NodeFull, NoHold, NoSuch, Memory}
-use Rattle.hk_codec.specs.Fields.{number, number_at}
+use Rattle.hk_frames.specs.Fields.{number, number_at}
 use Rattle.hk_wire.specs.Readers.{Reader, both, fault_where, mapped_value, by_kind, time_at}
 
 -- the two numbers that a refusal names, and 0 in the place of one that it doesn't

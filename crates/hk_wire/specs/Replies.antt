@@ -4,8 +4,8 @@ use Rattle.std.specs.Int.{w64}
 use Rattle.hk_types.specs.declared.faults.FormFault.{FormFault}
 use Rattle.hk_types.specs.declared.faults.Refusal.TheVariants as refusals
 use Rattle.hk_types.specs.declared.faults.FormFault.TheVariants.{BadKind, BadNumber, TooLong}
-use Rattle.hk_codec.specs.Fields.{number, number_at}
-use Rattle.hk_codec.specs.Framing.{encoded, Begins, AddsValues}
+use Rattle.hk_frames.specs.Fields.{number, number_at}
+use Rattle.hk_frames.specs.Framing.{encoded, Begins, AddsValues}
 use Rattle.hk_wire.specs.declared.reply.Reply.{Reply}
 use Rattle.hk_wire.specs.declared.reply.Reply.TheVariants as replied
 use Rattle.hk_types.specs.declared.faults.Refusal.{Refusal}

@@ -8,10 +8,10 @@ use Rattle.hk_types.specs.declared.faults.Refusal.TheVariants as refusals
 use Rattle.hk_types.specs.declared.faults.FormFault.TheVariants.{BadKind, BadNumber, BadCount, WrongLength, TooLong}
 use Rattle.hk_log.specs.declared.item.Item.{Item}
 use Rattle.hk_model.specs.declared.query.Query.{Query}
-use Rattle.hk_codec.specs.Fields.{◌>>=◌, number, number_at, bytes_at, list_at}
+use Rattle.hk_frames.specs.Fields.{◌>>=◌, number, number_at, bytes_at, list_at}
 use Rattle.hk_codec.specs.Encoding.{IsEncodableItem}
 use Rattle.hk_codec.specs.Frames.{encoding_of, frame_at}
-use Rattle.hk_codec.specs.Framing.{encoded, Begins, AddsValues}
+use Rattle.hk_frames.specs.Framing.{encoded, Begins, AddsValues}
 use Rattle.hk_wire.specs.declared.request.Request.{Request}
 use Rattle.hk_wire.specs.declared.request.Request.TheVariants as asked
 use Rattle.hk_wire.specs.Readers.{Reader, both, fault_where, mapped_value, nothing, list_by, time_at}

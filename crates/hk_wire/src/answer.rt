@@ -3,12 +3,12 @@
 ghost use Rattle.std.specs.Prelude.{◌≡◌, ◌≤◌, ◌<◌, ◌*◌, ◌^◌, ◌+◌, ◌++◌, None, true, All, length, take, OnOk, OnErr};
 ghost use Rattle.std.specs.Int.{w32};
 ghost use Rattle.std.specs.List.{flat_map};
-ghost use Rattle.hk_codec.specs.Fields.{GivesValue, GivesOrRunsOut, number};
+ghost use Rattle.hk_frames.specs.Fields.{GivesValue, GivesOrRunsOut, number};
 ghost use Rattle.hk_model.specs.Answers.{answer_seen};
 ghost use Rattle.hk_wire.specs.Answers as spec;
 
 use crate::field_len::{key_len, number_len, tag_len};
-use hk_codec::{Cursor, ReadError, put_body, put_u32, put_u64};
+use hk_frames::{Cursor, ReadError, put_body, put_u32, put_u64};
 use hk_model::Answer;
 use hk_types::{FormFault, Key, Row, Tag};
 use std::alloc::{AllocError, Global};
@@ -214,7 +214,7 @@ pub(crate) fn answer_len(answer: &Answer) -> u64
 }
 
 /// Adds a row's bytes.
-#[tactic(auto, using(std::proofs::Common::append_assoc, hk_codec::proofs::Prefix::kept_all, hk_codec::proofs::Prefix::kept_before, hk_codec::proofs::Prefix::kept_both), unfolding(crate::specs::Answers::row_text))]
+#[tactic(auto, using(std::proofs::Common::append_assoc, hk_frames::proofs::Prefix::kept_all, hk_frames::proofs::Prefix::kept_before, hk_frames::proofs::Prefix::kept_both), unfolding(crate::specs::Answers::row_text))]
 pub(crate) fn put_row(out: &mut Vec<u8>, row: &Row) -> Result<(), AllocError>
     ensures ok { OnOk result (out.new.items ≡ out.old.items ++ spec.row_text row.now) }
     ensures kept { OnErr result (take (length out.old.items) out.new.items ≡ out.old.items) }
@@ -223,7 +223,7 @@ pub(crate) fn put_row(out: &mut Vec<u8>, row: &Row) -> Result<(), AllocError>
     put_body(out, row.body())
 }
 
-#[tactic(auto, using(std::proofs::Common::append_assoc, hk_codec::proofs::Prefix::kept_all, hk_codec::proofs::Prefix::kept_before, hk_codec::proofs::Prefix::kept_both), unfolding(crate::specs::Answers::keyed_text))]
+#[tactic(auto, using(std::proofs::Common::append_assoc, hk_frames::proofs::Prefix::kept_all, hk_frames::proofs::Prefix::kept_before, hk_frames::proofs::Prefix::kept_both), unfolding(crate::specs::Answers::keyed_text))]
 fn put_keyed(out: &mut Vec<u8>, key: Key, row: &Row) -> Result<(), AllocError>
     ensures ok { OnOk result (out.new.items ≡ out.old.items ++ spec.keyed_text (key, row.now)) }
     ensures kept { OnErr result (take (length out.old.items) out.new.items ≡ out.old.items) }
@@ -232,7 +232,7 @@ fn put_keyed(out: &mut Vec<u8>, key: Key, row: &Row) -> Result<(), AllocError>
     put_row(out, row)
 }
 
-#[tactic(auto, using(std::proofs::Common::append_assoc, hk_codec::proofs::Prefix::kept_all, hk_codec::proofs::Prefix::kept_before, hk_codec::proofs::Prefix::kept_both))]
+#[tactic(auto, using(std::proofs::Common::append_assoc, hk_frames::proofs::Prefix::kept_all, hk_frames::proofs::Prefix::kept_before, hk_frames::proofs::Prefix::kept_both))]
 fn put_rows(out: &mut Vec<u8>, rows: &[(Key, Row)]) -> Result<(), AllocError>
     requires { length rows.now < 2 ^ 32 }
     ensures ok { OnOk result (out.new.items ≡ out.old.items ++ (number w32 (length rows.now) ++ flat_map spec.keyed_text rows.now)) }
@@ -246,7 +246,7 @@ fn put_rows(out: &mut Vec<u8>, rows: &[(Key, Row)]) -> Result<(), AllocError>
 }
 
 /// Adds an answer's bytes.
-#[tactic(auto, using(std::proofs::Common::append_assoc, hk_codec::proofs::Prefix::kept_all, hk_codec::proofs::Prefix::kept_before, hk_codec::proofs::Prefix::kept_both), unfolding(crate::specs::Answers::answer_text))]
+#[tactic(auto, using(std::proofs::Common::append_assoc, hk_frames::proofs::Prefix::kept_all, hk_frames::proofs::Prefix::kept_before, hk_frames::proofs::Prefix::kept_both), unfolding(crate::specs::Answers::answer_text))]
 pub(crate) fn put_answer(out: &mut Vec<u8>, answer: &Answer) -> Result<(), AllocError>
     requires { spec.answer_keeps_rules (answer_seen answer.now) ≡ true }
     ensures ok { OnOk result (out.new.items ≡ out.old.items ++ spec.answer_text (answer_seen answer.now)) }

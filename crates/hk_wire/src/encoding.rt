@@ -4,7 +4,7 @@ ghost use Rattle.std.specs.Prelude.{◌≡◌, ◌≤◌, ◌⊎◌, ◌++◌, �
 ghost use Rattle.std.specs.Int.{w32};
 ghost use Rattle.hk_types.specs.declared.faults.FormFault.TheVariants as faults;
 ghost use Rattle.hk_types.specs.declared.faults.Refusal.TheVariants as refusals;
-ghost use Rattle.hk_codec.specs.Fields.{number};
+ghost use Rattle.hk_frames.specs.Fields.{number};
 ghost use Rattle.hk_wire.specs.Messages.{message_text};
 ghost use Rattle.hk_wire.specs.Requests as requests;
 
@@ -14,12 +14,12 @@ use crate::head::{MOST_REST_BYTES, VERSION};
 use crate::items::{MOST_ITEMS, items_len, put_items};
 use crate::query::{put_query, query_len};
 use crate::request::{ASK, DELTA, FRONT, FULL, ITEMS, JOIN_THIS, MERGE_THIS, PRUNE, Request};
-use hk_codec::{put_u32, put_u64};
+use hk_frames::{put_u32, put_u64};
 use hk_types::{FormFault, Refusal};
 use std::alloc::AllocError;
 
 /// Adds the length of a rest, the version and the kind.
-#[tactic(auto, using(std::proofs::Common::append_assoc, hk_codec::proofs::Prefix::kept_all, hk_codec::proofs::Prefix::kept_before, hk_codec::proofs::Prefix::kept_both))]
+#[tactic(auto, using(std::proofs::Common::append_assoc, hk_frames::proofs::Prefix::kept_all, hk_frames::proofs::Prefix::kept_before, hk_frames::proofs::Prefix::kept_both))]
 pub(crate) fn put_head(out: &mut Vec<u8>, rest: u32, kind: u8) -> Result<(), AllocError>
     ensures ok { OnOk result (out.new.items ≡ out.old.items ++ (number w32 rest ++ message_text kind [])) }
     ensures kept { OnErr result (take (length out.old.items) out.new.items ≡ out.old.items) }
@@ -77,7 +77,7 @@ fn request_len(request: &Request) -> Option<u32>
 }
 
 /// Adds a request's frame, whose rest has so many bytes.
-#[tactic(auto, using(std::proofs::Common::append_assoc, hk_codec::proofs::Prefix::kept_all, hk_codec::proofs::Prefix::kept_before, hk_codec::proofs::Prefix::kept_both), unfolding(hk_codec::specs::Framing::encoded, crate::specs::Requests::request_rest))]
+#[tactic(auto, using(std::proofs::Common::append_assoc, hk_frames::proofs::Prefix::kept_all, hk_frames::proofs::Prefix::kept_before, hk_frames::proofs::Prefix::kept_both), unfolding(hk_frames::specs::Framing::encoded, crate::specs::Requests::request_rest))]
 fn put_request(out: &mut Vec<u8>, request: &Request, rest: u32) -> Result<(), AllocError>
     requires len { rest ≡ length (requests.request_rest (requests.request_seen request.now)) }
     requires rules { requests.keeps_rules (requests.request_seen request.now) ≡ true }

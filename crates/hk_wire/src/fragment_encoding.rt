@@ -3,7 +3,7 @@
 ghost use Rattle.std.specs.Prelude.{◌≡◌, ◌≤◌, ◌*◌, ◌++◌, ◌^◌, ◌<◌, None, true, All, length, map, take, OnOk, OnErr};
 ghost use Rattle.std.specs.Int.{w32};
 ghost use Rattle.std.specs.List.{flat_map};
-ghost use Rattle.hk_codec.specs.Fields.{number};
+ghost use Rattle.hk_frames.specs.Fields.{number};
 ghost use Rattle.hk_types.specs.declared.version_key.VersionKey.{VersionKey};
 ghost use Rattle.hk_model.specs.Streams.{stream_at};
 ghost use Rattle.hk_wire.specs.Answers.{PresentFits};
@@ -11,7 +11,7 @@ ghost use Rattle.hk_wire.specs.Fragments as spec;
 
 use crate::answer::{put_row, row_len};
 use crate::field_len::{key_len, number_len, table_len, time_len};
-use hk_codec::{put_u16, put_u32, put_u64};
+use hk_frames::{put_u16, put_u32, put_u64};
 use hk_delta::Fragment;
 use hk_log::Version;
 use hk_marks::Got;
@@ -174,7 +174,7 @@ pub(crate) fn fragment_len(fragment: &Fragment) -> u64
 }
 
 /// Adds the numbers above the prefix that are taken, behind their count.
-#[tactic(auto, using(std::proofs::Common::append_assoc, hk_codec::proofs::Prefix::kept_all, hk_codec::proofs::Prefix::kept_before, hk_codec::proofs::Prefix::kept_both))]
+#[tactic(auto, using(std::proofs::Common::append_assoc, hk_frames::proofs::Prefix::kept_all, hk_frames::proofs::Prefix::kept_before, hk_frames::proofs::Prefix::kept_both))]
 fn put_extras(out: &mut Vec<u8>, got: &Got, s: StreamNo) -> Result<(), AllocError>
     requires known { s ≤ length got.now }
     requires counted { spec.stream_is_counted (spec.wire_stream_of (stream_at got.now s)) ≡ true }
@@ -189,7 +189,7 @@ fn put_extras(out: &mut Vec<u8>, got: &Got, s: StreamNo) -> Result<(), AllocErro
 }
 
 /// Adds a waiting mark.
-#[tactic(auto, using(std::proofs::Common::append_assoc, hk_codec::proofs::Prefix::kept_all, hk_codec::proofs::Prefix::kept_before, hk_codec::proofs::Prefix::kept_both))]
+#[tactic(auto, using(std::proofs::Common::append_assoc, hk_frames::proofs::Prefix::kept_all, hk_frames::proofs::Prefix::kept_before, hk_frames::proofs::Prefix::kept_both))]
 fn put_mark(out: &mut Vec<u8>, count: u64, upto: Time) -> Result<(), AllocError>
     ensures ok { OnOk result (out.new.items ≡ out.old.items ++ spec.mark_text (count, upto)) }
     ensures kept { OnErr result (take (length out.old.items) out.new.items ≡ out.old.items) }
@@ -199,7 +199,7 @@ fn put_mark(out: &mut Vec<u8>, count: u64, upto: Time) -> Result<(), AllocError>
 }
 
 /// Adds the marks that wait, behind their count.
-#[tactic(auto, using(std::proofs::Common::append_assoc, hk_codec::proofs::Prefix::kept_all, hk_codec::proofs::Prefix::kept_before, hk_codec::proofs::Prefix::kept_both))]
+#[tactic(auto, using(std::proofs::Common::append_assoc, hk_frames::proofs::Prefix::kept_all, hk_frames::proofs::Prefix::kept_before, hk_frames::proofs::Prefix::kept_both))]
 fn put_waits(out: &mut Vec<u8>, got: &Got, s: StreamNo) -> Result<(), AllocError>
     requires known { s ≤ length got.now }
     requires counted { spec.stream_is_counted (spec.wire_stream_of (stream_at got.now s)) ≡ true }
@@ -222,7 +222,7 @@ fn prefix(got: &Got, s: StreamNo) -> u64
 }
 
 /// Adds what is told of a stream.
-#[tactic(auto, using(std::proofs::Common::append_assoc, hk_codec::proofs::Prefix::kept_all, hk_codec::proofs::Prefix::kept_before, hk_codec::proofs::Prefix::kept_both), unfolding(crate::specs::Fragments::stream_text))]
+#[tactic(auto, using(std::proofs::Common::append_assoc, hk_frames::proofs::Prefix::kept_all, hk_frames::proofs::Prefix::kept_before, hk_frames::proofs::Prefix::kept_both), unfolding(crate::specs::Fragments::stream_text))]
 fn put_stream(out: &mut Vec<u8>, got: &Got, s: StreamNo) -> Result<(), AllocError>
     requires known { s ≤ length got.now }
     requires counted { spec.stream_is_counted (spec.wire_stream_of (stream_at got.now s)) ≡ true }
@@ -236,7 +236,7 @@ fn put_stream(out: &mut Vec<u8>, got: &Got, s: StreamNo) -> Result<(), AllocErro
 }
 
 /// Adds what is told of the streams.
-#[tactic(auto, using(std::proofs::Common::append_assoc, hk_codec::proofs::Prefix::kept_all, hk_codec::proofs::Prefix::kept_before, hk_codec::proofs::Prefix::kept_both))]
+#[tactic(auto, using(std::proofs::Common::append_assoc, hk_frames::proofs::Prefix::kept_all, hk_frames::proofs::Prefix::kept_before, hk_frames::proofs::Prefix::kept_both))]
 fn put_streams(out: &mut Vec<u8>, got: &Got) -> Result<(), AllocError>
     requires { spec.streams_are_counted (map spec.wire_stream_of got.now) ≡ true }
     ensures ok { OnOk result (out.new.items ≡ out.old.items ++ flat_map spec.stream_text (map spec.wire_stream_of got.now)) }
@@ -264,7 +264,7 @@ fn flags(known: &Version) -> u8
 }
 
 /// Adds what is known of a version.
-#[tactic(auto, using(std::proofs::Common::append_assoc, hk_codec::proofs::Prefix::kept_all, hk_codec::proofs::Prefix::kept_before, hk_codec::proofs::Prefix::kept_both))]
+#[tactic(auto, using(std::proofs::Common::append_assoc, hk_frames::proofs::Prefix::kept_all, hk_frames::proofs::Prefix::kept_before, hk_frames::proofs::Prefix::kept_both))]
 fn put_known(out: &mut Vec<u8>, known: &Version) -> Result<(), AllocError>
     ensures ok { OnOk result (out.new.items ≡ out.old.items ++ spec.known_parts known.now) }
     ensures kept { OnErr result (take (length out.old.items) out.new.items ≡ out.old.items) }
@@ -279,7 +279,7 @@ fn put_known(out: &mut Vec<u8>, known: &Version) -> Result<(), AllocError>
 }
 
 /// Adds a version.
-#[tactic(auto, using(std::proofs::Common::append_assoc, hk_codec::proofs::Prefix::kept_all, hk_codec::proofs::Prefix::kept_before, hk_codec::proofs::Prefix::kept_both))]
+#[tactic(auto, using(std::proofs::Common::append_assoc, hk_frames::proofs::Prefix::kept_all, hk_frames::proofs::Prefix::kept_before, hk_frames::proofs::Prefix::kept_both))]
 fn put_version(out: &mut Vec<u8>, version: VersionKey) -> Result<(), AllocError>
     ensures ok { OnOk result (out.new.items ≡ out.old.items ++ spec.version_text version) }
     ensures kept { OnErr result (take (length out.old.items) out.new.items ≡ out.old.items) }
@@ -290,7 +290,7 @@ fn put_version(out: &mut Vec<u8>, version: VersionKey) -> Result<(), AllocError>
 }
 
 /// Adds a fact.
-#[tactic(auto, using(std::proofs::Common::append_assoc, hk_codec::proofs::Prefix::kept_all, hk_codec::proofs::Prefix::kept_before, hk_codec::proofs::Prefix::kept_both), unfolding(crate::specs::Fragments::fact_text))]
+#[tactic(auto, using(std::proofs::Common::append_assoc, hk_frames::proofs::Prefix::kept_all, hk_frames::proofs::Prefix::kept_before, hk_frames::proofs::Prefix::kept_both), unfolding(crate::specs::Fragments::fact_text))]
 fn put_fact(out: &mut Vec<u8>, version: VersionKey, known: &Version) -> Result<(), AllocError>
     ensures ok { OnOk result (out.new.items ≡ out.old.items ++ spec.fact_text (version, known.now)) }
     ensures kept { OnErr result (take (length out.old.items) out.new.items ≡ out.old.items) }
@@ -301,7 +301,7 @@ fn put_fact(out: &mut Vec<u8>, version: VersionKey, known: &Version) -> Result<(
 }
 
 /// Adds the facts behind their count.
-#[tactic(auto, using(std::proofs::Common::append_assoc, hk_codec::proofs::Prefix::kept_all, hk_codec::proofs::Prefix::kept_before, hk_codec::proofs::Prefix::kept_both))]
+#[tactic(auto, using(std::proofs::Common::append_assoc, hk_frames::proofs::Prefix::kept_all, hk_frames::proofs::Prefix::kept_before, hk_frames::proofs::Prefix::kept_both))]
 fn put_facts(out: &mut Vec<u8>, facts: &[(VersionKey, Version)]) -> Result<(), AllocError>
     requires { length facts.now ≤ 4294967295 }
     ensures ok { OnOk result (out.new.items ≡ out.old.items ++ (number w32 (length facts.now) ++ flat_map spec.fact_text facts.now)) }
@@ -315,7 +315,7 @@ fn put_facts(out: &mut Vec<u8>, facts: &[(VersionKey, Version)]) -> Result<(), A
 }
 
 /// Adds a fragment's bytes.
-#[tactic(auto, using(std::proofs::Common::append_assoc, hk_codec::proofs::Prefix::kept_all, hk_codec::proofs::Prefix::kept_before, hk_codec::proofs::Prefix::kept_both), unfolding(crate::specs::Fragments::fragment_text))]
+#[tactic(auto, using(std::proofs::Common::append_assoc, hk_frames::proofs::Prefix::kept_all, hk_frames::proofs::Prefix::kept_before, hk_frames::proofs::Prefix::kept_both), unfolding(crate::specs::Fragments::fragment_text))]
 pub(crate) fn put_fragment(out: &mut Vec<u8>, fragment: &Fragment) -> Result<(), AllocError>
     requires { spec.is_counted (spec.wire_fragment_of fragment.now) ≡ true }
     ensures ok { OnOk result (out.new.items ≡ out.old.items ++ spec.fragment_text (spec.wire_fragment_of fragment.now)) }

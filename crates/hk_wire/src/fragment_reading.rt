@@ -1,7 +1,7 @@
 //! Fragments, read from the front of bytes.
 
 ghost use Rattle.std.specs.Prelude.{◌≡◌, ◌≤◌, ◌^◌, ◌<◌, ◌-◌, ◌==◌, ◌||◌, nat_le, None, Ok, true, length, map, replicate, slice_set, OnOk, IfOk, IfErr};
-ghost use Rattle.hk_codec.specs.Fields.{GivesValue, GivesOrRunsOut, Fails};
+ghost use Rattle.hk_frames.specs.Fields.{GivesValue, GivesOrRunsOut, Fails};
 ghost use Rattle.hk_model.specs.Streams.{stream_at, unknown};
 ghost use Rattle.hk_model.specs.Content.{least_closed};
 ghost use Rattle.hk_delta.specs.Parts as parts;
@@ -11,7 +11,7 @@ ghost use Rattle.hk_wire.specs.Requests.{whole_at};
 
 use crate::answer::read_row;
 use crate::head::read_time;
-use hk_codec::{Cursor, ReadError};
+use hk_frames::{Cursor, ReadError};
 use hk_delta::Fragment;
 use hk_log::Version;
 use hk_marks::Got;

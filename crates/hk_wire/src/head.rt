@@ -2,11 +2,11 @@
 
 ghost use Rattle.std.specs.Prelude.{◌≡◌, length, nat_lt, true};
 ghost use Rattle.hk_types.specs.declared.faults.FormFault.TheVariants.{WrongLength};
-ghost use Rattle.hk_codec.specs.Fields.{GivesValue, check};
+ghost use Rattle.hk_frames.specs.Fields.{GivesValue, check};
 ghost use Rattle.hk_wire.specs.Messages.{head_at};
 ghost use Rattle.hk_wire.specs.Readers.{time_at};
 
-use hk_codec::Cursor;
+use hk_frames::Cursor;
 use hk_types::{FormFault, Time};
 
 /// The version byte.

@@ -3,12 +3,13 @@
 ghost use Rattle.std.specs.Prelude.{◌≡◌, ◌≤◌, ◌*◌, ◌++◌, None, All, length, take, OnOk, OnErr};
 ghost use Rattle.std.specs.Int.{w32};
 ghost use Rattle.std.specs.List.{flat_map};
-ghost use Rattle.hk_codec.specs.Fields.{GivesValue, GivesOrRunsOut, number};
+ghost use Rattle.hk_frames.specs.Fields.{GivesValue, GivesOrRunsOut, number};
 ghost use Rattle.hk_codec.specs.Frames.{encoding_of};
 ghost use Rattle.hk_codec.specs.Encoding.{IsEncodableItem};
 ghost use Rattle.hk_wire.specs.Requests as spec;
 
-use hk_codec::{Cursor, ReadError, frame_len, next_frame, put_frame, put_u32};
+use hk_codec::{frame_len, put_frame};
+use hk_frames::{Cursor, ReadError, next_frame, put_u32};
 use hk_log::Item;
 use hk_types::FormFault;
 use std::alloc::{AllocError, Global};
@@ -82,7 +83,7 @@ pub(crate) fn items_len(items: &[Item]) -> u64
 }
 
 /// Adds the items behind their count.
-#[tactic(auto, using(std::proofs::Common::append_assoc, hk_codec::proofs::Prefix::kept_all, hk_codec::proofs::Prefix::kept_before, hk_codec::proofs::Prefix::kept_both))]
+#[tactic(auto, using(std::proofs::Common::append_assoc, hk_frames::proofs::Prefix::kept_all, hk_frames::proofs::Prefix::kept_before, hk_frames::proofs::Prefix::kept_both))]
 pub(crate) fn put_items(out: &mut Vec<u8>, items: &[Item]) -> Result<(), AllocError>
     requires { length items.now ≤ 65536 }
     ensures ok { OnOk result (out.new.items ≡ out.old.items ++ (number w32 (length items.now) ++ flat_map encoding_of items.now)) }

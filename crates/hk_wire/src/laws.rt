@@ -4,7 +4,7 @@ ghost use Rattle.std.specs.Prelude.{◌≡◌, ◌++◌, List, ℕ, Result, Ok, 
 ghost use Rattle.hk_types.specs.declared.faults.FormFault.{FormFault};
 ghost use Rattle.hk_wire.specs.declared.request.Request.{Request};
 ghost use Rattle.hk_wire.specs.declared.reply.Reply.{Reply};
-ghost use Rattle.hk_codec.specs.Framing.{OneEncoding, OneReading, PiecesJoin};
+ghost use Rattle.hk_frames.specs.Framing.{OneEncoding, OneReading, PiecesJoin};
 ghost use Rattle.hk_wire.specs.Fragments.{wire_fragment_of};
 ghost use Rattle.hk_wire.specs.Requests.{RequestValue, IsRequest, request_seen, request_text, ReadsRequests};
 ghost use Rattle.hk_wire.specs.Replies.{ReplyValue, IsReply, reply_seen, reply_text, ReadsReplies};

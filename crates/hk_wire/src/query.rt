@@ -1,11 +1,11 @@
 //! Queries as bytes.
 
 ghost use Rattle.std.specs.Prelude.{◌≡◌, ◌≤◌, ◌++◌, length, take, OnOk, OnErr};
-ghost use Rattle.hk_codec.specs.Fields.{GivesValue};
+ghost use Rattle.hk_frames.specs.Fields.{GivesValue};
 ghost use Rattle.hk_wire.specs.Queries as spec;
 
 use crate::field_len::{key_len, table_len, tag_len};
-use hk_codec::{Cursor, put_u16, put_u32, put_u64};
+use hk_frames::{Cursor, put_u16, put_u32, put_u64};
 use hk_model::Query;
 use hk_types::{FormFault, Key, Table, Tag};
 use std::alloc::AllocError;
@@ -76,7 +76,7 @@ pub(crate) fn query_len(query: &Query) -> u64
 }
 
 /// Adds a query's bytes.
-#[tactic(auto, using(std::proofs::Common::append_assoc, hk_codec::proofs::Prefix::kept_all, hk_codec::proofs::Prefix::kept_before, hk_codec::proofs::Prefix::kept_both), unfolding(crate::specs::Queries::query_text))]
+#[tactic(auto, using(std::proofs::Common::append_assoc, hk_frames::proofs::Prefix::kept_all, hk_frames::proofs::Prefix::kept_before, hk_frames::proofs::Prefix::kept_both), unfolding(crate::specs::Queries::query_text))]
 pub(crate) fn put_query(out: &mut Vec<u8>, query: &Query) -> Result<(), AllocError>
     ensures ok { OnOk result (out.new.items ≡ out.old.items ++ spec.query_text query.now) }
     ensures kept { OnErr result (take (length out.old.items) out.new.items ≡ out.old.items) }

@@ -1,12 +1,12 @@
 //! Refusals as bytes.
 
 ghost use Rattle.std.specs.Prelude.{◌≡◌, ◌≤◌, ◌++◌, length, take, OnOk, OnErr};
-ghost use Rattle.hk_codec.specs.Fields.{GivesValue};
+ghost use Rattle.hk_frames.specs.Fields.{GivesValue};
 ghost use Rattle.hk_wire.specs.Refusals as spec;
 
 use crate::field_len::{number_len, time_len};
 use crate::head::read_time;
-use hk_codec::{Cursor, put_u64};
+use hk_frames::{Cursor, put_u64};
 use hk_types::{FormFault, Refusal};
 use std::alloc::AllocError;
 
@@ -157,7 +157,7 @@ fn pair(refusal: Refusal) -> (u64, u64)
 }
 
 /// Adds a refusal's bytes.
-#[tactic(auto, using(std::proofs::Common::append_assoc, hk_codec::proofs::Prefix::kept_all, hk_codec::proofs::Prefix::kept_before, hk_codec::proofs::Prefix::kept_both), unfolding(crate::specs::Refusals::refusal_text))]
+#[tactic(auto, using(std::proofs::Common::append_assoc, hk_frames::proofs::Prefix::kept_all, hk_frames::proofs::Prefix::kept_before, hk_frames::proofs::Prefix::kept_both), unfolding(crate::specs::Refusals::refusal_text))]
 pub(crate) fn put_refusal(out: &mut Vec<u8>, refusal: &Refusal) -> Result<(), AllocError>
     ensures ok { OnOk result (out.new.items ≡ out.old.items ++ spec.refusal_text refusal.now) }
     ensures kept { OnErr result (take (length out.old.items) out.new.items ≡ out.old.items) }

@@ -1,13 +1,13 @@
 //! Replies.
 
-ghost use Rattle.hk_codec.specs.Fields.{GivesValue, GivesOrRunsOut};
+ghost use Rattle.hk_frames.specs.Fields.{GivesValue, GivesOrRunsOut};
 ghost use Rattle.hk_wire.specs.Replies as spec;
 
 use crate::answer::read_answer;
 use crate::fragment_reading::read_fragment;
 use crate::head::{read_end, read_head, read_time};
 use crate::refusal::read_refusal;
-use hk_codec::{Cursor, Framed, ReadError};
+use hk_frames::{Cursor, Framed, ReadError};
 use hk_delta::Fragment;
 use hk_model::{Answer, Front};
 use hk_types::{FormFault, LAST_TIME, Refusal};

@@ -12,7 +12,7 @@ use crate::fragment_encoding::{fragment_len, is_counted, put_fragment};
 use crate::head::MOST_REST_BYTES;
 use crate::refusal::{is_sent, put_refusal, refusal_len};
 use crate::reply::{ANSWER, DONE, FRAGMENT, FRONT, REFUSED, Reply};
-use hk_codec::put_u64;
+use hk_frames::put_u64;
 use hk_types::{FormFault, LAST_TIME, Refusal};
 use std::alloc::AllocError;
 
@@ -61,7 +61,7 @@ fn reply_len(reply: &Reply) -> Option<u32>
 }
 
 /// Adds a reply's frame, whose rest has so many bytes.
-#[tactic(auto, using(std::proofs::Common::append_assoc, hk_codec::proofs::Prefix::kept_all, hk_codec::proofs::Prefix::kept_before, hk_codec::proofs::Prefix::kept_both), unfolding(hk_codec::specs::Framing::encoded, crate::specs::Replies::reply_rest))]
+#[tactic(auto, using(std::proofs::Common::append_assoc, hk_frames::proofs::Prefix::kept_all, hk_frames::proofs::Prefix::kept_before, hk_frames::proofs::Prefix::kept_both), unfolding(hk_frames::specs::Framing::encoded, crate::specs::Replies::reply_rest))]
 fn put_reply(out: &mut Vec<u8>, reply: &Reply, rest: u32) -> Result<(), AllocError>
     requires len { rest ≡ length (replies.reply_rest (replies.reply_seen reply.now)) }
     requires rules { replies.keeps_rules (replies.reply_seen reply.now) ≡ true }

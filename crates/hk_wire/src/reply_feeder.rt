@@ -3,11 +3,11 @@
 ghost use Rattle.std.specs.Prelude.{◌≡◌, ◌++◌, ◌⊎◌, List, [], ℕ};
 ghost use Rattle.hk_types.specs.declared.faults.FormFault.{FormFault};
 ghost use Rattle.hk_types.specs.declared.faults.Refusal.TheVariants as refusals;
-ghost use Rattle.hk_codec.specs.Framing.{Feeds, KeepsFault, KeepsOnMemory, last_answer};
+ghost use Rattle.hk_frames.specs.Framing.{Feeds, KeepsFault, KeepsOnMemory, last_answer};
 ghost use Rattle.hk_wire.specs.Replies.{AddsReplies};
 
 use crate::reply::Reply;
-use hk_codec::FrameFeeder;
+use hk_frames::FrameFeeder;
 use hk_types::Refusal;
 use std::alloc::Global;
 use std::marker::Model;

@@ -1,13 +1,13 @@
 //! Requests.
 
-ghost use Rattle.hk_codec.specs.Fields.{GivesOrRunsOut};
+ghost use Rattle.hk_frames.specs.Fields.{GivesOrRunsOut};
 ghost use Rattle.hk_wire.specs.Requests as spec;
 
 use crate::fragment_reading::{read_fragment, read_whole};
 use crate::head::{read_end, read_head, read_time};
 use crate::items::read_items;
 use crate::query::read_query;
-use hk_codec::{Cursor, Framed, ReadError};
+use hk_frames::{Cursor, Framed, ReadError};
 use hk_delta::Fragment;
 use hk_log::Item;
 use hk_model::Query;

@@ -2,7 +2,7 @@ use Rattle.std.proofs.Common.{◌++◌, length, append_assoc}
 use Rattle.std.specs.Int.{w16}
 use Rattle.std.specs.List.{flat_map}
 use Rattle.std.proofs.lemmas.Result.{IfOk-equal}
-use Rattle.hk_codec.specs.Fields.{number}
+use Rattle.hk_frames.specs.Fields.{number}
 use Rattle.hk_codec.specs.Encoding.{row_text, entry_text}
 use Rattle.hk_codec.proofs.encoding.put_entry.Goals as goal
 

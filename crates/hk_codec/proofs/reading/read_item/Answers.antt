@@ -1,5 +1,5 @@
 use Rattle.std.proofs.Common.{arith}
-use Rattle.hk_codec.specs.Fields.{IsBytes}
+use Rattle.hk_frames.specs.Fields.{IsBytes}
 use Rattle.hk_codec.proofs.Found.{head_takes}
 use Rattle.hk_codec.proofs.reading.read_item.Goals as goal
 

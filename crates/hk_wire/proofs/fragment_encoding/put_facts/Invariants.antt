@@ -1,7 +1,7 @@
 use Rattle.std.proofs.Common.{◌≡◌, ◌++◌, length, take}
 use Rattle.std.specs.Int.{w32}
 use Rattle.std.specs.List.{flat_map}
-use Rattle.hk_codec.specs.Fields.{number}
+use Rattle.hk_frames.specs.Fields.{number}
 use Rattle.hk_wire.specs.Fragments as spec
 use Rattle.hk_wire.proofs.fragment_encoding.put_facts.Given as goal
 

@@ -1,7 +1,7 @@
 use Rattle.std.proofs.Common.{◌≡◌, ◌++◌, length, take}
 use Rattle.std.specs.Int.{w32}
 use Rattle.std.specs.List.{flat_map}
-use Rattle.hk_codec.specs.Fields.{number}
+use Rattle.hk_frames.specs.Fields.{number}
 use Rattle.hk_codec.specs.Frames.{encoding_of}
 use Rattle.hk_wire.proofs.items.put_items.Given as goal
 

@@ -7,10 +7,10 @@ use Rattle.std.proofs.lemmas.Grind.{flat_map-append}
 use Rattle.std.proofs.lemmas.List.Concat.{flat_map-cons}
 use Rattle.std.proofs.Math.Seq.{take-append_seam, take-length}
 use Rattle.hk_types.specs.declared.faults.FormFault.{FormFault}
-use Rattle.hk_codec.specs.Fields.{IsBytes}
-use Rattle.hk_codec.specs.Framing.{len_of, framed, encoded, IsWhole, Begins, IsFormat, AddsValues, rest_of}
-use Rattle.hk_codec.proofs.Steps.{IsBytes-drop}
-use Rattle.hk_codec.proofs.InFrames.{maybe, frame_takes, frame_again, partial_is, partial_again, fault_stays, encoded_len}
+use Rattle.hk_frames.specs.Fields.{IsBytes}
+use Rattle.hk_frames.specs.Framing.{len_of, framed, encoded, IsWhole, Begins, IsFormat, AddsValues, rest_of}
+use Rattle.hk_frames.proofs.Steps.{IsBytes-drop}
+use Rattle.hk_frames.proofs.InFrames.{maybe, frame_takes, frame_again, partial_is, partial_again, fault_stays, encoded_len}
 
 -- the bytes from a place on, as a slice has them
 pub tail_is : (used : ℕ) (text : List ℕ) → take (length text - used) (drop used text) ≡ drop used text

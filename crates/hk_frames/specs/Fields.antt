@@ -3,8 +3,8 @@ use Rattle.std.specs.Prelude.{◌≡◌, ◌<◌, ℕ, zero, suc, Bool, true, na
 use Rattle.std.specs.Int.{Width, w16, byte_len, from_be_bytes, to_be_bytes}
 use Rattle.hk_types.specs.declared.faults.FormFault.{FormFault}
 use Rattle.hk_types.specs.declared.faults.FormFault.TheVariants.{WrongLength, BadBody}
-use Rattle.hk_codec.specs.declared.cursor.ReadError.{ReadError}
-use Rattle.hk_codec.specs.declared.cursor.ReadError.TheVariants.{Memory, Fault}
+use Rattle.hk_frames.specs.declared.cursor.ReadError.{ReadError}
+use Rattle.hk_frames.specs.declared.cursor.ReadError.TheVariants.{Memory, Fault}
 
 -- bytes are numbers below 256
 abbrev pub IsBytes : List ℕ → Type 0

@@ -2,7 +2,7 @@
 
 ghost use Rattle.std.specs.Prelude.{◌≡◌, ◌≤◌, ◌==◌, length, IfOk, OnErr};
 ghost use Rattle.std.specs.Int.{w16, w32, w64};
-ghost use Rattle.hk_codec.specs.Fields as spec;
+ghost use Rattle.hk_frames.specs.Fields as spec;
 
 use hk_types::{FormFault, MOST_BODY_BYTES};
 use std::alloc::{AllocError, AllocFailed, Global};
@@ -18,7 +18,7 @@ pub enum ReadError {
 }
 
 impl From<FormFault> for ReadError {
-    ghost use Rattle.hk_codec.specs.declared.cursor.ReadError.TheVariants.{Fault};
+    ghost use Rattle.hk_frames.specs.declared.cursor.ReadError.TheVariants.{Fault};
 
     ghost from_gives = { λ f e. e ≡ Fault f };
 
@@ -28,7 +28,7 @@ impl From<FormFault> for ReadError {
 }
 
 impl From<AllocError> for ReadError {
-    ghost use Rattle.hk_codec.specs.declared.cursor.ReadError.TheVariants.{Memory};
+    ghost use Rattle.hk_frames.specs.declared.cursor.ReadError.TheVariants.{Memory};
 
     ghost from_gives = { λ _ e. e ≡ Memory };
 
@@ -38,7 +38,7 @@ impl From<AllocError> for ReadError {
 }
 
 impl<T: Drop> From<AllocFailed<T>> for ReadError {
-    ghost use Rattle.hk_codec.specs.declared.cursor.ReadError.TheVariants.{Memory};
+    ghost use Rattle.hk_frames.specs.declared.cursor.ReadError.TheVariants.{Memory};
 
     ghost from_gives = { λ _ e. e ≡ Memory };
 

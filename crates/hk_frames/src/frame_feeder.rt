@@ -3,7 +3,7 @@
 ghost use Rattle.std.specs.Prelude.{◌≡◌, ◌≤◌, ◌++◌, ◌⊎◌, List, [], ℕ, length, take, drop, IfOk, OnOk, OnErr};
 ghost use Rattle.hk_types.specs.declared.faults.FormFault.{FormFault};
 ghost use Rattle.hk_types.specs.declared.faults.Refusal.TheVariants as refusals;
-ghost use Rattle.hk_codec.specs.Framing.{IsWhole, IsFormat, AddsValues, Feeds, KeepsFault, KeepsOnMemory, rest_of, last_answer};
+ghost use Rattle.hk_frames.specs.Framing.{IsWhole, IsFormat, AddsValues, Feeds, KeepsFault, KeepsOnMemory, rest_of, last_answer};
 
 use crate::framed::Framed;
 use crate::frames::{LENGTH_BYTES, length_of, take_frames};
@@ -23,7 +23,7 @@ pub struct FrameFeeder {
 impl Model for FrameFeeder {
     ghost use Rattle.std.specs.Prelude.{List, ℕ, Result};
     ghost use Rattle.hk_types.specs.declared.faults.FormFault.{FormFault};
-    ghost use Rattle.hk_codec.specs.Framing.{rest_of};
+    ghost use Rattle.hk_frames.specs.Framing.{rest_of};
 
     ghost Value = { Result (List ℕ) FormFault };
 

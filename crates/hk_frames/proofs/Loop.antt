@@ -2,9 +2,9 @@
 use Rattle.std.proofs.Common.{◌≡◌, ℕ, suc, ◌-◌, ◌+◌, ◌≤◌, ◌<◌, List, [], ◌∷◌, ◌++◌, Option, Some, Result, Ok, Err, refl, sym, ap, ◌∙◌, append_assoc, arith}
 use Rattle.std.proofs.lemmas.List.{append-nil}
 use Rattle.hk_types.specs.declared.faults.FormFault.{FormFault}
-use Rattle.hk_codec.specs.declared.cursor.ReadError.{ReadError}
-use Rattle.hk_codec.specs.declared.cursor.ReadError.TheVariants.{Memory, Fault}
-use Rattle.hk_codec.specs.Fields.{◌>>=◌, Fails, list_at}
+use Rattle.hk_frames.specs.declared.cursor.ReadError.{ReadError}
+use Rattle.hk_frames.specs.declared.cursor.ReadError.TheVariants.{Memory, Fault}
+use Rattle.hk_frames.specs.Fields.{◌>>=◌, Fails, list_at}
 
 -- what was read before, and what is still read
 abbrev pub with_front : {X : Type 0} → List X → Result (List X × List ℕ) FormFault → Result (List X × List ℕ) FormFault

@@ -6,7 +6,7 @@ use Rattle.hk_types.specs.declared.faults.FormFault.{FormFault}
 use Rattle.hk_types.specs.declared.faults.FormFault.TheVariants.{TooLong, WrongLength, Truncated}
 use Rattle.hk_types.specs.declared.faults.Refusal.{Refusal}
 use Rattle.hk_types.specs.declared.faults.Refusal.TheVariants as refusals
-use Rattle.hk_codec.specs.Fields.{IsBytes, number, ◌>>=◌}
+use Rattle.hk_frames.specs.Fields.{IsBytes, number, ◌>>=◌}
 
 -- the length field
 abbrev pub len_of : List ℕ → ℕ

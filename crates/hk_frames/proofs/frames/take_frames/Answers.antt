@@ -1,7 +1,7 @@
 use Rattle.std.proofs.Common.{arith}
-use Rattle.hk_codec.specs.Fields.{IsBytes}
-use Rattle.hk_codec.proofs.Stream.{value_more, values_stop}
-use Rattle.hk_codec.proofs.frames.take_frames.Goals as goal
+use Rattle.hk_frames.specs.Fields.{IsBytes}
+use Rattle.hk_frames.proofs.Stream.{value_more, values_stop}
+use Rattle.hk_frames.proofs.frames.take_frames.Goals as goal
 
 pub overflow_add-used : goal.overflow_add-used
 overflow_add-used g c =

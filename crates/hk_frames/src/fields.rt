@@ -2,7 +2,7 @@
 
 ghost use Rattle.std.specs.Prelude.{◌≡◌, ◌≤◌, ◌++◌, length, take, OnOk, OnErr};
 ghost use Rattle.std.specs.Int.{w16, w32, w64};
-ghost use Rattle.hk_codec.specs.Fields.{number};
+ghost use Rattle.hk_frames.specs.Fields.{number};
 
 use byteorder::{BigEndian, ByteOrder};
 use std::alloc::AllocError;

@@ -9,7 +9,7 @@ use std::alloc::Global;
 pub trait Framed: Drop {
     ghost use Rattle.std.specs.Prelude.{ℕ, List, Result};
     ghost use Rattle.hk_types.specs.declared.faults.FormFault.{FormFault};
-    ghost use Rattle.hk_codec.specs.Fields.{GivesOrRunsOut};
+    ghost use Rattle.hk_frames.specs.Fields.{GivesOrRunsOut};
 
     /// The fewest bytes of a rest.
     ghost LEAST_BYTES: { ℕ };

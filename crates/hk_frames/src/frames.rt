@@ -2,8 +2,8 @@
 
 ghost use Rattle.std.specs.Prelude.{◌≡◌, ◌≤◌, ◌<◌, ◌^◌, length, take, drop, IfOk, OnErr};
 ghost use Rattle.std.specs.Option.{option_copied, option_map};
-ghost use Rattle.hk_codec.specs.Fields.{GivesValue, GivesOrRunsOut};
-ghost use Rattle.hk_codec.specs.Framing.{len_of, rest_at, framed, AddsValues, IsFormat, rest_of};
+ghost use Rattle.hk_frames.specs.Fields.{GivesValue, GivesOrRunsOut};
+ghost use Rattle.hk_frames.specs.Framing.{len_of, rest_at, framed, AddsValues, IsFormat, rest_of};
 
 use crate::cursor::ReadError;
 use crate::framed::Framed;
@@ -11,10 +11,10 @@ use hk_types::FormFault;
 use std::alloc::{AllocError, Global};
 
 /// The bytes of the length field.
-pub(crate) const LENGTH_BYTES: usize = 4;
+pub const LENGTH_BYTES: usize = 4;
 
 /// The length field at the front.
-pub(crate) fn length_of(bytes: &[u8]) -> usize
+pub fn length_of(bytes: &[u8]) -> usize
     requires { 4 ≤ length bytes.now }
     ensures value { result ≡ len_of bytes.now }
     ensures bound { result < 2 ^ 32 }
@@ -63,13 +63,13 @@ pub fn next_frame<T: Framed>(alloc: Global, bytes: &[u8]) -> Result<Option<(T, u
 
 /// How far frames were read, and the fault that follows them, if one does.
 #[derive(Clone, Copy)]
-pub(crate) struct Progress {
-    pub(crate) used: usize,
-    pub(crate) fault: Option<FormFault>,
+pub struct Progress {
+    pub used: usize,
+    pub fault: Option<FormFault>,
 }
 
 /// Adds the values of the whole frames that the bytes begin with. The only error is out of memory.
-pub(crate) fn take_frames<T: Framed>(
+pub fn take_frames<T: Framed>(
     alloc: Global,
     bytes: &[u8],
     out: &mut Vec<T>,

@@ -5,10 +5,10 @@ use Rattle.std.proofs.lemmas.Bool.{ltb-true, ltb-false, lt-ltb, le-ltb}
 use Rattle.std.proofs.lemmas.List.{take-append-le, drop-append-le, take_at, take-append-drop, length-take, length-drop, length-append, drop-drop}
 use Rattle.hk_types.specs.declared.faults.FormFault.{FormFault}
 use Rattle.hk_types.specs.declared.faults.FormFault.TheVariants.{TooLong, WrongLength}
-use Rattle.hk_codec.specs.Fields.{IsBytes, ◌>>=◌, number, number_at}
-use Rattle.hk_codec.specs.Framing.{len_of, rest_at, value_of, framed, encoded, IsPartial, IsFormat}
-use Rattle.hk_codec.proofs.Steps.{IsBytes-take, IsBytes-drop, bind_ok, done, ok_is}
-use Rattle.hk_codec.proofs.Numbers.{wide32, number_takes, number_again, number_len}
+use Rattle.hk_frames.specs.Fields.{IsBytes, ◌>>=◌, number, number_at}
+use Rattle.hk_frames.specs.Framing.{len_of, rest_at, value_of, framed, encoded, IsPartial, IsFormat}
+use Rattle.hk_frames.proofs.Steps.{IsBytes-take, IsBytes-drop, bind_ok, done, ok_is}
+use Rattle.hk_frames.proofs.Numbers.{wide32, number_takes, number_again, number_len}
 
 -- ---- the rest
 

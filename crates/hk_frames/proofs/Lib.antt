@@ -1,0 +1,6 @@
+pub mod Prefix
+pub mod Steps
+pub mod Numbers
+pub mod Loop
+pub mod InFrames
+pub mod Stream
