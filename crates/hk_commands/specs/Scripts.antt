@@ -1,7 +1,7 @@
 -- The lines that a script prints beside those of its world.
 use Rattle.std.specs.Prelude.{ℕ, List, ◌++◌, codes}
 use Rattle.std.specs.Fmt.{decimal}
-use Rattle.hk_model.specs.Events.{told_seen}
+use Rattle.hk_model.specs.World.Events.{told_seen}
 use Rattle.hk_lines.specs.Lines.{line_end, outcome_lines}
 use Rattle.hk_commands.specs.declared.script.Reply.{Reply}
 use Rattle.hk_commands.specs.declared.script.Reply.TheVariants.{Begun, Told}

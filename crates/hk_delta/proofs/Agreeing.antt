@@ -10,12 +10,12 @@ use Rattle.hk_types.specs.Values.{RowValue, same_row}
 use Rattle.hk_types.specs.declared.version_key.VersionKey.{VersionKey}
 use Rattle.hk_types.specs.declared.faults.Refusal.{Refusal}
 use Rattle.hk_types.specs.declared.faults.Refusal.TheVariants.{Conflict}
-use Rattle.hk_model.specs.Rows.{version_key_cmp}
-use Rattle.hk_model.specs.Maps.{or_else, values_conflict}
+use Rattle.hk_model.specs.History.Rows.{version_key_cmp}
+use Rattle.hk_model.specs.Replica.Maps.{or_else, values_conflict}
 use Rattle.hk_log.specs.declared.item.Item.{Item}
 use Rattle.hk_log.specs.declared.item.Item.TheVariants.{Commit, Closed}
-use Rattle.hk_model.specs.Facts.{inserted_version, entry_rows, row_facts, end_facts}
-use Rattle.hk_model.specs.Rules.{conflict}
+use Rattle.hk_model.specs.History.Facts.{inserted_version, entry_rows, row_facts, end_facts}
+use Rattle.hk_model.specs.Replica.Rules.{conflict}
 use Rattle.hk_model.proofs.Joins.{same_row_if}
 use Rattle.hk_model.proofs.Maps.{version_key_total, version_key_same, find-append}
 use Rattle.hk_model.proofs.Members.{In, In-left, In-right, In-append, In-find}

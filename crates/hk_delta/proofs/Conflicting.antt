@@ -6,8 +6,8 @@ use Rattle.hk_types.specs.Values.{RowValue}
 use Rattle.hk_types.specs.declared.version_key.VersionKey.{VersionKey}
 use Rattle.hk_log.specs.declared.item.Item.{Item}
 use Rattle.hk_log.specs.declared.item.Item.TheVariants.{Commit, Closed}
-use Rattle.hk_model.specs.Facts.{row_facts, end_facts}
-use Rattle.hk_model.specs.Rules.{conflict}
+use Rattle.hk_model.specs.History.Facts.{row_facts, end_facts}
+use Rattle.hk_model.specs.Replica.Rules.{conflict}
 use Rattle.hk_delta.specs.Gathers.{facts_conflict, inserted_rows, stated_ends}
 
 pub any_map : {X Y : Type 0} (p : Y → Bool) (h : X → Y) (xs : List X) → list_any p (map h xs) ≡ list_any (λ x. p (h x)) xs

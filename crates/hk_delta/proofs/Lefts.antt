@@ -9,10 +9,10 @@ use Rattle.std.specs.FinMap as finmap
 use Rattle.hk_types.specs.Values.{ConfigValue, RowValue}
 use Rattle.hk_types.specs.declared.version_key.VersionKey.{VersionKey}
 use Rattle.hk_log.specs.Versions.{VersionValue, is_known}
-use Rattle.hk_model.specs.Rows.{version_key_cmp}
-use Rattle.hk_model.specs.Content.{Content, at_most, without_ended, least_closed}
-use Rattle.hk_model.specs.Fragments.{cut}
-use Rattle.hk_model.specs.Lawful.{IsLawful}
+use Rattle.hk_model.specs.History.Rows.{version_key_cmp}
+use Rattle.hk_model.specs.Replica.Content.{Content, at_most, without_ended, least_closed}
+use Rattle.hk_model.specs.Replica.Fragments.{cut}
+use Rattle.hk_model.specs.Replica.Lawful.{IsLawful}
 use Rattle.hk_model.proofs.Maps.{version_key_total, version_key_same, get-retain, get-without_ended}
 use Rattle.hk_model.proofs.Visible.{T_both}
 use Rattle.hk_marks.proofs.Readers.{is_sorted-from}

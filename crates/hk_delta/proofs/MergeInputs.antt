@@ -11,8 +11,8 @@ use Rattle.std.specs.FinMap as finmap
 use Rattle.std.specs.FinMap.Entries.{find, is_sorted, below_all}
 use Rattle.hk_types.specs.declared.version_key.VersionKey.{VersionKey}
 use Rattle.hk_log.specs.Versions.{VersionValue}
-use Rattle.hk_model.specs.Rows.{version_key_cmp}
-use Rattle.hk_model.specs.Content.{Content, readable}
+use Rattle.hk_model.specs.History.Rows.{version_key_cmp}
+use Rattle.hk_model.specs.Replica.Content.{Content, readable}
 use Rattle.hk_model.proofs.Maps.{version_key_total, version_key_same}
 use Rattle.hk_model.proofs.Members.{In}
 use Rattle.hk_model.proofs.Visible.{T_both, less}
@@ -23,19 +23,19 @@ use Rattle.hk_state.specs.Drops.{is_among}
 use Rattle.hk_types.specs.Values.{ConfigValue}
 use Rattle.hk_types.specs.declared.faults.Refusal.{Refusal}
 use Rattle.hk_types.specs.declared.faults.Refusal.TheVariants.{ForeignLog, WrongStreams, Memory, Gap}
-use Rattle.hk_model.specs.Streams.{StreamContent}
-use Rattle.hk_model.specs.Fragments.{FragmentValue}
-use Rattle.hk_model.specs.Rules.{contents_conflict, join_result}
+use Rattle.hk_model.specs.Replica.Streams.{StreamContent}
+use Rattle.hk_model.specs.Replica.Fragments.{FragmentValue}
+use Rattle.hk_model.specs.Replica.Rules.{contents_conflict, join_result}
 use Rattle.hk_state.specs.Versions.{value_conflicts_at}
 use Rattle.hk_state.proofs.Walking.{conflict_listed}
 use Rattle.hk_merge.specs.Listed.{facts_listed, fragment_listed}
 use Rattle.hk_merge.specs.Calls.{Joins}
 use Rattle.hk_merge.proofs.Refusing.{wrong_log_by, listed_itself, listed_whole}
 use Rattle.hk_log.specs.declared.item.Item.{Item}
-use Rattle.hk_model.specs.ContentOf.{content_of}
-use Rattle.hk_model.specs.Fragments.{part}
-use Rattle.hk_model.specs.Histories.{Transaction, IsHistory, AreItemsOf}
-use Rattle.hk_model.specs.Replicas.{Represents}
+use Rattle.hk_model.specs.Replica.ContentOf.{content_of}
+use Rattle.hk_model.specs.Replica.Fragments.{part}
+use Rattle.hk_model.specs.History.Histories.{Transaction, IsHistory, AreItemsOf}
+use Rattle.hk_model.specs.Replica.Replicas.{Represents}
 use Rattle.hk_model.proofs.Laws.{join_law_proof}
 use Rattle.hk_model.proofs.Steps.{gap_step}
 use Rattle.hk_model.proofs.Laws.{stands_both}

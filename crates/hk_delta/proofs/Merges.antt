@@ -12,8 +12,8 @@ use Rattle.std.proofs.lemmas.List.{take_more, take_all, length-append}
 use Rattle.hk_types.specs.Values.{RowValue}
 use Rattle.hk_types.specs.declared.version_key.VersionKey.{VersionKey}
 use Rattle.hk_log.specs.Versions.{VersionValue, is_known}
-use Rattle.hk_model.specs.Maps.{or_else}
-use Rattle.hk_model.specs.Rows.{version_key_cmp}
+use Rattle.hk_model.specs.Replica.Maps.{or_else}
+use Rattle.hk_model.specs.History.Rows.{version_key_cmp}
 use Rattle.hk_model.proofs.Maps.{version_key_total, version_key_same, find-append}
 use Rattle.hk_model.proofs.Members.{In, In-left, In-right, In-append}
 use Rattle.hk_model.proofs.Visible.{T_both}

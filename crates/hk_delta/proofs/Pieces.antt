@@ -12,14 +12,14 @@ use Rattle.hk_types.specs.declared.version_key.VersionKey.{VersionKey}
 use Rattle.hk_types.specs.declared.faults.Refusal.{Refusal}
 use Rattle.hk_types.specs.declared.faults.Refusal.TheVariants.{Conflict}
 use Rattle.hk_log.specs.declared.item.Item.{Item}
-use Rattle.hk_model.specs.Rows.{version_key_cmp}
-use Rattle.hk_model.specs.Maps.{or_else, values_conflict, union, maps_conflict}
-use Rattle.hk_model.specs.Facts.{row_facts, end_facts, rows_of, ends_of}
-use Rattle.hk_model.specs.ContentOf.{content_of}
-use Rattle.hk_model.specs.Streams.{streams_of}
-use Rattle.hk_model.specs.Fragments.{FragmentValue, part}
-use Rattle.hk_model.specs.Lawful.{IsItem}
-use Rattle.hk_model.specs.Rules.{conflict, first_wrong_log, gather_result, gather_result_unless, contents_conflict}
+use Rattle.hk_model.specs.History.Rows.{version_key_cmp}
+use Rattle.hk_model.specs.Replica.Maps.{or_else, values_conflict, union, maps_conflict}
+use Rattle.hk_model.specs.History.Facts.{row_facts, end_facts, rows_of, ends_of}
+use Rattle.hk_model.specs.Replica.ContentOf.{content_of}
+use Rattle.hk_model.specs.Replica.Streams.{streams_of}
+use Rattle.hk_model.specs.Replica.Fragments.{FragmentValue, part}
+use Rattle.hk_model.specs.Replica.Lawful.{IsItem}
+use Rattle.hk_model.specs.Replica.Rules.{conflict, first_wrong_log, gather_result, gather_result_unless, contents_conflict}
 use Rattle.hk_model.proofs.Joins.{rows_of-append, ends_of-append}
 use Rattle.hk_model.proofs.Maps.{version_key_total, version_key_same, find-append, get-union}
 use Rattle.hk_model.proofs.Members.{In, In-append, find-In}

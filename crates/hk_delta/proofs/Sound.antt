@@ -11,10 +11,10 @@ use Rattle.hk_types.specs.declared.version_key.VersionKey.{VersionKey}
 use Rattle.hk_types.specs.declared.faults.FormFault.{FormFault}
 use Rattle.hk_types.specs.declared.faults.FormFault.TheVariants.{BadNumber, BadOrder}
 use Rattle.hk_log.specs.Versions.{VersionValue, is_known}
-use Rattle.hk_model.specs.Rows.{version_key_cmp}
-use Rattle.hk_model.specs.Streams.{StreamContent}
-use Rattle.hk_model.specs.Content.{least_closed}
-use Rattle.hk_model.specs.Lawful.{IsLawfulFragment}
+use Rattle.hk_model.specs.History.Rows.{version_key_cmp}
+use Rattle.hk_model.specs.Replica.Streams.{StreamContent}
+use Rattle.hk_model.specs.Replica.Content.{least_closed}
+use Rattle.hk_model.specs.Replica.Lawful.{IsLawfulFragment}
 use Rattle.hk_model.proofs.Maps.{version_key_total, version_key_same}
 use Rattle.hk_model.proofs.Members.{In, In-find}
 use Rattle.hk_model.proofs.Visible.{T_both, less}

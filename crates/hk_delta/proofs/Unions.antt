@@ -9,11 +9,11 @@ use Rattle.std.specs.FinSet as set
 use Rattle.hk_types.specs.Values.{ConfigValue}
 use Rattle.hk_types.specs.declared.version_key.VersionKey.{VersionKey}
 use Rattle.hk_log.specs.Versions.{VersionValue}
-use Rattle.hk_model.specs.Maps.{or_else, union}
-use Rattle.hk_model.specs.Rows.{version_key_cmp}
-use Rattle.hk_model.specs.Content.{least_closed}
-use Rattle.hk_model.specs.Streams.{StreamContent, together, all_together}
-use Rattle.hk_model.specs.Lawful.{IsLawfulStream}
+use Rattle.hk_model.specs.Replica.Maps.{or_else, union}
+use Rattle.hk_model.specs.History.Rows.{version_key_cmp}
+use Rattle.hk_model.specs.Replica.Content.{least_closed}
+use Rattle.hk_model.specs.Replica.Streams.{StreamContent, together, all_together}
+use Rattle.hk_model.specs.Replica.Lawful.{IsLawfulStream}
 use Rattle.hk_model.proofs.Lawful.{settled_lawful}
 use Rattle.hk_model.proofs.Maps.{version_key_total, version_key_same, get-union}
 use Rattle.hk_marks.specs.Seen.{IsNumbered}

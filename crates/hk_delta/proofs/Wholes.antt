@@ -10,14 +10,14 @@ use Rattle.hk_types.specs.declared.faults.Refusal.TheVariants.{Conflict, Memory}
 use Rattle.hk_log.specs.Items.{EntryValue}
 use Rattle.hk_log.specs.declared.item.Item.{Item}
 use Rattle.hk_log.specs.declared.item.Item.TheVariants.{Commit}
-use Rattle.hk_model.specs.Rows.{version_key_cmp}
-use Rattle.hk_model.specs.Facts.{row_facts, end_facts, rows_of, ends_of}
-use Rattle.hk_model.specs.Content.{at_most, without_ended, readable}
-use Rattle.hk_model.specs.ContentOf.{content_of}
-use Rattle.hk_model.specs.Streams.{streams_of}
-use Rattle.hk_model.specs.Fragments.{FragmentValue, part}
-use Rattle.hk_model.specs.Lawful.{IsLawful, IsItem}
-use Rattle.hk_model.specs.Rules.{gather_result, gather_result_unless, first_wrong_log}
+use Rattle.hk_model.specs.History.Rows.{version_key_cmp}
+use Rattle.hk_model.specs.History.Facts.{row_facts, end_facts, rows_of, ends_of}
+use Rattle.hk_model.specs.Replica.Content.{at_most, without_ended, readable}
+use Rattle.hk_model.specs.Replica.ContentOf.{content_of}
+use Rattle.hk_model.specs.Replica.Streams.{streams_of}
+use Rattle.hk_model.specs.Replica.Fragments.{FragmentValue, part}
+use Rattle.hk_model.specs.Replica.Lawful.{IsLawful, IsItem}
+use Rattle.hk_model.specs.Replica.Rules.{gather_result, gather_result_unless, first_wrong_log}
 use Rattle.hk_model.proofs.Maps.{version_key_total, version_key_same, get-without_ended}
 use Rattle.hk_model.proofs.Members.{In, In-map}
 use Rattle.hk_model.proofs.Logs.{fact_end, end_found}

@@ -5,10 +5,10 @@ use Rattle.std.proofs.lemmas.List.{take_more, take-append-drop}
 use Rattle.std.specs.List.{range_with_len}
 use Rattle.hk_types.specs.Values.{ConfigValue}
 use Rattle.hk_log.specs.declared.item.Item.{Item}
-use Rattle.hk_model.specs.Items.{wrong_log}
-use Rattle.hk_model.specs.Maps.{or_else}
-use Rattle.hk_model.specs.Streams.{stream_of, streams_of, unknown}
-use Rattle.hk_model.specs.Rules.{first_wrong_log}
+use Rattle.hk_model.specs.Replica.Items.{wrong_log}
+use Rattle.hk_model.specs.Replica.Maps.{or_else}
+use Rattle.hk_model.specs.Replica.Streams.{stream_of, streams_of, unknown}
+use Rattle.hk_model.specs.Replica.Rules.{first_wrong_log}
 
 or_else-assoc : {X : Type 0} (a b c : Option X) → or_else a (or_else b c) ≡ or_else (or_else a b) c
 or_else-assoc None b c = refl

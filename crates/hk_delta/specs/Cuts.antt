@@ -7,10 +7,10 @@ use Rattle.hk_types.specs.declared.faults.Refusal.{Refusal}
 use Rattle.hk_types.specs.declared.faults.Refusal.TheVariants.{Memory, TooOld}
 use Rattle.hk_log.specs.Versions.{VersionValue}
 use Rattle.hk_log.specs.declared.item.Item.{Item}
-use Rattle.hk_model.specs.Content.{Content, at_most}
-use Rattle.hk_model.specs.Fragments.{FragmentValue, cut, part}
-use Rattle.hk_model.specs.Histories.{Transaction}
-use Rattle.hk_model.specs.Replicas.{Represents}
+use Rattle.hk_model.specs.Replica.Content.{Content, at_most}
+use Rattle.hk_model.specs.Replica.Fragments.{FragmentValue, cut, part}
+use Rattle.hk_model.specs.History.Histories.{Transaction}
+use Rattle.hk_model.specs.Replica.Replicas.{Represents}
 use Rattle.hk_facts.specs.Facts.{if_known}
 use Rattle.hk_state.specs.Facts.{entry_if}
 use Rattle.hk_delta.specs.Parts.{Known}

@@ -8,11 +8,11 @@ use Rattle.hk_types.specs.declared.faults.Refusal.{Refusal}
 use Rattle.hk_types.specs.declared.faults.Refusal.TheVariants.{Memory}
 use Rattle.hk_log.specs.declared.item.Item.{Item}
 use Rattle.hk_log.specs.declared.item.Item.TheVariants.{Commit, Closed}
-use Rattle.hk_model.specs.Rows.{version_key_cmp}
-use Rattle.hk_model.specs.Facts.{inserted_version, entry_rows, entry_ends, row_facts, end_facts}
-use Rattle.hk_model.specs.Fragments.{FragmentValue, part}
-use Rattle.hk_model.specs.Histories.{Transaction, IsHistory, AreItemsOf}
-use Rattle.hk_model.specs.Rules.{conflict, gather_result}
+use Rattle.hk_model.specs.History.Rows.{version_key_cmp}
+use Rattle.hk_model.specs.History.Facts.{inserted_version, entry_rows, entry_ends, row_facts, end_facts}
+use Rattle.hk_model.specs.Replica.Fragments.{FragmentValue, part}
+use Rattle.hk_model.specs.History.Histories.{Transaction, IsHistory, AreItemsOf}
+use Rattle.hk_model.specs.Replica.Rules.{conflict, gather_result}
 use Rattle.hk_facts.specs.declared.fact.Fact.{Fact}
 use Rattle.hk_facts.specs.declared.fact.Fact.TheVariants.{Row, End}
 use Rattle.hk_state.specs.Facts.{FactsValue, facts_put}

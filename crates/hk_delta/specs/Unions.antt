@@ -8,12 +8,12 @@ use Rattle.hk_types.specs.declared.faults.Refusal.{Refusal}
 use Rattle.hk_types.specs.declared.faults.Refusal.TheVariants.{Conflict, Memory}
 use Rattle.hk_log.specs.Versions.{VersionValue}
 use Rattle.hk_log.specs.declared.item.Item.{Item}
-use Rattle.hk_model.specs.Maps.{or_else, union}
-use Rattle.hk_model.specs.Rows.{version_key_cmp}
-use Rattle.hk_model.specs.Streams.{all_together}
-use Rattle.hk_model.specs.Fragments.{FragmentValue}
-use Rattle.hk_model.specs.Lawful.{IsItem}
-use Rattle.hk_model.specs.Rules.{contents_conflict, gather_result}
+use Rattle.hk_model.specs.Replica.Maps.{or_else, union}
+use Rattle.hk_model.specs.History.Rows.{version_key_cmp}
+use Rattle.hk_model.specs.Replica.Streams.{all_together}
+use Rattle.hk_model.specs.Replica.Fragments.{FragmentValue}
+use Rattle.hk_model.specs.Replica.Lawful.{IsItem}
+use Rattle.hk_model.specs.Replica.Rules.{contents_conflict, gather_result}
 use Rattle.hk_delta.specs.Parts.{Known}
 
 -- a fragment as gathering makes it

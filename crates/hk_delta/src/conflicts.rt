@@ -3,7 +3,7 @@
 ghost use Rattle.std.specs.Prelude.{◌≡◌, ◌==◌};
 ghost use Rattle.std.specs.List.{list_any};
 ghost use Rattle.hk_types.specs.Values.{same_row};
-ghost use Rattle.hk_model.specs.Facts.{inserted_version};
+ghost use Rattle.hk_model.specs.History.Facts.{inserted_version};
 ghost use Rattle.hk_delta.specs.Gathers.{have_conflict, facts_conflict, inserted_rows, stated_ends};
 
 use hk_log::{Entry, Item};

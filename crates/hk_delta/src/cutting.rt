@@ -2,7 +2,7 @@
 
 ghost use Rattle.std.specs.Prelude.{◌≡◌, ◌⊎◌, ◌≤◌, ◌++◌, map, OnOk, IfOk, IfErr};
 ghost use Rattle.hk_types.specs.declared.faults.Refusal.TheVariants.{Memory, TooOld as Old};
-ghost use Rattle.hk_model.specs.Fragments.{cut};
+ghost use Rattle.hk_model.specs.Replica.Fragments.{cut};
 ghost use Rattle.hk_state.specs.Facts.{entry_if};
 ghost use Rattle.hk_state.specs.Versions.{borrowed};
 ghost use Rattle.hk_delta.specs.Cuts as spec;

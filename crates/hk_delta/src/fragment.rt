@@ -3,7 +3,7 @@
 ghost use Rattle.std.specs.Prelude.{◌≡◌, length, nat_lt, ◌&&◌, Some, None, All, IfOk, OnOk, OnErr, IfErr};
 ghost use Rattle.std.specs.Option.{option_copied};
 ghost use Rattle.hk_types.specs.declared.faults.Refusal.TheVariants.{Memory};
-ghost use Rattle.hk_model.specs.Lawful.{IsLawfulFragment};
+ghost use Rattle.hk_model.specs.Replica.Lawful.{IsLawfulFragment};
 ghost use Rattle.hk_marks.specs.Seen.{IsNumbered};
 ghost use Rattle.hk_state.specs.Facts.{known_at};
 ghost use Rattle.hk_state.specs.Reads.{facts_of_content};
@@ -33,8 +33,8 @@ pub struct Fragment {
 }
 
 impl Model for Fragment {
-    ghost use Rattle.hk_model.specs.Fragments.{FragmentValue};
-    ghost use Rattle.hk_model.specs.Codes.{fragment_code};
+    ghost use Rattle.hk_model.specs.Replica.Fragments.{FragmentValue};
+    ghost use Rattle.hk_model.specs.Replica.Codes.{fragment_code};
     ghost use Rattle.hk_delta.specs.Parts.{fragment_seen, IsFragment};
 
     ghost Value = { FragmentValue };

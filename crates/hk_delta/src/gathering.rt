@@ -3,11 +3,11 @@
 ghost use Rattle.std.specs.Prelude.{◌≡◌, ◌⊎◌, ◌∷◌, [], length, All, None, IfOk, IfErr, OnOk, true, false};
 ghost use Rattle.std.specs.List.{flat_map};
 ghost use Rattle.hk_types.specs.declared.faults.Refusal.TheVariants.{Conflict as ConflictRefusal, Memory};
-ghost use Rattle.hk_model.specs.Items as items_spec;
-ghost use Rattle.hk_model.specs.Fragments.{part};
-ghost use Rattle.hk_model.specs.Lawful.{IsItem};
-ghost use Rattle.hk_model.specs.Rules as rules;
-ghost use Rattle.hk_model.specs.Streams.{all_together, streams_of};
+ghost use Rattle.hk_model.specs.Replica.Items as items_spec;
+ghost use Rattle.hk_model.specs.Replica.Fragments.{part};
+ghost use Rattle.hk_model.specs.Replica.Lawful.{IsItem};
+ghost use Rattle.hk_model.specs.Replica.Rules as rules;
+ghost use Rattle.hk_model.specs.Replica.Streams.{all_together, streams_of};
 ghost use Rattle.hk_delta.specs.Gathers.{have_conflict, Gathers, GathersOf, Puts, row_fact, end_fact, item_facts};
 
 use crate::Fragment;

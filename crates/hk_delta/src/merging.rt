@@ -4,7 +4,7 @@ ghost use Rattle.std.specs.Prelude.{◌≡◌, ◌≤◌, ◌<◌, ◌+◌, ◌+
 ghost use Rattle.std.specs.FinMap.{find};
 ghost use Rattle.std.specs.Vec.{vec_capacity, vec_len};
 ghost use Rattle.hk_types.specs.declared.version_key.VersionKey.{VersionKey as VersionKeyValue};
-ghost use Rattle.hk_model.specs.Rows.{version_key_cmp};
+ghost use Rattle.hk_model.specs.History.Rows.{version_key_cmp};
 ghost use Rattle.hk_delta.specs.Parts.{facts_fault};
 ghost use Rattle.hk_delta.specs.Unions as spec;
 ghost use Rattle.hk_delta.specs.Unions.{known_in_either, ComparesLast, TakesGreatest};

@@ -3,7 +3,7 @@ use Rattle.std.proofs.Common.{◌≡◌, refl, sym, ap, ◌∙◌, ℕ, Bool, tr
 use Rattle.std.proofs.lemmas.Bool.Decides.{nat_tests}
 use Rattle.std.specs.Option.{is_some}
 use Rattle.std.specs.Ordering.{is_lt}
-use Rattle.hk_model.specs.Maps.{or_else}
+use Rattle.hk_model.specs.Replica.Maps.{or_else}
 use Rattle.hk_types.specs.Values.{RowValue}
 use Rattle.hk_log.specs.Versions.{VersionValue}
 use Rattle.hk_facts.specs.Chains.{last_where}

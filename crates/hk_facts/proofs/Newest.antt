@@ -8,7 +8,7 @@ use Rattle.std.specs.FinMap as finmap
 use Rattle.std.specs.FinMap.{find}
 use Rattle.std.specs.FinMap.Entries.{is_sorted, below_all}
 use Rattle.hk_log.specs.Versions.{VersionValue}
-use Rattle.hk_model.specs.Maps.{or_else}
+use Rattle.hk_model.specs.Replica.Maps.{or_else}
 use Rattle.hk_facts.specs.Chains.{ChainValue, last_where}
 use Rattle.hk_facts.proofs.Trees.{tied_self, tied_same}
 use Rattle.hk_facts.proofs.Latest.{has_row}

@@ -7,9 +7,9 @@ use Rattle.std.specs.FinMap as finmap
 use Rattle.hk_types.specs.Values.{RowValue}
 use Rattle.hk_types.specs.declared.version_key.VersionKey.{VersionKey}
 use Rattle.hk_log.specs.Versions.{VersionValue}
-use Rattle.hk_model.specs.Rows.{RowKey, version_key_cmp, version_of}
-use Rattle.hk_model.specs.Content.{Content, at_most, ended_by}
-use Rattle.hk_model.specs.Answers.{replaces, shows, visible}
+use Rattle.hk_model.specs.History.Rows.{RowKey, version_key_cmp, version_of}
+use Rattle.hk_model.specs.Replica.Content.{Content, at_most, ended_by}
+use Rattle.hk_model.specs.Replica.Answers.{replaces, shows, visible}
 use Rattle.hk_model.proofs.Maps.{version_key_total}
 use Rattle.hk_model.proofs.Members.{In-map}
 use Rattle.hk_model.proofs.Visible.{get_entry, any_where, not_from}

@@ -5,8 +5,8 @@ use Rattle.std.specs.FinMap as finmap
 use Rattle.hk_types.specs.Values.{RowValue}
 use Rattle.hk_types.specs.declared.faults.Refusal.{Refusal}
 use Rattle.hk_log.specs.Versions.{VersionValue}
-use Rattle.hk_model.specs.Maps.{or_else}
-use Rattle.hk_model.specs.Content.{at_most}
+use Rattle.hk_model.specs.Replica.Maps.{or_else}
+use Rattle.hk_model.specs.Replica.Content.{at_most}
 use Rattle.hk_facts.specs.declared.fact.Fact.{Fact}
 use Rattle.hk_facts.specs.declared.fact.Part.{Part}
 use Rattle.hk_facts.specs.Facts.{put_result, without, died_of}

@@ -4,7 +4,7 @@ use Rattle.hk_types.specs.Values.{RowValue, same_row}
 use Rattle.hk_types.specs.declared.faults.Refusal.{Refusal}
 use Rattle.hk_types.specs.declared.faults.Refusal.TheVariants.{Conflict}
 use Rattle.hk_log.specs.Versions.{VersionValue, is_known}
-use Rattle.hk_model.specs.Maps.{values_conflict, or_else}
+use Rattle.hk_model.specs.Replica.Maps.{values_conflict, or_else}
 use Rattle.hk_facts.specs.declared.fact.Fact.{Fact}
 use Rattle.hk_facts.specs.declared.fact.Fact.TheVariants.{Row, End}
 use Rattle.hk_facts.specs.declared.fact.Part.{Part}

@@ -7,8 +7,8 @@ use Rattle.std.specs.Map.{keys_of, lookup}
 use Rattle.std.specs.Ordering.{nat_cmp, on, then_cmp}
 use Rattle.std.specs.FinSet as set
 use Rattle.hk_types.specs.declared.version_key.VersionKey.{VersionKey}
-use Rattle.hk_model.specs.Codes.{version_key_code}
-use Rattle.hk_model.specs.Rows.{version_key_cmp}
+use Rattle.hk_model.specs.Replica.Codes.{version_key_code}
+use Rattle.hk_model.specs.History.Rows.{version_key_cmp}
 use Rattle.hk_index.specs.declared.tag_key.TagKey.{TagKey}
 
 -- a version whose row has a tag

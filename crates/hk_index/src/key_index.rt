@@ -8,7 +8,7 @@ ghost use Rattle.std.specs.Map.Iter.{ShowsInOrder, deref};
 ghost use Rattle.hk_types.specs.declared.version_key.VersionKey.{VersionKey};
 ghost use Rattle.std.specs.List.{take_while};
 ghost use Rattle.std.specs.Ordering.{is_le};
-ghost use Rattle.hk_model.specs.Rows.{version_key_cmp};
+ghost use Rattle.hk_model.specs.History.Rows.{version_key_cmp};
 ghost use Rattle.hk_index.specs.Listed.{Lists, is_up_to, with_keys};
 
 use hk_types::{Key, Refusal, Table, Time, VersionKey};
@@ -25,8 +25,8 @@ pub struct KeyIndex {
 
 impl Model for KeyIndex {
     ghost use Rattle.std.specs.FinSet as set;
-    ghost use Rattle.hk_model.specs.Codes.{version_key_code};
-    ghost use Rattle.hk_model.specs.Rows.{version_key_cmp};
+    ghost use Rattle.hk_model.specs.Replica.Codes.{version_key_code};
+    ghost use Rattle.hk_model.specs.History.Rows.{version_key_cmp};
 
     ghost Value = { set.FinSet version_key_cmp };
 

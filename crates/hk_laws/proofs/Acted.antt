@@ -2,8 +2,8 @@
 use Rattle.std.proofs.Common.{◌≡◌, sym, ap, ◌∙◌, subst, ℕ, ◌+◌, ◌<◌, length, get_or, set, Option, Some, List, Result, Ok, Err}
 use Rattle.hk_types.specs.declared.faults.Refusal.{Refusal}
 use Rattle.hk_model.specs.declared.told.Told.{Told}
-use Rattle.hk_model.specs.Content.{Content}
-use Rattle.hk_model.specs.Worlds.{ToldValue, both, at_number}
+use Rattle.hk_model.specs.Replica.Content.{Content}
+use Rattle.hk_model.specs.World.Worlds.{ToldValue, both, at_number}
 use Rattle.hk_laws.specs.Calls.{Acts, Gives}
 use Rattle.hk_laws.proofs.Numbered.{numbered_at, renumbered_at, set_same}
 

@@ -3,9 +3,9 @@ use Rattle.std.proofs.Common.{true, ◌≡◌, refl, sym, ap, ◌∙◌, subst, 
 use Rattle.std.proofs.Math.ListN.{length-append}
 use Rattle.hk_types.specs.declared.faults.Refusal.{Refusal}
 use Rattle.hk_model.specs.declared.told.Told.{Told}
-use Rattle.hk_model.specs.Content.{Content}
-use Rattle.hk_model.specs.Rules.{merge_result}
-use Rattle.hk_model.specs.Worlds.{both, at_number, outcome_by}
+use Rattle.hk_model.specs.Replica.Content.{Content}
+use Rattle.hk_model.specs.Replica.Rules.{merge_result}
+use Rattle.hk_model.specs.World.Worlds.{both, at_number, outcome_by}
 use Rattle.hk_laws.specs.Calls.{Acts, Gives}
 use Rattle.hk_laws.proofs.Numbered.{numbered_at, get_low, set_low, get_high, set_high}
 use Rattle.hk_laws.proofs.Acted.{acts_on}

@@ -4,11 +4,11 @@ use Rattle.std.specs.FinMap as finmap
 use Rattle.hk_types.specs.Values.{ConfigValue}
 use Rattle.hk_types.specs.declared.faults.Refusal.{Refusal}
 use Rattle.hk_types.specs.declared.faults.Refusal.TheVariants.{NoStream, NotYet, WriteConflict, NoRow, ClockFull, TwiceWritten, TooManyWrites}
-use Rattle.hk_model.specs.Rows.{RowKey, row_key_cmp}
-use Rattle.hk_model.specs.Histories.{Transaction, written_key, last, tables_of}
-use Rattle.hk_model.specs.Commits.{writes_result, commit_result, committed_writes, accepted_writes, first_conflict, first_absent}
-use Rattle.hk_model.specs.Content.{Content}
-use Rattle.hk_model.specs.Worlds.{World, Replica, EventValue, after_commit}
+use Rattle.hk_model.specs.History.Rows.{RowKey, row_key_cmp}
+use Rattle.hk_model.specs.History.Histories.{Transaction, written_key, last, tables_of}
+use Rattle.hk_model.specs.History.Commits.{writes_result, commit_result, committed_writes, accepted_writes, first_conflict, first_absent}
+use Rattle.hk_model.specs.Replica.Content.{Content}
+use Rattle.hk_model.specs.World.Worlds.{World, Replica, EventValue, after_commit}
 use Rattle.hk_model.specs.declared.write_op.WriteOp.{WriteOp}
 use Rattle.hk_laws.specs.Calls.{IsBuilt, refusal_of_transaction, is_first, is_memory, is_of_writes, is_first_outcome, may_lack, Happens, Turns}
 use Rattle.hk_laws.specs.Running.{Running, step_outcome}

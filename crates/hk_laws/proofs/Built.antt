@@ -3,9 +3,9 @@ use Rattle.std.proofs.Common.{◌≡◌, refl, sym, ap, ◌∙◌, Bool, true, f
 use Rattle.std.specs.FinMap as finmap
 use Rattle.hk_types.specs.declared.faults.Refusal.{Refusal}
 use Rattle.hk_types.specs.declared.faults.Refusal.TheVariants.{TwiceWritten, TooManyWrites, Memory}
-use Rattle.hk_model.specs.Commits.{writes_result}
-use Rattle.hk_model.specs.Histories.{written_key}
-use Rattle.hk_model.specs.Rows.{row_key_cmp}
+use Rattle.hk_model.specs.History.Commits.{writes_result}
+use Rattle.hk_model.specs.History.Histories.{written_key}
+use Rattle.hk_model.specs.History.Rows.{row_key_cmp}
 use Rattle.hk_model.specs.declared.write_op.WriteOp.{WriteOp}
 use Rattle.hk_primary.specs.Txns.{TxnValue, IsRefusal, with_write, write_refused}
 

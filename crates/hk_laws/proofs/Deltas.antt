@@ -4,12 +4,12 @@ use Rattle.std.proofs.lemmas.Bool.Decides.{nat_tests}
 use Rattle.hk_types.specs.declared.faults.Refusal.{Refusal}
 use Rattle.hk_types.specs.declared.faults.Refusal.TheVariants.{TooOld, Memory}
 use Rattle.hk_model.specs.declared.told.Told.{Told}
-use Rattle.hk_model.specs.Events.{told_seen}
-use Rattle.hk_model.specs.Content.{Content}
-use Rattle.hk_model.specs.Fragments.{FragmentValue, cut}
-use Rattle.hk_model.specs.Rules.{join_result}
-use Rattle.hk_model.specs.Worlds.{ToldValue, outcome_by, delta_join}
-use Rattle.hk_model.specs.Worlds.ToldValue.{Refused}
+use Rattle.hk_model.specs.World.Events.{told_seen}
+use Rattle.hk_model.specs.Replica.Content.{Content}
+use Rattle.hk_model.specs.Replica.Fragments.{FragmentValue, cut}
+use Rattle.hk_model.specs.Replica.Rules.{join_result}
+use Rattle.hk_model.specs.World.Worlds.{ToldValue, outcome_by, delta_join}
+use Rattle.hk_model.specs.World.Worlds.ToldValue.{Refused}
 use Rattle.hk_laws.specs.Calls.{Gives, is_memory, is_first_outcome, is_memory_outcome}
 
 above : (m n : ℕ) → n ≤ m → nat_lt m n ≡ false

@@ -8,12 +8,12 @@ use Rattle.std.specs.FinSet as set
 use Rattle.hk_types.specs.declared.faults.Refusal.TheVariants.{ForeignLog, WrongStreams, Gap, Conflict}
 use Rattle.hk_types.specs.declared.version_key.VersionKey.{VersionKey}
 use Rattle.hk_types.specs.Values.{same_row}
-use Rattle.hk_model.specs.Maps.{or_else, maps_conflict, values_conflict}
-use Rattle.hk_model.specs.Content.{Content, readable, at_most, ended_by, without_ended}
-use Rattle.hk_model.specs.Fragments.{cut}
-use Rattle.hk_model.specs.Lawful.{IsLawful, IsLawfulStream}
-use Rattle.hk_model.specs.Rules.{contents_conflict, content_after_join, merge_result}
-use Rattle.hk_model.specs.Streams.{StreamContent, covers, greatest_covered, by_count, stream_with, together, all_together}
+use Rattle.hk_model.specs.Replica.Maps.{or_else, maps_conflict, values_conflict}
+use Rattle.hk_model.specs.Replica.Content.{Content, readable, at_most, ended_by, without_ended}
+use Rattle.hk_model.specs.Replica.Fragments.{cut}
+use Rattle.hk_model.specs.Replica.Lawful.{IsLawful, IsLawfulStream}
+use Rattle.hk_model.specs.Replica.Rules.{contents_conflict, content_after_join, merge_result}
+use Rattle.hk_model.specs.Replica.Streams.{StreamContent, covers, greatest_covered, by_count, stream_with, together, all_together}
 use Rattle.hk_model.proofs.Joins.{alike_differ, same_row_if}
 use Rattle.hk_model.proofs.Maps.{version_key_total, version_key_same, get-union, get-retain, get-without_ended, no_entry_conflict}
 use Rattle.hk_model.proofs.Repeats.{settled_itself}

@@ -7,18 +7,18 @@ use Rattle.hk_types.specs.declared.faults.Refusal.TheVariants.{ForeignLog, Wrong
 use Rattle.hk_log.specs.declared.item.Item.{Item}
 use Rattle.hk_log.specs.declared.item.Item.TheVariants.{Commit, Closed}
 use Rattle.hk_model.specs.declared.told.Told.{Told}
-use Rattle.hk_model.specs.Events.{told_seen}
-use Rattle.hk_model.specs.Content.{Content, readable}
-use Rattle.hk_model.specs.Answers.{AnswerValue, answer}
-use Rattle.hk_model.specs.Histories.{Transaction, last, table_at}
+use Rattle.hk_model.specs.World.Events.{told_seen}
+use Rattle.hk_model.specs.Replica.Content.{Content, readable}
+use Rattle.hk_model.specs.Replica.Answers.{AnswerValue, answer}
+use Rattle.hk_model.specs.History.Histories.{Transaction, last, table_at}
 use Rattle.hk_model.specs.declared.query.Query.{Query}
-use Rattle.hk_model.specs.Fragments.{FragmentValue, cut, part}
-use Rattle.hk_model.specs.Items.{log_of, stream_no, wrong_log}
-use Rattle.hk_model.specs.Rules.{join_result, content_after_join, contents_conflict, gather_result, gather_result_unless, first_wrong_log, conflict}
-use Rattle.hk_model.specs.Maps.{or_else}
-use Rattle.hk_model.specs.Facts.{row_facts, end_facts}
-use Rattle.hk_model.specs.Worlds.{ToldValue, asked_primary, delta_join, outcome_by, outcome_of_batch, outcome_of_reply}
-use Rattle.hk_model.specs.Worlds.ToldValue.{Answered, Refused}
+use Rattle.hk_model.specs.Replica.Fragments.{FragmentValue, cut, part}
+use Rattle.hk_model.specs.Replica.Items.{log_of, stream_no, wrong_log}
+use Rattle.hk_model.specs.Replica.Rules.{join_result, content_after_join, contents_conflict, gather_result, gather_result_unless, first_wrong_log, conflict}
+use Rattle.hk_model.specs.Replica.Maps.{or_else}
+use Rattle.hk_model.specs.History.Facts.{row_facts, end_facts}
+use Rattle.hk_model.specs.World.Worlds.{ToldValue, asked_primary, delta_join, outcome_by, outcome_of_batch, outcome_of_reply}
+use Rattle.hk_model.specs.World.Worlds.ToldValue.{Answered, Refused}
 use Rattle.hk_laws.specs.Calls.{Gives, is_first, is_first_outcome, is_memory, is_memory_outcome}
 
 -- a refusal was passed on, or it was out of memory

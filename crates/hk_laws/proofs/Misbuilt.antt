@@ -8,9 +8,9 @@ use Rattle.std.specs.Ordering.{eq_by_cmp}
 use Rattle.std.specs.FinMap as finmap
 use Rattle.hk_types.specs.declared.faults.Refusal.{Refusal}
 use Rattle.hk_types.specs.declared.faults.Refusal.TheVariants.{TwiceWritten, TooManyWrites}
-use Rattle.hk_model.specs.Rows.{RowKey, row_key_cmp}
-use Rattle.hk_model.specs.Histories.{written_key}
-use Rattle.hk_model.specs.Commits.{writes_result}
+use Rattle.hk_model.specs.History.Rows.{RowKey, row_key_cmp}
+use Rattle.hk_model.specs.History.Histories.{written_key}
+use Rattle.hk_model.specs.History.Commits.{writes_result}
 use Rattle.hk_model.specs.declared.write_op.WriteOp.{WriteOp}
 use Rattle.hk_model.proofs.Maps.{row_key_total}
 use Rattle.hk_laws.specs.Calls.{IsBuilt}

@@ -4,7 +4,7 @@ use Rattle.std.proofs.lemmas.Bool.Decides.{nat_tests}
 use Rattle.std.proofs.lemmas.Option.{slice_get_past, slice_get_read}
 use Rattle.std.specs.List.{slice_get, HoldsAt, list_all, filter_map, cons_option}
 use Rattle.std.specs.Option.{option_copied}
-use Rattle.hk_model.specs.Worlds.{at_number, with_at_number, all_numbered, both, first_and}
+use Rattle.hk_model.specs.World.Worlds.{at_number, with_at_number, all_numbered, both, first_and}
 
 not_first : (n : ℕ) → (suc (suc n) == 1) ≡ false
 not_first n = grind (arith, nat_tests)

@@ -2,13 +2,13 @@
 use Rattle.std.proofs.Common.{◌≡◌, refl, sym, ap, ◌∙◌, subst, ℕ, Bool, true, false, true≢false, cond, nat_lt, ◌||◌, ◌==◌, Option, Some, None, List, max, inl, inr}
 use Rattle.hk_types.specs.Values.{ConfigValue}
 use Rattle.hk_types.specs.declared.faults.Refusal.TheVariants.{NoStream, NotYet, TooOld, Gap, AheadOfMark}
-use Rattle.hk_model.specs.Content.{Content}
-use Rattle.hk_model.specs.Answers.{answer}
+use Rattle.hk_model.specs.Replica.Content.{Content}
+use Rattle.hk_model.specs.Replica.Answers.{answer}
 use Rattle.hk_model.specs.declared.query.Query.{Query}
-use Rattle.hk_model.specs.Histories.{Transaction, last, table_at}
-use Rattle.hk_model.specs.Worlds.{World, Replica, EventValue, ToldValue, Agree, act_on, after_mark, asked_primary, asked_of, both, by_items, delta_with, mark_now, merged_with, at_number, all_numbered, pruned_to, readable_of, step, outcome_of}
-use Rattle.hk_model.specs.Worlds.EventValue.{Commit, MarkOf, Absorb, Batch, Prune, Merge, Delta, Ask, FrontOf}
-use Rattle.hk_model.specs.Worlds.ToldValue.{Done, Answered, Refused}
+use Rattle.hk_model.specs.History.Histories.{Transaction, last, table_at}
+use Rattle.hk_model.specs.World.Worlds.{World, Replica, EventValue, ToldValue, Agree, act_on, after_mark, asked_primary, asked_of, both, by_items, delta_with, mark_now, merged_with, at_number, all_numbered, pruned_to, readable_of, step, outcome_of}
+use Rattle.hk_model.specs.World.Worlds.EventValue.{Commit, MarkOf, Absorb, Batch, Prune, Merge, Delta, Ask, FrontOf}
+use Rattle.hk_model.specs.World.Worlds.ToldValue.{Done, Answered, Refused}
 use Rattle.hk_model.proofs.Runs.{step_law_proof}
 use Rattle.hk_laws.specs.Calls.{Steps, StepsOf, is_first_outcome, may_lack}
 use Rattle.hk_laws.proofs.Barring.{commit_lacks}

@@ -2,17 +2,17 @@
 use Rattle.std.specs.Prelude.{◌≡◌, ◌⊎◌, ℕ, Bool, true, false, ◌||◌, nat_lt, if◌then◌else◌, List, Option, Some, None, Result, Ok, Err}
 use Rattle.std.specs.FinMap as finmap
 use Rattle.hk_types.specs.Values.{ConfigValue}
-use Rattle.hk_model.specs.Rows.{row_key_cmp}
-use Rattle.hk_model.specs.Histories.{Transaction, last}
-use Rattle.hk_model.specs.Commits.{writes_result}
+use Rattle.hk_model.specs.History.Rows.{row_key_cmp}
+use Rattle.hk_model.specs.History.Histories.{Transaction, last}
+use Rattle.hk_model.specs.History.Commits.{writes_result}
 use Rattle.hk_model.specs.declared.write_op.WriteOp.{WriteOp}
 use Rattle.hk_types.specs.declared.faults.Refusal.{Refusal}
 use Rattle.hk_types.specs.declared.faults.Refusal.TheVariants.{Gap, AheadOfMark, TooOld, NotYet, WriteConflict, NoRow, TwiceWritten, TooManyWrites, NoStream, ClockFull, NoSuch, Memory}
 use Rattle.hk_model.specs.declared.told.Told.{Told}
-use Rattle.hk_model.specs.Content.{Content}
-use Rattle.hk_model.specs.Events.{told_seen}
-use Rattle.hk_model.specs.Worlds.{World, Replica, EventValue, ToldValue, Agree, with_at_number, step, by_items}
-use Rattle.hk_model.specs.Worlds.ToldValue.{Refused}
+use Rattle.hk_model.specs.Replica.Content.{Content}
+use Rattle.hk_model.specs.World.Events.{told_seen}
+use Rattle.hk_model.specs.World.Worlds.{World, Replica, EventValue, ToldValue, Agree, with_at_number, step, by_items}
+use Rattle.hk_model.specs.World.Worlds.ToldValue.{Refused}
 use Rattle.hk_laws.specs.Running.{Running, step_outcome}
 
 -- whether a refusal is out of memory

@@ -9,9 +9,9 @@ use Rattle.hk_log.specs.Items.{EntryValue, MarkValue}
 use Rattle.hk_log.specs.declared.item.Item.{Item}
 use Rattle.hk_log.specs.declared.item.Item.TheVariants.{Commit, Closed}
 use Rattle.hk_model.specs.declared.write_op.WriteOp.{WriteOp}
-use Rattle.hk_model.specs.Codes.{version_key_code, content_code}
-use Rattle.hk_model.specs.Content.{Content}
-use Rattle.hk_model.specs.Histories.{Transaction}
+use Rattle.hk_model.specs.Replica.Codes.{version_key_code, content_code}
+use Rattle.hk_model.specs.Replica.Content.{Content}
+use Rattle.hk_model.specs.History.Histories.{Transaction}
 use Rattle.hk_primary.specs.Txns.{write_code}
 use Rattle.hk_laws.specs.Running.{Running}
 

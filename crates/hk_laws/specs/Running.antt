@@ -1,7 +1,7 @@
 -- A world whose replicas are kept as their contents, with the configuration of its log.
 use Rattle.hk_types.specs.Values.{ConfigValue}
-use Rattle.hk_model.specs.Content.{Content}
-use Rattle.hk_model.specs.Worlds.{World, EventValue, ToldValue, step, by_contents}
+use Rattle.hk_model.specs.Replica.Content.{Content}
+use Rattle.hk_model.specs.World.Worlds.{World, EventValue, ToldValue, step, by_contents}
 
 -- the value of a `World`
 pub record Running : Type 0 where

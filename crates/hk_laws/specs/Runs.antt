@@ -1,7 +1,7 @@
 -- What a run answers.
 use Rattle.std.specs.Prelude.{◌≡◌, ℕ, not, List, [], ◌∷◌, filter, length, if◌then◌else◌}
 use Rattle.hk_types.specs.Values.{ConfigValue}
-use Rattle.hk_model.specs.Worlds.{EventValue, ToldValue, run, by_items, new_items}
+use Rattle.hk_model.specs.World.Worlds.{EventValue, ToldValue, run, by_items, new_items}
 use Rattle.hk_laws.specs.Calls.{is_memory_outcome}
 
 -- the events that were not told that memory ran out

@@ -2,12 +2,12 @@
 
 ghost use Rattle.std.specs.Prelude.{◌≡◌, Result, IfOk, IfErr, OnErr, MatchResult, false};
 ghost use Rattle.hk_types.specs.declared.faults.Refusal.TheVariants.{Memory};
-ghost use Rattle.hk_model.specs.Answers.{reply};
-ghost use Rattle.hk_model.specs.Content.{readable};
-ghost use Rattle.hk_model.specs.Events.{told_seen};
-ghost use Rattle.hk_model.specs.Rules as rules;
-ghost use Rattle.hk_model.specs.Worlds.{outcome_of_batch, outcome_by, outcome_of_reply, outcome_of_take};
-ghost use Rattle.hk_model.specs.Worlds.ToldValue.{Fronted, Refused};
+ghost use Rattle.hk_model.specs.Replica.Answers.{reply};
+ghost use Rattle.hk_model.specs.Replica.Content.{readable};
+ghost use Rattle.hk_model.specs.World.Events.{told_seen};
+ghost use Rattle.hk_model.specs.Replica.Rules as rules;
+ghost use Rattle.hk_model.specs.World.Worlds.{outcome_of_batch, outcome_by, outcome_of_reply, outcome_of_take};
+ghost use Rattle.hk_model.specs.World.Worlds.ToldValue.{Fronted, Refused};
 ghost use Rattle.hk_laws.specs.Calls.{Gives, is_memory, is_memory_outcome, is_first_outcome};
 
 use hk_log::Item;

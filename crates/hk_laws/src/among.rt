@@ -1,10 +1,10 @@
 //! What happens to one replica of a list.
 
 ghost use Rattle.std.specs.Prelude.{◌≡◌, ◌≢◌, ◌+◌, ◌<◌, length, MatchOption, Ok, false};
-ghost use Rattle.hk_model.specs.Events.{told_seen};
-ghost use Rattle.hk_model.specs.Rules as rules;
-ghost use Rattle.hk_model.specs.Worlds.{all_numbered, both, delta_join, at_number, outcome_of_batch, outcome_by, outcome_of_take};
-ghost use Rattle.hk_model.specs.Worlds.ToldValue.{Done, Refused};
+ghost use Rattle.hk_model.specs.World.Events.{told_seen};
+ghost use Rattle.hk_model.specs.Replica.Rules as rules;
+ghost use Rattle.hk_model.specs.World.Worlds.{all_numbered, both, delta_join, at_number, outcome_of_batch, outcome_by, outcome_of_take};
+ghost use Rattle.hk_model.specs.World.Worlds.ToldValue.{Done, Refused};
 ghost use Rattle.hk_laws.specs.Calls.{Acts, is_memory, is_first_outcome};
 
 use crate::acting::{self, refused};

@@ -5,9 +5,9 @@ ghost use Rattle.std.specs.List.{list_any};
 ghost use Rattle.std.specs.Ordering.{eq_by_cmp};
 ghost use Rattle.std.specs.FinMap as finmap;
 ghost use Rattle.hk_types.specs.declared.faults.Refusal.TheVariants.{Memory};
-ghost use Rattle.hk_model.specs.Commits.{writes_result};
-ghost use Rattle.hk_model.specs.Histories.{written_key};
-ghost use Rattle.hk_model.specs.Rows.{row_key_cmp};
+ghost use Rattle.hk_model.specs.History.Commits.{writes_result};
+ghost use Rattle.hk_model.specs.History.Histories.{written_key};
+ghost use Rattle.hk_model.specs.History.Rows.{row_key_cmp};
 ghost use Rattle.hk_laws.specs.Calls.{IsBuilt};
 ghost use Rattle.hk_primary.specs.Txns.{IsRefusal, with_write, write_refused};
 

@@ -2,9 +2,9 @@
 
 ghost use Rattle.std.specs.Prelude.{◌≡◌, IfOk, IfErr, OnErr, false};
 ghost use Rattle.hk_types.specs.declared.faults.Refusal.TheVariants.{Memory};
-ghost use Rattle.hk_model.specs.Events.{told_seen};
-ghost use Rattle.hk_model.specs.Worlds.{asked_primary};
-ghost use Rattle.hk_model.specs.Worlds.EventValue.{Commit, MarkOf, Absorb, Batch, Prune, Merge, Delta, Ask, FrontOf};
+ghost use Rattle.hk_model.specs.World.Events.{told_seen};
+ghost use Rattle.hk_model.specs.World.Worlds.{asked_primary};
+ghost use Rattle.hk_model.specs.World.Worlds.EventValue.{Commit, MarkOf, Absorb, Batch, Prune, Merge, Delta, Ask, FrontOf};
 ghost use Rattle.hk_laws.specs.Running.{step_outcome};
 ghost use Rattle.hk_laws.specs.Calls.{Happens, Turns, refusal_of_transaction, is_memory_outcome, is_first_outcome};
 

@@ -1,7 +1,7 @@
 //! What one replica takes of others, and of several items at once.
 
-ghost use Rattle.hk_model.specs.Rules as rules;
-ghost use Rattle.hk_model.specs.Worlds.{outcome_of_batch, outcome_by};
+ghost use Rattle.hk_model.specs.Replica.Rules as rules;
+ghost use Rattle.hk_model.specs.World.Worlds.{outcome_of_batch, outcome_by};
 ghost use Rattle.hk_laws.specs.Calls.{Gives};
 
 use crate::acting::refused;

@@ -3,7 +3,7 @@
 ghost use Rattle.std.specs.Prelude.{◌≡◌, ◌+◌, ◌<◌, ◌++◌, ◌∷◌, [], is_some, length, IfOk, OnOk, MatchOption, None};
 ghost use Rattle.std.specs.List.{filter_map, list_all};
 ghost use Rattle.std.specs.Option.{option_copied};
-ghost use Rattle.hk_model.specs.Worlds as worlds;
+ghost use Rattle.hk_model.specs.World.Worlds as worlds;
 
 use hk_log::Item;
 use hk_state::ReplicaState;

@@ -3,7 +3,7 @@
 ghost use Rattle.std.specs.Prelude.{◌≡◌, ◌≤◌, ◌<◌, ◌+◌, ◌++◌, ◌∷◌, [], map, IfOk, IfErr};
 ghost use Rattle.std.specs.Vec.{vec_capacity, vec_len};
 ghost use Rattle.hk_types.specs.declared.faults.Refusal.TheVariants.{Memory};
-ghost use Rattle.hk_model.specs.Events.{event_seen, told_seen};
+ghost use Rattle.hk_model.specs.World.Events.{event_seen, told_seen};
 ghost use Rattle.hk_laws.specs.Runs.{Runs};
 
 use crate::world::World;

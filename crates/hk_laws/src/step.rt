@@ -1,6 +1,6 @@
 //! One event of a world.
 
-ghost use Rattle.hk_model.specs.Events.{event_seen, told_seen};
+ghost use Rattle.hk_model.specs.World.Events.{event_seen, told_seen};
 ghost use Rattle.hk_laws.specs.Calls.{Happens, Steps, StepsOf};
 
 use crate::world::World;

@@ -2,9 +2,9 @@
 
 ghost use Rattle.std.specs.Prelude.{◌≡◌, ◌≤◌, length, replicate, IfOk, IfErr};
 ghost use Rattle.hk_types.specs.declared.faults.Refusal.TheVariants.{Memory};
-ghost use Rattle.hk_model.specs.Histories.{last};
-ghost use Rattle.hk_model.specs.Replicas.{empty_content};
-ghost use Rattle.hk_model.specs.Worlds.{Agree, new_contents, new_items};
+ghost use Rattle.hk_model.specs.History.Histories.{last};
+ghost use Rattle.hk_model.specs.Replica.Replicas.{empty_content};
+ghost use Rattle.hk_model.specs.World.Worlds.{Agree, new_contents, new_items};
 
 use hk_primary::Primary;
 use hk_state::ReplicaState;

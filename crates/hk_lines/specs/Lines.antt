@@ -11,10 +11,10 @@ use Rattle.hk_log.specs.Items.{EntryValue, MarkValue}
 use Rattle.hk_log.specs.declared.item.Item.{Item}
 use Rattle.hk_log.specs.declared.item.Item.TheVariants.{Commit, Closed}
 use Rattle.hk_model.specs.declared.took.Took.TheVariants.{Taken, Repeated}
-use Rattle.hk_model.specs.Worlds.{ToldValue}
-use Rattle.hk_model.specs.Worlds.ToldValue.{Committed, Marked, Absorbed, Done, Answered, Fronted, Refused}
-use Rattle.hk_model.specs.Answers.{AnswerValue}
-use Rattle.hk_model.specs.Answers.AnswerValue.{One, Rows, Number}
+use Rattle.hk_model.specs.World.Worlds.{ToldValue}
+use Rattle.hk_model.specs.World.Worlds.ToldValue.{Committed, Marked, Absorbed, Done, Answered, Fronted, Refused}
+use Rattle.hk_model.specs.Replica.Answers.{AnswerValue}
+use Rattle.hk_model.specs.Replica.Answers.AnswerValue.{One, Rows, Number}
 
 -- a line feed
 abbrev pub line_end : List ℕ

@@ -3,8 +3,8 @@
 ghost use Rattle.std.specs.Prelude.{◌≡◌, ◌++◌, ℕ, List, IfOk, OnOk};
 ghost use Rattle.std.specs.List.{flat_map};
 ghost use Rattle.std.specs.String.{string_bytes};
-ghost use Rattle.hk_model.specs.Answers.{answer_seen};
-ghost use Rattle.hk_model.specs.Events.{told_seen};
+ghost use Rattle.hk_model.specs.Replica.Answers.{answer_seen};
+ghost use Rattle.hk_model.specs.World.Events.{told_seen};
 ghost use Rattle.hk_lines.specs.Lines as spec;
 
 use hk_log::{Entry, Item, Mark};

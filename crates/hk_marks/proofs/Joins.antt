@@ -13,9 +13,9 @@ use Rattle.std.specs.BTreeSet as sorted
 use Rattle.std.specs.FinMap as finmap
 use Rattle.std.specs.FinSet as set
 use Rattle.hk_model.proofs.Streams.{later, told, latest, latest-append, latest-entries, tied_counts}
-use Rattle.hk_model.specs.Streams.{StreamContent, covers, greatest_covered, stream_with, together, all_together, unknown}
+use Rattle.hk_model.specs.Replica.Streams.{StreamContent, covers, greatest_covered, stream_with, together, all_together, unknown}
 use Rattle.hk_model.proofs.Lawful.{settled_lawful}
-use Rattle.hk_model.specs.Lawful.{IsLawfulStream}
+use Rattle.hk_model.specs.Replica.Lawful.{IsLawfulStream}
 use Rattle.hk_marks.proofs.Settled.{settled_same}
 use Rattle.hk_marks.proofs.Told.{settled_alike, later_comm}
 use Rattle.hk_marks.proofs.Trees.{contains-taken_seen, contains-up_to, covers_seen, get-waiting_seen}

@@ -4,9 +4,9 @@ use Rattle.std.proofs.lemmas.List.{length-replicate, take_more, take_all}
 use Rattle.std.proofs.lemmas.List.Elements.{All-set, All-replicate}
 use Rattle.std.specs.FinMap as finmap
 use Rattle.hk_model.proofs.Lawful.{settled_lawful}
-use Rattle.hk_model.specs.Streams.{StreamContent, unknown}
-use Rattle.hk_model.specs.Content.{least_closed}
-use Rattle.hk_model.specs.Lawful.{IsLawfulStream}
+use Rattle.hk_model.specs.Replica.Streams.{StreamContent, unknown}
+use Rattle.hk_model.specs.Replica.Content.{least_closed}
+use Rattle.hk_model.specs.Replica.Lawful.{IsLawfulStream}
 use Rattle.hk_marks.proofs.Numbered.{unknown_numbered}
 use Rattle.hk_marks.specs.Seen.{AreStreams, IsNumbered, up_to}
 use Rattle.hk_marks.specs.Steps.{with_number, with_mark, with_prefix}

@@ -8,7 +8,7 @@ use Rattle.std.specs.FinMap as finmap
 use Rattle.std.specs.FinSet as set
 use Rattle.hk_model.proofs.Maps.{get-retain}
 use Rattle.hk_model.proofs.Streams.{later, told, latest, or_zero, latest-append, latest-entries, get-by_count, greatest_bound, tied_counts}
-use Rattle.hk_model.specs.Streams.{StreamContent, covers, by_count, stream_with, together, all_together, unknown}
+use Rattle.hk_model.specs.Replica.Streams.{StreamContent, covers, by_count, stream_with, together, all_together, unknown}
 use Rattle.hk_marks.proofs.Trees.{contains-up_to}
 use Rattle.hk_marks.specs.Seen.{IsNumbered, up_to}
 use Rattle.hk_marks.specs.Steps.{with_number, with_mark, with_prefix}

@@ -11,8 +11,8 @@ use Rattle.hk_log.specs.declared.item.Item.{Item}
 use Rattle.hk_log.specs.declared.item.Item.TheVariants.{Commit, Closed}
 use Rattle.hk_model.proofs.Streams.{later, latest, latest-append, or_zero, greatest_bound, greatest_above, together-settled}
 use Rattle.hk_model.proofs.Repeats.{settled_itself, together_unknown}
-use Rattle.hk_model.specs.Streams.{StreamContent, stream_with, greatest_covered, together, all_together, stream_of, streams_of, stream_at, unknown}
-use Rattle.hk_model.specs.Lawful.{IsLawfulStream}
+use Rattle.hk_model.specs.Replica.Streams.{StreamContent, stream_with, greatest_covered, together, all_together, stream_of, streams_of, stream_at, unknown}
+use Rattle.hk_model.specs.Replica.Lawful.{IsLawfulStream}
 use Rattle.hk_marks.proofs.Settled.{settled_same}
 use Rattle.hk_marks.specs.Steps.{with_number, with_mark}
 

@@ -11,7 +11,7 @@ use Rattle.std.specs.BTreeSet as sorted
 use Rattle.std.specs.FinMap as finmap
 use Rattle.std.specs.FinMap.{find}
 use Rattle.std.specs.FinSet as set
-use Rattle.hk_model.specs.Streams.{covers, stream_with}
+use Rattle.hk_model.specs.Replica.Streams.{covers, stream_with}
 use Rattle.hk_marks.proofs.Settled.{covers_prefix, settled-forget, settled-done, mark_covered, mark_waits}
 use Rattle.hk_marks.specs.Seen.{up_to, taken_seen, waiting_seen, IsExtra, WaitsAbove, IsStored, stream_seen}
 use Rattle.hk_marks.specs.Steps.{with_number, with_mark}

@@ -4,7 +4,7 @@ use Rattle.std.specs.List.{list_any}
 use Rattle.std.specs.Ordering.{nat_cmp, eq_by_cmp}
 use Rattle.std.specs.FinMap as finmap
 use Rattle.std.specs.FinSet as set
-use Rattle.hk_model.specs.Streams.{StreamContent, covers}
+use Rattle.hk_model.specs.Replica.Streams.{StreamContent, covers}
 
 -- whether a list has a number
 abbrev pub has_number : List ℕ → ℕ → Bool

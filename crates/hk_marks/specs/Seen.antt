@@ -7,8 +7,8 @@ use Rattle.std.specs.BTreeMap as tree
 use Rattle.std.specs.BTreeSet as sorted
 use Rattle.std.specs.BTreeMap.{BTreeMap}
 use Rattle.std.specs.BTreeSet.{BTreeSet}
-use Rattle.hk_model.specs.Streams.{StreamContent}
-use Rattle.hk_model.specs.Lawful.{IsLawfulStream}
+use Rattle.hk_model.specs.Replica.Streams.{StreamContent}
+use Rattle.hk_model.specs.Replica.Lawful.{IsLawfulStream}
 
 -- the numbers 1 to n
 abbrev pub up_to : ℕ → set.FinSet nat_cmp

@@ -3,7 +3,7 @@ use Rattle.std.specs.Prelude.{ℕ, ◌∷◌, max, not}
 use Rattle.std.specs.Ordering.{nat_cmp}
 use Rattle.std.specs.FinMap as finmap
 use Rattle.std.specs.FinSet as set
-use Rattle.hk_model.specs.Streams.{StreamContent, covers, stream_with}
+use Rattle.hk_model.specs.Replica.Streams.{StreamContent, covers, stream_with}
 use Rattle.hk_marks.specs.Seen.{up_to}
 
 -- the stream after this number was taken

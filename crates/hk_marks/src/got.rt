@@ -9,9 +9,9 @@ ghost use Rattle.std.specs.Map.Iter.{ShowsInOrder, deref, deref_pair};
 ghost use Rattle.hk_types.specs.declared.faults.Refusal.TheVariants.{Memory};
 ghost use Rattle.hk_log.specs.Items.{EntryValue, MarkValue};
 ghost use Rattle.hk_log.specs.declared.item.Item.TheVariants.{Commit, Closed};
-ghost use Rattle.hk_model.specs.Content.{least_closed};
-ghost use Rattle.hk_model.specs.Lawful.{IsLawfulStream};
-ghost use Rattle.hk_model.specs.Streams.{StreamContent, all_together, covers, adds_nothing, stream_at, streams_of, unknown};
+ghost use Rattle.hk_model.specs.Replica.Content.{least_closed};
+ghost use Rattle.hk_model.specs.Replica.Lawful.{IsLawfulStream};
+ghost use Rattle.hk_model.specs.Replica.Streams.{StreamContent, all_together, covers, adds_nothing, stream_at, streams_of, unknown};
 ghost use Rattle.hk_marks.specs.Seen.{IsNumbered};
 ghost use Rattle.hk_marks.specs.Steps.{with_number, with_mark, with_prefix, extra_numbers};
 
@@ -38,8 +38,8 @@ pub struct Got {
 impl Model for Got {
     ghost use Rattle.std.specs.Prelude.{List};
     ghost use Rattle.std.specs.Coded.{coded_list};
-    ghost use Rattle.hk_model.specs.Streams.{StreamContent};
-    ghost use Rattle.hk_model.specs.Codes.{stream_code};
+    ghost use Rattle.hk_model.specs.Replica.Streams.{StreamContent};
+    ghost use Rattle.hk_model.specs.Replica.Codes.{stream_code};
     ghost use Rattle.hk_marks.specs.Seen.{AreStreams};
 
     ghost Value = { List StreamContent };

@@ -10,8 +10,8 @@ ghost use Rattle.std.specs.BTreeMap as tree;
 ghost use Rattle.std.specs.BTreeSet as sorted;
 ghost use Rattle.std.specs.FinSet as set;
 ghost use Rattle.std.specs.Map.Iter.{ShowsInOrder, deref, deref_pair};
-ghost use Rattle.hk_model.specs.Streams.{StreamContent, covers, stream_with, unknown, adds_nothing};
-ghost use Rattle.hk_model.specs.Lawful.{IsLawfulStream};
+ghost use Rattle.hk_model.specs.Replica.Streams.{StreamContent, covers, stream_with, unknown, adds_nothing};
+ghost use Rattle.hk_model.specs.Replica.Lawful.{IsLawfulStream};
 ghost use Rattle.hk_marks.specs.Seen.{up_to, taken_seen, waiting_seen, IsExtra, WaitsAbove};
 ghost use Rattle.hk_model.proofs.Streams.{later, told};
 ghost use Rattle.hk_marks.specs.Steps.{with_number, with_mark, with_prefix, extra_numbers};
@@ -35,8 +35,8 @@ pub struct Stream {
 }
 
 impl Model for Stream {
-    ghost use Rattle.hk_model.specs.Streams.{StreamContent};
-    ghost use Rattle.hk_model.specs.Codes.{stream_code};
+    ghost use Rattle.hk_model.specs.Replica.Streams.{StreamContent};
+    ghost use Rattle.hk_model.specs.Replica.Codes.{stream_code};
     ghost use Rattle.hk_marks.specs.Seen.{stream_seen, IsStored};
 
     ghost Value = { StreamContent };

@@ -11,13 +11,13 @@ use Rattle.std.specs.FinMap.{find}
 use Rattle.hk_types.specs.Values.{RowValue, same_row}
 use Rattle.hk_types.specs.declared.version_key.VersionKey.{VersionKey}
 use Rattle.hk_log.specs.Versions.{VersionValue}
-use Rattle.hk_model.specs.Rows.{version_key_cmp}
-use Rattle.hk_model.specs.Maps.{or_else, values_conflict, maps_conflict, union}
-use Rattle.hk_model.specs.Streams.{all_together}
-use Rattle.hk_model.specs.Content.{Content, at_most, ended_by}
-use Rattle.hk_model.specs.Fragments.{FragmentValue}
-use Rattle.hk_model.specs.Lawful.{IsLawful}
-use Rattle.hk_model.specs.Rules.{contents_conflict, content_after_join}
+use Rattle.hk_model.specs.History.Rows.{version_key_cmp}
+use Rattle.hk_model.specs.Replica.Maps.{or_else, values_conflict, maps_conflict, union}
+use Rattle.hk_model.specs.Replica.Streams.{all_together}
+use Rattle.hk_model.specs.Replica.Content.{Content, at_most, ended_by}
+use Rattle.hk_model.specs.Replica.Fragments.{FragmentValue}
+use Rattle.hk_model.specs.Replica.Lawful.{IsLawful}
+use Rattle.hk_model.specs.Replica.Rules.{contents_conflict, content_after_join}
 use Rattle.hk_model.proofs.Maps.{version_key_total, version_key_same, get-union, get-retain, get-without_ended}
 use Rattle.hk_facts.specs.Facts.{if_known, row_of, died_of}
 use Rattle.hk_state.specs.declared.apply.Change.{Change}

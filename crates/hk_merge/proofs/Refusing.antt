@@ -9,13 +9,13 @@ use Rattle.hk_types.specs.declared.version_key.VersionKey.{VersionKey}
 use Rattle.hk_types.specs.declared.faults.Refusal.{Refusal}
 use Rattle.hk_types.specs.declared.faults.Refusal.TheVariants.{ForeignLog, WrongStreams, Gap, Conflict, Memory}
 use Rattle.hk_log.specs.Versions.{VersionValue}
-use Rattle.hk_model.specs.Maps.{maps_conflict}
-use Rattle.hk_model.specs.Streams.{StreamContent}
-use Rattle.hk_model.specs.Content.{Content, readable, at_most}
-use Rattle.hk_model.specs.Fragments.{FragmentValue, cut}
-use Rattle.hk_model.specs.Lawful.{IsLawful}
-use Rattle.hk_model.specs.Replicas.{Represents}
-use Rattle.hk_model.specs.Rules.{contents_conflict, join_result, content_after_join}
+use Rattle.hk_model.specs.Replica.Maps.{maps_conflict}
+use Rattle.hk_model.specs.Replica.Streams.{StreamContent}
+use Rattle.hk_model.specs.Replica.Content.{Content, readable, at_most}
+use Rattle.hk_model.specs.Replica.Fragments.{FragmentValue, cut}
+use Rattle.hk_model.specs.Replica.Lawful.{IsLawful}
+use Rattle.hk_model.specs.Replica.Replicas.{Represents}
+use Rattle.hk_model.specs.Replica.Rules.{contents_conflict, join_result, content_after_join}
 use Rattle.hk_model.proofs.Maps.{version_key_total, version_key_same, get-retain, get-without_ended}
 use Rattle.hk_model.proofs.Laws.{merge_law_proof}
 use Rattle.hk_state.specs.Facts.{FactsValue}

@@ -4,11 +4,11 @@ use Rattle.hk_types.specs.Values.{ConfigValue}
 use Rattle.hk_types.specs.declared.faults.Refusal.{Refusal}
 use Rattle.hk_types.specs.declared.faults.Refusal.TheVariants.{Memory}
 use Rattle.hk_log.specs.declared.item.Item.{Item}
-use Rattle.hk_model.specs.Content.{Content}
-use Rattle.hk_model.specs.Fragments.{FragmentValue, cut}
-use Rattle.hk_model.specs.Histories.{Transaction, IsHistory}
-use Rattle.hk_model.specs.Replicas.{Represents}
-use Rattle.hk_model.specs.Rules.{join_result}
+use Rattle.hk_model.specs.Replica.Content.{Content}
+use Rattle.hk_model.specs.Replica.Fragments.{FragmentValue, cut}
+use Rattle.hk_model.specs.History.Histories.{Transaction, IsHistory}
+use Rattle.hk_model.specs.Replica.Replicas.{Represents}
+use Rattle.hk_model.specs.Replica.Rules.{join_result}
 
 -- a join left what joining gives, or it changed nothing: it was refused so, or memory ran out where joining
 -- gives a content

@@ -6,8 +6,8 @@ use Rattle.std.specs.FinMap as finmap
 use Rattle.hk_types.specs.Values.{RowValue}
 use Rattle.hk_types.specs.declared.version_key.VersionKey.{VersionKey}
 use Rattle.hk_log.specs.Versions.{VersionValue}
-use Rattle.hk_model.specs.Content.{Content, at_most}
-use Rattle.hk_model.specs.Fragments.{FragmentValue}
+use Rattle.hk_model.specs.Replica.Content.{Content, at_most}
+use Rattle.hk_model.specs.Replica.Fragments.{FragmentValue}
 use Rattle.hk_facts.specs.Facts.{row_of, died_of}
 use Rattle.hk_state.specs.Facts.{FactsValue, known_at, entry_if}
 use Rattle.hk_state.specs.Reads.{facts_of_content}

@@ -4,11 +4,11 @@ ghost use Rattle.std.specs.Prelude.{◌≡◌, ◌==◌, ◌||◌, ◌&&◌, max
 ghost use Rattle.std.specs.FinMap.{find};
 ghost use Rattle.hk_types.specs.declared.faults.Refusal.TheVariants.{Memory};
 ghost use Rattle.hk_types.specs.declared.version_key.VersionKey.{VersionKey};
-ghost use Rattle.hk_model.specs.Rows.{version_key_cmp};
-ghost use Rattle.hk_model.specs.Maps.{or_else};
-ghost use Rattle.hk_model.specs.Streams.{all_together};
-ghost use Rattle.hk_model.specs.Rules.{contents_conflict, content_after_join};
-ghost use Rattle.hk_model.specs.Lawful.{IsLawful, IsLawfulFragment};
+ghost use Rattle.hk_model.specs.History.Rows.{version_key_cmp};
+ghost use Rattle.hk_model.specs.Replica.Maps.{or_else};
+ghost use Rattle.hk_model.specs.Replica.Streams.{all_together};
+ghost use Rattle.hk_model.specs.Replica.Rules.{contents_conflict, content_after_join};
+ghost use Rattle.hk_model.specs.Replica.Lawful.{IsLawful, IsLawfulFragment};
 ghost use Rattle.hk_state.specs.Drops.{is_among};
 ghost use Rattle.hk_state.specs.Versions.{AreVersions, borrowed};
 ghost use Rattle.hk_state.specs.Changes.{content_after_change};

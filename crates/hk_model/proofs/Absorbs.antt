@@ -12,22 +12,22 @@ use Rattle.hk_model.proofs.Logs.{IsOneLog, IsPart, fact_row, fact_end, row_born,
 use Rattle.hk_model.proofs.Complete.{least_within, taken_number, closed_entry}
 use Rattle.hk_model.proofs.Joins.{rows_of-append, ends_of-append, content_of_row, content_of_end, alike_differ, same_row_if}
 use Rattle.hk_model.proofs.Same.{SameItems, number_taken, same_content_of}
-use Rattle.hk_model.specs.Maps.{or_else}
+use Rattle.hk_model.specs.Replica.Maps.{or_else}
 use Rattle.hk_types.specs.Values.{RowValue, ConfigValue}
 use Rattle.hk_types.specs.declared.version_key.VersionKey.{VersionKey}
 use Rattle.hk_types.specs.Values.{same_row}
 use Rattle.hk_log.specs.Items.{EntryValue, MarkValue}
 use Rattle.hk_log.specs.declared.item.Item.{Item}
 use Rattle.hk_log.specs.declared.item.Item.TheVariants.{Commit, Closed}
-use Rattle.hk_model.specs.Facts.{rows_of, ends_of}
-use Rattle.hk_model.specs.Streams.{StreamContent, stream_of, streams_of, stream_at, all_together, unknown}
-use Rattle.hk_model.specs.Content.{Content, readable, at_most}
-use Rattle.hk_model.specs.ContentOf.{content_of}
+use Rattle.hk_model.specs.History.Facts.{rows_of, ends_of}
+use Rattle.hk_model.specs.Replica.Streams.{StreamContent, stream_of, streams_of, stream_at, all_together, unknown}
+use Rattle.hk_model.specs.Replica.Content.{Content, readable, at_most}
+use Rattle.hk_model.specs.Replica.ContentOf.{content_of}
 use Rattle.hk_model.specs.declared.took.Took.{Took}
-use Rattle.hk_model.specs.Rules.{with_items, entry_conflicts, absorb_result, take_result, take_result_unless, took}
+use Rattle.hk_model.specs.Replica.Rules.{with_items, entry_conflicts, absorb_result, take_result, take_result_unless, took}
 use Rattle.hk_types.specs.declared.faults.Refusal.{Refusal}
 use Rattle.hk_types.specs.declared.faults.Refusal.TheVariants.{Conflict}
-use Rattle.hk_model.specs.Items.{wrong_log}
+use Rattle.hk_model.specs.Replica.Items.{wrong_log}
 use Rattle.hk_model.specs.declared.took.Took.TheVariants.{Taken, Repeated}
 
 pub stream_at-streams_of : (n : ℕ) (items : List Item) (s : ℕ) → 0 < s → s ≤ n → stream_at (streams_of n items) s ≡ stream_of items s

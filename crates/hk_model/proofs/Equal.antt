@@ -7,13 +7,13 @@ use Rattle.hk_model.proofs.Honest.{Contains_In}
 use Rattle.hk_model.proofs.Same.{same_streams}
 use Rattle.hk_model.proofs.Same.{SameItems as SameIn}
 use Rattle.hk_model.proofs.Laws.{readable_more, same, represents_both, join_law_proof, reply_law_proof, deliver_law_proof}
-use Rattle.hk_model.specs.Streams.{streams_of}
-use Rattle.hk_model.specs.Content.{Content, readable, least_closed}
-use Rattle.hk_model.specs.ContentOf.{content_of}
-use Rattle.hk_model.specs.Histories.{Transaction, IsHistory, AreItemsOf}
-use Rattle.hk_model.specs.Answers.{reply}
-use Rattle.hk_model.specs.Replicas.{Represents, Delivery, content_after_deliveries, delivered_items, accepted_horizon, empty_content}
-use Rattle.hk_model.specs.Replicas.Delivery.{Bring, PruneTo}
+use Rattle.hk_model.specs.Replica.Streams.{streams_of}
+use Rattle.hk_model.specs.Replica.Content.{Content, readable, least_closed}
+use Rattle.hk_model.specs.Replica.ContentOf.{content_of}
+use Rattle.hk_model.specs.History.Histories.{Transaction, IsHistory, AreItemsOf}
+use Rattle.hk_model.specs.Replica.Answers.{reply}
+use Rattle.hk_model.specs.Replica.Replicas.{Represents, Delivery, content_after_deliveries, delivered_items, accepted_horizon, empty_content}
+use Rattle.hk_model.specs.Replica.Replicas.Delivery.{Bring, PruneTo}
 use Rattle.hk_model.specs.Laws.{DeliverRepresents, DeliverReplies, JoinLaw, SameItems, SameContents, SameReadable, WorldLaw}
 
 -- ---- one replica, end to end

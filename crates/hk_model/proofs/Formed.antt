@@ -12,11 +12,11 @@ use Rattle.hk_types.specs.declared.version_key.VersionKey.{VersionKey}
 use Rattle.hk_log.specs.Items.{EntryValue, IsEntry, end_place, row_place, is_before, is_after, rise_after, was_born, counts_fit}
 use Rattle.hk_log.specs.declared.item.Item.{Item}
 use Rattle.hk_log.specs.declared.item.Item.TheVariants.{Commit, Closed}
-use Rattle.hk_model.specs.Rows.{RowKey, row_key_cmp, version_of}
-use Rattle.hk_model.specs.Lawful.{IsItem}
+use Rattle.hk_model.specs.History.Rows.{RowKey, row_key_cmp, version_of}
+use Rattle.hk_model.specs.Replica.Lawful.{IsItem}
 use Rattle.hk_model.specs.declared.write_op.WriteOp.{WriteOp}
 use Rattle.hk_model.specs.declared.write_op.WriteOp.TheVariants.{Put, Remove}
-use Rattle.hk_model.specs.Histories.{Transaction, Tables, written_key, put_row, tables_of, last, last_put, entries_in, entry_of, entries_of, KeysRise, RemovesPresent, Follows, IsHistory, IsItemOf}
+use Rattle.hk_model.specs.History.Histories.{Transaction, Tables, written_key, put_row, tables_of, last, last_put, entries_in, entry_of, entries_of, KeysRise, RemovesPresent, Follows, IsHistory, IsItemOf}
 use Rattle.hk_model.proofs.Members.{In}
 use Rattle.hk_model.proofs.Logs.{row_born}
 use Rattle.hk_model.proofs.Histories.{entry_time, last_put_last, table_row}

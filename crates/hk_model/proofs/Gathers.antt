@@ -14,14 +14,14 @@ use Rattle.hk_model.proofs.Honest.{history_log, items_part, item_fits}
 use Rattle.hk_model.proofs.Visible.{any_where}
 use Rattle.hk_types.specs.declared.version_key.VersionKey.{VersionKey}
 use Rattle.hk_types.specs.Values.{same_row}
-use Rattle.hk_model.specs.Rows.{version_key_cmp}
+use Rattle.hk_model.specs.History.Rows.{version_key_cmp}
 use Rattle.hk_log.specs.declared.item.Item.{Item}
-use Rattle.hk_model.specs.Facts.{row_facts, end_facts}
-use Rattle.hk_model.specs.Fragments.{part}
-use Rattle.hk_model.specs.Rules.{first_wrong_log, gather_result, gather_result_unless, conflict}
+use Rattle.hk_model.specs.History.Facts.{row_facts, end_facts}
+use Rattle.hk_model.specs.Replica.Fragments.{part}
+use Rattle.hk_model.specs.Replica.Rules.{first_wrong_log, gather_result, gather_result_unless, conflict}
 use Rattle.hk_types.specs.declared.faults.Refusal.TheVariants.{Conflict}
-use Rattle.hk_model.specs.Maps.{or_else}
-use Rattle.hk_model.specs.Histories.{Transaction, IsHistory, IsItemOf, AreItemsOf, entries_of}
+use Rattle.hk_model.specs.Replica.Maps.{or_else}
+use Rattle.hk_model.specs.History.Histories.{Transaction, IsHistory, IsItemOf, AreItemsOf, entries_of}
 
 no_conflict : {X : Type 0} (same : X → X → Bool) (facts : List (VersionKey × X)) → ((v : VersionKey) (a b : X) → In (v, a) facts → In (v, b) facts → same a b ≡ true) → conflict same facts ≡ false
 no_conflict {X = X} same facts agree = by (conflict same facts) refl

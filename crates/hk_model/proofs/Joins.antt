@@ -9,19 +9,19 @@ use Rattle.hk_model.proofs.Points.{Fit, ends_join, rows_join, prune_twice}
 use Rattle.hk_model.proofs.Sets.{row_facts-append, end_facts-append, all_together-streams_of}
 use Rattle.hk_model.proofs.Logs.{IsOneLog, IsPart, fit}
 use Rattle.hk_model.proofs.Complete.{complete}
-use Rattle.hk_model.specs.Maps.{or_else, values_conflict}
+use Rattle.hk_model.specs.Replica.Maps.{or_else, values_conflict}
 use Rattle.hk_types.specs.Values.{RowValue, ConfigValue}
 use Rattle.hk_types.specs.declared.version_key.VersionKey.{VersionKey}
 use Rattle.hk_types.specs.Values.{same_row}
-use Rattle.hk_model.specs.Rows.{version_key_cmp}
+use Rattle.hk_model.specs.History.Rows.{version_key_cmp}
 use Rattle.hk_log.specs.Items.{EntryValue}
 use Rattle.hk_log.specs.declared.item.Item.{Item}
-use Rattle.hk_model.specs.Facts.{row_facts, end_facts, rows_of, ends_of}
-use Rattle.hk_model.specs.Streams.{stream_of, streams_of}
-use Rattle.hk_model.specs.Content.{Content, readable, ended_by, at_most, without_ended}
-use Rattle.hk_model.specs.ContentOf.{content_of}
-use Rattle.hk_model.specs.Fragments.{part}
-use Rattle.hk_model.specs.Rules.{join_result, content_after_join, contents_conflict, prune_result}
+use Rattle.hk_model.specs.History.Facts.{row_facts, end_facts, rows_of, ends_of}
+use Rattle.hk_model.specs.Replica.Streams.{stream_of, streams_of}
+use Rattle.hk_model.specs.Replica.Content.{Content, readable, ended_by, at_most, without_ended}
+use Rattle.hk_model.specs.Replica.ContentOf.{content_of}
+use Rattle.hk_model.specs.Replica.Fragments.{part}
+use Rattle.hk_model.specs.Replica.Rules.{join_result, content_after_join, contents_conflict, prune_result}
 use Rattle.hk_types.specs.declared.faults.Refusal.{Refusal}
 use Rattle.hk_types.specs.declared.faults.Refusal.TheVariants.{ForeignLog, WrongStreams, Gap, Conflict, AheadOfMark}
 

@@ -6,8 +6,8 @@ use Rattle.std.specs.Cmp.{nat_cmp_total as nat_total}
 use Rattle.std.specs.FinMap as finmap
 use Rattle.std.specs.FinSet as set
 use Rattle.hk_model.proofs.Writes.{All_In}
-use Rattle.hk_model.specs.ContentOf.{content_of}
-use Rattle.hk_model.specs.Items.{log_of, stream_no, wrong_log}
+use Rattle.hk_model.specs.Replica.ContentOf.{content_of}
+use Rattle.hk_model.specs.Replica.Items.{log_of, stream_no, wrong_log}
 use Rattle.hk_model.specs.declared.took.Took.TheVariants.{Taken, Repeated}
 use Rattle.hk_model.specs.declared.took.Took.{Took}
 use Rattle.hk_types.specs.declared.faults.Refusal.TheVariants.{ForeignLog, WrongStreams, Gap, Conflict, AheadOfMark}
@@ -17,20 +17,20 @@ use Rattle.hk_model.proofs.Members.{In, In-map}
 use Rattle.std.proofs.lemmas.Bool.{and_parts, or_parts}
 use Rattle.std.specs.List.{list_all, range_with_len}
 use Rattle.hk_model.proofs.Logs.{fact_row, fact_end, row_found, end_found, row_born}
-use Rattle.hk_model.specs.Maps.{or_else, union, maps_conflict}
+use Rattle.hk_model.specs.Replica.Maps.{or_else, union, maps_conflict}
 use Rattle.hk_types.specs.Values.{RowValue, ConfigValue}
 use Rattle.hk_types.specs.declared.version_key.VersionKey.{VersionKey}
 use Rattle.hk_types.specs.Values.{same_row}
-use Rattle.hk_model.specs.Rows.{version_key_cmp}
+use Rattle.hk_model.specs.History.Rows.{version_key_cmp}
 use Rattle.hk_log.specs.Items.{EntryValue, MarkValue, IsEntry, was_born}
 use Rattle.hk_log.specs.declared.item.Item.{Item}
 use Rattle.hk_log.specs.declared.item.Item.TheVariants.{Commit, Closed}
-use Rattle.hk_model.specs.Facts.{rows_of, ends_of, entry_ends, row_facts, end_facts}
-use Rattle.hk_model.specs.Streams.{StreamContent, covers, by_count, stream_with, together, all_together, stream_of, streams_of, unknown, stream_at, adds_nothing, marks_of}
-use Rattle.hk_model.specs.Content.{Content, readable, least_closed, at_most, without_ended}
-use Rattle.hk_model.specs.Fragments.{FragmentValue, cut, part}
-use Rattle.hk_model.specs.Rules.{content_after_join, with_items, join_result, contents_conflict, take_result, take_result_unless, absorb_result, entry_conflicts, prune_result, gather_result, gather_result_unless, first_wrong_log, conflict}
-use Rattle.hk_model.specs.Lawful.{IsLawfulStream, IsLawful, IsLawfulFragment, IsItem}
+use Rattle.hk_model.specs.History.Facts.{rows_of, ends_of, entry_ends, row_facts, end_facts}
+use Rattle.hk_model.specs.Replica.Streams.{StreamContent, covers, by_count, stream_with, together, all_together, stream_of, streams_of, unknown, stream_at, adds_nothing, marks_of}
+use Rattle.hk_model.specs.Replica.Content.{Content, readable, least_closed, at_most, without_ended}
+use Rattle.hk_model.specs.Replica.Fragments.{FragmentValue, cut, part}
+use Rattle.hk_model.specs.Replica.Rules.{content_after_join, with_items, join_result, contents_conflict, take_result, take_result_unless, absorb_result, entry_conflicts, prune_result, gather_result, gather_result_unless, first_wrong_log, conflict}
+use Rattle.hk_model.specs.Replica.Lawful.{IsLawfulStream, IsLawful, IsLawfulFragment, IsItem}
 
 either_Some : {X : Type 0} (x y : Option X) (r : X) → or_else x y ≡ Some r → (x ≡ Some r) ⊎ (y ≡ Some r)
 either_Some None y r e = inr e

@@ -12,9 +12,9 @@ use Rattle.std.specs.FinSet as set
 use Rattle.std.specs.FinMap.Entries.{find, is_sorted, below_all, same_entries}
 use Rattle.hk_types.specs.Values.{RowValue}
 use Rattle.hk_types.specs.declared.version_key.VersionKey.{VersionKey}
-use Rattle.hk_model.specs.Rows.{RowKey, version_key_cmp, row_key_cmp, row_key_of}
-use Rattle.hk_model.specs.Content.{Content}
-use Rattle.hk_model.specs.Answers.{shows, visible}
+use Rattle.hk_model.specs.History.Rows.{RowKey, version_key_cmp, row_key_cmp, row_key_of}
+use Rattle.hk_model.specs.Replica.Content.{Content}
+use Rattle.hk_model.specs.Replica.Answers.{shows, visible}
 use Rattle.hk_model.proofs.Maps.{version_key_total, row_key_total, row_key_same, version_key_same}
 use Rattle.hk_model.proofs.Members.{In, In-find}
 use Rattle.hk_model.proofs.Same.{same_option}

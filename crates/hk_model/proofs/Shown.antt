@@ -9,9 +9,9 @@ use Rattle.hk_model.proofs.Members.{In, In-map, map-In, In-find, find-In}
 use Rattle.hk_model.proofs.Visible.{get_entry}
 use Rattle.hk_types.specs.Values.{RowValue}
 use Rattle.hk_types.specs.declared.version_key.VersionKey.{VersionKey}
-use Rattle.hk_model.specs.Rows.{RowKey, version_key_cmp, row_key_cmp, row_key_of, version_of}
-use Rattle.hk_model.specs.Content.{Content, ended_by}
-use Rattle.hk_model.specs.Answers.{replaces, shows, visible}
+use Rattle.hk_model.specs.History.Rows.{RowKey, version_key_cmp, row_key_cmp, row_key_of, version_of}
+use Rattle.hk_model.specs.Replica.Content.{Content, ended_by}
+use Rattle.hk_model.specs.Replica.Answers.{replaces, shows, visible}
 
 pub any_In : {K : Type 0} (p : K → Bool) (k : K) (ks : List K) → In k ks → p k ≡ true → list_any p ks ≡ true
 any_In p k [] i e = elim i [ ]

@@ -1,7 +1,7 @@
 //! Writes.
 
 ghost use Rattle.std.specs.Prelude.{◌≡◌, IfOk};
-ghost use Rattle.hk_model.specs.Histories.{written_key};
+ghost use Rattle.hk_model.specs.History.Histories.{written_key};
 
 use hk_types::{Key, Row, Table};
 use std::alloc::{AllocError, Global};

@@ -1,6 +1,6 @@
 -- A request to join a fragment, whichever of the two it is.
 use Rattle.std.proofs.Common.{◌≡◌, ◌⊎◌, inl, inr, sym, subst, List, Some}
-use Rattle.hk_model.specs.Fragments.{FragmentValue}
+use Rattle.hk_model.specs.Replica.Fragments.{FragmentValue}
 use Rattle.hk_wire.specs.declared.request.Request.{Request}
 use Rattle.hk_wire.specs.declared.request.Request.TheVariants.{JoinThis, MergeThis}
 use Rattle.hk_wire.specs.Replies.{ReplyValue}

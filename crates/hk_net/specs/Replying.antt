@@ -5,8 +5,8 @@ use Rattle.hk_types.specs.Values.{ConfigValue}
 use Rattle.hk_types.specs.declared.faults.Refusal.{Refusal}
 use Rattle.hk_types.specs.declared.faults.Refusal.TheVariants as refusals
 use Rattle.hk_model.specs.declared.front.Front.{Front as FrontMarks}
-use Rattle.hk_model.specs.Fragments.{FragmentValue}
-use Rattle.hk_model.specs.Rules.{gather_result}
+use Rattle.hk_model.specs.Replica.Fragments.{FragmentValue}
+use Rattle.hk_model.specs.Replica.Rules.{gather_result}
 use Rattle.hk_wire.specs.declared.reply.Reply.{Reply}
 use Rattle.hk_wire.specs.declared.request.Request.{Request}
 use Rattle.hk_wire.specs.declared.request.Request.TheVariants as asked

@@ -3,7 +3,7 @@
 ghost use Rattle.std.specs.Prelude.{◌≡◌, true, Some, None, Option, IfOk, OnOk};
 ghost use mathlib.Core.List.{IsPrefix};
 ghost use Rattle.hk_types.specs.Values.{ConfigValue};
-ghost use Rattle.hk_model.specs.Rules.{gather_result};
+ghost use Rattle.hk_model.specs.Replica.Rules.{gather_result};
 ghost use Rattle.hk_wire.specs.Replies.{reply_seen};
 ghost use Rattle.hk_session.specs.Steps.{query_reply, fragment_reply};
 ghost use Rattle.hk_node.specs.declared.op.Op.{Op};

@@ -9,13 +9,13 @@ use Rattle.hk_types.specs.declared.faults.Refusal.TheVariants.{TooOld, NotYet, D
 use Rattle.hk_log.specs.declared.item.Item.{Item}
 use Rattle.hk_model.specs.declared.answer.Answer.{Answer}
 use Rattle.hk_model.specs.declared.query.Query.{Query}
-use Rattle.hk_model.specs.Answers.{AnswerValue, answer, answer_seen, reply, visible}
-use Rattle.hk_model.specs.ContentOf.{content_of}
-use Rattle.hk_model.specs.Content.{Content, readable}
-use Rattle.hk_model.specs.Fragments.{FragmentValue, part}
-use Rattle.hk_model.specs.Histories.{Transaction, IsHistory, IsItemOf, table_at}
-use Rattle.hk_model.specs.Replicas.{Represents, empty_content}
-use Rattle.hk_model.specs.Rules.{join_result, prune_result}
+use Rattle.hk_model.specs.Replica.Answers.{AnswerValue, answer, answer_seen, reply, visible}
+use Rattle.hk_model.specs.Replica.ContentOf.{content_of}
+use Rattle.hk_model.specs.Replica.Content.{Content, readable}
+use Rattle.hk_model.specs.Replica.Fragments.{FragmentValue, part}
+use Rattle.hk_model.specs.History.Histories.{Transaction, IsHistory, IsItemOf, table_at}
+use Rattle.hk_model.specs.Replica.Replicas.{Represents, empty_content}
+use Rattle.hk_model.specs.Replica.Rules.{join_result, prune_result}
 use Rattle.hk_model.proofs.Laws.{join_law_proof, represents_both, reply_law_proof, nothing_content_of}
 use Rattle.hk_model.proofs.Steps.{prune_law_proof}
 use Rattle.hk_node.specs.declared.op.Op.{Op}

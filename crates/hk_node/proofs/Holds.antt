@@ -8,10 +8,10 @@ use Rattle.std.proofs.lemmas.List.Elements.{All-nil, All-cons, All-head, All-tai
 use Rattle.hk_types.specs.Values.{ConfigValue}
 use Rattle.hk_types.specs.declared.faults.Refusal.{Refusal}
 use Rattle.hk_types.specs.declared.faults.Refusal.TheVariants.{ForeignLog, WrongStreams, Gap, Conflict, AheadOfMark, TooOld, NotYet, Held, Damaged, NodeFull, NoHold, Memory}
-use Rattle.hk_model.specs.Maps.{or_else}
-use Rattle.hk_model.specs.Content.{Content, readable, without_ended}
-use Rattle.hk_model.specs.Fragments.{FragmentValue}
-use Rattle.hk_model.specs.Rules.{join_result, content_after_join, contents_conflict, prune_result}
+use Rattle.hk_model.specs.Replica.Maps.{or_else}
+use Rattle.hk_model.specs.Replica.Content.{Content, readable, without_ended}
+use Rattle.hk_model.specs.Replica.Fragments.{FragmentValue}
+use Rattle.hk_model.specs.Replica.Rules.{join_result, content_after_join, contents_conflict, prune_result}
 use Rattle.hk_node.specs.declared.op.Hold.{Hold}
 use Rattle.hk_node.specs.declared.op.Op.{Op}
 use Rattle.hk_node.specs.declared.op.Op.TheVariants.{Start, Join, Merge, Prune, Hold as HoldAt, Release}

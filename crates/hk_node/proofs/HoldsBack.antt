@@ -6,9 +6,9 @@ use Rattle.hk_types.specs.declared.faults.Refusal.{Refusal}
 use Rattle.hk_types.specs.declared.faults.Refusal.TheVariants.{TooOld, NotYet, Damaged, Memory}
 use Rattle.hk_model.specs.declared.answer.Answer.{Answer}
 use Rattle.hk_model.specs.declared.query.Query.{Query}
-use Rattle.hk_model.specs.Answers.{AnswerValue, answer, reply, visible}
-use Rattle.hk_model.specs.Content.{Content, readable}
-use Rattle.hk_model.specs.Fragments.{FragmentValue, cut}
+use Rattle.hk_model.specs.Replica.Answers.{AnswerValue, answer, reply, visible}
+use Rattle.hk_model.specs.Replica.Content.{Content, readable}
+use Rattle.hk_model.specs.Replica.Fragments.{FragmentValue, cut}
 use Rattle.hk_node.specs.declared.op.Op.{Op}
 use Rattle.hk_node.specs.NodeContent.{NodeContent}
 use Rattle.hk_node.specs.Replay.{replay, is_legal}

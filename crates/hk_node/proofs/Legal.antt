@@ -2,7 +2,7 @@
 use Rattle.std.proofs.Common.{◌≡◌, ◌+◌, ◌≤◌, Bool, true, false, ◌&&◌, List, [], ◌∷◌, ◌++◌, length, Option, Some, None, Result, Ok, Err, fold, is_none, refl, ap, ◌∙◌, arith}
 use Rattle.hk_types.specs.Values.{ConfigValue}
 use Rattle.hk_types.specs.declared.faults.Refusal.{Refusal}
-use Rattle.hk_model.specs.Content.{Content}
+use Rattle.hk_model.specs.Replica.Content.{Content}
 use Rattle.hk_node.specs.declared.op.Op.{Op}
 use Rattle.hk_node.specs.declared.op.Op.TheVariants.{Start, Join, Merge, Prune, Hold as HoldAt, Release}
 use Rattle.hk_node.specs.NodeContent.{NodeContent}

@@ -5,12 +5,12 @@ use Rattle.hk_types.specs.declared.faults.Refusal.{Refusal}
 use Rattle.hk_log.specs.declared.item.Item.{Item}
 use Rattle.hk_model.specs.declared.answer.Answer.{Answer}
 use Rattle.hk_model.specs.declared.query.Query.{Query}
-use Rattle.hk_model.specs.Answers.{answer, answer_seen}
-use Rattle.hk_model.specs.ContentOf.{content_of}
-use Rattle.hk_model.specs.Content.{readable}
-use Rattle.hk_model.specs.Fragments.{FragmentValue, part}
-use Rattle.hk_model.specs.Histories.{Transaction, IsHistory, AreItemsOf, table_at}
-use Rattle.hk_model.specs.Replicas.{Represents}
+use Rattle.hk_model.specs.Replica.Answers.{answer, answer_seen}
+use Rattle.hk_model.specs.Replica.ContentOf.{content_of}
+use Rattle.hk_model.specs.Replica.Content.{readable}
+use Rattle.hk_model.specs.Replica.Fragments.{FragmentValue, part}
+use Rattle.hk_model.specs.History.Histories.{Transaction, IsHistory, AreItemsOf, table_at}
+use Rattle.hk_model.specs.Replica.Replicas.{Represents}
 use Rattle.hk_node.specs.declared.op.Op.{Op}
 use Rattle.hk_node.specs.declared.op.Op.TheVariants.{Start, Join, Merge, Prune, Hold as HoldAt, Release}
 use Rattle.hk_node.specs.NodeContent.{NodeContent}

@@ -1,8 +1,8 @@
 -- What a node holds.
 use Rattle.std.specs.Prelude.{ℕ, Bool, List, refl}
 use Rattle.std.specs.Coded.{Coded, code_by, coded×, coded_ℕ, coded_bool, coded_list}
-use Rattle.hk_model.specs.Content.{Content}
-use Rattle.hk_model.specs.Codes.{content_code}
+use Rattle.hk_model.specs.Replica.Content.{Content}
+use Rattle.hk_model.specs.Replica.Codes.{content_code}
 use Rattle.hk_node.specs.declared.op.Hold.{Hold}
 
 -- the content of its replica, the holds that stand, whether it met a conflict, how many holds it gave, and

@@ -4,11 +4,11 @@ use Rattle.std.specs.List.{list_any}
 use Rattle.hk_types.specs.Values.{ConfigValue}
 use Rattle.hk_types.specs.declared.faults.Refusal.{Refusal}
 use Rattle.hk_types.specs.declared.faults.Refusal.TheVariants.{ForeignLog, WrongStreams, Gap, AheadOfMark, TooOld, Held, Damaged, NodeFull, NoHold}
-use Rattle.hk_model.specs.Maps.{or_else}
-use Rattle.hk_model.specs.Content.{Content, readable}
-use Rattle.hk_model.specs.Fragments.{FragmentValue}
-use Rattle.hk_model.specs.Replicas.{empty_content}
-use Rattle.hk_model.specs.Rules.{join_result, prune_result}
+use Rattle.hk_model.specs.Replica.Maps.{or_else}
+use Rattle.hk_model.specs.Replica.Content.{Content, readable}
+use Rattle.hk_model.specs.Replica.Fragments.{FragmentValue}
+use Rattle.hk_model.specs.Replica.Replicas.{empty_content}
+use Rattle.hk_model.specs.Replica.Rules.{join_result, prune_result}
 use Rattle.hk_node.specs.declared.op.Hold.{Hold}
 use Rattle.hk_node.specs.declared.op.Op.{Op}
 use Rattle.hk_node.specs.declared.op.Op.TheVariants.{Start, Join, Merge, Prune, Hold as HoldAt, Release}

@@ -5,9 +5,9 @@ use Rattle.hk_types.specs.declared.faults.Refusal.TheVariants.{Damaged, TooOld, 
 use Rattle.hk_model.specs.declared.answer.Answer.{Answer}
 use Rattle.hk_model.specs.declared.front.Front.{Front}
 use Rattle.hk_model.specs.declared.query.Query.{Query}
-use Rattle.hk_model.specs.Answers.{AnswerValue, answer_seen, reply}
-use Rattle.hk_model.specs.Content.{readable}
-use Rattle.hk_model.specs.Fragments.{FragmentValue, cut}
+use Rattle.hk_model.specs.Replica.Answers.{AnswerValue, answer_seen, reply}
+use Rattle.hk_model.specs.Replica.Content.{readable}
+use Rattle.hk_model.specs.Replica.Fragments.{FragmentValue, cut}
 use Rattle.hk_node.specs.NodeContent.{NodeContent}
 
 abbrev pub node_reply : NodeContent → ℕ → Query → Result AnswerValue Refusal

@@ -2,8 +2,8 @@
 
 ghost use Rattle.std.specs.Prelude.{◌≡◌, ◌<◌, ◌≤◌, ◌^◌, None, IfOk, IfErr, MatchResult};
 ghost use Rattle.hk_types.specs.declared.faults.Refusal.TheVariants.{Memory};
-ghost use Rattle.hk_model.specs.Maps.{or_else};
-ghost use Rattle.hk_model.specs.Rules.{join_result, prune_result};
+ghost use Rattle.hk_model.specs.Replica.Maps.{or_else};
+ghost use Rattle.hk_model.specs.Replica.Rules.{join_result, prune_result};
 ghost use Rattle.hk_node.specs.declared.op.Op.TheVariants.{Prune as PruneTo, Hold as HoldAt, Release};
 ghost use Rattle.hk_node.specs.Replay as spec;
 ghost use Rattle.std.specs.List.{list_any};

@@ -1,7 +1,7 @@
 //! How a change runs, and what every node obeys.
 
 ghost use Rattle.std.specs.Prelude.{◌≡◌, Some, Ok, Err, true, IfOk, IfErr, MatchResult};
-ghost use Rattle.hk_model.specs.Fragments.{cut};
+ghost use Rattle.hk_model.specs.Replica.Fragments.{cut};
 ghost use Rattle.hk_node.specs.declared.op.Op.TheVariants.{Hold as HoldAt, Merge as MergeOf, Release};
 ghost use Rattle.hk_node.specs.Carried.{CarryLaw};
 ghost use Rattle.hk_node.specs.Changes.{all_of, Changes, IsGiven, IsHandedBack, IsHandedOut, Refuses};

@@ -4,7 +4,7 @@ ghost use Rattle.std.specs.Prelude.{◌≡◌, ◌∷◌, [], ◌<◌, ◌≤◌
 ghost use Rattle.hk_types.specs.declared.faults.Refusal.TheVariants.{Memory};
 ghost use Rattle.hk_node.specs.Changes.{ChangesSome, IsGiven, IsHandedBack, IsHandedOut};
 ghost use Rattle.hk_node.specs.declared.op.Op.{Op as OpValue};
-ghost use Rattle.hk_model.specs.Fragments.{cut};
+ghost use Rattle.hk_model.specs.Replica.Fragments.{cut};
 ghost use Rattle.hk_node.specs.declared.op.Op.TheVariants.{Start as StartOf, Join as JoinOf, Merge as MergeOf, Prune as PruneTo, Hold as HoldAt, Release};
 ghost use Rattle.hk_node.specs.Lists.{last_of};
 ghost use Rattle.hk_node.specs.Replay.{is_legal};

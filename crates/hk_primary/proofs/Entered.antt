@@ -6,9 +6,9 @@ use Rattle.std.specs.FinMap as finmap
 use Rattle.std.specs.FinMap.Entries.{find, is_sorted, same_entries, below_all}
 use Rattle.hk_types.specs.Values.{RowValue, ConfigValue}
 use Rattle.hk_types.specs.declared.version_key.VersionKey.{VersionKey}
-use Rattle.hk_model.specs.Maps.{or_else}
-use Rattle.hk_model.specs.Rows.{RowKey, row_key_cmp, version_of}
-use Rattle.hk_model.specs.Histories.{Transaction, Tables, written_key, put_row, tables_of, last_put, entry_of, KeysRise, RemovesPresent, Follows}
+use Rattle.hk_model.specs.Replica.Maps.{or_else}
+use Rattle.hk_model.specs.History.Rows.{RowKey, row_key_cmp, version_of}
+use Rattle.hk_model.specs.History.Histories.{Transaction, Tables, written_key, put_row, tables_of, last_put, entry_of, KeysRise, RemovesPresent, Follows}
 use Rattle.hk_model.specs.declared.write_op.WriteOp.{WriteOp}
 use Rattle.hk_model.specs.declared.write_op.WriteOp.TheVariants.{Put, Remove}
 use Rattle.hk_model.proofs.Maps.{row_key_total, row_key_same, find-append}

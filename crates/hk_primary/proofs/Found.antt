@@ -3,7 +3,7 @@ use Rattle.std.proofs.Common.{◌≡◌, refl, sym, ap, ◌∙◌, ℕ, ◌≤�
 use Rattle.std.specs.FinMap as finmap
 use Rattle.hk_types.specs.Values.{RowValue}
 use Rattle.hk_log.specs.Versions.{VersionValue}
-use Rattle.hk_model.specs.Rows.{RowKey, version_of}
+use Rattle.hk_model.specs.History.Rows.{RowKey, version_of}
 use Rattle.hk_facts.specs.Chains.{ChainValue, latest_at}
 use Rattle.hk_facts.specs.Facts.{row_of, died_of}
 use Rattle.hk_facts.proofs.Newest.{newest, no_newest}

@@ -11,9 +11,9 @@ use Rattle.hk_types.specs.declared.faults.FormFault.{FormFault}
 use Rattle.hk_types.specs.declared.faults.FormFault.TheVariants.{BadNumber}
 use Rattle.hk_types.specs.declared.faults.Refusal.{Refusal}
 use Rattle.hk_types.specs.declared.faults.Refusal.TheVariants.{NotYet, NoStream, ClockFull}
-use Rattle.hk_model.specs.Rows.{RowKey, row_key_cmp}
-use Rattle.hk_model.specs.Histories.{Transaction, written_key, tables_of, last, Follows, KeysRise}
-use Rattle.hk_model.specs.Commits.{last_written, first_conflict, first_absent}
+use Rattle.hk_model.specs.History.Rows.{RowKey, row_key_cmp}
+use Rattle.hk_model.specs.History.Histories.{Transaction, written_key, tables_of, last, Follows, KeysRise}
+use Rattle.hk_model.specs.History.Commits.{last_written, first_conflict, first_absent}
 use Rattle.hk_model.specs.declared.write_op.WriteOp.{WriteOp}
 use Rattle.hk_model.proofs.Commits.{rises, present}
 use Rattle.hk_model.proofs.Maps.{row_key_total}

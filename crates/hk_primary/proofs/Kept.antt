@@ -9,17 +9,17 @@ use Rattle.hk_types.specs.Values.{ConfigValue}
 use Rattle.hk_log.specs.Items.{EntryValue, MarkValue}
 use Rattle.hk_log.specs.declared.item.Item.{Item}
 use Rattle.hk_log.specs.declared.item.Item.TheVariants.{Commit, Closed}
-use Rattle.hk_model.specs.Rows.{RowKey}
-use Rattle.hk_model.specs.Histories.{Transaction, last, entries_in, IsHistory, IsTruthful}
-use Rattle.hk_model.specs.Commits.{last_written}
-use Rattle.hk_model.specs.Worlds.{mark_now}
+use Rattle.hk_model.specs.History.Rows.{RowKey}
+use Rattle.hk_model.specs.History.Histories.{Transaction, last, entries_in, IsHistory, IsTruthful}
+use Rattle.hk_model.specs.History.Commits.{last_written}
+use Rattle.hk_model.specs.World.Worlds.{mark_now}
 use Rattle.hk_model.proofs.Formed.{few_entries}
 use Rattle.hk_model.proofs.Honest.{last_closed, count_step}
 use Rattle.hk_model.proofs.Joins.{rows_of-append, ends_of-append}
 use Rattle.hk_model.proofs.Maps.{version_key_total, version_key_same, get-union}
 use Rattle.hk_model.proofs.Sets.{row_facts-append, end_facts-append}
-use Rattle.hk_model.specs.Facts.{row_facts, end_facts, rows_of, ends_of}
-use Rattle.hk_model.specs.Maps.{or_else}
+use Rattle.hk_model.specs.History.Facts.{row_facts, end_facts, rows_of, ends_of}
+use Rattle.hk_model.specs.Replica.Maps.{or_else}
 use Rattle.hk_state.specs.Facts.{FactsValue, with_entry}
 use Rattle.hk_primary.specs.Log.{IsNext, IsPrimary, history_of, transaction_of}
 use Rattle.hk_primary.specs.Looks.{IsLatest, put_time_of_row}

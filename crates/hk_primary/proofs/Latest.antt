@@ -8,10 +8,10 @@ use Rattle.hk_types.specs.declared.version_key.VersionKey.{VersionKey}
 use Rattle.hk_log.specs.Items.{EntryValue}
 use Rattle.hk_log.specs.declared.item.Item.{Item}
 use Rattle.hk_log.specs.declared.item.Item.TheVariants.{Commit}
-use Rattle.hk_model.specs.Rows.{RowKey, row_key_cmp, row_key_of, version_of}
-use Rattle.hk_model.specs.Facts.{entry_rows, entry_ends, rows_of, ends_of}
-use Rattle.hk_model.specs.Histories.{Transaction, written_key, tables_of, last, last_put, entries_of, entry_of, tables_after_writes, IsHistory, AreItemsOf, RemovesPresent}
-use Rattle.hk_model.specs.Commits.{last_written}
+use Rattle.hk_model.specs.History.Rows.{RowKey, row_key_cmp, row_key_of, version_of}
+use Rattle.hk_model.specs.History.Facts.{entry_rows, entry_ends, rows_of, ends_of}
+use Rattle.hk_model.specs.History.Histories.{Transaction, written_key, tables_of, last, last_put, entries_of, entry_of, tables_after_writes, IsHistory, AreItemsOf, RemovesPresent}
+use Rattle.hk_model.specs.History.Commits.{last_written}
 use Rattle.hk_model.specs.declared.write_op.WriteOp.{WriteOp}
 use Rattle.hk_model.specs.declared.write_op.WriteOp.TheVariants.{Put, Remove}
 use Rattle.hk_model.proofs.Members.{In, In-map}

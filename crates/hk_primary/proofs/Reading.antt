@@ -5,7 +5,7 @@ use Rattle.hk_types.specs.Values.{ConfigValue}
 use Rattle.hk_log.specs.Items.{EntryValue}
 use Rattle.hk_log.specs.declared.item.Item.{Item}
 use Rattle.hk_log.specs.declared.item.Item.TheVariants.{Commit, Closed}
-use Rattle.hk_model.specs.Histories.{Transaction, entries_of, entry_of, IsHistory, IsItemOf, AreItemsOf}
+use Rattle.hk_model.specs.History.Histories.{Transaction, entries_of, entry_of, IsHistory, IsItemOf, AreItemsOf}
 use Rattle.hk_model.proofs.Members.{In}
 use Rattle.hk_model.proofs.Steps.{item_longer}
 use Rattle.hk_primary.specs.Log.{IsLogged, IsHonest, PrimaryValue, transaction_of, read_on, history_of}

@@ -5,12 +5,12 @@ use Rattle.std.specs.FinMap as finmap
 use Rattle.hk_types.specs.Values.{ConfigValue}
 use Rattle.hk_types.specs.declared.version_key.VersionKey.{VersionKey}
 use Rattle.hk_log.specs.declared.item.Item.{Item}
-use Rattle.hk_model.specs.Rows.{version_key_cmp}
-use Rattle.hk_model.specs.Facts.{rows_of, ends_of}
-use Rattle.hk_model.specs.Content.{at_most, without_ended}
-use Rattle.hk_model.specs.ContentOf.{content_of}
-use Rattle.hk_model.specs.Answers.{visible}
-use Rattle.hk_model.specs.Histories.{Transaction, table_at, entries_of, IsHistory}
+use Rattle.hk_model.specs.History.Rows.{version_key_cmp}
+use Rattle.hk_model.specs.History.Facts.{rows_of, ends_of}
+use Rattle.hk_model.specs.Replica.Content.{at_most, without_ended}
+use Rattle.hk_model.specs.Replica.ContentOf.{content_of}
+use Rattle.hk_model.specs.Replica.Answers.{visible}
+use Rattle.hk_model.specs.History.Histories.{Transaction, table_at, entries_of, IsHistory}
 use Rattle.hk_model.proofs.Members.{In}
 use Rattle.hk_model.proofs.Maps.{version_key_total, version_key_same, get-without_ended}
 use Rattle.hk_model.proofs.Logs.{IsPart, fact_end, end_found}

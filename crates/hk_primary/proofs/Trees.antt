@@ -11,7 +11,7 @@ use Rattle.std.specs.FinMap as finmap
 use Rattle.std.specs.FinMap.{find}
 use Rattle.std.specs.FinMap.Entries.{is_sorted, same_entries, below_all}
 use Rattle.std.proofs.lemmas.Map.Keys.{sorted_head, sorted_tail}
-use Rattle.hk_model.specs.Rows.{RowKey, row_key_cmp}
+use Rattle.hk_model.specs.History.Rows.{RowKey, row_key_cmp}
 use Rattle.hk_model.proofs.Maps.{row_key_total, row_key_same}
 
 both : (a b : Bool) → T a → T b → T (a && b)

@@ -6,7 +6,7 @@ use Rattle.hk_types.specs.declared.faults.Refusal.TheVariants.{Memory, NotYet}
 use Rattle.hk_log.specs.declared.item.Item.{Item}
 use Rattle.hk_log.specs.declared.item.Item.TheVariants.{Commit}
 use Rattle.hk_types.specs.Values.{ConfigValue}
-use Rattle.hk_model.specs.Histories.{Transaction, entry_of, last}
+use Rattle.hk_model.specs.History.Histories.{Transaction, entry_of, last}
 use Rattle.hk_primary.specs.Log.{PrimaryValue, with_item, IsHonest}
 use Rattle.hk_primary.specs.Txns.{TxnValue}
 use Rattle.hk_primary.specs.Verdicts.{committed_after}

@@ -7,9 +7,9 @@ use Rattle.hk_types.specs.declared.version_key.VersionKey.{VersionKey}
 use Rattle.hk_log.specs.Items.{EntryValue}
 use Rattle.hk_log.specs.declared.item.Item.{Item}
 use Rattle.hk_log.specs.declared.item.Item.TheVariants.{Commit, Closed}
-use Rattle.hk_model.specs.Rows.{row_key_cmp}
-use Rattle.hk_model.specs.Facts.{rows_of, ends_of}
-use Rattle.hk_model.specs.Histories.{Transaction, written_key, last, entries_in, entry_of, Follows, IsHistory, IsTruthful, AreItemsOf}
+use Rattle.hk_model.specs.History.Rows.{row_key_cmp}
+use Rattle.hk_model.specs.History.Facts.{rows_of, ends_of}
+use Rattle.hk_model.specs.History.Histories.{Transaction, written_key, last, entries_in, entry_of, Follows, IsHistory, IsTruthful, AreItemsOf}
 use Rattle.hk_model.specs.declared.write_op.WriteOp.{WriteOp}
 use Rattle.hk_model.specs.declared.write_op.WriteOp.TheVariants.{Put, Remove}
 use Rattle.hk_state.specs.Facts.{FactsValue}

@@ -3,8 +3,8 @@ use Rattle.std.specs.Prelude.{◌≡◌, ℕ, ◌≤◌, List, [], ◌∷◌, ma
 use Rattle.std.specs.FinMap as finmap
 use Rattle.hk_types.specs.Values.{RowValue}
 use Rattle.hk_types.specs.declared.version_key.VersionKey.{VersionKey}
-use Rattle.hk_model.specs.Rows.{RowKey, version_of}
-use Rattle.hk_model.specs.Histories.{Transaction, Tables, written_key, tables_of, last_put}
+use Rattle.hk_model.specs.History.Rows.{RowKey, version_of}
+use Rattle.hk_model.specs.History.Histories.{Transaction, Tables, written_key, tables_of, last_put}
 use Rattle.hk_model.specs.declared.write_op.WriteOp.{WriteOp}
 use Rattle.hk_model.specs.declared.write_op.WriteOp.TheVariants.{Put, Remove}
 use Rattle.hk_state.specs.Facts.{FactsValue}

@@ -6,8 +6,8 @@ use Rattle.hk_types.specs.Values.{RowValue}
 use Rattle.hk_types.specs.declared.faults.Refusal.{Refusal}
 use Rattle.hk_types.specs.declared.faults.Refusal.TheVariants.{TwiceWritten, TooManyWrites, Memory}
 use Rattle.hk_log.specs.Versions.{row_code}
-use Rattle.hk_model.specs.Rows.{RowKey, row_key_cmp}
-use Rattle.hk_model.specs.Histories.{written_key}
+use Rattle.hk_model.specs.History.Rows.{RowKey, row_key_cmp}
+use Rattle.hk_model.specs.History.Histories.{written_key}
 use Rattle.hk_model.specs.declared.write_op.WriteOp.{WriteOp}
 use Rattle.hk_model.specs.declared.write_op.WriteOp.TheVariants.{Put, Remove}
 

@@ -4,9 +4,9 @@ use Rattle.std.specs.FinMap as finmap
 use Rattle.hk_types.specs.Values.{ConfigValue}
 use Rattle.hk_types.specs.declared.faults.Refusal.{Refusal}
 use Rattle.hk_types.specs.declared.faults.Refusal.TheVariants.{NoStream, WriteConflict, NoRow, ClockFull, NotYet}
-use Rattle.hk_model.specs.Rows.{RowKey, row_key_cmp}
-use Rattle.hk_model.specs.Histories.{Transaction, tables_of, last, Follows}
-use Rattle.hk_model.specs.Commits.{last_written, first_conflict, first_absent, committed_writes}
+use Rattle.hk_model.specs.History.Rows.{RowKey, row_key_cmp}
+use Rattle.hk_model.specs.History.Histories.{Transaction, tables_of, last, Follows}
+use Rattle.hk_model.specs.History.Commits.{last_written, first_conflict, first_absent, committed_writes}
 use Rattle.hk_model.specs.declared.write_op.WriteOp.{WriteOp}
 use Rattle.hk_primary.specs.Txns.{AreWrites}
 

@@ -2,8 +2,8 @@
 
 ghost use Rattle.std.specs.Prelude.{◌≡◌, ◌≤◌, ◌<◌, ℕ, IfErr, IfOk, IsOk, OnOk};
 ghost use Rattle.hk_types.specs.declared.faults.Refusal.TheVariants.{Memory, NotYet as Early};
-ghost use Rattle.hk_model.specs.Answers.{answer, answer_seen};
-ghost use Rattle.hk_model.specs.Histories.{last, table_at};
+ghost use Rattle.hk_model.specs.Replica.Answers.{answer, answer_seen};
+ghost use Rattle.hk_model.specs.History.Histories.{last, table_at};
 ghost use Rattle.hk_model.specs.declared.query.Query.TheVariants.{Count};
 
 use crate::primary::Primary;

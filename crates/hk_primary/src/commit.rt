@@ -4,7 +4,7 @@ ghost use Rattle.std.specs.Prelude.{◌≡◌, ◌∷◌, IfErr, OnOk, OnErr};
 ghost use Rattle.std.specs.FinMap as finmap;
 ghost use Rattle.hk_types.specs.declared.faults.Refusal.TheVariants.{Memory};
 ghost use Rattle.hk_log.specs.declared.item.Item.TheVariants.{Commit};
-ghost use Rattle.hk_model.specs.Histories.{Follows};
+ghost use Rattle.hk_model.specs.History.Histories.{Follows};
 ghost use Rattle.hk_primary.specs.Calls.{Tells, with_transaction, primary_after, verdict_of, verdict_time};
 ghost use Rattle.hk_primary.specs.Log.{IsNext, transaction_of, with_item};
 ghost use Rattle.hk_primary.specs.Txns.{AreWrites};

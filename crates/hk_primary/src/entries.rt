@@ -3,7 +3,7 @@
 ghost use Rattle.std.specs.Prelude.{◌≡◌, ◌++◌, ◌∷◌, [], IfOk, OnOk};
 ghost use Rattle.std.specs.FinMap as finmap;
 ghost use Rattle.std.specs.List.{filter_map};
-ghost use Rattle.hk_model.specs.Histories.{Follows, entry_of, put_row};
+ghost use Rattle.hk_model.specs.History.Histories.{Follows, entry_of, put_row};
 ghost use Rattle.hk_primary.specs.Looks.{ended_by_all, version_born};
 
 use crate::primary::Primary;

@@ -3,8 +3,8 @@
 ghost use Rattle.std.specs.Prelude.{◌≡◌, unwrap_or};
 ghost use Rattle.std.specs.Option.{option_map};
 ghost use Rattle.std.specs.FinMap as finmap;
-ghost use Rattle.hk_model.specs.Commits.{first_absent, first_conflict, last_written};
-ghost use Rattle.hk_model.specs.Histories.{tables_of};
+ghost use Rattle.hk_model.specs.History.Commits.{first_absent, first_conflict, last_written};
+ghost use Rattle.hk_model.specs.History.Histories.{tables_of};
 ghost use Rattle.hk_primary.specs.Looks.{IsLatest, removes_none, put_time_of_row};
 
 use crate::primary::Primary;

@@ -3,8 +3,8 @@
 ghost use Rattle.std.specs.Prelude.{◌≡◌, ◌≤◌, ◌<◌, ◌-◌, ◌^◌, IfOk, IfErr, OnOk, OnErr, MatchResult, length, drop};
 ghost use Rattle.hk_types.specs.declared.faults.Refusal.TheVariants.{Memory, NoStream as Streamless};
 ghost use Rattle.hk_log.specs.declared.item.Item.TheVariants.{Closed};
-ghost use Rattle.hk_model.specs.Histories.{IsTruthful, entries_in, last};
-ghost use Rattle.hk_model.specs.Worlds.{mark_now};
+ghost use Rattle.hk_model.specs.History.Histories.{IsTruthful, entries_in, last};
+ghost use Rattle.hk_model.specs.World.Worlds.{mark_now};
 ghost use Rattle.hk_primary.specs.Log.{IsHonest, no_commits, with_item};
 ghost use Rattle.hk_primary.specs.Txns.{no_writes};
 

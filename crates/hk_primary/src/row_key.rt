@@ -1,7 +1,7 @@
 //! The names of rows.
 
 ghost use Rattle.std.specs.Prelude.{◌≡◌};
-ghost use Rattle.hk_model.specs.Histories.{written_key};
+ghost use Rattle.hk_model.specs.History.Histories.{written_key};
 
 use hk_model::WriteOp;
 use hk_types::{Key, Table};
@@ -17,7 +17,7 @@ pub struct RowKey {
 }
 
 impl Model for RowKey {
-    ghost use Rattle.hk_model.specs.Rows as rows;
+    ghost use Rattle.hk_model.specs.History.Rows as rows;
 
     ghost Value = { rows.RowKey };
 

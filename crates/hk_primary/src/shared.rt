@@ -2,9 +2,9 @@
 
 ghost use Rattle.std.specs.Prelude.{◌≡◌, ◌≤◌, ◌<◌, ◌+◌, ◌-◌, drop, length, IfErr, IfOk, OnOk, OnErr};
 ghost use Rattle.hk_types.specs.declared.faults.Refusal.TheVariants.{Memory, NoStream as Streamless};
-ghost use Rattle.hk_model.specs.Answers.{answer, answer_seen};
-ghost use Rattle.hk_model.specs.Histories.{last, table_at};
-ghost use Rattle.hk_model.specs.Worlds.{mark_now};
+ghost use Rattle.hk_model.specs.Replica.Answers.{answer, answer_seen};
+ghost use Rattle.hk_model.specs.History.Histories.{last, table_at};
+ghost use Rattle.hk_model.specs.World.Worlds.{mark_now};
 ghost use Rattle.hk_primary.specs.Calls.{AtSome, NotAnswered, Tells, items_of, verdict_of};
 ghost use Rattle.hk_primary.specs.Txns.{no_writes};
 

@@ -26,7 +26,7 @@ pub struct Txn {
 
 impl Model for Txn {
     ghost use Rattle.std.specs.FinMap as finmap;
-    ghost use Rattle.hk_model.specs.Rows.{row_key_cmp};
+    ghost use Rattle.hk_model.specs.History.Rows.{row_key_cmp};
     ghost use Rattle.hk_primary.specs.Txns.{AreWrites, TxnValue, txn_code};
 
     ghost Value = { TxnValue };

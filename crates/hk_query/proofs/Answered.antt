@@ -6,9 +6,9 @@ use Rattle.std.specs.FinMap as finmap
 use Rattle.std.specs.FinSet as set
 use Rattle.hk_types.specs.Values.{RowValue}
 use Rattle.hk_types.specs.declared.version_key.VersionKey.{VersionKey}
-use Rattle.hk_model.specs.Rows.{RowKey, version_key_cmp, row_key_of}
-use Rattle.hk_model.specs.Content.{Content}
-use Rattle.hk_model.specs.Answers.{shows, visible, rows_where}
+use Rattle.hk_model.specs.History.Rows.{RowKey, version_key_cmp, row_key_of}
+use Rattle.hk_model.specs.Replica.Content.{Content}
+use Rattle.hk_model.specs.Replica.Answers.{shows, visible, rows_where}
 use Rattle.hk_model.proofs.Maps.{version_key_same}
 use Rattle.hk_model.proofs.Listed.{shown_of, listed, rises_from, set_In, In_set}
 use Rattle.hk_index.specs.Listed.{Lists, with_keys}

@@ -4,8 +4,8 @@ use Rattle.hk_types.specs.declared.faults.Refusal.{Refusal}
 use Rattle.hk_types.specs.declared.faults.Refusal.TheVariants.{Memory}
 use Rattle.hk_model.specs.declared.answer.Answer.{Answer}
 use Rattle.hk_model.specs.declared.query.Query.{Query}
-use Rattle.hk_model.specs.Content.{Content}
-use Rattle.hk_model.specs.Answers.{AnswerValue, answer, answer_seen, reply, visible}
+use Rattle.hk_model.specs.Replica.Content.{Content}
+use Rattle.hk_model.specs.Replica.Answers.{AnswerValue, answer, answer_seen, reply, visible}
 use Rattle.hk_model.proofs.Laws.{reply_law_proof}
 use Rattle.hk_query.specs.Primary.{IsOfPrimary}
 

@@ -6,10 +6,10 @@ use Rattle.hk_types.specs.declared.faults.Refusal.{Refusal}
 use Rattle.hk_types.specs.declared.faults.Refusal.TheVariants.{Memory}
 use Rattle.hk_model.specs.declared.answer.Answer.{Answer}
 use Rattle.hk_model.specs.declared.query.Query.{Query}
-use Rattle.hk_model.specs.Rows.{version_key_cmp}
-use Rattle.hk_model.specs.Content.{Content, readable}
-use Rattle.hk_model.specs.Histories.{Tables}
-use Rattle.hk_model.specs.Answers.{answer, answer_seen, reply, visible}
+use Rattle.hk_model.specs.History.Rows.{version_key_cmp}
+use Rattle.hk_model.specs.Replica.Content.{Content, readable}
+use Rattle.hk_model.specs.History.Histories.{Tables}
+use Rattle.hk_model.specs.Replica.Answers.{answer, answer_seen, reply, visible}
 use Rattle.hk_state.specs.Facts.{FactsValue}
 use Rattle.hk_state.specs.Reads.{with_facts}
 

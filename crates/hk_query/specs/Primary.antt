@@ -6,10 +6,10 @@ use Rattle.hk_types.specs.declared.faults.Refusal.TheVariants.{Memory}
 use Rattle.hk_log.specs.declared.item.Item.{Item}
 use Rattle.hk_model.specs.declared.answer.Answer.{Answer}
 use Rattle.hk_model.specs.declared.query.Query.{Query}
-use Rattle.hk_model.specs.Content.{Content, readable}
-use Rattle.hk_model.specs.Histories.{Transaction, IsHistory, table_at}
-use Rattle.hk_model.specs.Replicas.{Represents}
-use Rattle.hk_model.specs.Answers.{answer, answer_seen}
+use Rattle.hk_model.specs.Replica.Content.{Content, readable}
+use Rattle.hk_model.specs.History.Histories.{Transaction, IsHistory, table_at}
+use Rattle.hk_model.specs.Replica.Replicas.{Represents}
+use Rattle.hk_model.specs.Replica.Answers.{answer, answer_seen}
 
 -- where the content represents items of a history, from its horizon to its readable mark the answer is that
 -- on the primary's rows at that time, unless memory ran out

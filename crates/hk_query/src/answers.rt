@@ -4,7 +4,7 @@ ghost use Rattle.std.specs.Prelude.{◌≡◌, ℕ, IfOk, IfErr, IsOk};
 ghost use Rattle.std.specs.FinMap as finmap;
 ghost use Rattle.hk_types.specs.declared.faults.Refusal.TheVariants.{Memory};
 ghost use Rattle.hk_model.specs.declared.query.Query.TheVariants.{Range, ByTag, Count};
-ghost use Rattle.hk_model.specs.Answers.{Rows, answer, answer_seen, visible};
+ghost use Rattle.hk_model.specs.Replica.Answers.{Rows, answer, answer_seen, visible};
 ghost use Rattle.hk_state.specs.Reads.{with_facts};
 
 use crate::rows::shown_rows;

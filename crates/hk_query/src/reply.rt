@@ -4,7 +4,7 @@ ghost use Rattle.std.specs.Prelude.{◌≡◌, ◌⊎◌, ◌≢◌, ℕ, Ok, Er
 ghost use Rattle.hk_types.specs.declared.faults.Refusal.TheVariants.{Memory};
 ghost use Rattle.hk_model.specs.declared.query.Query.TheVariants.{Count};
 ghost use Rattle.hk_query.specs.Primary.{IsOfPrimary};
-ghost use Rattle.hk_model.specs.Answers.{answer, answer_seen, reply, visible};
+ghost use Rattle.hk_model.specs.Replica.Answers.{answer, answer_seen, reply, visible};
 
 use crate::answers::answer_at;
 use hk_model::{Answer, Query};

@@ -3,7 +3,7 @@ use Rattle.std.proofs.Common.{◌≡◌, ◌^◌, ◌<◌, Bool, cond, Result, s
 use Rattle.std.proofs.lemmas.Bool.{lt-ltb}
 use Rattle.hk_types.specs.declared.faults.Refusal.{Refusal}
 use Rattle.hk_types.specs.declared.faults.Refusal.TheVariants as refusals
-use Rattle.hk_model.specs.Content.{Content}
+use Rattle.hk_model.specs.Replica.Content.{Content}
 use Rattle.hk_wire.specs.declared.reply.Reply.{Reply}
 use Rattle.hk_wire.specs.Replies.{Refused}
 use Rattle.hk_session.specs.Values.{HostValue}

@@ -3,10 +3,10 @@ use Rattle.std.specs.Prelude.{ℕ, ◌≡◌, ◌⊎◌, ◌+◌, ◌^◌, lengt
 use Rattle.hk_types.specs.Values.{ConfigValue}
 use Rattle.hk_types.specs.declared.faults.Refusal.{Refusal}
 use Rattle.hk_types.specs.declared.faults.Refusal.TheVariants as refusals
-use Rattle.hk_model.specs.Answers.{AnswerValue, reply}
-use Rattle.hk_model.specs.Content.{Content, readable}
-use Rattle.hk_model.specs.Fragments.{FragmentValue, cut}
-use Rattle.hk_model.specs.Rules.{gather_result, join_result, prune_result}
+use Rattle.hk_model.specs.Replica.Answers.{AnswerValue, reply}
+use Rattle.hk_model.specs.Replica.Content.{Content, readable}
+use Rattle.hk_model.specs.Replica.Fragments.{FragmentValue, cut}
+use Rattle.hk_model.specs.Replica.Rules.{gather_result, join_result, prune_result}
 use Rattle.hk_wire.specs.declared.reply.Reply.{Reply}
 use Rattle.hk_wire.specs.declared.request.Request.{Request}
 use Rattle.hk_wire.specs.declared.request.Request.TheVariants as asked

@@ -1,8 +1,8 @@
 -- What contracts see of a counted device, and of a host over a state.
 use Rattle.std.specs.Prelude.{ℕ, refl}
 use Rattle.std.specs.Coded.{Coded, code_by, coded×, coded_ℕ}
-use Rattle.hk_model.specs.Codes.{content_code}
-use Rattle.hk_model.specs.Content.{Content}
+use Rattle.hk_model.specs.Replica.Codes.{content_code}
+use Rattle.hk_model.specs.Replica.Content.{Content}
 
 -- the value of a `Counted`: the device, how many calls were made of it, and how many of them failed
 pub record CountedValue (D : Type 0) : Type 0 where

@@ -3,10 +3,10 @@
 ghost use Rattle.std.specs.Prelude.{◌≡◌, ◌⊎◌, ◌<◌, ◌+◌, ◌^◌, ℕ, Ok, Err, Result, nat_lt, MatchResult};
 ghost use Rattle.hk_types.specs.declared.faults.Refusal.{Refusal};
 ghost use Rattle.hk_types.specs.declared.faults.Refusal.TheVariants.{Memory};
-ghost use Rattle.hk_model.specs.Content.{Content};
-ghost use Rattle.hk_model.specs.Answers.{reply};
-ghost use Rattle.hk_model.specs.Fragments.{cut};
-ghost use Rattle.hk_model.specs.Rules.{gather_result, join_result, prune_result};
+ghost use Rattle.hk_model.specs.Replica.Content.{Content};
+ghost use Rattle.hk_model.specs.Replica.Answers.{reply};
+ghost use Rattle.hk_model.specs.Replica.Fragments.{cut};
+ghost use Rattle.hk_model.specs.Replica.Rules.{gather_result, join_result, prune_result};
 ghost use Rattle.hk_session.specs.Steps.{config_of, joined_if, change_reply, change_step, query_reply, since, fragment_reply, IsGiven, Step, Changes};
 
 use crate::host::Host;

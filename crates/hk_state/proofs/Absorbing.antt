@@ -11,11 +11,11 @@ use Rattle.hk_log.specs.declared.item.Item.{Item}
 use Rattle.hk_log.specs.declared.item.Item.TheVariants.{Commit, Closed}
 use Rattle.hk_model.specs.declared.took.Took.{Took}
 use Rattle.hk_model.specs.declared.took.Took.TheVariants.{Taken, Repeated}
-use Rattle.hk_model.specs.Items.{wrong_log}
-use Rattle.hk_model.specs.Streams.{StreamContent, stream_at, all_together, streams_of, adds_nothing}
-use Rattle.hk_model.specs.Content.{Content}
-use Rattle.hk_model.specs.Rules.{take_result, take_result_unless, absorb_result, entry_conflicts, with_items}
-use Rattle.hk_model.specs.Lawful.{IsItem}
+use Rattle.hk_model.specs.Replica.Items.{wrong_log}
+use Rattle.hk_model.specs.Replica.Streams.{StreamContent, stream_at, all_together, streams_of, adds_nothing}
+use Rattle.hk_model.specs.Replica.Content.{Content}
+use Rattle.hk_model.specs.Replica.Rules.{take_result, take_result_unless, absorb_result, entry_conflicts, with_items}
+use Rattle.hk_model.specs.Replica.Lawful.{IsItem}
 use Rattle.hk_model.proofs.Lawful.{taken_keeps, fits_within}
 use Rattle.hk_model.proofs.Outcomes.{taken_same_log}
 use Rattle.hk_model.proofs.Changes.{no_more_facts, same_if_told}

@@ -16,7 +16,7 @@ use Rattle.hk_facts.proofs.Parts.{nothing_left}
 use Rattle.hk_facts.proofs.Trees.{seen, IfErr_map}
 use Rattle.hk_facts.proofs.Filled.{known_there, known_absent, filled_none, alter_empty}
 use Rattle.hk_state.specs.Facts.{FactsValue, TablesValue, stored_version, facts_of, no_facts, known_at, AllKnown, facts_put}
-use Rattle.hk_model.specs.Rows.{version_key_cmp}
+use Rattle.hk_model.specs.History.Rows.{version_key_cmp}
 use Rattle.hk_state.proofs.Stored.{get_row, get_end, known_stored, nothing_known}
 use Rattle.hk_state.proofs.Changed.{same_facts, facts_put_err, known_put, row_known, died_known}
 

@@ -5,7 +5,7 @@ use Rattle.std.specs.List.{list_any}
 use Rattle.std.specs.Ordering.{eq_by_cmp, is_eq}
 use Rattle.std.specs.Cmp.{IsTotalOrder, tied_itself}
 use Rattle.std.specs.FinMap as finmap
-use Rattle.hk_model.specs.Maps.{values_conflict, maps_conflict}
+use Rattle.hk_model.specs.Replica.Maps.{values_conflict, maps_conflict}
 
 bools : (a b : Bool) → (a ≡ true → b ≡ true) → (b ≡ true → a ≡ true) → a ≡ b
 bools true b f g = sym (f refl)

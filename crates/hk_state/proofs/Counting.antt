@@ -10,9 +10,9 @@ use Rattle.std.specs.Cmp.{tied_itself}
 use Rattle.std.specs.FinMap as finmap
 use Rattle.std.specs.FinMap.Entries.{is_sorted, below_all}
 use Rattle.hk_types.specs.Values.{RowValue}
-use Rattle.hk_model.specs.Rows.{RowKey, row_key_cmp, version_of}
-use Rattle.hk_model.specs.Content.{Content}
-use Rattle.hk_model.specs.Answers.{visible, rows_where}
+use Rattle.hk_model.specs.History.Rows.{RowKey, row_key_cmp, version_of}
+use Rattle.hk_model.specs.Replica.Content.{Content}
+use Rattle.hk_model.specs.Replica.Answers.{visible, rows_where}
 use Rattle.hk_model.proofs.Maps.{row_key_total, row_key_same}
 use Rattle.hk_model.proofs.Members.{In, In-map, In-find}
 use Rattle.hk_model.proofs.Writes.{In_filter, filter_In}

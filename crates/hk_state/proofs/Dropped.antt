@@ -5,8 +5,8 @@ use Rattle.std.proofs.lemmas.List.Folds.{list_any-append}
 use Rattle.std.specs.Ordering.{eq_by_cmp}
 use Rattle.std.specs.FinMap as finmap
 use Rattle.hk_types.specs.declared.version_key.VersionKey.{VersionKey}
-use Rattle.hk_model.specs.Rows.{version_key_cmp}
-use Rattle.hk_model.specs.Content.{ended_by}
+use Rattle.hk_model.specs.History.Rows.{version_key_cmp}
+use Rattle.hk_model.specs.Replica.Content.{ended_by}
 use Rattle.hk_model.proofs.Maps.{version_key_total, version_key_same, get-retain}
 use Rattle.hk_facts.specs.declared.fact.Part.TheVariants.{Whole}
 use Rattle.hk_state.specs.Facts.{FactsValue, facts_without}

@@ -7,8 +7,8 @@ use Rattle.std.specs.FinMap as finmap
 use Rattle.std.specs.FinMap.Entries.{is_some-find}
 use Rattle.hk_types.specs.declared.version_key.VersionKey.{VersionKey}
 use Rattle.hk_log.specs.Versions.{VersionValue}
-use Rattle.hk_model.specs.Rows.{version_key_cmp}
-use Rattle.hk_model.specs.Content.{at_most, ended_by}
+use Rattle.hk_model.specs.History.Rows.{version_key_cmp}
+use Rattle.hk_model.specs.Replica.Content.{at_most, ended_by}
 use Rattle.hk_model.proofs.Maps.{version_key_total}
 use Rattle.hk_facts.specs.Facts.{died_of}
 use Rattle.hk_facts.specs.Chains.{ChainValue}

@@ -11,9 +11,9 @@ use Rattle.hk_types.specs.Values.{RowValue, same_row}
 use Rattle.hk_types.specs.declared.version_key.VersionKey.{VersionKey}
 use Rattle.hk_log.specs.Items.{EntryValue, is_before, rise_after, end_place, row_place}
 use Rattle.hk_log.specs.declared.item.Item.TheVariants.{Commit}
-use Rattle.hk_model.specs.Rows.{version_key_cmp}
-use Rattle.hk_model.specs.Maps.{values_conflict, maps_conflict}
-use Rattle.hk_model.specs.Facts.{inserted_version, rows_of, ends_of}
+use Rattle.hk_model.specs.History.Rows.{version_key_cmp}
+use Rattle.hk_model.specs.Replica.Maps.{values_conflict, maps_conflict}
+use Rattle.hk_model.specs.History.Facts.{inserted_version, rows_of, ends_of}
 use Rattle.hk_model.proofs.Maps.{version_key_total, version_key_same}
 use Rattle.hk_state.proofs.Conflicts.{maps_conflict_over}
 

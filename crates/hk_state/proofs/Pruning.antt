@@ -4,10 +4,10 @@ use Rattle.std.proofs.lemmas.Bool.Decides.{nat_tests}
 use Rattle.hk_types.specs.Values.{ConfigValue}
 use Rattle.hk_types.specs.declared.faults.Refusal.{Refusal}
 use Rattle.hk_types.specs.declared.faults.Refusal.TheVariants.{AheadOfMark, Memory}
-use Rattle.hk_model.specs.Content.{Content, readable}
-use Rattle.hk_model.specs.Streams.{StreamContent}
-use Rattle.hk_model.specs.Rules.{prune_result}
-use Rattle.hk_model.specs.Lawful.{IsLawful}
+use Rattle.hk_model.specs.Replica.Content.{Content, readable}
+use Rattle.hk_model.specs.Replica.Streams.{StreamContent}
+use Rattle.hk_model.specs.Replica.Rules.{prune_result}
+use Rattle.hk_model.specs.Replica.Lawful.{IsLawful}
 use Rattle.hk_model.proofs.Lawful.{pruned_lawful}
 use Rattle.hk_state.specs.Calls.{Prunes}
 use Rattle.hk_state.specs.Drops.{pruned_facts}

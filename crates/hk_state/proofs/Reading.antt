@@ -3,9 +3,9 @@ use Rattle.std.proofs.Common.{◌≡◌, refl, sym, ap, ◌∙◌, ℕ, Bool, tr
 use Rattle.std.specs.FinMap as finmap
 use Rattle.hk_types.specs.Values.{RowValue}
 use Rattle.hk_types.specs.declared.version_key.VersionKey.{VersionKey}
-use Rattle.hk_model.specs.Rows.{RowKey, version_of}
-use Rattle.hk_model.specs.Content.{Content}
-use Rattle.hk_model.specs.Answers.{visible, shows}
+use Rattle.hk_model.specs.History.Rows.{RowKey, version_of}
+use Rattle.hk_model.specs.Replica.Content.{Content}
+use Rattle.hk_model.specs.Replica.Answers.{visible, shows}
 use Rattle.hk_model.proofs.Shown.{none_visible}
 use Rattle.hk_facts.specs.Chains.{ChainValue, row_at, latest_at, picked}
 use Rattle.hk_facts.specs.Facts.{row_of, died_of}

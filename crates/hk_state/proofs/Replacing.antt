@@ -7,8 +7,8 @@ use Rattle.std.specs.FinSet as set
 use Rattle.std.specs.FinMap.{find}
 use Rattle.hk_types.specs.Values.{RowValue}
 use Rattle.hk_types.specs.declared.version_key.VersionKey.{VersionKey}
-use Rattle.hk_model.specs.Rows.{version_key_cmp}
-use Rattle.hk_model.specs.Maps.{or_else, union}
+use Rattle.hk_model.specs.History.Rows.{version_key_cmp}
+use Rattle.hk_model.specs.Replica.Maps.{or_else, union}
 use Rattle.hk_model.proofs.Maps.{version_key_total, version_key_same, get-retain, get-union}
 use Rattle.hk_state.specs.Facts.{FactsValue}
 use Rattle.hk_state.specs.Drops.{is_among, without_all}

@@ -2,11 +2,11 @@
 use Rattle.std.proofs.Common.{◌≡◌, refl, sym, subst, ℕ, List, [], length, replicate, arith, ◌≤◌}
 use Rattle.std.proofs.lemmas.List.{length-replicate}
 use Rattle.hk_types.specs.Values.{ConfigValue}
-use Rattle.hk_model.specs.Content.{Content, readable}
-use Rattle.hk_model.specs.ContentOf.{content_of}
-use Rattle.hk_model.specs.Lawful.{IsLawful}
-use Rattle.hk_model.specs.Streams.{unknown}
-use Rattle.hk_model.specs.Replicas.{empty_content}
+use Rattle.hk_model.specs.Replica.Content.{Content, readable}
+use Rattle.hk_model.specs.Replica.ContentOf.{content_of}
+use Rattle.hk_model.specs.Replica.Lawful.{IsLawful}
+use Rattle.hk_model.specs.Replica.Streams.{unknown}
+use Rattle.hk_model.specs.Replica.Replicas.{empty_content}
 use Rattle.hk_model.proofs.Lawful.{content_of_lawful}
 use Rattle.hk_model.proofs.Laws.{nothing_content_of}
 use Rattle.hk_state.specs.Facts.{no_facts}

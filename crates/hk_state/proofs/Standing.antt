@@ -4,9 +4,9 @@ use Rattle.hk_types.specs.Values.{ConfigValue}
 use Rattle.hk_types.specs.declared.faults.Refusal.{Refusal}
 use Rattle.hk_log.specs.declared.item.Item.{Item}
 use Rattle.hk_model.specs.declared.took.Took.{Took}
-use Rattle.hk_model.specs.Content.{Content, readable}
-use Rattle.hk_model.specs.Histories.{Transaction, IsHistory, IsItemOf}
-use Rattle.hk_model.specs.Replicas.{Represents}
+use Rattle.hk_model.specs.Replica.Content.{Content, readable}
+use Rattle.hk_model.specs.History.Histories.{Transaction, IsHistory, IsItemOf}
+use Rattle.hk_model.specs.Replica.Replicas.{Represents}
 use Rattle.hk_model.proofs.Steps.{absorb_step, prune_step}
 use Rattle.hk_state.specs.Calls.{Absorbs, AbsorbsOf, Prunes, PrunesOf}
 

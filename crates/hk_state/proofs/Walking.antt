@@ -11,9 +11,9 @@ use Rattle.std.specs.FinSet as set
 use Rattle.hk_types.specs.Values.{same_row}
 use Rattle.hk_types.specs.declared.version_key.VersionKey.{VersionKey}
 use Rattle.hk_log.specs.Versions.{VersionValue}
-use Rattle.hk_model.specs.Rows.{version_key_cmp}
-use Rattle.hk_model.specs.Maps.{values_conflict}
-use Rattle.hk_model.specs.Rules.{contents_conflict}
+use Rattle.hk_model.specs.History.Rows.{version_key_cmp}
+use Rattle.hk_model.specs.Replica.Maps.{values_conflict}
+use Rattle.hk_model.specs.Replica.Rules.{contents_conflict}
 use Rattle.hk_model.proofs.Maps.{version_key_total, version_key_same}
 use Rattle.hk_index.specs.Listed.{Lists}
 use Rattle.hk_index.proofs.Sets.{any-filter}

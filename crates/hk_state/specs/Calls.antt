@@ -6,10 +6,10 @@ use Rattle.hk_types.specs.declared.faults.Refusal.TheVariants.{Memory}
 use Rattle.hk_log.specs.declared.item.Item.{Item}
 use Rattle.hk_model.specs.declared.took.Took.{Took}
 use Rattle.hk_model.specs.declared.took.Took.TheVariants.{Taken}
-use Rattle.hk_model.specs.Content.{Content, readable}
-use Rattle.hk_model.specs.Histories.{Transaction, IsHistory, IsItemOf}
-use Rattle.hk_model.specs.Replicas.{Represents}
-use Rattle.hk_model.specs.Rules.{take_result, prune_result}
+use Rattle.hk_model.specs.Replica.Content.{Content, readable}
+use Rattle.hk_model.specs.History.Histories.{Transaction, IsHistory, IsItemOf}
+use Rattle.hk_model.specs.Replica.Replicas.{Represents}
+use Rattle.hk_model.specs.Replica.Rules.{take_result, prune_result}
 
 -- an absorb left and told what taking gives, or it changed nothing: it was refused so, or memory ran out
 -- where the item would have been taken

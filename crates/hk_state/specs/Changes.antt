@@ -4,8 +4,8 @@ use Rattle.std.specs.List.{list_any}
 use Rattle.std.specs.FinMap as finmap
 use Rattle.hk_types.specs.Values.{RowValue}
 use Rattle.hk_types.specs.declared.version_key.VersionKey.{VersionKey}
-use Rattle.hk_model.specs.Maps.{union}
-use Rattle.hk_model.specs.Content.{Content}
+use Rattle.hk_model.specs.Replica.Maps.{union}
+use Rattle.hk_model.specs.Replica.Content.{Content}
 use Rattle.hk_state.specs.declared.apply.Change.{Change}
 use Rattle.hk_state.specs.Facts.{FactsValue}
 use Rattle.hk_state.specs.Drops.{is_among, without_all}

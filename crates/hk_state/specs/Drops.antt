@@ -5,8 +5,8 @@ use Rattle.std.specs.Ordering.{eq_by_cmp}
 use Rattle.std.specs.FinMap as finmap
 use Rattle.hk_types.specs.declared.version_key.VersionKey.{VersionKey}
 use Rattle.hk_log.specs.Versions.{VersionValue}
-use Rattle.hk_model.specs.Rows.{version_key_cmp}
-use Rattle.hk_model.specs.Content.{at_most, without_ended}
+use Rattle.hk_model.specs.History.Rows.{version_key_cmp}
+use Rattle.hk_model.specs.Replica.Content.{at_most, without_ended}
 use Rattle.hk_facts.specs.Chains.{ChainValue}
 use Rattle.hk_facts.specs.TableChains.{TableChainsValue}
 use Rattle.hk_state.specs.Facts.{FactsValue, entry_if}

@@ -12,10 +12,10 @@ use Rattle.hk_types.specs.declared.faults.Refusal.TheVariants.{Conflict}
 use Rattle.hk_log.specs.Items.{EntryValue}
 use Rattle.hk_log.specs.Versions.{VersionValue, is_known}
 use Rattle.hk_log.specs.declared.item.Item.TheVariants.{Commit}
-use Rattle.hk_model.specs.Rows.{version_key_cmp}
-use Rattle.hk_model.specs.Maps.{values_conflict, union, maps_conflict}
-use Rattle.hk_model.specs.Facts.{rows_of, ends_of}
-use Rattle.hk_model.specs.Codes.{version_key_code, row_code}
+use Rattle.hk_model.specs.History.Rows.{version_key_cmp}
+use Rattle.hk_model.specs.Replica.Maps.{values_conflict, union, maps_conflict}
+use Rattle.hk_model.specs.History.Facts.{rows_of, ends_of}
+use Rattle.hk_model.specs.Replica.Codes.{version_key_code, row_code}
 use Rattle.hk_facts.specs.declared.fact.Fact.{Fact}
 use Rattle.hk_facts.specs.declared.fact.Fact.TheVariants.{Row, End}
 use Rattle.hk_facts.specs.declared.fact.Part.{Part}

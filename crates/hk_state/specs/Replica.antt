@@ -1,9 +1,9 @@
 -- What a `ReplicaState` is, by its parts.
 use Rattle.std.specs.Prelude.{◌≡◌, ℕ, List, length}
 use Rattle.hk_types.specs.Values.{ConfigValue}
-use Rattle.hk_model.specs.Content.{Content}
-use Rattle.hk_model.specs.Lawful.{IsLawful}
-use Rattle.hk_model.specs.Streams.{StreamContent}
+use Rattle.hk_model.specs.Replica.Content.{Content}
+use Rattle.hk_model.specs.Replica.Lawful.{IsLawful}
+use Rattle.hk_model.specs.Replica.Streams.{StreamContent}
 use Rattle.hk_state.specs.Facts.{FactsValue}
 
 -- the content of these parts

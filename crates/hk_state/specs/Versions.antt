@@ -5,8 +5,8 @@ use Rattle.std.specs.List.Sorted.{IsStrictlySortedBy}
 use Rattle.hk_types.specs.Values.{same_row}
 use Rattle.hk_types.specs.declared.version_key.VersionKey.{VersionKey}
 use Rattle.hk_log.specs.Versions.{VersionValue}
-use Rattle.hk_model.specs.Rows.{version_key_cmp}
-use Rattle.hk_model.specs.Maps.{values_conflict}
+use Rattle.hk_model.specs.History.Rows.{version_key_cmp}
+use Rattle.hk_model.specs.Replica.Maps.{values_conflict}
 use Rattle.std.specs.FinMap as finmap
 use Rattle.hk_state.specs.Facts.{FactsValue, known_at}
 use Rattle.hk_state.specs.Drops.{is_among}

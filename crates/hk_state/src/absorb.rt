@@ -4,7 +4,7 @@ ghost use Rattle.std.specs.Prelude.{◌≡◌, ◌≤◌, ◌==◌, ◌∷◌, [
 ghost use Rattle.hk_types.specs.declared.faults.Refusal.TheVariants.{ForeignLog as Foreign, WrongStreams as Wrong, Memory};
 ghost use Rattle.hk_log.specs.declared.item.Item.TheVariants.{Commit, Closed};
 ghost use Rattle.hk_model.specs.declared.took.Took.TheVariants.{Taken};
-ghost use Rattle.hk_model.specs.Streams.{all_together, streams_of};
+ghost use Rattle.hk_model.specs.Replica.Streams.{all_together, streams_of};
 ghost use Rattle.hk_state.specs.Calls.{Absorbs, AbsorbsOf};
 ghost use Rattle.hk_state.specs.Facts.{with_entry};
 ghost use Rattle.hk_state.specs.Journal.{without_journal};

@@ -4,8 +4,8 @@ ghost use Rattle.std.specs.Prelude.{◌≡◌, ◌==◌, Some};
 ghost use Rattle.std.specs.List.{list_any};
 ghost use Rattle.std.specs.FinMap as finmap;
 ghost use Rattle.hk_types.specs.Values.{same_row};
-ghost use Rattle.hk_model.specs.Maps.{values_conflict};
-ghost use Rattle.hk_model.specs.Facts.{inserted_version};
+ghost use Rattle.hk_model.specs.Replica.Maps.{values_conflict};
+ghost use Rattle.hk_model.specs.History.Facts.{inserted_version};
 ghost use Rattle.hk_state.specs.Facts.{conflicts_with_entry};
 
 use crate::facts::Facts;

@@ -3,8 +3,8 @@
 ghost use Rattle.std.specs.Prelude.{◌≡◌, ◌++◌, ◌∷◌, [], map, OnOk, OnErr, IfErr};
 ghost use Rattle.std.specs.FinMap as finmap;
 ghost use Rattle.hk_types.specs.declared.faults.Refusal.TheVariants.{Memory};
-ghost use Rattle.hk_model.specs.Maps.{union};
-ghost use Rattle.hk_model.specs.Facts.{inserted_version};
+ghost use Rattle.hk_model.specs.Replica.Maps.{union};
+ghost use Rattle.hk_model.specs.History.Facts.{inserted_version};
 ghost use Rattle.hk_facts.specs.declared.fact.Fact.TheVariants.{Row as RowFact, End as EndFact};
 ghost use Rattle.hk_state.specs.Facts.{FactsValue, with_fact_at, with_entry};
 ghost use Rattle.hk_state.specs.Journal.{without_journal};

@@ -1,7 +1,7 @@
 //! Pruning.
 
 ghost use Rattle.std.specs.Prelude.{◌≡◌, ◌≤◌, nat_le, OnOk, IfOk, IsOk};
-ghost use Rattle.hk_model.specs.Content.{readable};
+ghost use Rattle.hk_model.specs.Replica.Content.{readable};
 ghost use Rattle.hk_state.specs.Calls.{Prunes, PrunesOf};
 
 use crate::replica::ReplicaState;

@@ -4,11 +4,11 @@ ghost use Rattle.std.specs.Prelude.{◌≡◌, ℕ, ◌<◌, ◌≤◌, length, 
 ghost use Rattle.std.specs.Option.{option_copied};
 ghost use Rattle.std.specs.FinMap as finmap;
 ghost use Rattle.hk_types.specs.declared.faults.Refusal.TheVariants.{Memory};
-ghost use Rattle.hk_model.specs.Rows.{RowKey};
-ghost use Rattle.hk_model.specs.Content.{readable};
-ghost use Rattle.hk_model.specs.Lawful.{IsLawful};
-ghost use Rattle.hk_model.specs.Streams.{stream_at};
-ghost use Rattle.hk_model.specs.Replicas.{empty_content};
+ghost use Rattle.hk_model.specs.History.Rows.{RowKey};
+ghost use Rattle.hk_model.specs.Replica.Content.{readable};
+ghost use Rattle.hk_model.specs.Replica.Lawful.{IsLawful};
+ghost use Rattle.hk_model.specs.Replica.Streams.{stream_at};
+ghost use Rattle.hk_model.specs.Replica.Replicas.{empty_content};
 
 use crate::facts::Facts;
 use hk_marks::Got;
@@ -28,8 +28,8 @@ pub struct ReplicaState {
 }
 
 impl Model for ReplicaState {
-    ghost use Rattle.hk_model.specs.Content.{Content};
-    ghost use Rattle.hk_model.specs.Codes.{content_code};
+    ghost use Rattle.hk_model.specs.Replica.Content.{Content};
+    ghost use Rattle.hk_model.specs.Replica.Codes.{content_code};
     ghost use Rattle.hk_state.specs.Replica.{content_of_parts, IsReplica};
 
     ghost Value = { Content };

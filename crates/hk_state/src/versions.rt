@@ -5,7 +5,7 @@ ghost use Rattle.std.specs.Option.{option_copied};
 ghost use Rattle.std.specs.List.{list_any};
 ghost use Rattle.std.specs.Map.Iter.{ShowsInOrder, deref};
 ghost use Rattle.hk_types.specs.declared.version_key.VersionKey.{VersionKey};
-ghost use Rattle.hk_model.specs.Rules.{contents_conflict};
+ghost use Rattle.hk_model.specs.Replica.Rules.{contents_conflict};
 ghost use Rattle.hk_state.specs.Facts.{known_at};
 ghost use Rattle.hk_state.specs.Reads.{with_facts};
 ghost use Rattle.hk_state.specs.Versions.{AreVersions, borrowed, value_conflicts_at, conflict_at};

@@ -5,7 +5,7 @@ use Rattle.std.specs.List.{flat_map, AllByRecursion}
 use Rattle.std.proofs.lemmas.Bool.{ltb-true, lt-ltb}
 use Rattle.hk_types.specs.Values.{RowValue}
 use Rattle.hk_types.specs.declared.faults.FormFault.TheVariants.{BadOrder}
-use Rattle.hk_model.specs.Answers.{AnswerValue, One, Rows, Number}
+use Rattle.hk_model.specs.Replica.Answers.{AnswerValue, One, Rows, Number}
 use Rattle.hk_frames.specs.Fields.{IsBytes, number, number_at, body_at}
 use Rattle.hk_frames.proofs.Steps.{Takes, both as both_true}
 use Rattle.hk_codec.proofs.Found.{body_takes}

@@ -15,10 +15,10 @@ use Rattle.hk_types.specs.declared.version_key.VersionKey.{VersionKey}
 use Rattle.hk_types.specs.declared.faults.FormFault.{FormFault}
 use Rattle.hk_types.specs.declared.faults.FormFault.TheVariants.{BadNumber, BadOrder}
 use Rattle.hk_log.specs.Versions.{is_known}
-use Rattle.hk_model.specs.Streams.{StreamContent, covers}
-use Rattle.hk_model.specs.Content.{least_closed}
-use Rattle.hk_model.specs.Lawful.{IsLawfulStream, IsLawfulFragment}
-use Rattle.hk_model.specs.Fragments.{FragmentValue}
+use Rattle.hk_model.specs.Replica.Streams.{StreamContent, covers}
+use Rattle.hk_model.specs.Replica.Content.{least_closed}
+use Rattle.hk_model.specs.Replica.Lawful.{IsLawfulStream, IsLawfulFragment}
+use Rattle.hk_model.specs.Replica.Fragments.{FragmentValue}
 use Rattle.hk_model.proofs.Streams.{tied_counts}
 use Rattle.hk_marks.specs.Seen.{IsNumbered}
 use Rattle.hk_marks.specs.Steps.{extra_numbers}

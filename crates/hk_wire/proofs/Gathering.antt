@@ -6,8 +6,8 @@ use Rattle.std.proofs.lemmas.Grind.{take-set_at}
 use Rattle.std.proofs.lemmas.Bool.{le-ltb}
 use Rattle.hk_types.specs.Numbers.{checked_stream}
 use Rattle.hk_types.specs.declared.faults.FormFault.{FormFault}
-use Rattle.hk_model.specs.Streams.{StreamContent, stream_at as content_at, unknown, covers}
-use Rattle.hk_model.specs.Content.{least_closed}
+use Rattle.hk_model.specs.Replica.Streams.{StreamContent, stream_at as content_at, unknown, covers}
+use Rattle.hk_model.specs.Replica.Content.{least_closed}
 use Rattle.hk_marks.specs.Steps.{with_prefix}
 use Rattle.hk_frames.specs.declared.cursor.ReadError.{ReadError}
 use Rattle.hk_frames.specs.declared.cursor.ReadError.TheVariants.{Memory, Fault}

@@ -5,7 +5,7 @@ use Rattle.std.proofs.lemmas.List.{length-append, append-nil, take_more}
 use Rattle.std.proofs.lemmas.Grind.{flat_map-append}
 use Rattle.std.proofs.lemmas.List.Concat.{flat_map-cons}
 use Rattle.hk_types.specs.Values.{RowValue}
-use Rattle.hk_model.specs.Answers.{AnswerValue, One, Rows, Number}
+use Rattle.hk_model.specs.Replica.Answers.{AnswerValue, One, Rows, Number}
 use Rattle.hk_wire.specs.Answers.{row_text, keyed_text, answer_text}
 use Rattle.hk_model.specs.declared.query.Query.{Query}
 use Rattle.hk_model.specs.declared.query.Query.TheVariants.{Get, Range, ByTag, Count}

@@ -5,7 +5,7 @@ use Rattle.std.specs.List.{flat_map}
 use Rattle.std.proofs.lemmas.List.{length-append, append-nil, take_more, map-append}
 use Rattle.std.proofs.lemmas.Grind.{flat_map-append}
 use Rattle.std.proofs.lemmas.List.Concat.{flat_map-cons}
-use Rattle.hk_model.specs.Streams.{StreamContent, stream_at as content_at, unknown}
+use Rattle.hk_model.specs.Replica.Streams.{StreamContent, stream_at as content_at, unknown}
 use Rattle.hk_frames.specs.Fields.{number}
 use Rattle.hk_frames.proofs.Steps.{both as both_true}
 use Rattle.hk_wire.specs.Fragments.{WireFragment, wire_stream_of, stream_text, fact_text, fragment_text, stream_is_counted, streams_are_counted}

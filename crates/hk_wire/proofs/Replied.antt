@@ -7,7 +7,7 @@ use Rattle.hk_types.specs.declared.faults.Refusal.{Refusal}
 use Rattle.hk_frames.specs.Fields.{IsBytes, number, number_at}
 use Rattle.hk_frames.specs.Framing.{IsFormat}
 use Rattle.hk_frames.proofs.Steps.{Takes, neither, both as both_true}
-use Rattle.hk_model.specs.Answers.{AnswerValue}
+use Rattle.hk_model.specs.Replica.Answers.{AnswerValue}
 use Rattle.hk_wire.specs.Answers.{answer_at}
 use Rattle.hk_wire.specs.Fragments.{WireFragment, fragment_at}
 use Rattle.hk_wire.proofs.Fragmented.{fragment_field}

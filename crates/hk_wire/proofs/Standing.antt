@@ -7,9 +7,9 @@ use Rattle.hk_types.specs.declared.version_key.VersionKey.{VersionKey}
 use Rattle.hk_types.specs.declared.faults.FormFault.{FormFault}
 use Rattle.hk_types.specs.declared.faults.FormFault.TheVariants.{BadNumber, BadOrder}
 use Rattle.hk_log.specs.Versions.{VersionValue}
-use Rattle.hk_model.specs.Streams.{StreamContent}
-use Rattle.hk_model.specs.Content.{least_closed}
-use Rattle.hk_model.specs.Fragments.{FragmentValue}
+use Rattle.hk_model.specs.Replica.Streams.{StreamContent}
+use Rattle.hk_model.specs.Replica.Content.{least_closed}
+use Rattle.hk_model.specs.Replica.Fragments.{FragmentValue}
 use Rattle.hk_delta.specs.Parts.{Known, follows, is_valid_fact, is_valid_end, facts_fault, fragment_fault, checked_fragment, unless}
 use Rattle.hk_delta.specs.Parts as parts
 use Rattle.hk_delta.proofs.Sound.{listed}

@@ -12,7 +12,7 @@ use Rattle.std.specs.FinSet as set
 use Rattle.std.specs.BTreeSet.{BTreeSet}
 use Rattle.std.proofs.lemmas.Bool.{lt-leb, le-leb, leb-true}
 use Rattle.std.proofs.lemmas.Bool.Decides.{nat_tests}
-use Rattle.hk_model.specs.Streams.{StreamContent, covers, unknown}
+use Rattle.hk_model.specs.Replica.Streams.{StreamContent, covers, unknown}
 use Rattle.hk_model.proofs.Streams.{later, told, latest, latest-entries, latest-append, tied_counts}
 use Rattle.hk_marks.specs.Seen.{up_to, taken_seen, IsExtra}
 use Rattle.hk_marks.specs.Steps.{with_number, with_mark, with_prefix, extra_numbers}

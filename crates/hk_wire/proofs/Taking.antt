@@ -3,7 +3,7 @@ use Rattle.std.proofs.Common.{◌≡◌, refl, sym, ap, subst, ◌∙◌, ℕ, �
 use Rattle.std.specs.Result.{is_err}
 use Rattle.std.specs.FinMap as finmap
 use Rattle.std.proofs.lemmas.List.{get_or-set_same, set-set, set-get_or}
-use Rattle.hk_model.specs.Streams.{StreamContent, stream_at, unknown}
+use Rattle.hk_model.specs.Replica.Streams.{StreamContent, stream_at, unknown}
 use Rattle.hk_marks.specs.Steps.{with_number, with_mark}
 use Rattle.hk_frames.specs.declared.cursor.ReadError.{ReadError}
 use Rattle.hk_frames.specs.Fields.{Fails}

@@ -4,7 +4,7 @@ use Rattle.std.specs.Int.{w16, w32, w64}
 use Rattle.std.specs.List.{flat_map, AllByRecursion}
 use Rattle.hk_types.specs.Values.{RowValue}
 use Rattle.hk_types.specs.declared.faults.FormFault.TheVariants.{BadNumber, BadOrder}
-use Rattle.hk_model.specs.Answers.{AnswerValue, One, Rows, Number}
+use Rattle.hk_model.specs.Replica.Answers.{AnswerValue, One, Rows, Number}
 use Rattle.hk_frames.specs.Fields.{number, number_at, body_at, list_at}
 use Rattle.hk_wire.specs.Readers.{Reader, both, fault_where, mapped_value, nothing, by_kind, list_by_count}
 

@@ -3,7 +3,7 @@ use Rattle.std.specs.Prelude.{◌≡◌, ℕ, nat_le, List, [], Option, None, Ok
 use Rattle.std.specs.FinMap as finmap
 use Rattle.std.specs.FinSet as set
 use Rattle.hk_types.specs.declared.version_key.VersionKey.{VersionKey}
-use Rattle.hk_model.specs.Streams.{StreamContent, covers}
+use Rattle.hk_model.specs.Replica.Streams.{StreamContent, covers}
 use Rattle.hk_marks.specs.Seen.{up_to}
 use Rattle.hk_delta.specs.Parts.{Known}
 use Rattle.hk_frames.specs.Fields.{list_at}

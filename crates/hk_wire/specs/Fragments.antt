@@ -9,8 +9,8 @@ use Rattle.hk_types.specs.Values.{RowValue}
 use Rattle.hk_types.specs.declared.version_key.VersionKey.{VersionKey}
 use Rattle.hk_types.specs.declared.faults.FormFault.TheVariants.{BadStream, BadNumber, BadOrder}
 use Rattle.hk_log.specs.Versions.{VersionValue}
-use Rattle.hk_model.specs.Streams.{StreamContent, covers}
-use Rattle.hk_model.specs.Fragments.{FragmentValue}
+use Rattle.hk_model.specs.Replica.Streams.{StreamContent, covers}
+use Rattle.hk_model.specs.Replica.Fragments.{FragmentValue}
 use Rattle.hk_marks.specs.Steps.{extra_numbers}
 use Rattle.hk_delta.specs.Parts.{Known, versions_listed, follows, is_valid_end}
 use Rattle.hk_frames.specs.Fields.{number, number_at, list_at}

@@ -9,7 +9,7 @@ use Rattle.hk_frames.specs.Framing.{encoded, Begins, AddsValues}
 use Rattle.hk_wire.specs.declared.reply.Reply.{Reply}
 use Rattle.hk_wire.specs.declared.reply.Reply.TheVariants as replied
 use Rattle.hk_types.specs.declared.faults.Refusal.{Refusal}
-use Rattle.hk_model.specs.Answers.{AnswerValue, answer_seen}
+use Rattle.hk_model.specs.Replica.Answers.{AnswerValue, answer_seen}
 use Rattle.hk_wire.specs.Answers.{answer_text, answer_at, answer_keeps_rules, AnswerFits}
 use Rattle.hk_wire.specs.Fragments.{WireFragment, wire_fragment_of, fragment_text, fragment_at, FragmentFits, is_counted}
 use Rattle.hk_wire.specs.Readers.{Reader, both, fault_where, mapped_value, time_at}

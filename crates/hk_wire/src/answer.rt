@@ -4,7 +4,7 @@ ghost use Rattle.std.specs.Prelude.{◌≡◌, ◌≤◌, ◌<◌, ◌*◌, ◌^
 ghost use Rattle.std.specs.Int.{w32};
 ghost use Rattle.std.specs.List.{flat_map};
 ghost use Rattle.hk_frames.specs.Fields.{GivesValue, GivesOrRunsOut, number};
-ghost use Rattle.hk_model.specs.Answers.{answer_seen};
+ghost use Rattle.hk_model.specs.Replica.Answers.{answer_seen};
 ghost use Rattle.hk_wire.specs.Answers as spec;
 
 use crate::field_len::{key_len, number_len, tag_len};

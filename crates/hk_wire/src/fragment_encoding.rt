@@ -5,7 +5,7 @@ ghost use Rattle.std.specs.Int.{w32};
 ghost use Rattle.std.specs.List.{flat_map};
 ghost use Rattle.hk_frames.specs.Fields.{number};
 ghost use Rattle.hk_types.specs.declared.version_key.VersionKey.{VersionKey};
-ghost use Rattle.hk_model.specs.Streams.{stream_at};
+ghost use Rattle.hk_model.specs.Replica.Streams.{stream_at};
 ghost use Rattle.hk_wire.specs.Answers.{PresentFits};
 ghost use Rattle.hk_wire.specs.Fragments as spec;
 

@@ -2,8 +2,8 @@
 
 ghost use Rattle.std.specs.Prelude.{◌≡◌, ◌≤◌, ◌^◌, ◌<◌, ◌-◌, ◌==◌, ◌||◌, nat_le, None, Ok, true, length, map, replicate, slice_set, OnOk, IfOk, IfErr};
 ghost use Rattle.hk_frames.specs.Fields.{GivesValue, GivesOrRunsOut, Fails};
-ghost use Rattle.hk_model.specs.Streams.{stream_at, unknown};
-ghost use Rattle.hk_model.specs.Content.{least_closed};
+ghost use Rattle.hk_model.specs.Replica.Streams.{stream_at, unknown};
+ghost use Rattle.hk_model.specs.Replica.Content.{least_closed};
 ghost use Rattle.hk_delta.specs.Parts as parts;
 ghost use Rattle.hk_wire.specs.Fragments as spec;
 ghost use Rattle.hk_wire.specs.FragmentSteps as steps;

@@ -9,7 +9,7 @@ ghost use Rattle.std.specs.FinMap as finmap;
 ghost use Rattle.std.specs.FinSet as set;
 ghost use Rattle.std.specs.BTreeMap as tree;
 ghost use Rattle.std.specs.BTreeSet as sorted;
-ghost use Rattle.hk_model.specs.Streams.{all_together, covers, stream_with, together};
+ghost use Rattle.hk_model.specs.Replica.Streams.{all_together, covers, stream_with, together};
 ghost use Rattle.hk_marks.specs.Seen.{taken_seen, waiting_seen, IsExtra};
 ghost use Rattle.hk_marks.specs.Room.{has_number, HasRoom, Widens, Without};
 

@@ -1,7 +1,7 @@
 use Rattle.std.proofs.Common.{sym, ◌∙◌}
 use Rattle.std.specs.List.{list_any}
 use Rattle.hk_types.specs.Values.{same_row}
-use Rattle.hk_model.specs.Facts.{inserted_version}
+use Rattle.hk_model.specs.History.Facts.{inserted_version}
 use Rattle.hk_delta.specs.Gathers.{facts_conflict, inserted_rows}
 use Rattle.hk_delta.proofs.Conflicting.{any_map}
 use Rattle.hk_delta.proofs.conflicts.are_rows_conflicting.Goals as goal

@@ -1,7 +1,7 @@
 use Rattle.std.proofs.Common.{sym, ap, ◌∙◌, ◌==◌, ◌||◌}
 use Rattle.hk_types.specs.Values.{same_row}
-use Rattle.hk_model.specs.Facts.{end_facts}
-use Rattle.hk_model.specs.Rules.{conflict}
+use Rattle.hk_model.specs.History.Facts.{end_facts}
+use Rattle.hk_model.specs.Replica.Rules.{conflict}
 use Rattle.hk_delta.proofs.Conflicting.{rows_conflict, ends_conflict}
 use Rattle.hk_delta.proofs.conflicts.conflict.Goals as goal
 

@@ -1,6 +1,6 @@
 use Rattle.std.proofs.Common.{sym, ◌∙◌}
 use Rattle.hk_types.specs.Values.{same_row}
-use Rattle.hk_model.specs.Facts.{inserted_version}
+use Rattle.hk_model.specs.History.Facts.{inserted_version}
 use Rattle.hk_delta.specs.Gathers.{facts_conflict}
 use Rattle.hk_delta.proofs.Conflicting.{any_map}
 use Rattle.hk_delta.proofs.conflicts.inserts_another.Goals as goal

@@ -1,5 +1,5 @@
 use Rattle.std.proofs.Common.{◌≡◌, take, None}
-use Rattle.hk_model.specs.Rules.{first_wrong_log}
+use Rattle.hk_model.specs.Replica.Rules.{first_wrong_log}
 use Rattle.hk_delta.proofs.gathering.first_wrong_log.Given as goal
 
 abbrev pub invariant-loop-item : goal.invariant-loop-item

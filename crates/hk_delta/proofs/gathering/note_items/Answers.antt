@@ -1,7 +1,7 @@
 use Rattle.std.proofs.Common.{sym, ap, ◌∙◌, ◌++◌, ◌∷◌, [], take, length}
 use Rattle.std.proofs.lemmas.List.{take_more}
 use Rattle.hk_log.specs.declared.item.Item.{Item}
-use Rattle.hk_model.specs.Streams.{streams_of, all_together}
+use Rattle.hk_model.specs.Replica.Streams.{streams_of, all_together}
 use Rattle.hk_model.proofs.Sets.{all_together-streams_of}
 use Rattle.hk_delta.proofs.WrongLogs.{fits_at, none_told, count_streams}
 use Rattle.hk_delta.proofs.gathering.note_items.Goals as goal

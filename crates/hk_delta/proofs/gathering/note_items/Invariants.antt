@@ -1,5 +1,5 @@
 use Rattle.std.proofs.Common.{◌≡◌, take}
-use Rattle.hk_model.specs.Streams.{streams_of}
+use Rattle.hk_model.specs.Replica.Streams.{streams_of}
 use Rattle.hk_delta.proofs.gathering.note_items.Given as goal
 
 abbrev pub invariant-loop-item : goal.invariant-loop-item

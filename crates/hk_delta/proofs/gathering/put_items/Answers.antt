@@ -2,7 +2,7 @@ use Rattle.std.proofs.Common.{sym, ap, ◌∙◌, subst, ◌++◌, ◌∷◌, []
 use Rattle.std.proofs.lemmas.List.{take_more}
 use Rattle.std.proofs.lemmas.List.Elements.{All-push}
 use Rattle.hk_log.specs.declared.item.Item.{Item}
-use Rattle.hk_model.specs.Lawful.{IsItem}
+use Rattle.hk_model.specs.Replica.Lawful.{IsItem}
 use Rattle.hk_delta.specs.Gathers.{item_facts}
 use Rattle.hk_delta.proofs.Putting.{put_more, put_fails}
 use Rattle.hk_delta.proofs.gathering.put_items.Goals as goal

@@ -1,8 +1,8 @@
 use Rattle.std.proofs.Common.{◌≡◌, refl, sym, ap, ◌∙◌, subst, map, nat_lt, false, inl}
-use Rattle.hk_model.specs.Content.{readable}
-use Rattle.hk_model.specs.Fragments.{FragmentValue}
-use Rattle.hk_model.specs.Lawful.{IsLawfulFragment}
-use Rattle.hk_model.specs.Rules.{contents_conflict, content_after_join}
+use Rattle.hk_model.specs.Replica.Content.{readable}
+use Rattle.hk_model.specs.Replica.Fragments.{FragmentValue}
+use Rattle.hk_model.specs.Replica.Lawful.{IsLawfulFragment}
+use Rattle.hk_model.specs.Replica.Rules.{contents_conflict, content_after_join}
 use Rattle.hk_state.proofs.Pruning.{not_below}
 use Rattle.hk_state.specs.Versions.{borrowed}
 use Rattle.hk_merge.proofs.Refusing.{join_conflict, join_gives, join_refusal_without_memory, ok_along}

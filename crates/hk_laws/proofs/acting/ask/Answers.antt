@@ -1,4 +1,4 @@
-use Rattle.hk_model.specs.Answers.{reply}
+use Rattle.hk_model.specs.Replica.Answers.{reply}
 use Rattle.hk_laws.proofs.Lacking.{reply_err}
 use Rattle.hk_laws.proofs.acting.ask.Goals as goal
 

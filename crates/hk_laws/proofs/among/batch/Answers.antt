@@ -1,9 +1,9 @@
 use Rattle.std.proofs.Common.{◌≡◌, refl, sym, ap, ◌∙◌, None, Some, Err, List, get_or}
 use Rattle.hk_types.specs.declared.faults.Refusal.TheVariants.{Memory}
 use Rattle.hk_log.specs.declared.item.Item.{Item}
-use Rattle.hk_model.specs.Worlds.{both, at_number, all_numbered, outcome_of_batch}
-use Rattle.hk_model.specs.Replicas.{empty_content}
-use Rattle.hk_model.specs.Rules.{gather_result}
+use Rattle.hk_model.specs.World.Worlds.{both, at_number, all_numbered, outcome_of_batch}
+use Rattle.hk_model.specs.Replica.Replicas.{empty_content}
+use Rattle.hk_model.specs.Replica.Rules.{gather_result}
 use Rattle.hk_laws.specs.Calls.{act_on_one_of}
 use Rattle.hk_laws.proofs.Numbered.{all_found, one_missing, both_none}
 use Rattle.hk_laws.proofs.Acted.{acts_on, acts_not}

@@ -1,9 +1,9 @@
 use Rattle.std.proofs.Common.{◌≡◌, refl, sym, ap, ◌∙◌, subst, false, get_or, Ok}
 use Rattle.std.proofs.lemmas.List.{get_or_default}
 use Rattle.hk_model.specs.declared.told.Told.TheVariants as outcome
-use Rattle.hk_model.specs.Content.{Content}
-use Rattle.hk_model.specs.Worlds.{ToldValue, at_number, delta_join}
-use Rattle.hk_model.specs.Worlds.ToldValue.{Refused}
+use Rattle.hk_model.specs.Replica.Content.{Content}
+use Rattle.hk_model.specs.World.Worlds.{ToldValue, at_number, delta_join}
+use Rattle.hk_model.specs.World.Worlds.ToldValue.{Refused}
 use Rattle.hk_laws.specs.Calls.{Gives, is_first_outcome}
 use Rattle.hk_laws.proofs.Numbered.{numbered_at}
 use Rattle.hk_laws.proofs.Acted.{acts_on, acts_not}

@@ -1,8 +1,8 @@
 use Rattle.std.proofs.Common.{true, ◌≡◌, refl, sym, ap, subst, get_or, Ok, Result}
 use Rattle.hk_types.specs.declared.faults.Refusal.{Refusal}
-use Rattle.hk_model.specs.Content.{Content}
-use Rattle.hk_model.specs.Worlds.{at_number, outcome_by}
-use Rattle.hk_model.specs.Rules.{merge_result}
+use Rattle.hk_model.specs.Replica.Content.{Content}
+use Rattle.hk_model.specs.World.Worlds.{at_number, outcome_by}
+use Rattle.hk_model.specs.Replica.Rules.{merge_result}
 use Rattle.hk_laws.specs.Calls.{Gives, is_memory_outcome}
 use Rattle.hk_laws.proofs.Numbered.{numbered_at}
 use Rattle.hk_laws.proofs.Acted.{acts_not}

@@ -2,8 +2,8 @@ use Rattle.std.proofs.Common.{◌≡◌, sym, ap, ◌∙◌, subst, ◌∷◌, E
 use Rattle.std.specs.FinMap as finmap
 use Rattle.hk_types.specs.declared.faults.Refusal.{Refusal}
 use Rattle.hk_types.specs.declared.faults.Refusal.TheVariants.{Memory}
-use Rattle.hk_model.specs.Commits.{writes_result}
-use Rattle.hk_model.specs.Rows.{row_key_cmp}
+use Rattle.hk_model.specs.History.Commits.{writes_result}
+use Rattle.hk_model.specs.History.Rows.{row_key_cmp}
 use Rattle.hk_model.specs.declared.write_op.WriteOp.{WriteOp}
 use Rattle.hk_primary.specs.Txns.{TxnValue}
 use Rattle.hk_laws.proofs.Built.{built_more, built_refused}

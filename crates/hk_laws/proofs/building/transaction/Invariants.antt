@@ -1,6 +1,6 @@
 use Rattle.std.proofs.Common.{◌≡◌}
 use Rattle.std.specs.FinMap as finmap
-use Rattle.hk_model.specs.Commits.{writes_result}
+use Rattle.hk_model.specs.History.Commits.{writes_result}
 use Rattle.hk_laws.proofs.building.transaction.Given as goal
 
 abbrev pub invariant-loop-write : goal.invariant-loop-write

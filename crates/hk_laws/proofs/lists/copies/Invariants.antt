@@ -1,6 +1,6 @@
 use Rattle.std.proofs.Common.{◌≡◌, ◌++◌, drop}
 use Rattle.std.specs.List.{filter_map}
-use Rattle.hk_model.specs.Worlds.{at_number}
+use Rattle.hk_model.specs.World.Worlds.{at_number}
 use Rattle.hk_laws.proofs.lists.copies.Given as goal
 
 abbrev pub invariant-loop-number : goal.invariant-loop-number

@@ -1,5 +1,5 @@
 use Rattle.std.proofs.Common.{sym, ap, ◌∙◌, ◌<◌, arith}
-use Rattle.hk_model.specs.Worlds.{at_number}
+use Rattle.hk_model.specs.World.Worlds.{at_number}
 use Rattle.hk_laws.proofs.Numbered.{numbered_zero, numbered_got}
 use Rattle.hk_laws.proofs.lists.numbered.Goals as goal
 

@@ -1,10 +1,10 @@
 use Rattle.std.proofs.Common.{◌≡◌, sym, ap, ◌∙◌, subst, arith, length, map, List, [], ◌∷◌, ◌++◌, refl}
 use Rattle.std.proofs.lemmas.List.{length-map, map-append}
-use Rattle.hk_model.specs.Content.{Content}
+use Rattle.hk_model.specs.Replica.Content.{Content}
 use Rattle.hk_model.specs.declared.event.Event.{Event}
 use Rattle.hk_model.specs.declared.told.Told.{Told}
-use Rattle.hk_model.specs.Events.{event_seen, told_seen}
-use Rattle.hk_model.specs.Worlds.{World, ToldValue, new_contents}
+use Rattle.hk_model.specs.World.Events.{event_seen, told_seen}
+use Rattle.hk_model.specs.World.Worlds.{World, ToldValue, new_contents}
 use Rattle.hk_laws.specs.Running.{Running}
 use Rattle.hk_laws.proofs.Carried.{Carries, carries_all, carries_on, carried, same_config}
 use Rattle.hk_laws.proofs.running.run.Goals as goal

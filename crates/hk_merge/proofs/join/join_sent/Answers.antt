@@ -1,5 +1,5 @@
 use Rattle.std.proofs.Common.{◌≡◌, refl, sym, ap, ◌∙◌, inl, nat_lt, None, false}
-use Rattle.hk_model.specs.Content.{readable}
+use Rattle.hk_model.specs.Replica.Content.{readable}
 use Rattle.hk_state.proofs.Pruning.{not_below}
 use Rattle.hk_merge.specs.Listed.{fragment_sent}
 use Rattle.hk_merge.proofs.Refusing.{wrong_log_by, join_conflict, join_gives, listed_conflict}

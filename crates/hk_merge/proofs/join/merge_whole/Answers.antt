@@ -1,6 +1,6 @@
 use Rattle.std.proofs.Common.{refl, sym, ap, subst, map, inl}
-use Rattle.hk_model.specs.Fragments.{FragmentValue, cut}
-use Rattle.hk_model.specs.Lawful.{IsLawfulFragment}
+use Rattle.hk_model.specs.Replica.Fragments.{FragmentValue, cut}
+use Rattle.hk_model.specs.Replica.Lawful.{IsLawfulFragment}
 use Rattle.hk_model.proofs.Lawful.{cut_lawful}
 use Rattle.hk_state.specs.Versions.{borrowed}
 use Rattle.hk_merge.specs.Calls.{Joins}

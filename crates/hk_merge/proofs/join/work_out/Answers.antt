@@ -1,5 +1,5 @@
 use Rattle.std.proofs.Common.{◌≡◌, sym, ap, ◌∙◌, subst, map, max, length, ◌==◌, ◌&&◌, ◌||◌}
-use Rattle.hk_model.specs.Lawful.{IsLawful}
+use Rattle.hk_model.specs.Replica.Lawful.{IsLawful}
 use Rattle.hk_model.proofs.Lawful.{joined_lawful}
 use Rattle.hk_state.specs.Versions.{borrowed}
 use Rattle.hk_state.specs.Drops.{is_among}

@@ -1,4 +1,4 @@
-use Rattle.hk_model.specs.Rows.{RowKey}
+use Rattle.hk_model.specs.History.Rows.{RowKey}
 use Rattle.hk_primary.proofs.Found.{latest_none, latest_some}
 use Rattle.hk_primary.proofs.looks.latest.Goals as goal
 

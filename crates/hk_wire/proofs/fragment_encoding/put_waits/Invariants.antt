@@ -3,7 +3,7 @@ use Rattle.std.specs.Int.{w32}
 use Rattle.std.specs.List.{flat_map}
 use Rattle.std.specs.Map.Iter.{deref_pair}
 use Rattle.hk_frames.specs.Fields.{number}
-use Rattle.hk_model.specs.Streams.{stream_at}
+use Rattle.hk_model.specs.Replica.Streams.{stream_at}
 use Rattle.hk_wire.specs.Fragments as spec
 use Rattle.hk_wire.proofs.fragment_encoding.put_waits.Given as goal
 

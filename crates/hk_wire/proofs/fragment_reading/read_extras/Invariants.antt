@@ -1,4 +1,4 @@
-use Rattle.hk_model.specs.Streams.{stream_at}
+use Rattle.hk_model.specs.Replica.Streams.{stream_at}
 use Rattle.hk_wire.proofs.Taking.{ExtraSoFar}
 use Rattle.hk_wire.proofs.fragment_reading.read_extras.Given as goal
 

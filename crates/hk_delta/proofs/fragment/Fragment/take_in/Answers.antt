@@ -1,7 +1,7 @@
 use Rattle.std.proofs.Common.{sym, ap, ◌∙◌, length}
 use Rattle.std.specs.FinMap.{find}
-use Rattle.hk_model.specs.Rows.{version_key_cmp}
-use Rattle.hk_model.specs.Fragments.{FragmentValue}
+use Rattle.hk_model.specs.History.Rows.{version_key_cmp}
+use Rattle.hk_model.specs.Replica.Fragments.{FragmentValue}
 use Rattle.hk_delta.specs.Unions.{union_of, known_in_either}
 use Rattle.hk_delta.proofs.Sound.{facts_tested}
 use Rattle.hk_delta.proofs.Unions.{united_parts, united_seen}

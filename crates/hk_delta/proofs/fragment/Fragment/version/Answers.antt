@@ -4,9 +4,9 @@ use Rattle.std.proofs.lemmas.List.Sorted.{answers_always}
 use Rattle.hk_types.specs.Values.{ConfigValue}
 use Rattle.hk_types.specs.declared.version_key.VersionKey.{VersionKey}
 use Rattle.hk_log.specs.Versions.{VersionValue}
-use Rattle.hk_model.specs.Fragments.{FragmentValue}
-use Rattle.hk_model.specs.Rows.{version_key_cmp}
-use Rattle.hk_model.specs.Streams.{StreamContent}
+use Rattle.hk_model.specs.Replica.Fragments.{FragmentValue}
+use Rattle.hk_model.specs.History.Rows.{version_key_cmp}
+use Rattle.hk_model.specs.Replica.Streams.{StreamContent}
 use Rattle.hk_state.specs.Facts.{known_at}
 use Rattle.hk_state.specs.Reads.{facts_of_content}
 use Rattle.hk_delta.specs.Parts.{Known, fragment_seen, fragment_fault, versions_listed}

@@ -2,7 +2,7 @@ use Rattle.std.proofs.Common.{◌≡◌, ◌∙◌, ap, sym, cond, Some, None, i
 use Rattle.std.specs.FinSet as set
 use Rattle.std.specs.Map.{lookup}
 use Rattle.std.specs.Option.{option_copied_mut}
-use Rattle.hk_model.specs.Rows.{version_key_cmp}
+use Rattle.hk_model.specs.History.Rows.{version_key_cmp}
 use Rattle.hk_index.specs.Tagged.{tag_key_eq}
 use Rattle.hk_index.proofs.TagKeys.{TagKeyMap, Changes, put_tag_keyed, put_ok, put_kept, begun, begun_tag_keyed}
 use Rattle.hk_index.proofs.tag_index.TagIndex.add.Goals as goal

@@ -2,7 +2,7 @@ use Rattle.std.proofs.Common.{◌≡◌, ◌∙◌, ap, sym, Option, Some, None}
 use Rattle.std.specs.FinSet as set
 use Rattle.std.specs.Map.{lookup}
 use Rattle.std.specs.Option.{option_copied}
-use Rattle.hk_model.specs.Rows.{version_key_cmp}
+use Rattle.hk_model.specs.History.Rows.{version_key_cmp}
 use Rattle.hk_index.specs.declared.tag_key.TagKey.{TagKey}
 use Rattle.hk_index.specs.Tagged.{tag_key_eq}
 use Rattle.hk_index.proofs.TagKeys.{contains-tagged_seen, holds}

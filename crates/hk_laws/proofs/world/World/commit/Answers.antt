@@ -1,11 +1,11 @@
 use Rattle.std.proofs.Common.{◌≡◌, sym, ap, ◌∙◌, subst, List, Option, Err, Result, MatchOption}
 use Rattle.std.specs.FinMap as finmap
 use Rattle.hk_types.specs.declared.faults.Refusal.{Refusal}
-use Rattle.hk_model.specs.Commits.{writes_result, commit_result}
+use Rattle.hk_model.specs.History.Commits.{writes_result, commit_result}
 use Rattle.hk_model.specs.declared.write_op.WriteOp.{WriteOp}
-use Rattle.hk_model.specs.Histories.{Transaction}
-use Rattle.hk_model.specs.Worlds.{after_commit}
-use Rattle.hk_model.specs.Worlds.EventValue.{Commit}
+use Rattle.hk_model.specs.History.Histories.{Transaction}
+use Rattle.hk_model.specs.World.Worlds.{after_commit}
+use Rattle.hk_model.specs.World.Worlds.EventValue.{Commit}
 use Rattle.hk_laws.specs.Calls.{IsBuilt, is_memory}
 use Rattle.hk_laws.specs.Running.{Running}
 use Rattle.hk_laws.proofs.Barring.{barred_tells, barred_hears, open_first, turned}

@@ -1,4 +1,4 @@
-use Rattle.hk_model.specs.Events.{event_seen, told_seen}
+use Rattle.hk_model.specs.World.Events.{event_seen, told_seen}
 use Rattle.hk_laws.proofs.Stepping.{steps_of}
 use Rattle.hk_laws.proofs.world.World.step.Goals as goal
 

@@ -1,7 +1,7 @@
 use Rattle.std.proofs.Common.{◌≡◌, ◌∙◌, arith, sym, ap, subst, length, set, ◌-◌}
 use Rattle.std.proofs.lemmas.Grind.{common_steps}
-use Rattle.hk_model.specs.Lawful.{IsLawfulStream}
-use Rattle.hk_model.specs.Streams.{stream_at}
+use Rattle.hk_model.specs.Replica.Lawful.{IsLawfulStream}
+use Rattle.hk_model.specs.Replica.Streams.{stream_at}
 use Rattle.hk_marks.specs.Steps.{with_number}
 use Rattle.hk_marks.proofs.Kept.{AreStreams-set, with_number_lawful}
 use Rattle.hk_marks.proofs.Numbered.{with_number_numbered}

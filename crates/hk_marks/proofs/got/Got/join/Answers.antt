@@ -1,5 +1,5 @@
 use Rattle.std.proofs.Common.{◌≡◌, ◌∙◌, sym, ap, subst, length, List}
-use Rattle.hk_model.specs.Streams.{StreamContent, all_together}
+use Rattle.hk_model.specs.Replica.Streams.{StreamContent, all_together}
 use Rattle.hk_marks.specs.Seen.{AreStreams}
 use Rattle.hk_marks.proofs.Joins.{joined_kept}
 use Rattle.hk_marks.proofs.got.Got.join.Goals as goal

@@ -1,5 +1,5 @@
 use Rattle.std.proofs.Common.{◌≡◌, replicate}
-use Rattle.hk_model.specs.Streams.{unknown}
+use Rattle.hk_model.specs.Replica.Streams.{unknown}
 use Rattle.hk_marks.proofs.got.Got.new.Given as goal
 
 abbrev pub invariant-streams : goal.invariant-streams

@@ -1,5 +1,5 @@
 use Rattle.std.proofs.Common.{sym, subst, ap, arith, length}
-use Rattle.hk_model.specs.Lawful.{IsLawfulStream}
+use Rattle.hk_model.specs.Replica.Lawful.{IsLawfulStream}
 use Rattle.hk_marks.proofs.Kept.{AreStreams-set, raised_lawful}
 use Rattle.hk_marks.proofs.Numbered.{raised_numbered}
 use Rattle.hk_marks.specs.Seen.{IsNumbered}

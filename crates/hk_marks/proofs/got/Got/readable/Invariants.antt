@@ -1,5 +1,5 @@
 use Rattle.std.proofs.Common.{◌≡◌, take, get_or}
-use Rattle.hk_model.specs.Streams.{unknown}
+use Rattle.hk_model.specs.Replica.Streams.{unknown}
 use Rattle.hk_marks.proofs.Kept.{least_from}
 use Rattle.hk_marks.proofs.got.Got.readable.Given as goal
 

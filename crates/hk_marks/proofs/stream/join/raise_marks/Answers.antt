@@ -6,7 +6,7 @@ use Rattle.std.specs.BTreeMap as tree
 use Rattle.std.specs.FinMap as finmap
 use Rattle.std.specs.Map.Iter.{deref_pair}
 use Rattle.hk_model.proofs.Streams.{later, told}
-use Rattle.hk_model.specs.Streams.{stream_with}
+use Rattle.hk_model.specs.Replica.Streams.{stream_with}
 use Rattle.hk_marks.specs.Seen.{waiting_seen}
 use Rattle.hk_marks.proofs.Trees.{get-waiting_seen}
 use Rattle.hk_marks.proofs.Joins.{raised_closed, raised_waiting, same_counts, of_true, covered}

@@ -4,7 +4,7 @@ use Rattle.std.specs.Ordering.{nat_cmp}
 use Rattle.std.specs.BTreeMap as tree
 use Rattle.std.specs.FinSet as set
 use Rattle.std.specs.FinMap as finmap
-use Rattle.hk_model.specs.Streams.{covers, stream_with}
+use Rattle.hk_model.specs.Replica.Streams.{covers, stream_with}
 use Rattle.hk_marks.specs.Seen.{waiting_seen}
 use Rattle.hk_marks.proofs.stream.join.raise_marks.Given as goal
 

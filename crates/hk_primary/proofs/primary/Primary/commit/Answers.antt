@@ -2,7 +2,7 @@ use Rattle.std.proofs.Common.{◌≡◌, sym, ap, ◌∙◌, Ok, Some}
 use Rattle.hk_primary.specs.Calls.{verdict_of, verdict_time}
 use Rattle.hk_primary.specs.Log.{PrimaryValue}
 use Rattle.std.specs.FinMap as finmap
-use Rattle.hk_model.specs.Histories.{Transaction}
+use Rattle.hk_model.specs.History.Histories.{Transaction}
 use Rattle.hk_primary.proofs.Judged.{accepted_law_proof, judged_shape}
 use Rattle.hk_primary.proofs.primary.Primary.commit.Goals as goal
 

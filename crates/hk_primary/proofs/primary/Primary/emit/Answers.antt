@@ -1,6 +1,6 @@
 use Rattle.std.proofs.Common.{◌≡◌, sym, ap, ◌∙◌, subst, ◌++◌, ◌∷◌, []}
 use Rattle.hk_log.specs.declared.item.Item.TheVariants.{Closed}
-use Rattle.hk_model.specs.Histories.{IsTruthful}
+use Rattle.hk_model.specs.History.Histories.{IsTruthful}
 use Rattle.hk_primary.specs.Log.{PrimaryValue, with_item, history_of}
 use Rattle.hk_primary.proofs.Kept.{with_mark}
 use Rattle.hk_primary.proofs.Reading.{read_on-push}

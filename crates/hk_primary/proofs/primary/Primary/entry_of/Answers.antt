@@ -1,7 +1,7 @@
 use Rattle.std.proofs.Common.{◌≡◌, ◌≤◌, ◌<◌, ◌^◌, ◌+◌, sym, ap, ◌∙◌, subst, arith}
 use Rattle.std.specs.FinMap as finmap
 use Rattle.hk_log.specs.Items.{EntryValue, IsEntry}
-use Rattle.hk_model.specs.Histories.{Transaction, Follows, entry_of}
+use Rattle.hk_model.specs.History.Histories.{Transaction, Follows, entry_of}
 use Rattle.hk_model.proofs.Formed.{entry_formed}
 use Rattle.hk_primary.specs.Log.{PrimaryValue, history_of}
 use Rattle.hk_primary.proofs.Kept.{is_history}

@@ -1,7 +1,7 @@
 use Rattle.std.proofs.Common.{◌≡◌}
 use Rattle.std.specs.FinMap as finmap
-use Rattle.hk_model.specs.Commits.{first_absent}
-use Rattle.hk_model.specs.Histories.{tables_of}
+use Rattle.hk_model.specs.History.Commits.{first_absent}
+use Rattle.hk_model.specs.History.Histories.{tables_of}
 use Rattle.hk_primary.proofs.primary.Primary.first_absent.Given as goal
 
 abbrev pub invariant-loop-write : goal.invariant-loop-write

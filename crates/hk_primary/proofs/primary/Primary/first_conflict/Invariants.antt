@@ -1,6 +1,6 @@
 use Rattle.std.proofs.Common.{◌≡◌}
 use Rattle.std.specs.FinMap as finmap
-use Rattle.hk_model.specs.Commits.{first_conflict}
+use Rattle.hk_model.specs.History.Commits.{first_conflict}
 use Rattle.hk_primary.proofs.primary.Primary.first_conflict.Given as goal
 
 abbrev pub invariant-loop-write : goal.invariant-loop-write

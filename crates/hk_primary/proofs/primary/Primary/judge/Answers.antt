@@ -1,6 +1,6 @@
 use Rattle.std.proofs.Common.{◌≡◌, ◌≤◌, ℕ, sym, ap, ◌∙◌, subst, arith, false, nat_cmp, is_lt}
 use Rattle.std.proofs.lemmas.Bool.Decides.{nat_tests}
-use Rattle.hk_model.specs.Histories.{last}
+use Rattle.hk_model.specs.History.Histories.{last}
 use Rattle.hk_primary.specs.Log.{PrimaryValue}
 use Rattle.hk_primary.proofs.Judged.{judged_empty, judged_time, judged_full}
 use Rattle.hk_primary.proofs.primary.Primary.judge.Goals as goal

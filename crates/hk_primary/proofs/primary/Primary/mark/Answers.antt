@@ -1,6 +1,6 @@
 use Rattle.std.proofs.Common.{◌≡◌, ◌≤◌, sym, ap, ◌∙◌, subst, arith}
 use Rattle.hk_log.specs.Items.{MarkValue}
-use Rattle.hk_model.specs.Histories.{IsTruthful}
+use Rattle.hk_model.specs.History.Histories.{IsTruthful}
 use Rattle.hk_primary.specs.Log.{PrimaryValue, history_of}
 use Rattle.hk_primary.proofs.Kept.{mark_truthful}
 use Rattle.hk_primary.proofs.primary.Primary.mark.Goals as goal

@@ -3,7 +3,7 @@ use Rattle.std.specs.FinMap as finmap
 use Rattle.hk_log.specs.Items.{EntryValue}
 use Rattle.hk_log.specs.declared.item.Item.TheVariants.{Commit}
 use Rattle.hk_facts.proofs.Trees.{OnOk_map}
-use Rattle.hk_model.specs.Histories.{Transaction, Follows, entry_of}
+use Rattle.hk_model.specs.History.Histories.{Transaction, Follows, entry_of}
 use Rattle.hk_primary.specs.Calls.{with_transaction}
 use Rattle.hk_primary.specs.Log.{PrimaryValue, IsNext, transaction_of, with_item}
 use Rattle.hk_primary.proofs.Entered.{read_back}

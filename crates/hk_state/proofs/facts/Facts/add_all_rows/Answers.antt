@@ -5,7 +5,7 @@ use Rattle.std.proofs.lemmas.List.{map-id}
 use Rattle.std.specs.FinMap as finmap
 use Rattle.hk_types.specs.Values.{RowValue}
 use Rattle.hk_types.specs.declared.version_key.VersionKey.{VersionKey}
-use Rattle.hk_model.specs.Maps.{union}
+use Rattle.hk_model.specs.Replica.Maps.{union}
 use Rattle.hk_state.specs.Facts.{FactsValue, with_added}
 use Rattle.hk_state.proofs.Undone.{union_none, union_push}
 use Rattle.hk_state.proofs.facts.Facts.add_all_rows.Goals as goal

@@ -1,6 +1,6 @@
 use Rattle.std.proofs.Common.{◌≡◌, map, take}
 use Rattle.std.specs.FinMap as finmap
-use Rattle.hk_model.specs.Maps.{union}
+use Rattle.hk_model.specs.Replica.Maps.{union}
 use Rattle.hk_state.specs.Journal.{without_journal}
 use Rattle.hk_state.proofs.facts.Facts.add_ends.Given as goal
 

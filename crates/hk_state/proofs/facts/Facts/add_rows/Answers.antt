@@ -1,5 +1,5 @@
 use Rattle.std.proofs.Common.{refl, sym, ap, ◌∙◌, arith}
-use Rattle.hk_model.specs.Facts.{inserted_version}
+use Rattle.hk_model.specs.History.Facts.{inserted_version}
 use Rattle.hk_state.specs.Facts.{FactsValue}
 use Rattle.hk_state.proofs.Undone.{union_none, add_more}
 use Rattle.hk_state.proofs.facts.Facts.add_rows.Goals as goal

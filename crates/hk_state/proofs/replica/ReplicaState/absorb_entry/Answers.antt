@@ -1,8 +1,8 @@
 use Rattle.std.proofs.Common.{◌≡◌, sym, ◌∙◌, subst, ap, Option, Result, Ok, None, ℕ, Bool, true, false, ◌||◌, nat_le}
 use Rattle.std.specs.FinSet as set
 use Rattle.hk_types.specs.declared.faults.Refusal.{Refusal}
-use Rattle.hk_model.specs.Content.{Content}
-use Rattle.hk_model.specs.Streams.{stream_at}
+use Rattle.hk_model.specs.Replica.Content.{Content}
+use Rattle.hk_model.specs.Replica.Streams.{stream_at}
 use Rattle.hk_log.specs.declared.item.Item.TheVariants.{Commit}
 use Rattle.hk_state.specs.Calls.{Absorbs}
 use Rattle.hk_state.specs.Facts.{conflicts_with_entry}

@@ -1,7 +1,7 @@
 use Rattle.std.proofs.Common.{◌≡◌, sym, ◌∙◌, subst, ap, Option, Result, Ok, None, ℕ, Bool, true, false}
 use Rattle.hk_types.specs.declared.faults.Refusal.{Refusal}
-use Rattle.hk_model.specs.Content.{Content}
-use Rattle.hk_model.specs.Streams.{stream_at, adds_nothing}
+use Rattle.hk_model.specs.Replica.Content.{Content}
+use Rattle.hk_model.specs.Replica.Streams.{stream_at, adds_nothing}
 use Rattle.hk_log.specs.declared.item.Item.TheVariants.{Closed}
 use Rattle.hk_model.specs.declared.took.Took.{Took}
 use Rattle.hk_model.specs.declared.took.Took.TheVariants.{Repeated}

@@ -1,5 +1,5 @@
 use Rattle.std.proofs.Common.{◌≡◌, sym, ap, ◌∙◌, subst, false, nat_lt, nat_le}
-use Rattle.hk_model.specs.Content.{Content, readable}
+use Rattle.hk_model.specs.Replica.Content.{Content, readable}
 use Rattle.hk_state.specs.Calls.{Prunes}
 use Rattle.hk_state.specs.Replica.{content_of_parts}
 use Rattle.hk_state.proofs.Pruning.{prune_refused, prune_keeps, not_below, not_above}

@@ -3,10 +3,10 @@ use Rattle.hk_model.specs.declared.event.Event.{Event}
 use Rattle.hk_model.specs.declared.event.Event.TheVariants as events
 use Rattle.hk_model.specs.declared.told.Told.{Told}
 use Rattle.hk_model.specs.declared.told.Told.TheVariants as tells
-use Rattle.hk_model.specs.Answers.{answer_seen}
-use Rattle.hk_model.specs.Worlds.{EventValue, ToldValue}
-use Rattle.hk_model.specs.Worlds.EventValue.{Commit, MarkOf, Absorb, Batch, Prune, Merge, Delta, Ask, FrontOf}
-use Rattle.hk_model.specs.Worlds.ToldValue.{Committed, Marked, Absorbed, Done, Answered, Fronted, Refused}
+use Rattle.hk_model.specs.Replica.Answers.{answer_seen}
+use Rattle.hk_model.specs.World.Worlds.{EventValue, ToldValue}
+use Rattle.hk_model.specs.World.Worlds.EventValue.{Commit, MarkOf, Absorb, Batch, Prune, Merge, Delta, Ask, FrontOf}
+use Rattle.hk_model.specs.World.Worlds.ToldValue.{Committed, Marked, Absorbed, Done, Answered, Fronted, Refused}
 
 -- the value that an `Event` has
 abbrev pub event_seen : Event → EventValue

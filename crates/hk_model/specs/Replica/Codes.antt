@@ -7,10 +7,10 @@ use Rattle.std.specs.FinSet as set
 pub use Rattle.hk_log.specs.Versions.{row_code}
 use Rattle.hk_types.specs.Values.{RowValue}
 use Rattle.hk_types.specs.declared.version_key.VersionKey.{VersionKey}
-use Rattle.hk_model.specs.Rows.{version_key_cmp}
-use Rattle.hk_model.specs.Streams.{StreamContent}
-use Rattle.hk_model.specs.Content.{Content}
-use Rattle.hk_model.specs.Fragments.{FragmentValue}
+use Rattle.hk_model.specs.History.Rows.{version_key_cmp}
+use Rattle.hk_model.specs.Replica.Streams.{StreamContent}
+use Rattle.hk_model.specs.Replica.Content.{Content}
+use Rattle.hk_model.specs.Replica.Fragments.{FragmentValue}
 
 abbrev pub version_key_code : Coded VersionKey
 version_key_code = code_by (ℕ × (ℕ × ℕ)) (coded× coded_ℕ (coded× coded_ℕ coded_ℕ)) (λ v. (v.table, (v.key, v.born))) (λ p. record { table = p.0; key = p.1.0; born = p.1.1 }) (λ _. refl)

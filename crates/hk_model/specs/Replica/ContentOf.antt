@@ -2,9 +2,9 @@
 use Rattle.std.specs.Prelude.{ℕ, List}
 use Rattle.hk_log.specs.declared.item.Item.{Item}
 use Rattle.hk_types.specs.Values.{ConfigValue}
-use Rattle.hk_model.specs.Facts.{rows_of, ends_of}
-use Rattle.hk_model.specs.Streams.{streams_of}
-use Rattle.hk_model.specs.Content.{Content, without_ended}
+use Rattle.hk_model.specs.History.Facts.{rows_of, ends_of}
+use Rattle.hk_model.specs.Replica.Streams.{streams_of}
+use Rattle.hk_model.specs.Replica.Content.{Content, without_ended}
 
 -- the rows with no end at most h, the ends above h, and what the items tell of each stream
 abbrev pub content_of : ConfigValue → List Item → ℕ → Content

@@ -9,18 +9,18 @@ use Rattle.hk_types.specs.declared.faults.Refusal.{Refusal}
 use Rattle.hk_types.specs.declared.faults.Refusal.TheVariants.{ForeignLog, WrongStreams, Gap, Conflict, AheadOfMark}
 use Rattle.hk_model.specs.declared.took.Took.{Took}
 use Rattle.hk_model.specs.declared.took.Took.TheVariants.{Taken, Repeated}
-use Rattle.hk_model.specs.Maps.{or_else, union, maps_conflict}
+use Rattle.hk_model.specs.Replica.Maps.{or_else, union, maps_conflict}
 use Rattle.hk_types.specs.declared.version_key.VersionKey.{VersionKey}
 use Rattle.hk_types.specs.Values.{same_row}
-use Rattle.hk_model.specs.Rows.{version_key_cmp}
+use Rattle.hk_model.specs.History.Rows.{version_key_cmp}
 use Rattle.hk_log.specs.Items.{EntryValue}
 use Rattle.hk_log.specs.declared.item.Item.{Item}
 use Rattle.hk_log.specs.declared.item.Item.TheVariants.{Commit, Closed}
-use Rattle.hk_model.specs.Items.{wrong_log}
-use Rattle.hk_model.specs.Facts.{row_facts, end_facts, rows_of, ends_of}
-use Rattle.hk_model.specs.Streams.{streams_of, all_together, stream_at, adds_nothing}
-use Rattle.hk_model.specs.Content.{Content, readable, ended_by, without_ended}
-use Rattle.hk_model.specs.Fragments.{FragmentValue, cut, part}
+use Rattle.hk_model.specs.Replica.Items.{wrong_log}
+use Rattle.hk_model.specs.History.Facts.{row_facts, end_facts, rows_of, ends_of}
+use Rattle.hk_model.specs.Replica.Streams.{streams_of, all_together, stream_at, adds_nothing}
+use Rattle.hk_model.specs.Replica.Content.{Content, readable, ended_by, without_ended}
+use Rattle.hk_model.specs.Replica.Fragments.{FragmentValue, cut, part}
 
 -- whether some version has different rows, or different ends, in the two
 abbrev pub contents_conflict : Content → Content → Bool
