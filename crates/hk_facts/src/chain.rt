@@ -62,7 +62,8 @@ impl Chain {
     /// known of the version. A refusal changes nothing. The cost grows as the logarithm of the length.
     pub fn put(&mut self, born: Time, fact: Fact) -> Result<(), Refusal>
         ensures ok { OnOk result (chain_put self.old born fact ≡ Ok self.new) }
-        ensures err { IfErr result (λ why. (chain_put self.old born fact ≡ Err why) ⊎ ((why ≡ Memory) × (finmap.get self.old born ≡ None))) }
+        ensures err { IfErr result (λ why. (chain_put self.old born fact ≡ Err why)
+            ⊎ ((why ≡ Memory) × (finmap.get self.old born ≡ None))) }
         ensures kept { OnErr result (self.new ≡ self.old) }
     {
         if let Some(version) = self.versions.get_mut(&born) {
@@ -75,7 +76,8 @@ impl Chain {
     /// Adds a row, as `put` does.
     pub fn put_row(&mut self, born: Time, row: Row) -> Result<(), Refusal>
         ensures ok { OnOk result (chain_put self.old born (RowFact row) ≡ Ok self.new) }
-        ensures err { IfErr result (λ why. (chain_put self.old born (RowFact row) ≡ Err why) ⊎ ((why ≡ Memory) × (finmap.get self.old born ≡ None))) }
+        ensures err { IfErr result (λ why. (chain_put self.old born (RowFact row) ≡ Err why)
+            ⊎ ((why ≡ Memory) × (finmap.get self.old born ≡ None))) }
         ensures kept { OnErr result (self.new ≡ self.old) }
     {
         self.put(born, Fact::Row(row))
@@ -84,7 +86,8 @@ impl Chain {
     /// Adds an end, as `put` does.
     pub fn put_end(&mut self, born: Time, died: Time) -> Result<(), Refusal>
         ensures ok { OnOk result (chain_put self.old born (EndFact died) ≡ Ok self.new) }
-        ensures err { IfErr result (λ why. (chain_put self.old born (EndFact died) ≡ Err why) ⊎ ((why ≡ Memory) × (finmap.get self.old born ≡ None))) }
+        ensures err { IfErr result (λ why. (chain_put self.old born (EndFact died) ≡ Err why)
+            ⊎ ((why ≡ Memory) × (finmap.get self.old born ≡ None))) }
         ensures kept { OnErr result (self.new ≡ self.old) }
     {
         self.put(born, Fact::End(died))

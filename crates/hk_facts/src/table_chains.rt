@@ -66,7 +66,8 @@ impl TableChains {
     /// the number of keys and of the length of the chain.
     pub fn put(&mut self, key: Key, born: Time, fact: Fact) -> Result<(), Refusal>
         ensures ok { OnOk result (keyed_put self.old key born fact ≡ Ok self.new) }
-        ensures err { IfErr result (λ why. (keyed_put self.old key born fact ≡ Err why) ⊎ ((why ≡ Memory) × (version_in self.old key born ≡ None))) }
+        ensures err { IfErr result (λ why. (keyed_put self.old key born fact ≡ Err why)
+            ⊎ ((why ≡ Memory) × (version_in self.old key born ≡ None))) }
         ensures kept { OnErr result (self.new ≡ self.old) }
     {
         if let Some(chain) = self.chains.get_mut(&key) {

@@ -49,7 +49,8 @@ impl FrameFeeder {
     pub fn feed<T: Framed>(&mut self, piece: &[u8], out: &mut Vec<T>) -> Result<(), Refusal>
         requires { IsFormat T.LEAST_BYTES T.MOST_BYTES T.read T.rest_text T.IsEncodable }
         // What is held and the piece begin with the encodings of the added values. What follows them is held.
-        ensures reads { Feeds (AddsValues T.LEAST_BYTES T.MOST_BYTES T.read (λ x. T.rest_text (T.seen x)) (λ x. T.IsEncodable (T.seen x)))
+        ensures reads { Feeds (AddsValues T.LEAST_BYTES T.MOST_BYTES T.read (λ x. T.rest_text (T.seen x))
+            (λ x. T.IsEncodable (T.seen x)))
             self.old self.new out.old.items out.new.items piece.now result }
         // A fault stays.
         ensures fault { KeepsFault self.old self.new out.old.items out.new.items result }

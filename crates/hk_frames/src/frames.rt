@@ -76,7 +76,8 @@ pub fn take_frames<T: Framed>(
 ) -> Result<Progress, AllocError>
     requires { IsFormat T.LEAST_BYTES T.MOST_BYTES T.read T.rest_text T.IsEncodable }
     ensures used { IfOk result (λ p. p.used ≤ length bytes.now) }
-    ensures read { IfOk result (λ p. AddsValues T.LEAST_BYTES T.MOST_BYTES T.read (λ x. T.rest_text (T.seen x)) (λ x. T.IsEncodable (T.seen x)) out.old.items out.new.items bytes.now (rest_of (drop p.used bytes.now) p.fault)) }
+    ensures read { IfOk result (λ p. AddsValues T.LEAST_BYTES T.MOST_BYTES T.read
+        (λ x. T.rest_text (T.seen x)) (λ x. T.IsEncodable (T.seen x)) out.old.items out.new.items bytes.now (rest_of (drop p.used bytes.now) p.fault)) }
     ensures kept { OnErr result (take (length out.old.items) out.new.items ≡ out.old.items) }
 {
     let mut used = 0;

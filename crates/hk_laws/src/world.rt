@@ -56,7 +56,8 @@ impl World {
     pub fn new(alloc: Global, config: Config, replicas: u16) -> Result<World, Refusal>
         requires some { 1 ≤ replicas }
         requires few { replicas ≤ 16 }
-        ensures ok { IfOk result (λ world. world ≡ record { config = config; world = new_contents config replicas }) }
+        ensures ok { IfOk result
+            (λ world. world ≡ record { config = config; world = new_contents config replicas }) }
         ensures represents { IfOk result (λ world. Agree config (new_items replicas) world.world) }
         ensures err { IfErr result (λ why. why ≡ Memory) }
     {

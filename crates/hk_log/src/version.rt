@@ -32,7 +32,8 @@ impl Model for Version {
 impl Version {
     /// The version of this row and this end, or `None` where neither is there.
     pub fn new(row: Option<Row>, died: Option<Time>) -> Option<Version>
-        ensures { MatchOption result (is_known (record { row = row; died = died }) ≡ false) (λ v. (v ≡ record { row = row; died = died }) × (is_known v ≡ true)) }
+        ensures { MatchOption result (is_known (record { row = row; died = died }) ≡ false)
+            (λ v. (v ≡ record { row = row; died = died }) × (is_known v ≡ true)) }
     {
         if row.is_none() && died.is_none() {
             return None;

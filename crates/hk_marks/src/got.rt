@@ -89,7 +89,8 @@ impl Got {
         requires known { s ≤ length self.old }
         requires least { 1 ≤ number }
         requires most { number ≤ 2 ^ 62 }
-        ensures ok { OnOk result (self.new ≡ slice_set self.old (s - 1) (with_number (stream_at self.old s) number)) }
+        ensures ok { OnOk result (self.new
+            ≡ slice_set self.old (s - 1) (with_number (stream_at self.old s) number)) }
 
         // It takes what an entry of this number tells.
         ensures entry { OnOk result ((e : EntryValue) → e.stream ≡ s → e.number ≡ number
@@ -108,7 +109,8 @@ impl Got {
     pub fn add_mark(&mut self, s: StreamNo, n: u64, m: Time) -> Result<(), Refusal>
         requires known { s ≤ length self.old }
         requires truthful { n ≤ m }
-        ensures ok { OnOk result (self.new ≡ slice_set self.old (s - 1) (with_mark (stream_at self.old s) n m)) }
+        ensures ok { OnOk result (self.new
+            ≡ slice_set self.old (s - 1) (with_mark (stream_at self.old s) n m)) }
 
         // It takes what such a mark tells.
         ensures mark { OnOk result ((mark : MarkValue) → mark.stream ≡ s → mark.count ≡ n → mark.upto ≡ m
@@ -129,7 +131,8 @@ impl Got {
         requires known { s ≤ length self.old }
         requires most { prefix ≤ 2 ^ 62 }
         ensures done { IsOk result }
-        ensures value { self.new ≡ slice_set self.old (s - 1) (with_prefix (stream_at self.old s) prefix closed) }
+        ensures value { self.new
+            ≡ slice_set self.old (s - 1) (with_prefix (stream_at self.old s) prefix closed) }
     {
         self.streams[place(s)].raise(prefix, closed);
         Ok(())

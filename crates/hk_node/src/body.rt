@@ -276,7 +276,8 @@ impl Body {
 
     /// Makes an operation, which does nothing where it is refused. It changes nothing where memory is refused.
     pub fn apply(&mut self, op: &Op) -> Result<(), AllocError>
-        ensures { MatchResult result (λ _. self.new ≡ content_after_op self.old op.now) (λ _. self.new ≡ self.old) }
+        ensures { MatchResult result (λ _. self.new ≡ content_after_op self.old op.now)
+            (λ _. self.new ≡ self.old) }
     {
         match self.refusal(op) {
             Some(_) => Ok(()),

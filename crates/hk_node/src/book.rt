@@ -157,8 +157,10 @@ impl Prefix {
     /// Whether it is no longer than another. Of two prefixes of one node's list the shorter begins the longer.
     pub fn compare(&self, other: &Prefix) -> bool
         requires { other.now.0 ≡ self.now.0 }
-        ensures shorter { IsTrue result → IsPrefix self.now.1 other.now.1 × (length self.now.1 ≤ length other.now.1) }
-        ensures longer { result ≡ false → IsPrefix other.now.1 self.now.1 × (length other.now.1 < length self.now.1) }
+        ensures shorter { IsTrue result → IsPrefix self.now.1 other.now.1
+            × (length self.now.1 ≤ length other.now.1) }
+        ensures longer { result ≡ false → IsPrefix other.now.1 self.now.1
+            × (length other.now.1 < length self.now.1) }
     {
         let mut both = self.seen.again();
         both.learn(&other.seen);

@@ -96,7 +96,8 @@ pub fn hold_at<J: NodeName, R: Wait + Drop>(
     publisher: &mut Publisher<J, R>,
     time: Time,
 ) -> Result<(Hold, Receipt<J>), (Option<Hold>, Refusal)>
-    ensures change { MatchResult result (λ t. Changes publisher.old (HoldAt time) (Ok t.1) publisher.new) (λ e. Changes publisher.old (HoldAt time) (Err e.1) publisher.new) }
+    ensures change { MatchResult result (λ t. Changes publisher.old (HoldAt time) (Ok t.1) publisher.new)
+        (λ e. Changes publisher.old (HoldAt time) (Err e.1) publisher.new) }
     ensures before { is_legal (all_of publisher.old) ≡ true }
     ensures legal { IfOk result (λ t. is_legal t.1 ≡ true) }
     ensures last { IfOk result (λ t. last_of t.1 ≡ Some (HoldAt time)) }

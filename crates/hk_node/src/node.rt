@@ -163,7 +163,8 @@ impl<J: NodeName, R: Wait + Drop> Node<J, R> {
         time: Time,
     ) -> Result<(Hold, Receipt<J>), (Option<Hold>, Refusal)>
         ensures legal { IfOk result (λ t. is_legal t.1 ≡ true) }
-        ensures change { MatchResult result (λ t. ChangesSome (HoldAt time) (Ok t.1)) (λ e. ChangesSome (HoldAt time) (Err e.1)) }
+        ensures change { MatchResult result (λ t. ChangesSome (HoldAt time) (Ok t.1))
+            (λ e. ChangesSome (HoldAt time) (Err e.1)) }
         ensures last { IfOk result (λ t. last_of t.1 ≡ Some (HoldAt time)) }
         ensures hold { IfOk result (λ t. IsGiven t.0 time t.1) }
         ensures waits { IfErr result (λ e. (ops : List OpValue) × IsHandedOut ops time e.0 e.1) }
@@ -182,7 +183,8 @@ impl<J: NodeName, R: Wait + Drop> Node<J, R> {
         hold: Hold,
     ) -> Result<Receipt<J>, (Option<Hold>, Refusal)>
         ensures legal { IfOk result (λ list. is_legal list ≡ true) }
-        ensures change { MatchResult result (λ list. ChangesSome (Release hold.reader hold.at) (Ok list)) (λ e. ChangesSome (Release hold.reader hold.at) (Err e.1)) }
+        ensures change { MatchResult result (λ list. ChangesSome (Release hold.reader hold.at) (Ok list))
+            (λ e. ChangesSome (Release hold.reader hold.at) (Err e.1)) }
         ensures last { IfOk result (λ list. last_of list ≡ Some (Release hold.reader hold.at)) }
         ensures back { IfErr result (λ e. IsHandedBack hold e.0 e.1) }
     {

@@ -179,7 +179,8 @@ impl<J: NodeName, R: Wait + Drop> Publisher<J, R> {
 
     /// Publishes what waits. A refusal changes nothing.
     pub fn publish(&mut self) -> Result<(), AllocError>
-        ensures lists { MatchResult result (λ _. self.new ≡ (self.old.0 ++ self.old.1, [])) (λ _. self.new ≡ self.old) }
+        ensures lists { MatchResult result (λ _. self.new ≡ (self.old.0 ++ self.old.1, []))
+            (λ _. self.new ≡ self.old) }
         ensures legal { is_legal (self.old.0 ++ self.old.1) ≡ true }
     {
         publish_all(&mut self.copies.writer, &mut self.late, &self.copies.rt)

@@ -21,7 +21,8 @@ pub struct Replica {
 impl Replica {
     /// A copy of a new node of this log. The only refusal is `Memory`.
     pub fn new(alloc: Global, config: Config, prefix: Prefix) -> Result<Replica, Refusal>
-        ensures ok { IfOk result (λ replica. replica ≡ record { body = start_content config; prefix = prefix }) }
+        ensures ok { IfOk result
+            (λ replica. replica ≡ record { body = start_content config; prefix = prefix }) }
         ensures err { IfErr result (λ why. why ≡ Memory) }
     {
         let body = Body::new(alloc, config)?;

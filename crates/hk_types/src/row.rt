@@ -51,8 +51,10 @@ impl Eq for Row {
 impl Row {
     /// The row of this tag and this body, which is not copied. A body above 4,096 bytes comes back with `BadBody`.
     pub fn new(tag: Tag, body: Vec<u8>) -> Result<Row, (Vec<u8>, FormFault)>
-        ensures ok { length body.items ≤ 4096 → IfOk result (λ row. row ≡ record { tag = tag; body = body.items }) }
-        ensures exact { MatchResult result (λ _. length body.items ≤ 4096) (λ e. (4096 < length body.items) × (e.0 ≡ body) × (e.1 ≡ BadBody)) }
+        ensures ok { length body.items ≤ 4096 → IfOk result
+            (λ row. row ≡ record { tag = tag; body = body.items }) }
+        ensures exact { MatchResult result (λ _. length body.items ≤ 4096)
+            (λ e. (4096 < length body.items) × (e.0 ≡ body) × (e.1 ≡ BadBody)) }
     {
         if body.len() > MOST_BODY_BYTES {
             return Err((body, FormFault::BadBody));
