@@ -2,15 +2,12 @@
 
 ghost use Rattle.std.specs.Prelude.{◌≡◌, ◌≤◌};
 
-use hk_commands::{MOST_READS, Output, Stop};
+use hk_commands::{MOST_READS, Output, PIECE_BYTES, Stop};
 use hk_types::FormFault;
 use hk_wire::{Reply, ReplyFeeder, Request, RequestFeeder, encode_request};
 use std::alloc::Global;
 use std::io::{Read, Write};
 use std::net::{Ipv4Addr, Net, TcpListener, TcpStream};
-
-/// How many bytes are asked for in one read.
-const PIECE_BYTES: usize = 65_536;
 
 /// An open link to a node.
 #[derive(Drop)]

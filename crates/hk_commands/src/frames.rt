@@ -7,7 +7,7 @@ use std::alloc::Global;
 use std::io::Read;
 
 /// How many bytes are asked for in one read.
-const PIECE_BYTES: usize = 65_536;
+pub const PIECE_BYTES: usize = 65_536;
 
 /// The most reads of one input.
 pub const MOST_READS: u64 = 4_294_967_296;

@@ -13,7 +13,7 @@ mod words;
 mod world;
 
 pub use at::run_at;
-pub use frames::MOST_READS;
+pub use frames::{MOST_READS, PIECE_BYTES};
 pub use items::run_items;
 pub use output::Output;
 pub use stop::Stop;

@@ -3,11 +3,8 @@
 ghost use Rattle.std.specs.Prelude.{◌≡◌, ◌≤◌, IfOk};
 ghost use Rattle.hk_commands.specs.declared.words.Unread.TheVariants.{Memory};
 
-use hk_types::{Key, Row, StreamNo, Table, Tag, Time};
+use hk_types::{Key, MOST_BODY_BYTES, Row, StreamNo, Table, Tag, Time};
 use std::alloc::{AllocError, Global};
-
-/// The most bytes of a body.
-const MOST_BODY_BYTES: usize = 4_096;
 
 /// Why a line is no command.
 #[derive(Clone, Copy)]

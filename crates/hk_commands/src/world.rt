@@ -3,7 +3,7 @@
 ghost use Rattle.std.specs.Prelude.{◌≤◌};
 
 use crate::command::{command_of, opening_of};
-use crate::frames::MOST_READS;
+use crate::frames::{MOST_READS, PIECE_BYTES};
 use crate::output::Output;
 use crate::script::{Reply, Script};
 use crate::stop::Stop;
@@ -11,9 +11,6 @@ use crate::words::Unread;
 use hk_types::Refusal;
 use std::alloc::Global;
 use std::io::{Read, Write};
-
-/// How many bytes are asked for in one read.
-const PIECE_BYTES: usize = 65_536;
 
 /// The most bytes of a line, without its line feed.
 const MOST_LINE_BYTES: usize = 16_384;

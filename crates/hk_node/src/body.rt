@@ -10,13 +10,13 @@ ghost use Rattle.std.specs.List.{list_any};
 ghost use Rattle.hk_node.specs.Replay.{is_hold, content_after_op, start_content, effect, full_refusal, held_refusal, join_refusal, refusal_of};
 ghost use Rattle.hk_node.specs.Replies.{Answers, GivesOrMemory, node_delta, node_front, node_reply, node_whole};
 
-use crate::op::{Hold, LAST_OP, Op};
+use crate::op::{Hold, Op};
 use hk_delta::{Fragment, delta_since, join, whole_of};
 use hk_merge::wrong_log;
 use hk_model::{Answer, Front, Query};
 use hk_query::ask;
 use hk_state::{ReplicaState, front_of};
-use hk_types::{Config, Refusal, Time};
+use hk_types::{Config, LAST_OP, Refusal, Time};
 use std::alloc::{AllocError, Global};
 use std::marker::Model;
 

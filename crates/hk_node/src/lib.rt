@@ -13,6 +13,7 @@ mod seat;
 pub use body::next_op;
 pub use book::{NewList, NodeName};
 pub use node::{Node, Receipt, start};
-pub use op::{Hold, LAST_OP, Op};
+pub use hk_types::LAST_OP;
+pub use op::{Hold, Op};
 pub use publisher::Publisher;
 pub use seat::ReaderSeat;

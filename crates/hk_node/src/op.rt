@@ -3,9 +3,6 @@
 use hk_delta::Fragment;
 use hk_types::{Config, Time};
 
-/// How many operations a node can have, 2^62.
-pub const LAST_OP: u64 = 4_611_686_018_427_387_904;
-
 /// A time that stays readable until the hold is released: while it stands, no horizon passes the time. Dropping
 /// it releases nothing.
 #[derive(Debug, PartialEq, Eq, Drop)]

@@ -6,15 +6,13 @@ ghost use Rattle.hk_model.specs.declared.write_op.WriteOp.TheVariants.{Put, Remo
 ghost use Rattle.hk_primary.specs.Txns.{AreWrites, IsRefusal, no_writes, with_write, write_refused};
 
 use crate::row_key::RowKey;
+use hk_log::MOST_WRITES;
 use hk_model::WriteOp;
 use hk_types::{Key, Refusal, Row, Table, Time};
 use std::alloc::Global;
 use std::collections::BTreeMap;
 use std::collections::btree_map::Values;
 use std::marker::Model;
-
-/// The most writes of a transaction.
-pub const MOST_WRITES: usize = 1_024;
 
 /// A transaction that is being built: the time at which it reads, and its writes, at most `MOST_WRITES` and
 /// at most one of a key. What it writes is seen by nobody until a primary commits it.

@@ -15,13 +15,10 @@ use hk_log::Item;
 use hk_model::Query;
 use hk_query::ask;
 use hk_state::{ReplicaState, front_of};
-use hk_types::{Refusal, Time};
+use hk_types::{LAST_OP, Refusal, Time};
 use hk_wire::{Reply, Request};
 use std::alloc::Global;
 use std::marker::Model;
-
-/// The number of the last operation, 2^62.
-const LAST_OP: u64 = 4_611_686_018_427_387_904;
 
 /// A host over the state of a replica, with the number of its operations. Making it is the first one, and each
 /// change that it accepts is another, also one that leaves the content as it was.
