@@ -1,11 +1,11 @@
 -- Facts that are put one after the other are refused exactly where two of them conflict with each other.
 use Rattle.std.proofs.Common.{◌≡◌, refl, sym, ap, ◌∙◌, subst, ℕ, Bool, true, false, cond, not, ◌&&◌, ◌||◌, ◌==◌, Option, Some, None, is_some, List, [], ◌∷◌, ◌++◌, map, append_assoc, eq-eqb, ◌⊎◌, inl, inr, Result, Ok, Err, true≢false}
-use Rattle.std.proofs.lemmas.Bool.{and_parts, eqb-true}
-use Rattle.std.specs.Cmp.Lexicographic.{pointwise}
+use Rattle.std.proofs.lemmas.Bool.{and_parts, eqb-true, not-false, not-true, both_ways}
 use Rattle.std.specs.List.{list_any, flat_map}
 use Rattle.std.specs.Ordering.{eq_by_cmp, is_eq}
-use Rattle.std.specs.Cmp.{Equal-is, tied_itself}
+use Rattle.std.specs.Cmp.{tied_itself}
 use Rattle.std.specs.FinMap as finmap
+use Rattle.std.proofs.lemmas.List.{append-nil}
 use Rattle.hk_types.specs.Values.{RowValue, same_row}
 use Rattle.hk_types.specs.declared.version_key.VersionKey.{VersionKey}
 use Rattle.hk_types.specs.declared.faults.Refusal.{Refusal}
@@ -22,21 +22,16 @@ use Rattle.hk_model.proofs.Members.{In, In-left, In-right, In-append, In-find}
 use Rattle.hk_model.proofs.Shown.{any_In}
 use Rattle.hk_model.proofs.Visible.{any_where}
 use Rattle.hk_facts.specs.declared.fact.Fact.TheVariants.{Row, End}
-use Rattle.hk_state.specs.Facts.{FactsValue, with_added, no_facts}
+use Rattle.hk_store.specs.Facts.{FactsValue, with_added, no_facts}
+use Rattle.hk_store.proofs.SameRows.{same_value}
 use Rattle.hk_delta.specs.Gathers.{FactOn, all_put, facts_conflict, row_fact, end_fact, item_facts}
 use Rattle.hk_delta.proofs.Putting.{stays_refused}
-
-no_more : {A : Type 0} (xs : List A) → xs ++ [] ≡ xs
-no_more [] = refl
-no_more (x ∷ xs) = ap (λ ys. x ∷ ys) (no_more xs)
+use Rattle.hk_index.proofs.Sets.{tied_versions}
 
 empty_from : {X : Type 0} → ◌≡◌ {A = finmap.FinMap version_key_cmp X} (finmap.from_entries []) finmap.empty
 empty_from = finmap.same_map version_key_total version_key_same _ _ (λ q. finmap.get-from_entries version_key_total [] q ∙ sym (finmap.get-empty version_key_cmp q))
 
-same_key : (v w : VersionKey) → eq_by_cmp version_key_cmp v w ≡ true → v ≡ w
-same_key v w e = version_key_same v w ((Equal-is (version_key_cmp v w)).0 e)
-
-itself : (v : VersionKey) → eq_by_cmp version_key_cmp v v ≡ true
+pub itself : (v : VersionKey) → eq_by_cmp version_key_cmp v v ≡ true
 itself v = ap is_eq (tied_itself version_key_total v)
 
 module _ {X : Type 0} (same : X → X → Bool) (tells : (a b : X) → same a b ≡ true → a ≡ b) (alike : (a : X) → same a a ≡ true) where
@@ -62,11 +57,11 @@ module _ {X : Type 0} (same : X → X → Bool) (tells : (a b : X) → same a b 
       none None false = refl
 
       kept : (q : VersionKey) (y : X) → finmap.get (mapped xs) v ≡ Some y → (b : Bool) → eq_by_cmp version_key_cmp q v ≡ b → finmap.get (mapped xs) q ≡ or_else (finmap.get (mapped xs) q) (cond b (Some x) None)
-      kept q y g true e = let here = ap (finmap.get (mapped xs)) (same_key q v e) ∙ g in here ∙ sym (ap (λ o. or_else o (Some x)) here)
+      kept q y g true e = let here = ap (finmap.get (mapped xs)) (tied_versions q v e) ∙ g in here ∙ sym (ap (λ o. or_else o (Some x)) here)
       kept q y g false e = sym (none (finmap.get (mapped xs) q) true)
 
       new : (q : VersionKey) → finmap.get (mapped xs) v ≡ None → (b : Bool) → eq_by_cmp version_key_cmp q v ≡ b → cond b (Some x) (finmap.get (mapped xs) q) ≡ or_else (finmap.get (mapped xs) q) (cond b (Some x) None)
-      new q g true e = sym (ap (λ o. or_else o (Some x)) (ap (finmap.get (mapped xs)) (same_key q v e) ∙ g))
+      new q g true e = sym (ap (λ o. or_else o (Some x)) (ap (finmap.get (mapped xs)) (tied_versions q v e) ∙ g))
       new q g false e = sym (none (finmap.get (mapped xs) q) true)
 
       by : (q : VersionKey) (o : Option X) → finmap.get (mapped xs) v ≡ o → finmap.get (with_added (mapped xs) v x) q ≡ or_else (finmap.get (mapped xs) q) (cond (eq_by_cmp version_key_cmp q v) (Some x) None)
@@ -88,13 +83,9 @@ module _ {X : Type 0} (same : X → X → Bool) (tells : (a b : X) → same a b 
           ∙ ap (λ b. or_else (finmap.get (mapped xs) v) (cond b (Some x) None)) (itself v)
           ∙ is_same (finmap.get (mapped xs) v) d ∙ ap Some value
         where
-          turn : (b : Bool) → not b ≡ false → b ≡ true
-          turn true e = refl
-          turn false e = sym e
-
           is_same : (o : Option X) → values_conflict same o (Some x) ≡ false → or_else o (Some x) ≡ Some x
           is_same None e = refl
-          is_same (Some z) e = ap Some (tells z x (turn (same z x) e))
+          is_same (Some z) e = ap Some (tells z x (not-false (same z x) e))
 
   -- a list whose facts agree has no conflict
   pub no_conflict : (xs : List (VersionKey × X)) → Agrees xs → conflict same xs ≡ false
@@ -103,20 +94,16 @@ module _ {X : Type 0} (same : X → X → Bool) (tells : (a b : X) → same a b 
       inside : (a b : X) → ◌≡◌ {A = Option X} (Some a) (Some b) → a ≡ b
       inside a b e = cc
 
-      untrue : (b : Bool) → not b ≡ true → b ≡ true → ⊥
-      untrue true e f = true≢false (sym e)
-      untrue false e f = true≢false (sym f)
-
       by : (b : Bool) → conflict same xs ≡ b → b ≡ false
       by true c =
           let e = any_where (λ (e : VersionKey × X). list_any (facts_conflict same e) xs) xs c in
           let f = any_where (facts_conflict same e.0) xs e.2 in
           let p = and_parts (eq_by_cmp version_key_cmp e.0.0 f.0.0) (not (same e.0.1 f.0.1)) f.2 in
-          let k = same_key e.0.0 f.0.0 p.0 in
+          let k = tied_versions e.0.0 f.0.0 p.0 in
           let first = agrees e.0.0 e.0.1 e.1 in
           let second = agrees f.0.0 f.0.1 f.1 in
           let value : e.0.1 ≡ f.0.1 = inside e.0.1 f.0.1 (sym first ∙ ap (finmap.get (mapped xs)) k ∙ second) in
-          absurd (untrue (same e.0.1 f.0.1) p.1 (ap (same e.0.1) (sym value) ∙ alike e.0.1))
+          absurd (both_ways (same e.0.1 f.0.1) (not-true (same e.0.1 f.0.1) p.1) (ap (same e.0.1) (sym value) ∙ alike e.0.1))
       by false c = refl
 
   -- a fact that differs from what is there makes a conflict
@@ -132,21 +119,6 @@ module _ {X : Type 0} (same : X → X → Bool) (tells : (a b : X) → same a b 
           any_In (λ (e : VersionKey × X). list_any (facts_conflict same e) all) (v, z) all old (any_In (facts_conflict same (v, z)) (v, x) all new (ap (λ b. b && not (same z x)) (itself v) ∙ d))
 
 -- ---- rows and ends
-
-same_bytes : (xs ys : List ℕ) → pointwise (λ x y. x == y) xs ys ≡ true → xs ≡ ys
-same_bytes [] [] e = refl
-same_bytes [] (y ∷ ys) e = absurd (true≢false (sym e))
-same_bytes (x ∷ xs) [] e = absurd (true≢false (sym e))
-same_bytes (x ∷ xs) (y ∷ ys) e =
-    let parts = and_parts (x == y) (pointwise (λ x y. x == y) xs ys) e in
-    λ i. eqb-true x y parts.0 i ∷ same_bytes xs ys parts.1 i
-
-pub row_tells : (a b : RowValue) → same_row a b ≡ true → a ≡ b
-row_tells a b e =
-    let parts = and_parts (a.tag == b.tag) (pointwise (λ x y. x == y) a.body b.body) e in
-    let tag = eqb-true a.tag b.tag parts.0 in
-    let body = same_bytes a.body b.body parts.1 in
-    λ i. record { tag = tag i; body = body i }
 
 pub row_alike : (a : RowValue) → same_row a a ≡ true
 row_alike a = same_row_if a a refl
@@ -187,12 +159,12 @@ or_true false = refl
 row_settles : (v : VersionKey) (r : RowValue) (ss : List FactOn) → (rest : (xs : List (VersionKey × RowValue)) (ys : List (VersionKey × ℕ)) → AgreeRows xs → AgreeEnds ys → Settles (xs ++ rows_in ss) (ys ++ ends_in ss) (all_put (Ok (facts_from xs ys)) ss)) → (xs : List (VersionKey × RowValue)) (ys : List (VersionKey × ℕ)) → AgreeRows xs → AgreeEnds ys → (b : Bool) → values_conflict same_row (finmap.get (finmap.from_entries {R = version_key_cmp} xs) v) (Some r) ≡ b
     → Settles (xs ++ (v, r) ∷ rows_in ss) (ys ++ ends_in ss) (all_put (cond b (Err Conflict) (Ok (record { rows = with_added (finmap.from_entries xs) v r; ends = finmap.from_entries ys }))) ss)
 row_settles v r ss rest xs ys rows ends true e =
-    inr (stays_refused Conflict ss, ap (λ b. b || conflict (λ a b. a == b) (ys ++ ends_in ss)) (some_conflict same_row row_tells row_alike xs (rows_in ss) v r e))
+    inr (stays_refused Conflict ss, ap (λ b. b || conflict (λ a b. a == b) (ys ++ ends_in ss)) (some_conflict same_row same_value row_alike xs (rows_in ss) v r e))
 row_settles v r ss rest xs ys rows ends false e =
-    let put : record { rows = with_added (finmap.from_entries xs) v r; ends = finmap.from_entries ys } ≡ facts_from (xs ++ (v, r) ∷ []) ys = λ i. record { rows = added_last same_row row_tells row_alike xs v r i; ends = finmap.from_entries ys } in
+    let put : record { rows = with_added (finmap.from_entries xs) v r; ends = finmap.from_entries ys } ≡ facts_from (xs ++ (v, r) ∷ []) ys = λ i. record { rows = added_last same_row same_value row_alike xs v r i; ends = finmap.from_entries ys } in
     subst (λ (f : FactsValue). Settles (xs ++ (v, r) ∷ rows_in ss) (ys ++ ends_in ss) (all_put (Ok f) ss)) (sym put)
     (subst (λ (l : List (VersionKey × RowValue)). Settles l (ys ++ ends_in ss) (all_put (Ok (facts_from (xs ++ (v, r) ∷ []) ys)) ss)) (append_assoc xs ((v, r) ∷ []) (rows_in ss))
-    (rest (xs ++ (v, r) ∷ []) ys (agrees_more same_row row_tells row_alike xs v r rows e) ends))
+    (rest (xs ++ (v, r) ∷ []) ys (agrees_more same_row same_value row_alike xs v r rows e) ends))
 
 end_settles : (v : VersionKey) (d : ℕ) (ss : List FactOn) → (rest : (xs : List (VersionKey × RowValue)) (ys : List (VersionKey × ℕ)) → AgreeRows xs → AgreeEnds ys → Settles (xs ++ rows_in ss) (ys ++ ends_in ss) (all_put (Ok (facts_from xs ys)) ss)) → (xs : List (VersionKey × RowValue)) (ys : List (VersionKey × ℕ)) → AgreeRows xs → AgreeEnds ys → (b : Bool) → values_conflict (λ a b. a == b) (finmap.get (finmap.from_entries {R = version_key_cmp} ys) v) (Some d) ≡ b
     → Settles (xs ++ rows_in ss) (ys ++ (v, d) ∷ ends_in ss) (all_put (cond b (Err Conflict) (Ok (record { rows = finmap.from_entries xs; ends = with_added (finmap.from_entries ys) v d }))) ss)
@@ -206,9 +178,9 @@ end_settles v d ss rest xs ys rows ends false e =
 
 pub settles : (ss : List FactOn) (xs : List (VersionKey × RowValue)) (ys : List (VersionKey × ℕ)) → AgreeRows xs → AgreeEnds ys → Settles (xs ++ rows_in ss) (ys ++ ends_in ss) (all_put (Ok (facts_from xs ys)) ss)
 settles [] xs ys rows ends =
-    subst (λ (l : List (VersionKey × RowValue)). Settles l (ys ++ []) (Ok (facts_from xs ys))) (sym (no_more xs))
-    (subst (λ (l : List (VersionKey × ℕ)). Settles xs l (Ok (facts_from xs ys))) (sym (no_more ys))
-    (inl (refl, no_conflict same_row row_tells row_alike xs rows, no_conflict (λ a b. a == b) eqb-true time_alike ys ends)))
+    subst (λ (l : List (VersionKey × RowValue)). Settles l (ys ++ []) (Ok (facts_from xs ys))) (sym (append-nil xs))
+    (subst (λ (l : List (VersionKey × ℕ)). Settles xs l (Ok (facts_from xs ys))) (sym (append-nil ys))
+    (inl (refl, no_conflict same_row same_value row_alike xs rows, no_conflict (λ a b. a == b) eqb-true time_alike ys ends)))
 settles ((v, Row r) ∷ ss) xs ys rows ends = row_settles v r ss (settles ss) xs ys rows ends (values_conflict same_row (finmap.get (finmap.from_entries {R = version_key_cmp} xs) v) (Some r)) refl
 settles ((v, End d) ∷ ss) xs ys rows ends = end_settles v d ss (settles ss) xs ys rows ends (values_conflict (λ a b. a == b) (finmap.get (finmap.from_entries {R = version_key_cmp} ys) v) (Some d)) refl
 
@@ -244,7 +216,7 @@ pub inserted_rows_in : (items : List Item) → rows_in (flat_map item_facts item
 inserted_rows_in [] = refl
 inserted_rows_in (Commit e ∷ items) =
     rows_in-append (item_facts (Commit e)) (flat_map item_facts items)
-    ∙ (λ i. (rows_in-append (flat_map (row_fact e.time) e.rows) (flat_map (end_fact e.time) e.ends) ∙ (λ j. rows_of_rows e.time e.rows j ++ rows_of_ends e.time e.ends j) ∙ no_more (entry_rows e)) i ++ inserted_rows_in items i)
+    ∙ (λ i. (rows_in-append (flat_map (row_fact e.time) e.rows) (flat_map (end_fact e.time) e.ends) ∙ (λ j. rows_of_rows e.time e.rows j ++ rows_of_ends e.time e.ends j) ∙ append-nil (entry_rows e)) i ++ inserted_rows_in items i)
 inserted_rows_in (Closed m ∷ items) = inserted_rows_in items
 
 pub stated_ends_in : (items : List Item) → ends_in (flat_map item_facts items) ≡ end_facts items

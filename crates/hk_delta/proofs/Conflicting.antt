@@ -10,10 +10,6 @@ use Rattle.hk_model.specs.History.Facts.{row_facts, end_facts}
 use Rattle.hk_model.specs.Replica.Rules.{conflict}
 use Rattle.hk_delta.specs.Gathers.{facts_conflict, inserted_rows, stated_ends}
 
-pub any_map : {X Y : Type 0} (p : Y → Bool) (h : X → Y) (xs : List X) → list_any p (map h xs) ≡ list_any (λ x. p (h x)) xs
-any_map p h [] = refl
-any_map p h (x ∷ xs) = ap (λ b. p (h x) || b) (any_map p h xs)
-
 any_rows : (p : VersionKey × RowValue → Bool) (items : List Item) → list_any p (row_facts items) ≡ list_any (λ i. list_any p (inserted_rows i)) items
 any_rows p [] = refl
 any_rows p (Commit e ∷ items) = list_any-append p (inserted_rows (Commit e)) (row_facts items) ∙ ap (λ b. list_any p (inserted_rows (Commit e)) || b) (any_rows p items)

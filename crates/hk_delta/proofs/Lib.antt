@@ -3,7 +3,6 @@ pub mod Conflicting
 pub mod Lefts
 pub mod Listed
 pub mod WrongLogs
-pub mod Picked
 pub mod Sound
 pub mod Putting
 pub mod Wholes

@@ -3,7 +3,6 @@ use Rattle.std.proofs.Common.{◌≡◌, refl, sym, ap, subst, ◌∙◌, Bool, 
 use Rattle.std.specs.List.{cons_option, list_any}
 use Rattle.std.specs.Option.{option_map, option_and_then}
 use Rattle.std.specs.Ordering.{eq_by_cmp, is_eq, is_lt}
-use Rattle.std.specs.Cmp.{Equal-is}
 use Rattle.std.specs.FinMap as finmap
 use Rattle.std.specs.FinMap.Entries.{find, is_sorted, below_all}
 use Rattle.std.proofs.lemmas.List.Folds.{list_any-append}
@@ -14,6 +13,7 @@ use Rattle.hk_model.specs.Replica.Content.{Content}
 use Rattle.hk_model.proofs.Maps.{version_key_total, version_key_same}
 use Rattle.hk_model.proofs.Visible.{T_both, less}
 use Rattle.hk_delta.specs.Parts.{Known, values_by_version, known_of, versions_listed}
+use Rattle.hk_index.proofs.Sets.{tied_versions}
 
 -- ---- rising lists
 
@@ -24,9 +24,6 @@ none_below v (e ∷ facts) b =
     let both = T_both (is_lt (version_key_cmp v e.0)) (below_all version_key_cmp v facts) b in
     ap (λ r. cond (is_eq r) (Some e.1) (find version_key_cmp v facts)) (less (version_key_cmp v e.0) both.0) ∙ none_below v facts both.1
 
-tied : (v w : VersionKey) → eq_by_cmp version_key_cmp v w ≡ true → v ≡ w
-tied v w e = version_key_same v w ((Equal-is (version_key_cmp v w)).0 e)
-
 module _ {Y : Type 0} (read : VersionValue → Option Y) where
   abbrev read_pair : Known → Option (VersionKey × Y)
   read_pair e = option_map (λ y. (e.0, y)) (read e.1)
@@ -35,7 +32,7 @@ module _ {Y : Type 0} (read : VersionValue → Option Y) where
       → (b : Bool) (o : Option Y) → eq_by_cmp version_key_cmp v e.0 ≡ b → read e.1 ≡ o → find version_key_cmp v (cons_option (option_map (λ y. (e.0, y)) o) (filter_map read_pair facts)) ≡ option_and_then read (cond b (Some e.1) (find version_key_cmp v facts))
   found_at v e facts below rest true (Some y) t r = ap (λ b. cond b (Some y) (find version_key_cmp v (filter_map read_pair facts))) t ∙ sym r
   found_at v e facts below rest true None t r =
-      let none : find version_key_cmp v facts ≡ None = none_below v facts (subst (λ w. T (below_all version_key_cmp w facts)) (sym (tied v e.0 t)) below) in
+      let none : find version_key_cmp v facts ≡ None = none_below v facts (subst (λ w. T (below_all version_key_cmp w facts)) (sym (tied_versions v e.0 t)) below) in
       rest ∙ ap (option_and_then read) none ∙ sym r
   found_at v e facts below rest false (Some y) t r = ap (λ b. cond b (Some y) (find version_key_cmp v (filter_map read_pair facts))) t ∙ rest
   found_at v e facts below rest false None t r = rest
@@ -54,7 +51,7 @@ module _ {Y : Type 0} (read : VersionValue → Option Y) where
 
 known_at : (c : Content) (v w : VersionKey) (ks : List VersionKey) → find version_key_cmp v (map (λ w. (w, known_of c w)) ks) ≡ cond (list_any (eq_by_cmp version_key_cmp v) ks) (Some (known_of c v)) None
     → (b : Bool) → eq_by_cmp version_key_cmp v w ≡ b → cond b (Some (known_of c w)) (find version_key_cmp v (map (λ w. (w, known_of c w)) ks)) ≡ cond (b || list_any (eq_by_cmp version_key_cmp v) ks) (Some (known_of c v)) None
-known_at c v w ks rest true t = ap (λ w. Some (known_of c w)) (sym (tied v w t))
+known_at c v w ks rest true t = ap (λ w. Some (known_of c w)) (sym (tied_versions v w t))
 known_at c v w ks rest false t = rest
 
 find_known : (c : Content) (v : VersionKey) (ks : List VersionKey) → find version_key_cmp v (map (λ w. (w, known_of c w)) ks) ≡ cond (list_any (eq_by_cmp version_key_cmp v) ks) (Some (known_of c v)) None

@@ -16,18 +16,18 @@ use Rattle.hk_model.specs.Replica.Content.{Content, readable}
 use Rattle.hk_model.proofs.Maps.{version_key_total, version_key_same}
 use Rattle.hk_model.proofs.Members.{In}
 use Rattle.hk_model.proofs.Visible.{T_both, less}
-use Rattle.hk_state.specs.Facts.{known_at}
-use Rattle.hk_state.specs.Reads.{facts_of_content}
-use Rattle.hk_state.specs.Versions.{AreVersions}
-use Rattle.hk_state.specs.Drops.{is_among}
+use Rattle.hk_store.specs.Facts.{known_at}
+use Rattle.hk_store.specs.Reads.{facts_of_content}
+use Rattle.hk_store.specs.Versions.{AreVersions}
+use Rattle.hk_store.specs.Drops.{is_among}
 use Rattle.hk_types.specs.Values.{ConfigValue}
 use Rattle.hk_types.specs.declared.faults.Refusal.{Refusal}
 use Rattle.hk_types.specs.declared.faults.Refusal.TheVariants.{ForeignLog, WrongStreams, Memory, Gap}
 use Rattle.hk_model.specs.Replica.Streams.{StreamContent}
 use Rattle.hk_model.specs.Replica.Fragments.{FragmentValue}
 use Rattle.hk_model.specs.Replica.Rules.{contents_conflict, join_result}
-use Rattle.hk_state.specs.Versions.{value_conflicts_at}
-use Rattle.hk_state.proofs.Walking.{conflict_listed}
+use Rattle.hk_store.specs.Versions.{value_conflicts_at}
+use Rattle.hk_store.proofs.Walking.{conflict_listed}
 use Rattle.hk_merge.specs.Listed.{facts_listed, fragment_listed}
 use Rattle.hk_merge.specs.Calls.{Joins}
 use Rattle.hk_merge.proofs.Refusing.{wrong_log_by, listed_itself, listed_whole}
@@ -43,6 +43,7 @@ use Rattle.hk_delta.proofs.WrongLogs.{count_streams}
 use Rattle.hk_delta.specs.Joins.{JoinsOf}
 use Rattle.hk_delta.specs.Parts.{Known, versions_listed}
 use Rattle.hk_delta.proofs.Listed.{listed_of, pairs}
+use Rattle.hk_state.proofs.Standing.{inside, has_conflict_with}
 
 -- in a rising list each version is found with what stands beside it
 find_head : (e : Known) (es : List Known) → find version_key_cmp e.0 (e ∷ es) ≡ Some e.1
@@ -147,12 +148,6 @@ pub fits_by : (t : Content) (f : FragmentValue) (config : ConfigValue) (log : co
 fits_by t f config log streams fits = ap (λ n. cond (not (n == t.log)) (Some ForeignLog) (cond (not (config.streams == length t.streams)) (Some WrongStreams) None)) (sym log) ∙ fits
 
 -- ---- parts of one history
-
-inside : (a b : Content) → ◌≡◌ {A = Result Content Refusal} (Ok a) (Ok b) → a ≡ b
-inside a b e = cc
-
-has_conflict_with : (a : Content) (why : Refusal) → ◌≡◌ {A = Result Content Refusal} (Ok a) (Err why) → ⊥
-has_conflict_with a why e = cc
 
 same_refusal : (a b : Refusal) → ◌≡◌ {A = Result Content Refusal} (Err a) (Err b) → a ≡ b
 same_refusal a b e = cc

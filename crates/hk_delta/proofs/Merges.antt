@@ -8,7 +8,7 @@ use Rattle.std.specs.FinMap.Entries.{find, is_sorted, below_all}
 use Rattle.std.specs.List.{slice_get}
 use Rattle.std.specs.Ordering.{eq_by_cmp, is_eq, is_lt, ordering_reverse}
 use Rattle.std.proofs.lemmas.Option.{slice_get_within, get_or_from_slice_get, slice_get-get_or}
-use Rattle.std.proofs.lemmas.List.{take_more, take_all, length-append}
+use Rattle.std.proofs.lemmas.List.{take_more, take_all, length-append, append-nil}
 use Rattle.hk_types.specs.Values.{RowValue}
 use Rattle.hk_types.specs.declared.version_key.VersionKey.{VersionKey}
 use Rattle.hk_log.specs.Versions.{VersionValue, is_known}
@@ -19,8 +19,9 @@ use Rattle.hk_model.proofs.Members.{In, In-left, In-right, In-append}
 use Rattle.hk_model.proofs.Visible.{T_both}
 use Rattle.hk_delta.specs.Parts.{Known, follows, is_valid_row, is_valid_end, is_valid_fact, facts_fault}
 use Rattle.hk_delta.specs.Unions.{both_known, known_in_either, EndsBefore, ComparesLast, TakesGreatest}
-use Rattle.hk_delta.proofs.Sound.{AllFollow, AreValidFacts, are_facts, parts_of, and_T}
+use Rattle.hk_delta.proofs.Sound.{AllFollow, AreValidFacts, are_facts, parts_of}
 use Rattle.hk_delta.proofs.MergeInputs.{below_In}
+use Rattle.hk_facts.proofs.Trees.{and_T}
 
 -- ---- the last of a list
 
@@ -101,9 +102,6 @@ ends_before xs v r (inr h) f i =
     ]
 
 -- ---- look-ups
-
-key_itself : (v : VersionKey) → eq_by_cmp version_key_cmp v v ≡ true
-key_itself v = ap is_eq (tied_itself version_key_total v)
 
 not_less : (v w : VersionKey) → v ≡ w → version_key_cmp v w ≡ Less → ⊥
 not_less v w s l = values_conflict (sym l ∙ ap (version_key_cmp v) (sym s) ∙ tied_itself version_key_total v)
@@ -222,10 +220,6 @@ both_stand k x y s t =
     known None (Some d) (Some r) o e = refl
     known None None s o e = absurd cc
 
-nothing_more : (xs : List Known) → xs ++ [] ≡ xs
-nothing_more [] = refl
-nothing_more (x ∷ xs) = ap (λ l. x ∷ l) (nothing_more xs)
-
 faults_none : (before : Option VersionKey) (es : List Known) → Rising es → AllFollow before es → AreValidFacts 0 0 es → facts_fault 0 0 before es ≡ None
 faults_none before [] r f s = refl
 faults_none before (e ∷ es) r f s = rw (next before f, s e.0 e.1 (inl refl)) (faults_none (Some e.0) es r.1 (below_from e.0 es r.0) (λ v x i. s v x (inr i)))
@@ -319,11 +313,11 @@ module _ (own coming : List Known) where
       let a = are_facts 0 0 None own f in
       let b = are_facts 0 0 None coming g in
       record {
-        own_rise = subst Rising (sym (nothing_more own)) (rising own a.sorted);
-        coming_rise = subst Rising (sym (nothing_more coming)) (rising coming b.sorted);
-        own_stand = subst (AreValidFacts 0 0) (sym (nothing_more own)) a.each;
-        coming_stand = subst (AreValidFacts 0 0) (sym (nothing_more coming)) b.each;
-        found = λ v. (λ i. known_in_either (find version_key_cmp v (nothing_more own i)) (find version_key_cmp v (nothing_more coming i)));
+        own_rise = subst Rising (sym (append-nil own)) (rising own a.sorted);
+        coming_rise = subst Rising (sym (append-nil coming)) (rising coming b.sorted);
+        own_stand = subst (AreValidFacts 0 0) (sym (append-nil own)) a.each;
+        coming_stand = subst (AreValidFacts 0 0) (sym (append-nil coming)) b.each;
+        found = λ v. (λ i. known_in_either (find version_key_cmp v (append-nil own i)) (find version_key_cmp v (append-nil coming i)));
       }
 
   pub further : (left waiting out left_after waiting_after : List Known) (e : Known) → Halfway own coming left waiting out → TakesGreatest left left_after waiting waiting_after (Some e) → Halfway own coming left_after waiting_after (e ∷ out)

@@ -1,7 +1,7 @@
 -- The union of what two lists of items are gathered to is what the one list after the other is gathered to.
-use Rattle.std.proofs.Common.{◌≡◌, refl, sym, ap, ◌∙◌, Bool, true, false, cond, not, ◌&&◌, ◌||◌, ◌==◌, Option, Some, None, List, ◌++◌, All, inl, inr, Result, Ok, Err, true≢false}
+use Rattle.std.proofs.Common.{◌≡◌, refl, sym, ap, ◌∙◌, Bool, true, false, cond, not, ◌&&◌, ◌||◌, ◌==◌, Option, Some, None, List, ◌++◌, All, inl, inr, Result, Ok, Err, true≢false, OnOk, OnErr, IfErr}
 use Rattle.std.proofs.lemmas.List.Elements.{All-append}
-use Rattle.std.proofs.lemmas.Bool.{eqb-true}
+use Rattle.std.proofs.lemmas.Bool.{eqb-true, or_parts, not-false}
 use Rattle.std.specs.Cmp.{tied_itself}
 use Rattle.std.specs.List.{list_any}
 use Rattle.std.specs.Ordering.{eq_by_cmp, is_eq}
@@ -10,7 +10,7 @@ use Rattle.std.specs.FinMap.Entries.{find}
 use Rattle.hk_types.specs.Values.{ConfigValue, same_row}
 use Rattle.hk_types.specs.declared.version_key.VersionKey.{VersionKey}
 use Rattle.hk_types.specs.declared.faults.Refusal.{Refusal}
-use Rattle.hk_types.specs.declared.faults.Refusal.TheVariants.{Conflict}
+use Rattle.hk_types.specs.declared.faults.Refusal.TheVariants.{Conflict, Memory}
 use Rattle.hk_log.specs.declared.item.Item.{Item}
 use Rattle.hk_model.specs.History.Rows.{version_key_cmp}
 use Rattle.hk_model.specs.Replica.Maps.{or_else, values_conflict, union, maps_conflict}
@@ -28,9 +28,10 @@ use Rattle.hk_model.proofs.Shown.{any_In, get-key}
 use Rattle.hk_merge.proofs.Refusing.{whole_is}
 use Rattle.hk_delta.specs.Gathers.{facts_conflict, have_conflict}
 use Rattle.hk_delta.specs.Unions.{union_of, Unites, UnitesGathered}
-use Rattle.hk_delta.proofs.Agreeing.{no_conflict, row_tells, row_alike, time_alike}
+use Rattle.hk_delta.proofs.Agreeing.{no_conflict, row_alike, time_alike, itself}
 use Rattle.hk_delta.proofs.WrongLogs.{wrong_log-append}
 use Rattle.hk_delta.proofs.Wholes.{whole_lawful, all_kept, gathered_ok}
+use Rattle.hk_store.proofs.SameRows.{same_value}
 
 -- ---- facts that agree
 
@@ -40,9 +41,6 @@ module _ {X : Type 0} (same : X → X → Bool) (tells : (a b : X) → same a b 
 
   abbrev Agrees : List (VersionKey × X) → Type 0
   Agrees xs = (v : VersionKey) (x : X) → In (v, x) xs → finmap.get (mapped xs) v ≡ Some x
-
-  itself : (v : VersionKey) → eq_by_cmp version_key_cmp v v ≡ true
-  itself v = ap is_eq (tied_itself version_key_total v)
 
   same_there : (xs : List (VersionKey × X)) → conflict same xs ≡ false → (v : VersionKey) (x y : X) → In (v, x) xs → In (v, y) xs → same x y ≡ true
   same_there xs none v x y i j = by (same x y) refl
@@ -78,13 +76,9 @@ module _ {X : Type 0} (same : X → X → Bool) (tells : (a b : X) → same a b 
             ∙ by (finmap.get (mapped xs) v) (ap (values_conflict same (finmap.get (mapped xs) v)) (sym (b v x j)) ∙ agree_at (mapped xs) (mapped ys) none v)
       ]
     where
-      turned : (b : Bool) → not b ≡ false → b ≡ true
-      turned true e = refl
-      turned false e = sym e
-
       by : (o : Option X) → values_conflict same o (Some x) ≡ false → or_else o (Some x) ≡ Some x
       by None e = refl
-      by (Some z) e = ap Some (tells z x (turned (same z x) e))
+      by (Some z) e = ap Some (tells z x (not-false (same z x) e))
 
   pub still_none : (xs ys : List (VersionKey × X)) → conflict same xs ≡ false → conflict same ys ≡ false → maps_conflict same (mapped xs) (mapped ys) ≡ false → conflict same (xs ++ ys) ≡ false
   still_none xs ys p q none = no_conflict same tells alike (xs ++ ys) (agrees_join xs ys (agrees_from xs p) (agrees_from ys q) none)
@@ -116,10 +110,6 @@ part_is config items all =
     sym (whole_is (content_of config items 0) (whole_lawful config items all))
     ∙ (λ i. record { base = 0; content = record { log = config.log; horizon = 0; rows = all_kept config items all (rows_of items) i; ends = all_kept config items all (ends_of items) i; streams = streams_of config.streams items } })
 
-or_both : (a b : Bool) → (a || b) ≡ false → (a ≡ false) × (b ≡ false)
-or_both true b e = absurd (true≢false e)
-or_both false b e = (refl, e)
-
 module _ (config : ConfigValue) (xs ys : List Item) (all : All IsItem xs) (others : All IsItem ys) where
   both_items : All IsItem (xs ++ ys)
   both_items = All-append IsItem xs ys all others
@@ -138,12 +128,17 @@ module _ (config : ConfigValue) (xs ys : List Item) (all : All IsItem xs) (other
 
   agree_both : have_conflict xs ≡ false → have_conflict ys ≡ false → contents_conflict (part config xs 0 0).content (part config ys 0 0).content ≡ false → have_conflict (xs ++ ys) ≡ false
   agree_both p q d =
-      let own = or_both (conflict same_row (row_facts xs)) (conflict (λ a b. a == b) (end_facts xs)) p in
-      let other = or_both (conflict same_row (row_facts ys)) (conflict (λ a b. a == b) (end_facts ys)) q in
-      let between = or_both (maps_conflict same_row (rows_of xs) (rows_of ys)) (maps_conflict (λ a b. a == b) (ends_of xs) (ends_of ys)) (sym (λ i. contents_conflict (part_is config xs all i).content (part_is config ys others i).content) ∙ d) in
-      let rows : conflict same_row (row_facts (xs ++ ys)) ≡ false = ap (conflict same_row) (row_facts-append xs ys) ∙ still_none same_row row_tells row_alike (row_facts xs) (row_facts ys) own.0 other.0 between.0 in
+      let own = or_parts (conflict same_row (row_facts xs)) (conflict (λ a b. a == b) (end_facts xs)) p in
+      let other = or_parts (conflict same_row (row_facts ys)) (conflict (λ a b. a == b) (end_facts ys)) q in
+      let between = or_parts (maps_conflict same_row (rows_of xs) (rows_of ys)) (maps_conflict (λ a b. a == b) (ends_of xs) (ends_of ys)) (sym (λ i. contents_conflict (part_is config xs all i).content (part_is config ys others i).content) ∙ d) in
+      let rows : conflict same_row (row_facts (xs ++ ys)) ≡ false = ap (conflict same_row) (row_facts-append xs ys) ∙ still_none same_row same_value row_alike (row_facts xs) (row_facts ys) own.0 other.0 between.0 in
       let ends : conflict (λ a b. a == b) (end_facts (xs ++ ys)) ≡ false = ap (conflict (λ a b. a == b)) (end_facts-append xs ys) ∙ still_none (λ a b. a == b) eqb-true time_alike (end_facts xs) (end_facts ys) own.1 other.1 between.1 in
       (λ i. rows i || ends i)
+
+-- two fragments that do not conflict unite, unless memory ran out
+pub united : (old new other : FragmentValue) (r : Result (Unit {0}) Refusal) → contents_conflict old.content other.content ≡ false → OnOk r (new ≡ union_of old other) → IfErr r (λ why. why ≡ Memory) → OnErr r (new ≡ old) → Unites old new other r
+united old new other (Ok done) agree ok err kept = (agree, ok)
+united old new other (Err why) agree ok err kept = (kept, inr (agree, err))
 
 pub unites_gathered : (old new other : FragmentValue) (r : Result (Unit {0}) Refusal) → Unites old new other r → UnitesGathered old new other r
 unites_gathered old new other (Err why) u config xs ys f g = tt

@@ -1,10 +1,10 @@
 -- Facts that are put one after the other.
 use Rattle.std.proofs.Common.{◌≡◌, refl, sym, ap, ◌∙◌, ℕ, ◌+◌, ◌<◌, List, [], ◌∷◌, ◌++◌, take, drop, length, get_or, Result, Ok, Err, inl, inr}
-use Rattle.std.proofs.lemmas.List.{take_more, take-append-drop}
+use Rattle.std.proofs.lemmas.List.{take_more, take-append-drop, append-nil}
 use Rattle.std.proofs.lemmas.List.Concat.{flat_map-append}
 use Rattle.std.specs.List.{flat_map}
 use Rattle.hk_types.specs.declared.faults.Refusal.{Refusal}
-use Rattle.hk_state.specs.Facts.{FactsValue}
+use Rattle.hk_store.specs.Facts.{FactsValue}
 use Rattle.hk_delta.specs.Gathers.{FactOn, put_on, all_put, Puts}
 
 pub all_put-append : (r : Result FactsValue Refusal) (xs ys : List FactOn) → all_put r (xs ++ ys) ≡ all_put (all_put r xs) ys
@@ -16,16 +16,12 @@ pub stays_refused : (why : Refusal) (xs : List FactOn) → all_put (Err why) xs 
 stays_refused why [] = refl
 stays_refused why (x ∷ xs) = stays_refused why xs
 
-nothing_more : {A : Type 0} (xs : List A) → xs ++ [] ≡ xs
-nothing_more [] = refl
-nothing_more (x ∷ xs) = ap (λ ys. x ∷ ys) (nothing_more xs)
-
 module _ {X : Type 0} (says : X → List FactOn) (xs : List X) (i : ℕ) (x : X) (is : x ≡ get_or xs i x) (below : i < length xs) (old cur : FactsValue) (before : all_put (Ok old) (flat_map says (take i xs)) ≡ Ok cur) where
   up_to : flat_map says (take (i + 1) xs) ≡ flat_map says (take i xs) ++ says x
   up_to =
       ap (flat_map says) (take_more xs i x below ∙ ap (λ y. take i xs ++ y ∷ []) (sym is))
       ∙ flat_map-append says (take i xs) (x ∷ [])
-      ∙ ap (λ l. flat_map says (take i xs) ++ l) (nothing_more (says x))
+      ∙ ap (λ l. flat_map says (take i xs) ++ l) (append-nil (says x))
 
   -- one more of a list is put
   pub put_more : (new : FactsValue) → all_put (Ok cur) (says x) ≡ Ok new → all_put (Ok old) (flat_map says (take (i + 1) xs)) ≡ Ok new

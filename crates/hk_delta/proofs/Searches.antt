@@ -7,6 +7,7 @@ use Rattle.std.specs.Cmp.{tied_itself}
 use Rattle.std.specs.FinMap.Entries.{find}
 use Rattle.std.specs.List.Sorted.{IsBinarySearchResult, IsNonDecreasingBy}
 use Rattle.std.specs.Ordering.{ordering_index, ordering_reverse}
+use Rattle.std.proofs.lemmas.Bool.{cases_lt}
 use Rattle.hk_types.specs.declared.version_key.VersionKey.{VersionKey}
 use Rattle.hk_model.specs.History.Rows.{version_key_cmp}
 use Rattle.hk_model.proofs.Maps.{version_key_total, version_key_same}
@@ -15,13 +16,6 @@ use Rattle.hk_delta.specs.Parts.{Known, facts_fault}
 use Rattle.hk_delta.proofs.Sound.{are_facts}
 use Rattle.hk_delta.proofs.MergeInputs.{each_found}
 use Rattle.hk_delta.proofs.Merges.{Rising, rising, none_equal}
-
-either_side : (i j : ℕ) → (i < j) ⊎ (j ≤ i)
-either_side i j = by (nat_lt i j) refl
-  where
-    by : (b : Bool) → nat_lt i j ≡ b → (i < j) ⊎ (j ≤ i)
-    by true e = inl (grind (arith, nat_tests))
-    by false e = inr (grind (arith, nat_tests))
 
 In_at : (xs : List Known) (i : ℕ) (d : Known) → i < length xs → In (get_or xs i d) xs
 In_at [] i d l = absurd (omega (arith, l))
@@ -62,7 +56,7 @@ index_rises v a b l = by (version_key_cmp a v) refl
         omega (arith, two)
 
 searchable : (xs : List Known) (v : VersionKey) → Rising xs → IsNonDecreasingBy (λ y. ordering_index (version_key_cmp y.0 v)) xs
-searchable xs v r i j d l m = elim (either_side i j) [ inl s ↦ index_rises v (get_or xs i d).0 (get_or xs j d).0 (rise_at xs i j d r s m) | inr s ↦ same i j (omega (arith, l, s)) ]
+searchable xs v r i j d l m = elim (cases_lt i j) [ inl s ↦ index_rises v (get_or xs i d).0 (get_or xs j d).0 (rise_at xs i j d r s m) | inr s ↦ same i j (omega (arith, l, s)) ]
   where
     same : (i j : ℕ) → i ≡ j → ordering_index (version_key_cmp (get_or xs i d).0 v) ≤ ordering_index (version_key_cmp (get_or xs j d).0 v)
     same i j s = subst (λ (n : ℕ). ordering_index (version_key_cmp (get_or xs i d).0 v) ≤ ordering_index (version_key_cmp (get_or xs n d).0 v)) s (omega arith)
@@ -81,7 +75,7 @@ module _ (base horizon : ℕ) (xs : List Known) (faultless : facts_fault base ho
       let at = place_of xs f j in
       let parts = parted (searchable xs v rise) in
       let equal : version_key_cmp (get_or xs at.0 f).0 v ≡ Equal = ap (λ (w : Known). version_key_cmp w.0 v) at.2 ∙ ap (λ w. version_key_cmp w v) s ∙ tied_itself version_key_total v in
-      elim (either_side at.0 i) [
+      elim (cases_lt at.0 i) [
         | inl l ↦ less_equal (sym (parts.0 at.0 f (omega arith) l) ∙ equal)
         | inr l ↦ greater_equal (sym (parts.1 at.0 f l at.1) ∙ equal)
       ])

@@ -5,7 +5,7 @@ use Rattle.std.specs.Option.{option_and_then}
 use Rattle.std.specs.Ordering.{is_lt}
 use Rattle.std.specs.FinMap.Entries.{find, is_sorted, below_all}
 use Rattle.std.specs.FinMap as finmap
-use Rattle.std.proofs.lemmas.Bool.{ltb-true, ltb-false, leb-true, eqb-true}
+use Rattle.std.proofs.lemmas.Bool.{ltb-true, ltb-false, leb-true, eqb-true, and_parts}
 use Rattle.hk_types.specs.Values.{ConfigValue, RowValue}
 use Rattle.hk_types.specs.declared.version_key.VersionKey.{VersionKey}
 use Rattle.hk_types.specs.declared.faults.FormFault.{FormFault}
@@ -20,19 +20,12 @@ use Rattle.hk_model.proofs.Members.{In, In-find}
 use Rattle.hk_model.proofs.Visible.{T_both, less}
 use Rattle.hk_delta.specs.Parts.{Known, values_by_version, fragment_seen, follows, is_valid_row, is_valid_end, is_valid_fact, facts_fault, fragment_fault, versions_listed, IsFragment}
 use Rattle.hk_delta.proofs.Listed.{get-among, lists_back}
+use Rattle.hk_facts.proofs.Trees.{and_T}
 
 -- a test that shows no fault failed, and what follows it shows none
 passed : (b : Bool) (f : FormFault) (rest : Option FormFault) → cond (not b) (Some f) rest ≡ None → (b ≡ true) × (rest ≡ None)
 passed true f rest e = (refl, e)
 passed false f rest e = absurd cc
-
-pub and_both : (a b : Bool) → (a && b) ≡ true → (a ≡ true) × (b ≡ true)
-and_both true b e = (refl, e)
-and_both false b e = absurd cc
-
-pub and_T : (a b : Bool) → T a → T b → T (a && b)
-and_T true b p q = q
-and_T false b p q = absurd p
 
 true_T : (b : Bool) → b ≡ true → T b
 true_T b e = subst T (sym e) tt
@@ -86,9 +79,9 @@ pub record Parts (base horizon : ℕ) (v : VersionKey) (x : VersionValue) : Type
 
 pub parts_of : (base horizon : ℕ) (v : VersionKey) (x : VersionValue) → is_valid_fact base horizon (v, x) ≡ true → Parts base horizon v x
 parts_of base horizon v x e =
-    let a = and_both (ltb 0 v.born && is_known x && is_valid_row base v.born x.row) (is_valid_end base horizon v.born x.died) e in
-    let b = and_both (ltb 0 v.born && is_known x) (is_valid_row base v.born x.row) a.0 in
-    let c = and_both (ltb 0 v.born) (is_known x) b.0 in
+    let a = and_parts (ltb 0 v.born && is_known x && is_valid_row base v.born x.row) (is_valid_end base horizon v.born x.died) e in
+    let b = and_parts (ltb 0 v.born && is_known x) (is_valid_row base v.born x.row) a.0 in
+    let c = and_parts (ltb 0 v.born) (is_known x) b.0 in
     record { born = ltb-true _ _ c.0; known = c.1; row = b.1; died = a.1 }
 
 record EndIs (base horizon born died : ℕ) : Type 0 where
@@ -98,8 +91,8 @@ record EndIs (base horizon born died : ℕ) : Type 0 where
 
 end_is : (base horizon born died : ℕ) → is_valid_end base horizon born (Some died) ≡ true → EndIs base horizon born died
 end_is base horizon born died e =
-    let a = and_both (ltb base died && ltb horizon died) (ltb born died) e in
-    let b = and_both (ltb base died) (ltb horizon died) a.0 in
+    let a = and_parts (ltb base died && ltb horizon died) (ltb born died) e in
+    let b = and_parts (ltb base died) (ltb horizon died) a.0 in
     record { above = ltb-true _ _ b.0; over = ltb-true _ _ b.1; later = ltb-true _ _ a.1 }
 
 some_of : {Y : Type 0} (read : VersionValue → Option Y) (o : Option VersionValue) (y : Y) → option_and_then read o ≡ Some y → (x : VersionValue) × (o ≡ Some x) × (read x ≡ Some y)

@@ -19,14 +19,12 @@ use Rattle.hk_model.proofs.Maps.{version_key_total, version_key_same, get-union}
 use Rattle.hk_marks.specs.Seen.{IsNumbered}
 use Rattle.hk_marks.proofs.Numbered.{all_numbered}
 use Rattle.hk_merge.proofs.Rising.{as_many_together}
+use Rattle.hk_merge.proofs.Refusing.{no_gap_at_0}
 use Rattle.hk_delta.specs.Parts.{Known, values_by_version, fragment_seen, facts_fault, IsFragment}
 use Rattle.hk_delta.specs.Unions.{both_known, known_in_either, union_of}
 use Rattle.hk_delta.proofs.Listed.{get-among}
 use Rattle.hk_delta.proofs.Sound.{are_facts}
-
-or_none : {X : Type 0} (o : Option X) → o ≡ or_else o None
-or_none None = refl
-or_none (Some x) = refl
+use Rattle.hk_store.proofs.Stored.{or_none}
 
 all_lawful : (xs ys : List StreamContent) → All IsLawfulStream (all_together xs ys)
 all_lawful [] ys = All-nil IsLawfulStream
@@ -37,7 +35,7 @@ all_lawful (x ∷ xs) (y ∷ ys) = All-cons IsLawfulStream (together x y) (all_t
 module _ {Y : Type 0} (read : VersionValue → Option Y) (reads : (x y : VersionValue) → read (both_known x y) ≡ or_else (read x) (read y)) where
   read_either : (a b : Option VersionValue) → option_and_then read (known_in_either a b) ≡ or_else (option_and_then read a) (option_and_then read b)
   read_either None b = refl
-  read_either (Some x) None = or_none (read x)
+  read_either (Some x) None = sym (or_none (read x))
   read_either (Some x) (Some y) = reads x y
 
   read_union : (own coming out : List Known) → T (is_sorted version_key_cmp own) → T (is_sorted version_key_cmp coming) → T (is_sorted version_key_cmp out)
@@ -46,16 +44,13 @@ module _ {Y : Type 0} (read : VersionValue → Option Y) (reads : (x y : Version
       get-among read out r v ∙ ap (option_and_then read) (found v) ∙ read_either (find version_key_cmp v own) (find version_key_cmp v coming)
       ∙ sym (get-union version_key_total version_key_same (values_by_version read own) (values_by_version read coming) v ∙ (λ i. or_else (get-among read own s v i) (get-among read coming t v i))))
 
-not_below_zero : (n : ℕ) → nat_lt n 0 ≡ false
-not_below_zero n = grind (arith, nat_tests)
-
 module _ (config : ConfigValue) (base horizon : ℕ) (streams others new : List StreamContent) (own coming out : List Known) (at_zero : base ≡ 0) (no_horizon : horizon ≡ 0) (given : new ≡ all_together streams others) (faultless : facts_fault 0 0 None out ≡ None) where
   pub united_parts : IsFragment config base horizon streams own → length others ≡ length streams → All IsNumbered others → IsFragment config base horizon new out
   united_parts h many numbered = rw (given, at_zero, no_horizon) record {
     as_many = as_many_together streams others many ∙ h.as_many;
     lawful_streams = all_lawful streams others;
     numbered_streams = all_numbered streams others h.numbered_streams numbered;
-    faultless = rw (not_below_zero (least_closed (all_together streams others))) faultless;
+    faultless = rw (no_gap_at_0 (least_closed (all_together streams others))) faultless;
   }
 
   pub united_seen : (other : ConfigValue) (other_base other_horizon : ℕ) → other_base ≡ 0 → other_horizon ≡ 0 → facts_fault base horizon None own ≡ None → facts_fault other_base other_horizon None coming ≡ None

@@ -24,9 +24,9 @@ use Rattle.hk_model.proofs.Logs.{fact_end, end_found}
 use Rattle.hk_model.proofs.Writes.{All_In}
 use Rattle.hk_model.proofs.Lawful.{IsSound, entry_sound, content_of_lawful}
 use Rattle.hk_model.proofs.Gathers.{gathered_law}
-use Rattle.hk_state.specs.Facts.{FactsValue, no_facts}
-use Rattle.hk_state.specs.Reads.{facts_of_content}
-use Rattle.hk_state.specs.Versions.{AreVersions}
+use Rattle.hk_store.specs.Facts.{FactsValue, no_facts}
+use Rattle.hk_store.specs.Reads.{facts_of_content}
+use Rattle.hk_store.specs.Versions.{AreVersions}
 use Rattle.hk_delta.specs.Parts.{Known, fragment_seen, fragment_fault}
 use Rattle.hk_delta.specs.Cuts.{all_left}
 use Rattle.hk_delta.specs.Gathers.{item_facts, all_put, have_conflict, Gathers, GathersOf}

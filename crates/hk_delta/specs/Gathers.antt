@@ -15,7 +15,7 @@ use Rattle.hk_model.specs.History.Histories.{Transaction, IsHistory, AreItemsOf}
 use Rattle.hk_model.specs.Replica.Rules.{conflict, gather_result}
 use Rattle.hk_facts.specs.declared.fact.Fact.{Fact}
 use Rattle.hk_facts.specs.declared.fact.Fact.TheVariants.{Row, End}
-use Rattle.hk_state.specs.Facts.{FactsValue, facts_put}
+use Rattle.hk_store.specs.Facts.{FactsValue, facts_put}
 
 -- whether two facts give a version different values
 abbrev pub facts_conflict : {X : Type 0} → (X → X → Bool) → VersionKey × X → VersionKey × X → Bool

@@ -3,8 +3,8 @@
 ghost use Rattle.std.specs.Prelude.{◌≡◌, ◌⊎◌, ◌≤◌, ◌++◌, map, OnOk, IfOk, IfErr};
 ghost use Rattle.hk_types.specs.declared.faults.Refusal.TheVariants.{Memory, TooOld as Old};
 ghost use Rattle.hk_model.specs.Replica.Fragments.{cut};
-ghost use Rattle.hk_state.specs.Facts.{entry_if};
-ghost use Rattle.hk_state.specs.Versions.{borrowed};
+ghost use Rattle.hk_store.specs.Facts.{entry_if};
+ghost use Rattle.hk_store.specs.Versions.{borrowed};
 ghost use Rattle.hk_delta.specs.Cuts as spec;
 ghost use Rattle.hk_delta.specs.Cuts.{Cuts, CutsOf, left_above, all_left};
 
@@ -102,12 +102,6 @@ pub fn whole_of(alloc: Global, state: &ReplicaState) -> Result<Fragment, Refusal
 pub fn delta_since(alloc: Global, state: &ReplicaState, base: Time) -> Result<Fragment, Refusal>
     ensures gives { Cuts state.now base result }
     ensures represents { CutsOf state.now base result }
-{
-    since(alloc, state, base)
-}
-
-fn since(alloc: Global, state: &ReplicaState, base: Time) -> Result<Fragment, Refusal>
-    ensures { Cuts state.now base result }
 {
     let horizon = state.horizon();
     if base < horizon {

@@ -5,8 +5,8 @@ ghost use Rattle.std.specs.Option.{option_copied};
 ghost use Rattle.hk_types.specs.declared.faults.Refusal.TheVariants.{Memory};
 ghost use Rattle.hk_model.specs.Replica.Lawful.{IsLawfulFragment};
 ghost use Rattle.hk_marks.specs.Seen.{IsNumbered};
-ghost use Rattle.hk_state.specs.Facts.{known_at};
-ghost use Rattle.hk_state.specs.Reads.{facts_of_content};
+ghost use Rattle.hk_store.specs.Facts.{known_at};
+ghost use Rattle.hk_store.specs.Reads.{facts_of_content};
 ghost use Rattle.hk_delta.specs.Parts as spec;
 ghost use Rattle.hk_delta.specs.Unions.{IsFromZero, union_of};
 

@@ -16,26 +16,10 @@ use crate::cutting::left_of;
 use hk_facts::Fact;
 use hk_log::Item;
 use hk_marks::Got;
-use hk_state::Facts;
+use hk_state::wrong_log;
+use hk_store::Facts;
 use hk_types::{Config, Key, Refusal, Row, Table, Time, VersionKey};
 use std::alloc::Global;
-
-/// Why an item is none of the configuration's log, if it is none.
-fn wrong_log(config: Config, item: &Item) -> Option<Refusal>
-    ensures { result ≡ items_spec.wrong_log config.log config.streams item.now }
-{
-    let (log, stream) = match item {
-        Item::Commit(entry) => (entry.log(), entry.stream()),
-        Item::Closed(mark) => (mark.log(), mark.stream()),
-    };
-    if log != config.log() {
-        return Some(Refusal::ForeignLog);
-    }
-    if stream.number() > config.streams() {
-        return Some(Refusal::WrongStreams);
-    }
-    None
-}
 
 /// Why the first of the items that is none of the log is none.
 fn first_wrong_log(config: Config, items: &[Item]) -> Option<Refusal>
@@ -86,8 +70,7 @@ fn put_ends(facts: &mut Facts, ends: &[VersionKey], time: Time) -> Result<(), Re
 
 /// Puts all that an item says of versions.
 fn put_item(alloc: Global, facts: &mut Facts, item: &Item) -> Result<(), Refusal>
-    ensures puts { Puts facts.old facts.new (item_facts item.now) result }
-    ensures lawful { IsItem item.now }
+    ensures { Puts facts.old facts.new (item_facts item.now) result }
 {
     match item {
         Item::Commit(entry) => {
@@ -96,17 +79,13 @@ fn put_item(alloc: Global, facts: &mut Facts, item: &Item) -> Result<(), Refusal
             }
             put_ends(facts, entry.ends(), entry.time())
         }
-        Item::Closed(mark) => {
-            let _count = mark.n();
-            Ok(())
-        }
+        Item::Closed(_) => Ok(()),
     }
 }
 
 /// Puts all that items say of versions.
 fn put_items(alloc: Global, facts: &mut Facts, items: &[Item]) -> Result<(), Refusal>
-    ensures puts { Puts facts.old facts.new (flat_map item_facts items.now) result }
-    ensures lawful { OnOk result (All IsItem items.now) }
+    ensures { Puts facts.old facts.new (flat_map item_facts items.now) result }
 {
     for item in items {
         if let Err(why) = put_item(alloc, facts, item) {
@@ -121,6 +100,7 @@ fn note_item(got: &mut Got, config: Config, item: &Item) -> Result<(), Refusal>
     requires many { length got.old ≡ config.streams }
     requires fits { items_spec.wrong_log config.log config.streams item.now ≡ None }
     ensures ok { OnOk result (got.new ≡ all_together got.old (streams_of (length got.old) (item.now ∷ []))) }
+    ensures lawful { IsItem item.now }
     ensures err { IfErr result (λ why. why ≡ Memory) }
 {
     match item {
@@ -133,6 +113,7 @@ fn note_item(got: &mut Got, config: Config, item: &Item) -> Result<(), Refusal>
 fn note_items(alloc: Global, config: Config, items: &[Item]) -> Result<Got, Refusal>
     requires { rules.first_wrong_log config items.now ≡ None }
     ensures ok { IfOk result (λ got. got ≡ streams_of config.streams items.now) }
+    ensures lawful { OnOk result (All IsItem items.now) }
     ensures err { IfErr result (λ why. why ≡ Memory) }
 {
     let mut got = Got::new(alloc, config)?;

@@ -1,9 +1,9 @@
 //! Joining a fragment into a state.
 
-ghost use Rattle.std.specs.Prelude.{◌≡◌, ◌++◌, ◌∷◌, [], map, IfOk, OnOk};
+ghost use Rattle.std.specs.Prelude.{◌≡◌, map, IfOk};
 ghost use Rattle.std.specs.List.{list_any};
-ghost use Rattle.hk_state.specs.Reads.{facts_of_content};
-ghost use Rattle.hk_state.specs.Versions.{value_conflicts_at, borrowed};
+ghost use Rattle.hk_store.specs.Reads.{facts_of_content};
+ghost use Rattle.hk_store.specs.Versions.{value_conflicts_at, borrowed};
 ghost use Rattle.hk_merge.specs.Calls.{Joins};
 ghost use Rattle.hk_delta.specs.Joins.{JoinsOf};
 
@@ -11,6 +11,7 @@ use crate::Fragment;
 use hk_log::Version;
 use hk_merge::{MergeInput, join_agreed, wrong_log};
 use hk_state::ReplicaState;
+use hk_store::push_borrowed;
 use hk_types::{Refusal, VersionKey};
 use std::alloc::{AllocError, Global};
 
@@ -33,19 +34,6 @@ fn lend(
         push_borrowed(&mut versions, *version, known)?;
     }
     Ok(versions)
-}
-
-fn push_borrowed<'a>(
-    found: &mut Vec<(VersionKey, &'a Version)>,
-    version: VersionKey,
-    known: &'a Version,
-) -> Result<(), AllocError>
-    ensures { OnOk result (map borrowed found.new.items ≡ map borrowed found.old.items ++ (version, known.now) ∷ []) }
-{
-    match found.push((version, known)) {
-        Ok(()) => Ok(()),
-        Err(_refused) => Err(AllocError),
-    }
 }
 
 /// Joins a fragment into a state.

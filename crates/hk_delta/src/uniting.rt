@@ -6,8 +6,8 @@ ghost use Rattle.std.specs.Option.{option_copied};
 ghost use Rattle.hk_types.specs.Values.{same_row};
 ghost use Rattle.hk_model.specs.Replica.Maps.{values_conflict};
 ghost use Rattle.hk_model.specs.Replica.Rules.{contents_conflict};
-ghost use Rattle.hk_state.specs.Reads.{facts_of_content};
-ghost use Rattle.hk_state.specs.Versions as versions_spec;
+ghost use Rattle.hk_store.specs.Reads.{facts_of_content};
+ghost use Rattle.hk_store.specs.Versions as versions_spec;
 ghost use Rattle.hk_delta.specs.Unions.{IsFromZero, Unites, UnitesGathered};
 
 use crate::Fragment;
@@ -78,15 +78,6 @@ pub fn union(into: &mut Fragment, other: &Fragment) -> Result<(), Refusal>
     requires streams { length into.old.content.streams ≡ length other.now.content.streams }
     ensures unites { Unites into.old into.new other.now result }
     ensures gathered { UnitesGathered into.old into.new other.now result }
-{
-    unite(into, other)
-}
-
-fn unite(into: &mut Fragment, other: &Fragment) -> Result<(), Refusal>
-    requires own { IsFromZero into.old }
-    requires coming { IsFromZero other.now }
-    requires streams { length into.old.content.streams ≡ length other.now.content.streams }
-    ensures { Unites into.old into.new other.now result }
 {
     if has_conflict(into, other) {
         return Err(Refusal::Conflict);

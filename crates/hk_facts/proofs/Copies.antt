@@ -8,11 +8,8 @@ use Rattle.std.specs.Map.{keys_of, update_all}
 use Rattle.std.proofs.lemmas.Map.{update_all_push}
 use Rattle.std.proofs.lemmas.Map.Keys.{IsDistinct-from_sorted}
 use Rattle.std.proofs.lemmas.Map.Made.{update_all_none}
+use Rattle.std.proofs.lemmas.List.{map_push}
 use Rattle.hk_facts.proofs.Trees.{seen, get_seen, same_at_all}
-
-map_push : {A B : Type 0} (f : A → B) (xs : List A) (x : A) → map f (xs ++ x ∷ []) ≡ map f xs ++ f x ∷ []
-map_push f [] x = refl
-map_push f (y ∷ ys) x = ap (λ zs. f y ∷ zs) (map_push f ys x)
 
 module _ {X : Type 0} where
   abbrev pub filled : List (ℕ × X) → ℕ → Option X

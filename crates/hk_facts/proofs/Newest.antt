@@ -9,17 +9,10 @@ use Rattle.std.specs.FinMap.{find}
 use Rattle.std.specs.FinMap.Entries.{is_sorted, below_all}
 use Rattle.hk_log.specs.Versions.{VersionValue}
 use Rattle.hk_model.specs.Replica.Maps.{or_else}
+use Rattle.hk_model.proofs.Visible.{T_both}
 use Rattle.hk_facts.specs.Chains.{ChainValue, last_where}
 use Rattle.hk_facts.proofs.Trees.{tied_self, tied_same}
 use Rattle.hk_facts.proofs.Latest.{has_row}
-
-firstT : (a b : Bool) → T (a && b) → T a
-firstT true b t = tt
-firstT false b t = t
-
-restT : (a b : Bool) → T (a && b) → T b
-restT true b t = t
-restT false b t = absurd t
 
 less : (a b : ℕ) → T (is_lt (nat_cmp a b)) → a < b
 less a b t = grind (arith, nat_tests)
@@ -28,10 +21,10 @@ module _ {X : Type 0} where
   -- a key that is found is above what is below all keys
   below_found : (a b : ℕ) (w : X) (es : List (ℕ × X)) → T (below_all nat_cmp a es) → find nat_cmp b es ≡ Some w → a < b
   below_found a b w [] h e = cc
-  below_found a b w (x ∷ xs) h e = cases (below_found a b w xs (restT _ _ h)) (eq_by_cmp nat_cmp b x.0) refl e
+  below_found a b w (x ∷ xs) h e = cases (below_found a b w xs (T_both _ _ h).1) (eq_by_cmp nat_cmp b x.0) refl e
     where
       cases : (find nat_cmp b xs ≡ Some w → a < b) → (t : Bool) → eq_by_cmp nat_cmp b x.0 ≡ t → cond t (Some x.1) (find nat_cmp b xs) ≡ Some w → a < b
-      cases later true t f = subst (λ n. a < n) (sym (tied_same b x.0 t)) (less a x.0 (firstT _ _ h))
+      cases later true t f = subst (λ n. a < n) (sym (tied_same b x.0 t)) (less a x.0 (T_both _ _ h).0)
       cases later false t f = later f
 
   pub none_passes : (p : ℕ × X → Bool) (es : List (ℕ × X)) → last_where p es ≡ None → (b : ℕ) (w : X) → find nat_cmp b es ≡ Some w → p (b, w) ≡ true → ⊥
@@ -61,11 +54,11 @@ module _ {X : Type 0} where
 
   pub last_passes : (p : ℕ × X → Bool) (es : List (ℕ × X)) (e : ℕ × X) → T (is_sorted nat_cmp es) → last_where p es ≡ Some e → IsLast p es e
   last_passes p [] e h is = cc
-  last_passes p (x ∷ xs) e h is = cases (λ some. last_passes p xs e (restT _ _ h) some) (last_where p xs) refl is
+  last_passes p (x ∷ xs) e h is = cases (λ some. last_passes p xs e (T_both _ _ h).1 some) (last_where p xs) refl is
     where
       later : IsLast p xs e → IsLast p (x ∷ xs) e
       later l =
-          let above : x.0 < e.0 = below_found x.0 e.0 e.1 xs (firstT _ _ h) l.found in
+          let above : x.0 < e.0 = below_found x.0 e.0 e.1 xs (T_both _ _ h).0 l.found in
           let apart : eq_by_cmp nat_cmp e.0 x.0 ≡ false = grind (arith, nat_tests) in
           record {
             found = ap (λ c. cond c (Some x.1) (find nat_cmp e.0 xs)) apart ∙ l.found;

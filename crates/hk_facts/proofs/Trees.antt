@@ -30,14 +30,6 @@ tied_turn q k = (eq_by_cmp_equiv nat_cmp_total).symm q k
 
 -- ---- outcomes
 
-pub OnErr_map : {A E : Type 0} {P Q : Type 0} (r : Result A E) → (P → Q) → OnErr r P → OnErr r Q
-OnErr_map (Ok a) f p = p
-OnErr_map (Err e) f p = f p
-
-pub OnOk_map : {A E : Type 0} {P Q : Type 0} (r : Result A E) → (P → Q) → OnOk r P → OnOk r Q
-OnOk_map (Ok a) f p = f p
-OnOk_map (Err e) f p = p
-
 pub IfErr_map : {A E : Type 0} {P Q : E → Type 0} (r : Result A E) → ((e : E) → P e → Q e) → IfErr r P → IfErr r Q
 IfErr_map (Ok a) f p = p
 IfErr_map (Err e) f p = f e p
@@ -52,21 +44,17 @@ is_there x v e = subst IsSome e refl
 
 -- ---- entries in order
 
+pub and_T : (a b : Bool) → T a → T b → T (a && b)
+and_T true b p q = q
+and_T false b p q = p
+
 below_from_sorted : {X : Type 0} (k : ℕ) (es : List (ℕ × X)) → AllByRecursion (λ y. nat_cmp k y ≡ Less) (keys_of es) → T (below_all nat_cmp k es)
 below_from_sorted k [] h = tt
-below_from_sorted k (e ∷ es) h = both _ _ (subst (λ r. T (is_lt r)) (sym h.0) tt) (below_from_sorted k es h.1)
-  where
-    both : (a b : Bool) → T a → T b → T (a && b)
-    both true b p q = q
-    both false b p q = p
+below_from_sorted k (e ∷ es) h = and_T _ _ (subst (λ r. T (is_lt r)) (sym h.0) tt) (below_from_sorted k es h.1)
 
 pub sorted_entries : {X : Type 0} (es : List (ℕ × X)) → IsStrictlySortedBy nat_cmp (keys_of es) → T (is_sorted nat_cmp es)
 sorted_entries [] h = tt
-sorted_entries (e ∷ es) h = both _ _ (below_from_sorted e.0 es (sorted_head nat_cmp e.0 (keys_of es) h)) (sorted_entries es (sorted_tail nat_cmp e.0 (keys_of es) h))
-  where
-    both : (a b : Bool) → T a → T b → T (a && b)
-    both true b p q = q
-    both false b p q = p
+sorted_entries (e ∷ es) h = and_T _ _ (below_from_sorted e.0 es (sorted_head nat_cmp e.0 (keys_of es) h)) (sorted_entries es (sorted_tail nat_cmp e.0 (keys_of es) h))
 
 find_lookup : {X : Type 0} (q : ℕ) (es : List (ℕ × X)) → find nat_cmp q es ≡ lookup (tree.is_at (nat_cmp q)) es
 find_lookup q [] = refl

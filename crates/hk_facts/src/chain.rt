@@ -201,8 +201,8 @@ fn insert(
     Ok(())
 }
 
-/// Whether the end of a version is known, and at most this time.
-fn ended_by(version: &Version, time: Time) -> bool
+/// Whether the end of a version is known, and at most this time. It takes no memory.
+pub fn ended_by(version: &Version, time: Time) -> bool
     ensures { result ≡ at_most time version.now.died }
 {
     match version.died() {

@@ -5,6 +5,6 @@ mod chain;
 mod fact;
 mod table_chains;
 
-pub use chain::Chain;
+pub use chain::{Chain, ended_by};
 pub use fact::{Fact, Part};
 pub use table_chains::TableChains;

@@ -11,8 +11,9 @@ ghost use Rattle.hk_model.specs.History.Rows.{row_key_cmp};
 ghost use Rattle.hk_laws.specs.Calls.{IsBuilt};
 ghost use Rattle.hk_primary.specs.Txns.{IsRefusal, with_write, write_refused};
 
+use hk_log::MOST_WRITES;
 use hk_model::WriteOp;
-use hk_primary::{MOST_WRITES, RowKey, Txn};
+use hk_primary::{RowKey, Txn};
 use hk_types::{Refusal, Time};
 use std::alloc::Global;
 

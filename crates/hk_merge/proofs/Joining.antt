@@ -1,11 +1,10 @@
 -- A change that is worked out version by version leaves what joining gives.
 use Rattle.std.proofs.Common.{◌≡◌, refl, sym, ap, ◌∙◌, ℕ, ◌<◌, max, Bool, true, false, cond, not, ◌&&◌, ◌||◌, ◌==◌, Option, Some, None, List, [], ◌∷◌, nat_lt, nat_le, arith, true≢false, eqb-true}
 use Rattle.std.proofs.lemmas.Bool.Decides.{nat_tests}
-use Rattle.std.proofs.lemmas.Bool.{and_parts}
+use Rattle.std.proofs.lemmas.Bool.{or_parts, not-false}
 use Rattle.std.specs.Option.{is_some, option_and_then}
 use Rattle.std.specs.Ordering.{eq_by_cmp, is_eq}
 use Rattle.std.specs.Cmp.{tied_itself}
-use Rattle.std.specs.Cmp.Lexicographic.{pointwise}
 use Rattle.std.specs.FinMap as finmap
 use Rattle.std.specs.FinMap.{find}
 use Rattle.hk_types.specs.Values.{RowValue, same_row}
@@ -21,54 +20,28 @@ use Rattle.hk_model.specs.Replica.Rules.{contents_conflict, content_after_join}
 use Rattle.hk_model.proofs.Maps.{version_key_total, version_key_same, get-union, get-retain, get-without_ended}
 use Rattle.hk_facts.specs.Facts.{if_known, row_of, died_of}
 use Rattle.hk_state.specs.declared.apply.Change.{Change}
-use Rattle.hk_state.specs.Drops.{is_among}
-use Rattle.hk_state.specs.Reads.{facts_of_content}
+use Rattle.hk_store.specs.Drops.{is_among}
+use Rattle.hk_store.specs.Reads.{facts_of_content}
 use Rattle.hk_state.specs.Changes.{content_after_change}
-use Rattle.hk_state.proofs.ByTable.{known_row, known_end}
-use Rattle.hk_state.proofs.Conflicts.{any_at, equal}
+use Rattle.hk_store.proofs.ByTable.{known_row, known_end}
+use Rattle.hk_store.proofs.Conflicts.{any_at, equal, differ_left}
+use Rattle.hk_store.proofs.SameRows.{same_value}
 use Rattle.hk_merge.specs.Plans.{stays, goes, row_back, end_back, passes, known_in, is_sent, old_come, gone_at, row_back_at, end_back_at, row_comes, end_comes, row_comes_at, end_comes_at}
 
 -- ---- equal rows, equal ends
 
-same_bytes : (xs ys : List ℕ) → pointwise (λ x y. x == y) xs ys ≡ true → xs ≡ ys
-same_bytes [] [] e = refl
-same_bytes [] (y ∷ ys) e = absurd (true≢false (sym e))
-same_bytes (x ∷ xs) [] e = absurd (true≢false (sym e))
-same_bytes (x ∷ xs) (y ∷ ys) e =
-    let parts = and_parts (x == y) (pointwise (λ x y. x == y) xs ys) e in
-    λ i. eqb-true x y parts.0 i ∷ same_bytes xs ys parts.1 i
-
-pub same_value : (a b : RowValue) → same_row a b ≡ true → a ≡ b
-same_value a b e =
-    let parts = and_parts (a.tag == b.tag) (pointwise (λ x y. x == y) a.body b.body) e in
-    let tag = eqb-true a.tag b.tag parts.0 in
-    let body = same_bytes a.body b.body parts.1 in
-    λ i. record { tag = tag i; body = body i }
-
-neither : (a b : Bool) → (a || b) ≡ false → (a ≡ false) × (b ≡ false)
-neither true b e = absurd (true≢false e)
-neither false b e = (refl, e)
-
 alike_at : {X : Type 0} (alike : X → X → Bool) (m n : finmap.FinMap version_key_cmp X) → maps_conflict alike m n ≡ false → (q : VersionKey) → values_conflict alike (finmap.get m q) (finmap.get n q) ≡ false
 alike_at alike m n none q = case (values_conflict alike (finmap.get m q) (finmap.get n q)) refl
   where
-    there : (x y : Option _) → values_conflict alike x y ≡ true → is_some x ≡ true
-    there None y e = e
-    there (Some x) y e = refl
-
     case : (b : Bool) → values_conflict alike (finmap.get m q) (finmap.get n q) ≡ b → b ≡ false
     case false e = refl
     case true e =
         absurd (true≢false (
-        sym (any_at (eq_by_cmp version_key_cmp) (λ a. ap is_eq (tied_itself version_key_total a)) (λ a b t. version_key_same a b (equal _ t)) (λ k. values_conflict alike (finmap.get m k) (finmap.get n k)) (finmap.keys m) q e (sym (finmap.contains_key-keys m q) ∙ there (finmap.get m q) (finmap.get n q) e))
+        sym (any_at (eq_by_cmp version_key_cmp) (λ a. ap is_eq (tied_itself version_key_total a)) (λ a b t. version_key_same a b (equal _ t)) (λ k. values_conflict alike (finmap.get m k) (finmap.get n k)) (finmap.keys m) q e (sym (finmap.contains_key-keys m q) ∙ differ_left alike (finmap.get m q) (finmap.get n q) e))
         ∙ none))
 
 agreed : {X : Type 0} (alike : X → X → Bool) (tell : (a b : X) → alike a b ≡ true → a ≡ b) (r s : Option X) → values_conflict alike r s ≡ false → (x y : X) → r ≡ Some x → s ≡ Some y → x ≡ y
-agreed alike tell r s none x y er es = tell x y (turn (alike x y) ((λ i. values_conflict alike (sym er i) (sym es i)) ∙ none))
-  where
-    turn : (b : Bool) → not b ≡ false → b ≡ true
-    turn true e = refl
-    turn false e = sym e
+agreed alike tell r s none x y er es = tell x y (not-false (alike x y) ((λ i. values_conflict alike (sym er i) (sym es i)) ∙ none))
 
 -- ---- one version, by cases
 
@@ -263,10 +236,10 @@ nothing false = refl
 
 module _ (t : Content) (f : FragmentValue) (lawful : IsLawful t) (agree : contents_conflict t f.content ≡ false) (change : Change) where
   agree_rows : maps_conflict same_row t.rows f.content.rows ≡ false
-  agree_rows = (neither (maps_conflict same_row t.rows f.content.rows) (maps_conflict (λ a b. a == b) t.ends f.content.ends) agree).0
+  agree_rows = (or_parts (maps_conflict same_row t.rows f.content.rows) (maps_conflict (λ a b. a == b) t.ends f.content.ends) agree).0
 
   agree_ends : maps_conflict (λ a b. a == b) t.ends f.content.ends ≡ false
-  agree_ends = (neither (maps_conflict same_row t.rows f.content.rows) (maps_conflict (λ a b. a == b) t.ends f.content.ends) agree).1
+  agree_ends = (or_parts (maps_conflict same_row t.rows f.content.rows) (maps_conflict (λ a b. a == b) t.ends f.content.ends) agree).1
 
   module _ (q : VersionKey) where
     row_same : (x y : RowValue) → finmap.get t.rows q ≡ Some x → finmap.get f.content.rows q ≡ Some y → x ≡ y

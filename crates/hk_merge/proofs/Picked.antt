@@ -1,61 +1,21 @@
 -- What is listed of versions is found by look-ups.
-use Rattle.std.proofs.Common.{◌≡◌, refl, sym, ap, ◌∙◌, Bool, true, false, cond, ◌||◌, Option, Some, None, List, [], ◌∷◌, map, All}
+use Rattle.std.proofs.Common.{◌≡◌, refl, sym, ap, ◌∙◌, Bool, true, false, cond, ◌||◌, List, [], ◌∷◌, map, All}
 use Rattle.std.proofs.lemmas.List.Elements.{All-head, All-tail}
 use Rattle.std.proofs.lemmas.List.Folds.{list_any-append}
-use Rattle.std.specs.Option.{is_some, option_and_then}
+use Rattle.std.specs.Option.{is_some}
 use Rattle.std.specs.List.{flat_map}
 use Rattle.std.specs.Ordering.{eq_by_cmp}
-use Rattle.std.specs.FinMap.{find}
 use Rattle.hk_types.specs.declared.version_key.VersionKey.{VersionKey}
 use Rattle.hk_log.specs.Versions.{VersionValue}
 use Rattle.hk_model.specs.History.Rows.{version_key_cmp}
-use Rattle.hk_model.specs.Replica.Maps.{or_else}
-use Rattle.hk_model.proofs.Maps.{find-append}
 use Rattle.hk_index.proofs.Sets.{tied_versions}
-use Rattle.hk_state.specs.Facts.{FactsValue, known_at, entry_if}
-use Rattle.hk_state.specs.Drops.{is_among}
-use Rattle.hk_state.specs.Versions.{AreVersions}
+use Rattle.hk_store.specs.Facts.{FactsValue, known_at}
+use Rattle.hk_store.specs.Drops.{is_among}
+use Rattle.hk_store.specs.Versions.{AreVersions}
+use Rattle.hk_store.proofs.Walking.{IsKnown}
 use Rattle.hk_merge.specs.Plans.{passes}
 
 module _ (f : FactsValue) where
-  abbrev IsKnown : VersionKey × VersionValue → Type 0
-  IsKnown e = known_at f e.0 ≡ Some e.1
-
-  module _ {Y : Type 0} (pick : VersionKey → VersionValue → Option Y) (q : VersionKey) where
-    find_one : (v : VersionKey) (o : Option Y) → find version_key_cmp q (entry_if v o) ≡ cond (eq_by_cmp version_key_cmp q v) o None
-    find_one v None = same (eq_by_cmp version_key_cmp q v)
-      where
-        same : (b : Bool) → None ≡ cond {A = Option Y} b None None
-        same true = refl
-        same false = refl
-    find_one v (Some y) = refl
-
-    find_among : (es : List (VersionKey × VersionValue)) → All IsKnown es → find version_key_cmp q (flat_map (λ e. entry_if e.0 (pick e.0 e.1)) es) ≡ cond (is_among (map (λ e. e.0) es) q) (option_and_then (pick q) (known_at f q)) None
-    find_among [] known = refl
-    find_among (e ∷ es) known =
-        find-append version_key_cmp q (entry_if e.0 (pick e.0 e.1)) (flat_map (λ e. entry_if e.0 (pick e.0 e.1)) es)
-        ∙ (λ i. or_else (find_one e.0 (pick e.0 e.1) i) (find_among es (All-tail IsKnown e es known) i))
-        ∙ cases (eq_by_cmp version_key_cmp q e.0) refl (is_among (map (λ e. e.0) es) q)
-      where
-        again : (x : Option Y) (b : Bool) → or_else x (cond b x None) ≡ x
-        again None true = refl
-        again None false = refl
-        again (Some y) b = refl
-
-        cases : (t : Bool) → eq_by_cmp version_key_cmp q e.0 ≡ t → (b : Bool) → or_else (cond t (pick e.0 e.1) None) (cond b (option_and_then (pick q) (known_at f q)) None) ≡ cond (t || b) (option_and_then (pick q) (known_at f q)) None
-        cases false t b = refl
-        cases true t b =
-            let same = tied_versions q e.0 t in
-            let here : pick e.0 e.1 ≡ option_and_then (pick q) (known_at f q) = (λ i. pick (sym same i) e.1) ∙ sym (ap (option_and_then (pick q)) (ap (known_at f) same ∙ All-head IsKnown e es known)) in
-            ap (λ x. or_else x (cond b (option_and_then (pick q) (known_at f q)) None)) here ∙ again (option_and_then (pick q) (known_at f q)) b
-
-    pub find_picked : (es : List (VersionKey × VersionValue)) → AreVersions f es → find version_key_cmp q (flat_map (λ e. entry_if e.0 (pick e.0 e.1)) es) ≡ option_and_then (pick q) (known_at f q)
-    find_picked es are = find_among es are.known ∙ ap (λ b. cond b (option_and_then (pick q) (known_at f q)) None) (sym (are.all q)) ∙ whole (known_at f q)
-      where
-        whole : (x : Option VersionValue) → cond (is_some x) (option_and_then (pick q) x) None ≡ option_and_then (pick q) x
-        whole None = refl
-        whole (Some v) = refl
-
   module _ (test : VersionKey → VersionValue → Bool) (q : VersionKey) where
     one_among : (v : VersionKey) (b : Bool) → is_among (cond b (v ∷ []) []) q ≡ cond b (eq_by_cmp version_key_cmp q v) false
     one_among v true = or_false (eq_by_cmp version_key_cmp q v)
@@ -65,11 +25,11 @@ module _ (f : FactsValue) where
         or_false false = refl
     one_among v false = refl
 
-    among_those : (es : List (VersionKey × VersionValue)) → All IsKnown es → is_among (flat_map (λ e. cond (test e.0 e.1) (e.0 ∷ []) []) es) q ≡ cond (is_among (map (λ e. e.0) es) q) (passes (test q) (known_at f q)) false
+    among_those : (es : List (VersionKey × VersionValue)) → All (IsKnown f) es → is_among (flat_map (λ e. cond (test e.0 e.1) (e.0 ∷ []) []) es) q ≡ cond (is_among (map (λ e. e.0) es) q) (passes (test q) (known_at f q)) false
     among_those [] known = refl
     among_those (e ∷ es) known =
         list_any-append (eq_by_cmp version_key_cmp q) (cond (test e.0 e.1) (e.0 ∷ []) []) (flat_map (λ e. cond (test e.0 e.1) (e.0 ∷ []) []) es)
-        ∙ (λ i. one_among e.0 (test e.0 e.1) i || among_those es (All-tail IsKnown e es known) i)
+        ∙ (λ i. one_among e.0 (test e.0 e.1) i || among_those es (All-tail (IsKnown f) e es known) i)
         ∙ cases (eq_by_cmp version_key_cmp q e.0) refl (is_among (map (λ e. e.0) es) q)
       where
         other : (b : Bool) (x : Bool) → (cond b false false || x) ≡ x
@@ -85,7 +45,7 @@ module _ (f : FactsValue) where
         cases false t b = other (test e.0 e.1) (cond b (passes (test q) (known_at f q)) false)
         cases true t b =
             let same = tied_versions q e.0 t in
-            let here : test e.0 e.1 ≡ passes (test q) (known_at f q) = (λ i. test (sym same i) e.1) ∙ sym (ap (passes (test q)) (ap (known_at f) same ∙ All-head IsKnown e es known)) in
+            let here : test e.0 e.1 ≡ passes (test q) (known_at f q) = (λ i. test (sym same i) e.1) ∙ sym (ap (passes (test q)) (ap (known_at f) same ∙ All-head (IsKnown f) e es known)) in
             ap (λ x. cond x true false || cond b (passes (test q) (known_at f q)) false) here ∙ again (passes (test q) (known_at f q)) b
 
     pub among_picked : (es : List (VersionKey × VersionValue)) → AreVersions f es → is_among (flat_map (λ e. cond (test e.0 e.1) (e.0 ∷ []) []) es) q ≡ passes (test q) (known_at f q)

@@ -18,14 +18,16 @@ use Rattle.hk_model.specs.Replica.Replicas.{Represents}
 use Rattle.hk_model.specs.Replica.Rules.{contents_conflict, join_result, content_after_join}
 use Rattle.hk_model.proofs.Maps.{version_key_total, version_key_same, get-retain, get-without_ended}
 use Rattle.hk_model.proofs.Laws.{merge_law_proof}
-use Rattle.hk_state.specs.Facts.{FactsValue}
-use Rattle.hk_state.specs.Reads.{facts_of_content, with_facts}
-use Rattle.hk_state.specs.Versions.{AreVersions, borrowed, value_conflicts_at}
-use Rattle.hk_state.proofs.Walking.{conflict_listed}
+use Rattle.hk_store.specs.Facts.{FactsValue}
+use Rattle.hk_store.specs.Reads.{facts_of_content, with_facts}
+use Rattle.hk_store.specs.Versions.{AreVersions, borrowed, value_conflicts_at}
+use Rattle.hk_store.proofs.Walking.{conflict_listed}
 use Rattle.hk_merge.specs.Listed.{facts_listed, rows_listed, ends_listed, fragment_listed}
 use Rattle.hk_merge.specs.Calls.{Joins, Merges, MergesOf}
-use Rattle.hk_merge.proofs.Picked.{find_picked}
+use Rattle.hk_store.proofs.Picked.{find_picked}
+use Rattle.hk_store.proofs.Listed.{any_map}
 use Rattle.hk_merge.proofs.Joining.{known_by}
+use Rattle.hk_state.proofs.Standing.{inside, has_conflict_with}
 
 -- ---- where the log fits
 
@@ -65,13 +67,9 @@ module _ (t : Content) (f : FragmentValue) (streams : ℕ) (as_many : length f.c
 
 -- ---- a list of versions
 
-any_map : {A B : Type 0} (p : B → Bool) (g : A → B) (xs : List A) → list_any (λ x. p (g x)) xs ≡ list_any p (map g xs)
-any_map p g [] = refl
-any_map p g (x ∷ xs) = ap (λ b. p (g x) || b) (any_map p g xs)
-
 -- what is sent conflicts where one of its versions differs
 pub listed_conflict : (t : Content) (c : Content) (xs : List (VersionKey × Bor VersionValue)) → AreVersions (facts_of_content c) (map borrowed xs) → list_any (λ e. value_conflicts_at (facts_of_content t) e.0 e.1.now) xs ≡ contents_conflict t c
-listed_conflict t c xs are = any_map (λ (e : VersionKey × VersionValue). value_conflicts_at (facts_of_content t) e.0 e.1) borrowed xs ∙ conflict_listed (facts_of_content t) (facts_of_content c) (map borrowed xs) are
+listed_conflict t c xs are = sym (any_map (λ (e : VersionKey × VersionValue). value_conflicts_at (facts_of_content t) e.0 e.1) borrowed xs) ∙ conflict_listed (facts_of_content t) (facts_of_content c) (map borrowed xs) are
 
 -- the facts that all versions of facts make are these facts
 pub listed_whole : (f : FactsValue) (es : List (VersionKey × VersionValue)) → AreVersions f es → facts_listed es ≡ f
@@ -153,12 +151,6 @@ ok_along (Ok done) new g same is = is ∙ ap g same
 ok_along (Err why) new g same is = is
 
 -- ---- merges of what represents items
-
-inside : (a b : Content) → ◌≡◌ {A = Result Content Refusal} (Ok a) (Ok b) → a ≡ b
-inside a b e = cc
-
-has_conflict_with : (a : Content) (why : Refusal) → ◌≡◌ {A = Result Content Refusal} (Ok a) (Err why) → ⊥
-has_conflict_with a why e = cc
 
 pub merges_of : (old new peer : Content) (r : Result (Unit {0}) Refusal) → Merges old new peer r → MergesOf old new peer r
 merges_of old new peer (Ok done) gave config history own others g h is a b =

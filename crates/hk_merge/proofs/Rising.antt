@@ -16,13 +16,15 @@ use Rattle.hk_model.specs.Replica.Content.{Content}
 use Rattle.hk_model.specs.Replica.Streams.{StreamContent, all_together}
 use Rattle.hk_model.specs.Replica.Fragments.{FragmentValue}
 use Rattle.hk_model.proofs.Maps.{version_key_total, find-append}
-use Rattle.hk_state.specs.Facts.{FactsValue}
-use Rattle.hk_state.specs.Drops.{is_among}
-use Rattle.hk_state.specs.Reads.{facts_of_content}
-use Rattle.hk_state.specs.Versions.{AreVersions}
+use Rattle.hk_store.specs.Facts.{FactsValue}
+use Rattle.hk_store.specs.Drops.{is_among}
+use Rattle.hk_store.specs.Reads.{facts_of_content}
+use Rattle.hk_store.specs.Versions.{AreVersions}
 use Rattle.hk_merge.specs.Listed.{facts_listed}
 use Rattle.hk_merge.specs.Plans.{goes, row_back, end_back, all_gone, rows_back, ends_back, passes, known_in, rises, is_sent, gone_at, row_back_at, end_back_at, keys_of_rows, old_come, row_comes, end_comes, rows_come, ends_come, row_comes_at, end_comes_at}
-use Rattle.hk_merge.proofs.Picked.{find_picked, among_picked}
+use Rattle.hk_store.proofs.Picked.{find_picked}
+use Rattle.hk_store.proofs.Stored.{or_none}
+use Rattle.hk_merge.proofs.Picked.{among_picked}
 use Rattle.hk_merge.proofs.Joining.{pass_by}
 
 -- the facts of a state's content, by their parts
@@ -74,18 +76,14 @@ module _ (t : Content) (f : FragmentValue) (level : rises t f ≡ false) where
   or_false true = refl
   or_false false = refl
 
-  or_none : {X : Type 0} (x : Option X) → x ≡ or_else x None
-  or_none None = refl
-  or_none (Some x) = refl
-
   pub level_drops : (b : Bool) (q : VersionKey) → b ≡ (b || gone_at t f q)
   level_drops b q = or_false b ∙ ap (λ r. b || (r && passes (goes (f.base == 0) f.content.horizon (is_sent t f) q) (known_in t q))) (sym level)
 
   pub level_rows : (x : Option RowValue) (q : VersionKey) → x ≡ or_else x (row_back_at t f q)
-  level_rows x q = or_none x ∙ ap (λ r. or_else x (cond r (option_and_then (row_back (f.base == 0) f.content.horizon (is_sent t f) q) (known_in t q)) None)) (sym level)
+  level_rows x q = sym (or_none x) ∙ ap (λ r. or_else x (cond r (option_and_then (row_back (f.base == 0) f.content.horizon (is_sent t f) q) (known_in t q)) None)) (sym level)
 
   pub level_ends : (x : Option ℕ) (q : VersionKey) → x ≡ or_else x (end_back_at t f q)
-  level_ends x q = or_none x ∙ ap (λ r. or_else x (cond r (option_and_then (end_back (f.base == 0) f.content.horizon (is_sent t f) q) (known_in t q)) None)) (sym level)
+  level_ends x q = sym (or_none x) ∙ ap (λ r. or_else x (cond r (option_and_then (end_back (f.base == 0) f.content.horizon (is_sent t f) q) (known_in t q)) None)) (sym level)
 
 pub no_rise : (a b : ℕ) → is_ge (nat_cmp a b) ≡ true → nat_lt a b ≡ false
 no_rise a b e = grind (arith, nat_tests)

@@ -7,8 +7,8 @@ use Rattle.hk_types.specs.declared.version_key.VersionKey.{VersionKey}
 use Rattle.hk_log.specs.Versions.{VersionValue}
 use Rattle.hk_model.specs.Replica.Streams.{StreamContent}
 use Rattle.hk_model.specs.Replica.Fragments.{FragmentValue}
-use Rattle.hk_state.specs.Facts.{FactsValue, entry_if}
-use Rattle.hk_state.specs.Versions.{borrowed}
+use Rattle.hk_store.specs.Facts.{FactsValue, entry_if}
+use Rattle.hk_store.specs.Versions.{borrowed}
 use Rattle.hk_merge.specs.declared.merge_input.MergeInput.{MergeInput}
 
 -- the rows of a list of versions

@@ -9,8 +9,8 @@ use Rattle.hk_log.specs.Versions.{VersionValue}
 use Rattle.hk_model.specs.Replica.Content.{Content, at_most}
 use Rattle.hk_model.specs.Replica.Fragments.{FragmentValue}
 use Rattle.hk_facts.specs.Facts.{row_of, died_of}
-use Rattle.hk_state.specs.Facts.{FactsValue, known_at, entry_if}
-use Rattle.hk_state.specs.Reads.{facts_of_content}
+use Rattle.hk_store.specs.Facts.{FactsValue, known_at, entry_if}
+use Rattle.hk_store.specs.Reads.{facts_of_content}
 
 -- ---- what is left of the target's own, where the horizon rises to h: `whole` where the whole is sent, and then
 -- `sent` has the versions whose rows are

@@ -9,8 +9,8 @@ ghost use Rattle.hk_model.specs.Replica.Maps.{or_else};
 ghost use Rattle.hk_model.specs.Replica.Streams.{all_together};
 ghost use Rattle.hk_model.specs.Replica.Rules.{contents_conflict, content_after_join};
 ghost use Rattle.hk_model.specs.Replica.Lawful.{IsLawful, IsLawfulFragment};
-ghost use Rattle.hk_state.specs.Drops.{is_among};
-ghost use Rattle.hk_state.specs.Versions.{AreVersions, borrowed};
+ghost use Rattle.hk_store.specs.Drops.{is_among};
+ghost use Rattle.hk_store.specs.Versions.{AreVersions, borrowed};
 ghost use Rattle.hk_state.specs.Changes.{content_after_change};
 ghost use Rattle.hk_merge.specs.Listed.{facts_listed, fragment_sent};
 ghost use Rattle.hk_merge.specs.Plans.{gone_at, row_back_at, end_back_at};
@@ -73,12 +73,6 @@ pub fn join_sent(target: &mut ReplicaState, sent: &MergeInput) -> Result<(), Ref
 pub fn merge(target: &mut ReplicaState, peer: &ReplicaState) -> Result<(), Refusal>
     ensures gives { Merges target.old target.new peer.now result }
     ensures represents { MergesOf target.old target.new peer.now result }
-{
-    merge_whole(target, peer)
-}
-
-fn merge_whole(target: &mut ReplicaState, peer: &ReplicaState) -> Result<(), Refusal>
-    ensures { Merges target.old target.new peer.now result }
 {
     let horizon = peer.horizon();
     let versions = match peer.facts().versions(target.allocator()) {

@@ -4,15 +4,16 @@ ghost use Rattle.std.specs.Prelude.{◌≡◌, ◌++◌, ◌∷◌, [], map, is_
 ghost use Rattle.std.specs.Option.{option_copied};
 ghost use Rattle.std.specs.FinSet as set;
 ghost use Rattle.hk_types.specs.declared.faults.Refusal.TheVariants.{Memory};
-ghost use Rattle.hk_model.specs.Replica.Content.{at_most};
 ghost use Rattle.hk_facts.specs.Facts.{row_of, died_of};
-ghost use Rattle.hk_state.specs.Facts.{entry_if};
-ghost use Rattle.hk_state.specs.Versions.{borrowed};
+ghost use Rattle.hk_store.specs.Facts.{entry_if};
+ghost use Rattle.hk_store.specs.Versions.{borrowed};
 ghost use Rattle.hk_merge.specs.Plans.{stays, goes, row_back, end_back, all_gone, rows_back, ends_back, row_comes, end_comes, rows_come, ends_come, keys_of_rows};
 
+use hk_facts::ended_by;
 use hk_index::KeyIndex;
 use hk_log::Version;
-use hk_state::{Change, Facts};
+use hk_state::Change;
+use hk_store::Facts;
 use hk_types::{Refusal, Row, Time, VersionKey};
 use std::alloc::{AllocError, Global};
 
@@ -36,16 +37,6 @@ pub(crate) struct Coming {
     pub(crate) horizon: Time,
 }
 
-/// Whether a version is known to have ended at a time or before.
-fn has_ended(known: &Version, time: Time) -> bool
-    ensures { result ≡ at_most time known.now.died }
-{
-    match known.died() {
-        Some(died) => died <= time,
-        None => false,
-    }
-}
-
 impl Leaving {
     /// Whether a row of the target's own stays.
     fn keeps_row(&self, version: &VersionKey, own: &Version) -> bool
@@ -57,7 +48,7 @@ impl Leaving {
         if self.whole {
             self.sent.has(*version)
         } else {
-            !has_ended(own, self.horizon)
+            !ended_by(own, self.horizon)
         }
     }
 
@@ -65,7 +56,7 @@ impl Leaving {
     fn goes(&self, version: &VersionKey, own: &Version) -> bool
         ensures { result ≡ goes self.now.whole self.now.horizon (set.contains self.now.sent) version.now own.now }
     {
-        has_ended(own, self.horizon) || (own.row().is_some() && !self.keeps_row(version, own))
+        ended_by(own, self.horizon) || (own.row().is_some() && !self.keeps_row(version, own))
     }
 }
 
@@ -90,7 +81,7 @@ fn leave_version(
     if leaving.keeps_row(version, own) {
         push_row(alloc, &mut change.rows, version, own)?;
     }
-    if !has_ended(own, leaving.horizon) {
+    if !ended_by(own, leaving.horizon) {
         push_end(&mut change.ends, version, own)?;
     }
     Ok(())
@@ -163,7 +154,7 @@ fn take_version(
     if (coming.horizon < version.born || coming.old) && !has_row(held) {
         push_row(alloc, &mut change.rows, version, sent)?;
     }
-    if !has_ended(sent, coming.horizon) && !has_end(held) {
+    if !ended_by(sent, coming.horizon) && !has_end(held) {
         push_end(&mut change.ends, version, sent)?;
     }
     Ok(())

@@ -3,8 +3,8 @@
 ghost use Rattle.std.specs.Prelude.{◌≡◌, ◌==◌, not, length, if◌then◌else◌, Some, None};
 ghost use Rattle.std.specs.List.{list_any};
 ghost use Rattle.hk_types.specs.declared.faults.Refusal.TheVariants.{ForeignLog as Foreign, WrongStreams as Wrong};
-ghost use Rattle.hk_state.specs.Reads.{facts_of_content};
-ghost use Rattle.hk_state.specs.Versions.{value_conflicts_at};
+ghost use Rattle.hk_store.specs.Reads.{facts_of_content};
+ghost use Rattle.hk_store.specs.Versions.{value_conflicts_at};
 
 use hk_log::Version;
 use hk_state::ReplicaState;

@@ -16,24 +16,21 @@ use Rattle.hk_model.proofs.Members.{In, In-map, map-In, In-find, find-In}
 use Rattle.hk_model.proofs.Writes.{All_In, In_filter, filter_In, In_puts, puts_In, is_written, key_tied}
 use Rattle.hk_model.proofs.Visible.{find_sorted}
 use Rattle.hk_primary.specs.Log.{put_of, removal_of, by_key, writes_of, transaction_of}
+use Rattle.hk_facts.proofs.Trees.{and_T}
 
 -- a write with its key
 abbrev keyed : WriteOp → RowKey × WriteOp
 keyed w = (written_key w, w)
 
-both : (a b : Bool) → T a → T b → T (a && b)
-both true b p q = q
-both false b p q = p
-
 below_keyed : (k : RowKey) (ws : List WriteOp) → All (λ l. row_key_cmp k l ≡ Less) (map written_key ws) → T (below_all row_key_cmp k (map keyed ws))
 below_keyed k [] all = tt
 below_keyed k (w ∷ ws) all =
-    both _ _ (subst (λ r. T (is_lt r)) (sym (All-head (λ l. row_key_cmp k l ≡ Less) (written_key w) (map written_key ws) all)) tt)
+    and_T _ _ (subst (λ r. T (is_lt r)) (sym (All-head (λ l. row_key_cmp k l ≡ Less) (written_key w) (map written_key ws) all)) tt)
     (below_keyed k ws (All-tail (λ l. row_key_cmp k l ≡ Less) (written_key w) (map written_key ws) all))
 
 sorted_keyed : (ws : List WriteOp) → KeysRise (map written_key ws) → T (is_sorted row_key_cmp (map keyed ws))
 sorted_keyed [] rise = tt
-sorted_keyed (w ∷ ws) rise = both _ _ (below_keyed (written_key w) ws rise.0) (sorted_keyed ws rise.1)
+sorted_keyed (w ∷ ws) rise = and_T _ _ (below_keyed (written_key w) ws rise.0) (sorted_keyed ws rise.1)
 
 values_keyed : (ws : List WriteOp) → map (λ (e : RowKey × WriteOp). e.1) (map keyed ws) ≡ ws
 values_keyed [] = refl

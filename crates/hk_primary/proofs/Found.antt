@@ -8,10 +8,10 @@ use Rattle.hk_facts.specs.Chains.{ChainValue, latest_at}
 use Rattle.hk_facts.specs.Facts.{row_of, died_of}
 use Rattle.hk_facts.proofs.Newest.{newest, no_newest}
 use Rattle.hk_facts.proofs.Showing.{IsChainOf}
-use Rattle.hk_state.specs.Facts.{FactsValue, known_at}
-use Rattle.hk_state.specs.Reads.{with_facts}
-use Rattle.hk_state.proofs.ByTable.{known_row}
-use Rattle.hk_state.proofs.Reading.{chain_of}
+use Rattle.hk_store.specs.Facts.{FactsValue, known_at}
+use Rattle.hk_store.specs.Reads.{with_facts}
+use Rattle.hk_store.proofs.ByTable.{known_row}
+use Rattle.hk_store.proofs.Reading.{chain_of}
 use Rattle.hk_primary.specs.Looks.{IsLatest}
 
 module _ (f : FactsValue) (k : RowKey) (t : ℕ) where

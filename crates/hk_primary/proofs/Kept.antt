@@ -2,7 +2,7 @@
 use Rattle.std.proofs.Common.{◌≡◌, refl, sym, ap, ◌∙◌, subst, ℕ, ◌+◌, ◌-◌, ◌<◌, ◌≤◌, ◌^◌, ◌==◌, arith, Bool, true, false, cond, true≢false, eq-eqb, eqb-true, Option, Some, None, List, [], ◌∷◌, ◌++◌, map, length, get_or, set as set_at, get_or-set_other}
 use Rattle.std.proofs.lemmas.List.FromFn.{length-map-range_with_len, get_or-map-range_with_len}
 use Rattle.std.proofs.lemmas.Grind.{same_number_lists, get_or-set_at}
-use Rattle.std.proofs.lemmas.List.{length-set}
+use Rattle.std.proofs.lemmas.List.{length-set, append-nil}
 use Rattle.std.specs.List.{range_with_len}
 use Rattle.std.specs.FinMap as finmap
 use Rattle.hk_types.specs.Values.{ConfigValue}
@@ -20,15 +20,11 @@ use Rattle.hk_model.proofs.Maps.{version_key_total, version_key_same, get-union}
 use Rattle.hk_model.proofs.Sets.{row_facts-append, end_facts-append}
 use Rattle.hk_model.specs.History.Facts.{row_facts, end_facts, rows_of, ends_of}
 use Rattle.hk_model.specs.Replica.Maps.{or_else}
-use Rattle.hk_state.specs.Facts.{FactsValue, with_entry}
+use Rattle.hk_store.specs.Facts.{FactsValue, with_entry}
 use Rattle.hk_primary.specs.Log.{IsNext, IsPrimary, history_of, transaction_of}
 use Rattle.hk_primary.specs.Looks.{IsLatest, put_time_of_row}
 use Rattle.hk_primary.proofs.Reading.{history_is, items_are, log_has, logged-push, read_on-push}
 use Rattle.hk_primary.proofs.Latest.{written_by, put_by, written_is, put_is}
-
-append_none : {X : Type 0} (xs : List X) → xs ++ [] ≡ xs
-append_none [] = refl
-append_none (x ∷ xs) = ap (λ more. x ∷ more) (append_none xs)
 
 omega_sum : (n m : ℕ) → n ≡ m → n + 1 ≡ 1 + m
 omega_sum n m e = omega arith
@@ -78,8 +74,8 @@ module _ (config : ConfigValue) (newest : ℕ) (items : List Item) (facts : Fact
         few_streams = p.few_streams;
         logged = logged-push config [] items (Closed m) p.logged (truth, tt);
         newest_is = p.newest_is ∙ ap last (sym same);
-        rows_are = p.rows_are ∙ ap (λ es. finmap.from_entries es) (sym (row_facts-append items (Closed m ∷ []) ∙ append_none (row_facts items)));
-        ends_are = p.ends_are ∙ ap (λ es. finmap.from_entries es) (sym (end_facts-append items (Closed m ∷ []) ∙ append_none (end_facts items)));
+        rows_are = p.rows_are ∙ ap (λ es. finmap.from_entries es) (sym (row_facts-append items (Closed m ∷ []) ∙ append-nil (row_facts items)));
+        ends_are = p.ends_are ∙ ap (λ es. finmap.from_entries es) (sym (end_facts-append items (Closed m ∷ []) ∙ append-nil (end_facts items)));
         counts_are = p.counts_are ∙ ap (λ h. map (entries_in h) (range_with_len 1 config.streams)) (sym same);
       }
 

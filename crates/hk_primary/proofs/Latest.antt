@@ -20,7 +20,7 @@ use Rattle.hk_model.proofs.Histories.{put_entry, entry_end, put_last, unput_last
 use Rattle.hk_model.proofs.Formed.{put_time}
 use Rattle.hk_model.proofs.Logs.{IsPart, fact_row, row_fact, fact_end, end_fact, row_born, row_found, end_found, find_row, find_end}
 use Rattle.hk_model.proofs.Honest.{history_log, items_part}
-use Rattle.hk_state.specs.Facts.{FactsValue}
+use Rattle.hk_store.specs.Facts.{FactsValue}
 use Rattle.hk_primary.specs.Looks.{IsLatest, put_time_of_row}
 
 -- ---- when a row was last written

@@ -17,8 +17,8 @@ use Rattle.hk_model.proofs.Logs.{IsPart, fact_end, end_found}
 use Rattle.hk_model.proofs.Histories.{end_after}
 use Rattle.hk_model.proofs.Honest.{items_part}
 use Rattle.hk_model.proofs.Visible.{upto, visible_at}
-use Rattle.hk_state.specs.Facts.{FactsValue}
-use Rattle.hk_state.specs.Reads.{with_facts}
+use Rattle.hk_store.specs.Facts.{FactsValue}
+use Rattle.hk_store.specs.Reads.{with_facts}
 use Rattle.hk_primary.specs.Log.{IsPrimary, history_of}
 use Rattle.hk_primary.proofs.Reading.{history_is, items_are, log_has}
 

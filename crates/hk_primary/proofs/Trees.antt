@@ -13,18 +13,15 @@ use Rattle.std.specs.FinMap.Entries.{is_sorted, same_entries, below_all}
 use Rattle.std.proofs.lemmas.Map.Keys.{sorted_head, sorted_tail}
 use Rattle.hk_model.specs.History.Rows.{RowKey, row_key_cmp}
 use Rattle.hk_model.proofs.Maps.{row_key_total, row_key_same}
-
-both : (a b : Bool) → T a → T b → T (a && b)
-both true b p q = q
-both false b p q = p
+use Rattle.hk_facts.proofs.Trees.{and_T}
 
 below_from_sorted : {X : Type 0} (k : RowKey) (es : List (RowKey × X)) → AllByRecursion (λ y. row_key_cmp k y ≡ Less) (keys_of es) → T (below_all row_key_cmp k es)
 below_from_sorted k [] h = tt
-below_from_sorted k (e ∷ es) h = both _ _ (subst (λ r. T (is_lt r)) (sym h.0) tt) (below_from_sorted k es h.1)
+below_from_sorted k (e ∷ es) h = and_T _ _ (subst (λ r. T (is_lt r)) (sym h.0) tt) (below_from_sorted k es h.1)
 
 sorted_entries : {X : Type 0} (es : List (RowKey × X)) → IsStrictlySortedBy row_key_cmp (keys_of es) → T (is_sorted row_key_cmp es)
 sorted_entries [] h = tt
-sorted_entries (e ∷ es) h = both _ _ (below_from_sorted e.0 es (sorted_head row_key_cmp e.0 (keys_of es) h)) (sorted_entries es (sorted_tail row_key_cmp e.0 (keys_of es) h))
+sorted_entries (e ∷ es) h = and_T _ _ (below_from_sorted e.0 es (sorted_head row_key_cmp e.0 (keys_of es) h)) (sorted_entries es (sorted_tail row_key_cmp e.0 (keys_of es) h))
 
 find_lookup : {X : Type 0} (q : RowKey) (es : List (RowKey × X)) → find row_key_cmp q es ≡ lookup (tree.is_at (row_key_cmp q)) es
 find_lookup q [] = refl

@@ -12,7 +12,7 @@ use Rattle.hk_model.specs.History.Facts.{rows_of, ends_of}
 use Rattle.hk_model.specs.History.Histories.{Transaction, written_key, last, entries_in, entry_of, Follows, IsHistory, IsTruthful, AreItemsOf}
 use Rattle.hk_model.specs.declared.write_op.WriteOp.{WriteOp}
 use Rattle.hk_model.specs.declared.write_op.WriteOp.TheVariants.{Put, Remove}
-use Rattle.hk_state.specs.Facts.{FactsValue}
+use Rattle.hk_store.specs.Facts.{FactsValue}
 
 -- ---- the history that a log states
 

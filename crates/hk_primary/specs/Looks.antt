@@ -7,7 +7,7 @@ use Rattle.hk_model.specs.History.Rows.{RowKey, version_of}
 use Rattle.hk_model.specs.History.Histories.{Transaction, Tables, written_key, tables_of, last_put}
 use Rattle.hk_model.specs.declared.write_op.WriteOp.{WriteOp}
 use Rattle.hk_model.specs.declared.write_op.WriteOp.TheVariants.{Put, Remove}
-use Rattle.hk_state.specs.Facts.{FactsValue}
+use Rattle.hk_store.specs.Facts.{FactsValue}
 
 -- of the versions of a row that were born at most at t: none has a row, or this one was born last
 abbrev pub IsLatest : FactsValue → ℕ → RowKey → Option (ℕ × Option ℕ) → Type 0

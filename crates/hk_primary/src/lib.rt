@@ -16,7 +16,6 @@ pub use hk_query::{Answer, Query};
 pub use primary::Primary;
 pub use row_key::RowKey;
 pub use shared::{Naming, SharedPrimary};
-pub use hk_log::MOST_WRITES;
 pub use txn::Txn;
 
 /// What a primary whose clock starts after a time makes of a transaction.

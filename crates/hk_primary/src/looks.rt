@@ -12,7 +12,7 @@ use crate::row_key::RowKey;
 use crate::txn::Txn;
 use hk_log::Version;
 use hk_model::WriteOp;
-use hk_state::Facts;
+use hk_store::Facts;
 use hk_types::Time;
 
 /// Of the versions of a row that were born up to a time, the one born last: its birth, and its end if it has

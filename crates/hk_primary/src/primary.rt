@@ -10,7 +10,7 @@ ghost use Rattle.hk_primary.specs.Txns.{no_writes};
 
 use crate::txn::Txn;
 use hk_log::{Item, Mark};
-use hk_state::Facts;
+use hk_store::Facts;
 use hk_types::{Config, Refusal, StreamNo, Time};
 use std::alloc::{AllocError, Global};
 use std::marker::Model;
@@ -84,7 +84,8 @@ impl Primary {
 
     /// A transaction with no writes that reads at the time of the last commit. It takes no memory.
     pub fn begin(&self) -> Txn
-        ensures { result ≡ no_writes (last self.now.history) }
+        ensures value { result ≡ no_writes (last self.now.history) }
+        ensures honest { IsHonest self.now }
     {
         Txn::at(self.alloc, self.newest)
     }
@@ -110,6 +111,7 @@ impl Primary {
         ensures unknown { self.old.config.streams < stream → IfErr result (λ why. why ≡ Streamless) }
         ensures memory { stream ≤ self.old.config.streams → IfErr result (λ why. why ≡ Memory) }
         ensures kept { OnErr result (self.new ≡ self.old) }
+        ensures honest { IsHonest self.old }
     {
         if stream.number() > self.config.streams() {
             return Err(Refusal::NoStream);

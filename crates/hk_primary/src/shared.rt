@@ -64,7 +64,6 @@ impl<K: Naming> Held<K> {
         ensures kept { OnErr result (share.new.amount ≡ share.old.amount) }
     {
         let Held { primary, emitted } = self;
-        let _kept = primary.last();
         let time = primary.commit(txn, stream)?;
         if time.is_some() {
             emitted.add(share, 1);
@@ -84,7 +83,6 @@ impl<K: Naming> Held<K> {
         ensures kept { OnErr result (share.new.amount ≡ share.old.amount) }
     {
         let Held { primary, emitted } = self;
-        let _kept = primary.last();
         let mark = primary.mark(stream)?;
         emitted.add(share, 1);
         Ok(mark)
@@ -190,9 +188,7 @@ impl<K: Naming> SharedPrimary<K> {
     pub fn begin<R: Wait>(&self, rt: &R) -> Txn
         ensures { AtSome K.config K.after (λ p. result ≡ no_writes (last p.history)) }
     {
-        let held = self.held.lock(rt);
-        let _kept = held.primary.last();
-        held.primary.begin()
+        self.held.lock(rt).primary.begin()
     }
 
     /// Commits a transaction on a stream, as `Primary::commit` does. A commit that answers a time adds one to the

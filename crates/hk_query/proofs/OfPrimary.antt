@@ -5,15 +5,10 @@ use Rattle.hk_types.specs.declared.faults.Refusal.TheVariants.{Memory}
 use Rattle.hk_model.specs.declared.answer.Answer.{Answer}
 use Rattle.hk_model.specs.declared.query.Query.{Query}
 use Rattle.hk_model.specs.Replica.Content.{Content}
-use Rattle.hk_model.specs.Replica.Answers.{AnswerValue, answer, answer_seen, reply, visible}
+use Rattle.hk_model.specs.Replica.Answers.{answer, answer_seen, reply, visible}
 use Rattle.hk_model.proofs.Laws.{reply_law_proof}
 use Rattle.hk_query.specs.Primary.{IsOfPrimary}
-
-inside : (a b : AnswerValue) → ◌≡◌ {A = Result AnswerValue Refusal} (Ok a) (Ok b) → a ≡ b
-inside a b e = cc
-
-has_conflict_with : (a : AnswerValue) (why : Refusal) → ◌≡◌ {A = Result AnswerValue Refusal} (Ok a) (Err why) → ⊥
-has_conflict_with a why e = cc
+use Rattle.hk_state.proofs.Standing.{inside, has_conflict_with}
 
 pub of_primary : (c : Content) (t : ℕ) (query : Query) (r : Result Answer Refusal) → MatchResult r (λ a. reply c t query ≡ Ok (answer_seen a)) (λ why. (reply c t query ≡ Err why) ⊎ ((why ≡ Memory) × (reply c t query ≡ Ok (answer (visible c t) query)))) → IsOfPrimary c t query r
 of_primary c t query (Ok a) gave config history items horizon is represents old soon = (inside _ _ (sym gave ∙ reply_law_proof config history is items horizon c represents t old soon query), tt)

@@ -1,17 +1,17 @@
 -- A time that can be asked is replied with the answer on the rows that show then.
-use Rattle.std.proofs.Common.{◌≡◌, refl, sym, ap, ◌∙◌, ℕ, false, nat_lt, Result, Ok, Err, IfOk, IfErr, MatchResult, ◌⊎◌, inr}
+use Rattle.std.proofs.Common.{◌≡◌, refl, sym, ap, ◌∙◌, ℕ, true, false, nat_lt, Result, Ok, Err, IfOk, IfErr, MatchResult, ◌⊎◌, inr}
 use Rattle.std.specs.FinMap as finmap
 use Rattle.hk_types.specs.Values.{RowValue}
 use Rattle.hk_types.specs.declared.faults.Refusal.{Refusal}
-use Rattle.hk_types.specs.declared.faults.Refusal.TheVariants.{Memory}
+use Rattle.hk_types.specs.declared.faults.Refusal.TheVariants.{Memory, TooOld, NotYet}
 use Rattle.hk_model.specs.declared.answer.Answer.{Answer}
 use Rattle.hk_model.specs.declared.query.Query.{Query}
 use Rattle.hk_model.specs.History.Rows.{version_key_cmp}
 use Rattle.hk_model.specs.Replica.Content.{Content, readable}
 use Rattle.hk_model.specs.History.Histories.{Tables}
 use Rattle.hk_model.specs.Replica.Answers.{answer, answer_seen, reply, visible}
-use Rattle.hk_state.specs.Facts.{FactsValue}
-use Rattle.hk_state.specs.Reads.{with_facts}
+use Rattle.hk_store.specs.Facts.{FactsValue}
+use Rattle.hk_store.specs.Reads.{with_facts}
 
 -- the tables that rows and ends show at t
 abbrev shown_of : finmap.FinMap version_key_cmp RowValue → finmap.FinMap version_key_cmp ℕ → ℕ → Tables
@@ -28,3 +28,9 @@ pub replied : (c : Content) (t : ℕ) (q : Query) (f : FactsValue) → f.rows �
     → MatchResult r (λ a. reply c t q ≡ Ok (answer_seen a)) (λ why. (reply c t q ≡ Err why) ⊎ ((why ≡ Memory) × (reply c t q ≡ Ok (answer (visible c t) q))))
 replied c t q f rows ends old soon (Ok a) ok err = can_be_asked c t q old soon ∙ ap (λ tables. Ok (answer tables q)) (sym (same_shown c t f rows ends)) ∙ ap Ok (sym ok)
 replied c t q f rows ends old soon (Err why) ok err = inr (err, can_be_asked c t q old soon)
+
+pub too_old : (c : Content) (t h : ℕ) (q : Query) → h ≡ c.horizon → nat_lt t h ≡ true → reply c t q ≡ Err (TooOld h)
+too_old c t h q is old = rw (← is, old) refl
+
+pub not_yet : (c : Content) (t m : ℕ) (q : Query) → nat_lt t c.horizon ≡ false → m ≡ readable c → nat_lt m t ≡ true → reply c t q ≡ Err (NotYet m)
+not_yet c t m q old is soon = rw (old, ← is, soon) refl

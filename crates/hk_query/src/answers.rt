@@ -5,11 +5,11 @@ ghost use Rattle.std.specs.FinMap as finmap;
 ghost use Rattle.hk_types.specs.declared.faults.Refusal.TheVariants.{Memory};
 ghost use Rattle.hk_model.specs.declared.query.Query.TheVariants.{Range, ByTag, Count};
 ghost use Rattle.hk_model.specs.Replica.Answers.{Rows, answer, answer_seen, visible};
-ghost use Rattle.hk_state.specs.Reads.{with_facts};
+ghost use Rattle.hk_store.specs.Reads.{with_facts};
 
 use crate::rows::shown_rows;
 use hk_model::{Answer, Query};
-use hk_state::Facts;
+use hk_store::Facts;
 use hk_types::{Key, Refusal, Row, Table, Tag, Time};
 use std::alloc::{AllocError, Global};
 

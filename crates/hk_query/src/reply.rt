@@ -32,16 +32,6 @@ pub fn ask(
     // A count takes no memory.
     ensures count { (table : ℕ) → query.now ≡ Count table → IfErr result (λ why. why ≢ Memory) }
 {
-    reply(alloc, state, time, query)
-}
-
-fn reply(alloc: Global, state: &ReplicaState, time: Time, query: &Query) -> Result<Answer, Refusal>
-    ensures gives { MatchResult result (λ a. reply state.now time query.now ≡ Ok (answer_seen a))
-        (λ why. (reply state.now time query.now ≡ Err why) ⊎ ((why ≡ Memory) × (reply state.now time query.now ≡ Ok (answer (visible state.now time) query.now)))) }
-
-    // A count takes no memory.
-    ensures count { (table : ℕ) → query.now ≡ Count table → IfErr result (λ why. why ≢ Memory) }
-{
     let horizon = state.horizon();
     if time < horizon {
         return Err(Refusal::TooOld { horizon });

@@ -2,9 +2,9 @@
 
 ghost use Rattle.std.specs.Prelude.{◌≡◌, ◌++◌, ◌∷◌, [], IfOk, OnOk};
 ghost use Rattle.hk_query.specs.Rows.{rows_shown};
-ghost use Rattle.hk_state.specs.Reads.{with_facts};
+ghost use Rattle.hk_store.specs.Reads.{with_facts};
 
-use hk_state::Facts;
+use hk_store::Facts;
 use hk_types::{Key, Row, Time, VersionKey};
 use std::alloc::{AllocError, Global};
 

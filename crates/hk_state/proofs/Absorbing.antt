@@ -20,22 +20,20 @@ use Rattle.hk_model.proofs.Lawful.{taken_keeps, fits_within}
 use Rattle.hk_model.proofs.Outcomes.{taken_same_log}
 use Rattle.hk_model.proofs.Changes.{no_more_facts, same_if_told}
 use Rattle.hk_state.specs.Calls.{Absorbs}
-use Rattle.hk_state.specs.Facts.{FactsValue, with_entry, conflicts_with_entry}
+use Rattle.hk_store.specs.Facts.{FactsValue, with_entry, conflicts_with_entry}
 use Rattle.hk_state.specs.Replica.{content_of_parts, IsReplica}
-
-pub at_most : (m x : ℕ) → is_le (nat_cmp m x) ≡ nat_le m x
-at_most m x = grind (arith, nat_tests)
-
--- why an item is none of the log, in the words of the code
-abbrev pub wrong_log_by : ConfigValue → ℕ → ℕ → Option Refusal
-wrong_log_by config log stream = cond (not (log == config.log)) (Some ForeignLog) (cond (nat_lt config.streams stream) (Some WrongStreams) None)
 
 module _ (config : ConfigValue) (h : ℕ) (facts : FactsValue) (got : List StreamContent) (is : IsReplica config h facts got) where
   abbrev here : Content
   here = content_of_parts config h facts got
 
-  fits : (log stream : ℕ) → cond (not (log == config.log)) (Some ForeignLog) (cond (nat_lt (length got) stream) (Some WrongStreams) None) ≡ wrong_log_by config log stream
-  fits log stream = ap (λ n. cond (not (log == config.log)) (Some ForeignLog) (cond (nat_lt n stream) (Some WrongStreams) None)) is.as_many
+  -- an item is of a state's log where it is of its configuration's
+  pub fits : (item : Item) → wrong_log config.log (length got) item ≡ wrong_log config.log config.streams item
+  fits item = ap (λ n. wrong_log config.log n item) is.as_many
+
+  -- an item that is none of the log is refused so
+  pub refused : (item : Item) (why : Refusal) → wrong_log config.log config.streams item ≡ Some why → Absorbs here here item (Err why)
+  refused item why m = (refl, inl (ap (take_result_unless here item) (fits item ∙ m)))
 
   -- what is taken leaves a state
   keeps : (item : Item) (told : Took) (facts' : FactsValue) (got' : List StreamContent) → IsItem item → take_result here item ≡ Ok (told, content_of_parts config h facts' got') → IsReplica config h facts' got'
@@ -47,22 +45,19 @@ module _ (config : ConfigValue) (h : ℕ) (facts : FactsValue) (got : List Strea
   -- ---- entries
 
   module _ (e : EntryValue) (w : IsEntry e) where
-    pub entry_wrong_log : (why : Refusal) → wrong_log_by config e.log e.stream ≡ Some why → Absorbs here here (Commit e) (Err why)
-    entry_wrong_log why m = (refl, inl (ap (take_result_unless here (Commit e)) (fits e.log e.stream ∙ m)))
+    fitting : wrong_log config.log (length got) (Commit e) ≡ None → take_result here (Commit e) ≡ absorb_result here (Commit e)
+    fitting m = ap (take_result_unless here (Commit e)) m
 
-    fitting : wrong_log_by config e.log e.stream ≡ None → take_result here (Commit e) ≡ absorb_result here (Commit e)
-    fitting m = ap (take_result_unless here (Commit e)) (fits e.log e.stream ∙ m)
-
-    pub entry_repeated : wrong_log_by config e.log e.stream ≡ None → set.contains (stream_at got e.stream).taken e.number ≡ true → Absorbs here here (Commit e) (Ok Repeated)
+    pub entry_repeated : wrong_log config.log (length got) (Commit e) ≡ None → set.contains (stream_at got e.stream).taken e.number ≡ true → Absorbs here here (Commit e) (Ok Repeated)
     entry_repeated m old = fitting m ∙ ap (λ b. cond b (Ok (Repeated, here)) (cond (entry_conflicts here e) (Err Conflict) (Ok (Taken, with_items here (Commit e ∷ []))))) old
 
-    unrepeated : wrong_log_by config e.log e.stream ≡ None → set.contains (stream_at got e.stream).taken e.number ≡ false → take_result here (Commit e) ≡ cond (entry_conflicts here e) (Err Conflict) (Ok (Taken, with_items here (Commit e ∷ [])))
+    unrepeated : wrong_log config.log (length got) (Commit e) ≡ None → set.contains (stream_at got e.stream).taken e.number ≡ false → take_result here (Commit e) ≡ cond (entry_conflicts here e) (Err Conflict) (Ok (Taken, with_items here (Commit e ∷ [])))
     unrepeated m new = fitting m ∙ ap (λ b. cond b (Ok (Repeated, here)) (cond (entry_conflicts here e) (Err Conflict) (Ok (Taken, with_items here (Commit e ∷ []))))) new
 
-    pub entry_conflict : wrong_log_by config e.log e.stream ≡ None → set.contains (stream_at got e.stream).taken e.number ≡ false → (conflicts_with_entry facts e || nat_le e.time (stream_at got e.stream).closed) ≡ true → Absorbs here here (Commit e) (Err Conflict)
+    pub entry_conflict : wrong_log config.log (length got) (Commit e) ≡ None → set.contains (stream_at got e.stream).taken e.number ≡ false → (conflicts_with_entry facts e || nat_le e.time (stream_at got e.stream).closed) ≡ true → Absorbs here here (Commit e) (Err Conflict)
     entry_conflict m new c = (refl, inl (unrepeated m new ∙ ap (λ b. cond b (Err Conflict) (Ok (Taken, with_items here (Commit e ∷ [])))) c))
 
-    pub entry_result : wrong_log_by config e.log e.stream ≡ None → set.contains (stream_at got e.stream).taken e.number ≡ false → (conflicts_with_entry facts e || nat_le e.time (stream_at got e.stream).closed) ≡ false
+    pub entry_result : wrong_log config.log (length got) (Commit e) ≡ None → set.contains (stream_at got e.stream).taken e.number ≡ false → (conflicts_with_entry facts e || nat_le e.time (stream_at got e.stream).closed) ≡ false
         → (r : Result Took Refusal) (facts' : FactsValue) (got' : List StreamContent) → IfOk r (λ took. took ≡ Taken) → OnOk r (facts' ≡ with_entry facts e) → OnOk r (got' ≡ all_together got (streams_of (length got) (Commit e ∷ []))) → IfErr r (λ why. why ≡ Memory) → OnErr r (facts' ≡ facts) → OnErr r (got' ≡ got)
         → Absorbs here (content_of_parts config h facts' got') (Commit e) r × IsReplica config h facts' got'
     entry_result m new agrees (Ok took) facts' got' told f g err sf sg =
@@ -77,24 +72,21 @@ module _ (config : ConfigValue) (h : ℕ) (facts : FactsValue) (got : List Strea
   -- ---- marks
 
   module _ (k : MarkValue) (w : IsMark k) where
-    pub mark_wrong_log : (why : Refusal) → wrong_log_by config k.log k.stream ≡ Some why → Absorbs here here (Closed k) (Err why)
-    mark_wrong_log why m = (refl, inl (ap (take_result_unless here (Closed k)) (fits k.log k.stream ∙ m)))
-
     outcome_of : Took
     outcome_of = cond (adds_nothing (stream_at got k.stream) k.count k.upto) Repeated Taken
 
-    mark_taken : wrong_log_by config k.log k.stream ≡ None → take_result here (Closed k) ≡ Ok (outcome_of, with_items here (Closed k ∷ []))
+    mark_taken : wrong_log config.log (length got) (Closed k) ≡ None → take_result here (Closed k) ≡ Ok (outcome_of, with_items here (Closed k ∷ []))
     unfolding outcome_of
-    mark_taken m = ap (take_result_unless here (Closed k)) (fits k.log k.stream ∙ m)
+    mark_taken m = ap (take_result_unless here (Closed k)) m
 
-    pub mark_repeated : wrong_log_by config k.log k.stream ≡ None → adds_nothing (stream_at got k.stream) k.count k.upto ≡ true → Absorbs here here (Closed k) (Ok Repeated)
+    pub mark_repeated : wrong_log config.log (length got) (Closed k) ≡ None → adds_nothing (stream_at got k.stream) k.count k.upto ≡ true → Absorbs here here (Closed k) (Ok Repeated)
     unfolding outcome_of
     mark_repeated m told =
         let above = w.stream_least in
-        let within = fits_within config.log (length got) (Closed k) (fits k.log k.stream ∙ m) in
+        let within = fits_within config.log (length got) (Closed k) m in
         mark_taken m ∙ (λ i. Ok (cond (told i) Repeated Taken, same_if_told here is.lawful k (omega arith) within told i))
 
-    pub mark_result : wrong_log_by config k.log k.stream ≡ None → adds_nothing (stream_at got k.stream) k.count k.upto ≡ false
+    pub mark_result : wrong_log config.log (length got) (Closed k) ≡ None → adds_nothing (stream_at got k.stream) k.count k.upto ≡ false
         → (r : Result Took Refusal) (got' : List StreamContent) → IfOk r (λ took. took ≡ Taken) → OnOk r (got' ≡ all_together got (streams_of (length got) (Closed k ∷ []))) → IfErr r (λ why. why ≡ Memory) → OnErr r (got' ≡ got)
         → Absorbs here (content_of_parts config h facts got') (Closed k) r × IsReplica config h facts got'
     unfolding outcome_of

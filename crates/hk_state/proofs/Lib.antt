@@ -1,17 +1,4 @@
-pub mod Stored
-pub mod Changed
-pub mod ByTable
-pub mod Undone
 pub mod Replicas
-pub mod Conflicts
-pub mod Listed
 pub mod Absorbing
-pub mod Ended
-pub mod Dropped
-pub mod Indexed
-pub mod Reading
-pub mod Counting
 pub mod Pruning
 pub mod Standing
-pub mod Replacing
-pub mod Walking

@@ -10,8 +10,8 @@ use Rattle.hk_model.specs.Replica.Rules.{prune_result}
 use Rattle.hk_model.specs.Replica.Lawful.{IsLawful}
 use Rattle.hk_model.proofs.Lawful.{pruned_lawful}
 use Rattle.hk_state.specs.Calls.{Prunes}
-use Rattle.hk_state.specs.Drops.{pruned_facts}
-use Rattle.hk_state.specs.Facts.{FactsValue}
+use Rattle.hk_store.specs.Drops.{pruned_facts}
+use Rattle.hk_store.specs.Facts.{FactsValue}
 use Rattle.hk_state.specs.Replica.{content_of_parts, IsReplica}
 
 module _ (config : ConfigValue) (h : ℕ) (facts : FactsValue) (got : List StreamContent) (t : ℕ) where

@@ -9,7 +9,7 @@ use Rattle.hk_model.specs.Replica.Streams.{unknown}
 use Rattle.hk_model.specs.Replica.Replicas.{empty_content}
 use Rattle.hk_model.proofs.Lawful.{content_of_lawful}
 use Rattle.hk_model.proofs.Laws.{nothing_content_of}
-use Rattle.hk_state.specs.Facts.{no_facts}
+use Rattle.hk_store.specs.Facts.{no_facts}
 use Rattle.hk_state.specs.Replica.{content_of_parts, IsReplica}
 
 pub nothing_lawful : (config : ConfigValue) → IsLawful (empty_content config)

@@ -10,14 +10,11 @@ use Rattle.hk_model.specs.Replica.Replicas.{Represents}
 use Rattle.hk_model.proofs.Steps.{absorb_step, prune_step}
 use Rattle.hk_state.specs.Calls.{Absorbs, AbsorbsOf, Prunes, PrunesOf}
 
-inside : (a b : Took × Content) → ◌≡◌ {A = Result (Took × Content) Refusal} (Ok a) (Ok b) → a ≡ b
+pub inside : {A : Type 0} (a b : A) → ◌≡◌ {A = Result A Refusal} (Ok a) (Ok b) → a ≡ b
 inside a b e = cc
 
-has_conflict_with : {A : Type 0} (a : A) (why : Refusal) → ◌≡◌ {A = Result A Refusal} (Ok a) (Err why) → ⊥
+pub has_conflict_with : {A : Type 0} (a : A) (why : Refusal) → ◌≡◌ {A = Result A Refusal} (Ok a) (Err why) → ⊥
 has_conflict_with a why e = cc
-
-left : (a b : Content) → ◌≡◌ {A = Result Content Refusal} (Ok a) (Ok b) → a ≡ b
-left a b e = cc
 
 pub absorbs_of : (old new : Content) (item : Item) (r : Result Took Refusal) → Absorbs old new item r → AbsorbsOf old new item r
 absorbs_of old new item (Ok took) gave config history items horizon is represents of =
@@ -35,7 +32,7 @@ absorbs_of old new item (Err why) gave config history items horizon is represent
 pub prunes_of : (old new : Content) (h : ℕ) (r : Result (Unit {0}) Refusal) → Prunes old new h r → PrunesOf old new h r
 prunes_of old new h (Ok done) gave config history items horizon represents within =
     let s = prune_step config history items horizon h old represents within in
-    (subst (Represents config history items (max horizon h)) (left _ _ (sym s.1 ∙ gave)) s.2, tt)
+    (subst (Represents config history items (max horizon h)) (inside _ _ (sym s.1 ∙ gave)) s.2, tt)
 prunes_of old new h (Err why) gave config history items horizon represents within =
     let s = prune_step config history items horizon h old represents within in (
       tt,

@@ -1,9 +1,3 @@
 pub mod Calls
 pub mod Changes
-pub mod Drops
-pub mod Facts
-pub mod Indexed
-pub mod Journal
-pub mod Reads
 pub mod Replica
-pub mod Versions

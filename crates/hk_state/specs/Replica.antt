@@ -4,7 +4,7 @@ use Rattle.hk_types.specs.Values.{ConfigValue}
 use Rattle.hk_model.specs.Replica.Content.{Content}
 use Rattle.hk_model.specs.Replica.Lawful.{IsLawful}
 use Rattle.hk_model.specs.Replica.Streams.{StreamContent}
-use Rattle.hk_state.specs.Facts.{FactsValue}
+use Rattle.hk_store.specs.Facts.{FactsValue}
 
 -- the content of these parts
 abbrev pub content_of_parts : ConfigValue → ℕ → FactsValue → List StreamContent → Content

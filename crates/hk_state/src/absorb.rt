@@ -1,26 +1,33 @@
 //! Absorbing items.
 
-ghost use Rattle.std.specs.Prelude.{◌≡◌, ◌≤◌, ◌==◌, ◌∷◌, [], not, nat_lt, length, if◌then◌else◌, Some, None, OnOk, OnErr, IfOk, IfErr};
-ghost use Rattle.hk_types.specs.declared.faults.Refusal.TheVariants.{ForeignLog as Foreign, WrongStreams as Wrong, Memory};
+ghost use Rattle.std.specs.Prelude.{◌≡◌, ◌≤◌, ◌∷◌, [], length, None, OnOk, OnErr, IfOk, IfErr};
+ghost use Rattle.hk_types.specs.declared.faults.Refusal.TheVariants.{Memory};
 ghost use Rattle.hk_log.specs.declared.item.Item.TheVariants.{Commit, Closed};
 ghost use Rattle.hk_model.specs.declared.took.Took.TheVariants.{Taken};
+ghost use Rattle.hk_model.specs.Replica.Items as spec;
 ghost use Rattle.hk_model.specs.Replica.Streams.{all_together, streams_of};
 ghost use Rattle.hk_state.specs.Calls.{Absorbs, AbsorbsOf};
-ghost use Rattle.hk_state.specs.Facts.{with_entry};
-ghost use Rattle.hk_state.specs.Journal.{without_journal};
+ghost use Rattle.hk_store.specs.Facts.{with_entry};
+ghost use Rattle.hk_store.specs.Journal.{without_journal};
 
-use crate::facts::Facts;
 use crate::replica::ReplicaState;
 use hk_facts::Part;
 use hk_log::{Entry, Item, Mark};
 use hk_marks::Got;
 use hk_model::Took;
-use hk_types::{Config, Refusal, StreamNo, VersionKey};
+use hk_store::Facts;
+use hk_types::{Config, Refusal, VersionKey};
+use std::alloc::Global;
 
-/// Why an item with this log and this stream is none of the configuration's log, if it is none.
-fn wrong_log(config: Config, log: u64, stream: StreamNo) -> Option<Refusal>
-    ensures { result ≡ (if not (log == config.log) then Some Foreign else if nat_lt config.streams stream then Some Wrong else None) }
+/// Why an item is none of the configuration's log, if it is none: `ForeignLog` for another log, and then
+/// `WrongStreams` for a stream above the configured number. It takes no memory.
+pub fn wrong_log(config: Config, item: &Item) -> Option<Refusal>
+    ensures { result ≡ spec.wrong_log config.log config.streams item.now }
 {
+    let (log, stream) = match item {
+        Item::Commit(entry) => (entry.log(), entry.stream()),
+        Item::Closed(mark) => (mark.log(), mark.stream()),
+    };
     if log != config.log() {
         return Some(Refusal::ForeignLog);
     }
@@ -49,7 +56,12 @@ fn take_noted(
 }
 
 /// Adds an entry's rows, ends and number, or nothing of it.
-fn take_entry(facts: &mut Facts, got: &mut Got, entry: &Entry) -> Result<Took, Refusal>
+fn take_entry(
+    alloc: Global,
+    facts: &mut Facts,
+    got: &mut Got,
+    entry: &Entry,
+) -> Result<Took, Refusal>
     requires { entry.now.stream ≤ length got.old }
     ensures told { IfOk result (λ took. took ≡ Taken) }
     ensures facts { OnOk result (facts.new ≡ with_entry facts.old entry.now) }
@@ -58,7 +70,7 @@ fn take_entry(facts: &mut Facts, got: &mut Got, entry: &Entry) -> Result<Took, R
     ensures same_facts { OnErr result (facts.new ≡ facts.old) }
     ensures same_got { OnErr result (got.new ≡ got.old) }
 {
-    let mut journal = Vec::new(facts.allocator());
+    let mut journal = Vec::new(alloc);
     if let Err(why) = take_noted(facts, got, &mut journal, entry) {
         facts.take_back(journal);
         return Err(why);
@@ -79,28 +91,26 @@ fn take_mark(got: &mut Got, mark: &Mark) -> Result<Took, Refusal>
 }
 
 impl ReplicaState {
+    /// Absorbs an entry of the log.
     fn absorb_entry(&mut self, entry: &Entry) -> Result<Took, Refusal>
+        requires { spec.wrong_log self.old.log (length self.old.streams) (Commit entry.now) ≡ None }
         ensures { Absorbs self.old self.new (Commit entry.now) result }
     {
         let stream = entry.stream();
-        if let Some(why) = wrong_log(self.config, entry.log(), stream) {
-            return Err(why);
-        }
         if self.got.has(stream, entry.number()) {
             return Ok(Took::Repeated);
         }
         if self.facts.conflicts_with_entry(entry) || entry.time() <= self.got.closed(stream) {
             return Err(Refusal::Conflict);
         }
-        take_entry(&mut self.facts, &mut self.got, entry)
+        take_entry(self.alloc, &mut self.facts, &mut self.got, entry)
     }
 
+    /// Absorbs a mark of the log.
     fn absorb_mark(&mut self, mark: &Mark) -> Result<Took, Refusal>
+        requires { spec.wrong_log self.old.log (length self.old.streams) (Closed mark.now) ≡ None }
         ensures { Absorbs self.old self.new (Closed mark.now) result }
     {
-        if let Some(why) = wrong_log(self.config, mark.log(), mark.stream()) {
-            return Err(why);
-        }
         if self.got.adds_nothing(mark.stream(), mark.n(), mark.m()) {
             return Ok(Took::Repeated);
         }
@@ -119,6 +129,9 @@ impl ReplicaState {
         ensures gives { Absorbs self.old self.new item.now result }
         ensures represents { AbsorbsOf self.old self.new item.now result }
     {
+        if let Some(why) = wrong_log(self.config, item) {
+            return Err(why);
+        }
         match item {
             Item::Commit(entry) => self.absorb_entry(entry),
             Item::Closed(mark) => self.absorb_mark(mark),

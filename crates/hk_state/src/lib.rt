@@ -4,17 +4,11 @@
 mod absorb;
 mod apply;
 mod copy;
-mod conflicts_with_entry;
-mod drops;
-mod facts;
-mod journal;
 mod prune;
 mod reads;
 mod replica;
-mod tables;
-mod versions;
 
+pub use absorb::wrong_log;
 pub use apply::Change;
-pub use facts::Facts;
 pub use prune::front_of;
 pub use replica::ReplicaState;

@@ -10,8 +10,8 @@ ghost use Rattle.hk_model.specs.Replica.Lawful.{IsLawful};
 ghost use Rattle.hk_model.specs.Replica.Streams.{stream_at};
 ghost use Rattle.hk_model.specs.Replica.Replicas.{empty_content};
 
-use crate::facts::Facts;
 use hk_marks::Got;
+use hk_store::Facts;
 use hk_types::{Config, Refusal, StreamNo, Time};
 use std::alloc::Global;
 use std::marker::Model;

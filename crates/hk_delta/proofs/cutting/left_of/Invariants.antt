@@ -1,5 +1,5 @@
 use Rattle.std.proofs.Common.{◌≡◌, map, take}
-use Rattle.hk_state.specs.Versions.{borrowed}
+use Rattle.hk_store.specs.Versions.{borrowed}
 use Rattle.hk_delta.specs.Cuts.{all_left}
 use Rattle.hk_delta.proofs.cutting.left_of.Given as goal
 

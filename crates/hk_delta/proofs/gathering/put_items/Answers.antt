@@ -1,16 +1,12 @@
-use Rattle.std.proofs.Common.{sym, ap, ◌∙◌, subst, ◌++◌, ◌∷◌, [], take, All, inl, inr}
-use Rattle.std.proofs.lemmas.List.{take_more}
-use Rattle.std.proofs.lemmas.List.Elements.{All-push}
-use Rattle.hk_log.specs.declared.item.Item.{Item}
-use Rattle.hk_model.specs.Replica.Lawful.{IsItem}
+use Rattle.std.proofs.Common.{inl, inr}
 use Rattle.hk_delta.specs.Gathers.{item_facts}
 use Rattle.hk_delta.proofs.Putting.{put_more, put_fails}
 use Rattle.hk_delta.proofs.gathering.put_items.Goals as goal
 
 pub returns-in-Err-clause-puts : goal.returns-in-Err-clause-puts
 returns-in-Err-clause-puts c =
-    elim c.in-Err.ensures.puts [
-      | inl e ↦ inl (put_fails item_facts c.args.items.now c.loop-item.item-index c.item-item.result c.item-item.is c.loop-item-test.true c.args.facts.now c.loop-item.facts c.loop-item.invariant.0 c.in-Err.why e)
+    elim c.in-Err.ensures [
+      | inl e ↦ inl (put_fails item_facts c.args.items.now c.loop-item.item-index c.item-item.result c.item-item.is c.loop-item-test.true c.args.facts.now c.loop-item.facts c.loop-item.invariant c.in-Err.why e)
       | inr m ↦ inr m
     ]
 
@@ -19,7 +15,4 @@ loop-item-preserved c =
     let i = c.loop-item.item-index in
     let items = c.args.items.now in
     let x = c.item-item.result in
-    let more = take_more items i x c.loop-item-test.true ∙ ap (λ (y : Item). take i items ++ y ∷ []) (sym c.item-item.is) in (
-      put_more item_facts items i x c.item-item.is c.loop-item-test.true c.args.facts.now c.loop-item.facts c.loop-item.invariant.0 c.put_item.new.facts c.in_default.ensures.puts,
-      subst (All IsItem) (sym more) (All-push IsItem (take i items) x c.loop-item.invariant.1 c.in_default.ensures.lawful),
-    )
+    put_more item_facts items i x c.item-item.is c.loop-item-test.true c.args.facts.now c.loop-item.facts c.loop-item.invariant c.put_item.new.facts c.in_default.ensures

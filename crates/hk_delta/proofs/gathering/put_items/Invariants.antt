@@ -1,8 +1,7 @@
-use Rattle.std.proofs.Common.{◌≡◌, take, Ok, All}
+use Rattle.std.proofs.Common.{◌≡◌, take, Ok}
 use Rattle.std.specs.List.{flat_map}
 use Rattle.hk_delta.specs.Gathers.{all_put, item_facts}
-use Rattle.hk_model.specs.Replica.Lawful.{IsItem}
 use Rattle.hk_delta.proofs.gathering.put_items.Given as goal
 
 abbrev pub invariant-loop-item : goal.invariant-loop-item
-invariant-loop-item l = (all_put (Ok l.initial.facts) (flat_map item_facts (take l.item-index l.items)) ≡ Ok l.facts) × All IsItem (take l.item-index l.items)
+invariant-loop-item l = all_put (Ok l.initial.facts) (flat_map item_facts (take l.item-index l.items)) ≡ Ok l.facts

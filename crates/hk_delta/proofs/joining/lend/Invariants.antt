@@ -1,5 +1,5 @@
 use Rattle.std.proofs.Common.{◌≡◌, map, take}
-use Rattle.hk_state.specs.Versions.{borrowed}
+use Rattle.hk_store.specs.Versions.{borrowed}
 use Rattle.hk_delta.proofs.joining.lend.Given as goal
 
 abbrev pub invariant-loop-version : goal.invariant-loop-version

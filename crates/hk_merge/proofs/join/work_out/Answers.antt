@@ -1,8 +1,8 @@
 use Rattle.std.proofs.Common.{◌≡◌, sym, ap, ◌∙◌, subst, map, max, length, ◌==◌, ◌&&◌, ◌||◌}
 use Rattle.hk_model.specs.Replica.Lawful.{IsLawful}
 use Rattle.hk_model.proofs.Lawful.{joined_lawful}
-use Rattle.hk_state.specs.Versions.{borrowed}
-use Rattle.hk_state.specs.Drops.{is_among}
+use Rattle.hk_store.specs.Versions.{borrowed}
+use Rattle.hk_store.specs.Drops.{is_among}
 use Rattle.hk_merge.specs.Listed.{fragment_sent}
 use Rattle.hk_merge.specs.Plans.{old_come, gone_at}
 use Rattle.hk_merge.proofs.Rising.{facts_are, come_rows, come_ends, as_many_together}

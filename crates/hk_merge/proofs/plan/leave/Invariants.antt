@@ -1,6 +1,6 @@
 use Rattle.std.proofs.Common.{◌≡◌, ◌++◌, map, take}
 use Rattle.std.specs.FinSet as set
-use Rattle.hk_state.specs.Versions.{borrowed}
+use Rattle.hk_store.specs.Versions.{borrowed}
 use Rattle.hk_merge.specs.Plans.{all_gone, rows_back, ends_back}
 use Rattle.hk_merge.proofs.plan.leave.Given as goal
 

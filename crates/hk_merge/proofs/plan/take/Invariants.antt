@@ -1,5 +1,5 @@
 use Rattle.std.proofs.Common.{◌≡◌, ◌++◌, map, take}
-use Rattle.hk_state.specs.Versions.{borrowed}
+use Rattle.hk_store.specs.Versions.{borrowed}
 use Rattle.hk_merge.specs.Plans.{rows_come, ends_come}
 use Rattle.hk_merge.proofs.plan.take.Given as goal
 

@@ -1,5 +1,5 @@
 use Rattle.std.proofs.Common.{◌≡◌, map, take}
-use Rattle.hk_state.specs.Versions.{borrowed}
+use Rattle.hk_store.specs.Versions.{borrowed}
 use Rattle.hk_merge.specs.Plans.{keys_of_rows}
 use Rattle.hk_merge.proofs.plan.with_rows.Given as goal
 

@@ -2,7 +2,7 @@ use Rattle.std.proofs.Common.{◌≡◌, sym, ap, ◌∙◌, [], ◌∷◌, ◌+
 use Rattle.std.proofs.lemmas.List.{take_more}
 use Rattle.std.proofs.lemmas.List.Elements.{filter_map-append}
 use Rattle.hk_types.specs.declared.version_key.VersionKey.{VersionKey}
-use Rattle.hk_state.specs.Reads.{with_facts}
+use Rattle.hk_store.specs.Reads.{with_facts}
 use Rattle.hk_query.specs.Rows.{rows_shown, keyed_row}
 use Rattle.hk_query.proofs.rows.shown_rows.Goals as goal
 

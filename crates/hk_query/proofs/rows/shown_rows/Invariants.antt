@@ -1,5 +1,5 @@
 use Rattle.std.proofs.Common.{◌≡◌, take}
-use Rattle.hk_state.specs.Reads.{with_facts}
+use Rattle.hk_store.specs.Reads.{with_facts}
 use Rattle.hk_query.specs.Rows.{rows_shown}
 use Rattle.hk_query.proofs.rows.shown_rows.Given as goal
 

@@ -7,8 +7,8 @@ use Rattle.hk_log.specs.Versions.{VersionValue}
 use Rattle.hk_model.specs.Replica.Fragments.{FragmentValue}
 use Rattle.hk_model.specs.History.Rows.{version_key_cmp}
 use Rattle.hk_model.specs.Replica.Streams.{StreamContent}
-use Rattle.hk_state.specs.Facts.{known_at}
-use Rattle.hk_state.specs.Reads.{facts_of_content}
+use Rattle.hk_store.specs.Facts.{known_at}
+use Rattle.hk_store.specs.Reads.{facts_of_content}
 use Rattle.hk_delta.specs.Parts.{Known, fragment_seen, fragment_fault, versions_listed}
 use Rattle.hk_delta.proofs.Sound.{listed, facts_tested}
 use Rattle.hk_delta.proofs.MergeInputs.{find_listed}

@@ -3,7 +3,7 @@ use Rattle.hk_log.specs.Items.{EntryValue}
 use Rattle.hk_log.specs.declared.item.Item.{Item}
 use Rattle.hk_log.specs.declared.item.Item.TheVariants.{Commit}
 use Rattle.hk_model.specs.History.Histories.{entries_in, last}
-use Rattle.hk_state.specs.Facts.{with_entry}
+use Rattle.hk_store.specs.Facts.{with_entry}
 use Rattle.hk_primary.specs.Log.{PrimaryValue, IsNext, IsPrimary, with_item, history_of, transaction_of}
 use Rattle.hk_primary.proofs.Kept.{counts_length, count_is, count_few, is_history, last_bound, with_next}
 use Rattle.hk_primary.proofs.Reading.{read_on-push}

@@ -3,7 +3,7 @@ use Rattle.std.specs.List.{range_with_len}
 use Rattle.hk_types.specs.Values.{ConfigValue}
 use Rattle.hk_log.specs.declared.item.Item.{Item}
 use Rattle.hk_model.specs.History.Histories.{entries_in}
-use Rattle.hk_state.specs.Facts.{FactsValue, no_facts}
+use Rattle.hk_store.specs.Facts.{FactsValue, no_facts}
 use Rattle.hk_primary.specs.Log.{IsPrimary}
 use Rattle.hk_primary.proofs.primary.Primary.starting_after.Goals as goal
 

@@ -1,8 +1,8 @@
 use Rattle.std.proofs.Common.{◌≡◌, sym, ap, ◌∙◌, subst, List, ◌∷◌, ◌++◌, []}
 use Rattle.std.specs.FinMap as finmap
+use Rattle.std.proofs.lemmas.Result.{on_ok_weaker}
 use Rattle.hk_log.specs.Items.{EntryValue}
 use Rattle.hk_log.specs.declared.item.Item.TheVariants.{Commit}
-use Rattle.hk_facts.proofs.Trees.{OnOk_map}
 use Rattle.hk_model.specs.History.Histories.{Transaction, Follows, entry_of}
 use Rattle.hk_primary.specs.Calls.{with_transaction}
 use Rattle.hk_primary.specs.Log.{PrimaryValue, IsNext, transaction_of, with_item}
@@ -25,4 +25,4 @@ add-requires c =
 pub returns-clause-ok : goal.returns-clause-ok
 returns-clause-ok c =
     let t : Transaction = record { time = c.args.time; stream = c.args.stream; writes = finmap.values c.args.txn.now.writes } in
-    OnOk_map c.add.result (λ e. e ∙ entered c.args.self.now t c.in_ok-entry.entry c.requires c.in_ok-entry.ensures) c.add.ensures.ok
+    on_ok_weaker c.add.result (λ e. e ∙ entered c.args.self.now t c.in_ok-entry.entry c.requires c.in_ok-entry.ensures) c.add.ensures.ok

@@ -1,4 +1,0 @@
-use Rattle.hk_state.proofs.facts.Facts.chain.Goals as goal
-
-pub returns-clause-none : goal.returns-clause-none
-returns-clause-none c = rw (← c.self.view_is) c.chain.ensures.none

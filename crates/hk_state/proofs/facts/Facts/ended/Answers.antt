@@ -1,4 +1,0 @@
-use Rattle.hk_state.proofs.facts.Facts.ended.Goals as goal
-
-pub returns : goal.returns
-returns c = rw (← c.self.view_is) c.ended.ensures

@@ -1,5 +1,0 @@
-use Rattle.hk_state.proofs.Indexed.{none_indexed}
-use Rattle.hk_state.proofs.facts.Facts.new.Goals as goal
-
-pub invariant_of-result : goal.invariant_of-result
-invariant_of-result c = rw (c.new.ensures, c.new-2.ensures, c.new-3.ensures) none_indexed

@@ -1,0 +1,15 @@
+pub mod Stored
+pub mod Changed
+pub mod ByTable
+pub mod Undone
+pub mod Conflicts
+pub mod Listed
+pub mod Ended
+pub mod Dropped
+pub mod Indexed
+pub mod Reading
+pub mod Counting
+pub mod Replacing
+pub mod Walking
+pub mod Picked
+pub mod SameRows

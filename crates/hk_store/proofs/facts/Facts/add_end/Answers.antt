@@ -1,0 +1,7 @@
+use Rattle.std.proofs.Common.{sym}
+use Rattle.hk_facts.specs.declared.fact.Fact.TheVariants.{End}
+use Rattle.hk_store.proofs.Undone.{put_back, none_here}
+use Rattle.hk_store.proofs.facts.Facts.add_end.Goals as goal
+
+pub returns-clause-back : goal.returns-clause-back
+returns-clause-back c = put_back c.put.result c.args.self.now c.put.new.self c.args.version.now (End c.args.died) (none_here c.end_at.result _ c.end_at.ensures (sym c.if-is_some.ensures)) c.args.journal.now.items c.note.new.journal.items c.in_ok-note.ensures.ok c.put.ensures.ok c.put.ensures.kept

@@ -1,0 +1,50 @@
+-- What the indexes of facts hold.
+use Rattle.std.specs.Prelude.{◌≡◌, ℕ, Bool, false, ◌==◌, ◌||◌, is_some, Option, Some, None}
+use Rattle.std.specs.Option.{option_map}
+use Rattle.std.specs.FinMap as finmap
+use Rattle.std.specs.FinSet as set
+use Rattle.hk_types.specs.Values.{RowValue}
+use Rattle.hk_types.specs.declared.version_key.VersionKey.{VersionKey}
+use Rattle.hk_model.specs.History.Rows.{version_key_cmp}
+use Rattle.hk_index.specs.Tagged.{tagged_cmp}
+use Rattle.hk_facts.specs.declared.fact.Fact.{Fact}
+use Rattle.hk_facts.specs.declared.fact.Fact.TheVariants.{Row, End}
+use Rattle.hk_facts.specs.declared.fact.Part.{Part}
+use Rattle.hk_facts.specs.declared.fact.Part.TheVariants.{Row as RowPart, End as EndPart, Whole}
+use Rattle.hk_store.specs.Facts.{FactsValue}
+
+-- whether there is a row, and it has this tag
+abbrev pub is_tagged : ℕ → Option RowValue → Bool
+is_tagged tag None = false
+is_tagged tag (Some row) = row.tag == tag
+
+-- whether a row of a version is known, with this tag
+abbrev pub has_tag : FactsValue → ℕ → VersionKey → Bool
+has_tag f tag v = is_tagged tag (finmap.get f.rows v)
+
+-- the index by tag has each version whose row is known, with the tag of that row, and no other
+abbrev pub AreTagged : FactsValue → set.FinSet tagged_cmp → Type 0
+AreTagged f tags = (tag : ℕ) (v : VersionKey) → set.contains tags (record { tag = tag; version = v }) ≡ has_tag f tag v
+
+-- whether a row or an end of a version is known
+abbrev pub has_fact : FactsValue → VersionKey → Bool
+has_fact f v = is_some (finmap.get f.rows v) || is_some (finmap.get f.ends v)
+
+-- the index by key has each version of which a row or an end is known, and no other
+abbrev pub AreKeyed : FactsValue → set.FinSet version_key_cmp → Type 0
+AreKeyed f keys = (v : VersionKey) → set.contains keys v ≡ has_fact f v
+
+pub record AreIndexed (f : FactsValue) (tags : set.FinSet tagged_cmp) (keys : set.FinSet version_key_cmp) : Type 0 where
+  pub tagged : AreTagged f tags
+  pub keyed : AreKeyed f keys
+
+-- nothing like this fact is known of the version
+abbrev pub IsNew : FactsValue → VersionKey → Fact → Type 0
+IsNew f v (Row row) = finmap.get f.rows v ≡ None
+IsNew f v (End died) = finmap.get f.ends v ≡ None
+
+-- the tag of the row that is taken back with a part of a version
+abbrev pub tag_lost : FactsValue → VersionKey → Part → Option ℕ
+tag_lost f v EndPart = None
+tag_lost f v RowPart = option_map (λ r. r.tag) (finmap.get f.rows v)
+tag_lost f v Whole = option_map (λ r. r.tag) (finmap.get f.rows v)

@@ -1,0 +1,7 @@
+pub mod Changes
+pub mod Drops
+pub mod Facts
+pub mod Indexed
+pub mod Journal
+pub mod Reads
+pub mod Versions

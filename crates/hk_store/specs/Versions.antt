@@ -1,0 +1,30 @@
+-- Facts as a list of versions.
+use Rattle.std.specs.Prelude.{◌≡◌, Bool, ◌||◌, ◌==◌, All, List, map, Some, is_some}
+use Rattle.std.specs.Borrow.{Bor}
+use Rattle.std.specs.List.Sorted.{IsStrictlySortedBy}
+use Rattle.hk_types.specs.Values.{same_row}
+use Rattle.hk_types.specs.declared.version_key.VersionKey.{VersionKey}
+use Rattle.hk_log.specs.Versions.{VersionValue}
+use Rattle.hk_model.specs.History.Rows.{version_key_cmp}
+use Rattle.hk_model.specs.Replica.Maps.{values_conflict}
+use Rattle.std.specs.FinMap as finmap
+use Rattle.hk_store.specs.Facts.{FactsValue, known_at}
+use Rattle.hk_store.specs.Drops.{is_among}
+
+-- a version key with what is borrowed of its version
+abbrev pub borrowed : VersionKey × Bor VersionValue → VersionKey × VersionValue
+borrowed e = (e.0, e.1.now)
+
+-- the list has each version of which anything is known, with what is known of it, in rising order
+pub record AreVersions (f : FactsValue) (versions : List (VersionKey × VersionValue)) : Type 0 where
+  pub known : All (λ e. known_at f e.0 ≡ Some e.1) versions
+  pub all : (v : VersionKey) → is_some (known_at f v) ≡ is_among (map (λ e. e.0) versions) v
+  pub rising : IsStrictlySortedBy version_key_cmp (map (λ e. e.0) versions)
+
+-- whether a version has another row, or another end, than this
+abbrev pub value_conflicts_at : FactsValue → VersionKey → VersionValue → Bool
+value_conflicts_at f v known = values_conflict same_row (finmap.get f.rows v) known.row || values_conflict (λ a b. a == b) (finmap.get f.ends v) known.died
+
+-- whether a version has another row, or another end, in the first than in the second
+abbrev pub conflict_at : FactsValue → FactsValue → VersionKey → Bool
+conflict_at f g v = values_conflict same_row (finmap.get f.rows v) (finmap.get g.rows v) || values_conflict (λ a b. a == b) (finmap.get f.ends v) (finmap.get g.ends v)

@@ -1,0 +1,22 @@
+//! Copies of facts.
+
+ghost use Rattle.std.specs.Prelude.{◌≡◌, IfOk, IfErr};
+ghost use Rattle.hk_types.specs.declared.faults.Refusal.TheVariants.{Memory};
+
+use crate::facts::Facts;
+use hk_types::Refusal;
+use std::alloc::Global;
+
+impl Facts {
+    /// The same facts again. The only refusal is `Memory`. The cost grows a little faster than the number
+    /// of facts.
+    pub fn copy(&self, alloc: Global) -> Result<Facts, Refusal>
+        ensures ok { IfOk result (λ facts. facts ≡ self.now) }
+        ensures err { IfErr result (λ why. why ≡ Memory) }
+    {
+        let tables = self.tables.copy(alloc)?;
+        let tags = self.tags.copy(alloc)?;
+        let keys = self.keys.copy(alloc)?;
+        Ok(Facts { tables, tags, keys })
+    }
+}

@@ -1,0 +1,145 @@
+//! Many facts at once, added all or none.
+
+ghost use Rattle.std.specs.Prelude.{◌≡◌, ◌++◌, ◌∷◌, [], map, OnOk, OnErr, IfErr};
+ghost use Rattle.std.specs.FinMap as finmap;
+ghost use Rattle.hk_types.specs.declared.faults.Refusal.TheVariants.{Memory};
+ghost use Rattle.hk_model.specs.Replica.Maps.{union};
+ghost use Rattle.hk_model.specs.History.Facts.{inserted_version};
+ghost use Rattle.hk_facts.specs.declared.fact.Fact.TheVariants.{Row as RowFact, End as EndFact};
+ghost use Rattle.hk_store.specs.Facts.{FactsValue, with_fact_at, with_entry};
+ghost use Rattle.hk_store.specs.Journal.{without_journal};
+
+use crate::facts::Facts;
+use hk_facts::{Fact, Part};
+use hk_log::Entry;
+use hk_types::{Key, Refusal, Row, Table, Time, VersionKey};
+use std::alloc::AllocError;
+
+pub(crate) fn note(
+    journal: &mut Vec<(VersionKey, Part)>,
+    version: &VersionKey,
+    part: Part,
+) -> Result<(), AllocError>
+    ensures ok { OnOk result (journal.new.items ≡ journal.old.items ++ (version.now, part) ∷ []) }
+    ensures err { OnErr result (journal.new.items ≡ journal.old.items) }
+{
+    journal.push((*version, part))?;
+    Ok(())
+}
+
+impl Facts {
+    /// Adds all rows and ends of an entry, where none are known. The only refusal is out of memory, and
+    /// it changes nothing. The cost grows as the number of writes times the logarithm of the number of
+    /// facts.
+    pub fn add_entry(&mut self, entry: &Entry) -> Result<(), Refusal>
+        ensures ok { OnOk result (self.new ≡ with_entry self.old entry.now) }
+        ensures err { IfErr result (λ why. why ≡ Memory) }
+        ensures kept { OnErr result (self.new ≡ self.old) }
+    {
+        let mut journal = Vec::new(self.allocator());
+        if let Err(why) = self.add_writes(&mut journal, entry) {
+            self.take_back(journal);
+            return Err(why);
+        }
+        Ok(())
+    }
+
+    /// Adds the rows and ends of an entry, each named in the journal first.
+    pub fn add_writes(
+        &mut self,
+        journal: &mut Vec<(VersionKey, Part)>,
+        entry: &Entry,
+    ) -> Result<(), Refusal>
+        ensures ok { OnOk result (self.new ≡ with_entry self.old entry.now) }
+        ensures err { IfErr result (λ why. why ≡ Memory) }
+        ensures back { without_journal journal.new.items self.new ≡ without_journal journal.old.items self.old }
+    {
+        self.add_rows(journal, entry.rows(), entry.time())?;
+        self.add_ends(journal, entry.ends(), entry.time())
+    }
+
+    fn add_rows(
+        &mut self,
+        journal: &mut Vec<(VersionKey, Part)>,
+        rows: &[(Table, Key, Row)],
+        time: Time,
+    ) -> Result<(), Refusal>
+        ensures ok { OnOk result (self.new ≡ record { rows = union self.old.rows (finmap.from_entries (map (inserted_version time) rows.now)); ends = self.old.ends }) }
+        ensures err { IfErr result (λ why. why ≡ Memory) }
+        ensures back { without_journal journal.new.items self.new ≡ without_journal journal.old.items self.old }
+    {
+        for (table, key, row) in rows {
+            let version = VersionKey {
+                table: *table,
+                key: *key,
+                born: time,
+            };
+            self.add_row(journal, &version, row)?;
+        }
+        Ok(())
+    }
+
+    fn add_ends(
+        &mut self,
+        journal: &mut Vec<(VersionKey, Part)>,
+        ends: &[VersionKey],
+        time: Time,
+    ) -> Result<(), Refusal>
+        ensures ok { OnOk result (self.new ≡ record { rows = self.old.rows; ends = union self.old.ends (finmap.from_entries (map (λ v. (v, time)) ends.now)) }) }
+        ensures err { IfErr result (λ why. why ≡ Memory) }
+        ensures back { without_journal journal.new.items self.new ≡ without_journal journal.old.items self.old }
+    {
+        for version in ends {
+            self.add_end(journal, version, time)?;
+        }
+        Ok(())
+    }
+
+    /// Adds a copy of a row where none is known, and names it in the journal first. The only refusal is
+    /// out of memory.
+    pub fn add_row(
+        &mut self,
+        journal: &mut Vec<(VersionKey, Part)>,
+        version: &VersionKey,
+        row: &Row,
+    ) -> Result<(), Refusal>
+        ensures ok { OnOk result (self.new ≡ with_fact_at self.old version.now (RowFact row.now)) }
+        ensures err { IfErr result (λ why. why ≡ Memory) }
+        ensures back { without_journal journal.new.items self.new ≡ without_journal journal.old.items self.old }
+    {
+        if self.row_at(version).is_some() {
+            return Ok(());
+        }
+        let copied = row.copy(self.allocator())?;
+        note(journal, version, Part::Row)?;
+        self.put(version, Fact::Row(copied))
+    }
+
+    /// Adds an end where none is known, and names it in the journal first. The only refusal is want of
+    /// memory.
+    pub fn add_end(
+        &mut self,
+        journal: &mut Vec<(VersionKey, Part)>,
+        version: &VersionKey,
+        died: Time,
+    ) -> Result<(), Refusal>
+        ensures ok { OnOk result (self.new ≡ with_fact_at self.old version.now (EndFact died)) }
+        ensures err { IfErr result (λ why. why ≡ Memory) }
+        ensures back { without_journal journal.new.items self.new ≡ without_journal journal.old.items self.old }
+    {
+        if self.end_at(version).is_some() {
+            return Ok(());
+        }
+        note(journal, version, Part::End)?;
+        self.put(version, Fact::End(died))
+    }
+
+    /// Takes back what a journal names, the last first. It cannot fail.
+    pub fn take_back(&mut self, mut journal: Vec<(VersionKey, Part)>)
+        ensures { self.new ≡ without_journal journal.items self.old }
+    {
+        while let Some((version, part)) = journal.pop() {
+            self.forget(&version, part);
+        }
+    }
+}

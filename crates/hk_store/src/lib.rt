@@ -1,0 +1,15 @@
+//! The facts that are held: the rows and the ends of versions.
+#![tactic(auto)]
+
+mod copy;
+mod conflicts_with_entry;
+mod drops;
+mod facts;
+mod journal;
+mod replace;
+mod shown;
+mod tables;
+mod versions;
+
+pub use facts::Facts;
+pub use versions::push_borrowed;

@@ -1,0 +1,46 @@
+//! The rows that show at a time.
+
+ghost use Rattle.std.specs.Prelude.{◌≡◌};
+ghost use Rattle.std.specs.Option.{option_copied};
+ghost use Rattle.std.specs.FinMap as finmap;
+ghost use Rattle.hk_model.specs.Replica.Answers.{visible};
+ghost use Rattle.hk_facts.specs.Chains.{latest_at, picked};
+ghost use Rattle.hk_store.specs.Reads.{with_facts, row_shown};
+
+use crate::facts::Facts;
+use hk_facts::{Chain, ended_by};
+use hk_types::{Key, Row, Table, Time, VersionKey};
+
+impl Facts {
+    /// The row at a key of a table at a time. It takes no memory. The cost grows as the logarithm of the
+    /// number of facts.
+    pub fn shown_at(&self, table: Table, key: Key, time: Time) -> Option<&Row>
+        ensures { option_copied result ≡ finmap.get (visible (with_facts self.now) time) (record { table = table; key = key }) }
+    {
+        match self.chain(table, key) {
+            Some(chain) => chain.at(time),
+            None => None,
+        }
+    }
+
+    /// The row of a version, where the version shows at a time. It takes no memory. The cost grows as the
+    /// logarithm of the number of facts.
+    pub fn row_shown(&self, version: &VersionKey, time: Time) -> Option<&Row>
+        ensures { option_copied result ≡ row_shown (with_facts self.now) time version.now }
+    {
+        match self.chain(version.table, version.key) {
+            Some(chain) => picked(chain, time, version.born),
+            None => None,
+        }
+    }
+}
+
+/// The row of the version of a chain that was born then, where it is the one that shows at a time.
+fn picked(chain: &Chain, time: Time, born: Time) -> Option<&Row>
+    ensures { option_copied result ≡ picked time born (latest_at chain.now time) }
+{
+    match chain.latest(time) {
+        Some((latest, version)) if latest == born && !ended_by(version, time) => version.row(),
+        _ => None,
+    }
+}

@@ -1,0 +1,98 @@
+//! The versions of a state's facts, one by one.
+
+ghost use Rattle.std.specs.Prelude.{◌≡◌, ◌++◌, ◌∷◌, [], IfOk, OnOk, map};
+ghost use Rattle.std.specs.Option.{option_copied};
+ghost use Rattle.std.specs.List.{list_any};
+ghost use Rattle.std.specs.Map.Iter.{ShowsInOrder, deref};
+ghost use Rattle.hk_types.specs.declared.version_key.VersionKey.{VersionKey};
+ghost use Rattle.hk_model.specs.Replica.Rules.{contents_conflict};
+ghost use Rattle.hk_store.specs.Facts.{known_at};
+ghost use Rattle.hk_store.specs.Reads.{with_facts};
+ghost use Rattle.hk_store.specs.Versions.{AreVersions, borrowed, value_conflicts_at, conflict_at};
+
+use crate::facts::Facts;
+use hk_log::Version;
+use hk_types::VersionKey;
+use std::alloc::{AllocError, Global};
+use std::collections::btree_set::Iter;
+
+impl Facts {
+    /// What is known of a version. The cost grows as the logarithm of the number of facts.
+    pub fn version(&self, version: &VersionKey) -> Option<&Version>
+        ensures { option_copied result ≡ known_at self.now version.now }
+    {
+        let chain = self.tables.chain(version.table, version.key)?;
+        chain.version(version.born)
+    }
+
+    /// All versions of which anything is known, in rising order. The only error is out of memory. The
+    /// cost grows a little faster than the number of facts.
+    pub fn versions(&self, alloc: Global) -> Result<Vec<(VersionKey, &Version)>, AllocError>
+        ensures { IfOk result (λ versions. AreVersions self.now (map borrowed versions.items)) }
+    {
+        let mut found = Vec::new(alloc);
+        for version in self.keys.iter() {
+            if let Some(known) = self.version(version) {
+                push_borrowed(&mut found, *version, known)?;
+            }
+        }
+        Ok(found)
+    }
+
+    /// Whether a version has another row, or another end, than this. It takes no memory. The cost grows as
+    /// the logarithm of the number of facts.
+    pub fn value_conflicts_at(&self, version: &VersionKey, known: &Version) -> bool
+        ensures { result ≡ value_conflicts_at self.now version.now known.now }
+    {
+        if let Some(died) = known.died()
+            && self.has_conflicting_end(version, died)
+        {
+            return true;
+        }
+        match known.row() {
+            Some(row) => self.has_conflicting_row(version, row),
+            None => false,
+        }
+    }
+
+    /// Whether some version has another row, or another end, here than there. It takes no memory. The cost
+    /// grows as the number of facts there times the logarithm of the number of facts.
+    pub fn conflicts_with(&self, other: &Facts) -> bool
+        ensures { result ≡ contents_conflict (with_facts self.now) (with_facts other.now) }
+    {
+        self.conflicts_on(other, other.keys.iter())
+    }
+
+    /// Whether one of these versions has another row, or another end, here than there.
+    fn conflicts_on(&self, other: &Facts, versions: Iter<'_, VersionKey>) -> bool
+        requires { ShowsInOrder (deref {X = VersionKey}) }
+        ensures { result ≡ list_any (conflict_at self.now other.now) versions.entry }
+    {
+        let mut versions = versions;
+        versions.any(|version| self.content_conflicts_at(other, version))
+    }
+
+    /// Whether a version has another row, or another end, here than there.
+    fn content_conflicts_at(&self, other: &Facts, version: &VersionKey) -> bool
+        ensures { result ≡ conflict_at self.now other.now version.now }
+    {
+        match other.version(version) {
+            Some(known) => self.value_conflicts_at(version, known),
+            None => false,
+        }
+    }
+}
+
+/// Adds a version to a list, with what is borrowed of it. The only error is out of memory.
+pub fn push_borrowed<'a>(
+    found: &mut Vec<(VersionKey, &'a Version)>,
+    version: VersionKey,
+    known: &'a Version,
+) -> Result<(), AllocError>
+    ensures { OnOk result (map borrowed found.new.items ≡ map borrowed found.old.items ++ (version, known.now) ∷ []) }
+{
+    match found.push((version, known)) {
+        Ok(()) => Ok(()),
+        Err(_refused) => Err(AllocError),
+    }
+}
