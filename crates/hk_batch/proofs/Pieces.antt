@@ -7,7 +7,8 @@ use Rattle.hk_types.specs.Values.{ConfigValue}
 use Rattle.hk_types.specs.declared.faults.Refusal.{Refusal}
 use Rattle.hk_log.specs.declared.item.Item.{Item}
 use Rattle.hk_model.specs.Replica.Fragments.{FragmentValue}
-use Rattle.hk_delta.specs.Unions.{IsFromZero, IsGathered}
+use Rattle.hk_fragment.specs.Merging.{IsFromZero}
+use Rattle.hk_delta.specs.Unions.{IsGathered}
 use Rattle.hk_delta.proofs.WrongLogs.{count_streams}
 use Rattle.hk_delta.proofs.Pieces.{gave}
 

@@ -21,10 +21,10 @@ use Rattle.hk_store.specs.Facts.{known_at, entry_if}
 use Rattle.hk_store.specs.Reads.{facts_of_content}
 use Rattle.hk_store.specs.Versions.{AreVersions}
 use Rattle.hk_store.proofs.Picked.{find_picked}
-use Rattle.hk_delta.specs.Parts.{Known, values_by_version, fragment_seen, follows, is_valid_row, is_valid_end, is_valid_fact, facts_fault, fragment_fault}
+use Rattle.hk_fragment.specs.Parts.{Known, values_by_version, fragment_seen, follows, is_valid_row, is_valid_end, is_valid_fact, facts_fault, fragment_fault}
 use Rattle.hk_delta.specs.Cuts.{row_above, end_above, left_above, all_left}
-use Rattle.hk_delta.proofs.Listed.{get-among}
-use Rattle.hk_delta.proofs.Sound.{AllFollow, are_facts}
+use Rattle.hk_fragment.proofs.Listed.{get-among}
+use Rattle.hk_fragment.proofs.Sound.{AllFollow, are_facts}
 
 pub if_known_is : (x y : VersionValue) → if_known x ≡ Some y → (x ≡ y) × (is_known x ≡ true)
 if_known_is x y e = by (is_known x) refl e

@@ -1,13 +1,8 @@
 pub mod Agreeing
 pub mod Conflicting
 pub mod Lefts
-pub mod Listed
 pub mod WrongLogs
-pub mod Sound
 pub mod Putting
 pub mod Wholes
 pub mod MergeInputs
-pub mod Merges
-pub mod Searches
-pub mod Unions
 pub mod Pieces

@@ -27,7 +27,8 @@ use Rattle.hk_model.proofs.Sets.{row_facts-append, end_facts-append, all_togethe
 use Rattle.hk_model.proofs.Shown.{any_In, get-key}
 use Rattle.hk_merge.proofs.Refusing.{whole_is}
 use Rattle.hk_delta.specs.Gathers.{facts_conflict, have_conflict}
-use Rattle.hk_delta.specs.Unions.{union_of, Unites, UnitesGathered}
+use Rattle.hk_fragment.specs.Merging.{union_of}
+use Rattle.hk_delta.specs.Unions.{Unites, UnitesGathered}
 use Rattle.hk_delta.proofs.Agreeing.{no_conflict, row_alike, time_alike, itself}
 use Rattle.hk_delta.proofs.WrongLogs.{wrong_log-append}
 use Rattle.hk_delta.proofs.Wholes.{whole_lawful, all_kept, gathered_ok}

@@ -27,7 +27,7 @@ use Rattle.hk_model.proofs.Gathers.{gathered_law}
 use Rattle.hk_store.specs.Facts.{FactsValue, no_facts}
 use Rattle.hk_store.specs.Reads.{facts_of_content}
 use Rattle.hk_store.specs.Versions.{AreVersions}
-use Rattle.hk_delta.specs.Parts.{Known, fragment_seen, fragment_fault}
+use Rattle.hk_fragment.specs.Parts.{Known, fragment_seen, fragment_fault}
 use Rattle.hk_delta.specs.Cuts.{all_left}
 use Rattle.hk_delta.specs.Gathers.{item_facts, all_put, have_conflict, Gathers, GathersOf}
 use Rattle.hk_delta.proofs.Agreeing.{facts_from, items_settle}

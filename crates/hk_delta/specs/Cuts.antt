@@ -13,7 +13,7 @@ use Rattle.hk_model.specs.History.Histories.{Transaction}
 use Rattle.hk_model.specs.Replica.Replicas.{Represents}
 use Rattle.hk_facts.specs.Facts.{if_known}
 use Rattle.hk_store.specs.Facts.{entry_if}
-use Rattle.hk_delta.specs.Parts.{Known}
+use Rattle.hk_fragment.specs.Parts.{Known}
 
 -- the row of a version that was born above the base
 abbrev pub row_above : ℕ → ℕ → Option RowValue → Option RowValue

@@ -1,5 +1,4 @@
 pub mod Cuts
 pub mod Gathers
 pub mod Joins
-pub mod Parts
 pub mod Unions

@@ -3,14 +3,13 @@
 
 mod conflicts;
 mod cutting;
-mod fragment;
 mod gathering;
 mod joining;
-mod merging;
 mod uniting;
 
+pub use hk_fragment::Fragment;
+
 pub use cutting::{delta_since, whole_of};
-pub use fragment::Fragment;
 pub use gathering::fragment_of;
 pub use joining::join;
 pub use uniting::union;

@@ -8,7 +8,8 @@ ghost use Rattle.hk_model.specs.Replica.Maps.{values_conflict};
 ghost use Rattle.hk_model.specs.Replica.Rules.{contents_conflict};
 ghost use Rattle.hk_store.specs.Reads.{facts_of_content};
 ghost use Rattle.hk_store.specs.Versions as versions_spec;
-ghost use Rattle.hk_delta.specs.Unions.{IsFromZero, Unites, UnitesGathered};
+ghost use Rattle.hk_fragment.specs.Merging.{IsFromZero};
+ghost use Rattle.hk_delta.specs.Unions.{Unites, UnitesGathered};
 
 use crate::Fragment;
 use hk_log::Version;

@@ -7,7 +7,7 @@ ghost use Rattle.hk_wire.specs.Replies.{reply_seen};
 ghost use Rattle.hk_lines.specs.Replies as spec;
 
 use crate::line::{Printed, put_front};
-use hk_delta::Fragment;
+use hk_fragment::Fragment;
 use hk_types::Time;
 use hk_wire::Reply;
 use std::alloc::{AllocError, Global};

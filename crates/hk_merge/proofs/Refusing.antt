@@ -111,8 +111,6 @@ module _ (c : Content) (lawful : IsLawful c) where
   pub whole_conflicts : (t : Content) → contents_conflict t c ≡ contents_conflict t (cut c 0).content
   whole_conflicts t = ap (λ (f : FragmentValue). contents_conflict t f.content) whole_is
 
-pub no_gap_at_0 : (n : ℕ) → nat_lt n 0 ≡ false
-no_gap_at_0 n = grind (arith, nat_tests)
 
 -- ---- a peer's whole
 

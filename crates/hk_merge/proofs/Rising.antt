@@ -107,8 +107,3 @@ module _ (t : Content) (f : FragmentValue) (own : FactsValue) (owns : own ≡ fa
       ∙ find-append version_key_cmp q now (ends_come own old h sent)
       ∙ (λ i. or_else ((back q ∙ ap (λ es. or_else (find version_key_cmp q es) (end_back_at t f q)) none) i) (find version_key_cmp q (ends_come (owns i) (by i) (at i) sent)))
       ∙ ap (or_else (end_back_at t f q)) (find_picked (facts_of_content f.content) (end_comes (facts_of_content t) (old_come t f) (max t.horizon f.content.horizon)) q sent are)
-
-pub as_many_together : (xs ys : List StreamContent) → length ys ≡ length xs → length (all_together xs ys) ≡ length xs
-as_many_together [] ys e = refl
-as_many_together (x ∷ xs) [] e = absurd (omega arith)
-as_many_together (x ∷ xs) (y ∷ ys) e = let rest = as_many_together xs ys (omega arith) in omega arith

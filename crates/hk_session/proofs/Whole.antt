@@ -12,7 +12,7 @@ use Rattle.hk_frames.specs.Framing.{len_of, rest_at, framed, value_of}
 use Rattle.hk_codec.specs.Frames.{frame_at}
 use Rattle.hk_wire.specs.Readers.{Reader, both, after, fault_where, mapped_value, by_kind, list_by, list_by_count, time_at}
 use Rattle.hk_wire.specs.Answers.{row_at as value_row_at}
-use Rattle.hk_delta.specs.Parts.{follows, is_valid_end}
+use Rattle.hk_fragment.specs.Parts.{follows, is_valid_end}
 use Rattle.hk_wire.specs.Fragments.{number_follows, extra_at, waiting_count_at, waiting_at, stream_of, stream_at, version_at, died_at, known_of, fact_at, least_closed_of, no_stream, bounds_at, streams_at, stream_count_at, fragment_head_at, facts_at, fragment_at}
 use Rattle.hk_wire.specs.Messages.{head_at as message_head_at, message_at}
 use Rattle.hk_wire.specs.Queries.{query_of, query_at}

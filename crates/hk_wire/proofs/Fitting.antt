@@ -22,7 +22,7 @@ use Rattle.hk_model.specs.Replica.Fragments.{FragmentValue}
 use Rattle.hk_model.proofs.Streams.{tied_counts}
 use Rattle.hk_marks.specs.Seen.{IsNumbered}
 use Rattle.hk_marks.specs.Steps.{extra_numbers}
-use Rattle.hk_delta.specs.Parts.{Known, versions_listed, follows, is_valid_row, is_valid_end, is_valid_fact, facts_fault}
+use Rattle.hk_fragment.specs.Parts.{Known, versions_listed, follows, is_valid_row, is_valid_end, is_valid_fact, facts_fault}
 use Rattle.hk_wire.specs.Readers.{Chained}
 use Rattle.hk_wire.specs.Answers.{PresentFits}
 use Rattle.hk_wire.specs.Fragments.{greatest_reached, wire_stream_of, wire_fragment_of, number_follows, least_closed_of, ExtraFits, WaitingFits, StreamFits, FactFits, PartsFit, DiedFits, KnownFits, FragmentFits}

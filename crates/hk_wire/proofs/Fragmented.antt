@@ -8,7 +8,7 @@ use Rattle.hk_types.specs.declared.version_key.VersionKey.{VersionKey}
 use Rattle.hk_types.specs.declared.faults.FormFault.{FormFault}
 use Rattle.hk_types.specs.declared.faults.FormFault.TheVariants.{BadStream, BadNumber, BadOrder}
 use Rattle.hk_log.specs.Versions.{VersionValue}
-use Rattle.hk_delta.specs.Parts.{Known, follows, is_valid_end}
+use Rattle.hk_fragment.specs.Parts.{Known, follows, is_valid_end}
 use Rattle.hk_frames.specs.Fields.{IsBytes, ◌>>=◌, number, number_at, list_at}
 use Rattle.hk_frames.proofs.Steps.{bind_ok, ok_is, neither, both as both_true, Takes, Takes-then}
 use Rattle.hk_wire.specs.Readers.{Reader, both, after, fault_where, mapped_value, by_kind, list_by_count, time_at, Chained}

@@ -10,9 +10,9 @@ use Rattle.hk_log.specs.Versions.{VersionValue}
 use Rattle.hk_model.specs.Replica.Streams.{StreamContent}
 use Rattle.hk_model.specs.Replica.Content.{least_closed}
 use Rattle.hk_model.specs.Replica.Fragments.{FragmentValue}
-use Rattle.hk_delta.specs.Parts.{Known, follows, is_valid_fact, is_valid_end, facts_fault, fragment_fault, checked_fragment, unless}
-use Rattle.hk_delta.specs.Parts as parts
-use Rattle.hk_delta.proofs.Sound.{listed}
+use Rattle.hk_fragment.specs.Parts.{Known, follows, is_valid_fact, is_valid_end, facts_fault, fragment_fault, checked_fragment, unless}
+use Rattle.hk_fragment.specs.Parts as parts
+use Rattle.hk_fragment.proofs.Sound.{listed}
 use Rattle.hk_frames.specs.Fields.{◌>>=◌, check, byte_at, number_at, list_at}
 use Rattle.hk_frames.proofs.Steps.{bind_ok, check_ok, ok_is, neither}
 use Rattle.hk_wire.specs.Readers.{Reader, both, fault_where, mapped_value, by_kind, time_at}

@@ -18,8 +18,8 @@ use Rattle.hk_model.specs.Replica.Fragments.{FragmentValue}
 use Rattle.hk_model.proofs.Maps.{version_key_total, version_key_same}
 use Rattle.hk_marks.specs.Seen.{IsNumbered}
 use Rattle.hk_marks.specs.Steps.{extra_numbers}
-use Rattle.hk_delta.specs.Parts.{known_of, versions_listed}
-use Rattle.hk_delta.proofs.Listed.{listed_of, pairs}
+use Rattle.hk_fragment.specs.Parts.{known_of, versions_listed}
+use Rattle.hk_fragment.proofs.Listed.{listed_of, pairs}
 use Rattle.hk_wire.specs.Fragments.{WireFragment, WireStream, greatest_reached, rising_numbers, wire_stream_of, wire_fragment_of}
 use Rattle.hk_wire.proofs.Streaming.{reached_there, paired, find_paired}
 

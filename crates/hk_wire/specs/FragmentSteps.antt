@@ -5,7 +5,7 @@ use Rattle.std.specs.FinSet as set
 use Rattle.hk_types.specs.declared.version_key.VersionKey.{VersionKey}
 use Rattle.hk_model.specs.Replica.Streams.{StreamContent, covers}
 use Rattle.hk_marks.specs.Seen.{up_to}
-use Rattle.hk_delta.specs.Parts.{Known}
+use Rattle.hk_fragment.specs.Parts.{Known}
 use Rattle.hk_frames.specs.Fields.{list_at}
 use Rattle.hk_wire.specs.Readers.{Reader, Chained}
 use Rattle.hk_wire.specs.Fragments.{WireStream, extra_at, waiting_at, stream_at, fact_at, no_stream, ExtraFits, WaitingFits}

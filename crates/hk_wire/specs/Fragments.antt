@@ -12,7 +12,7 @@ use Rattle.hk_log.specs.Versions.{VersionValue}
 use Rattle.hk_model.specs.Replica.Streams.{StreamContent, covers}
 use Rattle.hk_model.specs.Replica.Fragments.{FragmentValue}
 use Rattle.hk_marks.specs.Steps.{extra_numbers}
-use Rattle.hk_delta.specs.Parts.{Known, versions_listed, follows, is_valid_end}
+use Rattle.hk_fragment.specs.Parts.{Known, versions_listed, follows, is_valid_end}
 use Rattle.hk_frames.specs.Fields.{number, number_at, list_at}
 use Rattle.hk_wire.specs.Readers.{Reader, both, after, fault_where, mapped_value, by_kind, list_by_count, time_at, Chained}
 use Rattle.hk_wire.specs.Answers.{row_text, row_at, RowFits, PresentFits}

@@ -4,7 +4,7 @@ ghost use Rattle.std.specs.Prelude.{◌≡◌, ◌≤◌, ◌^◌, ◌<◌, ◌-
 ghost use Rattle.hk_frames.specs.Fields.{GivesValue, GivesOrRunsOut, Fails};
 ghost use Rattle.hk_model.specs.Replica.Streams.{stream_at, unknown};
 ghost use Rattle.hk_model.specs.Replica.Content.{least_closed};
-ghost use Rattle.hk_delta.specs.Parts as parts;
+ghost use Rattle.hk_fragment.specs.Parts as parts;
 ghost use Rattle.hk_wire.specs.Fragments as spec;
 ghost use Rattle.hk_wire.specs.FragmentSteps as steps;
 ghost use Rattle.hk_wire.specs.Requests.{whole_at};
@@ -12,7 +12,7 @@ ghost use Rattle.hk_wire.specs.Requests.{whole_at};
 use crate::answer::read_row;
 use crate::head::read_time;
 use hk_frames::{Cursor, ReadError};
-use hk_delta::Fragment;
+use hk_fragment::Fragment;
 use hk_log::Version;
 use hk_marks::Got;
 use hk_types::{Config, FormFault, Key, LAST_TIME, StreamNo, Table, Time, VersionKey};

@@ -9,7 +9,7 @@ ghost use Rattle.hk_wire.specs.Fragments.{wire_fragment_of};
 ghost use Rattle.hk_wire.specs.Requests.{RequestValue, IsRequest, request_seen, request_text, ReadsRequests};
 ghost use Rattle.hk_wire.specs.Replies.{ReplyValue, IsReply, reply_seen, reply_text, ReadsReplies};
 
-use hk_delta::Fragment;
+use hk_fragment::Fragment;
 
 /// No request has two encodings, no encoding is that of two requests, and none begins another.
 pub fn one_request_encoding()

@@ -8,7 +8,7 @@ use crate::fragment_reading::read_fragment;
 use crate::head::{read_end, read_head, read_time};
 use crate::refusal::read_refusal;
 use hk_frames::{Cursor, Framed, ReadError};
-use hk_delta::Fragment;
+use hk_fragment::Fragment;
 use hk_model::{Answer, Front};
 use hk_types::{FormFault, LAST_TIME, Refusal};
 use std::alloc::Global;

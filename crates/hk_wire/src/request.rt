@@ -8,7 +8,7 @@ use crate::head::{read_end, read_head, read_time};
 use crate::items::read_items;
 use crate::query::read_query;
 use hk_frames::{Cursor, Framed, ReadError};
-use hk_delta::Fragment;
+use hk_fragment::Fragment;
 use hk_log::Item;
 use hk_model::Query;
 use hk_types::{FormFault, Time};

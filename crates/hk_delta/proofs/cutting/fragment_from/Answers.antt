@@ -2,7 +2,7 @@ use Rattle.std.proofs.Common.{◌≡◌, ap, subst, ◌∙◌, map}
 use Rattle.hk_store.specs.Facts.{FactsValue}
 use Rattle.hk_store.specs.Reads.{facts_of_content}
 use Rattle.hk_store.specs.Versions.{AreVersions, borrowed}
-use Rattle.hk_delta.specs.Parts.{fragment_seen, fragment_fault}
+use Rattle.hk_fragment.specs.Parts.{fragment_seen, fragment_fault}
 use Rattle.hk_delta.specs.Cuts.{all_left}
 use Rattle.hk_delta.proofs.Lefts.{parts_faultless, cut_is}
 use Rattle.hk_delta.proofs.cutting.fragment_from.Goals as goal

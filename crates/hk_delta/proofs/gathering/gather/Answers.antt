@@ -2,7 +2,7 @@ use Rattle.std.proofs.Common.{sym, ap, ◌∙◌, inl, inr, Ok, map, length}
 use Rattle.std.specs.List.{flat_map}
 use Rattle.hk_store.specs.Facts.{FactsValue}
 use Rattle.hk_store.specs.Versions.{borrowed}
-use Rattle.hk_delta.specs.Parts.{fragment_seen, fragment_fault}
+use Rattle.hk_fragment.specs.Parts.{fragment_seen, fragment_fault}
 use Rattle.hk_delta.specs.Cuts.{all_left}
 use Rattle.hk_delta.specs.Gathers.{item_facts, all_put}
 use Rattle.hk_delta.proofs.WrongLogs.{count_streams}

@@ -3,7 +3,7 @@ use Rattle.std.specs.Int.{w32, w64}
 use Rattle.std.specs.List.{flat_map}
 use Rattle.hk_frames.specs.Fields.{number}
 use Rattle.hk_model.specs.Replica.Streams.{StreamContent}
-use Rattle.hk_delta.specs.Parts.{Known}
+use Rattle.hk_fragment.specs.Parts.{Known}
 use Rattle.hk_wire.specs.Fragments.{wire_stream_of, stream_text, fact_text, wire_fragment_of}
 use Rattle.hk_wire.proofs.Taking.{map_ok}
 use Rattle.hk_wire.proofs.Putting.{put_parts}

@@ -1,5 +1,0 @@
-use Rattle.hk_delta.proofs.Sound.{lawful}
-use Rattle.hk_delta.proofs.fragment.Fragment.horizon.Goals as goal
-
-pub returns-clause-lawful : goal.returns-clause-lawful
-returns-clause-lawful c = rw (← c.self.view_is) (lawful c.self.inside.config c.self.inside.base c.self.inside.horizon c.self.inside.got c.self.inside.facts.items c.self.invariant)

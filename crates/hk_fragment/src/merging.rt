@@ -1,0 +1,91 @@
+//! Two rising lists of versions, merged into one.
+
+ghost use Rattle.std.specs.Prelude.{◌≡◌, ◌≤◌, ◌<◌, ◌+◌, ◌++◌, ◌∷◌, [], None};
+ghost use Rattle.std.specs.FinMap.{find};
+ghost use Rattle.std.specs.Vec.{vec_capacity, vec_len};
+ghost use Rattle.hk_types.specs.declared.version_key.VersionKey.{VersionKey as VersionKeyValue};
+ghost use Rattle.hk_model.specs.History.Rows.{version_key_cmp};
+ghost use Rattle.hk_fragment.specs.Parts.{facts_fault};
+ghost use Rattle.hk_fragment.specs.Merging as spec;
+ghost use Rattle.hk_fragment.specs.Merging.{known_in_either, ComparesLast, TakesGreatest};
+
+use hk_log::Version;
+use hk_types::VersionKey;
+use std::cmp::Ordering;
+
+/// What two say of one version, the first where both say it.
+fn both_known(own: Version, coming: Version) -> Version
+    ensures { result ≡ spec.both_known own coming }
+{
+    let died = own.died().or(coming.died());
+    let mut known = if own.row().is_some() { own } else { coming };
+    if let Some(died) = died {
+        known.set_died(died);
+    }
+    known
+}
+
+/// How the last version of the one list compares with that of the other; a list without one comes before.
+fn compare_last(own: &[(VersionKey, Version)], coming: &[(VersionKey, Version)]) -> Option<Ordering>
+    ensures { ComparesLast own.now coming.now result }
+{
+    match (own.last(), coming.last()) {
+        (None, None) => None,
+        (None, Some(_)) => Some(Ordering::Less),
+        (Some(_), None) => Some(Ordering::Greater),
+        (Some((left, _)), Some((right, _))) => Some(left.cmp(right)),
+    }
+}
+
+/// Takes the greatest version of two lists off them.
+fn take_greatest(
+    own: &mut Vec<(VersionKey, Version)>,
+    coming: &mut Vec<(VersionKey, Version)>,
+) -> Option<(VersionKey, Version)>
+    ensures { TakesGreatest own.old.items own.new.items coming.old.items coming.new.items result }
+{
+    match compare_last(own, coming)? {
+        Ordering::Greater => own.pop(),
+        Ordering::Less => coming.pop(),
+        Ordering::Equal => {
+            let (version, known) = own.pop()?;
+            let (_version, other) = coming.pop()?;
+            Some((version, both_known(known, other)))
+        }
+    }
+}
+
+/// Adds what is known of a version to a list that has room for it.
+fn push_known(list: &mut Vec<(VersionKey, Version)>, known: (VersionKey, Version))
+    requires { vec_len list.old < vec_capacity list.old }
+    ensures items { list.new.items ≡ list.old.items ++ known ∷ [] }
+    ensures len { vec_len list.new ≡ vec_len list.old + 1 }
+    ensures room { vec_capacity list.old ≤ vec_capacity list.new }
+{
+    let pushed = list.push(known);
+    prove!(pushed.is_ok());
+}
+
+/// Merges two rising lists of versions into an empty one that has room for both. It takes no memory. The cost
+/// grows as the length of both.
+pub(crate) fn merged(
+    own: Vec<(VersionKey, Version)>,
+    coming: Vec<(VersionKey, Version)>,
+    room: Vec<(VersionKey, Version)>,
+) -> Vec<(VersionKey, Version)>
+    requires empty { room.items ≡ [] }
+    requires room { vec_len own + vec_len coming ≤ vec_capacity room }
+    requires own { facts_fault 0 0 None own.items ≡ None }
+    requires coming { facts_fault 0 0 None coming.items ≡ None }
+    ensures faultless { facts_fault 0 0 None result.items ≡ None }
+    ensures found { (v : VersionKeyValue) → find version_key_cmp v result.items ≡ known_in_either (find version_key_cmp v own.items) (find version_key_cmp v coming.items) }
+{
+    let mut own = own;
+    let mut coming = coming;
+    let mut found = room;
+    while let Some(known) = take_greatest(&mut own, &mut coming) {
+        push_known(&mut found, known);
+    }
+    found.reverse();
+    found
+}
