@@ -1,8 +1,9 @@
 #!/usr/bin/env python3
-"""Checks that the words that docs/GLOSSARY.md replaced are gone from the sources and the definitions.
+"""Checks that the words that docs/GLOSSARY.md replaced are gone from the sources and the definitions, and that the
+contracts of public functions keep within 110 columns.
 
-Looks at crates/*/src and crates/*/specs, names and comments. Prints each place where an old word stands, and at the end
-'N passed, M failed': one for each old word.
+Looks at crates/*/src and crates/*/specs, names and comments. Prints each place where an old word stands or a clause is
+too wide, and at the end 'N passed, M failed': one for each old word, and one for the clauses.
 """
 
 import pathlib
@@ -35,6 +36,10 @@ OLD = [
 ]
 
 
+# the widest line of a clause of a public function
+MOST_COLUMNS = 110
+
+
 def pieces(line):
     """The line, with each name also cut at its underscores."""
     return line.replace("_", " ")
@@ -52,6 +57,22 @@ def places(root, pattern):
                     yield "%s:%d: %s" % (path.relative_to(root), number, line.strip()[:100])
 
 
+def wide_clauses(root):
+    """The lines of clauses of public functions that are wider than 110 columns."""
+    for path in sorted(root.glob("crates/*/src/**/*.rt")):
+        is_public = False
+        depth = 0
+        for number, line in enumerate(path.read_text(encoding="utf-8").split("\n"), 1):
+            function = re.match(r"\s*(pub )?(const )?fn ", line)
+            if function:
+                is_public = bool(function.group(1))
+            starts = re.match(r"\s*(requires|ensures)\b", line)
+            if (starts or depth > 0) and is_public and len(line) > MOST_COLUMNS:
+                yield "%s:%d: %d columns" % (path.relative_to(root), number, len(line))
+            if starts or depth > 0:
+                depth += line.count("{") - line.count("}")
+
+
 def main():
     root = pathlib.Path(__file__).resolve().parent.parent
     if len(sys.argv) > 1:
@@ -63,7 +84,11 @@ def main():
         failed += bool(found)
         for place in found:
             print("FAILED old word, use %s: %s" % (instead, place))
-    print("%d passed, %d failed" % (len(OLD) - failed, failed))
+    wide = list(wide_clauses(root))
+    failed += bool(wide)
+    for place in wide:
+        print("FAILED clause too wide: %s" % place)
+    print("%d passed, %d failed" % (len(OLD) + 1 - failed, failed))
     return 1 if failed else 0
 
 

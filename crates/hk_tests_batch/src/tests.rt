@@ -4,8 +4,9 @@ mod decoding;
 
 use hk_batch::{Gate, OpenGate, build};
 use hk_delta::Fragment;
-use hk_log::{Entry, Item, Mark, Version};
-use hk_types::{Config, Key, Refusal, Row, StreamNo, Table, Tag, Time, VersionKey};
+use hk_log::{Item, Version};
+use hk_tests_values::{entry, mark};
+use hk_types::{Config, Refusal, VersionKey};
 use std::alloc::Global;
 use std::sync::atomic::AtomicU64;
 use std::sync::atomic::Ordering::SeqCst;
@@ -15,62 +16,20 @@ use std::thread;
 /// How often worker 1 looks whether worker 2 has entered.
 const TURNS: u32 = 10_000_000;
 
-/// An entry by its log, stream, number and time, with the key and the byte of the row that it puts and the key and
-/// birth of the version that it ends; 0 where there is none.
-type Written = (u64, u16, u64, u64, (u64, u8), (u64, u64));
-
-fn version(key: u64, born: u64) -> Result<VersionKey, Fail> {
-    Ok(VersionKey {
-        table: Table::new(1),
-        key: Key::new(key),
-        born: Time::new(born)?,
-    })
-}
-
-fn rows(alloc: Global, key: u64, byte: u8) -> Result<Vec<(Table, Key, Row)>, Fail> {
-    let mut rows = Vec::new(alloc);
-    if key > 0 {
-        let Ok(row) = Row::new(Tag::new(9), vec![in alloc; byte]?) else {
-            return Err(Fail::from("row"));
-        };
-        rows.push((Table::new(1), Key::new(key), row))?;
-    }
-    Ok(rows)
-}
-
-fn entry(alloc: Global, written: Written) -> Result<Item, Fail> {
-    let (log, stream, number, time, (put, byte), (ended, born)) = written;
-    let mut ends = Vec::new(alloc);
-    if ended > 0 {
-        ends.push(version(ended, born)?)?;
-    }
-    let rows = rows(alloc, put, byte)?;
-    let entry = Entry::new(
-        log,
-        StreamNo::new(stream)?,
-        number,
-        Time::new(time)?,
-        ends,
-        rows,
-    )?;
-    Ok(Item::Commit(entry))
-}
-
 /// Item 1 to 4 is an entry, 5 and 6 are the marks of both streams; 7 is like 1 with another body, 8 is of another log.
 fn item(alloc: Global, name: u8) -> Result<Item, Fail> {
-    let mark = |stream: u16| -> Result<Item, Fail> {
-        Ok(Item::Closed(Mark::new(7, StreamNo::new(stream)?, 2, Time::new(4)?)?))
+    let put = |key: u64, byte: &'static [u8]| (None, Some((key, byte)));
+    let item = match name {
+        1 => entry(alloc, 7, (1, 1, 1), put(5, &[0x41])),
+        2 => entry(alloc, 7, (2, 1, 2), put(6, &[0x42])),
+        3 => entry(alloc, 7, (1, 2, 3), (Some((5, 1)), Some((5, &[0x43])))),
+        4 => entry(alloc, 7, (2, 2, 4), (Some((6, 2)), None)),
+        5 => mark(1, 2, 4),
+        6 => mark(2, 2, 4),
+        7 => entry(alloc, 7, (1, 1, 1), put(5, &[0x99])),
+        _ => entry(alloc, 8, (1, 1, 1), put(5, &[0x41])),
     };
-    match name {
-        1 => entry(alloc, (7, 1, 1, 1, (5, 0x41), (0, 0))),
-        2 => entry(alloc, (7, 2, 1, 2, (6, 0x42), (0, 0))),
-        3 => entry(alloc, (7, 1, 2, 3, (5, 0x43), (5, 1))),
-        4 => entry(alloc, (7, 2, 2, 4, (0, 0), (6, 2))),
-        5 => mark(1),
-        6 => mark(2),
-        7 => entry(alloc, (7, 1, 1, 1, (5, 0x99), (0, 0))),
-        _ => entry(alloc, (8, 1, 1, 1, (5, 0x41), (0, 0))),
-    }
+    Ok(item?)
 }
 
 fn items(alloc: Global, names: &[u8]) -> Result<Vec<Item>, Fail> {

@@ -6,6 +6,7 @@ use hk_cli::{Links, run_push, run_serve};
 use hk_net::serve_links;
 use hk_node::{NewList, NodeName, start};
 use hk_session::Ended;
+use hk_tests_values::bytes_of;
 use hk_types::Config;
 use std::alloc::Global;
 use std::io::{ErrorKind, Read, Write};
@@ -30,17 +31,6 @@ const NO_FRONT: [u8; 22] = [
 
 /// How often a reply is looked for.
 const TURNS: u32 = 1_000_000;
-
-/// The bytes of hexadecimal digits; spaces are skipped.
-fn bytes_of(alloc: Global, text: &str) -> Result<Vec<u8>, Fail> {
-    let mut digits = String::new(alloc);
-    for digit in text.chars() {
-        if digit != ' ' {
-            digits.push(digit)?;
-        }
-    }
-    hex::decode(alloc, digits.as_str()).map_err(|_error| Fail::from("digits"))
-}
 
 /// Whether all links ended between requests.
 fn are_clean(ends: &[Ended], count: usize) -> bool {

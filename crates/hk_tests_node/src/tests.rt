@@ -3,11 +3,12 @@
 ghost use Rattle.std.specs.Prelude.{◌≡◌};
 
 use hk_delta::{Fragment, delta_since, fragment_of, join};
-use hk_log::{Entry, Item, Mark};
+use hk_log::Item;
 use hk_model::{Answer, Query};
 use hk_node::{Hold, LAST_OP, NewList, Node, NodeName, ReaderSeat, Receipt, next_op, start};
 use hk_state::ReplicaState;
-use hk_types::{Config, Key, Refusal, Row, StreamNo, Table, Tag, Time, VersionKey};
+use hk_tests_values::{entry, mark, time};
+use hk_types::{Config, Key, Refusal, Table, Time};
 use std::alloc::Global;
 use std::marker::Brand;
 use std::process::Abort;
@@ -19,49 +20,20 @@ use std::thread::Threads;
 mod rows;
 mod threads;
 
-fn time(number: u64) -> Result<Time, Fail> {
-    Ok(Time::new(number)?)
-}
-
 fn config() -> Result<Config, Fail> {
     Ok(Config::new(7, 1)?)
 }
 
-/// The entry of a number, which is its time too, puts key 5 or 6 with a body of two bytes and ends the version that was
-/// born at `over`, if any.
-fn entry(alloc: Global, number: u64, key: u64, over: u64, body: u16) -> Result<Item, Fail> {
-    let (table, key) = (Table::new(1), Key::new(key));
-    let mut ends = Vec::new(alloc);
-    if over > 0 {
-        let born = time(over)?;
-        ends.push(VersionKey { table, key, born })?;
-    }
-    let Ok(row) = Row::new(Tag::new(9), bytes_of(alloc, body)?) else {
-        return Err(Fail::from("row"));
-    };
-    let rows = vec![in alloc; (table, key, row)]?;
-    let stream = StreamNo::new(1)?;
-    Ok(Item::Commit(Entry::new(7, stream, number, time(number)?, ends, rows)?))
-}
-
-fn bytes_of(alloc: Global, body: u16) -> Result<Vec<u8>, Fail> {
-    let bytes = body.to_be_bytes();
-    Ok(Vec::from_slice(alloc, bytes.as_slice())?)
-}
-
-fn mark(count: u64) -> Result<Item, Fail> {
-    Ok(Item::Closed(Mark::new(7, StreamNo::new(1)?, count, time(count)?)?))
-}
-
 /// Items by their numbers: 1 to 3 are entries, 4 is the mark of all three, and 9 is like 1 with another body.
 fn item(alloc: Global, number: u64) -> Result<Item, Fail> {
-    match number {
-        1 => entry(alloc, 1, 5, 0, 0x41),
-        2 => entry(alloc, 2, 5, 1, 0x42),
-        3 => entry(alloc, 3, 6, 0, 0x43),
-        9 => entry(alloc, 1, 5, 0, 0x99),
-        _ => mark(3),
-    }
+    let item = match number {
+        1 => entry(alloc, 7, (1, 1, 1), (None, Some((5, &[0, 0x41])))),
+        2 => entry(alloc, 7, (1, 2, 2), (Some((5, 1)), Some((5, &[0, 0x42])))),
+        3 => entry(alloc, 7, (1, 3, 3), (None, Some((6, &[0, 0x43])))),
+        9 => entry(alloc, 7, (1, 1, 1), (None, Some((5, &[0, 0x99])))),
+        _ => mark(1, 3, 3),
+    };
+    Ok(item?)
 }
 
 fn fragment(alloc: Global, numbers: &[u64]) -> Result<Fragment, Fail> {

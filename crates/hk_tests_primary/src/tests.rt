@@ -7,25 +7,10 @@ mod worlds;
 mod writing;
 
 use hk_primary::{Primary, Txn};
-use hk_types::{Config, Key, Refusal, Row, StreamNo, Table, Tag, Time};
-use std::alloc::{AllocError, Global};
+use hk_tests_values::{row, stream, time};
+use hk_types::{Config, Key, Refusal, Row, Table};
+use std::alloc::Global;
 use std::test::Fail;
-
-fn time(number: u64) -> Result<Time, Fail> {
-    Ok(Time::new(number)?)
-}
-
-fn stream(number: u16) -> Result<StreamNo, Fail> {
-    Ok(StreamNo::new(number)?)
-}
-
-fn row(alloc: Global, byte: u8) -> Result<Row, AllocError> {
-    let body = vec![in alloc; byte]?;
-    match Row::new(Tag::new(9), body) {
-        Ok(row) => Ok(row),
-        Err(_) => Err(AllocError),
-    }
-}
 
 fn two_streams(alloc: Global) -> Result<Primary, Fail> {
     Ok(Primary::new(alloc, Config::new(7, 2)?)?)
@@ -40,7 +25,7 @@ fn write(alloc: Global, txn: &mut Txn, write: Write) -> Result<u8, Fail> {
     if byte == 0 {
         return Ok(told(txn.remove(Table::new(1), Key::new(key))));
     }
-    let row = row(alloc, byte)?;
+    let row = row(alloc, &[byte])?;
     Ok(put_told(txn.put(Table::new(1), Key::new(key), row)))
 }
 

@@ -32,28 +32,6 @@ const DONE: &str = "0000000a 01 20 0000000000000002";
 /// Refused: the input ends inside a frame.
 const CUT: &str = "00000013 01 24 01 0000000000000000 0000000000000000";
 
-/// The bytes of hexadecimal digits; spaces are skipped.
-fn bytes_of(alloc: Global, text: &str) -> Result<Vec<u8>, Fail> {
-    let mut bytes = Vec::new(alloc);
-    let mut high = None;
-    for digit in text.as_bytes() {
-        let value = match *digit {
-            b'0'..=b'9' => *digit - b'0',
-            b'a'..=b'f' => *digit - b'a' + 10,
-            _ => continue,
-        };
-        match high {
-            None => high = Some(value),
-            Some(first) => {
-                let whole: u8 = first;
-                bytes.push((whole << 4) | value)?;
-                high = None;
-            }
-        }
-    }
-    Ok(bytes)
-}
-
 /// A host over the state of log 7 with one stream that took nothing.
 fn new_host(alloc: Global) -> Result<StateHost, Fail> {
     let state = ReplicaState::new(alloc, Config::new(7, 1)?)?;

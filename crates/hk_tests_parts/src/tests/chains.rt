@@ -1,27 +1,15 @@
 //! Chains of versions.
 
 use hk_facts::{Fact, TableChains, Part};
-use hk_types::{Key, Row, Tag, Time};
-use std::alloc::{AllocError, Global};
+use hk_tests_values::{row, time};
+use hk_types::Key;
 use std::test::Fail;
-
-fn time(number: u64) -> Result<Time, Fail> {
-    Ok(Time::new(number)?)
-}
-
-fn row(alloc: Global, byte: u8) -> Result<Row, AllocError> {
-    let body = vec![in alloc; byte]?;
-    match Row::new(Tag::new(9), body) {
-        Ok(row) => Ok(row),
-        Err(_) => Err(AllocError),
-    }
-}
 
 #[test]
 fn each_key_has_its_chain(rt: HostRuntime) -> Result<(), Fail> {
     let (five, six) = (Key::new(5), Key::new(6));
-    let mut keyed = TableChains::of_fact(rt.alloc(), six, time(1)?, Fact::Row(row(rt.alloc(), 0x43)?))?;
-    keyed.put(five, time(2)?, Fact::Row(row(rt.alloc(), 0x41)?))?;
+    let mut keyed = TableChains::of_fact(rt.alloc(), six, time(1)?, Fact::Row(row(rt.alloc(), &[0x43])?))?;
+    keyed.put(five, time(2)?, Fact::Row(row(rt.alloc(), &[0x41])?))?;
     keyed.put(five, time(2)?, Fact::End(time(3)?))?;
     let copy = keyed.copy(rt.alloc())?;
     assert_eq!(rt; copy.len(), 2);

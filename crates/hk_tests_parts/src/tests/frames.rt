@@ -1,8 +1,8 @@
 //! The worked frames.
 
 use hk_codec::{decode_all, encode};
-use hk_log::{Entry, Item, Mark};
-use hk_types::{Key, Row, StreamNo, Table, Tag, Time, VersionKey};
+use hk_log::Item;
+use hk_tests_values::{entry, mark};
 use std::alloc::Global;
 use std::test::*;
 use std::thread::Threads;
@@ -32,41 +32,11 @@ const MARK_2: [u8; 32] = [
     2,
 ];
 
-fn row(alloc: Global, body: &[u8]) -> Result<Row, Fail> {
-    let body = Vec::from_slice(alloc, body)?;
-    match Row::new(Tag::new(9), body) {
-        Ok(row) => Ok(row),
-        Err((_body, fault)) => Err(fault)?,
-    }
-}
-
-/// An entry of stream 1 whose number is its time: it ends key 5, if it was born, and inserts it.
-fn entry(alloc: Global, time: u64, born: Option<u64>, body: &[u8]) -> Result<Item, Fail> {
-    let table = Table::new(1);
-    let key = Key::new(5);
-    let mut ends = Vec::new(alloc);
-    if let Some(born) = born {
-        ends.push(VersionKey {
-            table,
-            key,
-            born: Time::new(born)?,
-        })?;
-    }
-    let rows = vec![in alloc; (table, key, row(alloc, body)?)]?;
-    let entry = Entry::new(7, StreamNo::new(1)?, time, Time::new(time)?, ends, rows)?;
-    Ok(Item::Commit(entry))
-}
-
-fn mark(count: u64) -> Result<Item, Fail> {
-    let mark = Mark::new(7, StreamNo::new(1)?, count, Time::new(count)?)?;
-    Ok(Item::Closed(mark))
-}
-
 /// The items whose frames `stream` gives.
 fn worked(alloc: Global) -> Result<Vec<Item>, Fail> {
-    let second = entry(alloc, 2, Some(1), &[0x42])?;
-    let first = entry(alloc, 1, None, &[0x41])?;
-    Ok(vec![in alloc; second, first, mark(2)?]?)
+    let second = entry(alloc, 7, (1, 2, 2), (Some((5, 1)), Some((5, &[0x42]))))?;
+    let first = entry(alloc, 7, (1, 1, 1), (None, Some((5, &[0x41]))))?;
+    Ok(vec![in alloc; second, first, mark(1, 2, 2)?]?)
 }
 
 /// The frames of E2, E1 and the mark up to time 2.
@@ -81,9 +51,9 @@ fn stream(alloc: Global) -> Result<Vec<u8>, Fail> {
 fn encodes_and_reads_the_worked_frames(rt: HostRuntime) -> Result<(), Fail> {
     let alloc = rt.alloc();
     let mut bytes = Vec::new(alloc);
-    encode(&entry(alloc, 1, None, &[0x41])?, &mut bytes)?;
+    encode(&entry(alloc, 7, (1, 1, 1), (None, Some((5, &[0x41]))))?, &mut bytes)?;
     assert_eq!(rt; bytes.as_slice(), E1.as_slice());
-    encode(&mark(1)?, &mut bytes)?;
+    encode(&mark(1, 1, 1)?, &mut bytes)?;
     assert_eq!(rt; bytes.len(), 85);
     assert_eq!(rt; &bytes[53..], MARK_1.as_slice());
     let mut bytes = Vec::new(alloc);

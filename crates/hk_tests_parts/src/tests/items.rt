@@ -1,17 +1,9 @@
 //! Versions.
 
 use hk_log::Version;
-use hk_types::{Row, Tag, Time};
-use std::alloc::Global;
+use hk_tests_values::row;
+use hk_types::Time;
 use std::test::*;
-
-fn row(alloc: Global, body: &[u8]) -> Result<Row, Fail> {
-    let body = Vec::from_slice(alloc, body)?;
-    match Row::new(Tag::new(9), body) {
-        Ok(row) => Ok(row),
-        Err((_body, fault)) => Err(fault)?,
-    }
-}
 
 #[test]
 fn knows_a_row_or_an_end(rt: HostRuntime) -> Result<(), Fail> {

@@ -1,6 +1,7 @@
 //! Commits, and why they are refused.
 
-use super::{Outcome, Write, commit, time, transaction};
+use super::{Outcome, Write, commit, transaction};
+use hk_tests_values::time;
 use hk_primary::Primary;
 use hk_types::{Config, LAST_TIME};
 use std::alloc::Global;

@@ -1,8 +1,9 @@
 //! What a primary emits.
 
-use super::{commit, row, stream, time, transaction, two_streams};
+use super::{commit, transaction, two_streams};
 use hk_log::{Entry, Item};
 use hk_primary::Primary;
+use hk_tests_values::{row, stream, time};
 use hk_types::{Key, Table, VersionKey};
 use std::alloc::Global;
 use std::test::Fail;
@@ -24,7 +25,7 @@ fn entry(alloc: Global, wanted: Wanted<'_>) -> Result<Item, Fail> {
     }
     let mut rows = Vec::new(alloc);
     for (key, byte) in put {
-        rows.push((table, Key::new(*key), row(alloc, *byte)?))?;
+        rows.push((table, Key::new(*key), row(alloc, &[*byte])?))?;
     }
     let stream = stream(number_of_stream)?;
     Ok(Item::Commit(Entry::new(7, stream, number, time(at)?, ends, rows)?))

@@ -2,7 +2,8 @@
 
 ghost use Rattle.std.specs.Prelude.{◌≡◌, ◌<◌};
 
-use super::{stream, time, transaction};
+use super::transaction;
+use hk_tests_values::{stream, time};
 use hk_log::Item;
 use hk_primary::{Answer, Naming, Query, SharedPrimary, Txn};
 use hk_types::{Config, StreamNo, Table, Time};

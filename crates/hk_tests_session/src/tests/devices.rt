@@ -1,7 +1,8 @@
 //! Sessions over readers and writers that give and take few bytes, and fail.
 
-use super::{ASKED, ASKED_LEN, DONE, FIRST_LEN, SAID, bytes_of, new_host, session_over};
+use super::{ASKED, ASKED_LEN, DONE, FIRST_LEN, SAID, new_host, session_over};
 use hk_session::{Counted, serve};
+use hk_tests_values::bytes_of;
 use std::alloc::Global;
 use std::io;
 use std::io::{ErrorKind, Read, Write};

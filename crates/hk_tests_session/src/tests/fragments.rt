@@ -1,10 +1,10 @@
 //! Fragments in messages.
 
-use super::bytes_of;
 use super::messages::{fed, heard, row};
 use hk_delta::Fragment;
 use hk_log::Version;
 use hk_marks::Got;
+use hk_tests_values::bytes_of;
 use hk_types::{Config, FormFault, Key, Refusal, StreamNo, Table, Time, VersionKey};
 use hk_wire::{Reply, Request, encode_reply, encode_request};
 use std::alloc::Global;

@@ -5,8 +5,8 @@ ghost use Rattle.hk_wire.specs.declared.reply.Reply.{Reply};
 ghost use Rattle.hk_wire.specs.declared.reply.Reply.TheVariants.{Done};
 ghost use Rattle.hk_wire.specs.declared.request.Request.{Request};
 
-use super::bytes_of;
 use hk_session::{Counted, Host, serve};
+use hk_tests_values::bytes_of;
 use hk_wire::{Reply, Request};
 use std::alloc::Global;
 use std::test::*;

@@ -1,8 +1,8 @@
 //! Messages and their bytes, which are written out.
 
-use super::bytes_of;
 use hk_log::{Entry, Item, Mark};
 use hk_model::{Answer, Front, Query};
+use hk_tests_values::bytes_of;
 use hk_types::{FormFault, Key, Refusal, Row, StreamNo, Table, Tag, Time};
 use hk_wire::{Reply, ReplyFeeder, Request, RequestFeeder, encode_reply, encode_request};
 use std::alloc::Global;

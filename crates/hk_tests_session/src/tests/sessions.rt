@@ -1,6 +1,7 @@
 //! Sessions over bytes in memory.
 
-use super::{ASKED, ASKED_LEN, CUT, DONE, FIRST_LEN, SAID, bytes_of, session_over};
+use super::{ASKED, ASKED_LEN, CUT, DONE, FIRST_LEN, SAID, session_over};
+use hk_tests_values::bytes_of;
 use std::alloc::Global;
 use std::test::*;
 
