@@ -3,6 +3,7 @@
 ghost use Rattle.std.specs.Prelude.{◌≡◌, ◌≤◌, [], length, drop, IfOk};
 ghost use Rattle.hk_codec.specs.Frames.{Adds, Feeds, KeepsFault, KeepsOnMemory, rest_of, last_answer};
 
+use crate::reading::ItemFormat;
 use hk_frames::{FrameFeeder, Progress, take_frames};
 use hk_log::Item;
 use hk_types::{FormFault, Refusal};
@@ -47,7 +48,7 @@ impl Feeder {
         // Where memory runs out nothing changes.
         ensures memory { KeepsOnMemory self.old self.new out.old.items out.new.items result }
     {
-        self.frames.feed(piece, out)
+        self.frames.feed::<ItemFormat>(piece, out)
     }
 
     /// Ends the stream: the fault that was met, else `Truncated` where bytes are held, since they are cut
@@ -68,5 +69,5 @@ pub(crate) fn take_items(
     ensures used { IfOk result (λ p. p.used ≤ length bytes.now) }
     ensures read { IfOk result (λ p. Adds out.old.items out.new.items bytes.now (rest_of (drop p.used bytes.now) p.fault)) }
 {
-    take_frames(alloc, bytes, out)
+    take_frames::<ItemFormat>(alloc, bytes, out)
 }

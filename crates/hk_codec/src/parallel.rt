@@ -6,7 +6,8 @@ ghost use Rattle.hk_codec.specs.Frames.{Adds, Decodes, rest_of};
 ghost use Rattle.hk_codec.specs.Parts.{HasRead, IsPart};
 
 use crate::feeder::take_items;
-use hk_frames::{Framed, LENGTH_BYTES, Progress, length_of};
+use crate::reading::ItemFormat;
+use hk_frames::{Format, LENGTH_BYTES, Progress, length_of};
 use hk_log::Item;
 use hk_types::{FormFault, Refusal};
 use rayon::prelude::*;
@@ -38,7 +39,7 @@ fn frame_bytes(bytes: &[u8]) -> usize
         return 0;
     }
     let rest = length_of(bytes);
-    if rest > Item::MOST_BYTES || rest < Item::LEAST_BYTES || bytes.len() - LENGTH_BYTES < rest {
+    if rest > ItemFormat::MOST_BYTES || rest < ItemFormat::LEAST_BYTES || bytes.len() - LENGTH_BYTES < rest {
         return 0;
     }
     LENGTH_BYTES + rest

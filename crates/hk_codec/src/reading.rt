@@ -4,7 +4,7 @@ ghost use Rattle.hk_frames.specs.Fields.{IsBytes, GivesValue, GivesOrRunsOut};
 ghost use Rattle.hk_codec.specs.Reading as spec;
 
 use crate::lists::{read_ends, read_rows};
-use hk_frames::{Cursor, Framed, ReadError};
+use hk_frames::{Cursor, Format, ReadError};
 use hk_log::{Entry, Item, MOST_WRITES, Mark};
 use hk_types::{FormFault, Key, Row, StreamNo, Table, Time, VersionKey};
 use std::alloc::Global;
@@ -142,11 +142,16 @@ pub(crate) fn read_item(alloc: Global, rest: &[u8]) -> Result<Item, ReadError>
     Ok(item)
 }
 
-/// The least rest is a mark's. The greatest is that of an entry with 1,024 ends and 1,024 rows of full bodies.
-impl Framed for Item {
+/// The format of items. The least rest is a mark's. The greatest is that of an entry with 1,024 ends and 1,024 rows of
+/// full bodies.
+pub struct ItemFormat;
+
+impl Format for ItemFormat {
     ghost use Rattle.hk_log.specs.declared.item.Item.{Item};
     ghost use Rattle.hk_codec.specs.Encoding.{rest_text, IsEncodableItem};
     ghost use Rattle.hk_codec.specs.Reading.{item_at};
+
+    type Value = Item;
 
     ghost LEAST_BYTES = { 28 };
 

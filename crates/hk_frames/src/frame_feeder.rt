@@ -5,7 +5,7 @@ ghost use Rattle.hk_types.specs.declared.faults.FormFault.{FormFault};
 ghost use Rattle.hk_types.specs.declared.faults.Refusal.TheVariants as refusals;
 ghost use Rattle.hk_frames.specs.Framing.{IsWhole, IsFormat, AddsValues, Feeds, KeepsFault, KeepsOnMemory, rest_of, last_answer};
 
-use crate::framed::Framed;
+use crate::format::Format;
 use crate::frames::{LENGTH_BYTES, length_of, take_frames};
 use hk_types::{FormFault, Refusal};
 use std::alloc::{AllocError, Global};
@@ -46,11 +46,11 @@ impl FrameFeeder {
     /// answered once the bytes have it, after the values before it, and then permanently. Where memory runs
     /// out, which is `Memory`, the feeder and the list are as before. The cost is one pass over the
     /// frames that are whole now, and one copy of the bytes that are left.
-    pub fn feed<T: Framed>(&mut self, piece: &[u8], out: &mut Vec<T>) -> Result<(), Refusal>
-        requires { IsFormat T.LEAST_BYTES T.MOST_BYTES T.read T.rest_text T.IsEncodable }
+    pub fn feed<F: Format>(&mut self, piece: &[u8], out: &mut Vec<F::Value>) -> Result<(), Refusal>
+        requires { IsFormat F.LEAST_BYTES F.MOST_BYTES F.read F.rest_text F.IsEncodable }
         // What is held and the piece begin with the encodings of the added values. What follows them is held.
-        ensures reads { Feeds (AddsValues T.LEAST_BYTES T.MOST_BYTES T.read (λ x. T.rest_text (T.seen x))
-            (λ x. T.IsEncodable (T.seen x)))
+        ensures reads { Feeds (AddsValues F.LEAST_BYTES F.MOST_BYTES F.read (λ x. F.rest_text (F.seen x))
+            (λ x. F.IsEncodable (F.seen x)))
             self.old self.new out.old.items out.new.items piece.now result }
         // A fault stays.
         ensures fault { KeepsFault self.old self.new out.old.items out.new.items result }
@@ -62,9 +62,9 @@ impl FrameFeeder {
         }
         let count = out.len();
         let fed = if self.rest.is_empty() {
-            fresh_frames(self.alloc, &mut self.rest, piece, out)
+            fresh_frames::<F>(self.alloc, &mut self.rest, piece, out)
         } else {
-            more_frames(self.alloc, &mut self.rest, piece, out)
+            more_frames::<F>(self.alloc, &mut self.rest, piece, out)
         };
         match fed {
             Ok(None) => Ok(()),
@@ -95,37 +95,37 @@ impl FrameFeeder {
 }
 
 /// Adds the values of a piece that nothing was held before, and holds what is left of it.
-fn fresh_frames<T: Framed>(
+fn fresh_frames<F: Format>(
     alloc: Global,
     rest: &mut Vec<u8>,
     piece: &[u8],
-    out: &mut Vec<T>,
+    out: &mut Vec<F::Value>,
 ) -> Result<Option<FormFault>, AllocError>
-    requires format { IsFormat T.LEAST_BYTES T.MOST_BYTES T.read T.rest_text T.IsEncodable }
+    requires format { IsFormat F.LEAST_BYTES F.MOST_BYTES F.read F.rest_text F.IsEncodable }
     requires empty { rest.old.items ≡ [] }
-    ensures read { IfOk result (λ fault. AddsValues T.LEAST_BYTES T.MOST_BYTES T.read (λ x. T.rest_text (T.seen x)) (λ x. T.IsEncodable (T.seen x)) out.old.items out.new.items piece.now (rest_of rest.new.items fault)) }
+    ensures read { IfOk result (λ fault. AddsValues F.LEAST_BYTES F.MOST_BYTES F.read (λ x. F.rest_text (F.seen x)) (λ x. F.IsEncodable (F.seen x)) out.old.items out.new.items piece.now (rest_of rest.new.items fault)) }
     ensures kept { OnErr result (take (length out.old.items) out.new.items ≡ out.old.items) }
     ensures err { OnErr result (rest.new.items ≡ rest.old.items) }
 {
-    let progress = take_frames(alloc, piece, out)?;
+    let progress = take_frames::<F>(alloc, piece, out)?;
     rest.extend_from_slice(&piece[progress.used..])?;
     Ok(progress.fault)
 }
 
 /// Adds the values of what is held and the piece behind it, and holds what is left of them.
-fn more_frames<T: Framed>(
+fn more_frames<F: Format>(
     alloc: Global,
     rest: &mut Vec<u8>,
     piece: &[u8],
-    out: &mut Vec<T>,
+    out: &mut Vec<F::Value>,
 ) -> Result<Option<FormFault>, AllocError>
-    requires { IsFormat T.LEAST_BYTES T.MOST_BYTES T.read T.rest_text T.IsEncodable }
-    ensures read { IfOk result (λ fault. AddsValues T.LEAST_BYTES T.MOST_BYTES T.read (λ x. T.rest_text (T.seen x)) (λ x. T.IsEncodable (T.seen x)) out.old.items out.new.items (rest.old.items ++ piece.now) (rest_of rest.new.items fault)) }
+    requires { IsFormat F.LEAST_BYTES F.MOST_BYTES F.read F.rest_text F.IsEncodable }
+    ensures read { IfOk result (λ fault. AddsValues F.LEAST_BYTES F.MOST_BYTES F.read (λ x. F.rest_text (F.seen x)) (λ x. F.IsEncodable (F.seen x)) out.old.items out.new.items (rest.old.items ++ piece.now) (rest_of rest.new.items fault)) }
     ensures kept { OnErr result (take (length out.old.items) out.new.items ≡ out.old.items) }
     ensures err { OnErr result (rest.new.items ≡ rest.old.items) }
 {
     let before = rest.len();
-    let fed = topped_frames(alloc, rest, piece, out);
+    let fed = topped_frames::<F>(alloc, rest, piece, out);
     if fed.is_err() {
         rest.truncate(before);
     }
@@ -134,20 +134,20 @@ fn more_frames<T: Framed>(
 
 /// As `more_frames`, but where memory runs out what was held may have bytes of the piece behind it. Only
 /// those bytes of the piece are copied that the held frame lacks, and those that are left.
-fn topped_frames<T: Framed>(
+fn topped_frames<F: Format>(
     alloc: Global,
     rest: &mut Vec<u8>,
     piece: &[u8],
-    out: &mut Vec<T>,
+    out: &mut Vec<F::Value>,
 ) -> Result<Option<FormFault>, AllocError>
-    requires { IsFormat T.LEAST_BYTES T.MOST_BYTES T.read T.rest_text T.IsEncodable }
-    ensures read { IfOk result (λ fault. AddsValues T.LEAST_BYTES T.MOST_BYTES T.read (λ x. T.rest_text (T.seen x)) (λ x. T.IsEncodable (T.seen x)) out.old.items out.new.items (rest.old.items ++ piece.now) (rest_of rest.new.items fault)) }
+    requires { IsFormat F.LEAST_BYTES F.MOST_BYTES F.read F.rest_text F.IsEncodable }
+    ensures read { IfOk result (λ fault. AddsValues F.LEAST_BYTES F.MOST_BYTES F.read (λ x. F.rest_text (F.seen x)) (λ x. F.IsEncodable (F.seen x)) out.old.items out.new.items (rest.old.items ++ piece.now) (rest_of rest.new.items fault)) }
     ensures kept { OnErr result (take (length out.old.items) out.new.items ≡ out.old.items) }
     ensures front { OnErr result (take (length rest.old.items) rest.new.items ≡ rest.old.items) }
 {
     let (first, second) = piece.split_at(lacking(rest, piece));
     rest.extend_from_slice(first)?;
-    let progress = take_frames(alloc, rest, out)?;
+    let progress = take_frames::<F>(alloc, rest, out)?;
     if progress.fault.is_some() {
         return Ok(progress.fault);
     }
@@ -155,7 +155,7 @@ fn topped_frames<T: Framed>(
         drop_front(rest, progress.used);
         return Ok(None);
     }
-    let behind = take_frames(alloc, second, out)?;
+    let behind = take_frames::<F>(alloc, second, out)?;
     replace(rest, &second[behind.used..])?;
     Ok(behind.fault)
 }

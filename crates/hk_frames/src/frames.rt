@@ -6,7 +6,7 @@ ghost use Rattle.hk_frames.specs.Fields.{GivesValue, GivesOrRunsOut};
 ghost use Rattle.hk_frames.specs.Framing.{len_of, rest_at, framed, AddsValues, IsFormat, rest_of};
 
 use crate::cursor::ReadError;
-use crate::framed::Framed;
+use crate::format::Format;
 use hk_types::FormFault;
 use std::alloc::{AllocError, Global};
 
@@ -48,14 +48,14 @@ pub fn frame_rest(bytes: &[u8], least: usize, most: usize) -> Result<Option<&[u8
 
 /// The value at the front and how many bytes its frame has, or `None` where a whole frame isn't there.
 #[tactic(auto, unfolding(crate::specs::Framing::framed))]
-pub fn next_frame<T: Framed>(alloc: Global, bytes: &[u8]) -> Result<Option<(T, usize)>, ReadError>
-    ensures { GivesOrRunsOut (option_map (λ x. (T.seen x.0, x.1))) result
-        (framed T.LEAST_BYTES T.MOST_BYTES T.read bytes.now) }
+pub fn next_frame<F: Format>(alloc: Global, bytes: &[u8]) -> Result<Option<(F::Value, usize)>, ReadError>
+    ensures { GivesOrRunsOut (option_map (λ x. (F.seen x.0, x.1))) result
+        (framed F.LEAST_BYTES F.MOST_BYTES F.read bytes.now) }
 {
-    match frame_rest(bytes, T::LEAST_BYTES, T::MOST_BYTES)? {
+    match frame_rest(bytes, F::LEAST_BYTES, F::MOST_BYTES)? {
         None => Ok(None),
         Some(rest) => {
-            let value = T::read_rest(alloc, rest)?;
+            let value = F::read_rest(alloc, rest)?;
             Ok(Some((value, LENGTH_BYTES + rest.len())))
         }
     }
@@ -69,20 +69,20 @@ pub struct Progress {
 }
 
 /// Adds the values of the whole frames that the bytes begin with. The only error is out of memory.
-pub fn take_frames<T: Framed>(
+pub fn take_frames<F: Format>(
     alloc: Global,
     bytes: &[u8],
-    out: &mut Vec<T>,
+    out: &mut Vec<F::Value>,
 ) -> Result<Progress, AllocError>
-    requires { IsFormat T.LEAST_BYTES T.MOST_BYTES T.read T.rest_text T.IsEncodable }
+    requires { IsFormat F.LEAST_BYTES F.MOST_BYTES F.read F.rest_text F.IsEncodable }
     ensures used { IfOk result (λ p. p.used ≤ length bytes.now) }
-    ensures read { IfOk result (λ p. AddsValues T.LEAST_BYTES T.MOST_BYTES T.read
-        (λ x. T.rest_text (T.seen x)) (λ x. T.IsEncodable (T.seen x)) out.old.items out.new.items bytes.now (rest_of (drop p.used bytes.now) p.fault)) }
+    ensures read { IfOk result (λ p. AddsValues F.LEAST_BYTES F.MOST_BYTES F.read
+        (λ x. F.rest_text (F.seen x)) (λ x. F.IsEncodable (F.seen x)) out.old.items out.new.items bytes.now (rest_of (drop p.used bytes.now) p.fault)) }
     ensures kept { OnErr result (take (length out.old.items) out.new.items ≡ out.old.items) }
 {
     let mut used = 0;
     'frames: loop {
-        match next_frame::<T>(alloc, &bytes[used..]) {
+        match next_frame::<F>(alloc, &bytes[used..]) {
             Ok(Some((value, len))) => {
                 out.push(value)?;
                 used += len;

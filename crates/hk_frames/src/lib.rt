@@ -1,18 +1,18 @@
 //! Frames: a length of four bytes, the high one first, and then as many bytes, the rest.
 //!
 //! A format of frames is made of these parts: `Cursor` reads the fields of a rest, the `put_` functions write them,
-//! `Framed` says how a rest is read as a value, `next_frame` reads one frame, and `FrameFeeder` a stream of them that
+//! a `Format` says how a rest is read as a value, `next_frame` reads one frame, and `FrameFeeder` a stream of them that
 //! comes in any pieces.
 #![tactic(auto)]
 
 mod cursor;
 mod fields;
+mod format;
 mod frame_feeder;
-mod framed;
 mod frames;
 
 pub use cursor::{Cursor, ReadError};
 pub use fields::{put_body, put_u16, put_u32, put_u64};
+pub use format::Format;
 pub use frame_feeder::FrameFeeder;
-pub use framed::Framed;
 pub use frames::{LENGTH_BYTES, Progress, frame_rest, length_of, next_frame, take_frames};

@@ -6,7 +6,7 @@ ghost use Rattle.hk_types.specs.declared.faults.Refusal.TheVariants as refusals;
 ghost use Rattle.hk_frames.specs.Framing.{Feeds, KeepsFault, KeepsOnMemory, last_answer};
 ghost use Rattle.hk_wire.specs.Requests.{AddsRequests};
 
-use crate::request::Request;
+use crate::request::{Request, RequestFormat};
 use hk_frames::FrameFeeder;
 use hk_types::Refusal;
 use std::alloc::Global;
@@ -49,7 +49,7 @@ impl RequestFeeder {
         // Where memory runs out nothing changes.
         ensures memory { KeepsOnMemory self.old self.new out.old.items out.new.items result }
     {
-        self.frames.feed(piece, out)
+        self.frames.feed::<RequestFormat>(piece, out)
     }
 
     /// Ends the stream: the fault that was met, else `Truncated` where bytes are held, since they are cut

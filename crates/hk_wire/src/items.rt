@@ -8,7 +8,7 @@ ghost use Rattle.hk_codec.specs.Frames.{encoding_of};
 ghost use Rattle.hk_codec.specs.Encoding.{IsEncodableItem};
 ghost use Rattle.hk_wire.specs.Requests as spec;
 
-use hk_codec::{frame_len, put_frame};
+use hk_codec::{ItemFormat, frame_len, put_frame};
 use hk_frames::{Cursor, ReadError, next_frame, put_u32};
 use hk_log::Item;
 use hk_types::FormFault;
@@ -25,7 +25,7 @@ const LEAST_FRAME_BYTES: usize = 32;
 fn read_item_frame(alloc: Global, cursor: &mut Cursor) -> Result<Item, ReadError>
     ensures { GivesOrRunsOut (λ x. (x, cursor.new)) result (spec.item_frame_at cursor.old) }
 {
-    match next_frame::<Item>(alloc, cursor.rest())? {
+    match next_frame::<ItemFormat>(alloc, cursor.rest())? {
         None => Err(ReadError::Fault(FormFault::WrongLength)),
         Some((item, len)) => {
             cursor.bytes(len)?;

@@ -7,7 +7,7 @@ use crate::answer::read_answer;
 use crate::fragment_reading::read_fragment;
 use crate::head::{read_end, read_head, read_time};
 use crate::refusal::read_refusal;
-use hk_frames::{Cursor, Framed, ReadError};
+use hk_frames::{Cursor, Format, ReadError};
 use hk_fragment::Fragment;
 use hk_model::{Answer, Front};
 use hk_types::{FormFault, LAST_TIME, Refusal};
@@ -106,8 +106,13 @@ fn read_reply(alloc: Global, rest: &[u8]) -> Result<Reply, ReadError>
     Ok(reply)
 }
 
-impl Framed for Reply {
+/// The format of replies.
+pub(crate) struct ReplyFormat;
+
+impl Format for ReplyFormat {
     ghost use Rattle.hk_wire.specs.Replies.{ReplyValue, reply_seen, reply_at, reply_rest, IsReply};
+
+    type Value = Reply;
 
     ghost LEAST_BYTES = { 2 };
 

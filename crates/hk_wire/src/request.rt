@@ -7,7 +7,7 @@ use crate::fragment_reading::{read_fragment, read_whole};
 use crate::head::{read_end, read_head, read_time};
 use crate::items::read_items;
 use crate::query::read_query;
-use hk_frames::{Cursor, Framed, ReadError};
+use hk_frames::{Cursor, Format, ReadError};
 use hk_fragment::Fragment;
 use hk_log::Item;
 use hk_model::Query;
@@ -101,8 +101,13 @@ fn read_request(alloc: Global, rest: &[u8]) -> Result<Request, ReadError>
     Ok(request)
 }
 
-impl Framed for Request {
+/// The format of requests.
+pub(crate) struct RequestFormat;
+
+impl Format for RequestFormat {
     ghost use Rattle.hk_wire.specs.Requests.{RequestValue, request_seen, request_at, request_rest, IsRequest};
+
+    type Value = Request;
 
     ghost LEAST_BYTES = { 2 };
 

@@ -1,15 +1,18 @@
-//! Values that stand in frames.
+//! Formats of frames.
 
 use crate::cursor::ReadError;
 use hk_types::FormFault;
 use std::alloc::Global;
 
-/// A value that stands in a frame: a length of four bytes, the high one first, and then as many bytes, the
-/// rest, which encode the value.
-pub trait Framed: Drop {
+/// A format of frames: each is a length of four bytes, the high one first, and then as many bytes, the rest, which
+/// encode a value.
+pub trait Format {
     ghost use Rattle.std.specs.Prelude.{ℕ, List, Result};
     ghost use Rattle.hk_types.specs.declared.faults.FormFault.{FormFault};
     ghost use Rattle.hk_frames.specs.Fields.{GivesOrRunsOut};
+
+    /// What stands in a frame.
+    type Value: Drop;
 
     /// The fewest bytes of a rest.
     ghost LEAST_BYTES: { ℕ };
@@ -21,7 +24,7 @@ pub trait Framed: Drop {
     ghost Told: { Type 0 };
 
     /// What is told by the bytes that encode a value.
-    ghost seen: { Self → Told };
+    ghost seen: { Self.Value → Told };
 
     /// What a rest tells, or its first fault.
     ghost read: { List ℕ → Result Told FormFault };
@@ -39,6 +42,6 @@ pub trait Framed: Drop {
     const MOST_BYTES: usize;
 
     /// The value that is all of the rest, or its first fault; `Memory` where memory runs out.
-    fn read_rest(alloc: Global, rest: &[u8]) -> Result<Self, ReadError>
+    fn read_rest(alloc: Global, rest: &[u8]) -> Result<Self::Value, ReadError>
         ensures { GivesOrRunsOut seen result (read rest.now) };
 }
