@@ -2,7 +2,7 @@
 use Rattle.std.proofs.Common.{◌≡◌, ℕ, zero, suc, ◌+◌, ◌^◌, ◌<◌, ◌≤◌, Bool, true, false, cond, eqb, ltb, ◌||◌, ◌&&◌, List, [], ◌∷◌, ◌++◌, length, map, Option, Some, None, Ok, refl, sym, ap, subst, ◌∙◌, append_assoc, arith, inl, inr}
 use Rattle.std.specs.Int.{w16, w64}
 use Rattle.std.specs.List.{flat_map, list_all, AllByRecursion}
-use Rattle.std.proofs.lemmas.Bool.{ltb-false, lt-ltb}
+use Rattle.std.proofs.lemmas.Bool.{ltb-false, lt-ltb, and_from}
 use Rattle.std.proofs.lemmas.List.{append-nil, nil_from_length}
 use Rattle.std.proofs.lemmas.List.Concat.{flat_map-cons}
 use Rattle.hk_types.specs.Values.{RowValue}
@@ -18,10 +18,6 @@ use Rattle.hk_frames.proofs.Loop.{One}
 use Rattle.hk_frames.proofs.Steps.{bind_ok, check_ok, ok_is, neither, Takes, Takes-then}
 use Rattle.hk_frames.proofs.Numbers.{wide16, wide64, number_takes}
 use Rattle.hk_codec.proofs.Found.{HeadFits, head_takes, mark_takes, EndIs, end_takes, row_takes}
-
-and_true : (a b : Bool) → a ≡ true → b ≡ true → (a && b) ≡ true
-and_true true b p q = q
-and_true false b p q = absurd cc
 
 -- what a list of read elements is
 pub record ListIs {X : Type 0} (place : X → ℕ × ℕ) (text : X → List ℕ) (Fit : X → Type 0) (n : ℕ) (before : Option (ℕ × ℕ)) (bytes : List ℕ) (xs : List X) (rest : List ℕ) : Type 0 where
@@ -44,7 +40,7 @@ list_takes {X = X} place one text Fit law (suc n) before bytes x fits e =
     let second = list_takes place one text Fit law n (Some (place a.0.0)) a.0.1 b.0 first.0.rest_fits b.1 in
     let both = Takes-then bytes (text a.0.0) a.0.1 (flat_map text b.0.0) b.0.1 first.0 second.takes in
     let whole : Takes bytes (flat_map text (a.0.0 ∷ b.0.0)) b.0.1 = rw flat_map-cons both in
-    let rising : rise_after before (map place (a.0.0 ∷ b.0.0)) ≡ true = and_true _ _ first.2 second.rising in
+    let rising : rise_after before (map place (a.0.0 ∷ b.0.0)) ≡ true = and_from _ _ first.2 second.rising in
     subst (λ (y : List X × List ℕ). ListIs place text Fit (suc n) before bytes y.0 y.1) {x = (a.0.0 ∷ b.0.0, b.0.1)} (ok_is (a.0.0 ∷ b.0.0, b.0.1) x b.2)
     (record { takes = whole; len = ap suc second.len; each = (first.1, second.each); rising = rising })
 
@@ -119,7 +115,7 @@ rows_take ends bytes x fits e =
 
 all_born : (time : ℕ) (vs : List VersionKey) → AllByRecursion (EndIs time) vs → list_all (was_born time) vs ≡ true
 all_born time [] h = refl
-all_born time (v ∷ vs) h = and_true _ _ h.0.born (all_born time vs h.1)
+all_born time (v ∷ vs) h = and_from _ _ h.0.born (all_born time vs h.1)
 
 all_fit : (time : ℕ) (vs : List VersionKey) → AllByRecursion (EndIs time) vs → AllByRecursion EndFits vs
 all_fit time [] h = tt
@@ -139,7 +135,7 @@ is_entry log stream n time vs rs a b c d log_fits least most m es re =
       number_least = m.least;
       number = m.most;
       time = m.last;
-      counts = and_true _ _ (and_true _ _ e-most r-most) some;
+      counts = and_from _ _ (and_from _ _ e-most r-most) some;
       ends_rise = es.rising;
       rows_rise = re.rising;
       born = all_born time vs es.each;

@@ -1,5 +1,5 @@
 -- What a merge is handed of a fragment is the fragment, and a join of it does what is promised.
-use Rattle.std.proofs.Common.{◌≡◌, refl, sym, ap, ◌∙◌, subst, ℕ, Bool, not, ◌==◌, length, ◌++◌, ◌<◌, ◌≤◌, max, Result, Ok, Err, IfOk, IfErr, true, false, cond, ◌||◌, ◌⊎◌, inl, inr, Some, None, is_some, List, [], ◌∷◌, map, All, T}
+use Rattle.std.proofs.Common.{◌≡◌, refl, sym, ap, ◌∙◌, subst, ℕ, Bool, not, ◌==◌, length, ◌++◌, ◌<◌, ◌≤◌, max, Result, Ok, Err, IfOk, IfErr, true, false, cond, ◌||◌, ◌⊎◌, inl, inr, Some, None, is_some, List, [], ◌∷◌, map, All, T, Option}
 use Rattle.std.proofs.lemmas.List.Elements.{All-nil, All-cons}
 use Rattle.std.specs.declared.cmp.Ordering.{Ordering}
 use Rattle.std.specs.declared.cmp.Ordering.TheVariants.{Less, Equal}
@@ -69,8 +69,8 @@ pub listed_conflicts : (t c : Content) (xs : List Known) → xs ≡ versions_lis
 listed_conflicts t c xs is = ap (list_any (λ (e : Known). value_conflicts_at (facts_of_content t) e.0 e.1)) is ∙ conflict_listed (facts_of_content t) (facts_of_content c) (versions_listed c) (versions_are c)
 
 -- a fragment's log fits as its configuration does
-pub fits_by : (t : Content) (f : FragmentValue) (config : ConfigValue) (log : config.log ≡ f.content.log) (streams : length f.content.streams ≡ config.streams)
-    → cond (not (config.log == t.log)) (Some ForeignLog) (cond (not (config.streams == length t.streams)) (Some WrongStreams) None) ≡ None → wrong_log_by t f config.streams streams ≡ None
+pub fits_by : (t : Content) (f : FragmentValue) (config : ConfigValue) (log : config.log ≡ f.content.log) (streams : length f.content.streams ≡ config.streams) {r : Option Refusal}
+    → cond (not (config.log == t.log)) (Some ForeignLog) (cond (not (config.streams == length t.streams)) (Some WrongStreams) None) ≡ r → wrong_log_by t f config.streams streams ≡ r
 fits_by t f config log streams fits = ap (λ n. cond (not (n == t.log)) (Some ForeignLog) (cond (not (config.streams == length t.streams)) (Some WrongStreams) None)) (sym log) ∙ fits
 
 -- ---- parts of one history

@@ -157,13 +157,6 @@ pub fn fragment_of(alloc: Global, config: Config, items: &[Item]) -> Result<Frag
     // The items of a fragment are such as their constructors let be.
     ensures lawful { OnOk result (All IsItem items.now) }
 {
-    gathered(alloc, config, items)
-}
-
-fn gathered(alloc: Global, config: Config, items: &[Item]) -> Result<Fragment, Refusal>
-    ensures gives { Gathers config items.now result }
-    ensures lawful { OnOk result (All IsItem items.now) }
-{
     if let Some(why) = first_wrong_log(config, items) {
         return Err(why);
     }

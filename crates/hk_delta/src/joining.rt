@@ -50,12 +50,6 @@ pub fn join(target: &mut ReplicaState, fragment: &Fragment) -> Result<(), Refusa
     ensures gives { Joins target.old target.new fragment.now result }
     ensures represents { JoinsOf target.old target.new fragment.now result }
 {
-    join_fragment(target, fragment)
-}
-
-fn join_fragment(target: &mut ReplicaState, fragment: &Fragment) -> Result<(), Refusal>
-    ensures { Joins target.old target.new fragment.now result }
-{
     let config = fragment.config();
     if let Some(why) = wrong_log(target, config) {
         return Err(why);

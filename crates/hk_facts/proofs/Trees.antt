@@ -1,5 +1,5 @@
 -- A write to a stored tree, whose keys are numbers, is a write to the map that it is seen as.
-use Rattle.std.proofs.Common.{◌≡◌, refl, sym, ap, ◌∙◌, subst, ℕ, Bool, true, false, cond, Option, Some, None, List, [], ◌∷◌, ◌&&◌, T, nat_cmp, is_eq, is_lt, length, Result, Ok, Err, OnOk, OnErr, IfErr, IsSome, ◌⊎◌, inr, Less, arith}
+use Rattle.std.proofs.Common.{◌≡◌, refl, sym, ap, ◌∙◌, subst, ℕ, Bool, true, false, cond, Option, Some, None, List, [], ◌∷◌, ◌&&◌, T, nat_cmp, is_eq, is_lt, length, Result, Ok, Err, IfErr, IsSome, ◌⊎◌, inr, Less, arith}
 use Rattle.std.proofs.lemmas.Bool.Decides.{nat_tests}
 use Rattle.std.specs.Cmp.{nat_cmp_total, tied_itself, eq_by_cmp_equiv}
 use Rattle.std.specs.Ordering.{eq_by_cmp}

@@ -1,6 +1,7 @@
 -- What a delta tells.
 use Rattle.std.proofs.Common.{◌≡◌, refl, sym, ap, ◌∙◌, subst, ℕ, ◌<◌, ◌≤◌, ◌⊎◌, true, false, cond, nat_lt, arith, Ok, Err, Result, true≢false, inl, inr, MatchResult}
 use Rattle.std.proofs.lemmas.Bool.Decides.{nat_tests}
+use Rattle.std.proofs.lemmas.Bool.{lt-ltb, le-ltb}
 use Rattle.hk_types.specs.declared.faults.Refusal.{Refusal}
 use Rattle.hk_types.specs.declared.faults.Refusal.TheVariants.{TooOld, Memory}
 use Rattle.hk_model.specs.declared.told.Told.{Told}
@@ -12,19 +13,13 @@ use Rattle.hk_model.specs.World.Worlds.{ToldValue, outcome_by, delta_join}
 use Rattle.hk_model.specs.World.Worlds.ToldValue.{Refused}
 use Rattle.hk_laws.specs.Calls.{Gives, is_memory, is_first_outcome, is_memory_outcome}
 
-above : (m n : ℕ) → n ≤ m → nat_lt m n ≡ false
-above m n l = grind (arith, nat_tests)
-
-below : (m n : ℕ) → m < n → nat_lt m n ≡ true
-below m n l = grind (arith, nat_tests)
-
 -- from the horizon on it is the join of what is cut
 pub joins_cut : (a b : Content) (base : ℕ) (f : FragmentValue) → b.horizon ≤ base → f ≡ cut b base → outcome_by a (join_result a f) ≡ delta_join a b base
-joins_cut a b base f l e = ap (λ x. outcome_by a (join_result a x)) e ∙ sym (ap (λ t. cond t (Refused (TooOld b.horizon), a) (outcome_by a (join_result a (cut b base)))) (above base b.horizon l))
+joins_cut a b base f l e = ap (λ x. outcome_by a (join_result a x)) e ∙ sym (ap (λ t. cond t (Refused (TooOld b.horizon), a) (outcome_by a (join_result a (cut b base)))) (le-ltb base b.horizon l))
 
 -- below the horizon it is refused
 pub too_old : (a b : Content) (base : ℕ) → base < b.horizon → delta_join a b base ≡ (Refused (TooOld b.horizon), a)
-too_old a b base l = ap (λ t. cond t (Refused (TooOld b.horizon), a) (outcome_by a (join_result a (cut b base)))) (below base b.horizon l)
+too_old a b base l = ap (λ t. cond t (Refused (TooOld b.horizon), a) (outcome_by a (join_result a (cut b base)))) (lt-ltb base b.horizon l)
 
 -- a refused cut is told
 pub refused_cut : (a b : Content) (base : ℕ) (why : Refusal) (result : Result Told Refusal) → is_first_outcome (delta_join a b base).0 ≡ false →

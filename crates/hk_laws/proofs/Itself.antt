@@ -18,6 +18,7 @@ use Rattle.hk_model.proofs.Joins.{alike_differ, same_row_if}
 use Rattle.hk_model.proofs.Maps.{version_key_total, version_key_same, get-union, get-retain, get-without_ended, no_entry_conflict}
 use Rattle.hk_model.proofs.Repeats.{settled_itself}
 use Rattle.hk_model.proofs.Streams.{later, latest, latest-append, get-by_count, together-settled}
+use Rattle.hk_merge.proofs.Refusing.{no_gap_at_0}
 
 -- ---- streams
 
@@ -155,8 +156,5 @@ module _ (c : Content) (l : IsLawful c) where
       let log : (c.log == c.log) ≡ true = eq-eqb c.log c.log refl in
       let many : (length c.streams == length c.streams) ≡ true = eq-eqb (length c.streams) (length c.streams) refl in
       let agree : contents_conflict c (cut c 0).content ≡ false = (λ i. rows_agree i || ends_agree i) in
-      (λ i. cond (not (log i)) (Err ForeignLog) (cond (not (many i)) (Err WrongStreams) (cond (no_gap (readable c) i) (Err (Gap 0 (readable c))) (cond (agree i) (Err Conflict) (Ok (content_after_join c (cut c 0)))))))
+      (λ i. cond (not (log i)) (Err ForeignLog) (cond (not (many i)) (Err WrongStreams) (cond (no_gap_at_0 (readable c) i) (Err (Gap 0 (readable c))) (cond (agree i) (Err Conflict) (Ok (content_after_join c (cut c 0)))))))
       ∙ ap (λ d. Ok d) same_content
-    where
-      no_gap : (m : ℕ) → nat_lt m 0 ≡ false
-      no_gap m = grind (arith, nat_tests)

@@ -1,6 +1,7 @@
 -- What is expected where memory ran out.
 use Rattle.std.proofs.Common.{◌≡◌, refl, sym, ap, ◌∙◌, subst, ℕ, ◌<◌, ◌≤◌, ◌⊎◌, ltb-true, eqb-true, inl, inr, Bool, true, false, cond, not, true≢false, ◌==◌, length, nat_lt, List, [], ◌∷◌, ◌||◌, arith, Option, None, Some, Ok, Err, Result, MatchResult, OnErr}
 use Rattle.std.proofs.lemmas.Bool.Decides.{nat_tests}
+use Rattle.std.proofs.lemmas.Bool.{lt-ltb, le-ltb, eq-eqb}
 use Rattle.hk_types.specs.Values.{ConfigValue, same_row}
 use Rattle.hk_types.specs.declared.faults.Refusal.{Refusal}
 use Rattle.hk_types.specs.declared.faults.Refusal.TheVariants.{ForeignLog, WrongStreams, Gap, Conflict, TooOld, NotYet, Memory}
@@ -104,32 +105,20 @@ asked_err history t q why (Err e) early m = asked_first history t q why early m.
 
 -- ---- deltas
 
-below : (m n : ℕ) → m < n → nat_lt m n ≡ true
-below m n l = grind (arith, nat_tests)
-
-above : (m n : ℕ) → n ≤ m → nat_lt m n ≡ false
-above m n l = grind (arith, nat_tests)
-
-same_number : (m n : ℕ) → m ≡ n → (m == n) ≡ true
-same_number m n e = grind (arith, nat_tests)
-
-other_number : (m n : ℕ) → (m ≡ n → ⊥) → (m == n) ≡ false
-other_number m n e = grind (arith, nat_tests)
-
 -- where the source is of the same log, a base above the readable mark leaves a gap
 pub delta_gap : (a b : Content) (base : ℕ) → b.horizon ≤ base → a.log ≡ b.log → length a.streams ≡ length b.streams → readable a < base → delta_join a b base ≡ (Refused (Gap base (readable a)), a)
 delta_gap a b base old log streams far =
-    ap (λ t. cond t (Refused (TooOld b.horizon), a) (outcome_by a (join_result a (cut b base)))) (above base b.horizon old)
-    ∙ ap (λ t. outcome_by a (cond (not t) (Err ForeignLog) (cond (not (length b.streams == length a.streams)) (Err WrongStreams) (cond (nat_lt (readable a) base) (Err (Gap base (readable a))) (cond (contents_conflict a (cut b base).content) (Err Conflict) (Ok (content_after_join a (cut b base)))))))) (same_number b.log a.log (sym log))
-    ∙ ap (λ t. outcome_by a (cond (not t) (Err WrongStreams) (cond (nat_lt (readable a) base) (Err (Gap base (readable a))) (cond (contents_conflict a (cut b base).content) (Err Conflict) (Ok (content_after_join a (cut b base))))))) (same_number (length b.streams) (length a.streams) (sym streams))
-    ∙ ap (λ t. outcome_by a (cond t (Err (Gap base (readable a))) (cond (contents_conflict a (cut b base).content) (Err Conflict) (Ok (content_after_join a (cut b base)))))) (below (readable a) base far)
+    ap (λ t. cond t (Refused (TooOld b.horizon), a) (outcome_by a (join_result a (cut b base)))) (le-ltb base b.horizon old)
+    ∙ ap (λ t. outcome_by a (cond (not t) (Err ForeignLog) (cond (not (length b.streams == length a.streams)) (Err WrongStreams) (cond (nat_lt (readable a) base) (Err (Gap base (readable a))) (cond (contents_conflict a (cut b base).content) (Err Conflict) (Ok (content_after_join a (cut b base)))))))) (eq-eqb b.log a.log (sym log))
+    ∙ ap (λ t. outcome_by a (cond (not t) (Err WrongStreams) (cond (nat_lt (readable a) base) (Err (Gap base (readable a))) (cond (contents_conflict a (cut b base).content) (Err Conflict) (Ok (content_after_join a (cut b base))))))) (eq-eqb (length b.streams) (length a.streams) (sym streams))
+    ∙ ap (λ t. outcome_by a (cond t (Err (Gap base (readable a))) (cond (contents_conflict a (cut b base).content) (Err Conflict) (Ok (content_after_join a (cut b base)))))) (lt-ltb (readable a) base far)
 
 -- else nothing that is tested first is told, from the horizon on
 pub delta_first : (a b : Content) (base : ℕ) → b.horizon ≤ base → (a.log ≡ b.log → length a.streams ≡ length b.streams → base ≤ readable a) → is_first_outcome (delta_join a b base).0 ≡ false
 delta_first a b base old near =
-    ap (λ t. is_first_outcome (cond t (Refused (TooOld b.horizon), a) (outcome_by a (join_result a (cut b base)))).0) (above base b.horizon old)
+    ap (λ t. is_first_outcome (cond t (Refused (TooOld b.horizon), a) (outcome_by a (join_result a (cut b base)))).0) (le-ltb base b.horizon old)
     ∙ by (b.log == a.log) (length b.streams == length a.streams) (nat_lt (readable a) base) (contents_conflict a (cut b base).content)
-    (λ l s. above (readable a) base (near (sym (eqb-true b.log a.log l)) (sym (eqb-true (length b.streams) (length a.streams) s))))
+    (λ l s. le-ltb (readable a) base (near (sym (eqb-true b.log a.log l)) (sym (eqb-true (length b.streams) (length a.streams) s))))
   where
     by : (log streams gap facts_conflict : Bool) → (log ≡ true → streams ≡ true → gap ≡ false) → is_first_outcome (outcome_by a (cond (not log) (Err ForeignLog) (cond (not streams) (Err WrongStreams) (cond gap (Err (Gap base (readable a))) (cond facts_conflict (Err Conflict) (Ok (content_after_join a (cut b base)))))))).0 ≡ false
     by false streams gap facts_conflict e = refl

@@ -35,20 +35,39 @@ module _ (t : Content) (f : FragmentValue) (streams : ℕ) (as_many : length f.c
   abbrev pub wrong_log_by : Option Refusal
   wrong_log_by = cond (not (f.content.log == t.log)) (Some ForeignLog) (cond (not (streams == length t.streams)) (Some WrongStreams) None)
 
+  past_log : Result Content Refusal
+  past_log = cond (nat_lt (readable t) f.base) (Err (Gap f.base (readable t))) (cond (contents_conflict t f.content) (Err Conflict) (Ok (content_after_join t f)))
+
+  by_log : join_result t f ≡ cond (not (f.content.log == t.log)) (Err ForeignLog) (cond (not (streams == length t.streams)) (Err WrongStreams) past_log)
+  unfolding past_log
+  by_log = ap (λ n. cond (not (f.content.log == t.log)) (Err ForeignLog) (cond (not (n == length t.streams)) (Err WrongStreams) past_log)) as_many
+
+  -- what is of no such log is refused so
+  pub join_refused : (why : Refusal) → wrong_log_by ≡ Some why → Joins t t f (Err why)
+  join_refused why m = (refl, inl (by_log ∙ first (not (f.content.log == t.log)) (not (streams == length t.streams)) m))
+    where
+      first : (a b : Bool) → cond a (Some ForeignLog) (cond b (Some WrongStreams) None) ≡ Some why → cond a (Err ForeignLog) (cond b (Err WrongStreams) past_log) ≡ Err why
+      first true b e = cc
+      first false true e = cc
+      first false false e = cc
+
+  join_fit : wrong_log_by ≡ None → join_result t f ≡ past_log
+  join_fit fit = by_log ∙ first (not (f.content.log == t.log)) (not (streams == length t.streams)) fit
+    where
+      first : (a b : Bool) → ◌≡◌ {A = Option Refusal} (cond a (Some ForeignLog) (cond b (Some WrongStreams) None)) None → cond a (Err ForeignLog) (cond b (Err WrongStreams) past_log) ≡ past_log
+      first true b e = cc
+      first false true e = cc
+      first false false e = refl
+
+  -- a base above the readable mark leaves a gap
+  pub join_gap : wrong_log_by ≡ None → nat_lt (readable t) f.base ≡ true → join_result t f ≡ Err (Gap f.base (readable t))
+  unfolding past_log
+  join_gap fit gap = join_fit fit ∙ ap (λ b. cond b (Err (Gap f.base (readable t))) (cond (contents_conflict t f.content) (Err Conflict) (Ok (content_after_join t f)))) gap
+
   module _ (fit : wrong_log_by ≡ None) (no_gap : nat_lt (readable t) f.base ≡ false) where
     join_open : join_result t f ≡ cond (contents_conflict t f.content) (Err Conflict) (Ok (content_after_join t f))
-    join_open =
-        ap (λ n. cond (not (f.content.log == t.log)) (Err ForeignLog) (cond (not (n == length t.streams)) (Err WrongStreams) rest)) as_many
-        ∙ first (not (f.content.log == t.log)) (not (streams == length t.streams)) fit
-        ∙ ap (λ b. cond b (Err (Gap f.base (readable t))) (cond (contents_conflict t f.content) (Err Conflict) (Ok (content_after_join t f)))) no_gap
-      where
-        rest : Result Content Refusal
-        rest = cond (nat_lt (readable t) f.base) (Err (Gap f.base (readable t))) (cond (contents_conflict t f.content) (Err Conflict) (Ok (content_after_join t f)))
-
-        first : (a b : Bool) → ◌≡◌ {A = Option Refusal} (cond a (Some ForeignLog) (cond b (Some WrongStreams) None)) None → cond a (Err ForeignLog) (cond b (Err WrongStreams) rest) ≡ rest
-        first true b e = cc
-        first false true e = cc
-        first false false e = refl
+    unfolding past_log
+    join_open = join_fit fit ∙ ap (λ b. cond b (Err (Gap f.base (readable t))) (cond (contents_conflict t f.content) (Err Conflict) (Ok (content_after_join t f)))) no_gap
 
     pub join_conflict : contents_conflict t f.content ≡ true → join_result t f ≡ Err Conflict
     join_conflict e = join_open ∙ ap (λ b. cond b (Err Conflict) (Ok (content_after_join t f))) e

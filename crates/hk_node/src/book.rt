@@ -161,6 +161,7 @@ impl Prefix {
             × (length self.now.1 ≤ length other.now.1) }
         ensures longer { result ≡ false → IsPrefix other.now.1 self.now.1
             × (length other.now.1 < length self.now.1) }
+        ensures legal { is_legal self.now.1 ≡ true }
     {
         let mut both = self.seen.again();
         both.learn(&other.seen);

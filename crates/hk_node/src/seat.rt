@@ -112,7 +112,6 @@ fn look(copy: &Replica, prefix: &mut Prefix) -> bool
     ensures legal { is_legal prefix.new.1 ≡ true }
     ensures copy { IsTrue result → prefix.new.1 ≡ copy.now.prefix.1 }
 {
-    let _ops = prefix.len();
     if !prefix.compare(&copy.prefix) {
         return false;
     }

@@ -31,6 +31,7 @@ impl Primary {
     fn judge(&self, txn: &Txn, stream: StreamNo) -> Result<Option<Time>, Refusal>
         ensures verdict { result ≡ verdict_time (verdict_of self.now txn.now stream) }
         ensures lawful { AreWrites txn.now.writes }
+        ensures honest { IsHonest self.now }
     {
         let read_at = txn.read_at();
         if stream.number() > self.config.streams() {

@@ -1,11 +1,9 @@
 -- What absorbing an item makes of a state's parts.
-use Rattle.std.proofs.Common.{◌≡◌, refl, sym, ap, ◌∙◌, subst, ℕ, ◌<◌, ◌≤◌, Bool, true, false, cond, not, ◌||◌, ◌==◌, Option, Some, None, List, [], ◌∷◌, Result, Ok, Err, ◌⊎◌, inl, inr, OnOk, OnErr, IfOk, IfErr, nat_lt, nat_le, nat_cmp, is_le, Ordering, Less, length, arith, ltb-false, leb-false}
-use Rattle.std.proofs.lemmas.Bool.Decides.{nat_tests}
-use Rattle.std.proofs.lemmas.Bool.{or_parts}
+use Rattle.std.proofs.Common.{◌≡◌, refl, sym, ap, ◌∙◌, subst, ℕ, true, false, cond, ◌||◌, Some, None, List, [], ◌∷◌, Result, Ok, Err, inl, inr, OnOk, OnErr, IfOk, IfErr, nat_le, length, arith}
 use Rattle.std.specs.FinSet as set
 use Rattle.hk_types.specs.Values.{ConfigValue}
 use Rattle.hk_types.specs.declared.faults.Refusal.{Refusal}
-use Rattle.hk_types.specs.declared.faults.Refusal.TheVariants.{ForeignLog, WrongStreams, Conflict, Memory}
+use Rattle.hk_types.specs.declared.faults.Refusal.TheVariants.{Conflict, Memory}
 use Rattle.hk_log.specs.Items.{EntryValue, MarkValue, IsEntry, IsMark}
 use Rattle.hk_log.specs.declared.item.Item.{Item}
 use Rattle.hk_log.specs.declared.item.Item.TheVariants.{Commit, Closed}

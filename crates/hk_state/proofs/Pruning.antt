@@ -1,5 +1,5 @@
 -- What pruning makes of a state's parts.
-use Rattle.std.proofs.Common.{◌≡◌, refl, sym, ap, ◌∙◌, subst, ℕ, ◌<◌, ◌≤◌, Bool, true, false, cond, Result, Ok, Err, IsErr, IsErrAnd, List, nat_lt, nat_le, nat_cmp, is_lt, is_le, inr, arith, ltb-false, true≢false}
+use Rattle.std.proofs.Common.{◌≡◌, sym, ap, ◌∙◌, subst, ℕ, ◌≤◌, false, cond, Result, Ok, Err, IsErr, IsErrAnd, List, nat_lt, nat_le, nat_cmp, is_lt, is_le, inr, arith, ltb-false, true≢false}
 use Rattle.std.proofs.lemmas.Bool.Decides.{nat_tests}
 use Rattle.hk_types.specs.Values.{ConfigValue}
 use Rattle.hk_types.specs.declared.faults.Refusal.{Refusal}

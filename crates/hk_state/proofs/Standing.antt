@@ -1,11 +1,9 @@
 -- A state that represents items of a history goes on to.
-use Rattle.std.proofs.Common.{◌≡◌, refl, sym, ap, ◌∙◌, subst, ℕ, ◌≤◌, max, List, ◌∷◌, Result, Ok, Err, IfOk, IfErr, ◌⊎◌, inl, inr}
-use Rattle.hk_types.specs.Values.{ConfigValue}
+use Rattle.std.proofs.Common.{◌≡◌, sym, ap, ◌∙◌, subst, ℕ, max, ◌∷◌, Result, Ok, Err, inl, inr}
 use Rattle.hk_types.specs.declared.faults.Refusal.{Refusal}
 use Rattle.hk_log.specs.declared.item.Item.{Item}
 use Rattle.hk_model.specs.declared.took.Took.{Took}
-use Rattle.hk_model.specs.Replica.Content.{Content, readable}
-use Rattle.hk_model.specs.History.Histories.{Transaction, IsHistory, IsItemOf}
+use Rattle.hk_model.specs.Replica.Content.{Content}
 use Rattle.hk_model.specs.Replica.Replicas.{Represents}
 use Rattle.hk_model.proofs.Steps.{absorb_step, prune_step}
 use Rattle.hk_state.specs.Calls.{Absorbs, AbsorbsOf, Prunes, PrunesOf}

@@ -1,8 +1,8 @@
 -- The chains of a table that have a row at a time are the visible rows of the table.
-use Rattle.std.proofs.Common.{◌≡◌, refl, sym, ap, ◌∙◌, subst, ℕ, suc, Bool, true, false, cond, ◌==◌, Option, Some, None, List, [], ◌∷◌, map, filter, filter_map, length, T, Ordering, nat_cmp, ◌⊎◌, inl, inr, eqb-true, eq-eqb}
+use Rattle.std.proofs.Common.{◌≡◌, refl, sym, ap, ◌∙◌, ℕ, suc, Bool, cond, ◌==◌, Option, Some, None, List, [], ◌∷◌, map, filter, filter_map, length, T, nat_cmp, inl, inr, eqb-true, eq-eqb}
 use Rattle.std.proofs.lemmas.List.{length-map}
 use Rattle.std.proofs.lemmas.Cmp.{nat_cmp_total}
-use Rattle.std.specs.declared.cmp.Ordering.TheVariants.{Less, Equal, Greater}
+use Rattle.std.specs.declared.cmp.Ordering.TheVariants.{Less}
 use Rattle.std.specs.List.{cons_option}
 use Rattle.std.specs.Option.{option_map, is_some}
 use Rattle.std.specs.Ordering.{is_lt, ordering_then}
@@ -10,11 +10,11 @@ use Rattle.std.specs.Cmp.{tied_itself}
 use Rattle.std.specs.FinMap as finmap
 use Rattle.std.specs.FinMap.Entries.{is_sorted, below_all}
 use Rattle.hk_types.specs.Values.{RowValue}
-use Rattle.hk_model.specs.History.Rows.{RowKey, row_key_cmp, version_of}
+use Rattle.hk_model.specs.History.Rows.{RowKey, row_key_cmp}
 use Rattle.hk_model.specs.Replica.Content.{Content}
 use Rattle.hk_model.specs.Replica.Answers.{visible, rows_where}
 use Rattle.hk_model.proofs.Maps.{row_key_total, row_key_same}
-use Rattle.hk_model.proofs.Members.{In, In-map, In-find}
+use Rattle.hk_model.proofs.Members.{In, In-find}
 use Rattle.hk_model.proofs.Writes.{In_filter, filter_In}
 use Rattle.hk_model.proofs.Visible.{T_both, get_entry, less}
 use Rattle.hk_model.proofs.Listed.{Rises, sorted_from, sorted_filter, same_sorted, In-filter_map, filter_map-In, map_In_pair}

@@ -1,5 +1,5 @@
 -- What is read of a state at a time.
-use Rattle.std.specs.Prelude.{◌≡◌, ℕ, Bool, List, [], filter, length, Option, None, if◌then◌else◌, is_some}
+use Rattle.std.specs.Prelude.{ℕ, [], filter, length, Option, None, if◌then◌else◌, is_some}
 use Rattle.std.specs.FinMap as finmap
 use Rattle.hk_types.specs.Values.{RowValue}
 use Rattle.hk_types.specs.declared.version_key.VersionKey.{VersionKey}

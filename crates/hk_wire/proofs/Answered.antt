@@ -2,7 +2,7 @@
 use Rattle.std.proofs.Common.{◌≡◌, ℕ, ◌^◌, ◌<◌, ◌≤◌, Bool, true, false, not, ◌&&◌, ltb, List, [], ◌∷◌, ◌++◌, length, Option, Some, None, Ok, refl, sym, ap, ◌∙◌, append_assoc}
 use Rattle.std.specs.Int.{w16, w32, w64}
 use Rattle.std.specs.List.{flat_map, AllByRecursion}
-use Rattle.std.proofs.lemmas.Bool.{ltb-true, lt-ltb}
+use Rattle.std.proofs.lemmas.Bool.{ltb-true, lt-ltb, and_from, not-false, not_from_true}
 use Rattle.hk_types.specs.Values.{RowValue}
 use Rattle.hk_types.specs.declared.faults.FormFault.TheVariants.{BadOrder}
 use Rattle.hk_model.specs.Replica.Answers.{AnswerValue, One, Rows, Number}
@@ -13,18 +13,6 @@ use Rattle.hk_codec.proofs.Again.{body_again}
 use Rattle.hk_wire.specs.Readers.{both, by_kind, list_by_count, Chained}
 use Rattle.hk_wire.specs.Answers.{row_text, keyed_text, presence, present_text, answer_kind, answer_fields, answer_text, key_follows, keys_rise, answer_keeps_rules, RowFits, PresentFits, KeyedFits, AnswerFits, row_at, key_at, keyed_at, rows_at, present_of, answer_of, answer_at}
 use Rattle.hk_wire.proofs.Parsing.{IsField, field32, field64, both_field, barred_field, made_field, same_field, counted_field, this_or, made_takes, nothing_takes, made_again, kinded_field}
-
-and_true : (a b : Bool) → a ≡ true → b ≡ true → (a && b) ≡ true
-and_true true b p q = q
-and_true false b p q = absurd cc
-
-pub not_false : (b : Bool) → not b ≡ false → b ≡ true
-not_false true e = refl
-not_false false e = absurd cc
-
-pub true_not : (b : Bool) → b ≡ true → not b ≡ false
-true_not true e = refl
-true_not false e = absurd cc
 
 -- ---- rows
 
@@ -58,7 +46,7 @@ chained : (before : Option ℕ) (rows : List (ℕ × RowValue)) → AllByRecursi
 chained before [] h rises = tt
 chained before (e ∷ rows) h rises =
     let b = both_true (key_follows before e.0) (keys_rise (Some e.0) rows) rises in
-    (((h.0.0, true_not (key_follows before e.0) b.0), h.0.1), chained (Some e.0) rows h.1 b.1)
+    (((h.0.0, not_from_true (key_follows before e.0) b.0), h.0.1), chained (Some e.0) rows h.1 b.1)
 
 fit_each : (before : Option ℕ) (rows : List (ℕ × RowValue)) → Chained (λ (e : ℕ × RowValue). e.0) KeyFits before rows → AllByRecursion KeyedFits rows
 fit_each before [] h = tt
@@ -66,7 +54,7 @@ fit_each before (e ∷ rows) h = ((h.0.0.0, h.0.1), fit_each (Some e.0) rows h.1
 
 rise_all : (before : Option ℕ) (rows : List (ℕ × RowValue)) → Chained (λ (e : ℕ × RowValue). e.0) KeyFits before rows → keys_rise before rows ≡ true
 rise_all before [] h = refl
-rise_all before (e ∷ rows) h = and_true (key_follows before e.0) (keys_rise (Some e.0) rows) (not_false (key_follows before e.0) h.0.0.1) (rise_all (Some e.0) rows h.1)
+rise_all before (e ∷ rows) h = and_from (key_follows before e.0) (keys_rise (Some e.0) rows) (not-false (key_follows before e.0) h.0.0.1) (rise_all (Some e.0) rows h.1)
 
 abbrev AreRows : List (ℕ × RowValue) → Type 0
 AreRows rows = AllByRecursion KeyedFits rows × ((ltb (length rows) (2 ^ 32) && keys_rise None rows) ≡ true)
@@ -78,7 +66,7 @@ rows_field : IsField rows_at rows_text AreRows
 unfolding rows_at
 rows_field =
     same_field (list_by_count (λ (e : ℕ × RowValue). e.0) keyed_at) rows_text (λ rows. (length rows < 2 ^ 32) × Chained (λ (e : ℕ × RowValue). e.0) KeyFits None rows) AreRows
-    (λ rows h. (fit_each None rows h.1, and_true (ltb (length rows) (2 ^ 32)) (keys_rise None rows) (lt-ltb _ _ h.0) (rise_all None rows h.1)))
+    (λ rows h. (fit_each None rows h.1, and_from (ltb (length rows) (2 ^ 32)) (keys_rise None rows) (lt-ltb _ _ h.0) (rise_all None rows h.1)))
     (λ rows h. let b = both_true (ltb (length rows) (2 ^ 32)) (keys_rise None rows) h.1 in (ltb-true _ _ b.0, chained None rows h.0 b.1))
     (counted_field (λ (e : ℕ × RowValue). e.0) keyed_at keyed_text KeyFits keyed_field)
 

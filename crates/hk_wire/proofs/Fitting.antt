@@ -1,6 +1,6 @@
 -- What is told of a fragment fits its fields.
 use Rattle.std.proofs.Common.{◌≡◌, refl, sym, ap, ◌∙◌, ℕ, zero, suc, ◌+◌, ◌<◌, ◌≤◌, ◌^◌, Bool, true, false, cond, not, T, ◌&&◌, ◌||◌, ltb, leb, min, nat_cmp, nat_lt, is_lt, is_eq, is_some, true≢false, List, [], ◌∷◌, map, length, Option, Some, None, arith, All}
-use Rattle.std.proofs.lemmas.Bool.{ltb-true, leb-false, leb-true}
+use Rattle.std.proofs.lemmas.Bool.{ltb-true, leb-false, leb-true, not-true}
 use Rattle.std.proofs.lemmas.Bool.Decides.{nat_tests}
 use Rattle.std.proofs.lemmas.List.Elements.{All-head, All-tail}
 use Rattle.std.specs.List.{AllByRecursion}
@@ -20,6 +20,7 @@ use Rattle.hk_model.specs.Replica.Content.{least_closed}
 use Rattle.hk_model.specs.Replica.Lawful.{IsLawfulStream, IsLawfulFragment}
 use Rattle.hk_model.specs.Replica.Fragments.{FragmentValue}
 use Rattle.hk_model.proofs.Streams.{tied_counts}
+use Rattle.hk_model.proofs.Visible.{T_both}
 use Rattle.hk_marks.specs.Seen.{IsNumbered}
 use Rattle.hk_marks.specs.Steps.{extra_numbers}
 use Rattle.hk_fragment.specs.Parts.{Known, versions_listed, follows, is_valid_row, is_valid_end, is_valid_fact, facts_fault}
@@ -35,14 +36,6 @@ first false b e = e
 second : (a b : Bool) → (a && b) ≡ true → b ≡ true
 second true b e = e
 second false b e = absurd cc
-
-is_false : (b : Bool) → not b ≡ true → b ≡ false
-is_false true e = absurd cc
-is_false false e = refl
-
-T_both : (a b : Bool) → T (a && b) → T a × T b
-T_both true b h = (tt, h)
-T_both false b h = absurd h
 
 -- ---- lists in rising order
 
@@ -129,7 +122,7 @@ stream_fits s lawful is =
       extra = extras_chained (prefix_of s) None (finmap.entries (extras_of s)) (finmap.entries_sorted (extras_of s)) (none_before (finmap.entries (extras_of s))) (λ q m f.
           let told = sym (extra_told s q) ∙ sym (finmap.contains_key-keys (extras_of s) q) ∙ ap is_some (finmap.get-entries (extras_of s) q ∙ f) in
           let there = first (set.contains s.taken q) (not (covers s.taken q)) told in
-          (beyond s.taken (prefix_of s) q all law there (is_false (covers s.taken q) (second (set.contains s.taken q) (not (covers s.taken q)) told)), is.numbers q there));
+          (beyond s.taken (prefix_of s) q all law there (not-true (covers s.taken q) (second (set.contains s.taken q) (not (covers s.taken q)) told)), is.numbers q there));
       waiting = waits_chained (prefix_of s) None (finmap.entries s.waiting) (finmap.entries_sorted s.waiting) (none_before (finmap.entries s.waiting)) (λ q m f.
           let e = finmap.get-entries s.waiting q ∙ f in
           (leb-false q (prefix_of s) (sym (law q) ∙ lawful q m e), is.marks q m e));

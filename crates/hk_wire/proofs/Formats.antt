@@ -2,7 +2,7 @@
 use Rattle.std.proofs.Common.{◌≡◌, ℕ, zero, suc, ◌^◌, ◌<◌, ◌≤◌, Bool, true, false, not, ◌&&◌, eqb, ltb, leb, List, [], ◌∷◌, ◌++◌, length, take, drop, Option, Some, None, Result, Ok, refl, sym, ap, subst, ◌∙◌, arith}
 use Rattle.std.specs.Int.{w16, w32, w64}
 use Rattle.std.specs.List.{flat_map, AllByRecursion}
-use Rattle.std.proofs.lemmas.Bool.{ltb-false, le-ltb, leb-true, le-leb}
+use Rattle.std.proofs.lemmas.Bool.{ltb-false, le-ltb, leb-true, le-leb, and_from, not-false, not_from_true}
 use Rattle.std.proofs.lemmas.List.{length-append, drop_at}
 use Rattle.hk_types.specs.declared.faults.FormFault.{FormFault}
 use Rattle.hk_types.specs.declared.faults.FormFault.TheVariants.{BadNumber, BadCount, WrongLength}
@@ -23,13 +23,8 @@ use Rattle.hk_wire.specs.Messages.{message_at}
 use Rattle.hk_wire.specs.Queries.{query_kind, query_fields, query_text, QueryFits, query_of, query_at}
 use Rattle.hk_wire.specs.Requests.{RequestValue, Items, Front, Delta, Full, Ask, JoinThis, MergeThis, Prune, whole_at, frame_taken, item_frame_at, item_count_at, item_frames_at, no_place, items_at, keeps_rules, request_kind, request_body, request_rest, RequestFits, IsRequest, request_of, request_at}
 use Rattle.hk_wire.specs.Fragments.{WireFragment, fragment_text, fragment_at, FragmentFits, is_counted}
-use Rattle.hk_wire.proofs.Answered.{not_false, true_not}
 use Rattle.hk_wire.proofs.Fragmented.{fragment_field}
 use Rattle.hk_wire.proofs.Parsing.{IsField, field16, field32, field64, time_field, both_field, barred_field, same_field, listed_field, this_or, made_takes, nothing_takes, made_again, kinded_field, message_format, same_format}
-
-and_true : (a b : Bool) → a ≡ true → b ≡ true → (a && b) ≡ true
-and_true true b p q = q
-and_true false b p q = absurd cc
 
 -- ---- queries
 
@@ -97,8 +92,8 @@ whole_field : IsField whole_at fragment_text IsWhole
 unfolding whole_at
 whole_field =
     same_field (fault_where fragment_at (λ f. not (eqb f.base 0)) BadNumber) fragment_text (λ f. (FragmentFits f × (is_counted f ≡ true)) × (not (eqb f.base 0) ≡ false)) IsWhole
-    (λ f h. (h.0.0, and_true (eqb f.base 0) (is_counted f) (not_false (eqb f.base 0) h.1) h.0.1))
-    (λ f h. let b = both_true (eqb f.base 0) (is_counted f) h.1 in ((h.0, b.1), true_not (eqb f.base 0) b.0))
+    (λ f h. (h.0.0, and_from (eqb f.base 0) (is_counted f) (not-false (eqb f.base 0) h.1) h.0.1))
+    (λ f h. let b = both_true (eqb f.base 0) (is_counted f) h.1 in ((h.0, b.1), not_from_true (eqb f.base 0) b.0))
     (barred_field fragment_at (λ f. not (eqb f.base 0)) BadNumber fragment_text (λ f. FragmentFits f × (is_counted f ≡ true)) fragment_field)
 
 -- item frames
@@ -220,6 +215,6 @@ pub request_format : IsFormat 2 268435456 request_at request_rest IsRequest
 unfolding request_at request_rest
 request_format =
     same_format 2 268435456 (message_at request_of) _ (λ r. Keeps r × (leb (length (1 ∷ request_kind r ∷ request_body r)) 268435456 ≡ true)) IsRequest
-    (λ r h. (h.0.0, and_true (keeps_rules r) _ h.0.1 h.1))
+    (λ r h. (h.0.0, and_from (keeps_rules r) _ h.0.1 h.1))
     (λ r h. let b = both_true (keeps_rules r) (leb (length (1 ∷ request_kind r ∷ request_body r)) 268435456) h.1 in ((h.0, b.0), b.1))
     (message_format request_of request_kind request_body Keeps (record { takes = request_takes; again = request_again }))

@@ -2,7 +2,7 @@
 use Rattle.std.proofs.Common.{◌≡◌, ℕ, ◌+◌, ◌^◌, ◌<◌, ◌≤◌, Bool, true, false, cond, not, ◌&&◌, ◌||◌, ◌⊎◌, inl, inr, ltb, leb, eqb, List, [], ◌∷◌, ◌++◌, length, Option, Some, None, Result, Ok, Err, refl, sym, ap, subst, ◌∙◌, append_assoc, arith}
 use Rattle.std.specs.Int.{w16, w32, w64}
 use Rattle.std.specs.List.{flat_map, AllByRecursion}
-use Rattle.std.proofs.lemmas.Bool.{ltb-true, lt-ltb, ltb-false, le-ltb, leb-true, leb-false, le-leb, lt-leb, eqb-true}
+use Rattle.std.proofs.lemmas.Bool.{ltb-true, lt-ltb, ltb-false, le-ltb, leb-true, leb-false, le-leb, lt-leb, eqb-true, and_from, not-false, not_from_true}
 use Rattle.hk_types.specs.Values.{RowValue}
 use Rattle.hk_types.specs.declared.version_key.VersionKey.{VersionKey}
 use Rattle.hk_types.specs.declared.faults.FormFault.{FormFault}
@@ -15,7 +15,7 @@ use Rattle.hk_wire.specs.Readers.{Reader, both, after, fault_where, mapped_value
 use Rattle.hk_wire.specs.Answers.{row_text, row_at, RowFits}
 use Rattle.hk_wire.specs.Fragments.{WireStream, WireFragment, mark_text, extras_text, waits_text, stream_text, known_flags, known_parts, version_text, fact_text, fragment_text, number_follows, extra_at, waiting_count_at, waiting_at, stream_of, stream_at, version_at, died_at, known_of, fact_at, least_closed_of, no_stream, bounds_at, streams_at, stream_count_at, fragment_head_at, facts_at, fragment_at, ExtraFits, WaitingFits, StreamFits, VersionFits, EndFits, PartsFit, FactFits, FragmentFits, stream_is_counted, streams_are_counted, is_counted}
 use Rattle.hk_wire.proofs.Parsing.{IsField, field16, field64, time_field, both_field, barred_field, same_field, made_field, kinded_field, counted_field, many_field, this_or, made_takes, made_again}
-use Rattle.hk_wire.proofs.Answered.{row_field, not_false, true_not}
+use Rattle.hk_wire.proofs.Answered.{row_field}
 
 -- one after the other, where how the second is read depends on the first
 pub after_field : {A B : Type 0} (a : Reader A) (b : A → Reader B) (s : A → List ℕ) (t : B → List ℕ) (P : A → Type 0) (Q : A → B → Type 0) → IsField a s P → ((x : A) → IsField (b x) t (Q x)) → IsField (after a b) (λ p. s p.0 ++ t p.1) (λ p. P p.0 × Q p.0 p.1)
@@ -46,10 +46,10 @@ above a b e = leb-false b a e
 extra_there : (prefix : ℕ) (before : Option ℕ) (n : ℕ) → ((n < 2 ^ 64) × (not (number_follows before n) ≡ false)) × ((leb n (prefix + 1) || ltb (2 ^ 62) n) ≡ false) → ExtraFits prefix before n
 extra_there prefix before n h =
     let s = neither (leb n (prefix + 1)) (ltb (2 ^ 62) n) h.1 in
-    (not_false (number_follows before n) h.0.1, (above (prefix + 1) n s.0, ltb-false (2 ^ 62) n s.1))
+    (not-false (number_follows before n) h.0.1, (above (prefix + 1) n s.0, ltb-false (2 ^ 62) n s.1))
 
 extra_back : (prefix : ℕ) (before : Option ℕ) (n : ℕ) → ExtraFits prefix before n → ((n < 2 ^ 64) × (not (number_follows before n) ≡ false)) × ((leb n (prefix + 1) || ltb (2 ^ 62) n) ≡ false)
-extra_back prefix before n h = ((omega (arith, h.1.1), true_not (number_follows before n) h.0), or_false (leb n (prefix + 1)) (ltb (2 ^ 62) n) (lt-leb n (prefix + 1) h.1.0) (le-ltb (2 ^ 62) n h.1.1))
+extra_back prefix before n h = ((omega (arith, h.1.1), not_from_true (number_follows before n) h.0), or_false (leb n (prefix + 1)) (ltb (2 ^ 62) n) (lt-leb n (prefix + 1) h.1.0) (le-ltb (2 ^ 62) n h.1.1))
 
 extra_field : (prefix : ℕ) (before : Option ℕ) → IsField (extra_at prefix before) (number w64) (ExtraFits prefix before)
 unfolding extra_at
@@ -67,11 +67,11 @@ count_field prefix before =
     (barred_field (number_at w64) (λ n. not (number_follows before n)) BadOrder (number w64) (λ n. n < 2 ^ 64) field64)
 
 waiting_there : (prefix : ℕ) (before : Option ℕ) (m : ℕ × ℕ) → (IsCount prefix before m.0 × (m.1 ≤ 2 ^ 62)) × (ltb m.1 m.0 ≡ false) → WaitingFits prefix before m
-waiting_there prefix before m h = (not_false (number_follows before m.0) h.0.0.0.1, (above prefix m.0 h.0.0.1, (ltb-false m.1 m.0 h.1, h.0.1)))
+waiting_there prefix before m h = (not-false (number_follows before m.0) h.0.0.0.1, (above prefix m.0 h.0.0.1, (ltb-false m.1 m.0 h.1, h.0.1)))
 
 waiting_back : (prefix : ℕ) (before : Option ℕ) (m : ℕ × ℕ) → WaitingFits prefix before m → (IsCount prefix before m.0 × (m.1 ≤ 2 ^ 62)) × (ltb m.1 m.0 ≡ false)
 waiting_back prefix before m h =
-    ((((omega (arith, h.1.1.0, h.1.1.1), true_not (number_follows before m.0) h.0), lt-leb m.0 prefix h.1.0), h.1.1.1), le-ltb m.1 m.0 h.1.1.0)
+    ((((omega (arith, h.1.1.0, h.1.1.1), not_from_true (number_follows before m.0) h.0), lt-leb m.0 prefix h.1.0), h.1.1.1), le-ltb m.1 m.0 h.1.1.0)
 
 waiting_field : (prefix : ℕ) (before : Option ℕ) → IsField (waiting_at prefix before) mark_text (WaitingFits prefix before)
 unfolding waiting_at
@@ -135,11 +135,11 @@ name_field =
 version_there : (before : Option VersionKey) (v : VersionKey) → (IsNamed v × (not (follows before v) ≡ false)) × ((ltb v.born 1 || ltb (2 ^ 62) v.born) ≡ false) → VersionFits before v
 version_there before v h =
     let s = neither (ltb v.born 1) (ltb (2 ^ 62) v.born) h.1 in
-    (not_false (follows before v) h.0.1, (h.0.0.0, (h.0.0.1.0, (ltb-false v.born 1 s.0, ltb-false (2 ^ 62) v.born s.1))))
+    (not-false (follows before v) h.0.1, (h.0.0.0, (h.0.0.1.0, (ltb-false v.born 1 s.0, ltb-false (2 ^ 62) v.born s.1))))
 
 version_back : (before : Option VersionKey) (v : VersionKey) → VersionFits before v → (IsNamed v × (not (follows before v) ≡ false)) × ((ltb v.born 1 || ltb (2 ^ 62) v.born) ≡ false)
 version_back before v h =
-    (((h.1.0, (h.1.1.0, omega (arith, h.1.1.1.1))), true_not (follows before v) h.0), or_false (ltb v.born 1) (ltb (2 ^ 62) v.born) (le-ltb v.born 1 h.1.1.1.0) (le-ltb (2 ^ 62) v.born h.1.1.1.1))
+    (((h.1.0, (h.1.1.0, omega (arith, h.1.1.1.1))), not_from_true (follows before v) h.0), or_false (ltb v.born 1) (ltb (2 ^ 62) v.born) (le-ltb v.born 1 h.1.1.1.0) (le-ltb (2 ^ 62) v.born h.1.1.1.1))
 
 version_field : (before : Option VersionKey) → IsField (version_at before) version_text (VersionFits before)
 unfolding version_at
@@ -151,7 +151,7 @@ version_field before =
 died_field : (base horizon born : ℕ) → IsField (died_at base horizon born) (number w64) (EndFits base horizon born)
 died_field base horizon born =
     same_field (fault_where time_at (λ died. not (is_valid_end base horizon born (Some died))) BadNumber) (number w64) (λ died. (died ≤ 2 ^ 62) × (not (is_valid_end base horizon born (Some died)) ≡ false)) (EndFits base horizon born)
-    (λ died h. (h.0, not_false (is_valid_end base horizon born (Some died)) h.1)) (λ died h. (h.0, true_not (is_valid_end base horizon born (Some died)) h.1))
+    (λ died h. (h.0, not-false (is_valid_end base horizon born (Some died)) h.1)) (λ died h. (h.0, not_from_true (is_valid_end base horizon born (Some died)) h.1))
     (barred_field time_at (λ died. not (is_valid_end base horizon born (Some died))) BadNumber (number w64) (λ n. n ≤ 2 ^ 62) time_field)
 
 abbrev pub KnownFits : ℕ → ℕ → ℕ → VersionValue → Type 0
@@ -303,13 +303,9 @@ told_field =
 
 -- ---- counts apart
 
-and_true : (a b : Bool) → a ≡ true → b ≡ true → (a && b) ≡ true
-and_true true b p q = q
-and_true false b p q = absurd cc
-
 counted_there : (s : WireStream) → StreamIs s → StreamFits s × (stream_is_counted s ≡ true)
 counted_there s h =
-    (record { prefix = h.prefix; closed = h.closed; extra = h.extra.1; waiting = h.waiting.1 }, and_true (ltb (length s.extra) (2 ^ 32)) (ltb (length s.waiting) (2 ^ 32)) (lt-ltb _ _ h.extra.0) (lt-ltb _ _ h.waiting.0))
+    (record { prefix = h.prefix; closed = h.closed; extra = h.extra.1; waiting = h.waiting.1 }, and_from (ltb (length s.extra) (2 ^ 32)) (ltb (length s.waiting) (2 ^ 32)) (lt-ltb _ _ h.extra.0) (lt-ltb _ _ h.waiting.0))
 
 counted_back : (s : WireStream) → StreamFits s → stream_is_counted s ≡ true → StreamIs s
 counted_back s h c =
@@ -321,7 +317,7 @@ streams_there before [] h = (tt, refl)
 streams_there before (s ∷ streams) h =
     let first = counted_there s h.0 in
     let others = streams_there (Some tt) streams h.1 in
-    ((first.0, others.0), and_true (stream_is_counted s) (streams_are_counted streams) first.1 others.1)
+    ((first.0, others.0), and_from (stream_is_counted s) (streams_are_counted streams) first.1 others.1)
 
 streams_back : (before : Option (Unit {0})) (streams : List WireStream) → AllByRecursion StreamFits streams → streams_are_counted streams ≡ true → Chained no_stream (λ _. StreamIs) before streams
 streams_back before [] h c = tt
@@ -330,7 +326,7 @@ streams_back before (s ∷ streams) h c =
     (counted_back s h.0 b.0, streams_back (Some tt) streams h.1 b.1)
 
 base_there : (base horizon : ℕ) → not (eqb base 0 || leb horizon base) ≡ false → (base ≡ 0) ⊎ (horizon ≤ base)
-base_there base horizon e = by (eqb base 0) refl (not_false (eqb base 0 || leb horizon base) e)
+base_there base horizon e = by (eqb base 0) refl (not-false (eqb base 0 || leb horizon base) e)
   where
     by : (b : Bool) → eqb base 0 ≡ b → (b || leb horizon base) ≡ true → (base ≡ 0) ⊎ (horizon ≤ base)
     by true t f = inl (eqb-true base 0 t)
@@ -338,7 +334,7 @@ base_there base horizon e = by (eqb base 0) refl (not_false (eqb base 0 || leb h
 
 base_back : (base horizon : ℕ) → (base ≡ 0) ⊎ (horizon ≤ base) → not (eqb base 0 || leb horizon base) ≡ false
 base_back base horizon (inl is) = ap (λ (b : ℕ). not (eqb b 0 || leb horizon b)) is
-base_back base horizon (inr le) = true_not (eqb base 0 || leb horizon base) (or_true (eqb base 0) (leb horizon base) (le-leb horizon base le))
+base_back base horizon (inr le) = not_from_true (eqb base 0 || leb horizon base) (or_true (eqb base 0) (leb horizon base) (le-leb horizon base le))
   where
     or_true : (a b : Bool) → b ≡ true → (a || b) ≡ true
     or_true true b e = refl
@@ -361,7 +357,7 @@ fragment_field =
         streams = s.0;
         facts = h.facts.1;
       },
-      and_true (streams_are_counted f.streams) (ltb (length f.facts) (2 ^ 32)) s.1 (lt-ltb _ _ h.facts.0),
+      and_from (streams_are_counted f.streams) (ltb (length f.facts) (2 ^ 32)) s.1 (lt-ltb _ _ h.facts.0),
     ))
     (λ f h.
     let k : FragmentFits f = h.0 in

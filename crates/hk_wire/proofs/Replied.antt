@@ -1,7 +1,7 @@
 -- Replies: what is read is encoded so, and what is encoded so is read again.
 use Rattle.std.proofs.Common.{◌≡◌, ℕ, zero, suc, ◌^◌, ◌<◌, ◌≤◌, Bool, true, false, ◌&&◌, ◌||◌, eqb, ltb, leb, List, ◌∷◌, ◌++◌, length, Ok, refl, sym, arith}
 use Rattle.std.specs.Int.{w64}
-use Rattle.std.proofs.lemmas.Bool.{ltb-true, ltb-false, lt-ltb, le-ltb, leb-true, le-leb, eqb-false, ne_eqb}
+use Rattle.std.proofs.lemmas.Bool.{ltb-true, ltb-false, lt-ltb, le-ltb, leb-true, le-leb, eqb-false, ne_eqb, and_from}
 use Rattle.hk_types.specs.declared.faults.FormFault.TheVariants.{BadNumber}
 use Rattle.hk_types.specs.declared.faults.Refusal.{Refusal}
 use Rattle.hk_frames.specs.Fields.{IsBytes, number, number_at}
@@ -18,10 +18,6 @@ use Rattle.hk_wire.specs.Refusals.{refusal_at}
 use Rattle.hk_wire.specs.Replies.{ReplyValue, Done, Front as Told, Fragment, Answer, Refused, reply_kind, reply_body, reply_rest, keeps_rules, ReplyFits, IsReply, ops_at, front_at, reply_of, reply_at}
 use Rattle.hk_wire.proofs.Parsing.{IsField, field64, time_field, both_field, barred_field, same_field, this_or, made_takes, made_again, message_format, same_format}
 use Rattle.hk_wire.proofs.Refused.{refusal_field}
-
-and_true : (a b : Bool) → a ≡ true → b ≡ true → (a && b) ≡ true
-and_true true b p q = q
-and_true false b p q = absurd cc
 
 or_false : (a b : Bool) → a ≡ false → b ≡ false → (a || b) ≡ false
 or_false true b p q = absurd cc
@@ -43,7 +39,7 @@ ops_there : (n : ℕ) → (n < 2 ^ 64) × ((eqb n 0 || ltb (2 ^ 62) n) ≡ false
 ops_there n h =
     let s = neither (eqb n 0) (ltb (2 ^ 62) n) h.1 in
     let some : 0 < n = positive n (eqb-false n 0 s.0) in
-    (h.0, and_true (ltb 0 n) (leb n (2 ^ 62)) (lt-ltb 0 n some) (le-leb n (2 ^ 62) (ltb-false (2 ^ 62) n s.1)))
+    (h.0, and_from (ltb 0 n) (leb n (2 ^ 62)) (lt-ltb 0 n some) (le-leb n (2 ^ 62) (ltb-false (2 ^ 62) n s.1)))
 
 ops_back : (n : ℕ) → IsOps n → (n < 2 ^ 64) × ((eqb n 0 || ltb (2 ^ 62) n) ≡ false)
 ops_back n h =
@@ -123,6 +119,6 @@ pub reply_format : IsFormat 2 268435456 reply_at reply_rest IsReply
 unfolding reply_at reply_rest
 reply_format =
     same_format 2 268435456 (message_at reply_of) _ (λ r. Keeps r × (leb (length (1 ∷ reply_kind r ∷ reply_body r)) 268435456 ≡ true)) IsReply
-    (λ r h. (h.0.0, and_true (keeps_rules r) _ h.0.1 h.1))
+    (λ r h. (h.0.0, and_from (keeps_rules r) _ h.0.1 h.1))
     (λ r h. let b = both_true (keeps_rules r) (leb (length (1 ∷ reply_kind r ∷ reply_body r)) 268435456) h.1 in ((h.0, b.0), b.1))
     (message_format reply_of reply_kind reply_body Keeps (record { takes = reply_takes; again = reply_again }))

@@ -1,7 +1,7 @@
 -- Facts that were read may stand in a fragment.
 use Rattle.std.proofs.Common.{◌≡◌, refl, sym, ap, subst, ◌∙◌, ℕ, zero, suc, ◌^◌, ◌<◌, ◌≤◌, Bool, true, false, cond, not, ◌||◌, ltb, leb, eqb, List, [], ◌∷◌, map, Option, Some, None, Result, Ok, Err}
 use Rattle.std.specs.Int.{w16, w32, w64}
-use Rattle.std.proofs.lemmas.Bool.{leb-false, lt-ltb, ltb-false, le-ltb}
+use Rattle.std.proofs.lemmas.Bool.{leb-false, lt-ltb, ltb-false, le-ltb, not-false}
 use Rattle.hk_types.specs.Values.{RowValue, ConfigValue}
 use Rattle.hk_types.specs.declared.version_key.VersionKey.{VersionKey}
 use Rattle.hk_types.specs.declared.faults.FormFault.{FormFault}
@@ -20,7 +20,6 @@ use Rattle.hk_wire.specs.Answers.{row_at}
 use Rattle.hk_wire.specs.Fragments.{version_at, died_at, known_of, fact_at, streams_at, fragment_head_at, fragment_at, wire_fragment_of, wire_stream_of, least_closed_of}
 use Rattle.hk_wire.specs.FragmentSteps.{fact_list_at, streams_at as several_at}
 use Rattle.hk_wire.proofs.Parsing.{this_or}
-use Rattle.hk_wire.proofs.Answered.{not_false}
 use Rattle.hk_wire.proofs.Gathering.{least_seen}
 
 -- a value that was read is not barred
@@ -51,12 +50,12 @@ version_stands before bytes x e =
     let a = unbarred (fault_where name_at (λ v. not (follows before v)) BadOrder) (λ v. ltb v.born 1 || ltb (2 ^ 62) v.born) BadNumber bytes x e in
     let b = unbarred name_at (λ v. not (follows before v)) BadOrder bytes x a.0 in
     let c = neither (ltb x.0.born 1) (ltb (2 ^ 62) x.0.born) a.1 in
-    (not_false (follows before x.0) b.1, lt-ltb 0 x.0.born (ltb-false x.0.born 1 c.0))
+    (not-false (follows before x.0) b.1, lt-ltb 0 x.0.born (ltb-false x.0.born 1 c.0))
 
 end_there : (base horizon born : ℕ) (bytes : List ℕ) (x : ℕ × List ℕ) → died_at base horizon born bytes ≡ Ok x → is_valid_end base horizon born (Some x.0) ≡ true
 end_there base horizon born bytes x e =
     let a = unbarred time_at (λ died. not (is_valid_end base horizon born (Some died))) BadNumber bytes x e in
-    not_false (is_valid_end base horizon born (Some x.0)) a.1
+    not-false (is_valid_end base horizon born (Some x.0)) a.1
 
 passed : {A : Type 0} (b : Bool) (r : Result A FormFault) (z : A) → cond b (Err BadNumber) r ≡ Ok z → (b ≡ false) × (r ≡ Ok z)
 passed true r z e = absurd cc

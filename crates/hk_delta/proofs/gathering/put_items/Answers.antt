@@ -3,8 +3,8 @@ use Rattle.hk_delta.specs.Gathers.{item_facts}
 use Rattle.hk_delta.proofs.Putting.{put_more, put_fails}
 use Rattle.hk_delta.proofs.gathering.put_items.Goals as goal
 
-pub returns-in-Err-clause-puts : goal.returns-in-Err-clause-puts
-returns-in-Err-clause-puts c =
+pub returns-in-Err : goal.returns-in-Err
+returns-in-Err c =
     elim c.in-Err.ensures [
       | inl e ↦ inl (put_fails item_facts c.args.items.now c.loop-item.item-index c.item-item.result c.item-item.is c.loop-item-test.true c.args.facts.now c.loop-item.facts c.loop-item.invariant c.in-Err.why e)
       | inr m ↦ inr m

@@ -3,7 +3,7 @@ use Rattle.hk_model.specs.Replica.Fragments.{FragmentValue, cut}
 use Rattle.hk_model.specs.Replica.Lawful.{IsLawfulFragment}
 use Rattle.hk_model.proofs.Lawful.{cut_lawful}
 use Rattle.hk_store.specs.Versions.{borrowed}
-use Rattle.hk_merge.specs.Calls.{Joins}
+use Rattle.hk_merge.specs.Calls.{Joins, Merges}
 use Rattle.hk_merge.proofs.Refusing.{sent_whole, listed_itself, merges_of}
 use Rattle.hk_merge.proofs.join.merge.Goals as goal
 
@@ -18,24 +18,15 @@ join_sent-requires-clause-lawful c =
     (sym (sent_whole c.args.target.now p lawful c.config.result c.zero.result c.horizon-horizon.result c.got.result.now (map borrowed c.deref.result.now) (map borrowed c.in-Ok.versions.items) c.facts.result.now c.in-Ok.ensures c.facts.ensures.rows c.facts.ensures.ends c.config.ensures.log c.zero.ensures c.horizon-horizon.ensures.value c.got.ensures (ap (map borrowed) c.deref.ensures.value)))
     (cut_lawful p 0 lawful (inl refl))
 
-pub returns-clause-gives : goal.returns-clause-gives
-returns-clause-gives c =
+pub returns : goal.returns
+returns c =
     let t = c.args.target.now in
     let p = c.args.peer.now in
     let lawful = c.horizon-horizon.ensures.lawful in
-    subst (λ (f : FragmentValue). Joins t c.join_sent.new.target f c.join_sent.result)
+    let g : Merges t c.join_sent.new.target p c.join_sent.result = subst (λ (f : FragmentValue). Joins t c.join_sent.new.target f c.join_sent.result)
     (sent_whole t p lawful c.config.result c.zero.result c.horizon-horizon.result c.got.result.now (map borrowed c.deref.result.now) (map borrowed c.in-Ok.versions.items) c.facts.result.now c.in-Ok.ensures c.facts.ensures.rows c.facts.ensures.ends c.config.ensures.log c.zero.ensures c.horizon-horizon.ensures.value c.got.ensures (ap (map borrowed) c.deref.ensures.value))
-    c.join_sent.ensures.gives
-
-pub returns-clause-represents : goal.returns-clause-represents
-returns-clause-represents c =
-    let t = c.args.target.now in
-    let p = c.args.peer.now in
-    let lawful = c.horizon-horizon.ensures.lawful in
-    merges_of t c.join_sent.new.target p c.join_sent.result
-    (subst (λ (f : FragmentValue). Joins t c.join_sent.new.target f c.join_sent.result)
-    (sent_whole t p lawful c.config.result c.zero.result c.horizon-horizon.result c.got.result.now (map borrowed c.deref.result.now) (map borrowed c.in-Ok.versions.items) c.facts.result.now c.in-Ok.ensures c.facts.ensures.rows c.facts.ensures.ends c.config.ensures.log c.zero.ensures c.horizon-horizon.ensures.value c.got.ensures (ap (map borrowed) c.deref.ensures.value))
-    c.join_sent.ensures.gives)
+    c.join_sent.ensures.gives in
+    record { gives = g; represents = merges_of t c.join_sent.new.target p c.join_sent.result g }
 
 pub returns-in-Err-clause-represents : goal.returns-in-Err-clause-represents
 returns-in-Err-clause-represents c = merges_of c.args.target.now c.args.target.now c.args.peer.now (Err c.refusal_without_memory.result) c.refusal_without_memory.ensures

@@ -1,5 +1,4 @@
 use Rattle.std.proofs.Common.{sym, ◌∙◌, ap}
-use Rattle.hk_store.specs.Facts.{facts_without}
 use Rattle.hk_store.specs.Indexed.{has_fact}
 use Rattle.hk_store.proofs.Indexed.{known_fact, part_stays, part_last}
 use Rattle.hk_store.proofs.facts.forget_listed.Goals as goal

@@ -1,5 +1,4 @@
-use Rattle.std.proofs.Common.{◌≡◌, sym, ◌∙◌, subst, ap, Some, None, Err, length}
-use Rattle.hk_log.specs.declared.item.Item.{Item}
+use Rattle.std.proofs.Common.{◌≡◌, sym, ◌∙◌, subst, ap, None, Err, length}
 use Rattle.hk_log.specs.declared.item.Item.TheVariants.{Commit, Closed}
 use Rattle.hk_model.specs.Replica.Content.{Content}
 use Rattle.hk_model.specs.Replica.Items.{wrong_log}

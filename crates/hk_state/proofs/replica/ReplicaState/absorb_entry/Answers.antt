@@ -1,13 +1,12 @@
-use Rattle.std.proofs.Common.{◌≡◌, sym, ◌∙◌, subst, ap, Option, Result, Ok, None, ℕ, Bool, true, false, ◌||◌, nat_le, length}
+use Rattle.std.proofs.Common.{◌≡◌, sym, ◌∙◌, subst, None, false, ◌||◌, nat_le, length}
 use Rattle.std.specs.FinSet as set
-use Rattle.hk_types.specs.declared.faults.Refusal.{Refusal}
 use Rattle.hk_model.specs.Replica.Content.{Content}
 use Rattle.hk_model.specs.Replica.Streams.{stream_at}
 use Rattle.hk_model.specs.Replica.Items.{wrong_log}
 use Rattle.hk_log.specs.declared.item.Item.TheVariants.{Commit}
 use Rattle.hk_state.specs.Calls.{Absorbs}
 use Rattle.hk_store.specs.Facts.{conflicts_with_entry}
-use Rattle.hk_state.specs.Replica.{content_of_parts, IsReplica}
+use Rattle.hk_state.specs.Replica.{content_of_parts}
 use Rattle.hk_state.proofs.Absorbing.{entry_result}
 use Rattle.hk_state.proofs.replica.ReplicaState.absorb_entry.Goals as goal
 use Rattle.hk_state.proofs.Pruning.{not_above}

@@ -1,13 +1,11 @@
-use Rattle.std.proofs.Common.{◌≡◌, sym, ◌∙◌, subst, ap, Option, Result, Ok, None, ℕ, Bool, true, false, length}
-use Rattle.hk_types.specs.declared.faults.Refusal.{Refusal}
+use Rattle.std.proofs.Common.{◌≡◌, sym, ◌∙◌, subst, Ok, None, true, false, length}
 use Rattle.hk_model.specs.Replica.Content.{Content}
 use Rattle.hk_model.specs.Replica.Streams.{stream_at, adds_nothing}
 use Rattle.hk_log.specs.declared.item.Item.TheVariants.{Closed}
-use Rattle.hk_model.specs.declared.took.Took.{Took}
 use Rattle.hk_model.specs.declared.took.Took.TheVariants.{Repeated}
 use Rattle.hk_model.specs.Replica.Items.{wrong_log}
 use Rattle.hk_state.specs.Calls.{Absorbs}
-use Rattle.hk_state.specs.Replica.{content_of_parts, IsReplica}
+use Rattle.hk_state.specs.Replica.{content_of_parts}
 use Rattle.hk_state.proofs.Absorbing.{mark_repeated, mark_result}
 use Rattle.hk_state.proofs.replica.ReplicaState.absorb_mark.Goals as goal
 

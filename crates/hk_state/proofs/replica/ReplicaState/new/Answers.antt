@@ -1,4 +1,3 @@
-use Rattle.std.proofs.Common.{sym}
 use Rattle.hk_state.proofs.Replicas.{new_replica}
 use Rattle.hk_state.proofs.replica.ReplicaState.new.Goals as goal
 

@@ -1,4 +1,4 @@
-use Rattle.std.proofs.Common.{sym, ◌∙◌}
+use Rattle.std.proofs.Common.{sym}
 use Rattle.hk_facts.specs.declared.fact.Fact.TheVariants.{Row}
 use Rattle.hk_store.proofs.Undone.{none_there}
 use Rattle.hk_store.proofs.Indexed.{row_tagged, tag_back, put_is}

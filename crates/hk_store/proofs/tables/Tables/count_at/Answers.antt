@@ -1,6 +1,4 @@
-use Rattle.std.proofs.Common.{◌≡◌, sym, ap, ◌∙◌, refl, length, filter, Option, Some, None}
-use Rattle.std.specs.FinMap as finmap
-use Rattle.hk_facts.specs.Chains.{ChainValue}
+use Rattle.std.proofs.Common.{◌∙◌}
 use Rattle.hk_facts.proofs.Trees.{seen}
 use Rattle.hk_store.specs.Facts.{facts_of}
 use Rattle.hk_store.specs.Reads.{with_facts}
