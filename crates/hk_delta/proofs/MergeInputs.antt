@@ -38,7 +38,7 @@ use Rattle.hk_model.specs.History.Histories.{Transaction, IsHistory, AreItemsOf}
 use Rattle.hk_model.specs.Replica.Replicas.{Represents}
 use Rattle.hk_model.proofs.Laws.{join_law_proof}
 use Rattle.hk_model.proofs.Steps.{gap_step}
-use Rattle.hk_model.proofs.Laws.{stands_both}
+use Rattle.hk_model.proofs.Laws.{represents_both}
 use Rattle.hk_delta.proofs.WrongLogs.{count_streams}
 use Rattle.hk_delta.specs.Joins.{JoinsOf}
 use Rattle.hk_fragment.specs.Parts.{Known, versions_listed}
@@ -93,7 +93,7 @@ module _ (config : ConfigValue) (history : List Transaction) (is : IsHistory con
   near_join : (new : Content) (r : Result (Unit {0}) Refusal) → join_result old (part config others h base) ≡ Ok (content_of config (own ++ others) (max g h)) → Joins old new (part config others h base) r
       → IfOk r (λ done. Represents config history (own ++ others) (max g h) new) × IfErr r (λ why. why ≡ Memory)
   near_join new (Ok done) law gave =
-      (subst (Represents config history (own ++ others) (max g h)) (inside _ _ (sym law ∙ gave)) (stands_both config history is own others g h old (content_of config others h) a sender), tt)
+      (subst (Represents config history (own ++ others) (max g h)) (inside _ _ (sym law ∙ gave)) (represents_both config history is own others g h old (content_of config others h) a sender), tt)
   near_join new (Err why) law gave = (tt, elim gave.1 [ inl e ↦ absurd (has_conflict_with _ why (sym law ∙ e)) | inr m ↦ m.0 ])
 
   far_join : (new : Content) (r : Result (Unit {0}) Refusal) → join_result old (part config others h base) ≡ Err (Gap base (readable old)) → Joins old new (part config others h base) r → (r ≡ Err (Gap base (readable old))) × (new ≡ old)

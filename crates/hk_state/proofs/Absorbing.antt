@@ -16,7 +16,7 @@ use Rattle.hk_model.specs.Replica.Rules.{take_result, take_result_unless, absorb
 use Rattle.hk_model.specs.Replica.Lawful.{IsItem}
 use Rattle.hk_model.proofs.Lawful.{taken_keeps, fits_within}
 use Rattle.hk_model.proofs.Outcomes.{taken_same_log}
-use Rattle.hk_model.proofs.Changes.{no_more_facts, same_if_told}
+use Rattle.hk_model.proofs.Changes.{no_more_facts, same_if_outcome}
 use Rattle.hk_state.specs.Calls.{Absorbs}
 use Rattle.hk_store.specs.Facts.{FactsValue, with_entry, conflicts_with_entry}
 use Rattle.hk_state.specs.Replica.{content_of_parts, IsReplica}
@@ -82,7 +82,7 @@ module _ (config : ConfigValue) (h : ℕ) (facts : FactsValue) (got : List Strea
     mark_repeated m told =
         let above = w.stream_least in
         let within = fits_within config.log (length got) (Closed k) m in
-        mark_taken m ∙ (λ i. Ok (cond (told i) Repeated Taken, same_if_told here is.lawful k (omega arith) within told i))
+        mark_taken m ∙ (λ i. Ok (cond (told i) Repeated Taken, same_if_outcome here is.lawful k (omega arith) within told i))
 
     pub mark_result : wrong_log config.log (length got) (Closed k) ≡ None → adds_nothing (stream_at got k.stream) k.count k.upto ≡ false
         → (r : Result Took Refusal) (got' : List StreamContent) → IfOk r (λ took. took ≡ Taken) → OnOk r (got' ≡ all_together got (streams_of (length got) (Closed k ∷ []))) → IfErr r (λ why. why ≡ Memory) → OnErr r (got' ≡ got)
