@@ -6,7 +6,7 @@ ghost use Rattle.hk_types.specs.declared.faults.Refusal.TheVariants.{Memory};
 ghost use Rattle.hk_log.specs.declared.item.Item.TheVariants.{Commit};
 ghost use Rattle.hk_model.specs.History.Histories.{Follows};
 ghost use Rattle.hk_primary.specs.Calls.{Tells, with_transaction, primary_after, verdict_of, verdict_time};
-ghost use Rattle.hk_primary.specs.Log.{IsHonest, IsNext, transaction_of, with_item};
+ghost use Rattle.hk_primary.specs.Log.{IsNext, transaction_of, with_item};
 ghost use Rattle.hk_primary.specs.Txns.{AreWrites};
 ghost use Rattle.hk_primary.specs.Verdicts.{clock};
 
@@ -31,7 +31,6 @@ impl Primary {
     fn judge(&self, txn: &Txn, stream: StreamNo) -> Result<Option<Time>, Refusal>
         ensures verdict { result ≡ verdict_time (verdict_of self.now txn.now stream) }
         ensures lawful { AreWrites txn.now.writes }
-        ensures honest { IsHonest self.now }
     {
         let read_at = txn.read_at();
         if stream.number() > self.config.streams() {
@@ -107,7 +106,6 @@ impl Primary {
         ensures done { OnOk result (self.new ≡ primary_after self.old (verdict_of self.old txn stream)) }
         ensures kept { OnErr result (self.new ≡ self.old) }
         ensures back { IfErr result (λ e. e.0 ≡ txn) }
-        ensures honest { IsHonest self.old }
     {
         match self.judge(&txn, stream) {
             Err(why) => Err((txn, why)),

@@ -64,6 +64,7 @@ impl<K: Naming> Held<K> {
         ensures kept { OnErr result (share.new.amount ≡ share.old.amount) }
     {
         let Held { primary, emitted } = self;
+        let _kept = primary.last();
         let time = primary.commit(txn, stream)?;
         if time.is_some() {
             emitted.add(share, 1);

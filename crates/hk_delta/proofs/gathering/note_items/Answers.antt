@@ -24,11 +24,10 @@ loop-item-preserved c =
     let x = c.item-item.result in
     let before = take i c.args.items.now in
     let more = take_more c.args.items.now i x c.loop-item-test.true ∙ ap (λ (y : Item). before ++ y ∷ []) (sym c.item-item.is) in
-    let count = ap length c.loop-item.invariant.0 ∙ count_streams n before in
-    (
+    let count = ap length c.loop-item.invariant.0 ∙ count_streams n before in (
       c.in_ok-note_item.ensures.ok
-      ∙ (λ j. all_together (c.loop-item.invariant.0 j) (streams_of (count j) (x ∷ [])))
-      ∙ all_together-streams_of n before (x ∷ [])
-      ∙ ap (streams_of n) (sym more),
+          ∙ (λ j. all_together (c.loop-item.invariant.0 j) (streams_of (count j) (x ∷ [])))
+          ∙ all_together-streams_of n before (x ∷ [])
+          ∙ ap (streams_of n) (sym more),
       subst (All IsItem) (sym more) (All-push IsItem before x c.loop-item.invariant.1 c.in_ok-note_item.ensures.lawful),
     )

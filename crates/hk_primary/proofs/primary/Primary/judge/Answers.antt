@@ -2,7 +2,6 @@ use Rattle.std.proofs.Common.{◌≡◌, ◌≤◌, ℕ, sym, ap, ◌∙◌, sub
 use Rattle.std.proofs.lemmas.Bool.Decides.{nat_tests}
 use Rattle.hk_model.specs.History.Histories.{last}
 use Rattle.hk_primary.specs.Log.{PrimaryValue}
-use Rattle.hk_primary.proofs.Reading.{honest}
 use Rattle.hk_primary.proofs.Judged.{judged_empty, judged_time, judged_full}
 use Rattle.hk_primary.proofs.primary.Primary.judge.Goals as goal
 
@@ -44,24 +43,3 @@ returns-in-Err-clause-verdict c =
     let read = not_below a.newest c.read_at-read_at.result (sym c.lt.ensures ∙ c.if-lt.false) in
     let value = c.read_at-read_at.ensures.value in
     judged_full p c.args.txn.now c.args.stream (omega arith) (omega (arith, c.if-number-streams.false)) (omega arith) c.in_default.ensures c.in_default-first_absent.ensures (sym c.is_empty.ensures ∙ c.if-is_empty.false) c.number-2.result _ (c.number-2.ensures.value ∙ c.clock.ensures) c.in-Err.ensures
-
-pub returns-then-number-streams-clause-honest : goal.returns-then-number-streams-clause-honest
-returns-then-number-streams-clause-honest c = rw (← c.self.view_is) (honest c.self.inside.config c.self.inside.after c.self.inside.log.items c.self.invariant.logged)
-
-pub returns-then-lt-clause-honest : goal.returns-then-lt-clause-honest
-returns-then-lt-clause-honest c = rw (← c.self.view_is) (honest c.self.inside.config c.self.inside.after c.self.inside.log.items c.self.invariant.logged)
-
-pub returns-in-Some-clause-honest : goal.returns-in-Some-clause-honest
-returns-in-Some-clause-honest c = rw (← c.self.view_is) (honest c.self.inside.config c.self.inside.after c.self.inside.log.items c.self.invariant.logged)
-
-pub returns-in-Some-first_absent-clause-honest : goal.returns-in-Some-first_absent-clause-honest
-returns-in-Some-first_absent-clause-honest c = rw (← c.self.view_is) (honest c.self.inside.config c.self.inside.after c.self.inside.log.items c.self.invariant.logged)
-
-pub returns-then-is_empty-clause-honest : goal.returns-then-is_empty-clause-honest
-returns-then-is_empty-clause-honest c = rw (← c.self.view_is) (honest c.self.inside.config c.self.inside.after c.self.inside.log.items c.self.invariant.logged)
-
-pub returns-in-Ok-clause-honest : goal.returns-in-Ok-clause-honest
-returns-in-Ok-clause-honest c = rw (← c.self.view_is) (honest c.self.inside.config c.self.inside.after c.self.inside.log.items c.self.invariant.logged)
-
-pub returns-in-Err-clause-honest : goal.returns-in-Err-clause-honest
-returns-in-Err-clause-honest c = rw (← c.self.view_is) (honest c.self.inside.config c.self.inside.after c.self.inside.log.items c.self.invariant.logged)
