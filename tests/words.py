@@ -63,9 +63,9 @@ def wide_clauses(root):
         is_public = False
         depth = 0
         for number, line in enumerate(path.read_text(encoding="utf-8").split("\n"), 1):
-            function = re.match(r"\s*(pub )?(const )?fn ", line)
+            function = re.match(r"\s*(pub(?:\([a-z]+\))? )?(const )?fn ", line)
             if function:
-                is_public = bool(function.group(1))
+                is_public = function.group(1) == "pub "
             starts = re.match(r"\s*(requires|ensures)\b", line)
             if (starts or depth > 0) and is_public and len(line) > MOST_COLUMNS:
                 yield "%s:%d: %d columns" % (path.relative_to(root), number, len(line))

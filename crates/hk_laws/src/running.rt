@@ -35,7 +35,8 @@ pub fn run(
 ) -> Result<Vec<Told>, Refusal>
     requires some { 1 ≤ replicas }
     requires few { replicas ≤ 16 }
-    ensures ok { IfOk result (λ outcome. Runs config replicas (map event_seen events.items) (map told_seen outcome.items)) }
+    ensures ok { IfOk result (λ outcome. Runs config replicas (map event_seen events.items)
+        (map told_seen outcome.items)) }
     ensures err { IfErr result (λ why. why ≡ Memory) }
 {
     let mut outcome = Vec::with_capacity(alloc, events.len())?;

@@ -40,7 +40,8 @@ fn later(a: Time, b: Time) -> Time
 /// and marks of both that wait for others; and where the horizon rises, since something of the target's own may
 /// have to go, as that of its versions times its logarithm.
 pub fn join_sent(target: &mut ReplicaState, sent: &MergeInput) -> Result<(), Refusal>
-    requires listed { AreVersions (facts_listed (map borrowed sent.now.facts.now)) (map borrowed sent.now.facts.now) }
+    requires listed { AreVersions (facts_listed (map borrowed sent.now.facts.now))
+        (map borrowed sent.now.facts.now) }
     requires lawful { IsLawfulFragment (fragment_sent sent.now) }
     requires as_many { length sent.now.got.now ≡ sent.now.config.streams }
     ensures gives { Joins target.old target.new (fragment_sent sent.now) result }
@@ -107,7 +108,8 @@ fn refusal_without_memory(target: &ReplicaState, peer: &ReplicaState) -> Refusal
 ///
 /// The only refusal is `Memory`, and it changes nothing. The cost is that of `join_sent`.
 pub fn join_agreed(target: &mut ReplicaState, sent: &MergeInput) -> Result<(), Refusal>
-    requires listed { AreVersions (facts_listed (map borrowed sent.now.facts.now)) (map borrowed sent.now.facts.now) }
+    requires listed { AreVersions (facts_listed (map borrowed sent.now.facts.now))
+        (map borrowed sent.now.facts.now) }
     requires lawful { IsLawfulFragment (fragment_sent sent.now) }
     requires as_many { length sent.now.got.now ≡ length target.old.streams }
     requires agree { contents_conflict target.old (fragment_sent sent.now).content ≡ false }
@@ -145,7 +147,8 @@ fn rise(change: &mut Change, target: &ReplicaState, sent: &MergeInput) -> Result
 
 /// The change that joins what is sent into a target's state, where it is of the same log and conflicts with nothing.
 fn work_out(target: &ReplicaState, sent: &MergeInput) -> Result<Change, Refusal>
-    requires listed { AreVersions (facts_listed (map borrowed sent.now.facts.now)) (map borrowed sent.now.facts.now) }
+    requires listed { AreVersions (facts_listed (map borrowed sent.now.facts.now))
+        (map borrowed sent.now.facts.now) }
     requires as_many { length sent.now.got.now ≡ length target.now.streams }
     requires lawful { IsLawfulFragment (fragment_sent sent.now) }
     requires agree { contents_conflict target.now (fragment_sent sent.now).content ≡ false }

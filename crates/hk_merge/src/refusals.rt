@@ -13,7 +13,8 @@ use hk_types::{Config, Refusal, VersionKey};
 /// Why what is of this log is none of the target's, if it is none: `ForeignLog` for another log, and then
 /// `WrongStreams` for another number of streams. It takes no memory.
 pub fn wrong_log(target: &ReplicaState, config: Config) -> Option<Refusal>
-    ensures { result ≡ (if not (config.log == target.now.log) then Some Foreign else if not (config.streams == length target.now.streams) then Some Wrong else None) }
+    ensures { result ≡ (if not (config.log == target.now.log) then Some Foreign
+        else if not (config.streams == length target.now.streams) then Some Wrong else None) }
 {
     if config.log() != target.config().log() {
         return Some(Refusal::ForeignLog);

@@ -126,7 +126,9 @@ pub fn release_hold<J: NodeName, R: Wait + Drop>(
     publisher: &mut Publisher<J, R>,
     hold: Hold,
 ) -> Result<Receipt<J>, (Option<Hold>, Refusal)>
-    ensures change { MatchResult result (λ list. Changes publisher.old (Release hold.reader hold.at) (Ok list) publisher.new) (λ e. Changes publisher.old (Release hold.reader hold.at) (Err e.1) publisher.new) }
+    ensures change { MatchResult result
+        (λ list. Changes publisher.old (Release hold.reader hold.at) (Ok list) publisher.new)
+        (λ e. Changes publisher.old (Release hold.reader hold.at) (Err e.1) publisher.new) }
     ensures before { is_legal (all_of publisher.old) ≡ true }
     ensures legal { IfOk result (λ list. is_legal list ≡ true) }
     ensures last { IfOk result (λ list. last_of list ≡ Some (Release hold.reader hold.at)) }

@@ -20,7 +20,8 @@ impl Primary {
     pub fn ask(&self, time: Time, query: &Query) -> Result<Answer, Refusal>
         ensures told { IfOk result (λ a. answer_seen a ≡ answer (table_at self.now.history time) query.now) }
         ensures known { OnOk result (time ≤ last self.now.history) }
-        ensures early { last self.now.history < time → IfErr result (λ why. why ≡ Early (last self.now.history)) }
+        ensures early { last self.now.history < time → IfErr result
+            (λ why. why ≡ Early (last self.now.history)) }
         ensures memory { time ≤ last self.now.history → IfErr result (λ why. why ≡ Memory) }
 
         // A count takes no memory.

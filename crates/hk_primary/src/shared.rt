@@ -219,7 +219,8 @@ impl<K: Naming> SharedPrimary<K> {
         stream: StreamNo,
     ) -> Result<Mark, Refusal>
         requires { 0 < share.old.parts }
-        ensures told { IfOk result (λ mark. AtSome K.config K.after (λ p. mark ≡ mark_now p.config p.history stream)) }
+        ensures told { IfOk result
+            (λ mark. AtSome K.config K.after (λ p. mark ≡ mark_now p.config p.history stream)) }
         ensures known { OnOk result (stream ≤ K.config.streams) }
         ensures unknown { K.config.streams < stream → IfErr result (λ why. why ≡ Streamless) }
         ensures memory { stream ≤ K.config.streams → IfErr result (λ why. why ≡ Memory) }
@@ -244,7 +245,8 @@ impl<K: Naming> SharedPrimary<K> {
     /// Copies of the items from a position on, as `Primary::items` gives them: what one call gives are items of
     /// one history. The only refusal is `Memory`.
     pub fn items<R: Wait>(&self, rt: &R, from: u64) -> Result<Vec<Item>, Refusal>
-        ensures ok { IfOk result (λ items. AtSome K.config K.after (λ p. items.items ≡ drop (from - 1) p.items)) }
+        ensures ok { IfOk result
+            (λ items. AtSome K.config K.after (λ p. items.items ≡ drop (from - 1) p.items)) }
         ensures err { IfErr result (λ why. why ≡ Memory) }
     {
         self.held.lock(rt).primary.items(from)
@@ -252,7 +254,8 @@ impl<K: Naming> SharedPrimary<K> {
 
     /// Answers a query at a time, as `Primary::ask` does.
     pub fn ask<R: Wait>(&self, rt: &R, time: Time, query: &Query) -> Result<Answer, Refusal>
-        ensures told { IfOk result (λ a. AtSome K.config K.after (λ p. (answer_seen a ≡ answer (table_at p.history time) query.now) × (time ≤ last p.history))) }
+        ensures told { IfOk result (λ a. AtSome K.config K.after
+            (λ p. (answer_seen a ≡ answer (table_at p.history time) query.now) × (time ≤ last p.history))) }
         ensures refused { IfErr result (λ why. AtSome K.config K.after (λ p. NotAnswered p time why)) }
     {
         let held = self.held.lock(rt);

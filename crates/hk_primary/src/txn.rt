@@ -99,7 +99,8 @@ impl Txn {
     pub fn put(&mut self, table: Table, key: Key, row: Row) -> Result<(), (Row, Refusal)>
         ensures done { OnOk result (self.new ≡ with_write self.old (Put table key row)) }
         ensures accepted { OnOk result (write_refused self.old (record { table = table; key = key }) ≡ None) }
-        ensures refused { IfErr result (λ e. IsRefusal (write_refused self.old (record { table = table; key = key })) e.1) }
+        ensures refused { IfErr result
+            (λ e. IsRefusal (write_refused self.old (record { table = table; key = key })) e.1) }
         ensures kept { OnErr result (self.new ≡ self.old) }
         ensures back { IfErr result (λ e. e.0 ≡ row) }
     {
@@ -122,7 +123,8 @@ impl Txn {
     pub fn remove(&mut self, table: Table, key: Key) -> Result<(), Refusal>
         ensures done { OnOk result (self.new ≡ with_write self.old (Remove table key)) }
         ensures accepted { OnOk result (write_refused self.old (record { table = table; key = key }) ≡ None) }
-        ensures refused { IfErr result (λ e. IsRefusal (write_refused self.old (record { table = table; key = key })) e) }
+        ensures refused { IfErr result
+            (λ e. IsRefusal (write_refused self.old (record { table = table; key = key })) e) }
         ensures kept { OnErr result (self.new ≡ self.old) }
     {
         let place = RowKey::new(table, key);

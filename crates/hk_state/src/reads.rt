@@ -28,8 +28,10 @@ impl ReplicaState {
     /// `None` where nothing is known of the key. It takes no memory. The cost grows as the logarithm of the
     /// number of tables and keys.
     pub fn chain(&self, table: Table, key: Key) -> Option<&Chain>
-        ensures some { IfSome result (λ chain. (born : ℕ) → finmap.get chain.now born ≡ known_at (facts_of_content self.now) (record { table = table; key = key; born = born })) }
-        ensures none { IfNone result ((born : ℕ) → known_at (facts_of_content self.now) (record { table = table; key = key; born = born }) ≡ None) }
+        ensures some { IfSome result (λ chain. (born : ℕ) → finmap.get chain.now born
+            ≡ known_at (facts_of_content self.now) (record { table = table; key = key; born = born })) }
+        ensures none { IfNone result ((born : ℕ) →
+            known_at (facts_of_content self.now) (record { table = table; key = key; born = born }) ≡ None) }
         ensures filled { IfSome result (λ chain. 0 < finmap.len chain.now) }
     {
         self.facts.chain(table, key)
@@ -37,14 +39,16 @@ impl ReplicaState {
 
     /// The versions whose row is known, by tag.
     pub fn tags(&self) -> &TagIndex
-        ensures { (tag : ℕ) (v : VersionKey) → set.contains result.now (record { tag = tag; version = v }) ≡ is_tagged tag (finmap.get self.now.rows v) }
+        ensures { (tag : ℕ) (v : VersionKey) → set.contains result.now (record { tag = tag; version = v })
+            ≡ is_tagged tag (finmap.get self.now.rows v) }
     {
         self.facts.tags()
     }
 
     /// The versions of which a row or an end is known, by table and key.
     pub fn keys(&self) -> &KeyIndex
-        ensures { (v : VersionKey) → set.contains result.now v ≡ (is_some (finmap.get self.now.rows v) || is_some (finmap.get self.now.ends v)) }
+        ensures { (v : VersionKey) → set.contains result.now v
+            ≡ (is_some (finmap.get self.now.rows v) || is_some (finmap.get self.now.ends v)) }
     {
         self.facts.keys()
     }

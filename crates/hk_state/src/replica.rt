@@ -86,7 +86,8 @@ impl ReplicaState {
     /// The time up to which a stream is closed, or `None` where the log has no such stream. It takes no
     /// memory.
     pub fn closed(&self, stream: StreamNo) -> Option<Time>
-        ensures { result ≡ (if nat_le stream (length self.now.streams) then Some (stream_at self.now.streams stream).closed else None) }
+        ensures { result ≡ (if nat_le stream (length self.now.streams)
+            then Some (stream_at self.now.streams stream).closed else None) }
     {
         if stream.number() > self.config.streams() {
             return None;

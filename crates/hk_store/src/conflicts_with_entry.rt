@@ -56,7 +56,8 @@ impl Facts {
     /// Whether another end than this is known of a version. The cost grows as the logarithm of the number
     /// of facts.
     pub fn has_conflicting_end(&self, version: &VersionKey, died: Time) -> bool
-        ensures { result ≡ values_conflict (λ a b. a == b) (finmap.get self.now.ends version.now) (Some died) }
+        ensures { result ≡ values_conflict
+            (λ a b. a == b) (finmap.get self.now.ends version.now) (Some died) }
     {
         match self.end_at(version) {
             Some(there) => there != died,

@@ -75,8 +75,10 @@ impl Facts {
 
     /// The chain of a key of a table. The cost grows as the logarithm of the number of tables and keys.
     pub fn chain(&self, table: Table, key: Key) -> Option<&Chain>
-        ensures some { IfSome result (λ chain. (born : ℕ) → finmap.get chain.now born ≡ known_at self.now (record { table = table; key = key; born = born })) }
-        ensures none { IfNone result ((born : ℕ) → known_at self.now (record { table = table; key = key; born = born }) ≡ None) }
+        ensures some { IfSome result (λ chain. (born : ℕ) → finmap.get chain.now born
+            ≡ known_at self.now (record { table = table; key = key; born = born })) }
+        ensures none { IfNone result ((born : ℕ) →
+            known_at self.now (record { table = table; key = key; born = born }) ≡ None) }
         ensures filled { IfSome result (λ chain. 0 < finmap.len chain.now) }
     {
         self.tables.chain(table, key)
@@ -106,7 +108,8 @@ impl Facts {
     /// How many rows of a table show at a time. It takes no memory. The cost grows as the number of keys of
     /// the table, each by the logarithm of its versions.
     pub fn count_at(&self, table: Table, time: Time) -> u64
-        ensures { result ≡ length (rows_where (λ k row. k.table == table) (visible (with_facts self.now) time)) }
+        ensures { result ≡ length (rows_where
+            (λ k row. k.table == table) (visible (with_facts self.now) time)) }
     {
         self.tables.count_at(table, time) as u64
     }
@@ -116,7 +119,8 @@ impl Facts {
     /// version. A refusal changes nothing. The cost grows as the logarithm of the number of facts.
     pub fn put(&mut self, version: &VersionKey, fact: Fact) -> Result<(), Refusal>
         ensures ok { OnOk result (facts_put self.old version.now fact ≡ Ok self.new) }
-        ensures err { IfErr result (λ why. (facts_put self.old version.now fact ≡ Err why) ⊎ ((why ≡ Memory) × IsNew self.old version.now fact)) }
+        ensures err { IfErr result (λ why. (facts_put self.old version.now fact ≡ Err why)
+            ⊎ ((why ≡ Memory) × IsNew self.old version.now fact)) }
         ensures kept { OnErr result (self.new ≡ self.old) }
     {
         match fact {
@@ -170,7 +174,8 @@ impl Facts {
     /// The versions whose end is known and at most `until`. The only error is out of memory. The cost
     /// grows with the number of facts.
     pub fn ended(&self, until: Time) -> Result<Vec<VersionKey>, AllocError>
-        ensures { IfOk result (λ versions. (q : VersionKey) → is_among versions.items q ≡ ended_by self.now.ends until q) }
+        ensures { IfOk result (λ versions. (q : VersionKey) → is_among versions.items q
+            ≡ ended_by self.now.ends until q) }
     {
         self.tables.ended(until)
     }

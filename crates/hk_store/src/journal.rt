@@ -52,7 +52,8 @@ impl Facts {
     ) -> Result<(), Refusal>
         ensures ok { OnOk result (self.new ≡ with_entry self.old entry.now) }
         ensures err { IfErr result (λ why. why ≡ Memory) }
-        ensures back { without_journal journal.new.items self.new ≡ without_journal journal.old.items self.old }
+        ensures back { without_journal journal.new.items self.new
+            ≡ without_journal journal.old.items self.old }
     {
         self.add_rows(journal, entry.rows(), entry.time())?;
         self.add_ends(journal, entry.ends(), entry.time())
@@ -105,7 +106,8 @@ impl Facts {
     ) -> Result<(), Refusal>
         ensures ok { OnOk result (self.new ≡ with_fact_at self.old version.now (RowFact row.now)) }
         ensures err { IfErr result (λ why. why ≡ Memory) }
-        ensures back { without_journal journal.new.items self.new ≡ without_journal journal.old.items self.old }
+        ensures back { without_journal journal.new.items self.new
+            ≡ without_journal journal.old.items self.old }
     {
         if self.row_at(version).is_some() {
             return Ok(());
@@ -125,7 +127,8 @@ impl Facts {
     ) -> Result<(), Refusal>
         ensures ok { OnOk result (self.new ≡ with_fact_at self.old version.now (EndFact died)) }
         ensures err { IfErr result (λ why. why ≡ Memory) }
-        ensures back { without_journal journal.new.items self.new ≡ without_journal journal.old.items self.old }
+        ensures back { without_journal journal.new.items self.new
+            ≡ without_journal journal.old.items self.old }
     {
         if self.end_at(version).is_some() {
             return Ok(());

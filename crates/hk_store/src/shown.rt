@@ -15,7 +15,8 @@ impl Facts {
     /// The row at a key of a table at a time. It takes no memory. The cost grows as the logarithm of the
     /// number of facts.
     pub fn shown_at(&self, table: Table, key: Key, time: Time) -> Option<&Row>
-        ensures { option_copied result ≡ finmap.get (visible (with_facts self.now) time) (record { table = table; key = key }) }
+        ensures { option_copied result
+            ≡ finmap.get (visible (with_facts self.now) time) (record { table = table; key = key }) }
     {
         match self.chain(table, key) {
             Some(chain) => chain.at(time),

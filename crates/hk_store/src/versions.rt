@@ -89,7 +89,8 @@ pub fn push_borrowed<'a>(
     version: VersionKey,
     known: &'a Version,
 ) -> Result<(), AllocError>
-    ensures { OnOk result (map borrowed found.new.items ≡ map borrowed found.old.items ++ (version, known.now) ∷ []) }
+    ensures { OnOk result (map borrowed found.new.items
+        ≡ map borrowed found.old.items ++ (version, known.now) ∷ []) }
 {
     match found.push((version, known)) {
         Ok(()) => Ok(()),
