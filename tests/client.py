@@ -288,6 +288,32 @@ def pieces_and_pipelines():
     report("pieces, pipelines, and bytes behind a fault", problems)
 
 
+def long_lists():
+    """Lists of 4,096 items and more, which several workers gather, are answered as short ones: by the first item that does not fit,
+    then by two that contradict each other, wherever they stand; a refused list changes nothing."""
+    count = 4096
+    plain = [say.entry(n, n, [(1, n, 9, say.u64(n))]) for n in range(count + 1, count * 3)]
+    time_ = count * 3
+    contradicting = [say.entry(n, time_, [(1, 9999, 9, say.u64(n))]) for n in (1, 2)]
+    other_log, other_stream = say.mark(1, 0, 1, log=8), say.mark(2, 0, 1)
+    with Node(1) as node, node.link() as link:
+        steps = [
+            ("from the last to the first", say.items(*(say.entry(n, n, [(1, n, 9, say.u64(n))]) for n in range(count, 0, -1))), ("done", 2)),
+            ("their mark", say.items(say.mark(1, count, count)), ("done", 3)),
+            ("all of them came", say.ask(count, say.count(1)), ("number", count)),
+            ("contradicting ends", say.items(contradicting[0], *plain, contradicting[1]), ("refused", 23, 0, 0)),
+            ("another log behind them", say.items(contradicting[0], *plain, contradicting[1], other_log), ("refused", 20, 0, 0)),
+            ("a stream above the number first", say.items(other_stream, *plain, other_log), ("refused", 21, 0, 0)),
+            ("another log first", say.items(other_log, *plain, other_stream), ("refused", 20, 0, 0)),
+            ("which changed nothing", say.front(), ("front", 0, count)),
+            ("the same items again, and more", say.items(*plain, *plain, say.mark(1, time_ - 1, time_ - 1)), ("done", 4)),
+            ("each row", say.ask(time_ - 1, say.scan(1, 0, time_)), ("rows", [(n, 9, say.u64(n)) for n in range(1, time_)])),
+        ]
+        problems = differ([(name, link.ask(request), wanted) for name, request, wanted in steps])
+        link.close()
+        report("lists that several workers gather", problems + differ([("ends", node.ends(), ([0], 0, 0))]))
+
+
 def busy(node, key, number, problems):
     """Asks for one key again and again, while items may come."""
     try:
@@ -495,7 +521,7 @@ def bad_ports_and_lines():
 
 def main():
     start = time.monotonic()
-    checks = [worked_bytes, all_requests, each_fault, each_cut, pieces_and_pipelines, silent_link, link_that_does_not_read, many_at_once, pushes,
+    checks = [worked_bytes, all_requests, each_fault, each_cut, pieces_and_pipelines, long_lists, silent_link, link_that_does_not_read, many_at_once, pushes,
               push_to_bad_peers, bad_ports_and_lines]
     wanted = sys.argv[1:]
     for check in checks:

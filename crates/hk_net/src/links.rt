@@ -37,7 +37,7 @@ fn drain(stream: &TcpStream) {
 }
 
 /// Runs the session of a link to its end.
-fn serve_link<J: NodeName, N: Wait + Drop, R: Wait>(
+fn serve_link<J: NodeName, N: Wait + Drop, R: Threads + Wait + Sync>(
     rt: &R,
     alloc: Global,
     node: &Node<J, N>,

@@ -1,6 +1,7 @@
 //! A host over a running node and one seat of it.
 
 ghost use Rattle.std.specs.Prelude.{◌≡◌, true, Some, None, Option, IfOk, OnOk};
+ghost use Rattle.std.specs.Thread.{IsSync};
 ghost use mathlib.Core.List.{IsPrefix};
 ghost use Rattle.hk_types.specs.Values.{ConfigValue};
 ghost use Rattle.hk_model.specs.Replica.Rules.{gather_result};
@@ -13,6 +14,7 @@ ghost use Rattle.hk_node.specs.Replay.{config_of, is_legal, replay};
 ghost use Rattle.hk_node.specs.Replies.{node_delta, node_front, node_reply, node_whole};
 ghost use Rattle.hk_net.specs.Replying.{IsChangeReply, IsOrOutOfMemory, MayReply, front_reply, join_of};
 
+use hk_batch::{OpenGate, build};
 use hk_delta::{Fragment, fragment_of};
 use hk_log::Item;
 use hk_model::Query;
@@ -23,24 +25,36 @@ use hk_wire::{Reply, Request};
 use std::alloc::Global;
 use std::marker::Model;
 use std::sync::Wait;
+use std::thread::Threads;
+
+/// How many items a list has at least that several workers gather; one gathers a shorter list sooner.
+const LONG_LIST: usize = 4_096;
+
+/// How many workers gather a long list.
+const WORKERS: usize = 4;
 
 /// A host over a running node, which others share, and one seat of that node. Contracts see it as the list of
 /// operations that the seat has seen or was told of.
 ///
-/// Items are taken all or nothing, as the join of the one fragment that they make; a fragment is joined, and a whole is
-/// joined in the same way. A change that took effect is learnt by the seat, so that the link's later replies show it,
-/// and is answered `Done` with the number of operations that ends with it. A refused change is answered as the node
-/// refuses it, and items that make no fragment as their gathering is; `Unpublished` says that the change stands and
-/// waits. The other requests are answered by the seat, and take no lock. Costs as the calls do.
+/// Items are taken all or nothing, as the join of the one fragment that they make. Lists of 4,096 items and
+/// more are gathered by four workers side by side, shorter ones by the thread that answers. A fragment is
+/// joined, and a whole is joined in the same way. A change that took effect is learnt by the seat, so that
+/// the link's later replies show it, and is answered `Done` with the number of operations that ends with it.
+/// A refused change is answered as the node refuses it, and items that make no fragment as their gathering
+/// is; `Unpublished` says that the change stands and waits. The other requests are answered by the seat, and
+/// take no lock. Costs as the calls do.
+///
+/// It can be asked where threads may share the runtime (`Host::ready`), as its bound `Sync` says that they
+/// may.
 #[derive(Drop)]
-pub struct NodeHost<'a, J: NodeName, N: Wait + Drop, R: Wait> {
+pub struct NodeHost<'a, J: NodeName, N: Wait + Drop, R: Threads + Wait + Sync> {
     rt: &'a R,
     alloc: Global,
     node: &'a Node<J, N>,
     seat: ReaderSeat<J>,
 }
 
-impl<'a, J: NodeName, N: Wait + Drop, R: Wait> Model for NodeHost<'a, J, N, R> {
+impl<'a, J: NodeName, N: Wait + Drop, R: Threads + Wait + Sync> Model for NodeHost<'a, J, N, R> {
     ghost use Rattle.std.specs.Prelude.{◌≡◌, true, List};
     ghost use Rattle.hk_node.specs.declared.op.Op.{Op};
     ghost use Rattle.hk_node.specs.Replay.{is_legal};
@@ -56,7 +70,7 @@ impl<'a, J: NodeName, N: Wait + Drop, R: Wait> Model for NodeHost<'a, J, N, R> {
     ghost invariant = { λ h. is_legal h.seat ≡ true };
 }
 
-impl<'a, J: NodeName, N: Wait + Drop, R: Wait> NodeHost<'a, J, N, R> {
+impl<'a, J: NodeName, N: Wait + Drop, R: Threads + Wait + Sync> NodeHost<'a, J, N, R> {
     /// A host over a node and a seat of it; their types name the node, so that a seat of another is none of these.
     pub fn new(
         rt: &'a R,
@@ -87,12 +101,16 @@ impl<'a, J: NodeName, N: Wait + Drop, R: Wait> NodeHost<'a, J, N, R> {
         Reply::Done { ops }
     }
 
-    /// The one fragment that items make.
+    /// The one fragment that items make. A long list is gathered by several workers, which are waited for.
     fn gather(&self, items: &[Item]) -> Result<Fragment, Refusal>
         ensures legal { is_legal self.now ≡ true }
         ensures gives { OnOk result (gather_result (config_of self.now) items.now ≡ result) }
     {
-        fragment_of(self.alloc, self.seat.config(), items)
+        let config = self.seat.config();
+        if items.len() < LONG_LIST {
+            return fragment_of(self.alloc, config, items);
+        }
+        build(self.rt, self.alloc, config, items, WORKERS, &OpenGate)
     }
 
     fn take_items(&mut self, items: &[Item]) -> Reply
@@ -173,8 +191,10 @@ impl<'a, J: NodeName, N: Wait + Drop, R: Wait> NodeHost<'a, J, N, R> {
     }
 }
 
-impl<'a, J: NodeName, N: Wait + Drop, R: Wait> Host for NodeHost<'a, J, N, R> {
+impl<'a, J: NodeName, N: Wait + Drop, R: Threads + Wait + Sync> Host for NodeHost<'a, J, N, R> {
     ghost may = { MayReply };
+
+    ghost ready = { λ _. IsSync R.row };
 
     fn answer(&mut self, request: Request) -> Reply {
         match request {

@@ -1,5 +1,6 @@
 //! Who answers the requests.
 
+ghost use Rattle.std.specs.Prelude.{⊤};
 ghost use Rattle.hk_wire.specs.declared.reply.Reply.{Reply};
 ghost use Rattle.hk_wire.specs.declared.request.Request.{Request};
 
@@ -10,7 +11,12 @@ pub trait Host {
     /// From the first state the host may give this reply to the request and be left in the second state.
     ghost may: { Self → Request → Reply → Self → Type 0 };
 
-    /// Answers a request.
+    /// Holds of a host that can be asked; of each one, where an `impl` does not say.
+    ghost ready: { Self → Type 0 } = { λ _. ⊤ };
+
+    /// Answers a request. A host that can be asked can be asked again.
     fn answer(&mut self, request: Request) -> Reply
-        ensures { may self.old request result self.new };
+        requires { ready self.old }
+        ensures may { may self.old request result self.new }
+        ensures ready { ready self.new };
 }

@@ -25,8 +25,10 @@ fn answer_one<W: Write, H: Host>(
     writer: &mut Counted<W>,
     host: &mut H,
 ) -> Option<Ended>
-    requires { writer.old.faults ≡ 0 }
+    requires quiet { writer.old.faults ≡ 0 }
+    requires ready { H.ready host.old }
     ensures says { (reply : Reply) × H.may host.old request reply host.new × Sends (reply_bytes reply) (W.contents writer.old.device) (W.contents writer.new.device) result }
+    ensures ready { H.ready host.new }
     ensures quiet { result ≢ Some ends.WriteFault → writer.new.faults ≡ 0 }
     ensures fault { result ≡ Some ends.WriteFault → 0 < writer.new.faults }
 {
@@ -41,10 +43,12 @@ fn answer_all<W: Write, H: Host>(
     writer: &mut Counted<W>,
     host: &mut H,
 ) -> Option<Ended>
-    requires { writer.old.faults ≡ 0 }
+    requires quiet { writer.old.faults ≡ 0 }
+    requires ready { H.ready host.old }
     ensures all { IfNone result ((replies : List Reply) × Answers H.may host.old requests.items replies host.new
         × Appends (W.contents writer.old.device) (W.contents writer.new.device) (replies_bytes replies)) }
     ensures part { IfSome result (Stops H.may host.old host.new (W.contents writer.old.device) (W.contents writer.new.device) requests.items) }
+    ensures ready { H.ready host.new }
     ensures quiet { result ≢ Some ends.WriteFault → writer.new.faults ≡ 0 }
     ensures fault { result ≡ Some ends.WriteFault → 0 < writer.new.faults }
 {
@@ -102,11 +106,13 @@ fn handle_piece<W: Write, H: Host>(
 ) -> Option<Ended>
     requires quiet { writer.old.faults ≡ 0 }
     requires open { (left : List ℕ) × (feeder.old ≡ Ok left) }
+    requires ready { H.ready host.old }
     ensures goes_on { (left : List ℕ) → feeder.old ≡ Ok left → IfNone result ((after : List ℕ) × (feeder.new ≡ Ok after)
         × SessionStep H.may host.old host.new (W.contents writer.old.device) (W.contents writer.new.device) (left ++ piece.now) (GoesOn after)) }
     ensures ends { (left : List ℕ) → feeder.old ≡ Ok left → IfSome result (λ e.
         SessionStep H.may host.old host.new (W.contents writer.old.device) (W.contents writer.new.device) (left ++ piece.now) (Ends e)) }
     ensures midway { IfSome result IsMidway }
+    ensures ready { H.ready host.new }
     ensures quiet { result ≢ Some ends.WriteFault → writer.new.faults ≡ 0 }
     ensures fault { result ≡ Some ends.WriteFault → 0 < writer.new.faults }
 {
@@ -150,15 +156,20 @@ fn run<R: Read, W: Write, H: Host>(
 ) -> Ended
     requires reader { reader.old.faults ≡ 0 }
     requires writer { writer.old.faults ≡ 0 }
+    requires ready { H.ready host.old }
     // The bytes read, and what was done and written for them.
-    ensures transcript { (bytes : List ℕ) × Consumes (R.remaining reader.old.device) (R.remaining reader.new.device) bytes
-        × SessionStep H.may host.old host.new (W.contents writer.old.device) (W.contents writer.new.device) bytes (Ends result) }
+    ensures transcript { (bytes : List ℕ)
+        × Consumes (R.remaining reader.old.device) (R.remaining reader.new.device) bytes
+        × SessionStep H.may host.old host.new (W.contents writer.old.device) (W.contents writer.new.device)
+            bytes (Ends result) }
+    ensures ready { H.ready host.new }
     // All bytes were read.
     ensures clean { result ≡ ends.Clean → IsAtEnd (R.remaining reader.new.device) }
     ensures cut { result ≡ ends.Fault faults.Truncated → IsAtEnd (R.remaining reader.new.device) }
     // A session makes at most so many reads; and a read failed, or there were that many.
     ensures bound { reader.new.calls ≤ reader.old.calls + 2 ^ 32 }
-    ensures read_fault { result ≡ ends.ReadFault → (0 < reader.new.faults) ⊎ (reader.new.calls ≡ min (reader.old.calls + 2 ^ 32) (2 ^ 64 - 1)) }
+    ensures read_fault { result ≡ ends.ReadFault → (0 < reader.new.faults)
+        ⊎ (reader.new.calls ≡ min (reader.old.calls + 2 ^ 32) (2 ^ 64 - 1)) }
     ensures write_fault { result ≡ ends.WriteFault → 0 < writer.new.faults }
     // Else none failed.
     ensures reads { result ≢ ends.ReadFault → reader.new.faults ≡ 0 }
@@ -192,7 +203,8 @@ fn run<R: Read, W: Write, H: Host>(
 /// does a failed read, an interrupted one too; so does the read number 2^32, where it does not end otherwise. The
 /// writer is never flushed: who hands in one that keeps bytes back flushes it after.
 ///
-/// The host is left as the last request that it answered left it. The cost is that of the answers, a copy of each
+/// The host has to be such as can be asked (`Host::ready`), and is left so, as the last request that it answered left
+/// it. The cost is that of the answers, a copy of each
 /// reply, and a pass over what is read; 4,096 bytes are read at a time.
 pub fn serve<R: Read, W: Write, H: Host>(
     alloc: Global,
@@ -202,21 +214,30 @@ pub fn serve<R: Read, W: Write, H: Host>(
 ) -> Ended
     requires reader { reader.old.faults ≡ 0 }
     requires writer { writer.old.faults ≡ 0 }
+    requires ready { H.ready host.old }
     // What was written is the transcript of what was read.
-    ensures whole { IsDone result → (bytes text : List ℕ) × Consumes (R.remaining reader.old.device) (R.remaining reader.new.device) bytes
-        × Appends (W.contents writer.old.device) (W.contents writer.new.device) text × Transcript H.may host.old host.new bytes text }
+    ensures whole { IsDone result → (bytes text : List ℕ)
+        × Consumes (R.remaining reader.old.device) (R.remaining reader.new.device) bytes
+        × Appends (W.contents writer.old.device) (W.contents writer.new.device) text
+        × Transcript H.may host.old host.new bytes text }
     // What was written is a front of the transcript of a front of what was read: of whole requests, or of all bytes.
-    ensures stopped { IsStopped result → (bytes part : List ℕ) × Consumes (R.remaining reader.old.device) (R.remaining reader.new.device) bytes
-        × Appends (W.contents writer.old.device) (W.contents writer.new.device) part × PartialTranscript H.may host.old host.new bytes part }
+    ensures stopped { IsStopped result → (bytes part : List ℕ)
+        × Consumes (R.remaining reader.old.device) (R.remaining reader.new.device) bytes
+        × Appends (W.contents writer.old.device) (W.contents writer.new.device) part
+        × PartialTranscript H.may host.old host.new bytes part }
     // The bytes read, and what was done and written for them.
-    ensures transcript { (bytes : List ℕ) × Consumes (R.remaining reader.old.device) (R.remaining reader.new.device) bytes
-        × SessionStep H.may host.old host.new (W.contents writer.old.device) (W.contents writer.new.device) bytes (Ends result) }
+    ensures transcript { (bytes : List ℕ)
+        × Consumes (R.remaining reader.old.device) (R.remaining reader.new.device) bytes
+        × SessionStep H.may host.old host.new (W.contents writer.old.device) (W.contents writer.new.device)
+            bytes (Ends result) }
+    ensures ready { H.ready host.new }
     // All bytes were read.
     ensures clean { result ≡ ends.Clean → IsAtEnd (R.remaining reader.new.device) }
     ensures cut { result ≡ ends.Fault faults.Truncated → IsAtEnd (R.remaining reader.new.device) }
     // A session makes at most so many reads; and a read failed, or there were that many.
     ensures bound { reader.new.calls ≤ reader.old.calls + 2 ^ 32 }
-    ensures read_fault { result ≡ ends.ReadFault → (0 < reader.new.faults) ⊎ (reader.new.calls ≡ min (reader.old.calls + 2 ^ 32) (2 ^ 64 - 1)) }
+    ensures read_fault { result ≡ ends.ReadFault → (0 < reader.new.faults)
+        ⊎ (reader.new.calls ≡ min (reader.old.calls + 2 ^ 32) (2 ^ 64 - 1)) }
     ensures write_fault { result ≡ ends.WriteFault → 0 < writer.new.faults }
     // Else none failed.
     ensures reads { result ≢ ends.ReadFault → reader.new.faults ≡ 0 }

@@ -6,17 +6,18 @@ use Rattle.hk_session.proofs.serving.answer_all.Goals as goal
 
 pub returns-in-Some-answer_one-clause-part : goal.returns-in-Some-answer_one-clause-part
 returns-in-Some-answer_one-clause-part g c =
-    let inv = c.requests.invariant.1 in
+    let inv = c.requests.invariant.2 in
     stops_at g.H.Host.may c.args.host.now c.requests.host c.answer_one.new.host _ _ _ c.args.requests.items inv.0 (into_iter_items c.requests.rest) (into_iter_items c.next.new.self) c.in-Some.request inv.2 c.in-Some-answer_one.ensures.says.0 c.in-Some-answer_one.ended
     inv.1 c.in-Some.ensures.items inv.3 c.in-Some-answer_one.ensures.says.1 inv.4 c.in-Some-answer_one.ensures.says.2
 
 pub requests-init : goal.requests-init
-requests-init g c = (c.requires, ([], sym c.into_iter-rest.ensures.rest, [], refl, Appends-nil _))
+requests-init g c = (c.requires.quiet, c.requires.ready, ([], sym c.into_iter-rest.ensures.rest, [], refl, Appends-nil _))
 
 pub requests-preserved : goal.requests-preserved
 requests-preserved g c =
-    let inv = c.requests.invariant.1 in (
+    let inv = c.requests.invariant.2 in (
       c.answer_one.ensures.quiet (λ h. cc),
+      c.answer_one.ensures.ready,
       (
         inv.0 ++ c.in-Some.request ∷ [],
         split_more c.args.requests.items inv.0 (into_iter_items c.requests.rest) (into_iter_items c.next.new.self) c.in-Some.request inv.1 c.in-Some.ensures.items,

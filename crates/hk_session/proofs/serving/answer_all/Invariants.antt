@@ -8,7 +8,7 @@ use Rattle.hk_session.proofs.serving.answer_all.Given as goal
 
 abbrev pub invariant-requests : goal.invariant-requests
 invariant-requests g l =
-    (l.writer.faults ≡ 0) × ((front : List Request) × (l.fn.requests.items ≡ front ++ into_iter_items l.rest)
+    (l.writer.faults ≡ 0) × g.H.Host.ready l.host × ((front : List Request) × (l.fn.requests.items ≡ front ++ into_iter_items l.rest)
     × (replies : List Reply) × Answers (g.H.Host.may) l.fn.host front replies l.host
     × Appends (g.W.Write.contents l.fn.writer.device) (g.W.Write.contents l.writer.device) (replies_bytes replies))
 

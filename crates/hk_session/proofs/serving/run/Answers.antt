@@ -5,11 +5,11 @@ use Rattle.hk_session.proofs.Transcripts.{at_start, SessionStep-then, goes_on_jo
 use Rattle.hk_session.proofs.serving.run.Goals as goal
 
 pub loop-init : goal.loop-init
-loop-init g c = (c.requires.reader, c.requires.writer, omega (arith, c.calls-bounded.ensures.bound), ([], c.new-feeder.ensures, [], Consumes-nil _, at_start g.H.Host.may c.args.host.now _))
+loop-init g c = (c.requires.reader, c.requires.writer, omega (arith, c.calls-bounded.ensures.bound), c.requires.ready, ([], c.new-feeder.ensures, [], Consumes-nil _, at_start g.H.Host.may c.args.host.now _))
 
 pub returns-then-count-eq0-clause-transcript : goal.returns-then-count-eq0-clause-transcript
 returns-then-count-eq0-clause-transcript g c =
-    let inv = c.loop.invariant.3 in
+    let inv = c.loop.invariant.4 in
     let read = c.in-Ok.ensures.bytes in (
       inv.2,
       none_read _ _ _ inv.2 c.read.new.buf c.in-Ok.count inv.3 read.0 c.if-count-eq0.true,
@@ -18,7 +18,7 @@ returns-then-count-eq0-clause-transcript g c =
 
 pub returns-in-Some-clause-transcript : goal.returns-in-Some-clause-transcript
 returns-in-Some-clause-transcript g c =
-    let inv = c.loop.invariant.3 in
+    let inv = c.loop.invariant.4 in
     let piece = take c.in-Ok.count c.read.new.buf in (
       inv.2 ++ piece,
       Consumes-trans _ _ _ inv.2 piece inv.3 c.in-Ok.ensures.bytes.0,
@@ -27,12 +27,13 @@ returns-in-Some-clause-transcript g c =
 
 pub loop-preserved : goal.loop-preserved
 loop-preserved g c =
-    let inv = c.loop.invariant.3 in
+    let inv = c.loop.invariant.4 in
     let piece = take c.in-Ok.count c.read.new.buf in
     let on = c.in_default.ensures.goes_on inv.0 inv.1 in (
       c.in-Ok.ensures.ok ∙ c.loop.invariant.0,
       c.handle_piece.ensures.quiet (λ h. cc),
       search rules,
+      c.handle_piece.ensures.ready,
       (
         on.0,
         on.1,
