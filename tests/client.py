@@ -3,12 +3,14 @@
 scripted peers drive `bin/hkrep push`. Every wait has a limit, and each node that is started is ended.
 
 Prints a line for each check and ends with 'N passed, M failed'. Standard library only."""
+import os
 import pathlib
 import queue
 import socket
 import struct
 import subprocess
 import sys
+import tempfile
 import threading
 import time
 
@@ -48,11 +50,11 @@ def free_port():
 class Node:
     """A node of `hkrep serve`, which is ended at the latest when the block is left."""
 
-    def __init__(self, links, log=7, streams=1):
+    def __init__(self, links, log=7, streams=1, environment=None):
         self.port = free_port()
         self.child = subprocess.Popen(
             [PROGRAM, "serve", "--log", str(log), "--streams", str(streams), "--port", str(self.port), "--links", str(links)],
-            stdout=subprocess.PIPE, stderr=subprocess.PIPE, text=True)
+            stdout=subprocess.PIPE, stderr=subprocess.PIPE, text=True, env=environment)
         lines = queue.Queue()
         threading.Thread(target=lambda: lines.put(self.child.stdout.readline()), daemon=True).start()
         said = lines.get(timeout=LIMIT)
@@ -408,6 +410,35 @@ def link_that_does_not_read():
     report("a link that stops reading", problems)
 
 
+def failing_calls():
+    """A session over a link that gives and takes 7 bytes a call, of which each call in turn fails: what was written is the replies to
+    the whole requests that were read, or a front of the replies."""
+    told = bytes.fromhex("0000000a 01 20 0000000000000002 0000000b 01 23 01 01 00000009 0001 41")
+    first, whole = len(say.items(E1, say.mark(1, 1, 1))), len(WORKED)
+    with tempfile.TemporaryDirectory() as folder:
+        library = pathlib.Path(folder) / "failing_io.so"
+        source = ROOT / "tests" / "faults" / "failing_io.c"
+        subprocess.run(["cc", "-shared", "-fPIC", "-O1", "-o", str(library), str(source), "-ldl"], check=True)
+        # 120 bytes are received in 18 calls and an end; 14 and 15 are sent in two and three
+        for name, end, calls in (("FAILING_RECV", 91, 19), ("FAILING_SEND", 92, 5)):
+            problems = []
+            for number in range(1, calls + 2):
+                environment = dict(os.environ, LD_PRELOAD=str(library), LINK_STEP="7", **{name: str(number)})
+                with Node(1, environment=environment) as node, node.link() as link:
+                    link.send(WORKED)
+                    link.half_close()
+                    got = link.read_all()
+                    read = 7 * (number - 1)
+                    wanted = told[:0 if read < first else 14 if read < whole else 29]
+                    if name == "FAILING_SEND":
+                        wanted = told[:[0, 7, 14, 21, 28, 29][number - 1]]
+                    if number > calls:
+                        wanted = told
+                    ended = end if number <= calls else 0
+                    problems += differ([(f"call {number}", (got, node.ends()), (wanted, ([ended], int(ended > 0), int(ended > 0))))])
+            report(f"each call of a session refused in turn ({name}, {calls} calls)", problems)
+
+
 def run(args, data=b""):
     got = subprocess.run([PROGRAM, *args], input=data, capture_output=True, timeout=LIMIT, check=False)
     return got.stdout.decode(), got.returncode, len(got.stderr.splitlines())
@@ -521,7 +552,8 @@ def bad_ports_and_lines():
 
 def main():
     start = time.monotonic()
-    checks = [worked_bytes, all_requests, each_fault, each_cut, pieces_and_pipelines, long_lists, silent_link, link_that_does_not_read, many_at_once, pushes,
+    checks = [worked_bytes, all_requests, each_fault, each_cut, pieces_and_pipelines, long_lists, silent_link, link_that_does_not_read,
+              failing_calls, many_at_once, pushes,
               push_to_bad_peers, bad_ports_and_lines]
     wanted = sys.argv[1:]
     for check in checks:

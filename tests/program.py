@@ -488,38 +488,12 @@ def links_example():
     report("the example of two feeders", problems)
 
 
-def refused_memory():
-    """Lets the Nth request for memory fail, for each N up to a run that meets no refusal."""
-    source = ROOT / "tests" / "faults" / "failing_malloc.c"
-    with tempfile.TemporaryDirectory() as folder:
-        library = pathlib.Path(folder) / "failing_malloc.so"
-        subprocess.run(["cc", "-shared", "-fPIC", "-O1", "-o", str(library), str(source), "-ldl"], check=True)
-        data = E1 + mark(1, 1, 1)
-        for args, out in ((at(1, 1, 5), b"9 41\n"), (["items"], run(["items"], data).stdout)):
-            problems = []
-            count = 0
-            for number in range(1, 2000):
-                count = number
-                environment = dict(os.environ, LD_PRELOAD=str(library), FAILING_MALLOC=str(number))
-                got = subprocess.run([str(PROGRAM), *args], input=data, stdout=subprocess.PIPE,
-                                     stderr=subprocess.PIPE, timeout=60, env=environment)
-                if got.returncode == 0 and got.stdout == out:
-                    break
-                if got.returncode not in (1, 2) or got.stdout not in (b"refused 90\n", b""):
-                    problems.append(f"request {number}: status {got.returncode}, printed {got.stdout!r}")
-            else:
-                problems.append("no run without a refusal")
-            if count < 5:
-                problems.append(f"only {count} requests were made")
-            report(f"each request for memory refused in turn ({args[0]}, {count} requests)", problems[:5])
-
-
 def main():
     if not PROGRAM.exists():
         print(f"FAILED {PROGRAM} is not built")
         print("0 passed, 1 failed")
         return 1
-    for group in (worked_rows, bytes_of_all_kinds, faults_of_frames, pieces, deliveries, generated_histories, refusals, world_scripts, bad_scripts, long_scripts, command_lines, failing_devices, failing_reads_and_writes, links_example, refused_memory):
+    for group in (worked_rows, bytes_of_all_kinds, faults_of_frames, pieces, deliveries, generated_histories, refusals, world_scripts, bad_scripts, long_scripts, command_lines, failing_devices, failing_reads_and_writes, links_example):
         group()
     print(f"{passed} passed, {failed} failed")
     return 1 if failed else 0

@@ -5,7 +5,7 @@ ghost use Rattle.std.specs.Prelude.{◌≡◌};
 use crate::stop::Stop;
 use hk_lines::Printed;
 use hk_types::Refusal;
-use std::alloc::Global;
+use std::alloc::{AllocError, Global};
 use std::io::Write;
 
 /// How many bytes of lines are gathered before they are written.
@@ -16,7 +16,10 @@ const GATHERED_BYTES: usize = 65_536;
 pub struct Output<'a, W: Write> {
     alloc: Global,
     writer: &'a mut W,
+    /// What was gathered: whole lines.
     lines: String,
+    /// The lines of the value that is being printed; where memory runs out none of them is.
+    next: String,
 }
 
 impl<'a, W: Write> Output<'a, W> {
@@ -25,12 +28,15 @@ impl<'a, W: Write> Output<'a, W> {
             alloc,
             writer,
             lines: String::new(alloc),
+            next: String::new(alloc),
         }
     }
 
-    /// Adds the lines of a value, and writes what was gathered once that is much.
+    /// Adds the lines of a value, all of them or none, and writes what was gathered once that is much.
     pub fn print<T: Printed>(&mut self, value: &T) -> Result<(), Stop> {
-        value.print_to(self.alloc, &mut self.lines)?;
+        self.next.clear();
+        value.print_to(self.alloc, &mut self.next)?;
+        self.lines.push_str(&self.next)?;
         if self.lines.len() >= GATHERED_BYTES {
             return self.flush();
         }
@@ -82,10 +88,16 @@ impl<'a, W: Write> Output<'a, W> {
 
     /// Adds that a line is no command.
     fn print_bad(&mut self, line: u64) -> Result<(), Stop> {
-        match writeln!(self.lines, "line {line}: bad command") {
+        match self.add_bad(line) {
             Ok(()) => Ok(()),
             Err(_memory) => self.write_plain(b"refused 90\n"),
         }
+    }
+
+    fn add_bad(&mut self, line: u64) -> Result<(), AllocError> {
+        self.next.clear();
+        writeln!(self.next, "line {line}: bad command")?;
+        self.lines.push_str(&self.next)
     }
 
     /// Writes a line that takes no memory.

@@ -3,6 +3,7 @@
 ghost use Rattle.std.specs.Prelude.{◌≡◌, ◌≤◌, IfOk};
 ghost use Rattle.hk_commands.specs.declared.words.Unread.TheVariants.{Memory};
 
+use hex::FromHexError;
 use hk_types::{Key, MOST_BODY_BYTES, Row, StreamNo, Table, Tag, Time};
 use std::alloc::{AllocError, Global};
 
@@ -139,6 +140,7 @@ fn body_of(alloc: Global, word: &str) -> Result<Vec<u8>, Unread> {
     }
     match hex::decode(alloc, word) {
         Ok(body) => Ok(body),
+        Err(FromHexError::OutOfMemory) => Err(Unread::Memory),
         Err(_odd) => Err(Unread::BadCommand),
     }
 }

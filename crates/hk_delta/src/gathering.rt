@@ -166,14 +166,14 @@ pub fn fragment_of(alloc: Global, config: Config, items: &[Item]) -> Result<Frag
     }
 }
 
-/// A conflict is refused before out of memory.
+/// A conflict is refused before out of memory. Where it is known the items are not compared.
 fn refusal_of(why: Refusal, items: &[Item]) -> Refusal
     ensures conflict { have_conflict items.now ≡ true → result ≡ ConflictRefusal }
     ensures other { have_conflict items.now ≡ false → result ≡ why }
 {
-    if conflict(items) {
-        Refusal::Conflict
-    } else {
-        why
+    match why {
+        Refusal::Conflict => Refusal::Conflict,
+        _ if conflict(items) => Refusal::Conflict,
+        _ => why,
     }
 }

@@ -106,7 +106,7 @@ first table low = record { table = table; key = low; born = 0 }
 abbrev is_from : ℕ → ℕ → VersionKey → Bool
 is_from table low v = is_le (version_key_cmp (first table low) v)
 
-from_low : (low key born : ℕ) → is_le (ordering_then (nat_cmp low key) (nat_cmp 0 born)) ≡ nat_le low key
+pub from_low : (low key born : ℕ) → is_le (ordering_then (nat_cmp low key) (nat_cmp 0 born)) ≡ nat_le low key
 from_low low key born =
     elim (nat_cmp low key) as (λ o. nat_cmp low key ≡ o → is_le (ordering_then o (nat_cmp 0 born)) ≡ nat_le low key) [
       | Less ↦ λ e. let f = ap is_le e in less low key f
@@ -145,14 +145,14 @@ from_up_to table low high v =
     swapped false true h = refl
     swapped false false h = refl
 
-no_greater : (a b : ℕ) → is_gt (nat_cmp a b) ≡ false → a ≤ b
+pub no_greater : (a b : ℕ) → is_gt (nat_cmp a b) ≡ false → a ≤ b
 no_greater a b f = grind (arith, nat_tests)
 
-unequal : (a b : ℕ) → a ≡ b → is_eq (nat_cmp a b) ≡ false → ⊥
+pub unequal : (a b : ℕ) → a ≡ b → is_eq (nat_cmp a b) ≡ false → ⊥
 unequal a b same f = grind (arith, nat_tests)
 
 -- of two versions the lower has no greater table, and in the same table no greater key
-table_rises : (v w : VersionKey) → version_key_cmp v w ≡ Less → v.table ≤ w.table
+pub table_rises : (v w : VersionKey) → version_key_cmp v w ≡ Less → v.table ≤ w.table
 table_rises v w e =
     elim (nat_cmp v.table w.table) as (λ o. nat_cmp v.table w.table ≡ o → ordering_then o (ordering_then (nat_cmp v.key w.key) (nat_cmp v.born w.born)) ≡ Less → v.table ≤ w.table) [
       | Less ↦ λ o _. let f = ap is_gt o in no_greater v.table w.table f
@@ -172,7 +172,7 @@ key_rises v w e same =
       | Greater ↦ λ o _. let f = ap is_eq o in absurd (unequal v.table w.table same f)
     ] refl e
 
-from_table : (table low : ℕ) (v : VersionKey) → is_from table low v ≡ true → table ≤ v.table
+pub from_table : (table low : ℕ) (v : VersionKey) → is_from table low v ≡ true → table ≤ v.table
 from_table table low v e =
     elim (nat_cmp table v.table) as (λ o. nat_cmp table v.table ≡ o → is_le (ordering_then o (ordering_then (nat_cmp low v.key) (nat_cmp 0 v.born))) ≡ true → table ≤ v.table) [
       | Less ↦ λ o _. let f = ap is_gt o in no_greater table v.table f
@@ -192,11 +192,11 @@ up_to_below table low high v w from less up =
     let d : w.key ≤ high = leb-true w.key high parts.1 in
     and_from (v.table == table) (nat_le v.key high) (eq-eqb v.table table here) (le-leb v.key high (omega arith))
 
-none_after : (p : VersionKey → Bool) (vs : List VersionKey) → AllByRecursion (λ w. p w ≡ true → ⊥) vs → filter p vs ≡ []
+pub none_after : {K : Type 0} (p : K → Bool) (vs : List K) → AllByRecursion (λ w. p w ≡ true → ⊥) vs → filter p vs ≡ []
 none_after p [] none = refl
 none_after p (w ∷ vs) none = elim (p w) as (λ b. p w ≡ b → cond b (w ∷ filter p vs) (filter p vs) ≡ []) [ true ↦ λ e. absurd (none.0 e) | false ↦ λ e. none_after p vs none.1 ] refl
 
-all_after : {P Q : VersionKey → Type 0} (vs : List VersionKey) → ((w : VersionKey) → P w → Q w) → AllByRecursion P vs → AllByRecursion Q vs
+pub all_after : {K : Type 0} {P Q : K → Type 0} (vs : List K) → ((w : K) → P w → Q w) → AllByRecursion P vs → AllByRecursion Q vs
 all_after [] f all = tt
 all_after (w ∷ vs) f all = (f w all.0, all_after vs f all.1)
 
@@ -210,7 +210,7 @@ while_filter table low high (v ∷ vs) from rising =
       | false ↦ λ e. sym (none_after (is_up_to table high) vs (all_after vs (λ w less up. true≢false (sym (up_to_below table low high v w from.0 less up) ∙ e)) (sorted_head version_key_cmp v vs rising)))
     ] refl
 
-all_filter : (p : VersionKey → Bool) (vs : List VersionKey) → AllByRecursion (λ w. p w ≡ true) (filter p vs)
+pub all_filter : {K : Type 0} (p : K → Bool) (vs : List K) → AllByRecursion (λ w. p w ≡ true) (filter p vs)
 all_filter p [] = tt
 all_filter p (v ∷ vs) = elim (p v) as (λ b. p v ≡ b → AllByRecursion (λ w. p w ≡ true) (cond b (v ∷ filter p vs) (filter p vs))) [ true ↦ λ e. (e, all_filter p vs) | false ↦ λ e. all_filter p vs ] refl
 

@@ -2,8 +2,8 @@
 #![tactic(auto)]
 
 mod key_index;
-mod tag_key;
 mod tag_index;
+mod tagged;
 
 pub use key_index::KeyIndex;
 pub use tag_index::TagIndex;

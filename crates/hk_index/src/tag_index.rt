@@ -1,44 +1,70 @@
 //! The index of versions by tag.
 
-ghost use Rattle.std.specs.Prelude.{◌≡◌, Some, None, IfOk, IfErr, OnErr, OnOk};
+ghost use Rattle.std.specs.Prelude.{◌≡◌, map, filter, IfOk, IfErr, OnErr, OnOk};
+ghost use Rattle.std.specs.BTreeSet as sorted;
 ghost use Rattle.std.specs.FinSet as set;
-ghost use Rattle.std.specs.HashMap as hash;
+ghost use Rattle.std.specs.List.{take_while};
+ghost use Rattle.std.specs.Ordering.{is_le};
 ghost use Rattle.hk_types.specs.declared.faults.Refusal.TheVariants.{Memory};
 ghost use Rattle.hk_index.specs.Listed.{Lists};
-ghost use Rattle.hk_index.specs.Tagged.{tag_key_eq, with_tag};
+ghost use Rattle.hk_index.specs.Tagged.{first_tagged, is_tagged, tagged_cmp, with_tag};
 
-use crate::key_index::KeyIndex;
-use crate::tag_key::TagKey;
-use hk_types::{Refusal, Table, Tag, VersionKey};
+use crate::tagged::TaggedVersion;
+use hk_types::{Key, Refusal, Table, Tag, Time, VersionKey};
 use std::alloc::{AllocError, Global};
-use std::collections::HashMap;
+use std::collections::BTreeSet;
 use std::marker::Model;
 
-/// A set of version keys with tags, found by table and tag.
+/// A set of version keys with tags, found by table and tag. It is an ordered one, so that no choice of tags is dearer
+/// than another.
 #[derive(Drop)]
 pub struct TagIndex {
-    tag_keys: HashMap<TagKey, KeyIndex>,
-    alloc: Global,
+    versions: BTreeSet<TaggedVersion>,
 }
 
 impl Model for TagIndex {
     ghost use Rattle.std.specs.FinSet as set;
-    ghost use Rattle.hk_index.specs.Tagged.{tagged_cmp, tagged_code, tagged_seen, AreTagKeyed};
+    ghost use Rattle.hk_index.specs.Tagged.{tagged_cmp, tagged_code};
 
     ghost Value = { set.FinSet tagged_cmp };
 
     ghost coded = { set.code tagged_code };
 
-    ghost view = { λ a. tagged_seen a.tag_keys.entries };
-
-    ghost invariant = { λ a. AreTagKeyed a.tag_keys.entries };
+    ghost view = { λ a. set.from_list a.versions.keys };
 }
 
-fn forget(tag_keys: &mut HashMap<TagKey, KeyIndex>, tag_key: TagKey)
-    ensures forgotten { hash.Updates tag_key_eq tag_keys.old tag_keys.new tag_key None }
-    ensures unique { hash.IsUnique tag_key_eq tag_keys.new }
+/// The versions with a tag in a table, the first of which is given.
+fn list_from(
+    alloc: Global,
+    versions: &BTreeSet<TaggedVersion>,
+    first: TaggedVersion,
+) -> Result<Vec<VersionKey>, AllocError>
+    ensures list { IfOk result (λ found. found.items ≡ map (λ t. t.version) (take_while (is_tagged first.version.table first.tag) (filter (λ t. is_le (tagged_cmp first t)) versions.now.keys))) }
+    ensures rising { sorted.IsOrdered tagged_cmp versions.now }
 {
-    tag_keys.remove(&tag_key);
+    versions
+        .range(first..)
+        .take_while(|tagged| is_tagged(**tagged, first.version.table, first.tag))
+        .map(|tagged| tagged.version)
+        .collect(alloc)
+}
+
+/// Where the versions of a table with a tag begin.
+fn first_tagged(table: Table, tag: Tag) -> TaggedVersion
+    ensures { result ≡ first_tagged table tag }
+{
+    let version = VersionKey {
+        table,
+        key: Key::new(0),
+        born: Time::zero(),
+    };
+    TaggedVersion { tag, version }
+}
+
+fn is_tagged(tagged: TaggedVersion, table: Table, tag: Tag) -> bool
+    ensures { result ≡ is_tagged table tag tagged }
+{
+    tagged.tag == tag && tagged.version.table == table
 }
 
 impl TagIndex {
@@ -47,67 +73,45 @@ impl TagIndex {
         ensures { result ≡ set.empty }
     {
         TagIndex {
-            tag_keys: HashMap::new(alloc),
-            alloc,
+            versions: BTreeSet::new(alloc),
         }
     }
 
     /// Adds a version with a tag. One that is there already changes nothing.
     ///
-    /// The only refusal is `Memory`; then nothing is changed. Costs by the logarithm of the
-    /// versions of the table with the tag.
+    /// The only refusal is `Memory`; then nothing is changed. Costs by the logarithm of the set.
     pub fn add(&mut self, tag: Tag, version: VersionKey) -> Result<(), Refusal>
         ensures ok { OnOk result (self.new ≡ set.insert self.old (record { tag = tag; version = version })) }
         ensures err { IfErr result (λ why. why ≡ Memory) }
         ensures kept { OnErr result (self.new ≡ self.old) }
     {
-        let tag_key = TagKey::new(version.table, tag);
-        if let Some(versions) = self.tag_keys.get_mut(&tag_key) {
-            return versions.add(version);
-        }
-        let mut versions = KeyIndex::new(self.alloc);
-        versions.add(version)?;
-        self.tag_keys.insert(tag_key, versions)?;
+        self.versions.insert(TaggedVersion { tag, version })?;
         Ok(())
     }
 
-    /// Removes a version with a tag, where it is there. Costs by the logarithm of the versions of
-    /// the table with the tag.
+    /// Removes a version with a tag, where it is there. Costs by the logarithm of the set.
     pub fn remove(&mut self, tag: Tag, version: VersionKey)
         ensures { self.new ≡ set.remove self.old (record { tag = tag; version = version }) }
     {
-        let tag_key = TagKey::new(version.table, tag);
-        let Some(versions) = self.tag_keys.get_mut(&tag_key) else {
-            return;
-        };
-        versions.remove(version);
-        if versions.is_empty() {
-            forget(&mut self.tag_keys, tag_key);
-        }
+        self.versions.remove(&TaggedVersion { tag, version });
     }
 
-    /// Whether a version is there with a tag. Costs by the logarithm of the versions of the table
-    /// with the tag.
+    /// Whether a version is there with a tag. Costs by the logarithm of the set.
     pub fn has(&self, tag: Tag, version: VersionKey) -> bool
         ensures { result ≡ set.contains self.now (record { tag = tag; version = version }) }
     {
-        match self.tag_keys.get(&TagKey::new(version.table, tag)) {
-            Some(versions) => versions.has(version),
-            None => false,
-        }
+        self.versions.contains(&TaggedVersion { tag, version })
     }
 
     /// The versions of a table with a tag, in rising order.
     ///
-    /// The only refusal is `Memory`. Costs by what it gives.
+    /// The only refusal is `Memory`. Costs by the logarithm of the set and by what it gives.
     pub fn list(&self, alloc: Global, table: Table, tag: Tag) -> Result<Vec<VersionKey>, Refusal>
         ensures ok { IfOk result (λ versions. Lists versions.items (with_tag self.now table tag)) }
         ensures err { IfErr result (λ why. why ≡ Memory) }
     {
-        match self.tag_keys.get(&TagKey::new(table, tag)) {
-            Some(versions) => versions.all(alloc),
-            None => Ok(Vec::new(alloc)),
-        }
+        let versions = list_from(alloc, &self.versions, first_tagged(table, tag))?;
+        Ok(versions)
     }
 
     /// The same set again.
@@ -117,22 +121,16 @@ impl TagIndex {
         ensures ok { IfOk result (λ index. index ≡ self.now) }
         ensures err { IfErr result (λ why. why ≡ Memory) }
     {
-        let mut tag_keys = HashMap::with_capacity(alloc, self.tag_keys.len())?;
-        for (tag_key, versions) in &self.tag_keys {
-            insert(&mut tag_keys, *tag_key, versions.copy(alloc)?)?;
-        }
-        Ok(TagIndex { tag_keys, alloc })
+        let versions = copy_of(alloc, &self.versions)?;
+        Ok(TagIndex { versions })
     }
 }
 
-fn insert(
-    tag_keys: &mut HashMap<TagKey, KeyIndex>,
-    tag_key: TagKey,
-    versions: KeyIndex,
-) -> Result<(), AllocError>
-    ensures ok { OnOk result (hash.Updates tag_key_eq tag_keys.old tag_keys.new tag_key (Some versions)) }
-    ensures unique { hash.IsUnique tag_key_eq tag_keys.new }
+fn copy_of(
+    alloc: Global,
+    versions: &BTreeSet<TaggedVersion>,
+) -> Result<BTreeSet<TaggedVersion>, AllocError>
+    ensures { IfOk result (λ copy. sorted.IsFromIterResult tagged_cmp versions.now.keys copy) }
 {
-    tag_keys.insert(tag_key, versions)?;
-    Ok(())
+    versions.iter().copied().collect(alloc)
 }

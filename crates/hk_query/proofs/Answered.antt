@@ -13,7 +13,7 @@ use Rattle.hk_model.proofs.Maps.{version_key_same}
 use Rattle.hk_model.proofs.Listed.{shown_of, listed, rises_from, set_In, In_set}
 use Rattle.hk_index.specs.Listed.{Lists, with_keys}
 use Rattle.hk_index.specs.Tagged.{tagged_cmp, with_tag}
-use Rattle.hk_index.proofs.TagKeys.{contains-with_tag}
+use Rattle.hk_index.proofs.Tags.{contains-with_tag}
 use Rattle.hk_store.specs.Indexed.{is_tagged}
 use Rattle.hk_query.specs.Rows.{rows_shown}
 

@@ -12,8 +12,9 @@ use Rattle.hk_types.specs.declared.faults.Refusal.TheVariants.{Conflict}
 use Rattle.hk_model.specs.History.Rows.{version_key_cmp}
 use Rattle.hk_model.specs.Replica.Maps.{or_else}
 use Rattle.hk_model.proofs.Maps.{version_key_total}
-use Rattle.hk_index.specs.Tagged.{TaggedVersion, tagged_cmp}
-use Rattle.hk_index.proofs.TagKeys.{tagged_total, tied_parts}
+use Rattle.hk_index.specs.declared.tagged.TaggedVersion.{TaggedVersion}
+use Rattle.hk_index.specs.Tagged.{tagged_cmp}
+use Rattle.hk_index.proofs.Tags.{tagged_total, tied_parts}
 use Rattle.hk_facts.specs.declared.fact.Fact.{Fact}
 use Rattle.hk_facts.specs.declared.fact.Fact.TheVariants.{Row, End}
 use Rattle.hk_facts.specs.declared.fact.Part.{Part}

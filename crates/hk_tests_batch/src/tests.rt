@@ -12,6 +12,7 @@ use std::sync::atomic::AtomicU64;
 use std::sync::atomic::Ordering::SeqCst;
 use std::test::Fail;
 use std::thread;
+use std::thread::Threads;
 
 /// How often worker 1 looks whether worker 2 has entered.
 const TURNS: u32 = 10_000_000;
@@ -90,6 +91,57 @@ fn every_number_of_workers_gives_the_fragment(rt: HostRuntime) -> Result<(), Fai
         assert_eq!(rt; told, 20, "by {workers} workers");
         let told = refused(build(&rt, alloc, config, &conflicting, workers, &OpenGate));
         assert_eq!(rt; told, 23, "by {workers} workers");
+    }
+    Ok(())
+}
+
+/// A request for so many bytes and N more lets the Nth request from then on be refused, where the tests run under
+/// tests/faults/failing_memory.c, and with `ALL` more those after it too; none where N is 0. It is refused itself, also
+/// without that library.
+const ARM: usize = 1 << 62;
+
+const ALL: usize = 1 << 32;
+
+fn refuse(alloc: Global, number: usize) {
+    let _refused = Vec::<u8>::with_capacity(alloc, ARM.saturating_add(number));
+}
+
+/// More than three workers and a last attempt make over seven items.
+const MOST_REQUESTS: usize = 150;
+
+/// The refusal of the fragment of a list by three workers, or 0, where the request for memory of this number is refused.
+fn refused_at<R: Threads + Sync>(
+    rt: &R,
+    alloc: Global,
+    items: &[Item],
+    number: usize,
+) -> Result<u8, Fail> {
+    let config = Config::new(7, 2)?;
+    refuse(alloc, number);
+    let built = build(rt, alloc, config, items, 3, &OpenGate);
+    refuse(alloc, 0);
+    if let Ok(fragment) = &built
+        && !is_whole(fragment)
+    {
+        return Err(Fail::from("another fragment"));
+    }
+    Ok(refused(built))
+}
+
+#[test]
+fn each_request_refused(rt: HostRuntime) -> Result<(), Fail> {
+    let alloc = rt.alloc();
+    let whole = items(alloc, &[6, 5, 4, 3, 2, 1, 1])?;
+    let foreign = items(alloc, &[1, 7, 8])?;
+    let conflicting = items(alloc, &[1, 7])?;
+    for number in 1..=MOST_REQUESTS {
+        for first in [number, number + ALL] {
+            let told = refused_at(&rt, alloc, &whole, first)?;
+            assert!(rt; told == 0 || told == 90, "{first}: {told}");
+            assert_eq!(rt; refused_at(&rt, alloc, &foreign, first)?, 20, "{first}");
+            assert_eq!(rt; refused_at(&rt, alloc, &conflicting, first)?, 23, "{first}");
+            assert_eq!(rt; refused_at(&rt, alloc, &whole, 0)?, 0, "after {first}");
+        }
     }
     Ok(())
 }

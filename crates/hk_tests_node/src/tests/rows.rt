@@ -75,19 +75,33 @@ fn since(alloc: Global, numbers: &[u64], base: u64) -> Result<Fragment, Fail> {
     Ok(delta_since(alloc, &state, time(base)?)?)
 }
 
-/// A node with a seat, and the holds that it gave.
+/// A node with a seat, and the holds that it gave. Of the requests for memory of each call of the node the one
+/// with this number is refused, none where it is 0.
 #[derive(Drop)]
 struct Game<J: NodeName, S: Wait + Drop> {
     alloc: Global,
     node: Node<J, S>,
     seat: ReaderSeat<J>,
     holds: Vec<Hold>,
+    number: usize,
+}
+
+/// A request for so many bytes and N more lets the Nth request from then on be refused, where the tests run
+/// under tests/faults/failing_memory.c, and none where N is 0. It is refused itself, also without that library.
+const ARM: usize = 1 << 62;
+
+fn refuse(alloc: Global, number: usize) {
+    let _refused = Vec::<u8>::with_capacity(alloc, ARM.saturating_add(number));
 }
 
 impl<J: NodeName, S: Wait + Drop> Game<J, S> {
     /// The number of operations and the number of the hold, which is kept with 42 too.
     fn hold<R: Wait>(&mut self, rt: &R, at: u64) -> Result<Tells, Fail> {
-        match self.node.hold(rt, time(at)?) {
+        let at = time(at)?;
+        refuse(self.alloc, self.number);
+        let held = self.node.hold(rt, at);
+        refuse(self.alloc, 0);
+        match held {
             Ok((hold, receipt)) => {
                 let tells = (0, receipt.ops(), hold.reader);
                 self.holds.push(hold)?;
@@ -103,7 +117,10 @@ impl<J: NodeName, S: Wait + Drop> Game<J, S> {
     }
 
     fn release_this<R: Wait>(&mut self, rt: &R, hold: Hold) -> Result<Tells, Fail> {
-        match self.node.release(rt, hold) {
+        refuse(self.alloc, self.number);
+        let released = self.node.release(rt, hold);
+        refuse(self.alloc, 0);
+        match released {
             Ok(receipt) => Ok((0, receipt.ops(), 0)),
             Err((hold, why)) => {
                 if let Some(hold) = hold {
@@ -126,7 +143,10 @@ impl<J: NodeName, S: Wait + Drop> Game<J, S> {
 
     /// Publishes, and lets the seat learn it.
     fn publish<R: Wait>(&mut self, rt: &R) -> Tells {
-        match self.node.publish(rt) {
+        refuse(self.alloc, self.number);
+        let published = self.node.publish(rt);
+        refuse(self.alloc, 0);
+        match published {
             Ok(receipt) => {
                 let ops = receipt.ops();
                 self.seat.learn(receipt);
@@ -150,22 +170,43 @@ impl<J: NodeName, S: Wait + Drop> Game<J, S> {
         }
     }
 
+    fn join<R: Wait>(&mut self, rt: &R, fragment: Fragment) -> Tells {
+        refuse(self.alloc, self.number);
+        let joined = self.node.join(rt, fragment);
+        refuse(self.alloc, 0);
+        told(joined)
+    }
+
+    fn merge<R: Wait>(&mut self, rt: &R, state: &ReplicaState) -> Tells {
+        refuse(self.alloc, self.number);
+        let merged = self.node.merge(rt, state);
+        refuse(self.alloc, 0);
+        told(merged)
+    }
+
+    fn prune<R: Wait>(&mut self, rt: &R, to: Time) -> Tells {
+        refuse(self.alloc, self.number);
+        let pruned = self.node.prune(rt, to);
+        refuse(self.alloc, 0);
+        told(pruned)
+    }
+
     fn change<R: Wait>(&mut self, rt: &R, does: Does) -> Result<Tells, Fail> {
         match does {
-            Does::Join(numbers) => Ok(told(self.node.join(rt, fragment(self.alloc, numbers)?))),
+            Does::Join(numbers) => Ok(self.join(rt, fragment(self.alloc, numbers)?)),
             Does::JoinSince(numbers, base) => {
-                Ok(told(self.node.join(rt, since(self.alloc, numbers, base)?)))
+                Ok(self.join(rt, since(self.alloc, numbers, base)?))
             }
             Does::JoinForeign => {
                 let foreign = fragment_of(self.alloc, Config::new(8, 1)?, &[])?;
-                Ok(told(self.node.join(rt, foreign)))
+                Ok(self.join(rt, foreign))
             }
             Does::MergeWide => {
                 let wide = ReplicaState::new(self.alloc, Config::new(7, 2)?)?;
-                Ok(told(self.node.merge(rt, &wide)))
+                Ok(self.merge(rt, &wide))
             }
-            Does::Merge(to) => Ok(told(self.node.merge(rt, &state_of(self.alloc, to)?))),
-            Does::Prune(to) => Ok(told(self.node.prune(rt, time(to)?))),
+            Does::Merge(to) => Ok(self.merge(rt, &state_of(self.alloc, to)?)),
+            Does::Prune(to) => Ok(self.prune(rt, time(to)?)),
             _ => Err(Fail::from("no change")),
         }
     }
@@ -199,6 +240,7 @@ fn new_game<J: NodeName, R: Wait>(rt: &R, alloc: Global, list: NewList) -> Resul
         node,
         seat,
         holds: Vec::new(alloc),
+        number: 0,
     })
 }
 
@@ -281,26 +323,38 @@ fn one_day(rt: HostRuntime) -> Result<(), Fail> {
     steps::<Brand, _>(&rt, alloc, NewList::new(config()?), &HOLDS)?;
     steps::<Brand, _>(&rt, alloc, NewList::new(config()?), &FRAGMENTS)?;
     steps::<Brand, _>(&rt, alloc, NewList::new(config()?), &DAMAGE)?;
-    waits::<Brand, _>(&rt, alloc, NewList::new(config()?))?;
+    for number in 0..=MOST_REQUESTS {
+        waits::<Brand, _>(&rt, alloc, NewList::new(config()?), number)?;
+    }
     assert!(&rt; next_op(1) == Ok(2) && next_op(LAST_OP) == Err(Refusal::NodeFull));
     Ok(())
 }
 
-/// Makes a change that may find no memory, or be unable to be published, until it is the operation with this number.
-/// `rt try --test --fail-alloc N` refuses the Nth allocation.
+/// More than any change of `waits` makes.
+const MOST_REQUESTS: usize = 80;
+
+/// Makes a change of whose requests for memory one is refused, and again where that refused it, until it is the
+/// operation number `ops`. Where it is refused 90, or waits to be published, readers see what they saw before.
 fn at_last<J: NodeName, R: Wait + Abort, S: Wait + Drop>(
     rt: &R,
     game: &mut Game<J, S>,
     does: Does,
+    number: usize,
     ops: u64,
 ) -> Result<(), Fail> {
     let before = game.front();
+    game.number = number;
     let first = game.play(rt, does)?;
     if first.0 == 42 {
         assert_eq!(rt; (first.1, game.front()), (ops, before));
+        if game.publish(rt).0 == 90 {
+            assert_eq!(rt; game.front(), before);
+        }
+        game.number = 0;
         assert_eq!(rt; game.publish(rt).1, ops);
         return Ok(());
     }
+    game.number = 0;
     if first.0 == 90 {
         assert_eq!(rt; game.front(), before);
         assert_eq!(rt; game.play(rt, does)?.1, ops);
@@ -310,16 +364,24 @@ fn at_last<J: NodeName, R: Wait + Abort, S: Wait + Drop>(
     Ok(())
 }
 
-/// A join, holds, a release and a prune, each of which may find no memory or be unable to be published.
-fn waits<J: NodeName, R: Wait + Abort>(rt: &R, alloc: Global, list: NewList) -> Result<(), Fail>
+/// A join, a merge, holds, a release and a prune, of each of which one request for memory is refused. The
+/// numbers of the holds go on, also where one was handed out with 42.
+fn waits<J: NodeName, R: Wait + Abort>(
+    rt: &R,
+    alloc: Global,
+    list: NewList,
+    number: usize,
+) -> Result<(), Fail>
     requires { list.0 ≡ J.book }
 {
     let mut game = new_game::<J, R>(rt, alloc, list)?;
-    at_last(rt, &mut game, Does::Join(&ALL), 2)?;
-    at_last(rt, &mut game, Does::Hold(2), 3)?;
-    at_last(rt, &mut game, Does::Hold(3), 4)?;
-    at_last(rt, &mut game, Does::Release(1), 5)?;
-    at_last(rt, &mut game, Does::Prune(3), 6)?;
+    at_last(rt, &mut game, Does::Join(&ALL), number, 2)?;
+    at_last(rt, &mut game, Does::Merge(0), number, 3)?;
+    at_last(rt, &mut game, Does::Hold(2), number, 4)?;
+    at_last(rt, &mut game, Does::Hold(3), number, 5)?;
+    at_last(rt, &mut game, Does::Release(1), number, 6)?;
+    at_last(rt, &mut game, Does::Prune(3), number, 7)?;
+    assert_eq!(rt; game.release(rt, 2)?, (0, 8, 0));
     assert_eq!(rt; game.get(5, 3), (0, 0x42, 0));
     Ok(())
 }
