@@ -28,7 +28,7 @@ MOST_RATIO = 6.0
 MOST_GROWTH = 2.0
 
 # What a run takes that reads nothing, and what is too little to be measured.
-LEAST_SECONDS = 0.02
+LEAST_SECONDS = 0.1
 
 passed = 0
 failed = 0
