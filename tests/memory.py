@@ -275,9 +275,18 @@ class Node:
     page is armed on."""
 
     def __init__(self, links=2, streams=1, **how):
-        self.page, self.port = Page(**{"waits": 1, **how}), free_port()
+        for _ in range(5):
+            self.start(links, streams, Page(**{"waits": 1, **how}))
+            if self.said != "refused 93\n":
+                return
+            # somebody took the port in between
+            self.__exit__()
+        raise RuntimeError("no port could be listened to")
+
+    def start(self, links, streams, page):
+        self.page, self.port = page, free_port()
         words = ["serve", "--log", "7", "--streams", str(streams), "--port", str(self.port), "--links", str(links)]
-        self.child = subprocess.Popen([PROGRAM, *words], stdout=subprocess.PIPE, stderr=subprocess.DEVNULL, text=True, env=self.page.environment())
+        self.child = subprocess.Popen([PROGRAM, *words], stdout=subprocess.PIPE, stderr=subprocess.DEVNULL, text=True, env=page.environment())
         lines = queue.Queue()
         threading.Thread(target=lambda: lines.put(self.child.stdout.readline()), daemon=True).start()
         self.said = lines.get(timeout=LIMIT)
@@ -286,7 +295,10 @@ class Node:
         return self.said == f"listening {self.port}\n"
 
     def link(self):
-        return say.Link(self.port, LIMIT)
+        try:
+            return say.Link(self.port, LIMIT)
+        except ConnectionRefusedError as error:
+            raise RuntimeError(f"{error}: the node said {self.said!r}, status {self.child.poll()}") from error
 
     def ends(self):
         """What it printed after its first line, and its status."""
@@ -351,8 +363,9 @@ class Change:
             self.after = state_of(link)
 
     def made(self, node):
+        """A link that is served, behind the requests that make the state."""
         link = node.link()
-        for request in self.setup:
+        for request in [say.front(), *self.setup]:
             link.ask(request)
         return link
 

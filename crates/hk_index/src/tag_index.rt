@@ -15,8 +15,8 @@ use std::alloc::{AllocError, Global};
 use std::collections::BTreeSet;
 use std::marker::Model;
 
-/// A set of version keys with tags, found by table and tag. It is an ordered one, so that no choice of tags is dearer
-/// than another.
+/// A set of version keys with tags, found by table and tag. It is an ordered one, so that no choice of tags is
+/// dearer than another.
 #[derive(Drop)]
 pub struct TagIndex {
     versions: BTreeSet<TaggedVersion>,

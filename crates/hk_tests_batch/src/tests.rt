@@ -95,9 +95,9 @@ fn every_number_of_workers_gives_the_fragment(rt: HostRuntime) -> Result<(), Fai
     Ok(())
 }
 
-/// A request for so many bytes and N more lets the Nth request from then on be refused, where the tests run under
-/// tests/faults/failing_memory.c, and with `ALL` more those after it too; none where N is 0. It is refused itself, also
-/// without that library.
+/// A request for so many bytes and N more lets the Nth request from then on be refused, where the tests run
+/// under tests/faults/failing_memory.c, and with `ALL` more those after it too; none where N is 0. It is refused
+/// itself, also without that library.
 const ARM: usize = 1 << 62;
 
 const ALL: usize = 1 << 32;
@@ -109,7 +109,7 @@ fn refuse(alloc: Global, number: usize) {
 /// More than three workers and a last attempt make over seven items.
 const MOST_REQUESTS: usize = 150;
 
-/// The refusal of the fragment of a list by three workers, or 0, where the request for memory of this number is refused.
+/// The refusal of the fragment of a list by three workers, or 0, where one request for memory is refused.
 fn refused_at<R: Threads + Sync>(
     rt: &R,
     alloc: Global,
