@@ -107,10 +107,11 @@ fn joined<R: Threads + Sync, G: Gate + Sync>(
 /// workers find no fragment, or no memory, the whole list is gathered once more by this thread alone, and its answer
 /// is the answer. So `Memory` comes only where the items have a fragment.
 ///
-/// With `w` workers and `n` facts each worker's work grows as `n / w` times the logarithm of that, and that of
-/// joining them as `w` times `n`; the rows of all pieces but the first are copied once more. While they are joined
-/// the fragment and the pieces are held together: about twice the fragment, and at most what `fragment_of` takes of
-/// all pieces at once.
+/// Cost: O((n · log n + b) / w) for each worker, w workers, n items, rows and ends, b bytes of bodies, and
+/// O(w · n + n · log n + b) for joining their pieces; the rows of all pieces but the first are copied once more.
+/// Where the list is gathered once more, that of `fragment_of` too. While the pieces are joined, they and the
+/// fragment are held together: about twice the fragment, and at most what `fragment_of` takes of all pieces at
+/// once.
 pub fn build<R: Threads + Sync, G: Gate + Sync>(
     rt: &R,
     alloc: Global,

@@ -150,6 +150,7 @@ fn push_to<R: Net<Listener = TcpListener, Stream = TcpStream>, I: Read, W: Write
 /// - no line where a write of the output failed or took no bytes: the status alone tells it.
 ///
 /// It reads 65,536 bytes at a time, and holds their requests and one reply. It waits for a reply without a limit.
+/// Cost: O(n · log n), n bytes of the requests and the replies, beside the node's answers.
 pub fn run_push<R: Net<Listener = TcpListener, Stream = TcpStream>, I: Read, W: Write>(
     rt: &R,
     alloc: Global,

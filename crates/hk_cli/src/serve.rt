@@ -71,6 +71,8 @@ fn serve_list<
 /// - `refused 93` where the port can't be listened to, as one in use, or no further link can be accepted;
 /// - `refused 90` where memory ran out for the node or the list of links;
 /// - no line where a write failed or took no bytes: the status alone tells it.
+///
+/// Cost: that of `start` and of `serve_links`.
 pub fn run_serve<
     R: Net<Listener = TcpListener, Stream = TcpStream> + Threads + Wait + Sync,
     W: Write,

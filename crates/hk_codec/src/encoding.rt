@@ -179,7 +179,7 @@ fn put_rest(out: &mut Vec<u8>, item: &Item) -> Result<(), AllocError>
     }
 }
 
-/// How many bytes an item's encoding has. The cost grows with the number of its rows.
+/// How many bytes an item's encoding has. Cost: O(w), w ends and rows.
 #[tactic(auto, using(crate::proofs::Lengths::encoding_len))]
 pub fn frame_len(item: &Item) -> u32
     ensures len { result ≡ length (encoding_of item.now) }
@@ -191,7 +191,7 @@ pub fn frame_len(item: &Item) -> u32
 }
 
 /// Adds the item's encoding at the end, as `encode` does. The only error is out of memory; what was there
-/// before is then still the front.
+/// before is then still the front. Cost: that of `encode`.
 #[tactic(auto, using(std::proofs::Common::append_assoc, hk_frames::proofs::Prefix::kept_all, hk_frames::proofs::Prefix::kept_before, hk_frames::proofs::Prefix::kept_both), unfolding(hk_frames::specs::Framing::encoded))]
 pub fn put_frame(out: &mut Vec<u8>, item: &Item) -> Result<(), AllocError>
     ensures ok { OnOk result (out.new.items ≡ out.old.items ++ encoding_of item.now) }
@@ -206,9 +206,9 @@ pub fn put_frame(out: &mut Vec<u8>, item: &Item) -> Result<(), AllocError>
 }
 
 /// Adds the item's one encoding at the end. A feeder that is given it gives the item back, and holds nothing.
-/// The whole frame is reserved at once, so the cost is one growth of the output at most, and two passes over
-/// the item: one that counts its bytes and one that writes them. The only refusal is `Memory`, and then the
-/// output is as before.
+/// The only refusal is `Memory`, and then the output is as before. Cost: O(n), n bytes of the encoding: the
+/// whole frame is reserved at once, so the output grows once at most; one pass over the item counts its
+/// bytes, and one writes them.
 pub fn encode(item: &Item, out: &mut Vec<u8>) -> Result<(), Refusal>
     ensures ok { OnOk result (out.new.items ≡ out.old.items ++ encoding_of item.now) }
     // What is added is the encoding of an item, and is read as that item.

@@ -38,8 +38,9 @@ impl Feeder {
 
     /// Takes the next piece of the stream, and adds the items of the frames that are whole now. A fault is
     /// answered once the bytes have it, after the items before it, and then permanently. Where memory runs
-    /// out, which is `Memory`, the feeder and the list are as before. The cost is one pass over the
-    /// frames that are whole now, and one copy of the bytes that are left.
+    /// out, which is `Memory`, the feeder and the list are as before. Cost: O(n), n bytes of the piece and
+    /// of the frames that are whole now: one pass over those frames, and one copy of the bytes that are
+    /// left.
     pub fn feed(&mut self, piece: &[u8], out: &mut Vec<Item>) -> Result<(), Refusal>
         // What is held and the piece begin with the encodings of the added items. What follows them is held.
         ensures reads { Feeds Adds self.old self.new out.old.items out.new.items piece.now result }

@@ -167,8 +167,8 @@ fn decode_alone(alloc: Global, bytes: &[u8]) -> Result<Vec<Item>, Refusal>
 ///
 /// Parts of whole frames, of 65,536 bytes at least, are read by as many threads as there are processors. It joins
 /// them, so it waits: what it gives is promised if it returns. Bytes of less than two parts are read by this thread
-/// alone. The cost is two passes over the bytes, one of them over the length fields alone; after a fault or a want of
-/// memory in a part its frames are read once more.
+/// alone. Cost: O(n), n bytes: two passes over them, one of them over the length fields alone; where a part has a
+/// fault, or memory ran out in it, the frames from its first on are read once more.
 pub fn decode_all(
     rt: &(impl Threads + Sync),
     alloc: Global,

@@ -33,6 +33,7 @@ impl<'a, W: Write> Output<'a, W> {
     }
 
     /// Adds the lines of a value, all of them or none, and writes what was gathered once that is much.
+    /// Cost: O(n), n bytes of the lines and of what is written.
     pub fn print<T: Printed>(&mut self, value: &T) -> Result<(), Stop> {
         self.next.clear();
         value.print_to(self.alloc, &mut self.next)?;
@@ -43,7 +44,7 @@ impl<'a, W: Write> Output<'a, W> {
         Ok(())
     }
 
-    /// Writes what was gathered.
+    /// Writes what was gathered. Cost: O(n), n bytes written.
     pub fn flush(&mut self) -> Result<(), Stop> {
         let written = self.writer.write_all(self.lines.as_bytes());
         self.lines.clear();
@@ -61,6 +62,7 @@ impl<'a, W: Write> Output<'a, W> {
     }
 
     /// Writes what was gathered, and then why the command stopped. The status of the command: 1.
+    /// Cost: that of `flush`.
     pub fn stop(&mut self, stop: Stop) -> u8
         ensures { result ≡ 1 }
     {

@@ -10,7 +10,7 @@ use std::alloc::AllocError;
 /// Why a command stops.
 #[derive(Clone, Copy)]
 pub enum Stop {
-    /// A fault of the input, or a refusal, out of memory included.
+    /// A fault of the input, or a refusal, `Memory` included.
     Refused(Refusal),
     /// A read failed, or there were 2^32 reads without an end.
     ReadFault,

@@ -135,7 +135,8 @@ fn play<I: Read, W: Write>(
 /// - `refused 91` where a read failed, or 2^32 reads did not come to the end;
 /// - no line where a write failed or took no bytes: the status alone tells it.
 ///
-/// A command that is refused prints its refusal, changes nothing, and the script goes on.
+/// A command that is refused prints its refusal, changes nothing, and the script goes on. Cost: that of the events,
+/// and O(n), n bytes of the script and of the lines.
 pub fn run_world<I: Read, W: Write>(alloc: Global, input: &mut I, writer: &mut W) -> u8
     ensures { result ≤ 1 }
 {

@@ -11,7 +11,7 @@ use Rattle.hk_model.specs.History.Histories.{Transaction, IsHistory, AreItemsOf}
 use Rattle.hk_model.specs.Replica.Replicas.{Represents}
 
 -- where the target represents items of a history, and the fragment is the part of others of its items: a base that
--- leaves no gap leaves the target standing for all of them at the greater horizon, unless memory ran out; above
+-- leaves no gap leaves the target representing all of them at the greater horizon, unless memory ran out; above
 -- the readable mark it is refused, and nothing changes
 abbrev pub JoinsOf : Content → Content → FragmentValue → Result (Unit {0}) Refusal → Type 0
 JoinsOf old new f result =

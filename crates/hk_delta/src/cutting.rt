@@ -85,7 +85,8 @@ fn fragment_from(alloc: Global, state: &ReplicaState, base: Time) -> Result<Frag
 
 /// The whole of what a state holds, as a fragment of base 0.
 ///
-/// The only refusal is `Memory`. Costs by what is held, which is copied.
+/// The only refusal is `Memory`. Cost: O(n · log n + b), n versions, extra numbers and waiting marks held,
+/// b bytes of bodies, all copied.
 pub fn whole_of(alloc: Global, state: &ReplicaState) -> Result<Fragment, Refusal>
     ensures ok { IfOk result (λ fragment. fragment ≡ cut state.now 0) }
     ensures err { IfErr result (λ why. why ≡ Memory) }
@@ -98,7 +99,8 @@ pub fn whole_of(alloc: Global, state: &ReplicaState) -> Result<Fragment, Refusal
 /// it, the ends above it, and all numbers and marks.
 ///
 /// A base below the horizon is refused `TooOld` with the horizon, and then `Memory` comes where a growth was
-/// refused. Costs by the versions that are held, each of which is looked at, and by what is copied.
+/// refused. Cost: O(n · log n + b), n versions, extra numbers and waiting marks held, each looked at, b bytes
+/// of the bodies that are copied.
 pub fn delta_since(alloc: Global, state: &ReplicaState, base: Time) -> Result<Fragment, Refusal>
     ensures gives { Cuts state.now base result }
     ensures represents { CutsOf state.now base result }

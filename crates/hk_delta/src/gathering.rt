@@ -147,9 +147,9 @@ fn gather(alloc: Global, config: Config, items: &[Item]) -> Result<Fragment, Ref
 ///
 /// The first item that is of another log is refused `ForeignLog`, or of a stream above the configured number
 /// `WrongStreams`. Two items that give a version different rows or different ends are refused `Conflict`, and
-/// then `Memory` comes where a growth was refused. The cost grows as the number of facts times its logarithm, and
-/// the rows are copied. Only where memory was refused, the items are compared with each other, which takes no
-/// memory, and costs by the square of what they say.
+/// then `Memory` comes where a growth was refused. Cost: O(n · log n + b), n items, rows and ends, b bytes of
+/// bodies, all copied. Only where memory was refused, the items are compared with each other, which takes no
+/// memory: O(n²).
 pub fn fragment_of(alloc: Global, config: Config, items: &[Item]) -> Result<Fragment, Refusal>
     ensures gives { Gathers config items.now result }
     ensures represents { GathersOf config items.now result }
@@ -166,7 +166,7 @@ pub fn fragment_of(alloc: Global, config: Config, items: &[Item]) -> Result<Frag
     }
 }
 
-/// A conflict is refused before out of memory. Where it is known the items are not compared.
+/// `Conflict` comes before `Memory`. Where the conflict is known the items are not compared.
 fn refusal_of(why: Refusal, items: &[Item]) -> Refusal
     ensures conflict { have_conflict items.now ≡ true → result ≡ ConflictRefusal }
     ensures other { have_conflict items.now ≡ false → result ≡ why }

@@ -43,9 +43,9 @@ fn lend(
 /// end of a version than the state `Conflict`; so far no memory is taken. `Memory` comes last, where a growth was
 /// refused. A refusal changes nothing.
 ///
-/// The cost grows as the number of versions of the fragment times the logarithm of what the state holds, and as the
-/// numbers and marks of both that wait for others; and where the horizon rises, since something of the state's own
-/// may have to go, as that of its versions times its logarithm.
+/// Cost: O(c · log n + b), c versions of the fragment and numbers and marks of both that wait for others, n these
+/// and the state's versions together, b bytes of bodies compared or copied. Where the horizon rises, something of
+/// the state's own may have to go: O(n · log n + b).
 pub fn join(target: &mut ReplicaState, fragment: &Fragment) -> Result<(), Refusal>
     ensures gives { Joins target.old target.new fragment.now result }
     ensures represents { JoinsOf target.old target.new fragment.now result }

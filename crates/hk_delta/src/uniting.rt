@@ -70,8 +70,9 @@ fn has_conflict(own: &Fragment, other: &Fragment) -> bool
 /// `Memory` comes where a growth was refused. A refusal changes nothing. The union of the fragments of two lists of
 /// items is the fragment of the one list after the other.
 ///
-/// The cost grows as the number of versions of both, as that of the other one times the logarithm of the first one's,
-/// and as the numbers and marks of both that wait for others. The other one's rows are copied, its own are moved.
+/// Cost: O(n + c · log n + b), n versions, numbers and marks of both, c of them the other one's versions and the
+/// numbers and marks of both that wait for others, b bytes of the other one's bodies, which are copied; its own are
+/// moved.
 pub fn union(into: &mut Fragment, other: &Fragment) -> Result<(), Refusal>
     requires own { IsFromZero into.old }
     requires coming { IsFromZero other.now }

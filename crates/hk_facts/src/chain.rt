@@ -58,8 +58,9 @@ impl Chain {
     }
 
     /// Adds a fact on the version that was born then. One that is known already changes nothing, and one
-    /// that differs from what is known is a conflict. Out of memory comes only where nothing is
-    /// known of the version. A refusal changes nothing. The cost grows as the logarithm of the length.
+    /// that differs from what is known is a conflict. `Memory` comes only where nothing is known of the
+    /// version. A refusal changes nothing. Cost: O(log n + b), n versions, b bytes of a body that is
+    /// compared.
     pub fn put(&mut self, born: Time, fact: Fact) -> Result<(), Refusal>
         ensures ok { OnOk result (chain_put self.old born fact ≡ Ok self.new) }
         ensures err { IfErr result (λ why. (chain_put self.old born fact ≡ Err why)
@@ -73,7 +74,7 @@ impl Chain {
         Ok(())
     }
 
-    /// Adds a row, as `put` does.
+    /// Adds a row, as `put` does. Cost: that of `put`.
     pub fn put_row(&mut self, born: Time, row: Row) -> Result<(), Refusal>
         ensures ok { OnOk result (chain_put self.old born (RowFact row) ≡ Ok self.new) }
         ensures err { IfErr result (λ why. (chain_put self.old born (RowFact row) ≡ Err why)
@@ -83,7 +84,7 @@ impl Chain {
         self.put(born, Fact::Row(row))
     }
 
-    /// Adds an end, as `put` does.
+    /// Adds an end, as `put` does. Cost: that of `put`.
     pub fn put_end(&mut self, born: Time, died: Time) -> Result<(), Refusal>
         ensures ok { OnOk result (chain_put self.old born (EndFact died) ≡ Ok self.new) }
         ensures err { IfErr result (λ why. (chain_put self.old born (EndFact died) ≡ Err why)
@@ -93,8 +94,8 @@ impl Chain {
         self.put(born, Fact::End(died))
     }
 
-    /// Takes a part of a version back. A version of which nothing else is known goes. The cost grows as
-    /// the logarithm of the length.
+    /// Takes a part of a version back. A version of which nothing else is known goes. Cost: O(log n),
+    /// n versions.
     pub fn forget(&mut self, born: Time, part: Part)
         ensures { self.new ≡ chain_forget self.old born part }
     {
@@ -107,15 +108,15 @@ impl Chain {
         self.versions.remove(&born);
     }
 
-    /// Drops what is known of a version. The cost grows as the logarithm of the length.
+    /// Drops what is known of a version. Cost: O(log n), n versions.
     pub fn remove(&mut self, born: Time)
         ensures { self.new ≡ finmap.remove self.old born }
     {
         self.forget(born, Part::Whole);
     }
 
-    /// Drops each version whose end is known and at most `until`, and nothing else. The cost grows with
-    /// the length.
+    /// Drops each version whose end is known and at most `until`, and nothing else.
+    /// Cost: O(n + d · log n), n versions, d of them dropped.
     pub fn drop_until(&mut self, until: Time)
         ensures { self.new ≡ chain_until self.old until }
     {
@@ -124,8 +125,8 @@ impl Chain {
     }
 
     /// Of the versions that have a row and were born at a time or before, the one born last, with the time
-    /// of its birth. It takes no memory. The cost grows as the logarithm of the length, and with the
-    /// number of versions without a row that are stepped over.
+    /// of its birth. It takes no memory. Cost: O(log n + s), n versions, s of them without a row and
+    /// stepped over.
     pub fn latest(&self, time: Time) -> Option<(Time, &Version)>
         ensures { option_map (λ p. (p.0, p.1.now)) result ≡ latest_at self.now time }
     {
@@ -139,7 +140,7 @@ impl Chain {
     }
 
     /// The row at a time: that of the latest version with a row, unless its end is known and at most that
-    /// time. It takes no memory. It costs what `latest` does.
+    /// time. It takes no memory. Cost: that of `latest`.
     pub fn at(&self, time: Time) -> Option<&Row>
         ensures { option_copied result ≡ row_at self.now time }
     {
@@ -149,7 +150,7 @@ impl Chain {
         }
     }
 
-    /// What is known of the version that was born then. The cost grows as the logarithm of the length.
+    /// What is known of the version that was born then. Cost: O(log n), n versions.
     pub fn version(&self, born: Time) -> Option<&Version>
         ensures { option_copied result ≡ finmap.get self.now born }
     {
@@ -176,8 +177,8 @@ impl Chain {
         self.versions.iter()
     }
 
-    /// The same chain again. The only error is out of memory. The cost grows a little faster than the
-    /// length.
+    /// The same chain again. The only error is out of memory. Cost: O(n · log n + b), n versions, b bytes
+    /// of bodies, all copied.
     pub fn copy(&self, alloc: Global) -> Result<Chain, AllocError>
         ensures { IfOk result (λ chain. chain ≡ self.now) }
     {

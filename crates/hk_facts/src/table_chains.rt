@@ -61,9 +61,9 @@ impl TableChains {
     }
 
     /// Adds a fact on the version of a key that was born then. One that is known already changes nothing,
-    /// and one that differs from what is known is a conflict. Out of memory comes only where
-    /// nothing is known of the version. A refusal changes nothing. The cost grows as the logarithm of
-    /// the number of keys and of the length of the chain.
+    /// and one that differs from what is known is a conflict. `Memory` comes only where nothing is known
+    /// of the version. A refusal changes nothing. Cost: O(log k + log n + b), k keys, n versions of this
+    /// key, b bytes of a body that is compared.
     pub fn put(&mut self, key: Key, born: Time, fact: Fact) -> Result<(), Refusal>
         ensures ok { OnOk result (keyed_put self.old key born fact ≡ Ok self.new) }
         ensures err { IfErr result (λ why. (keyed_put self.old key born fact ≡ Err why)
@@ -79,7 +79,7 @@ impl TableChains {
     }
 
     /// Takes a part of a version back. A version of which nothing else is known goes, and so does a chain
-    /// with no other version. The cost grows as that of `put`.
+    /// with no other version. Cost: O(log k + log n), k keys, n versions of this key.
     pub fn forget(&mut self, key: Key, born: Time, part: Part)
         ensures { self.new ≡ keyed_forget self.old key born part }
     {
@@ -93,7 +93,7 @@ impl TableChains {
         self.chains.remove(&key);
     }
 
-    /// The chain of a key. The cost grows as the logarithm of the number of keys.
+    /// The chain of a key. Cost: O(log k), k keys.
     pub fn chain(&self, key: Key) -> Option<&Chain>
         ensures value { option_copied result ≡ finmap.get self.now key }
         ensures filled { IfSome result (λ chain. 0 < finmap.len chain.now) }
@@ -121,8 +121,8 @@ impl TableChains {
         self.chains.iter()
     }
 
-    /// The same chains again. The only error is out of memory. The cost grows a little faster than the
-    /// number of versions.
+    /// The same chains again. The only error is out of memory. Cost: O(n · log n + b), n versions,
+    /// b bytes of bodies, all copied.
     pub fn copy(&self, alloc: Global) -> Result<TableChains, AllocError>
         ensures { IfOk result (λ keyed. keyed ≡ self.now) }
     {

@@ -118,8 +118,7 @@ impl Fragment {
     ///   `BadNumber` where the version is born at 0, or has a row and is not born above the base, or has an end
     ///   that is not above the base, the horizon and its birth.
     ///
-    /// The parts are moved in, and dropped with a fault. It takes no memory. The cost grows with the number of
-    /// streams and of facts.
+    /// The parts are moved in, and dropped with a fault. It takes no memory. Cost: O(s + n), s streams, n facts.
     pub fn new(
         config: Config,
         base: Time,
@@ -205,7 +204,7 @@ impl Fragment {
         &self.facts
     }
 
-    /// What is known of a version. The cost grows as the logarithm of the number of facts.
+    /// What is known of a version. Cost: O(log n), n facts.
     pub fn version(&self, version: VersionKey) -> Option<&Version>
         ensures { option_copied result ≡ known_at (facts_of_content self.now.content) version }
     {
@@ -216,7 +215,8 @@ impl Fragment {
     }
 
     /// Adds the facts, numbers and marks of another fragment of base 0 and horizon 0. The only refusal is `Memory`,
-    /// and then nothing is changed.
+    /// and then nothing is changed. Cost: O(n + w · log w + b), n facts of both, w numbers and marks of both that
+    /// wait for others, b bytes of the other one's bodies, which are copied.
     pub fn take_in(&mut self, other: &Fragment) -> Result<(), Refusal>
         requires own { IsFromZero self.old }
         requires coming { IsFromZero other.now }
@@ -234,7 +234,8 @@ impl Fragment {
         Ok(())
     }
 
-    /// The same fragment again. The only refusal is `Memory`. Costs by what is copied.
+    /// The same fragment again. The only refusal is `Memory`. Cost: O(n + w · log w + b), n facts, w extra numbers
+    /// and waiting marks, b bytes of bodies, all copied.
     pub fn copy(&self, alloc: Global) -> Result<Fragment, Refusal>
         ensures ok { IfOk result (λ fragment. fragment ≡ self.now) }
         ensures err { IfErr result (λ why. why ≡ Memory) }

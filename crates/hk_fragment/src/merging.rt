@@ -66,8 +66,8 @@ fn push_known(list: &mut Vec<(VersionKey, Version)>, known: (VersionKey, Version
     prove!(pushed.is_ok());
 }
 
-/// Merges two rising lists of versions into an empty one that has room for both. It takes no memory. The cost
-/// grows as the length of both.
+/// Merges two rising lists of versions into an empty one that has room for both. It takes no memory.
+/// Cost: O(n), n versions of both.
 pub(crate) fn merged(
     own: Vec<(VersionKey, Version)>,
     coming: Vec<(VersionKey, Version)>,

@@ -169,7 +169,8 @@ impl<'a> Cursor<'a> {
 
     /// Reads a body of at most 4,096 bytes behind its length of two bytes, into a list of its own. A
     /// length above that is a bad body, and one above what is left a wrong length; `Memory` where the list
-    /// is refused. After an error the length may have been read.
+    /// is refused. After an error the length may have been read. Cost: O(n), n bytes of the body, which is
+    /// copied.
     #[tactic(auto, unfolding(crate::specs::Fields::body_at))]
     pub fn body(&mut self, alloc: Global) -> Result<Vec<u8>, ReadError>
         ensures read { spec.GivesOrRunsOut (λ x. (x.items, self.new)) result (spec.body_at self.old) }

@@ -44,7 +44,7 @@ pub fn put_u64(out: &mut Vec<u8>, n: u64) -> Result<(), AllocError>
 }
 
 /// Adds a body behind its length of two bytes. The only error is out of memory; what was there before is
-/// then still the front.
+/// then still the front. Cost: O(n), n bytes of the body.
 #[tactic(auto, using(std::proofs::Common::append_assoc, crate::proofs::Prefix::kept_all, crate::proofs::Prefix::kept_before))]
 pub fn put_body(out: &mut Vec<u8>, body: &[u8]) -> Result<(), AllocError>
     requires { length body.now ≤ 4096 }

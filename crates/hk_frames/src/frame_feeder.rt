@@ -44,8 +44,9 @@ impl FrameFeeder {
 
     /// Takes the next piece of the stream, and adds the values of the frames that are whole now. A fault is
     /// answered once the bytes have it, after the values before it, and then permanently. Where memory runs
-    /// out, which is `Memory`, the feeder and the list are as before. The cost is one pass over the
-    /// frames that are whole now, and one copy of the bytes that are left.
+    /// out, which is `Memory`, the feeder and the list are as before. Cost: that of `Format::read_rest` for
+    /// each frame that is whole now, and O(n), n bytes of the piece, of which those that are left are
+    /// copied.
     pub fn feed<F: Format>(&mut self, piece: &[u8], out: &mut Vec<F::Value>) -> Result<(), Refusal>
         requires { IsFormat F.LEAST_BYTES F.MOST_BYTES F.read F.rest_text F.IsEncodable }
         // What is held and the piece begin with the encodings of the added values. What follows them is held.

@@ -47,6 +47,7 @@ pub fn frame_rest(bytes: &[u8], least: usize, most: usize) -> Result<Option<&[u8
 }
 
 /// The value at the front and how many bytes its frame has, or `None` where a whole frame isn't there.
+/// Cost: that of `Format::read_rest`.
 #[tactic(auto, unfolding(crate::specs::Framing::framed))]
 pub fn next_frame<F: Format>(alloc: Global, bytes: &[u8]) -> Result<Option<(F::Value, usize)>, ReadError>
     ensures { GivesOrRunsOut (option_map (λ x. (F.seen x.0, x.1))) result
@@ -69,6 +70,7 @@ pub struct Progress {
 }
 
 /// Adds the values of the whole frames that the bytes begin with. The only error is out of memory.
+/// Cost: that of `Format::read_rest` for each frame.
 pub fn take_frames<F: Format>(
     alloc: Global,
     bytes: &[u8],

@@ -70,7 +70,8 @@ impl KeyIndex {
 
     /// Adds a version. One that is there already changes nothing.
     ///
-    /// The only refusal is `Memory`; then nothing is changed. Costs by the logarithm of the set.
+    /// The only refusal is `Memory`; then nothing is changed. Cost: O(log n), n versions in the
+    /// set.
     pub fn add(&mut self, version: VersionKey) -> Result<(), Refusal>
         ensures ok { OnOk result (self.new ≡ set.insert self.old version) }
         ensures err { IfErr result (λ why. why ≡ Memory) }
@@ -80,14 +81,14 @@ impl KeyIndex {
         Ok(())
     }
 
-    /// Removes a version, where it is there. Costs by the logarithm of the set.
+    /// Removes a version, where it is there. Cost: O(log n), n versions in the set.
     pub fn remove(&mut self, version: VersionKey)
         ensures { self.new ≡ set.remove self.old version }
     {
         self.versions.remove(&version);
     }
 
-    /// Whether a version is there. Costs by the logarithm of the set.
+    /// Whether a version is there. Cost: O(log n), n versions in the set.
     pub fn has(&self, version: VersionKey) -> bool
         ensures { result ≡ set.contains self.now version }
     {
@@ -104,7 +105,7 @@ impl KeyIndex {
     /// The versions of a table with keys from `low` to `high`, both inside, in rising order. Where
     /// `low` is above `high` there are none.
     ///
-    /// The only refusal is `Memory`. Costs by the logarithm of the set and by what it gives.
+    /// The only refusal is `Memory`. Cost: O(log n + k), n versions in the set, k of them given.
     pub fn list(
         &self,
         alloc: Global,
@@ -126,7 +127,7 @@ impl KeyIndex {
 
     /// All versions, in rising order.
     ///
-    /// The only refusal is `Memory`. Costs by what it gives.
+    /// The only refusal is `Memory`. Cost: O(n), n versions, all copied.
     pub fn all(&self, alloc: Global) -> Result<Vec<VersionKey>, Refusal>
         ensures ok { IfOk result (λ versions. Lists versions.items self.now) }
         ensures err { IfErr result (λ why. why ≡ Memory) }
@@ -145,7 +146,7 @@ impl KeyIndex {
 
     /// The set of these versions.
     ///
-    /// The only refusal is `Memory`. The cost grows a little faster than the list.
+    /// The only refusal is `Memory`. Cost: O(n · log n), n versions of the list.
     pub fn of(alloc: Global, versions: &[VersionKey]) -> Result<KeyIndex, Refusal>
         ensures ok { IfOk result (λ index. index ≡ set.from_list versions.now) }
         ensures err { IfErr result (λ why. why ≡ Memory) }
@@ -156,7 +157,7 @@ impl KeyIndex {
 
     /// The same set again.
     ///
-    /// The only refusal is `Memory`. The cost grows a little faster than the set.
+    /// The only refusal is `Memory`. Cost: O(n · log n), n versions, all copied.
     pub fn copy(&self, alloc: Global) -> Result<KeyIndex, Refusal>
         ensures ok { IfOk result (λ index. index ≡ self.now) }
         ensures err { IfErr result (λ why. why ≡ Memory) }

@@ -79,7 +79,7 @@ impl TagIndex {
 
     /// Adds a version with a tag. One that is there already changes nothing.
     ///
-    /// The only refusal is `Memory`; then nothing is changed. Costs by the logarithm of the set.
+    /// The only refusal is `Memory`; then nothing is changed. Cost: O(log n), n versions in the set.
     pub fn add(&mut self, tag: Tag, version: VersionKey) -> Result<(), Refusal>
         ensures ok { OnOk result (self.new ≡ set.insert self.old (record { tag = tag; version = version })) }
         ensures err { IfErr result (λ why. why ≡ Memory) }
@@ -89,14 +89,14 @@ impl TagIndex {
         Ok(())
     }
 
-    /// Removes a version with a tag, where it is there. Costs by the logarithm of the set.
+    /// Removes a version with a tag, where it is there. Cost: O(log n), n versions in the set.
     pub fn remove(&mut self, tag: Tag, version: VersionKey)
         ensures { self.new ≡ set.remove self.old (record { tag = tag; version = version }) }
     {
         self.versions.remove(&TaggedVersion { tag, version });
     }
 
-    /// Whether a version is there with a tag. Costs by the logarithm of the set.
+    /// Whether a version is there with a tag. Cost: O(log n), n versions in the set.
     pub fn has(&self, tag: Tag, version: VersionKey) -> bool
         ensures { result ≡ set.contains self.now (record { tag = tag; version = version }) }
     {
@@ -105,7 +105,7 @@ impl TagIndex {
 
     /// The versions of a table with a tag, in rising order.
     ///
-    /// The only refusal is `Memory`. Costs by the logarithm of the set and by what it gives.
+    /// The only refusal is `Memory`. Cost: O(log n + k), n versions in the set, k of them given.
     pub fn list(&self, alloc: Global, table: Table, tag: Tag) -> Result<Vec<VersionKey>, Refusal>
         ensures ok { IfOk result (λ versions. Lists versions.items (with_tag self.now table tag)) }
         ensures err { IfErr result (λ why. why ≡ Memory) }
@@ -116,7 +116,7 @@ impl TagIndex {
 
     /// The same set again.
     ///
-    /// The only refusal is `Memory`. The cost grows a little faster than the set.
+    /// The only refusal is `Memory`. Cost: O(n · log n), n versions, all copied.
     pub fn copy(&self, alloc: Global) -> Result<TagIndex, Refusal>
         ensures ok { IfOk result (λ index. index ≡ self.now) }
         ensures err { IfErr result (λ why. why ≡ Memory) }

@@ -15,12 +15,12 @@ use Rattle.hk_model.specs.World.Worlds.{World, Replica, EventValue, ToldValue, A
 use Rattle.hk_model.specs.World.Worlds.ToldValue.{Refused}
 use Rattle.hk_laws.specs.Running.{Running, step_outcome}
 
--- whether a refusal is out of memory
+-- whether a refusal says that memory ran out
 abbrev pub is_memory : Refusal → Bool
 is_memory Memory = true
 is_memory _ = false
 
--- whether out of memory is told
+-- whether it is told that memory ran out
 abbrev pub is_memory_outcome : ToldValue → Bool
 is_memory_outcome (Refused why) = is_memory why
 is_memory_outcome _ = false
@@ -76,7 +76,7 @@ abbrev pub Happens : Running → Running → EventValue → Result Told Refusal 
 Happens old new event (Ok outcome) = (told_seen outcome ≡ (step_outcome old event).0) × (new ≡ (step_outcome old event).1) × (is_memory_outcome (told_seen outcome) ≡ false)
 Happens old new event (Err why) = (why ≡ Memory) × (new ≡ old) × (is_first_outcome (step_outcome old event).0 ≡ false)
 
--- out of memory was told, and nothing changed
+-- it was told that memory ran out, and nothing changed
 abbrev pub Lacks : Running → Running → ToldValue → Type 0
 Lacks old new outcome = (outcome ≡ Refused Memory) × (new ≡ old)
 

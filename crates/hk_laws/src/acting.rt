@@ -16,7 +16,7 @@ use hk_state::{ReplicaState, front_of};
 use hk_types::{Config, Refusal, Time};
 use std::alloc::Global;
 
-/// What a refusal is told as. Out of memory is told by `World::step`.
+/// What a refusal is told as. `Memory` is told by `World::step`.
 pub(crate) fn refused(why: Refusal) -> Result<Told, Refusal>
     ensures { MatchResult result (λ outcome. (told_seen outcome ≡ Refused why) × (is_memory why ≡ false)) (λ e. (e ≡ Memory) × (why ≡ Memory)) }
 {

@@ -56,8 +56,8 @@ fn is_written(writes: &[WriteOp], key: RowKey) -> bool
     writes.iter().any(|write| key == RowKey::of(write))
 }
 
-/// Why these writes make no transaction, if they make none. It takes no memory. The cost grows as the square of
-/// their number, up to `MOST_WRITES`.
+/// Why these writes make no transaction, if they make none. It takes no memory. Cost: O(w²), w writes, up to
+/// `MOST_WRITES`.
 pub(crate) fn misbuilt(writes: &[WriteOp]) -> Option<Refusal>
     ensures { MatchOption result (IsBuilt writes.now) (λ why. writes_result finmap.empty writes.now ≡ Err why) }
 {

@@ -25,8 +25,8 @@ fn push_outcome(list: &mut Vec<Told>, outcome: Told)
 /// What events tell, one after the other, in a new world with so many replicas, 1 to `MOST_REPLICAS`.
 ///
 /// The only refusal is `Memory`, where the world or the list of answers could not be made. An event that is
-/// told `Memory` changes nothing, and the others tell what they would tell without it. It costs what the
-/// events do.
+/// told `Memory` changes nothing, and the others tell what they would tell without it. Cost: that of the
+/// events.
 pub fn run(
     alloc: Global,
     config: Config,

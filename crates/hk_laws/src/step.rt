@@ -44,9 +44,9 @@ impl World {
     /// for a commit, `Primary::mark` for a mark, `ReplicaState::absorb` and `prune`, `fragment_of` and `join`
     /// for a batch, `merge`, `delta_since` and `join` for a delta, and `ask`. `Memory` comes where a growth was
     /// refused, and last: where the replicas represent items, only where nothing else is refused, or a transaction
-    /// for what it writes. A refusal changes nothing. A merge of a replica with itself leaves it as it is. It costs
-    /// what those calls do; the items of a batch are copied, and no replica is. A commit that is refused `NoStream`
-    /// or `NotYet` costs the square of its number of writes, up to 1,024.
+    /// for what it writes. A refusal changes nothing. A merge of a replica with itself leaves it as it is.
+    /// Cost: that of those calls; the items of a batch are copied, and no replica is. Where a commit is refused
+    /// `NoStream` or `NotYet`: O(w²), w writes, up to 1,024.
     pub fn step(&mut self, event: Event) -> Told
         ensures gives { Steps self.old self.new (event_seen event) (told_seen result) }
         ensures represents { StepsOf self.old self.new (event_seen event) (told_seen result) }

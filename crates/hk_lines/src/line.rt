@@ -18,12 +18,12 @@ pub trait Printed {
     ghost text: { Self → List ℕ };
 
     /// Adds the lines at the end of the text. The only error is out of memory; then a part of the lines may stand.
-    /// The time grows with the lines.
+    /// Cost: O(n), n bytes of the lines.
     fn print_to(&self, alloc: Global, out: &mut String) -> Result<(), AllocError>
         ensures { OnOk result (string_bytes out.new ≡ string_bytes out.old ++ text self.now) };
 }
 
-/// The lines of a value, each with its line feed. The only error is out of memory.
+/// The lines of a value, each with its line feed. The only error is out of memory. Cost: O(n), n bytes of the lines.
 pub fn line_of<T: Printed>(alloc: Global, value: &T) -> Result<String, AllocError>
     ensures { IfOk result (λ line. string_bytes line ≡ T.text value.now) }
 {

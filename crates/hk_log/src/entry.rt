@@ -39,7 +39,7 @@ impl Entry {
     /// - `BadOrder`: the ends or the rows do not rise strictly by table and key;
     /// - `BadNumber`: an end was born at 0, or not before the time.
     ///
-    /// The lists are moved in, and dropped with a fault. The cost grows with their lengths alone.
+    /// The lists are moved in, and dropped with a fault. Cost: O(w), w ends and rows.
     pub fn new(
         log: u64,
         stream: StreamNo,
@@ -147,7 +147,8 @@ impl Entry {
         self.rows.as_slice()
     }
 
-    /// The same entry again, its rows copied. The only error is out of memory.
+    /// The same entry again, its rows copied. The only error is out of memory. Cost: O(w + b), w ends and
+    /// rows, b bytes of bodies.
     pub fn copy(&self, alloc: Global) -> Result<Entry, AllocError>
         ensures { IfOk result (λ entry. entry ≡ self.now) }
     {

@@ -16,7 +16,8 @@ pub enum Item {
 }
 
 impl Item {
-    /// The same item again, its rows copied. The only error is out of memory.
+    /// The same item again, its rows copied. The only error is out of memory. Cost: that of the
+    /// entry's copy; a mark's is O(1).
     pub fn copy(&self, alloc: Global) -> Result<Item, AllocError>
         ensures { IfOk result (λ item. item ≡ self.now) }
     {

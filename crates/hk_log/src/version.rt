@@ -107,7 +107,8 @@ impl Version {
         self.died = None;
     }
 
-    /// The same version again, its row copied. The only error is out of memory.
+    /// The same version again, its row copied. The only error is out of memory. Cost: O(n), n bytes of
+    /// the body.
     pub fn copy(&self, alloc: Global) -> Result<Version, AllocError>
         ensures { IfOk result (λ version. version ≡ self.now) }
     {

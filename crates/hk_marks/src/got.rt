@@ -67,7 +67,7 @@ fn earlier(a: Time, b: Time) -> Time
 impl Got {
     /// Nothing is taken, and each stream is closed at time 0.
     ///
-    /// The only refusal is `Memory`. Costs by the number of streams.
+    /// The only refusal is `Memory`. Cost: O(s), s streams.
     pub fn new(alloc: Global, config: Config) -> Result<Got, Refusal>
         ensures ok { IfOk result (λ got. got ≡ replicate config.streams unknown) }
         ensures err { IfErr result (λ why. why ≡ Memory) }
@@ -83,8 +83,8 @@ impl Got {
     /// Takes an entry's number, 1 to 2^62. A number that is taken already changes nothing.
     ///
     /// The only refusal is `Memory`, where a number that doesn't follow the prefix finds no room;
-    /// then nothing is changed. Costs by the logarithm of the extra numbers, and where it closes a
-    /// gap, that for each extra number that joins the prefix and for each mark that it frees.
+    /// then nothing is changed. Cost: O((1 + f) · log n), n extra numbers and waiting marks of the
+    /// stream, f of them those that join the prefix and the marks that are freed.
     pub fn add_number(&mut self, s: StreamNo, number: u64) -> Result<(), Refusal>
         requires known { s ≤ length self.old }
         requires least { 1 ≤ number }
@@ -105,7 +105,7 @@ impl Got {
     /// Takes the mark that the first `n` entries of the stream are those with time at most `m`.
     ///
     /// The only refusal is `Memory`, where a mark that has to wait finds no room; then nothing is
-    /// changed. Costs by the logarithm of the waiting marks.
+    /// changed. Cost: O(log n), n waiting marks of the stream.
     pub fn add_mark(&mut self, s: StreamNo, n: u64, m: Time) -> Result<(), Refusal>
         requires known { s ≤ length self.old }
         requires truthful { n ≤ m }
@@ -125,8 +125,8 @@ impl Got {
     /// Takes the numbers 1 to `prefix`, which is at most 2^62, and closes the stream at least up
     /// to `closed`.
     ///
-    /// It needs no memory and is never refused. Costs by the extra numbers that join the prefix
-    /// and the marks that it frees, each by the logarithm of what is there.
+    /// It needs no memory and is never refused. Cost: O((1 + f) · log n), n extra numbers and waiting marks of
+    /// the stream, f of them those that join the prefix and the marks that are freed.
     pub fn raise(&mut self, s: StreamNo, prefix: u64, closed: Time) -> Result<(), Refusal>
         requires known { s ≤ length self.old }
         requires most { prefix ≤ 2 ^ 62 }
@@ -141,8 +141,9 @@ impl Got {
     /// Takes all that another view of the same number of streams has.
     ///
     /// The only refusal is `Memory`, where an extra number or a waiting mark finds no room; then
-    /// nothing is changed in any stream. Costs by the extra numbers and waiting marks of the other
-    /// view, and by those here that it frees, each by the logarithm of what is there.
+    /// nothing is changed in any stream. Cost: O((s + c) · log n), s streams, n extra numbers and
+    /// waiting marks of both views, c of them those of the other view and those here that are
+    /// freed.
     pub fn join(&mut self, other: &Got) -> Result<(), Refusal>
         requires { length self.old ≡ length other.now }
         ensures ok { OnOk result (self.new ≡ all_together self.old other.now) }
@@ -167,7 +168,7 @@ impl Got {
         self.streams.len() as u16
     }
 
-    /// Whether an entry's number is taken.
+    /// Whether an entry's number is taken. Cost: O(log n), n extra numbers of the stream.
     pub fn has(&self, s: StreamNo, number: u64) -> bool
         requires { s ≤ length self.now }
         ensures { result ≡ set.contains (stream_at self.now s).taken number }
@@ -192,7 +193,8 @@ impl Got {
         self.streams[place(s)].prefix()
     }
 
-    /// Whether a mark tells nothing new, so that taking it would change nothing.
+    /// Whether a mark tells nothing new, so that taking it would change nothing. Cost: O(log n), n waiting
+    /// marks of the stream.
     pub fn adds_nothing(&self, s: StreamNo, n: u64, m: Time) -> bool
         requires { s ≤ length self.now }
         ensures { result ≡ adds_nothing (stream_at self.now s) n m }
@@ -208,7 +210,7 @@ impl Got {
         self.streams[place(s)].closed()
     }
 
-    /// The least closed time over all streams. It needs no memory; costs by the number of streams.
+    /// The least closed time over all streams. It needs no memory. Cost: O(s), s streams.
     pub fn readable(&self) -> Time
         ensures value { result ≡ least_closed self.now }
         ensures lawful { All IsLawfulStream self.now }
@@ -241,7 +243,8 @@ impl Got {
         self.streams[place(s)].waiting_marks()
     }
 
-    /// The same again. The only refusal is `Memory`. Costs by what is copied.
+    /// The same again. The only refusal is `Memory`. Cost: O(s + n · log n), s streams, n extra numbers and
+    /// waiting marks, all copied.
     pub fn copy(&self, alloc: Global) -> Result<Got, Refusal>
         ensures ok { IfOk result (λ got. got ≡ self.now) }
         ensures err { IfErr result (λ why. why ≡ Memory) }

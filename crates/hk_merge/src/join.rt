@@ -36,9 +36,9 @@ fn later(a: Time, b: Time) -> Time
 /// version another row or another end than the target has is refused `Conflict`; so far no memory is taken.
 /// `Memory` comes last, where a growth was refused. A refusal changes nothing.
 ///
-/// The cost grows as the number of versions sent times the logarithm of what the target holds, and as the numbers
-/// and marks of both that wait for others; and where the horizon rises, since something of the target's own may
-/// have to go, as that of its versions times its logarithm.
+/// Cost: O(c · log n + b), c versions sent and numbers and marks of both that wait for others, n these and the
+/// target's versions together, b bytes of bodies compared or copied. Where the horizon rises, something of the
+/// target's own may have to go: O(n · log n + b).
 pub fn join_sent(target: &mut ReplicaState, sent: &MergeInput) -> Result<(), Refusal>
     requires listed { AreVersions (facts_listed (map borrowed sent.now.facts.now))
         (map borrowed sent.now.facts.now) }
@@ -68,9 +68,9 @@ pub fn join_sent(target: &mut ReplicaState, sent: &MergeInput) -> Result<(), Ref
 /// another row or another end of a version is refused `Conflict`; so far no memory is taken. `Memory` comes last,
 /// where a growth was refused. A refusal changes nothing.
 ///
-/// The cost grows as the number of the peer's versions times the logarithm of what both hold, and as the numbers
-/// and marks of both that wait for others; and where the horizon rises, since something of the target's own may
-/// have to go, as that of its versions times its logarithm. The target is not copied.
+/// Cost: O(c · log n + b), c versions of the peer and numbers and marks of both that wait for others, n these
+/// and the target's versions together, b bytes of bodies compared or copied. Where the horizon rises, something
+/// of the target's own may have to go: O(n · log n + b). The target is not copied.
 pub fn merge(target: &mut ReplicaState, peer: &ReplicaState) -> Result<(), Refusal>
     ensures gives { Merges target.old target.new peer.now result }
     ensures represents { MergesOf target.old target.new peer.now result }
@@ -106,7 +106,7 @@ fn refusal_without_memory(target: &ReplicaState, peer: &ReplicaState) -> Refusal
 
 /// Joins what is sent, where it is of the same log and conflicts with nothing.
 ///
-/// The only refusal is `Memory`, and it changes nothing. The cost is that of `join_sent`.
+/// The only refusal is `Memory`, and it changes nothing. Cost: that of `join_sent`.
 pub fn join_agreed(target: &mut ReplicaState, sent: &MergeInput) -> Result<(), Refusal>
     requires listed { AreVersions (facts_listed (map borrowed sent.now.facts.now))
         (map borrowed sent.now.facts.now) }

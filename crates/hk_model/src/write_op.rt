@@ -36,7 +36,7 @@ impl WriteOp {
         }
     }
 
-    /// The same write again. The only error is out of memory.
+    /// The same write again. The only error is out of memory. Cost: O(n), n bytes of the body.
     pub fn copy(&self, alloc: Global) -> Result<WriteOp, AllocError>
         ensures { IfOk result (λ write. write ≡ self.now) }
     {

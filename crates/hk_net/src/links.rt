@@ -54,12 +54,12 @@ fn serve_link<J: NodeName, N: Wait + Drop, R: Threads + Wait + Sync>(
     ended
 }
 
-/// Accepts as many links as there are seats, and runs the session of each in a thread of its own, with one of the seats.
-/// Gives how each ended, in the order in which they were accepted, once all have ended.
+/// Accepts as many links as there are seats, and runs the session of each in a thread of its own, with one of the
+/// seats. Gives how each ended, in the order in which they were accepted, once all have ended.
 ///
-/// A link whose thread can't be started ends with `Memory`. `NetFault::Memory` comes where the list of ends can't be made,
-/// which is tested before the first accept; `NetFault::Socket` where an accept failed, after the links that were accepted
-/// so far have run to their end. The cost is that of the sessions.
+/// A link whose thread can't be started ends with `Memory`. `NetFault::Memory` comes where the list of ends can't be
+/// made, which is tested before the first accept; `NetFault::Socket` where an accept failed, after the links that
+/// were accepted so far have run to their end. Cost: that of the sessions.
 pub fn serve_links<
     J: NodeName + Send + Sync,
     N: Wait + Drop + Send + Sync,

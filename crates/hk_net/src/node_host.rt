@@ -42,7 +42,7 @@ const WORKERS: usize = 4;
 /// the link's later replies show it, and is answered `Done` with the number of operations that ends with it.
 /// A refused change is answered as the node refuses it, and items that make no fragment as their gathering
 /// is; `Unpublished` says that the change stands and waits. The other requests are answered by the seat, and
-/// take no lock. Costs as the calls do.
+/// take no lock. Cost: that of the calls.
 ///
 /// It can be asked where threads may share the runtime (`Host::ready`), as its bound `Sync` says that they
 /// may.

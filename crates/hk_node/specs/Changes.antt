@@ -28,7 +28,7 @@ IsMade old op new = new ≡ (all_of old ++ op ∷ [], [])
 abbrev pub IsWaiting : Lists → Op → Lists → Type 0
 IsWaiting old op new = new ≡ (all_of old, op ∷ [])
 
--- a refusal of a change: out of memory, with nothing changed where what waited could not be published; the
+-- a refusal of a change: memory ran out, with nothing changed where what waited could not be published; the
 -- operation waits, and has the number that is named; a conflict, and the node is damaged; or one of its tests
 abbrev pub Refuses : Lists → Op → Refusal → Lists → Type 0
 Refuses old op Memory new = (new ≡ old) ⊎ ((refusal_of (replay (all_of old)) op ≡ None) × IsCaughtUp old new)

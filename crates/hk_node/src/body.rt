@@ -197,8 +197,8 @@ impl Body {
         self.full_refusal()
     }
 
-    /// Why an operation is refused, if it is. It takes no memory. Costs by the streams, and by the holds that stand
-    /// where a horizon would rise.
+    /// Why an operation is refused, if it is. It takes no memory. Cost: O(s + h), s streams, h holds that stand,
+    /// which are looked at where a horizon would rise.
     pub fn refusal(&self, op: &Op) -> Option<Refusal>
         ensures { result ≡ refusal_of self.now op.now }
     {

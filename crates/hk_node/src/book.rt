@@ -88,8 +88,8 @@ pub struct Counter {
     pub ghost is_counter: { word ≡ counter_of word.book },
 }
 
-/// A prefix of a node's list of operations that was seen. It has no bytes but the node's log and a count. Contracts see it as
-/// the name of the node and the operations.
+/// A prefix of a node's list of operations that was seen. It has no bytes but the node's log and a count. Contracts
+/// see it as the name of the node and the operations.
 #[derive(Drop)]
 pub struct Prefix {
     config: Config,

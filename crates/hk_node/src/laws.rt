@@ -23,7 +23,8 @@ use std::sync::Wait;
 /// What waits is published first; where that is refused, it is `Memory` and nothing changed. Then the operation is
 /// tested after all others, and its refusal answered. Then it is added and published: `Memory` where it could not be
 /// added; `Unpublished` with its number where it could not be published, and then it waits, and the next publish shows
-/// it; `Conflict` where it met a conflict, which damages the node for good.
+/// it; `Conflict` where it met a conflict, which damages the node for good. Cost: that of the operation, and of what
+/// waits.
 #[tactic(auto, using(crate::proofs::Legal::last_snoc))]
 pub fn change<J: NodeName, R: Wait + Drop>(
     publisher: &mut Publisher<J, R>,
@@ -55,7 +56,7 @@ pub fn change<J: NodeName, R: Wait + Drop>(
 }
 
 /// A merge of a state, at what lies under the writer's lock, with the whole of the state or the refusal of memory for
-/// it: it runs as `change`, also where the whole could not be made.
+/// it: it runs as `change`, also where the whole could not be made. Cost: that of `change`.
 pub fn merge_whole<J: NodeName, R: Wait + Drop>(
     publisher: &mut Publisher<J, R>,
     state: &ReplicaState,
@@ -91,7 +92,7 @@ fn refusal_of_merge<J: NodeName, R: Wait + Drop>(
 }
 
 /// A hold at a time, at what lies under the writer's lock: it runs as `change`. Its number is that of the holds of the
-/// list, with it.
+/// list, with it. Cost: that of `change`.
 pub fn hold_at<J: NodeName, R: Wait + Drop>(
     publisher: &mut Publisher<J, R>,
     time: Time,
@@ -121,7 +122,7 @@ pub fn hold_at<J: NodeName, R: Wait + Drop>(
 }
 
 /// A release of a hold, at what lies under the writer's lock: it runs as `change`. It hands the hold back on every
-/// refusal but `Unpublished`.
+/// refusal but `Unpublished`. Cost: that of `change`.
 pub fn release_hold<J: NodeName, R: Wait + Drop>(
     publisher: &mut Publisher<J, R>,
     hold: Hold,

@@ -74,7 +74,7 @@ impl<J: NodeName> Receipt<J> {
 /// Starts a node with so many places for readers, 1 to 64, and gives a seat for each. Its list has the start alone.
 ///
 /// The list is a new one, which names the node: `J` is this name, by which a receipt of another node is none of this
-/// one's. The only refusal is `Memory`.
+/// one's. The only refusal is `Memory`. Cost: O(s + p²), s streams, p places.
 pub fn start<J: NodeName, R: Wait + Drop>(
     rt: R,
     alloc: Global,
@@ -102,9 +102,13 @@ pub fn start<J: NodeName, R: Wait + Drop>(
 /// lock. Each call waits for the lock, and a change waits for the readers that still read the older copy.
 ///
 /// Each change first publishes what waits; where that is refused it answers `Memory` before every other test, and
-/// nothing changed. Then its refusals come in the order in which the call lists them. `Unpublished` says that the change
-/// stands as the operation with that number and waits: readers see it once a later change or `publish` could publish it.
-/// At most one operation waits. After every other refusal but `Conflict` the list of operations is as before.
+/// nothing changed. Then its refusals come in the order in which the call lists them. `Unpublished` says that the
+/// change stands as the operation with that number and waits: readers see it once a later change or `publish` could
+/// publish it. At most one operation waits. After every other refusal but `Conflict` the list of operations is as
+/// before.
+///
+/// Cost: each call says its own, beside O(p), p places for readers. A change is made on one copy at once, and on the
+/// other one by the next change, which pays for both.
 #[derive(Drop)]
 pub struct Node<J: NodeName, R: Wait + Drop> {
     publisher: Mutex<Publisher<J, R>>,
@@ -116,8 +120,9 @@ impl<J: NodeName, R: Wait + Drop> Node<J, R> {
     ///
     /// Refusals in order: `Damaged`; `ForeignLog`, `WrongStreams` and `Gap` as the join of a fragment into a state;
     /// `Held` with the hold of the least time, and of the least number there, that the horizon would pass; `NodeFull`;
-    /// `Memory`; `Unpublished`; `Conflict` where fragment and state conflict with each other, which damages the node for
-    /// good. The fragment is dropped with a refusal: who would try again keeps a copy.
+    /// `Memory`; `Unpublished`; `Conflict` where fragment and state conflict with each other, which damages the node
+    /// for good. The fragment is dropped with a refusal: who would try again keeps a copy. Cost: that of joining a
+    /// fragment into a state, and O(h), h holds that stand.
     pub fn join<W: Wait>(&self, rt: &W, fragment: Fragment) -> Result<Receipt<J>, Refusal>
         ensures legal { IfOk result (λ list. is_legal list ≡ true) }
         ensures change { ChangesSome (JoinOf fragment) result }
@@ -128,7 +133,7 @@ impl<J: NodeName, R: Wait + Drop> Node<J, R> {
     }
 
     /// Merges a state, as the join of the whole of it, with the refusals of `join`. The whole is copied before the lock
-    /// is taken.
+    /// is taken. Cost: that of the whole of the state, and of `join`.
     pub fn merge<W: Wait>(&self, rt: &W, state: &ReplicaState) -> Result<Receipt<J>, Refusal>
         ensures legal { IfOk result (λ list. is_legal list ≡ true) }
         ensures change { ChangesSome (MergeOf (cut state.now 0)) result }
@@ -143,7 +148,7 @@ impl<J: NodeName, R: Wait + Drop> Node<J, R> {
     ///
     /// Refusals in order: `Damaged`; `AheadOfMark` with the readable mark, where the time is above it; `Held` with the
     /// hold of the least time, and of the least number there, that the horizon would pass; `NodeFull`; `Memory`;
-    /// `Unpublished`.
+    /// `Unpublished`. Cost: that of pruning a state, and O(h), h holds that stand.
     pub fn prune<W: Wait>(&self, rt: &W, time: Time) -> Result<Receipt<J>, Refusal>
         ensures legal { IfOk result (λ list. is_legal list ≡ true) }
         ensures change { ChangesSome (PruneTo time) result }
@@ -156,7 +161,7 @@ impl<J: NodeName, R: Wait + Drop> Node<J, R> {
     /// Holds a time, so that no horizon passes it until the hold is released.
     ///
     /// Refusals in order: `Damaged`; `TooOld` with the horizon, where the time is below it; `NodeFull`; `Memory`;
-    /// `Unpublished`, with the hold, which stands once its operation is published.
+    /// `Unpublished`, with the hold, which stands once its operation is published. Cost: O(1).
     pub fn hold<W: Wait>(
         &self,
         rt: &W,
@@ -176,7 +181,7 @@ impl<J: NodeName, R: Wait + Drop> Node<J, R> {
     /// Releases a hold.
     ///
     /// Refusals in order: `Damaged`; `NoHold` where no hold of this number and time stands in this node; `NodeFull`;
-    /// `Memory`; `Unpublished`. Each but the last hands the hold back.
+    /// `Memory`; `Unpublished`. Each but the last hands the hold back. Cost: O(h), h holds that stand.
     pub fn release<W: Wait>(
         &self,
         rt: &W,
@@ -193,7 +198,7 @@ impl<J: NodeName, R: Wait + Drop> Node<J, R> {
     }
 
     /// Publishes what waits, and gives a receipt of the list. The only refusal is `Memory`, and then what waits still
-    /// waits. It answers in a damaged node too.
+    /// waits. It answers in a damaged node too. Cost: that of the operation that waits.
     pub fn publish<W: Wait>(&self, rt: &W) -> Result<Receipt<J>, Refusal>
         ensures legal { IfOk result (λ list. is_legal list ≡ true) }
         ensures err { IfErr result (λ why. why ≡ Memory) }

@@ -90,7 +90,8 @@ impl<R: Wait + Drop> Drop for Copies<R> {
     }
 }
 
-/// Makes the log's room, by an operation that changes nothing. No more than two are in it at a time, so later ones find it.
+/// Makes the log's room, by an operation that changes nothing. No more than two are in it at a time, so later ones
+/// find it.
 fn make_room(writer: &mut NodeWriter, config: Config) -> bool
     requires none { drop writer.old.behind writer.old.log.items ≡ [] }
     requires replayed { IsReplay writer.old.desk.shown.value }
@@ -177,7 +178,7 @@ impl<J: NodeName, R: Wait + Drop> Publisher<J, R> {
         }
     }
 
-    /// Publishes what waits. A refusal changes nothing.
+    /// Publishes what waits. A refusal changes nothing. Cost: that of what waits.
     pub fn publish(&mut self) -> Result<(), AllocError>
         ensures lists { MatchResult result (λ _. self.new ≡ (self.old.0 ++ self.old.1, []))
             (λ _. self.new ≡ self.old) }
@@ -219,7 +220,8 @@ impl<J: NodeName, R: Wait + Drop> Publisher<J, R> {
         self.published().body.is_damaged()
     }
 
-    /// Why an operation is refused after the published list, if it is.
+    /// Why an operation is refused after the published list, if it is. Cost: O(s + h), s streams, h holds that
+    /// stand.
     pub fn refusal(&self, op: &Op) -> Option<Refusal>
         ensures { result ≡ refusal_of (replay self.now.0) op.now }
     {
@@ -227,6 +229,7 @@ impl<J: NodeName, R: Wait + Drop> Publisher<J, R> {
     }
 
     /// Why a fragment of this log, this base and this horizon is not joined after the published list, if it is not.
+    /// Cost: O(s + h), s streams, h holds that stand.
     pub fn join_refusal(&self, config: Config, base: Time, horizon: Time) -> Option<Refusal>
         ensures { result ≡ join_refusal (replay self.now.0) config.log config.streams base horizon }
     {

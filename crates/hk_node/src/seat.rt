@@ -193,7 +193,7 @@ impl<J: NodeName> ReaderSeat<J> {
     /// What the node answers to a query at a time, from a list of operations that begins with all that was seen.
     ///
     /// Refusals in order: `Damaged` where the node met a conflict; then as a state's: `TooOld` below the horizon,
-    /// `NotYet` above the readable mark, `Memory`. Costs as asking a state does.
+    /// `NotYet` above the readable mark, `Memory`. Cost: that of asking a state.
     pub fn ask(&mut self, time: Time, query: &Query) -> Result<Answer, Refusal>
         ensures legal { is_legal self.new ≡ true }
         ensures seen { IsPrefix self.old self.new }
@@ -206,7 +206,7 @@ impl<J: NodeName> ReaderSeat<J> {
         self.reply(time, query)
     }
 
-    /// From where to where the node can be read. Refusals in order: `Damaged`, `Memory`. Costs by the streams.
+    /// From where to where the node can be read. Refusals in order: `Damaged`, `Memory`. Cost: O(s), s streams.
     pub fn front(&mut self) -> Result<Front, Refusal>
         ensures legal { is_legal self.new ≡ true }
         ensures seen { IsPrefix self.old self.new }
@@ -220,8 +220,8 @@ impl<J: NodeName> ReaderSeat<J> {
 
     /// What the node holds that a replica may lack which is readable up to the base.
     ///
-    /// Refusals in order: `Damaged`; `TooOld` where the base is below the horizon; `Memory`. Costs as the delta of a
-    /// state does.
+    /// Refusals in order: `Damaged`; `TooOld` where the base is below the horizon; `Memory`. Cost: that of the delta
+    /// of a state.
     pub fn delta_since(&mut self, base: Time) -> Result<Fragment, Refusal>
         ensures legal { is_legal self.new ≡ true }
         ensures seen { IsPrefix self.old self.new }
@@ -233,8 +233,8 @@ impl<J: NodeName> ReaderSeat<J> {
         self.delta(base)
     }
 
-    /// All that the node holds, as a fragment of base 0. Refusals in order: `Damaged`, `Memory`. Costs by what is held,
-    /// which is copied.
+    /// All that the node holds, as a fragment of base 0. Refusals in order: `Damaged`, `Memory`. Cost: that of the
+    /// whole of a state, which is copied.
     pub fn whole(&mut self) -> Result<Fragment, Refusal>
         ensures legal { is_legal self.new ≡ true }
         ensures seen { IsPrefix self.old self.new }

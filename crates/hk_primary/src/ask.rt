@@ -14,9 +14,9 @@ impl Primary {
     /// What the primary answers to a query on the rows that the commits up to a time left.
     ///
     /// A time above that of the last commit is refused `NotYet` with that time, and then `Memory` comes where a
-    /// growth was refused; a `Count` takes no memory. Costs: `Get` by the logarithm of the versions; `Range`
-    /// and `ByTag` by the versions that the index lists, each by such a logarithm; `Count` by the keys of the
-    /// table.
+    /// growth was refused; a `Count` takes no memory. Cost: `Get` O(log n + b), `Range` and `ByTag`
+    /// O((1 + v) · log n + b), `Count` O((1 + k) · log n), n versions, v of them listed by the index, k keys of
+    /// the table, b bytes of the bodies that are copied.
     pub fn ask(&self, time: Time, query: &Query) -> Result<Answer, Refusal>
         ensures told { IfOk result (λ a. answer_seen a ≡ answer (table_at self.now.history time) query.now) }
         ensures known { OnOk result (time ≤ last self.now.history) }

@@ -99,8 +99,8 @@ impl Primary {
     /// written key, by table and key, that a commit later than the read time wrote, and the time of the last
     /// such commit, on whatever stream; `NoRow` with the first removed key that has no row; `ClockFull` where
     /// there is something to write and no time is left; `Memory` where a growth was refused. A refusal hands
-    /// the transaction back and changes nothing. The cost grows as the number of writes times the logarithm of
-    /// the number of versions.
+    /// the transaction back and changes nothing. Cost: O((1 + w) · log n + b), w writes, n versions, b bytes
+    /// of their bodies, which are copied.
     pub fn commit(&mut self, txn: Txn, stream: StreamNo) -> Result<Option<Time>, (Txn, Refusal)>
         ensures told { Tells (verdict_of self.old txn stream) result }
         ensures done { OnOk result (self.new ≡ primary_after self.old (verdict_of self.old txn stream)) }

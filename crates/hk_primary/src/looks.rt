@@ -42,8 +42,8 @@ fn written(span: (Time, Option<Time>)) -> Time
 }
 
 impl Primary {
-    /// The time of the last commit that wrote a row, 0 where none did. It takes no memory. The cost grows as
-    /// the logarithm of the number of versions.
+    /// The time of the last commit that wrote a row, 0 where none did. It takes no memory. Cost: O(log n),
+    /// n versions.
     pub(crate) fn written_at(&self, key: RowKey) -> Time
         ensures { result ≡ last_written self.now.history key }
     {
@@ -53,8 +53,8 @@ impl Primary {
         }
     }
 
-    /// The time of the commit that put in the row that is there now, if one is there. It takes no memory. The
-    /// cost grows as the logarithm of the number of versions.
+    /// The time of the commit that put in the row that is there now, if one is there. It takes no memory.
+    /// Cost: O(log n), n versions.
     pub(crate) fn put_at(&self, key: RowKey) -> Option<Time>
         ensures { result ≡ put_time_of_row self.now.history key }
     {

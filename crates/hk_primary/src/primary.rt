@@ -41,7 +41,7 @@ impl Model for Primary {
 
 impl Primary {
     /// A primary with no commits, whose first commit has time 1. Its log and its tables grow by `alloc`. The
-    /// only refusal is `Memory`. Costs by the number of streams.
+    /// only refusal is `Memory`. Cost: O(s), s streams.
     pub fn new(alloc: Global, config: Config) -> Result<Primary, Refusal>
         ensures ok { IfOk result (λ primary. primary ≡ no_commits config 0) }
         ensures err { IfErr result (λ why. why ≡ Memory) }
@@ -50,7 +50,7 @@ impl Primary {
     }
 
     /// A primary with no commits, whose first commit has the time one above this one. The only refusal is
-    /// `Memory`. Costs by the number of streams.
+    /// `Memory`. Cost: O(s), s streams.
     pub fn starting_after(alloc: Global, config: Config, after: Time) -> Result<Primary, Refusal>
         ensures ok { IfOk result (λ primary. primary ≡ no_commits config after) }
         ensures err { IfErr result (λ why. why ≡ Memory) }
@@ -158,8 +158,8 @@ impl Primary {
     }
 
     /// Copies of the items from a position on, in the order in which they were emitted. Positions are counted
-    /// from 1, and 0 counts as 1; past the end there are none. The only refusal is `Memory`. Costs by what it
-    /// gives.
+    /// from 1, and 0 counts as 1; past the end there are none. The only refusal is `Memory`. Cost: O(n + b),
+    /// n items, ends and rows given, b bytes of bodies, all copied.
     pub fn items(&self, from: u64) -> Result<Vec<Item>, Refusal>
         ensures ok { IfOk result (λ items. items.items ≡ drop (from - 1) self.now.items) }
         ensures honest { IsHonest self.now }

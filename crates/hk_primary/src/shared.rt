@@ -117,7 +117,8 @@ pub struct SharedPrimary<K: Naming> {
 }
 
 impl<K: Naming> SharedPrimary<K> {
-    /// A shared primary with no commits, whose first commit has time 1. The only refusal is `Memory`.
+    /// A shared primary with no commits, whose first commit has time 1. The only refusal is `Memory`. Cost: that
+    /// of `Primary::new`.
     pub fn new(
         alloc: Global,
         config: Config,
@@ -136,7 +137,7 @@ impl<K: Naming> SharedPrimary<K> {
     }
 
     /// A shared primary with no commits, whose first commit has the time one above this one. The only refusal
-    /// is `Memory`.
+    /// is `Memory`. Cost: that of `Primary::new`.
     pub fn starting_after(
         alloc: Global,
         config: Config,
@@ -193,7 +194,7 @@ impl<K: Naming> SharedPrimary<K> {
     }
 
     /// Commits a transaction on a stream, as `Primary::commit` does. A commit that answers a time adds one to the
-    /// share, and no other does.
+    /// share, and no other does. Cost: that of `Primary::commit`.
     pub fn commit<R: Wait>(
         &self,
         rt: &R,
@@ -243,7 +244,7 @@ impl<K: Naming> SharedPrimary<K> {
     }
 
     /// Copies of the items from a position on, as `Primary::items` gives them: what one call gives are items of
-    /// one history. The only refusal is `Memory`.
+    /// one history. The only refusal is `Memory`. Cost: that of `Primary::items`.
     pub fn items<R: Wait>(&self, rt: &R, from: u64) -> Result<Vec<Item>, Refusal>
         ensures ok { IfOk result
             (λ items. AtSome K.config K.after (λ p. items.items ≡ drop (from - 1) p.items)) }
@@ -252,7 +253,7 @@ impl<K: Naming> SharedPrimary<K> {
         self.held.lock(rt).primary.items(from)
     }
 
-    /// Answers a query at a time, as `Primary::ask` does.
+    /// Answers a query at a time, as `Primary::ask` does. Cost: that of `Primary::ask`.
     pub fn ask<R: Wait>(&self, rt: &R, time: Time, query: &Query) -> Result<Answer, Refusal>
         ensures told { IfOk result (λ a. AtSome K.config K.after
             (λ p. (answer_seen a ≡ answer (table_at p.history time) query.now) × (time ≤ last p.history))) }

@@ -95,7 +95,7 @@ impl Txn {
     ///
     /// A key that the transaction wrote already is refused `TwiceWritten`, one more than `MOST_WRITES` writes
     /// `TooManyWrites`, and then comes `Memory` where a growth was refused. A refusal hands the row back and
-    /// changes nothing. The cost grows as the logarithm of the number of writes.
+    /// changes nothing. Cost: O(log w), w writes.
     pub fn put(&mut self, table: Table, key: Key, row: Row) -> Result<(), (Row, Refusal)>
         ensures done { OnOk result (self.new ≡ with_write self.old (Put table key row)) }
         ensures accepted { OnOk result (write_refused self.old (record { table = table; key = key }) ≡ None) }
@@ -119,7 +119,7 @@ impl Txn {
 
     /// Removes the row at a key, which must be there when the transaction commits.
     ///
-    /// It is refused as `put` is, and a refusal changes nothing. It costs what `put` does.
+    /// It is refused as `put` is, and a refusal changes nothing. Cost: that of `put`.
     pub fn remove(&mut self, table: Table, key: Key) -> Result<(), Refusal>
         ensures done { OnOk result (self.new ≡ with_write self.old (Remove table key)) }
         ensures accepted { OnOk result (write_refused self.old (record { table = table; key = key }) ≡ None) }

@@ -64,9 +64,10 @@ fn by_tag(
 
 /// The answer to a query on the rows that facts show at a time.
 ///
-/// The only refusal is `Memory`, and a `Count` takes no memory. Costs: `Get` by the logarithm of the tables,
-/// the keys and the versions of the key; `Range` and `ByTag` by the versions that the index lists, each by
-/// such a logarithm; `Count` by the keys of the table.
+/// The only refusal is `Memory`, and a `Count` takes no memory. Cost: `Get` O(log n + s + b), `Range` and
+/// `ByTag` O(log n + v · (log n + s) + b), `Count` O(log n + k · (log n + s)), n facts, v versions that the
+/// index lists, k keys of the table, s versions without a row that are stepped over at a key, b bytes of the
+/// bodies that are copied.
 pub fn answer_at(alloc: Global, facts: &Facts, time: Time, query: &Query) -> Result<Answer, Refusal>
     ensures ok { IfOk result (λ a. answer_seen a ≡ answer (visible (with_facts facts.now) time) query.now) }
     ensures err { IfErr result (λ why. why ≡ Memory) }

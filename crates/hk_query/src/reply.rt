@@ -16,9 +16,10 @@ use std::alloc::Global;
 /// of a primary's log.
 ///
 /// A time below the horizon is refused `TooOld` with the horizon, one above the readable mark `NotYet` with
-/// that, and then `Memory` comes where a growth was refused; a `Count` takes no memory. Costs: `Get` by the
-/// logarithm of the tables, the keys and the versions of the key; `Range` and `ByTag` by the versions that
-/// the index lists, each by such a logarithm; `Count` by the keys of the table.
+/// that, and then `Memory` comes where a growth was refused; a `Count` takes no memory. Cost: `Get`
+/// O(log n + s + b), `Range` and `ByTag` O(log n + v · (log n + s) + b), `Count`
+/// O(log n + k · (log n + s)), n facts, v versions that the index lists, k keys of the table, s versions
+/// without a row that are stepped over at a key, b bytes of the bodies that are copied.
 pub fn ask(
     alloc: Global,
     state: &ReplicaState,

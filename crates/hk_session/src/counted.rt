@@ -10,7 +10,7 @@ use std::marker::Model;
 
 /// A reader or a writer, with the number of its calls and of those that failed. A call is a read, a write or a
 /// flush; a call fails that answers an error, and a write that takes 0 bytes. Each number stays at 2^64 - 1 once
-/// it is there. A call costs what the device's costs.
+/// it is there. Cost: that of the device's call.
 #[derive(Drop)]
 pub struct Counted<D> {
     device: D,

@@ -204,8 +204,7 @@ fn run<R: Read, W: Write, H: Host>(
 /// writer is never flushed: who hands in one that keeps bytes back flushes it after.
 ///
 /// The host has to be such as can be asked (`Host::ready`), and is left so, as the last request that it answered left
-/// it. The cost is that of the answers, a copy of each
-/// reply, and a pass over what is read; 4,096 bytes are read at a time.
+/// it. Cost: that of the answers, a copy of each reply, and a pass over what is read; 4,096 bytes are read at a time.
 pub fn serve<R: Read, W: Write, H: Host>(
     alloc: Global,
     reader: &mut Counted<R>,

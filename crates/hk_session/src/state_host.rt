@@ -25,7 +25,7 @@ use std::marker::Model;
 ///
 /// It takes items all or nothing, as one fragment; joins fragments; prunes; and tells what the state holds. A
 /// change is refused `NodeFull` after operation 2^62, before any other test; else each request is refused as the
-/// call on the state is, and `Memory` comes last. A refused request changes nothing. Costs as the calls do.
+/// call on the state is, and `Memory` comes last. A refused request changes nothing. Cost: that of the calls.
 #[derive(Drop)]
 pub struct StateHost {
     alloc: Global,

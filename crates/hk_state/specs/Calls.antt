@@ -29,8 +29,8 @@ AbsorbsOf old new item result =
     (config : ConfigValue) (history : List Transaction) (items : List Item) (horizon : ℕ) → IsHistory config history → Represents config history items horizon old → IsItemOf config history item
     → IfOk result (λ took. Represents config history (item ∷ items) horizon new) × IfErr result (λ why. why ≡ Memory)
 
--- where the old state represents items of a history, a prune up to its readable mark leaves one that stands
--- for them at the greater horizon, unless memory ran out
+-- where the old state represents items of a history, a prune up to its readable mark leaves one that represents
+-- them at the greater horizon, unless memory ran out
 abbrev pub PrunesOf : Content → Content → ℕ → Result (Unit {0}) Refusal → Type 0
 PrunesOf old new h result =
     (config : ConfigValue) (history : List Transaction) (items : List Item) (horizon : ℕ) → Represents config history items horizon old → h ≤ readable old

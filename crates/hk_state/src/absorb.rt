@@ -123,8 +123,9 @@ impl ReplicaState {
     /// `WrongStreams`. An entry whose number is taken is `Repeated` and takes no memory. An entry that
     /// gives a version another row or another end than is known, or whose time is at most the closed time
     /// of its stream, is refused `Conflict`. `Memory` comes last, where a growth was refused. A refusal
-    /// changes nothing. `Repeated` is told exactly where nothing changed. The cost grows as the number of
-    /// the entry's writes times the logarithm of what is held.
+    /// changes nothing. `Repeated` is told exactly where nothing changed.
+    /// Cost: O((1 + w + f) · log n + b), w writes of the entry, f extra numbers and marks that it frees,
+    /// n facts, extra numbers and waiting marks held, b bytes of bodies compared or copied.
     pub fn absorb(&mut self, item: &Item) -> Result<Took, Refusal>
         ensures gives { Absorbs self.old self.new item.now result }
         ensures represents { AbsorbsOf self.old self.new item.now result }

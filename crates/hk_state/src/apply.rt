@@ -34,9 +34,10 @@ impl ReplicaState {
 
     /// Applies a change, all of it or nothing.
     ///
-    /// The only refusal is `Memory`, and it changes nothing. The cost grows as the length of the change
-    /// times the logarithm of what is held. Where a version that is dropped has a row or an end added, as
-    /// no log brings about that does not conflict with itself, it grows with what is held.
+    /// The only refusal is `Memory`, and it changes nothing. Cost: O(c · log (n + c)), c drops, rows and
+    /// ends, n facts held. Where a version that is dropped has a row or an end added, as no log brings
+    /// about that does not conflict with itself, the facts are copied: O((n + c) · log (n + c) + b),
+    /// b bytes of bodies.
     pub fn apply(&mut self, change: Change) -> Result<(), Refusal>
         requires lawful { IsLawful (content_after_change self.old change) }
         requires as_many { length change.got ≡ length self.old.streams }

@@ -8,8 +8,8 @@ use hk_types::Refusal;
 use std::alloc::Global;
 
 impl ReplicaState {
-    /// The same state again. The only refusal is `Memory`. The cost grows a little faster than what is
-    /// held.
+    /// The same state again. The only refusal is `Memory`. Cost: O(n · log n + b), n facts, extra
+    /// numbers and waiting marks held, b bytes of bodies, all copied.
     pub fn copy(&self, alloc: Global) -> Result<ReplicaState, Refusal>
         ensures ok { IfOk result (λ state. state ≡ self.now) }
         ensures err { IfErr result (λ why. why ≡ Memory) }

@@ -10,6 +10,7 @@ use hk_types::{Refusal, Time};
 
 impl ReplicaState {
     /// Whether a time may become the horizon: it is at most the readable mark. It takes no memory.
+    /// Cost: O(s), s streams.
     pub fn can_prune(&self, time: Time) -> bool
         ensures { result ≡ nat_le time (readable self.now) }
     {
@@ -19,8 +20,8 @@ impl ReplicaState {
     /// Drops each version that ended at a time or before, and makes that time the horizon.
     ///
     /// A time above the readable mark is refused `AheadOfMark` with that mark. One at most the horizon
-    /// is never refused, changes nothing and takes no memory. `Memory` comes where the list of what goes could not be made. A
-    /// refusal changes nothing. Costs by the facts that are held, and by those that go times the logarithm.
+    /// is never refused, changes nothing and takes no memory. `Memory` comes where the list of what goes could not be
+    /// made. A refusal changes nothing. Cost: O(n + d · log n), n facts held, d versions that go.
     pub fn prune(&mut self, time: Time) -> Result<(), Refusal>
         ensures gives { Prunes self.old self.new time result }
         ensures represents { PrunesOf self.old self.new time result }
@@ -46,7 +47,7 @@ impl ReplicaState {
     }
 }
 
-/// From where to where a state can be read. It takes no memory.
+/// From where to where a state can be read. It takes no memory. Cost: O(s), s streams.
 pub fn front_of(state: &ReplicaState) -> Front
     ensures horizon { result.horizon ≡ state.now.horizon }
     ensures readable { result.readable ≡ readable state.now }

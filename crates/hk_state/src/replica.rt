@@ -42,8 +42,7 @@ impl Model for ReplicaState {
 }
 
 impl ReplicaState {
-    /// The state of a replica that took nothing. The only refusal is `Memory`. Costs by the number of
-    /// streams.
+    /// The state of a replica that took nothing. The only refusal is `Memory`. Cost: O(s), s streams.
     pub fn new(alloc: Global, config: Config) -> Result<ReplicaState, Refusal>
         ensures ok { IfOk result (λ state. state ≡ empty_content config) }
         ensures err { IfErr result (λ why. why ≡ Memory) }
@@ -75,7 +74,7 @@ impl ReplicaState {
     }
 
     /// The greatest time that can be asked: the least closed time over all streams. It takes no memory.
-    /// Costs by the number of streams.
+    /// Cost: O(s), s streams.
     pub fn readable(&self) -> Time
         ensures value { result ≡ readable self.now }
         ensures lawful { IsLawful self.now }

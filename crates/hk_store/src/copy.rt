@@ -8,8 +8,8 @@ use hk_types::Refusal;
 use std::alloc::Global;
 
 impl Facts {
-    /// The same facts again. The only refusal is `Memory`. The cost grows a little faster than the number
-    /// of facts.
+    /// The same facts again. The only refusal is `Memory`. Cost: O(n · log n + b), n facts, b bytes of
+    /// bodies, all copied.
     pub fn copy(&self, alloc: Global) -> Result<Facts, Refusal>
         ensures ok { IfOk result (λ facts. facts ≡ self.now) }
         ensures err { IfErr result (λ why. why ≡ Memory) }

@@ -73,7 +73,7 @@ impl Facts {
         &self.keys
     }
 
-    /// The chain of a key of a table. The cost grows as the logarithm of the number of tables and keys.
+    /// The chain of a key of a table. Cost: O(log t + log k), t tables, k keys of this table.
     pub fn chain(&self, table: Table, key: Key) -> Option<&Chain>
         ensures some { IfSome result (λ chain. (born : ℕ) → finmap.get chain.now born
             ≡ known_at self.now (record { table = table; key = key; born = born })) }
@@ -84,29 +84,29 @@ impl Facts {
         self.tables.chain(table, key)
     }
 
-    /// The row of a version, where it is known. The cost grows as the logarithm of the number of facts.
+    /// The row of a version, where it is known. Cost: O(log n), n facts.
     pub fn row_at(&self, version: &VersionKey) -> Option<&Row>
         ensures { option_copied result ≡ finmap.get self.now.rows version.now }
     {
         self.tables.row_at(version)
     }
 
-    /// The end of a version, where it is known. The cost grows as the logarithm of the number of facts.
+    /// The end of a version, where it is known. Cost: O(log n), n facts.
     pub fn end_at(&self, version: &VersionKey) -> Option<Time>
         ensures { result ≡ finmap.get self.now.ends version.now }
     {
         self.tables.end_at(version)
     }
 
-    /// Whether anything is known of a version. The cost grows as the logarithm of the number of facts.
+    /// Whether anything is known of a version. Cost: O(log n), n facts.
     pub fn knows(&self, version: &VersionKey) -> bool
         ensures { result ≡ is_some (known_at self.now version.now) }
     {
         self.tables.knows(version)
     }
 
-    /// How many rows of a table show at a time. It takes no memory. The cost grows as the number of keys of
-    /// the table, each by the logarithm of its versions.
+    /// How many rows of a table show at a time. It takes no memory. Cost: O(log n + k · (log n + s)),
+    /// n facts, k keys of the table, s versions without a row that are stepped over at a key.
     pub fn count_at(&self, table: Table, time: Time) -> u64
         ensures { result ≡ length (rows_where
             (λ k row. k.table == table) (visible (with_facts self.now) time)) }
@@ -115,8 +115,8 @@ impl Facts {
     }
 
     /// Adds a fact on a version. One that is known already changes nothing, and one that differs from what
-    /// is known is a conflict. Out of memory comes only where nothing like it is known of the
-    /// version. A refusal changes nothing. The cost grows as the logarithm of the number of facts.
+    /// is known is a conflict. `Memory` comes only where nothing like it is known of the version. A
+    /// refusal changes nothing. Cost: O(log n + b), n facts, b bytes of a body that is compared.
     pub fn put(&mut self, version: &VersionKey, fact: Fact) -> Result<(), Refusal>
         ensures ok { OnOk result (facts_put self.old version.now fact ≡ Ok self.new) }
         ensures err { IfErr result (λ why. (facts_put self.old version.now fact ≡ Err why)
@@ -149,7 +149,7 @@ impl Facts {
         Ok(())
     }
 
-    /// Takes a part of a version back, where it is known. The cost grows as that of `put`.
+    /// Takes a part of a version back, where it is known. Cost: O(log n), n facts.
     pub fn forget(&mut self, version: &VersionKey, part: Part)
         ensures { self.new ≡ facts_without self.old version.now part }
     {
@@ -171,8 +171,8 @@ impl Facts {
         Some(row.tag())
     }
 
-    /// The versions whose end is known and at most `until`. The only error is out of memory. The cost
-    /// grows with the number of facts.
+    /// The versions whose end is known and at most `until`. The only error is out of memory. Cost: O(n),
+    /// n facts.
     pub fn ended(&self, until: Time) -> Result<Vec<VersionKey>, AllocError>
         ensures { IfOk result (λ versions. (q : VersionKey) → is_among versions.items q
             ≡ ended_by self.now.ends until q) }

@@ -28,9 +28,8 @@ pub(crate) fn note(
 }
 
 impl Facts {
-    /// Adds all rows and ends of an entry, where none are known. The only refusal is out of memory, and
-    /// it changes nothing. The cost grows as the number of writes times the logarithm of the number of
-    /// facts.
+    /// Adds all rows and ends of an entry, where none are known. The only refusal is `Memory`, and it
+    /// changes nothing. Cost: O(w · log n + b), w writes, n facts, b bytes of bodies, which are copied.
     pub fn add_entry(&mut self, entry: &Entry) -> Result<(), Refusal>
         ensures ok { OnOk result (self.new ≡ with_entry self.old entry.now) }
         ensures err { IfErr result (λ why. why ≡ Memory) }
@@ -44,7 +43,7 @@ impl Facts {
         Ok(())
     }
 
-    /// Adds the rows and ends of an entry, each named in the journal first.
+    /// Adds the rows and ends of an entry, each named in the journal first. Cost: that of `add_entry`.
     pub fn add_writes(
         &mut self,
         journal: &mut Vec<(VersionKey, Part)>,
@@ -97,7 +96,7 @@ impl Facts {
     }
 
     /// Adds a copy of a row where none is known, and names it in the journal first. The only refusal is
-    /// out of memory.
+    /// `Memory`. Cost: O(log n + b), n facts, b bytes of the body.
     pub fn add_row(
         &mut self,
         journal: &mut Vec<(VersionKey, Part)>,
@@ -117,8 +116,8 @@ impl Facts {
         self.put(version, Fact::Row(copied))
     }
 
-    /// Adds an end where none is known, and names it in the journal first. The only refusal is want of
-    /// memory.
+    /// Adds an end where none is known, and names it in the journal first. The only refusal is
+    /// `Memory`. Cost: O(log n), n facts.
     pub fn add_end(
         &mut self,
         journal: &mut Vec<(VersionKey, Part)>,
@@ -137,7 +136,8 @@ impl Facts {
         self.put(version, Fact::End(died))
     }
 
-    /// Takes back what a journal names, the last first. It cannot fail.
+    /// Takes back what a journal names, the last first. It cannot fail. Cost: O(j · log n), j places of
+    /// the journal, n facts.
     pub fn take_back(&mut self, mut journal: Vec<(VersionKey, Part)>)
         ensures { self.new ≡ without_journal journal.items self.old }
     {

@@ -17,7 +17,7 @@ use std::alloc::{AllocError, Global};
 use std::collections::btree_set::Iter;
 
 impl Facts {
-    /// What is known of a version. The cost grows as the logarithm of the number of facts.
+    /// What is known of a version. Cost: O(log n), n facts.
     pub fn version(&self, version: &VersionKey) -> Option<&Version>
         ensures { option_copied result ≡ known_at self.now version.now }
     {
@@ -25,8 +25,8 @@ impl Facts {
         chain.version(version.born)
     }
 
-    /// All versions of which anything is known, in rising order. The only error is out of memory. The
-    /// cost grows a little faster than the number of facts.
+    /// All versions of which anything is known, in rising order. The only error is out of memory.
+    /// Cost: O(n · log n), n facts.
     pub fn versions(&self, alloc: Global) -> Result<Vec<(VersionKey, &Version)>, AllocError>
         ensures { IfOk result (λ versions. AreVersions self.now (map borrowed versions.items)) }
     {
@@ -39,8 +39,8 @@ impl Facts {
         Ok(found)
     }
 
-    /// Whether a version has another row, or another end, than this. It takes no memory. The cost grows as
-    /// the logarithm of the number of facts.
+    /// Whether a version has another row, or another end, than this. It takes no memory.
+    /// Cost: O(log n + b), n facts, b bytes of a body that is compared.
     pub fn value_conflicts_at(&self, version: &VersionKey, known: &Version) -> bool
         ensures { result ≡ value_conflicts_at self.now version.now known.now }
     {
@@ -55,8 +55,8 @@ impl Facts {
         }
     }
 
-    /// Whether some version has another row, or another end, here than there. It takes no memory. The cost
-    /// grows as the number of facts there times the logarithm of the number of facts.
+    /// Whether some version has another row, or another end, here than there. It takes no memory.
+    /// Cost: O(m · log n + b), m facts there, n facts of both, b bytes of bodies that are compared.
     pub fn conflicts_with(&self, other: &Facts) -> bool
         ensures { result ≡ contents_conflict (with_facts self.now) (with_facts other.now) }
     {

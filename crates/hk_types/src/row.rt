@@ -77,7 +77,7 @@ impl Row {
         self.body.as_slice()
     }
 
-    /// The same row again, its body copied. The only error is out of memory.
+    /// The same row again, its body copied. The only error is out of memory. Cost: O(n), n bytes of the body.
     pub fn copy(&self, alloc: Global) -> Result<Row, AllocError>
         ensures { IfOk result (λ row. row ≡ self.now) }
     {

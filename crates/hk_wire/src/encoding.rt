@@ -118,8 +118,8 @@ fn put_request(out: &mut Vec<u8>, request: &Request, rest: u32) -> Result<(), Al
 /// Adds a request's one encoding at the end. A request without an encoding is refused `Form(TooLong)`: more
 /// than 65,536 items, a fragment with more than 2^32 - 1 of a counted thing, a fragment to merge whose base is
 /// not 0, and a rest of more than 2^28 bytes. After that comes `Memory`. On a refusal the output is as before.
-/// The whole frame is reserved at once; the cost is one growth of the output at most and three passes over the
-/// request: one that tests it, one that counts its bytes and one that writes them.
+/// Cost: O(n), n bytes of the encoding: the whole frame is reserved at once, so the output grows once at most;
+/// one pass over the request tests it, one counts its bytes and one writes them.
 ///
 /// A `RequestFeeder` that is given the encoding alone gives a request of that value, and holds nothing.
 pub fn encode_request(request: &Request, out: &mut Vec<u8>) -> Result<(), Refusal>

@@ -96,9 +96,9 @@ fn put_reply(out: &mut Vec<u8>, reply: &Reply, rest: u32) -> Result<(), AllocErr
 /// Adds a reply's one encoding at the end. A reply without an encoding is refused `Form(TooLong)`: a number of
 /// operations that is 0 or above 2^62, a horizon above the readable mark, a fragment with more than 2^32 - 1 of
 /// a counted thing, rows whose keys do not rise strictly, a refusal of a transaction, and a rest of more than
-/// 2^28 bytes. After that comes `Memory`. On a refusal the output is as before. The whole frame is reserved at
-/// once; the cost is one growth of the output at most and three passes over the reply: one that tests it, one
-/// that counts its bytes and one that writes them.
+/// 2^28 bytes. After that comes `Memory`. On a refusal the output is as before. Cost: O(n), n bytes of the
+/// encoding: the whole frame is reserved at once, so the output grows once at most; one pass over the reply
+/// tests it, one counts its bytes and one writes them.
 ///
 /// A `ReplyFeeder` that is given the encoding alone gives a reply of that value, and holds nothing.
 pub fn encode_reply(reply: &Reply, out: &mut Vec<u8>) -> Result<(), Refusal>
