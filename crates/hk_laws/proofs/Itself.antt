@@ -18,7 +18,7 @@ use Rattle.hk_model.proofs.Joins.{alike_differ, same_row_if}
 use Rattle.hk_model.proofs.Maps.{version_key_total, version_key_same, get-union, get-retain, get-without_ended, no_entry_conflict}
 use Rattle.hk_model.proofs.Repeats.{settled_itself}
 use Rattle.hk_model.proofs.Streams.{later, latest, latest-append, get-by_count, together-settled}
-use Rattle.hk_merge.proofs.Refusing.{no_gap_at_0}
+use Rattle.hk_model.proofs.Streams.{no_gap_at_0}
 
 -- ---- streams
 

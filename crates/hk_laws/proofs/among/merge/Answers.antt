@@ -18,4 +18,4 @@ returns-then-target-source c =
     (at_number rs c.args.from) b (λ p. outcome_by p.0 (merge_result p.0 p.1)) c.index-replicas-target.result (Ok c.same.result)
     (numbered_at rs c.in-Some-place_of.source c.args.from c.index-replicas-target.result c.in-Some-place_of.ensures.0 c.in-Some-place_of.ensures.1)
     (subst (λ (x : Content). Gives (outcome_by a (merge_result a x)) a a (Ok c.same.result)) one
-    (subst (λ (x : Result Content Refusal). Gives (outcome_by a x) a a (Ok c.same.result)) (sym c.same.ensures.whole) (c.same.ensures.told, refl, ap is_memory_outcome c.same.ensures.told)))
+    (subst (λ (x : Result Content Refusal). Gives (outcome_by a x) a a (Ok c.same.result)) (sym c.same.ensures.whole) (c.same.ensures.outcome, refl, ap is_memory_outcome c.same.ensures.outcome)))

@@ -16,8 +16,8 @@ loop-event-init c =
     let all = map event_seen c.args.events.items in
     record {
       carried =
-          subst (λ (w : World Content). Carries config n all (map told_seen c.in_ok-outcome.told.items) (map event_seen c.into_iter-event-iterator.result.rest.items) w) (sym (ap (λ (r : Running). r.world) c.in_ok-world.ensures.ok))
-          (subst (λ (es : List Event). Carries config n all (map told_seen c.in_ok-outcome.told.items) (map event_seen es) (new_contents config n)) (sym c.into_iter-event-iterator.ensures.into_iter_gives.0)
+          subst (λ (w : World Content). Carries config n all (map told_seen c.in_ok-outcome.outcome.items) (map event_seen c.into_iter-event-iterator.result.rest.items) w) (sym (ap (λ (r : Running). r.world) c.in_ok-world.ensures.ok))
+          (subst (λ (es : List Event). Carries config n all (map told_seen c.in_ok-outcome.outcome.items) (map event_seen es) (new_contents config n)) (sym c.into_iter-event-iterator.ensures.into_iter_gives.0)
           (subst (λ (ts : List Told). Carries config n all (map told_seen ts) all (new_contents config n)) (sym c.in_ok-outcome.ensures.items) (carries_all config n all)));
       same = ap (λ (r : Running). r.config) c.in_ok-world.ensures.ok;
       counted = omega (arith, c.in_ok-outcome.ensures.len, c.into_iter-event-iterator.ensures.into_iter_gives.1);
@@ -32,11 +32,11 @@ loop-event-preserved c =
     let config = c.args.config in
     let n = c.args.replicas in
     let all = map event_seen c.args.events.items in
-    let before = subst (λ (es : List Event). Carries config n all (map told_seen c.loop-event.told.items) (map event_seen es) c.loop-event.world.world) c.in-Some.ensures.steps.0 c.loop-event.invariant.carried in
-    let outcome : map told_seen c.loop-event.told.items ++ told_seen c.step.result ∷ [] ≡ map told_seen c.push_outcome.new.list.items = sym (ap (map told_seen) c.push_outcome.ensures.items ∙ map-append told_seen c.loop-event.told.items (c.step.result ∷ [])) in
+    let before = subst (λ (es : List Event). Carries config n all (map told_seen c.loop-event.outcome.items) (map event_seen es) c.loop-event.world.world) c.in-Some.ensures.steps.0 c.loop-event.invariant.carried in
+    let outcome : map told_seen c.loop-event.outcome.items ++ told_seen c.step.result ∷ [] ≡ map told_seen c.push_outcome.new.list.items = sym (ap (map told_seen) c.push_outcome.ensures.items ∙ map-append told_seen c.loop-event.outcome.items (c.step.result ∷ [])) in
     record {
       carried = subst (λ (ts : List ToldValue). Carries config n all ts (map event_seen c.next.new.self.rest.items) c.step.new.self.world) outcome
-          (carries_on config n all (map told_seen c.loop-event.told.items) (event_seen c.in-Some.event) (map event_seen c.next.new.self.rest.items) c.loop-event.world c.step.new.self (told_seen c.step.result) c.loop-event.invariant.same c.step.ensures.gives before);
+          (carries_on config n all (map told_seen c.loop-event.outcome.items) (event_seen c.in-Some.event) (map event_seen c.next.new.self.rest.items) c.loop-event.world c.step.new.self (told_seen c.step.result) c.loop-event.invariant.same c.step.ensures.gives before);
       same = same_config c.loop-event.world c.step.new.self (event_seen c.in-Some.event) (told_seen c.step.result) c.step.ensures.gives ∙ c.loop-event.invariant.same;
       counted = omega (arith, c.loop-event.invariant.counted, c.push_outcome.ensures.len, c.in-Some.ensures.steps.1);
       room = omega (arith, c.loop-event.invariant.room, c.push_outcome.ensures.room);
@@ -54,7 +54,7 @@ returns-clause-ok c =
     let end : length c.loop-event.event-iterator.rest.items ≡ 0 = omega (arith, c.loop-event.event-iterator.rest.ok, c.in-None.ensures.steps.0) in
     let left = none_left c.loop-event.event-iterator.rest.items end in
     record {
-      as_many = omega (arith, length-map c.loop-event.told.items told_seen, length-map c.args.events.items event_seen, c.loop-event.told.ok.0, c.args.events.ok.0, c.loop-event.invariant.counted, c.in-None.ensures.steps.0);
-      same = carried config n all (map told_seen c.loop-event.told.items) c.loop-event.world.world
-          (subst (λ (es : List Event). Carries config n all (map told_seen c.loop-event.told.items) (map event_seen es) c.loop-event.world.world) left c.loop-event.invariant.carried);
+      as_many = omega (arith, length-map c.loop-event.outcome.items told_seen, length-map c.args.events.items event_seen, c.loop-event.outcome.ok.0, c.args.events.ok.0, c.loop-event.invariant.counted, c.in-None.ensures.steps.0);
+      same = carried config n all (map told_seen c.loop-event.outcome.items) c.loop-event.world.world
+          (subst (λ (es : List Event). Carries config n all (map told_seen c.loop-event.outcome.items) (map event_seen es) c.loop-event.world.world) left c.loop-event.invariant.carried);
     }

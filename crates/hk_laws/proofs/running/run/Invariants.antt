@@ -6,8 +6,8 @@ use Rattle.hk_laws.proofs.running.run.Given as goal
 
 abbrev pub invariant-loop-event : goal.invariant-loop-event
 invariant-loop-event l = record {
-  carried : Carries l.fn.config l.fn.replicas (map event_seen l.fn.events.items) (map told_seen l.told.items) (map event_seen l.event-iterator.rest.items) l.world.world;
+  carried : Carries l.fn.config l.fn.replicas (map event_seen l.fn.events.items) (map told_seen l.outcome.items) (map event_seen l.event-iterator.rest.items) l.world.world;
   same : l.world.config ≡ l.fn.config;
-  counted : vec_len l.told + l.event-iterator.rest.len ≡ vec_len l.fn.events;
-  room : vec_len l.fn.events ≤ vec_capacity l.told;
+  counted : vec_len l.outcome + l.event-iterator.rest.len ≡ vec_len l.fn.events;
+  room : vec_len l.fn.events ≤ vec_capacity l.outcome;
 }
