@@ -93,7 +93,7 @@ impl<'a, J: NodeName, N: Wait + Drop, R: Threads + Wait + Sync> NodeHost<'a, J, 
     fn learn(&mut self, receipt: Receipt<J>) -> Reply
         ensures legal { is_legal self.new ≡ true }
         ensures seen { IsPrefix self.old self.new }
-        ensures query_reply { (op : Op) → last_of receipt ≡ Some op → IsChangeReply self.new (Some op) (reply_seen result) }
+        ensures told { (op : Op) → last_of receipt ≡ Some op → IsChangeReply self.new (Some op) (reply_seen result) }
     {
         let ops = receipt.ops();
         self.seat.learn(receipt);
@@ -116,7 +116,7 @@ impl<'a, J: NodeName, N: Wait + Drop, R: Threads + Wait + Sync> NodeHost<'a, J, 
     fn take_items(&mut self, items: &[Item]) -> Reply
         ensures legal { is_legal self.new ≡ true }
         ensures seen { IsPrefix self.old self.new }
-        ensures query_reply { IsChangeReply self.new (join_of (gather_result (config_of self.new) items.now)) (reply_seen result) }
+        ensures told { IsChangeReply self.new (join_of (gather_result (config_of self.new) items.now)) (reply_seen result) }
     {
         match self.gather(items) {
             Ok(fragment) => self.join(fragment),
@@ -127,7 +127,7 @@ impl<'a, J: NodeName, N: Wait + Drop, R: Threads + Wait + Sync> NodeHost<'a, J, 
     fn join(&mut self, fragment: Fragment) -> Reply
         ensures legal { is_legal self.new ≡ true }
         ensures seen { IsPrefix self.old self.new }
-        ensures query_reply { IsChangeReply self.new (Some (Join fragment)) (reply_seen result) }
+        ensures told { IsChangeReply self.new (Some (Join fragment)) (reply_seen result) }
     {
         match self.node.join(self.rt, fragment) {
             Ok(receipt) => self.learn(receipt),
@@ -138,7 +138,7 @@ impl<'a, J: NodeName, N: Wait + Drop, R: Threads + Wait + Sync> NodeHost<'a, J, 
     fn prune(&mut self, horizon: Time) -> Reply
         ensures legal { is_legal self.new ≡ true }
         ensures seen { IsPrefix self.old self.new }
-        ensures query_reply { IsChangeReply self.new (Some (PruneTo horizon)) (reply_seen result) }
+        ensures told { IsChangeReply self.new (Some (PruneTo horizon)) (reply_seen result) }
     {
         match self.node.prune(self.rt, horizon) {
             Ok(receipt) => self.learn(receipt),
@@ -149,7 +149,7 @@ impl<'a, J: NodeName, N: Wait + Drop, R: Threads + Wait + Sync> NodeHost<'a, J, 
     fn front(&mut self) -> Reply
         ensures legal { is_legal self.new ≡ true }
         ensures seen { IsPrefix self.old self.new }
-        ensures query_reply { IsOrOutOfMemory (front_reply (node_front (replay self.new))) (reply_seen result) }
+        ensures told { IsOrOutOfMemory (front_reply (node_front (replay self.new))) (reply_seen result) }
     {
         match self.seat.front() {
             Ok(front) => Reply::Front(front),
@@ -160,7 +160,7 @@ impl<'a, J: NodeName, N: Wait + Drop, R: Threads + Wait + Sync> NodeHost<'a, J, 
     fn delta(&mut self, base: Time) -> Reply
         ensures legal { is_legal self.new ≡ true }
         ensures seen { IsPrefix self.old self.new }
-        ensures query_reply { IsOrOutOfMemory (fragment_reply (node_delta (replay self.new) base)) (reply_seen result) }
+        ensures told { IsOrOutOfMemory (fragment_reply (node_delta (replay self.new) base)) (reply_seen result) }
     {
         match self.seat.delta_since(base) {
             Ok(fragment) => Reply::Fragment(fragment),
@@ -171,7 +171,7 @@ impl<'a, J: NodeName, N: Wait + Drop, R: Threads + Wait + Sync> NodeHost<'a, J, 
     fn whole(&mut self) -> Reply
         ensures legal { is_legal self.new ≡ true }
         ensures seen { IsPrefix self.old self.new }
-        ensures query_reply { IsOrOutOfMemory (fragment_reply (node_whole (replay self.new))) (reply_seen result) }
+        ensures told { IsOrOutOfMemory (fragment_reply (node_whole (replay self.new))) (reply_seen result) }
     {
         match self.seat.whole() {
             Ok(fragment) => Reply::Fragment(fragment),
@@ -182,7 +182,7 @@ impl<'a, J: NodeName, N: Wait + Drop, R: Threads + Wait + Sync> NodeHost<'a, J, 
     fn ask(&mut self, time: Time, query: &Query) -> Reply
         ensures legal { is_legal self.new ≡ true }
         ensures seen { IsPrefix self.old self.new }
-        ensures query_reply { IsOrOutOfMemory (query_reply (node_reply (replay self.new) time query.now)) (reply_seen result) }
+        ensures told { IsOrOutOfMemory (query_reply (node_reply (replay self.new) time query.now)) (reply_seen result) }
     {
         match self.seat.ask(time, query) {
             Ok(answer) => Reply::Answer(answer),
