@@ -15,6 +15,6 @@ mod reading;
 
 pub use encoding::{encode, frame_len, put_frame};
 pub use feeder::Feeder;
-pub use laws::{one_reading, one_encoding, pieces_join};
+pub use laws::{one_encoding, one_reading, pieces_join};
 pub use parallel::decode_all;
 pub use reading::ItemFormat;

@@ -39,7 +39,10 @@ fn frame_bytes(bytes: &[u8]) -> usize
         return 0;
     }
     let rest = length_of(bytes);
-    if rest > ItemFormat::MOST_BYTES || rest < ItemFormat::LEAST_BYTES || bytes.len() - LENGTH_BYTES < rest {
+    if rest > ItemFormat::MOST_BYTES
+        || rest < ItemFormat::LEAST_BYTES
+        || bytes.len() - LENGTH_BYTES < rest
+    {
         return 0;
     }
     LENGTH_BYTES + rest

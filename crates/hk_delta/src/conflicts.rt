@@ -85,7 +85,9 @@ fn ends_at_another_time(item: &Item, version: VersionKey, died: Time) -> bool
 fn is_end_conflicting(items: &[Item], version: VersionKey, died: Time) -> bool
     ensures { result ≡ list_any (λ item. list_any (facts_conflict (λ a b. a == b) (version, died)) (stated_ends item)) items.now }
 {
-    items.iter().any(|item| ends_at_another_time(item, version, died))
+    items
+        .iter()
+        .any(|item| ends_at_another_time(item, version, died))
 }
 
 /// Whether one of the items ends a version at another time than an entry does.

@@ -7,9 +7,8 @@ mod gathering;
 mod joining;
 mod uniting;
 
-pub use hk_fragment::Fragment;
-
 pub use cutting::{delta_since, whole_of};
 pub use gathering::fragment_of;
+pub use hk_fragment::Fragment;
 pub use joining::join;
 pub use uniting::union;

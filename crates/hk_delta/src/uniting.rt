@@ -51,9 +51,7 @@ fn value_conflicts_at(own: &Fragment, version: VersionKey, known: &Version) -> b
 fn conflicts_on(own: &Fragment, facts: &[(VersionKey, Version)]) -> bool
     ensures { result ≡ list_any (λ e. versions_spec.value_conflicts_at (facts_of_content own.now.content) e.0 e.1) facts.now }
 {
-    facts
-        .iter()
-        .any(|(version, known)| value_conflicts_at(own, *version, known))
+    facts.iter().any(|(version, known)| value_conflicts_at(own, *version, known))
 }
 
 /// Whether some version has different rows, or different ends, in two fragments. It takes no memory.

@@ -51,7 +51,12 @@ impl TableChains {
     }
 
     /// One chain of one version, of which one fact is known. The only error is out of memory.
-    pub fn of_fact(alloc: Global, key: Key, born: Time, fact: Fact) -> Result<TableChains, AllocError>
+    pub fn of_fact(
+        alloc: Global,
+        key: Key,
+        born: Time,
+        fact: Fact,
+    ) -> Result<TableChains, AllocError>
         ensures { IfOk result (λ keyed. keyed_put finmap.empty key born fact ≡ Ok keyed) }
     {
         let mut chains = BTreeMap::new(alloc);

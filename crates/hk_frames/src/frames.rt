@@ -49,7 +49,10 @@ pub fn frame_rest(bytes: &[u8], least: usize, most: usize) -> Result<Option<&[u8
 /// The value at the front and how many bytes its frame has, or `None` where a whole frame isn't there.
 /// Cost: that of `Format::read_rest`.
 #[tactic(auto, unfolding(crate::specs::Framing::framed))]
-pub fn next_frame<F: Format>(alloc: Global, bytes: &[u8]) -> Result<Option<(F::Value, usize)>, ReadError>
+pub fn next_frame<F: Format>(
+    alloc: Global,
+    bytes: &[u8],
+) -> Result<Option<(F::Value, usize)>, ReadError>
     ensures { GivesOrRunsOut (option_map (λ x. (F.seen x.0, x.1))) result
         (framed F.LEAST_BYTES F.MOST_BYTES F.read bytes.now) }
 {

@@ -48,8 +48,14 @@ impl Entry {
         ends: Vec<VersionKey>,
         rows: Vec<(Table, Key, Row)>,
     ) -> Result<Entry, FormFault>
-        ensures { result ≡ checked_entry (record { log = log; stream = stream; number = number; time = time;
-            ends = ends.items; rows = rows.items }) }
+        ensures { result ≡ checked_entry (record {
+          log = log;
+          stream = stream;
+          number = number;
+          time = time;
+          ends = ends.items;
+          rows = rows.items;
+        }) }
     {
         if number < 1 || number > time.number() {
             return Err(FormFault::BadNumber);
@@ -86,10 +92,22 @@ impl Entry {
         ends: Vec<VersionKey>,
         rows: Vec<(Table, Key, Row)>,
     ) -> Entry
-        requires { IsEntry (record { log = log; stream = stream; number = number; time = time;
-            ends = ends.items; rows = rows.items }) }
-        ensures { result ≡ record { log = log; stream = stream; number = number; time = time;
-            ends = ends.items; rows = rows.items } }
+        requires { IsEntry (record {
+          log = log;
+          stream = stream;
+          number = number;
+          time = time;
+          ends = ends.items;
+          rows = rows.items;
+        }) }
+        ensures { result ≡ record {
+          log = log;
+          stream = stream;
+          number = number;
+          time = time;
+          ends = ends.items;
+          rows = rows.items;
+        } }
     {
         Entry {
             log,

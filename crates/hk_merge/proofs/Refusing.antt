@@ -130,7 +130,6 @@ module _ (c : Content) (lawful : IsLawful c) where
   pub whole_conflicts : (t : Content) → contents_conflict t c ≡ contents_conflict t (cut c 0).content
   whole_conflicts t = ap (λ (f : FragmentValue). contents_conflict t f.content) whole_is
 
-
 -- ---- a peer's whole
 
 module _ (t c : Content) (lawful : IsLawful c) where

@@ -16,9 +16,9 @@ ghost use Rattle.hk_merge.specs.Listed.{facts_listed, fragment_sent};
 ghost use Rattle.hk_merge.specs.Plans.{gone_at, row_back_at, end_back_at};
 ghost use Rattle.hk_merge.specs.Calls.{Joins, Merges, MergesOf};
 
+use crate::merge_input::MergeInput;
 use crate::plan::{Coming, Leaving, leave, take, with_rows};
 use crate::refusals::{has_conflict_with, wrong_log};
-use crate::merge_input::MergeInput;
 use hk_state::{Change, ReplicaState};
 use hk_types::{Refusal, Time};
 

@@ -12,8 +12,8 @@ mod seat;
 
 pub use body::next_op;
 pub use book::{NewList, NodeName};
-pub use node::{Node, Receipt, start};
 pub use hk_types::LAST_OP;
+pub use node::{Node, Receipt, start};
 pub use op::{Hold, Op};
 pub use publisher::Publisher;
 pub use seat::ReaderSeat;

@@ -28,8 +28,8 @@ pub fn ask(
 ) -> Result<Answer, Refusal>
     ensures gives { MatchResult result (λ a. reply state.now time query.now ≡ Ok (answer_seen a))
         (λ why. (reply state.now time query.now ≡ Err why)
-            ⊎ ((why ≡ Memory)
-                × (reply state.now time query.now ≡ Ok (answer (visible state.now time) query.now)))) }
+        ⊎ ((why ≡ Memory)
+        × (reply state.now time query.now ≡ Ok (answer (visible state.now time) query.now)))) }
     ensures primary { IsOfPrimary state.now time query.now result }
 
     // A count takes no memory.

@@ -161,7 +161,7 @@ fn run<R: Read, W: Write, H: Host>(
     ensures transcript { (bytes : List ℕ)
         × Consumes (R.remaining reader.old.device) (R.remaining reader.new.device) bytes
         × SessionStep H.may host.old host.new (W.contents writer.old.device) (W.contents writer.new.device)
-            bytes (Ends result) }
+        bytes (Ends result) }
     ensures ready { H.ready host.new }
     // All bytes were read.
     ensures clean { result ≡ ends.Clean → IsAtEnd (R.remaining reader.new.device) }
@@ -185,7 +185,13 @@ fn run<R: Read, W: Write, H: Host>(
                 if count == 0 {
                     return finish(alloc, feeder, writer);
                 }
-                if let Some(ended) = handle_piece(alloc, &buffer[..count], &mut feeder, writer, host) {
+                if let Some(ended) = handle_piece(
+                    alloc,
+                    &buffer[..count],
+                    &mut feeder,
+                    writer,
+                    host,
+                ) {
                     return ended;
                 }
             }
@@ -228,7 +234,7 @@ pub fn serve<R: Read, W: Write, H: Host>(
     ensures transcript { (bytes : List ℕ)
         × Consumes (R.remaining reader.old.device) (R.remaining reader.new.device) bytes
         × SessionStep H.may host.old host.new (W.contents writer.old.device) (W.contents writer.new.device)
-            bytes (Ends result) }
+        bytes (Ends result) }
     ensures ready { H.ready host.new }
     // All bytes were read.
     ensures clean { result ≡ ends.Clean → IsAtEnd (R.remaining reader.new.device) }

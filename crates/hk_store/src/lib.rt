@@ -1,8 +1,8 @@
 //! The facts that are held: the rows and the ends of versions.
 #![tactic(auto)]
 
-mod copy;
 mod conflicts_with_entry;
+mod copy;
 mod drops;
 mod facts;
 mod journal;

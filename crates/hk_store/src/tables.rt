@@ -13,7 +13,7 @@ ghost use Rattle.hk_store.specs.Reads.{chains_at, with_facts};
 ghost use Rattle.hk_store.specs.Drops.{is_among, end_by, ended_of_chain, ended_of_keyed};
 ghost use Rattle.hk_store.specs.Facts.{entry_if, no_facts, known_at, facts_put, facts_without};
 
-use hk_facts::{Chain, Fact, TableChains, Part};
+use hk_facts::{Chain, Fact, Part, TableChains};
 use hk_log::Version;
 use hk_types::{Key, Refusal, Row, Table, Time, VersionKey};
 use std::alloc::{AllocError, Global};
@@ -233,7 +233,11 @@ fn list_version(
     Ok(())
 }
 
-fn insert(tables: &mut BTreeMap<Table, TableChains>, table: Table, keyed: TableChains) -> Result<(), AllocError>
+fn insert(
+    tables: &mut BTreeMap<Table, TableChains>,
+    table: Table,
+    keyed: TableChains,
+) -> Result<(), AllocError>
     ensures ok { OnOk result (Updates nat_cmp tables.old tables.new table (Some keyed)) }
     ensures err { OnErr result (tables.new.entries ≡ tables.old.entries) }
 {

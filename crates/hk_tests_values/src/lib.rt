@@ -52,7 +52,14 @@ pub fn entry(
     if let Some((key, body)) = written.1 {
         rows.push((Table::new(1), Key::new(key), row(alloc, body)?))?;
     }
-    let entry = Entry::new(log, stream(number_of_stream)?, number, time(at)?, ends, rows)?;
+    let entry = Entry::new(
+        log,
+        stream(number_of_stream)?,
+        number,
+        time(at)?,
+        ends,
+        rows,
+    )?;
     Ok(Item::Commit(entry))
 }
 

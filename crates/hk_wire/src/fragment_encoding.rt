@@ -11,8 +11,8 @@ ghost use Rattle.hk_wire.specs.Fragments as spec;
 
 use crate::answer::{put_row, row_len};
 use crate::field_len::{key_len, number_len, table_len, time_len};
-use hk_frames::{put_u16, put_u32, put_u64};
 use hk_fragment::Fragment;
+use hk_frames::{put_u16, put_u32, put_u64};
 use hk_log::Version;
 use hk_marks::Got;
 use hk_types::{Config, StreamNo, Time, VersionKey};

@@ -11,8 +11,8 @@ ghost use Rattle.hk_wire.specs.Requests.{whole_at};
 
 use crate::answer::read_row;
 use crate::head::read_time;
-use hk_frames::{Cursor, ReadError};
 use hk_fragment::Fragment;
+use hk_frames::{Cursor, ReadError};
 use hk_log::Version;
 use hk_marks::Got;
 use hk_types::{Config, FormFault, Key, LAST_TIME, StreamNo, Table, Time, VersionKey};

@@ -26,8 +26,8 @@ mod request;
 pub use encoding::encode_request;
 pub use feeder::RequestFeeder;
 pub use laws::{
-    one_wire_fragment, one_reply_reading, one_reply_encoding, one_request_reading,
-    one_request_encoding, reply_pieces_join, request_pieces_join,
+    one_reply_encoding, one_reply_reading, one_request_encoding, one_request_reading,
+    one_wire_fragment, reply_pieces_join, request_pieces_join,
 };
 pub use reply::Reply;
 pub use reply_encoding::encode_reply;

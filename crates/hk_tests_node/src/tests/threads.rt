@@ -94,7 +94,11 @@ fn joins_each<J: NodeName, R: Wait, S: Wait + Drop>(
 ) -> Result<(), Fail> {
     for number in 1..=1000u64 {
         let body = (number as u16).to_be_bytes();
-        let ended = if number == 1 { None } else { Some((5, number - 1)) };
+        let ended = if number == 1 {
+            None
+        } else {
+            Some((5, number - 1))
+        };
         let put = Some((5, body.as_slice()));
         let items = vec![in alloc;
             entry(alloc, 7, (1, number, number), (ended, put))?,

@@ -1,6 +1,6 @@
 //! Chains of versions.
 
-use hk_facts::{Fact, TableChains, Part};
+use hk_facts::{Fact, Part, TableChains};
 use hk_tests_values::{row, time};
 use hk_types::Key;
 use std::test::Fail;
@@ -8,7 +8,12 @@ use std::test::Fail;
 #[test]
 fn each_key_has_its_chain(rt: HostRuntime) -> Result<(), Fail> {
     let (five, six) = (Key::new(5), Key::new(6));
-    let mut keyed = TableChains::of_fact(rt.alloc(), six, time(1)?, Fact::Row(row(rt.alloc(), &[0x43])?))?;
+    let mut keyed = TableChains::of_fact(
+        rt.alloc(),
+        six,
+        time(1)?,
+        Fact::Row(row(rt.alloc(), &[0x43])?),
+    )?;
     keyed.put(five, time(2)?, Fact::Row(row(rt.alloc(), &[0x41])?))?;
     keyed.put(five, time(2)?, Fact::End(time(3)?))?;
     let copy = keyed.copy(rt.alloc())?;

@@ -51,7 +51,10 @@ fn stream(alloc: Global) -> Result<Vec<u8>, Fail> {
 fn encodes_and_reads_the_worked_frames(rt: HostRuntime) -> Result<(), Fail> {
     let alloc = rt.alloc();
     let mut bytes = Vec::new(alloc);
-    encode(&entry(alloc, 7, (1, 1, 1), (None, Some((5, &[0x41]))))?, &mut bytes)?;
+    encode(
+        &entry(alloc, 7, (1, 1, 1), (None, Some((5, &[0x41]))))?,
+        &mut bytes,
+    )?;
     assert_eq!(rt; bytes.as_slice(), E1.as_slice());
     encode(&mark(1, 1, 1)?, &mut bytes)?;
     assert_eq!(rt; bytes.len(), 85);

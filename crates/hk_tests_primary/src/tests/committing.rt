@@ -1,8 +1,8 @@
 //! Commits, and why they are refused.
 
 use super::{Outcome, Write, commit, transaction};
-use hk_tests_values::time;
 use hk_primary::Primary;
+use hk_tests_values::time;
 use hk_types::{Config, LAST_TIME};
 use std::alloc::Global;
 use std::test::Fail;

@@ -3,9 +3,9 @@
 ghost use Rattle.std.specs.Prelude.{◌≡◌, ◌<◌};
 
 use super::transaction;
-use hk_tests_values::{stream, time};
 use hk_log::Item;
 use hk_primary::{Answer, Naming, Query, SharedPrimary, Txn};
+use hk_tests_values::{stream, time};
 use hk_types::{Config, StreamNo, Table, Time};
 use std::alloc::Global;
 use std::marker::Brand;
