@@ -10,7 +10,7 @@ use Rattle.hk_model.specs.Replica.Fragments.{FragmentValue}
 use Rattle.hk_fragment.specs.Merging.{IsFromZero}
 use Rattle.hk_delta.specs.Unions.{IsGathered}
 use Rattle.hk_delta.proofs.WrongLogs.{count_streams}
-use Rattle.hk_delta.proofs.Pieces.{gave}
+use Rattle.hk_delta.proofs.UnionOfLists.{gave}
 
 abbrev pub Part : Type 0
 Part = Result FragmentValue Refusal

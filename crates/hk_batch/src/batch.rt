@@ -75,7 +75,7 @@ fn fragments<R: Threads + Sync, G: Gate + Sync>(
 }
 
 /// The fragment of the list, by a worker for each piece. The pieces are joined from the first to the last.
-fn joined<R: Threads + Sync, G: Gate + Sync>(
+fn union_of_pieces<R: Threads + Sync, G: Gate + Sync>(
     rt: &R,
     alloc: Global,
     config: Config,
@@ -125,7 +125,7 @@ pub fn build<R: Threads + Sync, G: Gate + Sync>(
     ensures gives { Gathers config items.now result }
     ensures represents { GathersOf config items.now result }
 {
-    match joined(rt, alloc, config, items, workers, gate) {
+    match union_of_pieces(rt, alloc, config, items, workers, gate) {
         Ok(fragment) => Ok(fragment),
         Err(_why) => fragment_of(alloc, config, items),
     }

@@ -1,6 +1,6 @@
-pub mod Found
-pub mod Whole
+pub mod ReadFields
+pub mod ReadItems
 pub mod Lengths
-pub mod Again
-pub mod Items
+pub mod ReadAgain
+pub mod ItemFrames
 pub mod PartsRead

@@ -1,8 +1,8 @@
-pub mod Agreeing
-pub mod Conflicting
-pub mod Lefts
+pub mod FactsInConflict
+pub mod ItemTests
+pub mod CutLists
 pub mod WrongLogs
-pub mod Putting
-pub mod Wholes
+pub mod FactsInTurn
+pub mod GatheredWhole
 pub mod MergeInputs
-pub mod Pieces
+pub mod UnionOfLists

@@ -27,10 +27,10 @@ use Rattle.hk_model.specs.Replica.Streams.{StreamContent}
 use Rattle.hk_model.specs.Replica.Fragments.{FragmentValue}
 use Rattle.hk_model.specs.Replica.Rules.{contents_conflict, join_result}
 use Rattle.hk_store.specs.Versions.{value_conflicts_at}
-use Rattle.hk_store.proofs.Walking.{conflict_listed}
+use Rattle.hk_store.proofs.ListedVersions.{conflict_listed}
 use Rattle.hk_merge.specs.Listed.{facts_listed, fragment_listed}
 use Rattle.hk_merge.specs.Calls.{Joins}
-use Rattle.hk_merge.proofs.Refusing.{wrong_log_by, listed_itself, listed_whole}
+use Rattle.hk_merge.proofs.JoinRefusals.{wrong_log_by, listed_itself, listed_whole}
 use Rattle.hk_log.specs.declared.item.Item.{Item}
 use Rattle.hk_model.specs.Replica.ContentOf.{content_of}
 use Rattle.hk_model.specs.Replica.Fragments.{part}
@@ -42,9 +42,9 @@ use Rattle.hk_model.proofs.Laws.{represents_both}
 use Rattle.hk_delta.proofs.WrongLogs.{count_streams}
 use Rattle.hk_delta.specs.Joins.{JoinsOf}
 use Rattle.hk_fragment.specs.Parts.{Known, versions_listed}
-use Rattle.hk_fragment.proofs.Listed.{listed_of, pairs}
-use Rattle.hk_state.proofs.Standing.{inside, has_conflict_with}
-use Rattle.hk_fragment.proofs.Finds.{find_listed, versions_are, each_found, below_In, all_from}
+use Rattle.hk_fragment.proofs.ListedVersions.{listed_of, pairs}
+use Rattle.hk_state.proofs.Represented.{inside, has_conflict_with}
+use Rattle.hk_fragment.proofs.FoundVersions.{find_listed, versions_are, each_found, below_In, all_from}
 
 -- what is borrowed of a content's list makes the content's facts
 pub listed_are : (c : Content) (xs : List Known) → xs ≡ versions_listed c → AreVersions (facts_listed xs) xs

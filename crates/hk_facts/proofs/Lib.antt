@@ -1,8 +1,8 @@
-pub mod Trees
-pub mod Latest
-pub mod Until
-pub mod Parts
-pub mod Copies
-pub mod Filled
-pub mod Newest
-pub mod Showing
+pub mod StoredTrees
+pub mod LastOfList
+pub mod DroppedEnds
+pub mod ForgottenParts
+pub mod CopiedTrees
+pub mod NestedMaps
+pub mod LatestVersion
+pub mod ShownRow

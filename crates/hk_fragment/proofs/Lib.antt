@@ -1,6 +1,6 @@
-pub mod Listed
-pub mod Finds
-pub mod Sound
-pub mod Merges
-pub mod Searches
-pub mod Unions
+pub mod ListedVersions
+pub mod FoundVersions
+pub mod FragmentRules
+pub mod MergedLists
+pub mod BinarySearch
+pub mod UnionOfFragments

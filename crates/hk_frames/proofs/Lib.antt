@@ -1,6 +1,6 @@
 pub mod Prefix
-pub mod Steps
+pub mod ReadingSteps
 pub mod Numbers
-pub mod Loop
-pub mod InFrames
-pub mod Stream
+pub mod ReadingLoop
+pub mod OneFrame
+pub mod FrameStream

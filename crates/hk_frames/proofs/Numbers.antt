@@ -7,7 +7,7 @@ use Rattle.std.proofs.lemmas.Nat.{be_bytes_2, be_bytes_4, be_bytes_8, from_be_by
 use Rattle.hk_types.specs.declared.faults.FormFault.{FormFault}
 use Rattle.hk_types.specs.declared.faults.FormFault.TheVariants.{WrongLength}
 use Rattle.hk_frames.specs.Fields.{IsBytes, number, number_at}
-use Rattle.hk_frames.proofs.Steps.{IsBytes-take, IsBytes-drop, Takes}
+use Rattle.hk_frames.proofs.ReadingSteps.{IsBytes-take, IsBytes-drop, Takes}
 
 pub guard_ok : {A : Type 0} (b : Bool) (d : FormFault) (x y : A) → cond b (Err d) (Ok x) ≡ Ok y → (b ≡ false) × (x ≡ y)
 guard_ok true d x y e = absurd cc

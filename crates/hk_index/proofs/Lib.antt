@@ -1,2 +1,2 @@
-pub mod Sets
-pub mod Tags
+pub mod StoredKeys
+pub mod StoredTags

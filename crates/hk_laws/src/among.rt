@@ -75,7 +75,7 @@ pub(crate) fn batch(
 
 /// Why what another replica has learnt since a time is refused before it is cut, if it is: the time is below its
 /// horizon, or above the readable mark of the replica that is to join it.
-fn barred(target: &ReplicaState, source: &ReplicaState, base: Time) -> Option<Refusal>
+fn delta_refusal(target: &ReplicaState, source: &ReplicaState, base: Time) -> Option<Refusal>
     ensures { MatchOption result (is_first_outcome (delta_join target.now source.now base).0 ≡ false) (λ why. (delta_join target.now source.now base ≡ (Refused why, target.now)) × (is_memory why ≡ false)) }
 {
     let horizon = source.horizon();
@@ -106,7 +106,7 @@ pub(crate) fn delta(
     let Some(source) = place_of(replicas, from) else {
         return Ok(Told::Refused(Refusal::NoSuch));
     };
-    if let Some(why) = barred(&replicas[target], &replicas[source], base) {
+    if let Some(why) = delta_refusal(&replicas[target], &replicas[source], base) {
         return Ok(Told::Refused(why));
     }
     match delta_since(alloc, &replicas[source], base) {

@@ -32,7 +32,7 @@ fn ask_primary(primary: &Primary, time: Time, query: &Query) -> Result<Told, Ref
 
 impl World {
     /// Why a transaction is refused whatever it writes, if it is. It takes no memory.
-    fn barred(&self, stream: StreamNo, read_at: Time) -> Option<Refusal>
+    fn commit_refusal(&self, stream: StreamNo, read_at: Time) -> Option<Refusal>
         ensures { result ≡ refusal_of_transaction self.now.config self.now.world.history stream read_at }
     {
         if stream.number() > self.primary.config().streams() {
@@ -74,7 +74,7 @@ impl World {
     ) -> Result<Told, Refusal>
         ensures { Happens self.old self.new (Commit stream read_at writes.items) result }
     {
-        if let Some(why) = self.barred(stream, read_at) {
+        if let Some(why) = self.commit_refusal(stream, read_at) {
             return Ok(Told::Refused(misbuilt(&writes).unwrap_or(why)));
         }
         self.build_and_commit(stream, read_at, writes)

@@ -1,8 +1,8 @@
-pub mod Settled
-pub mod Trees
+pub mod CoveredMarks
+pub mod StoredStreams
 pub mod Readers
-pub mod Told
-pub mod Numbered
-pub mod Kept
-pub mod Rooms
-pub mod Joins
+pub mod TakenItems
+pub mod Limits
+pub mod GotRules
+pub mod RoomForMore
+pub mod JoinedStreams

@@ -17,7 +17,7 @@ use Rattle.std.specs.FinMap.Entries.{below_all, is_sorted, same_entries}
 use Rattle.std.specs.FinSet as set
 use Rattle.hk_model.specs.Replica.Streams.{covers, unknown, adds_nothing}
 use Rattle.hk_model.specs.Replica.Lawful.{IsLawfulStream}
-use Rattle.hk_marks.proofs.Trees.{contains-taken_seen, covers_seen, get-waiting_seen}
+use Rattle.hk_marks.proofs.StoredStreams.{contains-taken_seen, covers_seen, get-waiting_seen}
 use Rattle.hk_marks.specs.Seen.{taken_seen, waiting_seen, IsExtra, IsStored, stream_seen}
 use Rattle.hk_marks.specs.Steps.{extra_numbers}
 

@@ -1,5 +1,5 @@
-pub mod Growing
-pub mod Picked
-pub mod Joining
-pub mod Rising
-pub mod Refusing
+pub mod GrowingLists
+pub mod ListedChange
+pub mod WorkedOutChange
+pub mod RisingHorizon
+pub mod JoinRefusals

@@ -24,7 +24,7 @@ use Rattle.hk_node.specs.NodeContent.{NodeContent}
 use Rattle.hk_node.specs.Replay.{refusal_of, after_join, after_prune, start_content, effect, content_after_op, replay, config_of, legal_from, is_legal, join_refused}
 use Rattle.hk_node.specs.Replies.{Answers, node_reply}
 use Rattle.hk_node.specs.Carried.{IsPart, Brings, Carries, CarryLaw, IsOfPrimary}
-use Rattle.hk_node.proofs.Legal.{and_left, and_right, none_of, applied-is}
+use Rattle.hk_node.proofs.LegalLists.{and_left, and_right, none_of, applied-is}
 use Rattle.hk_node.proofs.Holds.{join_tests, prune_tests}
 
 module _ (config : ConfigValue) (history : List Transaction) (is : IsHistory config history) where

@@ -19,7 +19,7 @@ use Rattle.hk_node.specs.NodeContent.{NodeContent}
 use Rattle.hk_node.specs.Replay.{is_before, first_of_two, least_hold, is_hold, full_refusal, passed_hold, held_refusal, join_refused, refusal_of, after_join, after_prune, start_content, effect, content_after_op, replay, legal_from, is_legal}
 use Rattle.hk_node.specs.Lists.{hold_time, hold_times, releases, is_released}
 use Rattle.hk_node.specs.Holds.{HoldLaw}
-use Rattle.hk_node.proofs.Legal.{and_left, and_right, none_of, applied-is}
+use Rattle.hk_node.proofs.LegalLists.{and_left, and_right, none_of, applied-is}
 
 -- where no refusal came, its test was false
 pub passed : (b : Bool) (e : Refusal) (o : Option Refusal) → (if b then Some e else o) ≡ None → (b ≡ false) × (o ≡ None)

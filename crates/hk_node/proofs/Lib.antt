@@ -1,10 +1,10 @@
 pub mod Prefixes
-pub mod Legal
-pub mod Adding
-pub mod Turning
-pub mod Publishing
+pub mod LegalLists
+pub mod AddedOperation
+pub mod PublishedCopy
+pub mod PublisherSteps
 pub mod Holds
-pub mod Tested
+pub mod RefusalTests
 pub mod Carries
 pub mod HoldsBack
-pub mod Waiting
+pub mod WaitingHold

@@ -25,7 +25,7 @@ use std::sync::Wait;
 /// added; `Unpublished` with its number where it could not be published, and then it waits, and the next publish shows
 /// it; `Conflict` where it met a conflict, which damages the node for good. Cost: that of the operation, and of what
 /// waits.
-#[tactic(auto, using(crate::proofs::Legal::last_snoc))]
+#[tactic(auto, using(crate::proofs::LegalLists::last_snoc))]
 pub fn change<J: NodeName, R: Wait + Drop>(
     publisher: &mut Publisher<J, R>,
     op: Op,

@@ -1,3 +1,3 @@
-pub mod Answered
+pub mod ListedAnswers
 pub mod OfPrimary
-pub mod Replied
+pub mod ReplyAtTime

@@ -1,4 +1,4 @@
 pub mod Transcripts
-pub mod Pieces
-pub mod Whole
-pub mod Settling
+pub mod WrittenPieces
+pub mod NoTruncatedRequest
+pub mod ChangeReplies

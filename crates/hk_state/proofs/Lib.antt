@@ -1,4 +1,4 @@
 pub mod Replicas
-pub mod Absorbing
-pub mod Pruning
-pub mod Standing
+pub mod AbsorbedItem
+pub mod PrunedState
+pub mod Represented

@@ -14,7 +14,7 @@ use Rattle.hk_model.specs.Replica.Maps.{or_else}
 use Rattle.hk_model.proofs.Maps.{version_key_total}
 use Rattle.hk_index.specs.declared.tagged.TaggedVersion.{TaggedVersion}
 use Rattle.hk_index.specs.Tagged.{tagged_cmp}
-use Rattle.hk_index.proofs.Tags.{tagged_total, tied_parts}
+use Rattle.hk_index.proofs.StoredTags.{tagged_total, tied_parts}
 use Rattle.hk_facts.specs.declared.fact.Fact.{Fact}
 use Rattle.hk_facts.specs.declared.fact.Fact.TheVariants.{Row, End}
 use Rattle.hk_facts.specs.declared.fact.Part.{Part}
@@ -22,8 +22,8 @@ use Rattle.hk_facts.specs.declared.fact.Part.TheVariants.{Row as RowPart, End as
 use Rattle.hk_facts.specs.Facts.{if_known}
 use Rattle.hk_store.specs.Facts.{FactsValue, no_facts, known_at, with_fact_at, facts_put, facts_without, conflicts_at}
 use Rattle.hk_store.specs.Indexed.{is_tagged, has_fact, AreTagged, AreKeyed, AreIndexed, tag_lost}
-use Rattle.hk_store.proofs.Stored.{tied, key_tied}
-use Rattle.hk_store.proofs.Changed.{get-added, get-without, tied_is}
+use Rattle.hk_store.proofs.StoredFacts.{tied, key_tied}
+use Rattle.hk_store.proofs.ChangedChains.{get-added, get-without, tied_is}
 
 abbrev Tags : Type 0
 Tags = set.FinSet tagged_cmp

@@ -1,4 +1,4 @@
-use Rattle.hk_delta.proofs.Wholes.{of_history}
+use Rattle.hk_delta.proofs.GatheredWhole.{of_history}
 use Rattle.std.proofs.Common.{Ok}
 use Rattle.hk_batch.proofs.batch.build.Goals as goal
 

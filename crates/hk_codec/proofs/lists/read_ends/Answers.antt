@@ -3,7 +3,7 @@ use Rattle.std.proofs.lemmas.Result.{err_from_is_err_and}
 use Rattle.hk_log.specs.Items.{end_place}
 use Rattle.hk_frames.specs.declared.cursor.ReadError.TheVariants.{Fault}
 use Rattle.hk_codec.specs.Reading.{end_at, ends_at}
-use Rattle.hk_frames.proofs.Loop.{goes_on, ends, is_done}
+use Rattle.hk_frames.proofs.ReadingLoop.{goes_on, ends, is_done}
 use Rattle.hk_codec.proofs.lists.read_ends.Goals as goal
 
 pub returns-in_err-end : goal.returns-in_err-end

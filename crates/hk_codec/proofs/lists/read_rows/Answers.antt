@@ -2,7 +2,7 @@ use Rattle.std.proofs.Common.{None}
 use Rattle.std.proofs.lemmas.Result.{err_from_is_err_and}
 use Rattle.hk_log.specs.Items.{row_place}
 use Rattle.hk_codec.specs.Reading.{row_at, rows_at}
-use Rattle.hk_frames.proofs.Loop.{goes_on, ends, is_done}
+use Rattle.hk_frames.proofs.ReadingLoop.{goes_on, ends, is_done}
 use Rattle.hk_codec.proofs.lists.read_rows.Goals as goal
 
 pub returns-in_err-row : goal.returns-in_err-row

@@ -1,6 +1,6 @@
 use Rattle.std.proofs.Common.{◌≡◌, ◌-◌, None}
 use Rattle.hk_codec.specs.Reading.{rows_at}
-use Rattle.hk_frames.proofs.Loop.{with_front}
+use Rattle.hk_frames.proofs.ReadingLoop.{with_front}
 use Rattle.hk_codec.proofs.lists.read_rows.Given as goal
 
 abbrev pub invariant-loop : goal.invariant-loop

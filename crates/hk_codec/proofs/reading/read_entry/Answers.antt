@@ -1,5 +1,5 @@
 use Rattle.std.proofs.Common.{◌≡◌, length, arith, ◌∙◌}
-use Rattle.hk_codec.proofs.Whole.{moment_takes, ends_take, rows_take, is_entry}
+use Rattle.hk_codec.proofs.ReadItems.{moment_takes, ends_take, rows_take, is_entry}
 use Rattle.hk_codec.proofs.reading.read_entry.Goals as goal
 
 pub of_parts-requires : goal.of_parts-requires

@@ -1,6 +1,6 @@
 use Rattle.std.proofs.Common.{arith}
 use Rattle.hk_frames.specs.Fields.{IsBytes}
-use Rattle.hk_codec.proofs.Found.{head_takes}
+use Rattle.hk_codec.proofs.ReadFields.{head_takes}
 use Rattle.hk_codec.proofs.reading.read_item.Goals as goal
 
 pub read_kind-requires : goal.read_kind-requires

@@ -2,7 +2,7 @@ use Rattle.std.proofs.Common.{sym, ap, ◌∙◌, ◌==◌, ◌||◌}
 use Rattle.hk_types.specs.Values.{same_row}
 use Rattle.hk_model.specs.History.Facts.{end_facts}
 use Rattle.hk_model.specs.Replica.Rules.{conflict}
-use Rattle.hk_delta.proofs.Conflicting.{rows_conflict, ends_conflict}
+use Rattle.hk_delta.proofs.ItemTests.{rows_conflict, ends_conflict}
 use Rattle.hk_delta.proofs.conflicts.conflict.Goals as goal
 
 pub returns-then-conflict_in_rows : goal.returns-then-conflict_in_rows

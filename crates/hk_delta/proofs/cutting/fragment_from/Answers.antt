@@ -4,7 +4,7 @@ use Rattle.hk_store.specs.Reads.{facts_of_content}
 use Rattle.hk_store.specs.Versions.{AreVersions, borrowed}
 use Rattle.hk_fragment.specs.Parts.{fragment_seen, fragment_fault}
 use Rattle.hk_delta.specs.Cuts.{all_left}
-use Rattle.hk_delta.proofs.Lefts.{parts_faultless, cut_is}
+use Rattle.hk_delta.proofs.CutLists.{parts_faultless, cut_is}
 use Rattle.hk_delta.proofs.cutting.fragment_from.Goals as goal
 
 pub of_parts-requires-clause-faultless : goal.of_parts-requires-clause-faultless

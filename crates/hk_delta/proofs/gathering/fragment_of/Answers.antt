@@ -1,6 +1,6 @@
 use Rattle.std.proofs.Common.{sym, ap, ◌∙◌, inl, Ok, Err}
 use Rattle.hk_model.specs.Replica.Rules.{gather_result_unless}
-use Rattle.hk_delta.proofs.Wholes.{gathered_ok, refused, of_history}
+use Rattle.hk_delta.proofs.GatheredWhole.{gathered_ok, refused, of_history}
 use Rattle.hk_delta.proofs.gathering.fragment_of.Goals as goal
 
 pub returns-in-Some-clause-represents : goal.returns-in-Some-clause-represents

@@ -6,7 +6,7 @@ use Rattle.hk_fragment.specs.Parts.{fragment_seen, fragment_fault}
 use Rattle.hk_delta.specs.Cuts.{all_left}
 use Rattle.hk_delta.specs.Gathers.{item_facts, all_put}
 use Rattle.hk_delta.proofs.WrongLogs.{count_streams}
-use Rattle.hk_delta.proofs.Wholes.{settled_ok, settled_err, whole_faultless, whole_is}
+use Rattle.hk_delta.proofs.GatheredWhole.{settled_ok, settled_err, whole_faultless, whole_is}
 use Rattle.hk_delta.proofs.gathering.gather.Goals as goal
 
 pub returns-in-Err-clause-err : goal.returns-in-Err-clause-err

@@ -1,6 +1,6 @@
 use Rattle.std.proofs.Common.{inl, inr}
 use Rattle.hk_delta.specs.Gathers.{end_fact}
-use Rattle.hk_delta.proofs.Putting.{put_more, put_fails}
+use Rattle.hk_delta.proofs.FactsInTurn.{put_more, put_fails}
 use Rattle.hk_delta.proofs.gathering.put_ends.Goals as goal
 
 pub returns-in-Err : goal.returns-in-Err

@@ -1,7 +1,7 @@
 use Rattle.std.proofs.Common.{◌≡◌, sym, ap, subst, ◌∙◌, inl, inr, Ok, List, ◌++◌}
 use Rattle.std.specs.List.{flat_map}
 use Rattle.hk_delta.specs.Gathers.{FactOn, Puts, all_put, row_fact, end_fact, item_facts}
-use Rattle.hk_delta.proofs.Putting.{all_put-append, stays_refused, puts_both}
+use Rattle.hk_delta.proofs.FactsInTurn.{all_put-append, stays_refused, puts_both}
 use Rattle.hk_delta.proofs.gathering.put_item.Goals as goal
 
 pub returns-in-Err : goal.returns-in-Err

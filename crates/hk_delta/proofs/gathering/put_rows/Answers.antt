@@ -3,7 +3,7 @@ use Rattle.hk_types.specs.Values.{RowValue}
 use Rattle.hk_facts.specs.declared.fact.Fact.TheVariants.{Row}
 use Rattle.hk_store.specs.Facts.{facts_put}
 use Rattle.hk_delta.specs.Gathers.{row_fact}
-use Rattle.hk_delta.proofs.Putting.{put_more, put_fails}
+use Rattle.hk_delta.proofs.FactsInTurn.{put_more, put_fails}
 use Rattle.hk_delta.proofs.gathering.put_rows.Goals as goal
 
 pub returns-in-Err : goal.returns-in-Err

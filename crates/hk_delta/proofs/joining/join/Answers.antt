@@ -4,10 +4,10 @@ use Rattle.hk_model.specs.Replica.Content.{readable}
 use Rattle.hk_model.specs.Replica.Fragments.{FragmentValue}
 use Rattle.hk_model.specs.Replica.Lawful.{IsLawfulFragment}
 use Rattle.hk_model.specs.Replica.Rules.{contents_conflict, content_after_join}
-use Rattle.hk_state.proofs.Pruning.{not_below}
+use Rattle.hk_state.proofs.PrunedState.{not_below}
 use Rattle.hk_store.specs.Versions.{borrowed}
 use Rattle.hk_merge.specs.Calls.{Joins}
-use Rattle.hk_merge.proofs.Refusing.{join_refused, join_gap, join_conflict, join_gives, join_refusal_without_memory, ok_along}
+use Rattle.hk_merge.proofs.JoinRefusals.{join_refused, join_gap, join_conflict, join_gives, join_refusal_without_memory, ok_along}
 use Rattle.hk_delta.proofs.MergeInputs.{listed_conflicts, listed_are, sent_is, fits_by, joins_of}
 use Rattle.hk_delta.proofs.joining.join.Goals as goal
 

@@ -1,5 +1,5 @@
 use Rattle.std.proofs.Common.{sym, ◌∙◌}
-use Rattle.hk_delta.proofs.Pieces.{united, unites_gathered}
+use Rattle.hk_delta.proofs.UnionOfLists.{united, unites_gathered}
 use Rattle.hk_delta.proofs.uniting.union.Goals as goal
 
 pub returns-clause-unites : goal.returns-clause-unites

@@ -1,5 +1,5 @@
 use Rattle.std.proofs.Common.{◌-◌, take, length, inl}
-use Rattle.hk_fragment.proofs.Merges.{last_is, none_last, compared}
+use Rattle.hk_fragment.proofs.MergedLists.{last_is, none_last, compared}
 use Rattle.hk_fragment.proofs.merging.compare_last.Goals as goal
 
 pub returns-in-None-Some : goal.returns-in-None-Some

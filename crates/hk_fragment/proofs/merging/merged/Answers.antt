@@ -1,7 +1,7 @@
 use Rattle.std.proofs.Common.{◌≡◌, sym, ap, subst, ◌∙◌, arith, length, reverse, List, [], ◌∷◌, None}
 use Rattle.std.proofs.lemmas.List.{reverse-append}
 use Rattle.hk_fragment.specs.Parts.{Known, facts_fault}
-use Rattle.hk_fragment.proofs.Merges.{Halfway, begun, further, ended_faultless, fewer}
+use Rattle.hk_fragment.proofs.MergedLists.{Halfway, begun, further, ended_faultless, fewer}
 use Rattle.hk_fragment.proofs.merging.merged.Goals as goal
 
 pub loop-known-init : goal.loop-known-init

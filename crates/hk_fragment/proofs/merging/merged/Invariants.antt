@@ -1,6 +1,6 @@
 use Rattle.std.proofs.Common.{◌≤◌, ◌+◌, reverse}
 use Rattle.std.specs.Vec.{vec_capacity, vec_len}
-use Rattle.hk_fragment.proofs.Merges.{Halfway}
+use Rattle.hk_fragment.proofs.MergedLists.{Halfway}
 use Rattle.hk_fragment.proofs.merging.merged.Given as goal
 
 abbrev pub invariant-loop-known : goal.invariant-loop-known

@@ -1,7 +1,7 @@
 use Rattle.std.proofs.Common.{◌≡◌, ◌++◌, true, length, eqb, eq-eqb, sym, ◌∙◌, arith, inl, inr}
 use Rattle.std.proofs.lemmas.List.{take-append-drop}
 use Rattle.hk_frames.specs.Framing.{IsWhole}
-use Rattle.hk_frames.proofs.Stream.{tail_is, fault_first, whole_first}
+use Rattle.hk_frames.proofs.FrameStream.{tail_is, fault_first, whole_first}
 use Rattle.hk_frames.proofs.frame_feeder.topped_frames.Goals as goal
 
 pub returns-then-is_some-clause-read : goal.returns-then-is_some-clause-read

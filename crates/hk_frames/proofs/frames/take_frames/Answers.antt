@@ -1,6 +1,6 @@
 use Rattle.std.proofs.Common.{arith}
 use Rattle.hk_frames.specs.Fields.{IsBytes}
-use Rattle.hk_frames.proofs.Stream.{value_more, values_stop}
+use Rattle.hk_frames.proofs.FrameStream.{value_more, values_stop}
 use Rattle.hk_frames.proofs.frames.take_frames.Goals as goal
 
 pub overflow_add-used : goal.overflow_add-used

@@ -1,5 +1,5 @@
 use Rattle.std.proofs.Common.{◌-◌, length}
-use Rattle.hk_frames.proofs.Stream.{SoFar}
+use Rattle.hk_frames.proofs.FrameStream.{SoFar}
 use Rattle.hk_frames.proofs.frames.take_frames.Given as goal
 
 abbrev pub invariant-frames : goal.invariant-frames

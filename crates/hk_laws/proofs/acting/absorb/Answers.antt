@@ -1,7 +1,7 @@
 use Rattle.std.proofs.Common.{refl, inl, inr}
 use Rattle.hk_model.specs.Replica.Rules.{take_result}
 use Rattle.hk_model.specs.World.Worlds.{outcome_of_take}
-use Rattle.hk_laws.proofs.Lacking.{refusal_gives}
+use Rattle.hk_laws.proofs.OutOfMemory.{refusal_gives}
 use Rattle.hk_laws.proofs.acting.absorb.Goals as goal
 
 pub returns-in-Err : goal.returns-in-Err

@@ -1,5 +1,5 @@
 use Rattle.hk_model.specs.Replica.Answers.{reply}
-use Rattle.hk_laws.proofs.Lacking.{reply_err}
+use Rattle.hk_laws.proofs.OutOfMemory.{reply_err}
 use Rattle.hk_laws.proofs.acting.ask.Goals as goal
 
 pub returns-in-Err-clause-first : goal.returns-in-Err-clause-first

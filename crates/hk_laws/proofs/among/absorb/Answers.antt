@@ -1,7 +1,7 @@
 use Rattle.std.proofs.Common.{sym}
 use Rattle.hk_model.specs.World.Worlds.{at_number, outcome_of_take}
 use Rattle.hk_model.specs.Replica.Rules.{take_result}
-use Rattle.hk_laws.proofs.Acted.{acts_on}
+use Rattle.hk_laws.proofs.OneReplicaActs.{acts_on}
 use Rattle.hk_laws.proofs.among.absorb.Goals as goal
 
 pub returns : goal.returns

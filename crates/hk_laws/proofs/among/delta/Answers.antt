@@ -5,8 +5,8 @@ use Rattle.hk_model.specs.Replica.Content.{Content}
 use Rattle.hk_model.specs.World.Worlds.{ToldValue, at_number, delta_join}
 use Rattle.hk_model.specs.World.Worlds.ToldValue.{Refused}
 use Rattle.hk_laws.specs.Calls.{Gives, is_first_outcome}
-use Rattle.hk_laws.proofs.Numbered.{numbered_at}
-use Rattle.hk_laws.proofs.Acted.{acts_on, acts_not}
+use Rattle.hk_laws.proofs.AtNumber.{numbered_at}
+use Rattle.hk_laws.proofs.OneReplicaActs.{acts_on, acts_not}
 use Rattle.hk_laws.proofs.Deltas.{joins_cut, refused_cut}
 use Rattle.hk_laws.proofs.among.delta.Goals as goal
 
@@ -30,14 +30,14 @@ returns-in-Err c =
     let b = get_or rs j d in
     let one : c.index-replicas-target.result ≡ a = c.index-replicas-target.is ∙ get_or_default rs i c.index-replicas-target.result d c.in-Some.ensures.1 in
     let other : c.index-replicas-source.result ≡ b = c.index-replicas-source.is ∙ get_or_default rs j c.index-replicas-source.result d c.in-Some-place_of.ensures.1 in
-    let free : is_first_outcome (delta_join a b c.args.base).0 ≡ false = sym (λ k. is_first_outcome (delta_join (one k) (other k) c.args.base).0) ∙ c.in_default-barred.ensures in
+    let free : is_first_outcome (delta_join a b c.args.base).0 ≡ false = sym (λ k. is_first_outcome (delta_join (one k) (other k) c.args.base).0) ∙ c.in_default-delta_refusal.ensures in
     acts_not rs c.args.to i c.in-Some.ensures.0 c.in-Some.ensures.1
     (at_number rs c.args.from) b (λ q. delta_join q.0 q.1 c.args.base) d c.refused.result
     (numbered_at rs j c.args.from d c.in-Some-place_of.ensures.0 c.in-Some-place_of.ensures.1)
     (refused_cut a b c.args.base c.in-Err.why c.refused.result free c.in-Err.ensures.gives c.refused.ensures)
 
-pub returns-in-Some-barred : goal.returns-in-Some-barred
-returns-in-Some-barred c =
+pub returns-in-Some-delta_refusal : goal.returns-in-Some-delta_refusal
+returns-in-Some-delta_refusal c =
     let rs = c.args.replicas.now in
     let i = c.in-Some.target in
     let j = c.in-Some-place_of.source in
@@ -46,10 +46,10 @@ returns-in-Some-barred c =
     let b = get_or rs j d in
     let one : c.index-replicas-target.result ≡ a = c.index-replicas-target.is ∙ get_or_default rs i c.index-replicas-target.result d c.in-Some.ensures.1 in
     let other : c.index-replicas-source.result ≡ b = c.index-replicas-source.is in
-    let says : delta_join a b c.args.base ≡ (Refused c.in-Some-barred.why, a) =
-    sym (λ k. delta_join (one k) (other k) c.args.base) ∙ c.in-Some-barred.ensures.0 ∙ ap (λ (x : Content). (Refused c.in-Some-barred.why, x)) one
+    let says : delta_join a b c.args.base ≡ (Refused c.in-Some-delta_refusal.why, a) =
+    sym (λ k. delta_join (one k) (other k) c.args.base) ∙ c.in-Some-delta_refusal.ensures.0 ∙ ap (λ (x : Content). (Refused c.in-Some-delta_refusal.why, x)) one
     in
     acts_not rs c.args.to i c.in-Some.ensures.0 c.in-Some.ensures.1
-    (at_number rs c.args.from) b (λ q. delta_join q.0 q.1 c.args.base) d (Ok (outcome.Refused c.in-Some-barred.why))
+    (at_number rs c.args.from) b (λ q. delta_join q.0 q.1 c.args.base) d (Ok (outcome.Refused c.in-Some-delta_refusal.why))
     (numbered_at rs j c.args.from d c.in-Some-place_of.ensures.0 c.in-Some-place_of.ensures.1)
-    (subst (λ (x : ToldValue × Content). Gives x a a (Ok (outcome.Refused c.in-Some-barred.why))) (sym says) (refl, refl, c.in-Some-barred.ensures.1))
+    (subst (λ (x : ToldValue × Content). Gives x a a (Ok (outcome.Refused c.in-Some-delta_refusal.why))) (sym says) (refl, refl, c.in-Some-delta_refusal.ensures.1))

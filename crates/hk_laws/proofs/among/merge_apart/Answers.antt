@@ -1,6 +1,6 @@
 use Rattle.std.proofs.Common.{sym, subst, List, length, ◌<◌, ◌++◌, set, arith}
 use Rattle.hk_model.specs.Replica.Content.{Content}
-use Rattle.hk_laws.proofs.Apart.{merges_among, into_low, into_high}
+use Rattle.hk_laws.proofs.MergeOfTwo.{merges_among, into_low, into_high}
 use Rattle.hk_laws.proofs.among.merge_apart.Goals as goal
 
 pub returns-then-to-from : goal.returns-then-to-from

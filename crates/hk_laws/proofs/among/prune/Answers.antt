@@ -1,6 +1,6 @@
 use Rattle.hk_model.specs.World.Worlds.{outcome_by}
 use Rattle.hk_model.specs.Replica.Rules.{prune_result}
-use Rattle.hk_laws.proofs.Acted.{acts_alone}
+use Rattle.hk_laws.proofs.OneReplicaActs.{acts_alone}
 use Rattle.hk_laws.proofs.among.prune.Goals as goal
 
 pub returns : goal.returns

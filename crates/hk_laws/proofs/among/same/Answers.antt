@@ -1,4 +1,4 @@
-use Rattle.hk_laws.proofs.Itself.{merged_itself}
+use Rattle.hk_laws.proofs.MergeWithItself.{merged_itself}
 use Rattle.hk_laws.proofs.among.same.Goals as goal
 
 pub returns-clause-whole : goal.returns-clause-whole

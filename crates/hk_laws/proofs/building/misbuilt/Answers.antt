@@ -1,5 +1,5 @@
 use Rattle.std.proofs.Common.{sym, ap, ◌∙◌, take}
-use Rattle.hk_laws.proofs.Misbuilt.{writes_row, started_none, started_more, written_twice, written_often, all_built}
+use Rattle.hk_laws.proofs.TestedWrites.{writes_row, started_none, started_more, written_twice, written_often, all_built}
 use Rattle.hk_laws.proofs.building.misbuilt.Goals as goal
 
 pub loop-i-init : goal.loop-i-init

@@ -1,4 +1,4 @@
-use Rattle.hk_laws.proofs.Misbuilt.{Started}
+use Rattle.hk_laws.proofs.TestedWrites.{Started}
 use Rattle.hk_laws.proofs.building.misbuilt.Given as goal
 
 abbrev pub invariant-loop-i : goal.invariant-loop-i

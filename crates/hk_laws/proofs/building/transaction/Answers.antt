@@ -6,7 +6,7 @@ use Rattle.hk_model.specs.History.Commits.{writes_result}
 use Rattle.hk_model.specs.History.Rows.{row_key_cmp}
 use Rattle.hk_model.specs.declared.write_op.WriteOp.{WriteOp}
 use Rattle.hk_primary.specs.Txns.{TxnValue}
-use Rattle.hk_laws.proofs.Built.{built_more, built_refused}
+use Rattle.hk_laws.proofs.BuiltTransactions.{built_more, built_refused}
 use Rattle.hk_laws.proofs.building.transaction.Goals as goal
 
 pub returns-in-Err : goal.returns-in-Err

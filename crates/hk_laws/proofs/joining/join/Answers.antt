@@ -1,7 +1,7 @@
 use Rattle.std.proofs.Common.{refl}
 use Rattle.hk_model.specs.Replica.Rules.{join_result}
 use Rattle.hk_model.specs.World.Worlds.{outcome_by}
-use Rattle.hk_laws.proofs.Lacking.{refusal_gives}
+use Rattle.hk_laws.proofs.OutOfMemory.{refusal_gives}
 use Rattle.hk_laws.proofs.joining.join.Goals as goal
 
 pub returns-in-Err : goal.returns-in-Err

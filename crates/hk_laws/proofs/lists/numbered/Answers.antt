@@ -1,6 +1,6 @@
 use Rattle.std.proofs.Common.{sym, ap, ◌∙◌, ◌<◌, arith}
 use Rattle.hk_model.specs.World.Worlds.{at_number}
-use Rattle.hk_laws.proofs.Numbered.{numbered_zero, numbered_got}
+use Rattle.hk_laws.proofs.AtNumber.{numbered_zero, numbered_got}
 use Rattle.hk_laws.proofs.lists.numbered.Goals as goal
 
 pub returns-then-number-eq0 : goal.returns-then-number-eq0

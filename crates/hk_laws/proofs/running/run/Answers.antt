@@ -6,7 +6,7 @@ use Rattle.hk_model.specs.declared.told.Told.{Told}
 use Rattle.hk_model.specs.World.Events.{event_seen, told_seen}
 use Rattle.hk_model.specs.World.Worlds.{World, ToldValue, new_contents}
 use Rattle.hk_laws.specs.Running.{Running}
-use Rattle.hk_laws.proofs.Carried.{Carries, carries_all, carries_on, carried, same_config}
+use Rattle.hk_laws.proofs.RunByEvents.{Carries, carries_all, carries_on, carried, same_config}
 use Rattle.hk_laws.proofs.running.run.Goals as goal
 
 pub loop-event-init : goal.loop-event-init

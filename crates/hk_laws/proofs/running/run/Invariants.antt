@@ -1,7 +1,7 @@
 use Rattle.std.proofs.Common.{◌≡◌, ◌≤◌, ◌+◌, map}
 use Rattle.std.specs.Vec.{vec_capacity, vec_len}
 use Rattle.hk_model.specs.World.Events.{event_seen, told_seen}
-use Rattle.hk_laws.proofs.Carried.{Carries}
+use Rattle.hk_laws.proofs.RunByEvents.{Carries}
 use Rattle.hk_laws.proofs.running.run.Given as goal
 
 abbrev pub invariant-loop-event : goal.invariant-loop-event

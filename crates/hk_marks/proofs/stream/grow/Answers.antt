@@ -1,5 +1,5 @@
 use Rattle.std.proofs.Common.{◌∙◌, arith}
-use Rattle.hk_marks.proofs.Trees.{taken_seen-reach, fewer_extra}
+use Rattle.hk_marks.proofs.StoredStreams.{taken_seen-reach, fewer_extra}
 use Rattle.hk_marks.proofs.stream.grow.Goals as goal
 
 pub loop-number-preserved-then-number-prefix : goal.loop-number-preserved-then-number-prefix

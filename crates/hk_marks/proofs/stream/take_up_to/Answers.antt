@@ -1,5 +1,5 @@
 use Rattle.std.proofs.Common.{◌∙◌, arith}
-use Rattle.hk_marks.proofs.Trees.{taken_seen-upto, taken_seen-within}
+use Rattle.hk_marks.proofs.StoredStreams.{taken_seen-upto, taken_seen-within}
 use Rattle.hk_marks.proofs.stream.take_up_to.Goals as goal
 
 pub returns-then-upto-prefix-clause-taken : goal.returns-then-upto-prefix-clause-taken

@@ -1,8 +1,8 @@
 use Rattle.std.proofs.Common.{◌≡◌, refl, sym, ap, ◌∙◌, inl, nat_lt, None, false}
 use Rattle.hk_model.specs.Replica.Content.{readable}
-use Rattle.hk_state.proofs.Pruning.{not_below}
+use Rattle.hk_state.proofs.PrunedState.{not_below}
 use Rattle.hk_merge.specs.Listed.{fragment_sent}
-use Rattle.hk_merge.proofs.Refusing.{wrong_log_by, join_conflict, join_gives, listed_conflict}
+use Rattle.hk_merge.proofs.JoinRefusals.{wrong_log_by, join_conflict, join_gives, listed_conflict}
 use Rattle.hk_merge.proofs.join.join_sent.Goals as goal
 
 pub returns-then-has_conflict_with : goal.returns-then-has_conflict_with

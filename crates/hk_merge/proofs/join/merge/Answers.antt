@@ -4,7 +4,7 @@ use Rattle.hk_model.specs.Replica.Lawful.{IsLawfulFragment}
 use Rattle.hk_model.proofs.Lawful.{cut_lawful}
 use Rattle.hk_store.specs.Versions.{borrowed}
 use Rattle.hk_merge.specs.Calls.{Joins, Merges}
-use Rattle.hk_merge.proofs.Refusing.{sent_whole, listed_itself, merges_of}
+use Rattle.hk_merge.proofs.JoinRefusals.{sent_whole, listed_itself, merges_of}
 use Rattle.hk_merge.proofs.join.merge.Goals as goal
 
 pub join_sent-requires-clause-listed : goal.join_sent-requires-clause-listed

@@ -2,7 +2,7 @@ use Rattle.std.proofs.Common.{refl, sym, ◌∙◌, inl, inr}
 use Rattle.hk_model.specs.Replica.Content.{readable}
 use Rattle.hk_model.specs.Replica.Fragments.{cut}
 use Rattle.hk_model.specs.Replica.Rules.{content_after_join}
-use Rattle.hk_merge.proofs.Refusing.{join_conflict, join_done, peer_conflicts, peer_fits}
+use Rattle.hk_merge.proofs.JoinRefusals.{join_conflict, join_done, peer_conflicts, peer_fits}
 use Rattle.hk_model.proofs.Streams.{no_gap_at_0}
 use Rattle.hk_merge.proofs.join.refusal_without_memory.Goals as goal
 

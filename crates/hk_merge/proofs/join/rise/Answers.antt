@@ -4,7 +4,7 @@ use Rattle.hk_store.specs.Reads.{facts_of_content}
 use Rattle.hk_store.specs.Versions.{AreVersions, borrowed}
 use Rattle.hk_merge.specs.Listed.{fragment_sent}
 use Rattle.hk_merge.specs.Plans.{rises, all_gone, rows_back, ends_back}
-use Rattle.hk_merge.proofs.Rising.{facts_are, row_sent, risen_drops, risen_rows, risen_ends, level_drops, level_rows, level_ends, no_rise, some_rise}
+use Rattle.hk_merge.proofs.RisingHorizon.{facts_are, row_sent, risen_drops, risen_rows, risen_ends, level_drops, level_rows, level_ends, no_rise, some_rise}
 use Rattle.hk_merge.proofs.join.rise.Goals as goal
 
 pub returns-then-ge : goal.returns-then-ge

@@ -6,8 +6,8 @@ use Rattle.hk_store.specs.Drops.{is_among}
 use Rattle.hk_merge.specs.Listed.{fragment_sent}
 use Rattle.hk_merge.specs.Plans.{old_come, gone_at}
 use Rattle.hk_model.proofs.Streams.{as_many_together}
-use Rattle.hk_merge.proofs.Rising.{facts_are, come_rows, come_ends}
-use Rattle.hk_merge.proofs.Joining.{change_joins}
+use Rattle.hk_merge.proofs.RisingHorizon.{facts_are, come_rows, come_ends}
+use Rattle.hk_merge.proofs.WorkedOutChange.{change_joins}
 use Rattle.hk_merge.proofs.join.work_out.Goals as goal
 
 pub returns : goal.returns

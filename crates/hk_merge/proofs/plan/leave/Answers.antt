@@ -3,7 +3,7 @@ use Rattle.std.specs.FinSet as set
 use Rattle.hk_store.specs.Facts.{entry_if}
 use Rattle.hk_store.specs.Versions.{borrowed}
 use Rattle.hk_merge.specs.Plans.{goes, row_back, end_back}
-use Rattle.hk_merge.proofs.Growing.{grown_none, grown_more}
+use Rattle.hk_merge.proofs.GrowingLists.{grown_none, grown_more}
 use Rattle.hk_merge.proofs.plan.leave.Goals as goal
 
 pub loop-version-init : goal.loop-version-init

@@ -2,7 +2,7 @@ use Rattle.std.proofs.Common.{refl, ◌∙◌, arith}
 use Rattle.hk_store.specs.Facts.{entry_if}
 use Rattle.hk_store.specs.Versions.{borrowed}
 use Rattle.hk_merge.specs.Plans.{row_comes, end_comes}
-use Rattle.hk_merge.proofs.Growing.{grown_none, grown_more}
+use Rattle.hk_merge.proofs.GrowingLists.{grown_none, grown_more}
 use Rattle.hk_merge.proofs.plan.take.Goals as goal
 
 pub loop-version-init : goal.loop-version-init

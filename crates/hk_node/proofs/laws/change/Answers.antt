@@ -1,5 +1,5 @@
 use Rattle.std.proofs.Common.{sym, ◌∙◌}
-use Rattle.hk_node.proofs.Tested.{test_refuses}
+use Rattle.hk_node.proofs.RefusalTests.{test_refuses}
 use Rattle.hk_node.proofs.laws.change.Goals as goal
 
 pub returns-in-Some-clause-change : goal.returns-in-Some-clause-change

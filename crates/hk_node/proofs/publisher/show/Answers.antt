@@ -2,7 +2,7 @@ use Rattle.std.proofs.Common.{sym, ap, ◌∙◌, subst}
 use mathlib.Core.List.{IsPrefix}
 use Rattle.hk_node.specs.declared.replica.Replica.{Replica}
 use Rattle.hk_node.specs.Published.{IsReplay}
-use Rattle.hk_node.proofs.Turning.{turns}
+use Rattle.hk_node.proofs.PublishedCopy.{turns}
 use Rattle.hk_node.proofs.publisher.show.Goals as goal
 
 pub publish_as-requires : goal.publish_as-requires

@@ -1,5 +1,5 @@
 use Rattle.std.proofs.Common.{rules}
-use Rattle.hk_node.proofs.Turning.{admits, forks, learns}
+use Rattle.hk_node.proofs.PublishedCopy.{admits, forks, learns}
 use Rattle.hk_node.proofs.seat.seat_of.Goals as goal
 
 pub reader-requires : goal.reader-requires

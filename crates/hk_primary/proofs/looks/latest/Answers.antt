@@ -1,5 +1,5 @@
 use Rattle.hk_model.specs.History.Rows.{RowKey}
-use Rattle.hk_primary.proofs.Found.{latest_none, latest_some}
+use Rattle.hk_primary.proofs.LatestInChain.{latest_none, latest_some}
 use Rattle.hk_primary.proofs.looks.latest.Goals as goal
 
 pub returns-in-Some : goal.returns-in-Some

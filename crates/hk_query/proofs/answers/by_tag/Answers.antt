@@ -2,7 +2,7 @@ use Rattle.std.proofs.Common.{sym, ap, ◌∙◌}
 use Rattle.hk_model.specs.Replica.Answers.{Rows}
 use Rattle.hk_query.specs.Rows.{rows_shown}
 use Rattle.hk_store.specs.Reads.{with_facts}
-use Rattle.hk_query.proofs.Answered.{tag_answered}
+use Rattle.hk_query.proofs.ListedAnswers.{tag_answered}
 use Rattle.hk_query.proofs.answers.by_tag.Goals as goal
 
 pub returns-clause-ok : goal.returns-clause-ok

@@ -2,7 +2,7 @@ use Rattle.std.proofs.Common.{sym, ap, ◌∙◌}
 use Rattle.hk_model.specs.Replica.Answers.{Rows}
 use Rattle.hk_query.specs.Rows.{rows_shown}
 use Rattle.hk_store.specs.Reads.{with_facts}
-use Rattle.hk_query.proofs.Answered.{range_answered}
+use Rattle.hk_query.proofs.ListedAnswers.{range_answered}
 use Rattle.hk_query.proofs.answers.range.Goals as goal
 
 pub returns-clause-ok : goal.returns-clause-ok

@@ -1,8 +1,8 @@
 use Rattle.std.proofs.Common.{sym, ap, ◌∙◌, nat_lt, inl, Err}
 use Rattle.hk_types.specs.declared.faults.Refusal.TheVariants.{TooOld, NotYet}
-use Rattle.hk_state.proofs.Pruning.{not_below}
+use Rattle.hk_state.proofs.PrunedState.{not_below}
 use Rattle.hk_query.proofs.OfPrimary.{of_primary}
-use Rattle.hk_query.proofs.Replied.{replied, too_old, not_yet}
+use Rattle.hk_query.proofs.ReplyAtTime.{replied, too_old, not_yet}
 use Rattle.hk_query.proofs.reply.ask.Goals as goal
 
 pub returns-then-lt-clause-primary : goal.returns-then-lt-clause-primary

@@ -1,6 +1,6 @@
 use Rattle.std.proofs.Common.{arith, rules, ◌+◌, ◌<◌, take}
 use Rattle.std.proofs.KnownBytes.{Appends-kept}
-use Rattle.hk_session.proofs.Pieces.{sent_more, is_front}
+use Rattle.hk_session.proofs.WrittenPieces.{sent_more, is_front}
 use Rattle.hk_session.proofs.sending.write_text.Goals as goal
 
 pub returns-then-count-eq0-clause-part : goal.returns-then-count-eq0-clause-part

@@ -2,7 +2,7 @@ use Rattle.std.proofs.Common.{◌++◌, Err, refl, sym, subst, ◌∙◌}
 use Rattle.hk_types.specs.declared.faults.FormFault.{FormFault}
 use Rattle.hk_wire.specs.Requests.{ReadsRequests}
 use Rattle.hk_session.proofs.Transcripts.{nothing_said, part_said, begins_reads, fault_said, midway_of, met}
-use Rattle.hk_session.proofs.Whole.{never_cut}
+use Rattle.hk_session.proofs.NoTruncatedRequest.{never_cut}
 use Rattle.hk_session.proofs.serving.handle_piece.Goals as goal
 
 pub returns-in-Err-clause-ends : goal.returns-in-Err-clause-ends

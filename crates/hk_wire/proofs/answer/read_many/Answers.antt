@@ -1,6 +1,6 @@
 use Rattle.std.proofs.Common.{None}
 use Rattle.std.proofs.lemmas.Result.{err_from_is_err_and}
-use Rattle.hk_frames.proofs.Loop.{goes_on, ends, is_done}
+use Rattle.hk_frames.proofs.ReadingLoop.{goes_on, ends, is_done}
 use Rattle.hk_wire.specs.Answers.{keyed_at, keyed_rows_at}
 use Rattle.hk_wire.proofs.answer.read_many.Goals as goal
 

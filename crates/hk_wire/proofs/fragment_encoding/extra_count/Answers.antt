@@ -1,6 +1,6 @@
 use Rattle.std.proofs.Common.{sym, ap, ◌∙◌, length}
 use Rattle.hk_model.specs.Replica.Streams.{stream_at}
-use Rattle.hk_wire.proofs.Streaming.{extras_listed}
+use Rattle.hk_wire.proofs.StreamRead.{extras_listed}
 use Rattle.hk_wire.proofs.fragment_encoding.extra_count.Goals as goal
 
 pub returns : goal.returns

@@ -2,7 +2,7 @@ use Rattle.std.proofs.Common.{◌≡◌, List, None, arith, subst, All}
 use Rattle.std.proofs.lemmas.List.Elements.{recursion_from_All}
 use Rattle.hk_fragment.specs.Parts.{Known, versions_listed, facts_fault}
 use Rattle.hk_wire.specs.Fragments.{KnownFits}
-use Rattle.hk_wire.proofs.Fitting.{fragment_fits}
+use Rattle.hk_wire.proofs.FragmentFits.{fragment_fits}
 use Rattle.hk_wire.proofs.fragment_encoding.fragment_len.Goals as goal
 
 pub returns-clause-fits : goal.returns-clause-fits

@@ -6,7 +6,7 @@ use Rattle.std.proofs.lemmas.Map.Iter.{iter_end}
 use Rattle.hk_frames.specs.Fields.{number}
 use Rattle.hk_model.specs.Replica.Streams.{stream_at}
 use Rattle.hk_wire.specs.Fragments.{wire_stream_of}
-use Rattle.hk_wire.proofs.Streaming.{extras_listed}
+use Rattle.hk_wire.proofs.StreamRead.{extras_listed}
 use Rattle.hk_wire.proofs.fragment_encoding.put_extras.Goals as goal
 
 pub returns-clause-ok : goal.returns-clause-ok

@@ -5,8 +5,8 @@ use Rattle.hk_frames.specs.Fields.{number}
 use Rattle.hk_model.specs.Replica.Streams.{StreamContent}
 use Rattle.hk_fragment.specs.Parts.{Known}
 use Rattle.hk_wire.specs.Fragments.{wire_stream_of, stream_text, fact_text, wire_fragment_of}
-use Rattle.hk_wire.proofs.Taking.{map_ok}
-use Rattle.hk_wire.proofs.Putting.{put_parts}
+use Rattle.hk_wire.proofs.ReadingLoops.{map_ok}
+use Rattle.hk_wire.proofs.WrittenFragments.{put_parts}
 use Rattle.hk_wire.proofs.fragment_encoding.put_fragment.Goals as goal
 
 pub returns-clause-ok : goal.returns-clause-ok

@@ -1,6 +1,6 @@
 use Rattle.std.proofs.Common.{◌+◌, arith}
-use Rattle.hk_wire.proofs.Gathering.{is_stream}
-use Rattle.hk_wire.proofs.Putting.{counted_at, put_more}
+use Rattle.hk_wire.proofs.StreamsRead.{is_stream}
+use Rattle.hk_wire.proofs.WrittenFragments.{counted_at, put_more}
 use Rattle.hk_wire.proofs.fragment_encoding.put_streams.Goals as goal
 
 pub put_stream-requires-clause-counted : goal.put_stream-requires-clause-counted

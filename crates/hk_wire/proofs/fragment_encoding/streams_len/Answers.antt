@@ -1,6 +1,6 @@
 use Rattle.std.proofs.Common.{◌+◌, arith}
-use Rattle.hk_wire.proofs.Gathering.{is_stream}
-use Rattle.hk_wire.proofs.Putting.{counted_at}
+use Rattle.hk_wire.proofs.StreamsRead.{is_stream}
+use Rattle.hk_wire.proofs.WrittenFragments.{counted_at}
 use Rattle.hk_wire.proofs.fragment_encoding.streams_len.Goals as goal
 
 pub stream_len-total-requires-clause-counted : goal.stream_len-total-requires-clause-counted

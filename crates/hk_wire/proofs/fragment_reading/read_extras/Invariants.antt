@@ -1,5 +1,5 @@
 use Rattle.hk_model.specs.Replica.Streams.{stream_at}
-use Rattle.hk_wire.proofs.Taking.{ExtraSoFar}
+use Rattle.hk_wire.proofs.ReadingLoops.{ExtraSoFar}
 use Rattle.hk_wire.proofs.fragment_reading.read_extras.Given as goal
 
 abbrev pub invariant-loop : goal.invariant-loop

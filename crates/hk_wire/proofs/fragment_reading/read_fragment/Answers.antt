@@ -1,4 +1,4 @@
-use Rattle.hk_wire.proofs.Standing.{parts_stand, no_fragment_fault, fragment_read}
+use Rattle.hk_wire.proofs.FactsRead.{parts_stand, no_fragment_fault, fragment_read}
 use Rattle.hk_wire.proofs.fragment_reading.read_fragment.Goals as goal
 
 pub returns-in_err-fragment : goal.returns-in_err-fragment

@@ -1,6 +1,6 @@
 use Rattle.std.proofs.Common.{◌≤◌, ◌<◌, arith}
 use Rattle.hk_model.specs.Replica.Content.{least_closed}
-use Rattle.hk_wire.proofs.Standing.{got_read, got_short}
+use Rattle.hk_wire.proofs.FactsRead.{got_read, got_short}
 use Rattle.hk_wire.proofs.fragment_reading.read_got.Goals as goal
 
 pub returns-then-number-clause-read : goal.returns-then-number-clause-read

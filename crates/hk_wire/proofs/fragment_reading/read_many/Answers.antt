@@ -1,6 +1,6 @@
 use Rattle.std.proofs.Common.{None}
 use Rattle.std.proofs.lemmas.Result.{err_from_is_err_and}
-use Rattle.hk_frames.proofs.Loop.{goes_on, ends, is_done}
+use Rattle.hk_frames.proofs.ReadingLoop.{goes_on, ends, is_done}
 use Rattle.hk_wire.specs.Fragments.{fact_at}
 use Rattle.hk_wire.specs.FragmentSteps.{fact_list_at}
 use Rattle.hk_wire.proofs.fragment_reading.read_many.Goals as goal

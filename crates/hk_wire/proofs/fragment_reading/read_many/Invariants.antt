@@ -1,6 +1,6 @@
 use Rattle.std.proofs.Common.{◌≡◌, ◌-◌, None}
 use Rattle.hk_wire.specs.FragmentSteps.{fact_list_at}
-use Rattle.hk_frames.proofs.Loop.{with_front}
+use Rattle.hk_frames.proofs.ReadingLoop.{with_front}
 use Rattle.hk_wire.proofs.fragment_reading.read_many.Given as goal
 
 abbrev pub invariant-loop : goal.invariant-loop

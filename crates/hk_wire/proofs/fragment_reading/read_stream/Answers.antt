@@ -1,8 +1,8 @@
 use Rattle.std.proofs.Common.{sym, ap, ◌∙◌, Ok}
 use Rattle.std.proofs.lemmas.Result.{err_from_is_err_and}
 use Rattle.hk_model.specs.Replica.Streams.{stream_at}
-use Rattle.hk_wire.proofs.Taking.{map_ok, map_err}
-use Rattle.hk_wire.proofs.Gathering.{just_begun, begun_itself, is_ready, stream_read, fails_in_extras, fails_at_count, fails_in_waits, set_again}
+use Rattle.hk_wire.proofs.ReadingLoops.{map_ok, map_err}
+use Rattle.hk_wire.proofs.StreamsRead.{just_begun, begun_itself, is_ready, stream_read, fails_in_extras, fails_at_count, fails_in_waits, set_again}
 use Rattle.hk_wire.proofs.fragment_reading.read_stream.Goals as goal
 
 pub read_extras-requires-clause-starts : goal.read_extras-requires-clause-starts

@@ -2,7 +2,7 @@ use Rattle.std.proofs.Common.{◌≡◌, ap, ◌∙◌, ◌+◌, ◌-◌, arith}
 use Rattle.std.proofs.lemmas.Result.{err_from_is_err_and}
 use Rattle.std.specs.Prelude.{slice_set}
 use Rattle.hk_model.specs.Replica.Streams.{stream_at}
-use Rattle.hk_wire.proofs.Gathering.{streams_go, streams_end, streams_done, is_stream, no_fault}
+use Rattle.hk_wire.proofs.StreamsRead.{streams_go, streams_end, streams_done, is_stream, no_fault}
 use Rattle.hk_wire.proofs.fragment_reading.read_streams.Goals as goal
 
 pub returns-in_err-s-clause-err : goal.returns-in_err-s-clause-err

@@ -1,4 +1,4 @@
-use Rattle.hk_wire.proofs.Gathering.{StreamsSoFar}
+use Rattle.hk_wire.proofs.StreamsRead.{StreamsSoFar}
 use Rattle.hk_wire.proofs.fragment_reading.read_streams.Given as goal
 
 abbrev pub invariant-loop-index : goal.invariant-loop-index

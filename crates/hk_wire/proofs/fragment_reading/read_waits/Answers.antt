@@ -1,7 +1,7 @@
 use Rattle.std.proofs.Common.{sym, ◌∙◌}
 use Rattle.std.proofs.lemmas.Result.{err_from_is_err_and}
 use Rattle.hk_frames.specs.declared.cursor.ReadError.TheVariants.{Fault}
-use Rattle.hk_wire.proofs.Taking.{unless_err, waits_begin, waits_go, waits_end, waits_done, waits_only}
+use Rattle.hk_wire.proofs.ReadingLoops.{unless_err, waits_begin, waits_go, waits_end, waits_done, waits_only}
 use Rattle.hk_wire.proofs.fragment_reading.read_waits.Goals as goal
 
 pub loop-init : goal.loop-init

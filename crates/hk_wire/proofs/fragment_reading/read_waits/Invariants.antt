@@ -1,4 +1,4 @@
-use Rattle.hk_wire.proofs.Taking.{WaitsSoFar}
+use Rattle.hk_wire.proofs.ReadingLoops.{WaitsSoFar}
 use Rattle.hk_wire.proofs.fragment_reading.read_waits.Given as goal
 
 abbrev pub invariant-loop : goal.invariant-loop

@@ -1,8 +1,8 @@
 use Rattle.std.proofs.Common.{◌-◌, ◌+◌, [], ◌∷◌, ◌++◌, None, ap, ◌∙◌}
 use Rattle.std.proofs.lemmas.Result.{err_from_is_err_and}
-use Rattle.hk_frames.proofs.Loop.{with_front, goes_on, ends, is_done}
+use Rattle.hk_frames.proofs.ReadingLoop.{with_front, goes_on, ends, is_done}
 use Rattle.hk_wire.specs.Requests.{no_place, item_frame_at, item_frames_at}
-use Rattle.hk_wire.proofs.Formats.{any_before}
+use Rattle.hk_wire.proofs.RequestsReadAgain.{any_before}
 use Rattle.hk_wire.proofs.items.read_many.Goals as goal
 
 pub returns-in_err-item : goal.returns-in_err-item

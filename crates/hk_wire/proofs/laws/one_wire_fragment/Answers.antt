@@ -1,4 +1,4 @@
-use Rattle.hk_wire.proofs.Telling.{fragment_same}
+use Rattle.hk_wire.proofs.OneWireFragment.{fragment_same}
 use Rattle.hk_wire.proofs.laws.one_wire_fragment.Goals as goal
 
 pub returns : goal.returns

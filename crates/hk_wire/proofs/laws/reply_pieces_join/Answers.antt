@@ -1,4 +1,4 @@
-use Rattle.hk_frames.proofs.Stream.{pieces_join_up}
+use Rattle.hk_frames.proofs.FrameStream.{pieces_join_up}
 use Rattle.hk_wire.specs.Replies.{reply_seen, reply_at, reply_rest, IsReply}
 use Rattle.hk_wire.proofs.laws.reply_pieces_join.Goals as goal
 

@@ -1,4 +1,4 @@
-use Rattle.hk_frames.proofs.Stream.{pieces_join_up}
+use Rattle.hk_frames.proofs.FrameStream.{pieces_join_up}
 use Rattle.hk_wire.specs.Requests.{request_seen, request_at, request_rest, IsRequest}
 use Rattle.hk_wire.proofs.laws.request_pieces_join.Goals as goal
 

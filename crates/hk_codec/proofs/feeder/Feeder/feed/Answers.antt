@@ -1,4 +1,4 @@
-use Rattle.hk_codec.proofs.Items.{item_format}
+use Rattle.hk_codec.proofs.ItemFrames.{item_format}
 use Rattle.hk_codec.proofs.feeder.Feeder.feed.Goals as goal
 
 pub feed-requires : goal.feed-requires

@@ -1,7 +1,7 @@
 use Rattle.std.proofs.Common.{ap}
 use Rattle.std.specs.Map.Iter.{deref_pair}
 use Rattle.std.proofs.lemmas.Map.Iter.{iter_end}
-use Rattle.hk_facts.proofs.Copies.{fill_more, filled_all}
+use Rattle.hk_facts.proofs.CopiedTrees.{fill_more, filled_all}
 use Rattle.hk_facts.proofs.chain.Chain.copy.Goals as goal
 
 pub loop-born-preserved : goal.loop-born-preserved

@@ -1,6 +1,6 @@
 use Rattle.std.proofs.Common.{rules}
 use Rattle.std.proofs.lemmas.Map.Made.{filter_same_pairs}
-use Rattle.hk_facts.proofs.Until.{stays, seen_until}
+use Rattle.hk_facts.proofs.DroppedEnds.{stays, seen_until}
 use Rattle.hk_facts.proofs.chain.Chain.drop_until.Goals as goal
 
 pub returns : goal.returns

@@ -1,6 +1,6 @@
 use Rattle.hk_facts.specs.Facts.{without}
-use Rattle.hk_facts.proofs.Trees.{alter_absent, alter_there, alter_gone}
-use Rattle.hk_facts.proofs.Parts.{nothing_left}
+use Rattle.hk_facts.proofs.StoredTrees.{alter_absent, alter_there, alter_gone}
+use Rattle.hk_facts.proofs.ForgottenParts.{nothing_left}
 use Rattle.hk_facts.proofs.chain.Chain.forget.Goals as goal
 
 pub returns-in_default : goal.returns-in_default

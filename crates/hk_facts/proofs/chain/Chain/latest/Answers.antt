@@ -1,7 +1,7 @@
 use Rattle.std.proofs.Common.{sym, ap, ◌∙◌, ◌&&◌, leb}
 use Rattle.hk_facts.specs.Chains.{last_where}
-use Rattle.hk_facts.proofs.Trees.{entries_seen}
-use Rattle.hk_facts.proofs.Latest.{has_row, latest_in_range, step_back, step_onto}
+use Rattle.hk_facts.proofs.StoredTrees.{entries_seen}
+use Rattle.hk_facts.proofs.LastOfList.{has_row, latest_in_range, step_back, step_onto}
 use Rattle.hk_facts.proofs.chain.Chain.latest.Goals as goal
 
 pub loop-born-init : goal.loop-born-init

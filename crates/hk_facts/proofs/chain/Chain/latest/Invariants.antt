@@ -1,6 +1,6 @@
 use Rattle.std.proofs.Common.{◌≡◌, length}
 use Rattle.hk_facts.specs.Chains.{latest_at, last_where}
-use Rattle.hk_facts.proofs.Latest.{has_row}
+use Rattle.hk_facts.proofs.LastOfList.{has_row}
 use Rattle.hk_facts.proofs.chain.Chain.latest.Given as goal
 
 abbrev pub invariant-loop-born : goal.invariant-loop-born

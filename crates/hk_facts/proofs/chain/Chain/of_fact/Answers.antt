@@ -1,5 +1,5 @@
 use Rattle.hk_facts.specs.Facts.{put_result}
-use Rattle.hk_facts.proofs.Trees.{put_first}
+use Rattle.hk_facts.proofs.StoredTrees.{put_first}
 use Rattle.hk_facts.proofs.chain.Chain.of_fact.Goals as goal
 
 pub returns : goal.returns

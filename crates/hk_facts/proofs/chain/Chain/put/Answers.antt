@@ -1,7 +1,7 @@
 use Rattle.std.proofs.Common.{sym, inl, None}
 use Rattle.std.proofs.lemmas.Result.{on_err_weaker, on_ok_weaker}
 use Rattle.hk_facts.specs.Facts.{put_result}
-use Rattle.hk_facts.proofs.Trees.{found_seen, put_there, put_refused, put_new, write_back, out_of_memory, IfErr_map}
+use Rattle.hk_facts.proofs.StoredTrees.{found_seen, put_there, put_refused, put_new, write_back, out_of_memory, IfErr_map}
 use Rattle.hk_facts.proofs.chain.Chain.put.Goals as goal
 
 pub returns-in-Some-clause-ok : goal.returns-in-Some-clause-ok

@@ -1,4 +1,4 @@
-use Rattle.hk_facts.proofs.Trees.{found_seen}
+use Rattle.hk_facts.proofs.StoredTrees.{found_seen}
 use Rattle.hk_facts.proofs.chain.Chain.version.Goals as goal
 
 pub returns : goal.returns

@@ -1,5 +1,5 @@
-use Rattle.hk_facts.proofs.Trees.{found_seen}
-use Rattle.hk_facts.proofs.Filled.{found_filled}
+use Rattle.hk_facts.proofs.StoredTrees.{found_seen}
+use Rattle.hk_facts.proofs.NestedMaps.{found_filled}
 use Rattle.hk_facts.proofs.table_chains.TableChains.chain.Goals as goal
 
 pub returns-clause-value : goal.returns-clause-value

@@ -1,8 +1,8 @@
 use Rattle.std.proofs.Common.{ap}
 use Rattle.std.specs.Map.Iter.{deref_pair}
 use Rattle.std.proofs.lemmas.Map.Iter.{iter_end}
-use Rattle.hk_facts.proofs.Filled.{filled_alike}
-use Rattle.hk_facts.proofs.Copies.{fill_more, filled_all}
+use Rattle.hk_facts.proofs.NestedMaps.{filled_alike}
+use Rattle.hk_facts.proofs.CopiedTrees.{fill_more, filled_all}
 use Rattle.hk_facts.proofs.table_chains.TableChains.copy.Goals as goal
 
 pub loop-key-preserved : goal.loop-key-preserved

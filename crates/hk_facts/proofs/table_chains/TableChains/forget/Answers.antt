@@ -1,8 +1,8 @@
 use Rattle.std.proofs.Common.{refl, sym, true≢false}
 use Rattle.hk_facts.specs.Facts.{without}
 use Rattle.hk_facts.specs.Chains.{chain_forget}
-use Rattle.hk_facts.proofs.Parts.{nothing_left}
-use Rattle.hk_facts.proofs.Filled.{alter_empty, len_some, filled_there, filled_gone, change_absent, change_there, change_gone}
+use Rattle.hk_facts.proofs.ForgottenParts.{nothing_left}
+use Rattle.hk_facts.proofs.NestedMaps.{alter_empty, len_some, filled_there, filled_gone, change_absent, change_there, change_gone}
 use Rattle.hk_facts.proofs.table_chains.TableChains.forget.Goals as goal
 
 pub returns-in_default : goal.returns-in_default

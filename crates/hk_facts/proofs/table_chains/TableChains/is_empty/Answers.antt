@@ -1,4 +1,4 @@
-use Rattle.hk_facts.proofs.Trees.{seen_none, none_seen}
+use Rattle.hk_facts.proofs.StoredTrees.{seen_none, none_seen}
 use Rattle.hk_facts.proofs.table_chains.TableChains.is_empty.Goals as goal
 
 pub returns : goal.returns

@@ -1,5 +1,5 @@
 use Rattle.std.proofs.Common.{◌∙◌, sym}
-use Rattle.hk_facts.proofs.Trees.{entries_seen}
+use Rattle.hk_facts.proofs.StoredTrees.{entries_seen}
 use Rattle.hk_facts.proofs.table_chains.TableChains.iter.Goals as goal
 
 pub returns : goal.returns

@@ -1,5 +1,5 @@
 use Rattle.std.proofs.Common.{◌∙◌}
-use Rattle.hk_facts.proofs.Trees.{len_seen}
+use Rattle.hk_facts.proofs.StoredTrees.{len_seen}
 use Rattle.hk_facts.proofs.table_chains.TableChains.len.Goals as goal
 
 pub returns : goal.returns

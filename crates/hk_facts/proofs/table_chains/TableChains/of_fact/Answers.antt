@@ -2,8 +2,8 @@ use Rattle.std.specs.FinMap as finmap
 use Rattle.hk_facts.specs.Facts.{put_result}
 use Rattle.hk_facts.specs.Chains.{chain_put}
 use Rattle.hk_facts.specs.TableChains.{or_empty}
-use Rattle.hk_facts.proofs.Trees.{put_first}
-use Rattle.hk_facts.proofs.Filled.{put_filled, filled_first}
+use Rattle.hk_facts.proofs.StoredTrees.{put_first}
+use Rattle.hk_facts.proofs.NestedMaps.{put_filled, filled_first}
 use Rattle.hk_facts.proofs.table_chains.TableChains.of_fact.Goals as goal
 
 pub invariant_of-result : goal.invariant_of-result

@@ -3,8 +3,8 @@ use Rattle.std.proofs.lemmas.Result.{on_err_weaker, on_ok_weaker}
 use Rattle.hk_facts.specs.Facts.{put_result}
 use Rattle.hk_facts.specs.Chains.{chain_put}
 use Rattle.hk_facts.specs.TableChains.{or_empty}
-use Rattle.hk_facts.proofs.Trees.{put_there, put_new, write_back, out_of_memory}
-use Rattle.hk_facts.proofs.Filled.{put_filled, kept_or_put, was_filled, filled_there, filled_new, known_absent, refused_there}
+use Rattle.hk_facts.proofs.StoredTrees.{put_there, put_new, write_back, out_of_memory}
+use Rattle.hk_facts.proofs.NestedMaps.{put_filled, kept_or_put, was_filled, filled_there, filled_new, known_absent, refused_there}
 use Rattle.hk_facts.proofs.table_chains.TableChains.put.Goals as goal
 
 pub invariant_of-self : goal.invariant_of-self

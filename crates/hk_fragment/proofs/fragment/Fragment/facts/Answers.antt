@@ -1,5 +1,5 @@
 use Rattle.std.proofs.Common.{sym}
-use Rattle.hk_fragment.proofs.Sound.{lawful, listed, facts_tested}
+use Rattle.hk_fragment.proofs.FragmentRules.{lawful, listed, facts_tested}
 use Rattle.hk_fragment.proofs.fragment.Fragment.facts.Goals as goal
 
 pub returns-clause-value : goal.returns-clause-value

@@ -1,4 +1,4 @@
-use Rattle.hk_fragment.proofs.Sound.{lawful}
+use Rattle.hk_fragment.proofs.FragmentRules.{lawful}
 use Rattle.hk_fragment.proofs.fragment.Fragment.horizon.Goals as goal
 
 pub returns-clause-lawful : goal.returns-clause-lawful

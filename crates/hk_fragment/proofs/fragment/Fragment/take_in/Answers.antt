@@ -3,8 +3,8 @@ use Rattle.std.specs.FinMap.{find}
 use Rattle.hk_model.specs.History.Rows.{version_key_cmp}
 use Rattle.hk_model.specs.Replica.Fragments.{FragmentValue}
 use Rattle.hk_fragment.specs.Merging.{union_of, known_in_either}
-use Rattle.hk_fragment.proofs.Sound.{facts_tested}
-use Rattle.hk_fragment.proofs.Unions.{united_parts, united_seen}
+use Rattle.hk_fragment.proofs.FragmentRules.{facts_tested}
+use Rattle.hk_fragment.proofs.UnionOfFragments.{united_parts, united_seen}
 use Rattle.hk_fragment.proofs.fragment.Fragment.take_in.Goals as goal
 
 pub invariant_of-self-2 : goal.invariant_of-self-2

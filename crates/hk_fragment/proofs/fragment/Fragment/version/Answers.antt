@@ -10,9 +10,9 @@ use Rattle.hk_model.specs.Replica.Streams.{StreamContent}
 use Rattle.hk_store.specs.Facts.{known_at}
 use Rattle.hk_store.specs.Reads.{facts_of_content}
 use Rattle.hk_fragment.specs.Parts.{Known, fragment_seen, fragment_fault, versions_listed}
-use Rattle.hk_fragment.proofs.Sound.{listed, facts_tested}
-use Rattle.hk_fragment.proofs.Finds.{find_listed}
-use Rattle.hk_fragment.proofs.Searches.{searched_some, searched_none}
+use Rattle.hk_fragment.proofs.FragmentRules.{listed, facts_tested}
+use Rattle.hk_fragment.proofs.FoundVersions.{find_listed}
+use Rattle.hk_fragment.proofs.BinarySearch.{searched_some, searched_none}
 use Rattle.hk_fragment.proofs.fragment.Fragment.version.Goals as goal
 
 -- what is found in the list of versions is what the fragment knows

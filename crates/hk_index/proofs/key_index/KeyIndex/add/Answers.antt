@@ -1,4 +1,4 @@
-use Rattle.hk_index.proofs.Sets.{seen-insert}
+use Rattle.hk_index.proofs.StoredKeys.{seen-insert}
 use Rattle.hk_index.proofs.key_index.KeyIndex.add.Goals as goal
 
 pub returns-clause-ok : goal.returns-clause-ok

@@ -1,4 +1,4 @@
-use Rattle.hk_index.proofs.Sets.{same-copied}
+use Rattle.hk_index.proofs.StoredKeys.{same-copied}
 use Rattle.hk_index.proofs.key_index.KeyIndex.copy.Goals as goal
 
 pub returns-clause-ok : goal.returns-clause-ok

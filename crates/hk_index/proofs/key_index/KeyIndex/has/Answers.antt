@@ -1,5 +1,5 @@
 use Rattle.std.proofs.Common.{◌∙◌, sym}
-use Rattle.hk_index.proofs.Sets.{contains-seen}
+use Rattle.hk_index.proofs.StoredKeys.{contains-seen}
 use Rattle.hk_index.proofs.key_index.KeyIndex.has.Goals as goal
 
 pub returns : goal.returns

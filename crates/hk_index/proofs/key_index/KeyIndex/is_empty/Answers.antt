@@ -1,4 +1,4 @@
-use Rattle.hk_index.proofs.Sets.{none-empty, empty-none}
+use Rattle.hk_index.proofs.StoredKeys.{none-empty, empty-none}
 use Rattle.hk_index.proofs.key_index.KeyIndex.is_empty.Goals as goal
 
 pub returns : goal.returns

@@ -3,7 +3,7 @@ use Rattle.std.specs.List.{take_while}
 use Rattle.hk_types.specs.declared.version_key.VersionKey.{VersionKey}
 use Rattle.hk_model.specs.History.Rows.{version_key_cmp}
 use Rattle.hk_index.specs.Listed.{is_up_to}
-use Rattle.hk_index.proofs.Sets.{Lists-from}
+use Rattle.hk_index.proofs.StoredKeys.{Lists-from}
 use Rattle.hk_index.proofs.key_index.KeyIndex.list.Goals as goal
 
 pub returns-clause-ok : goal.returns-clause-ok

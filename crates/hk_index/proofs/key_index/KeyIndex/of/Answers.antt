@@ -1,4 +1,4 @@
-use Rattle.hk_index.proofs.Sets.{seen-listed}
+use Rattle.hk_index.proofs.StoredKeys.{seen-listed}
 use Rattle.hk_index.proofs.key_index.KeyIndex.of.Goals as goal
 
 pub returns-clause-ok : goal.returns-clause-ok

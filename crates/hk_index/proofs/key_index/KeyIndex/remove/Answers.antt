@@ -1,4 +1,4 @@
-use Rattle.hk_index.proofs.Sets.{seen-remove}
+use Rattle.hk_index.proofs.StoredKeys.{seen-remove}
 use Rattle.hk_index.proofs.key_index.KeyIndex.remove.Goals as goal
 
 pub returns : goal.returns

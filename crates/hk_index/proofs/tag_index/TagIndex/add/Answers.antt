@@ -1,4 +1,4 @@
-use Rattle.hk_index.proofs.Tags.{seen-insert}
+use Rattle.hk_index.proofs.StoredTags.{seen-insert}
 use Rattle.hk_index.proofs.tag_index.TagIndex.add.Goals as goal
 
 pub returns-clause-ok : goal.returns-clause-ok

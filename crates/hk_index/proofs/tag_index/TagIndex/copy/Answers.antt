@@ -1,4 +1,4 @@
-use Rattle.hk_index.proofs.Tags.{same-copied}
+use Rattle.hk_index.proofs.StoredTags.{same-copied}
 use Rattle.hk_index.proofs.tag_index.TagIndex.copy.Goals as goal
 
 pub returns-clause-ok : goal.returns-clause-ok

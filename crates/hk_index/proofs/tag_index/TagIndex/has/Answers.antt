@@ -1,5 +1,5 @@
 use Rattle.std.proofs.Common.{◌∙◌, sym}
-use Rattle.hk_index.proofs.Tags.{contains-seen}
+use Rattle.hk_index.proofs.StoredTags.{contains-seen}
 use Rattle.hk_index.proofs.tag_index.TagIndex.has.Goals as goal
 
 pub returns : goal.returns

@@ -2,7 +2,7 @@ use Rattle.std.proofs.Common.{◌∙◌, ap, filter, is_le, map}
 use Rattle.std.specs.List.{take_while}
 use Rattle.hk_index.specs.declared.tagged.TaggedVersion.{TaggedVersion}
 use Rattle.hk_index.specs.Tagged.{is_tagged, tagged_cmp}
-use Rattle.hk_index.proofs.Tags.{Lists-tagged}
+use Rattle.hk_index.proofs.StoredTags.{Lists-tagged}
 use Rattle.hk_index.proofs.tag_index.TagIndex.list.Goals as goal
 
 pub returns-clause-ok : goal.returns-clause-ok

@@ -1,4 +1,4 @@
-use Rattle.hk_index.proofs.Tags.{seen-remove}
+use Rattle.hk_index.proofs.StoredTags.{seen-remove}
 use Rattle.hk_index.proofs.tag_index.TagIndex.remove.Goals as goal
 
 pub returns : goal.returns

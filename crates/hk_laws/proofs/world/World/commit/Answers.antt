@@ -8,7 +8,7 @@ use Rattle.hk_model.specs.World.Worlds.{after_commit}
 use Rattle.hk_model.specs.World.Worlds.EventValue.{Commit}
 use Rattle.hk_laws.specs.Calls.{IsBuilt, is_memory}
 use Rattle.hk_laws.specs.Running.{Running}
-use Rattle.hk_laws.proofs.Barring.{barred_tells, barred_hears, open_first, turned}
+use Rattle.hk_laws.proofs.RefusedCommits.{barred_tells, barred_hears, open_first, turned}
 use Rattle.hk_laws.proofs.world.World.commit.Goals as goal
 
 pub returns : goal.returns

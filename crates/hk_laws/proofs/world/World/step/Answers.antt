@@ -1,5 +1,5 @@
 use Rattle.hk_model.specs.World.Events.{event_seen, told_seen}
-use Rattle.hk_laws.proofs.Stepping.{steps_of}
+use Rattle.hk_laws.proofs.StepOnItems.{steps_of}
 use Rattle.hk_laws.proofs.world.World.step.Goals as goal
 
 pub returns-clause-represents : goal.returns-clause-represents

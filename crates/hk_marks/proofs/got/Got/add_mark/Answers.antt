@@ -3,10 +3,10 @@ use Rattle.std.proofs.lemmas.Grind.{common_steps}
 use Rattle.hk_model.specs.Replica.Lawful.{IsLawfulStream}
 use Rattle.hk_model.specs.Replica.Streams.{stream_at}
 use Rattle.hk_marks.specs.Steps.{with_mark}
-use Rattle.hk_marks.proofs.Kept.{AreStreams-set, with_mark_lawful}
-use Rattle.hk_marks.proofs.Numbered.{with_mark_numbered}
+use Rattle.hk_marks.proofs.GotRules.{AreStreams-set, with_mark_lawful}
+use Rattle.hk_marks.proofs.Limits.{with_mark_numbered}
 use Rattle.hk_marks.specs.Seen.{IsNumbered}
-use Rattle.hk_marks.proofs.Told.{closed_told}
+use Rattle.hk_marks.proofs.TakenItems.{closed_told}
 use Rattle.hk_marks.proofs.got.Got.add_mark.Goals as goal
 
 pub invariant_of-self-2 : goal.invariant_of-self-2

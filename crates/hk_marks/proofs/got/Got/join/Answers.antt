@@ -1,7 +1,7 @@
 use Rattle.std.proofs.Common.{◌≡◌, ◌∙◌, sym, ap, subst, length, List}
 use Rattle.hk_model.specs.Replica.Streams.{StreamContent, all_together}
 use Rattle.hk_marks.specs.Seen.{AreStreams}
-use Rattle.hk_marks.proofs.Joins.{joined_kept}
+use Rattle.hk_marks.proofs.JoinedStreams.{joined_kept}
 use Rattle.hk_marks.proofs.got.Got.join.Goals as goal
 
 pub invariant_of-self-2 : goal.invariant_of-self-2

@@ -1,6 +1,6 @@
 use Rattle.std.proofs.Common.{arith, subst, sym}
 use Rattle.hk_marks.specs.Seen.{AreStreams}
-use Rattle.hk_marks.proofs.Kept.{AreStreams-unknown}
+use Rattle.hk_marks.proofs.GotRules.{AreStreams-unknown}
 use Rattle.hk_marks.proofs.got.Got.new.Goals as goal
 
 pub invariant_of-result : goal.invariant_of-result

@@ -1,7 +1,7 @@
 use Rattle.std.proofs.Common.{sym, subst, ap, arith, length}
 use Rattle.hk_model.specs.Replica.Lawful.{IsLawfulStream}
-use Rattle.hk_marks.proofs.Kept.{AreStreams-set, raised_lawful}
-use Rattle.hk_marks.proofs.Numbered.{raised_numbered}
+use Rattle.hk_marks.proofs.GotRules.{AreStreams-set, raised_lawful}
+use Rattle.hk_marks.proofs.Limits.{raised_numbered}
 use Rattle.hk_marks.specs.Seen.{IsNumbered}
 use Rattle.hk_marks.proofs.got.Got.raise.Goals as goal
 

@@ -1,6 +1,6 @@
 use Rattle.std.proofs.Common.{◌∙◌, ap, length, arith, ◌≤◌}
 use Rattle.hk_model.specs.Replica.Content.{least_closed}
-use Rattle.hk_marks.proofs.Kept.{least_from-more, least_from-all}
+use Rattle.hk_marks.proofs.GotRules.{least_from-more, least_from-all}
 use Rattle.hk_marks.proofs.got.Got.readable.Goals as goal
 
 pub loop-stream-preserved : goal.loop-stream-preserved

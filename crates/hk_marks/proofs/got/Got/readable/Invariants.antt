@@ -1,6 +1,6 @@
 use Rattle.std.proofs.Common.{◌≡◌, take, get_or}
 use Rattle.hk_model.specs.Replica.Streams.{unknown}
-use Rattle.hk_marks.proofs.Kept.{least_from}
+use Rattle.hk_marks.proofs.GotRules.{least_from}
 use Rattle.hk_marks.proofs.got.Got.readable.Given as goal
 
 abbrev pub invariant-loop-stream : goal.invariant-loop-stream

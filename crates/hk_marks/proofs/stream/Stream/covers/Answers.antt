@@ -1,5 +1,5 @@
 use Rattle.std.proofs.Common.{sym}
-use Rattle.hk_marks.proofs.Trees.{covers_seen}
+use Rattle.hk_marks.proofs.StoredStreams.{covers_seen}
 use Rattle.hk_marks.proofs.stream.Stream.covers.Goals as goal
 
 pub returns : goal.returns

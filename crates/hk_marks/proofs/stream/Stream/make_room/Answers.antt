@@ -4,7 +4,7 @@ use Rattle.std.specs.BTreeMap as tree
 use Rattle.std.specs.BTreeSet as sorted
 use Rattle.hk_marks.specs.Room.{has_number}
 use Rattle.hk_marks.proofs.Readers.{alike_seen}
-use Rattle.hk_marks.proofs.Rooms.{missing_number, missing_count, numbers_apart, counts_apart, widened, widened_stored, all_back, on_error}
+use Rattle.hk_marks.proofs.RoomForMore.{missing_number, missing_count, numbers_apart, counts_apart, widened, widened_stored, all_back, on_error}
 use Rattle.hk_marks.proofs.stream.Stream.make_room.Goals as goal
 
 pub insert_numbers-requires : goal.insert_numbers-requires

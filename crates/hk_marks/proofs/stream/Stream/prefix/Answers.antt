@@ -1,7 +1,7 @@
 use Rattle.std.proofs.Common.{subst}
 use Rattle.hk_model.specs.Replica.Lawful.{IsLawfulStream}
 use Rattle.hk_marks.proofs.Readers.{lawful_seen}
-use Rattle.hk_marks.proofs.Trees.{covers_seen}
+use Rattle.hk_marks.proofs.StoredStreams.{covers_seen}
 use Rattle.hk_marks.proofs.stream.Stream.prefix.Goals as goal
 
 pub returns-clause-value : goal.returns-clause-value

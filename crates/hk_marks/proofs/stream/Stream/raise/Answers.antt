@@ -2,7 +2,7 @@ use Rattle.std.proofs.Common.{◌∙◌, sym}
 use Rattle.std.specs.FinMap as finmap
 use Rattle.hk_model.specs.Replica.Streams.{stream_with}
 use Rattle.hk_marks.specs.Seen.{waiting_seen}
-use Rattle.hk_marks.proofs.Trees.{covers_seen}
+use Rattle.hk_marks.proofs.StoredStreams.{covers_seen}
 use Rattle.hk_marks.proofs.stream.Stream.raise.Goals as goal
 
 pub returns : goal.returns

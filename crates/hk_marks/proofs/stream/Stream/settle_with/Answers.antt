@@ -1,6 +1,6 @@
 use Rattle.std.proofs.Common.{◌<◌, arith}
-use Rattle.hk_marks.proofs.Trees.{covers_seen}
-use Rattle.hk_marks.proofs.Joins.{near_number, waits_here, settled_together}
+use Rattle.hk_marks.proofs.StoredStreams.{covers_seen}
+use Rattle.hk_marks.proofs.JoinedStreams.{near_number, waits_here, settled_together}
 use Rattle.hk_marks.proofs.stream.Stream.settle_with.Goals as goal
 
 pub take_numbers-requires-clause-near : goal.take_numbers-requires-clause-near

@@ -4,7 +4,7 @@ use Rattle.std.specs.BTreeMap as tree
 use Rattle.std.specs.BTreeSet as sorted
 use Rattle.hk_model.specs.Replica.Streams.{StreamContent, covers}
 use Rattle.hk_marks.specs.Room.{has_number}
-use Rattle.hk_marks.proofs.Rooms.{narrowed}
+use Rattle.hk_marks.proofs.RoomForMore.{narrowed}
 use Rattle.hk_marks.proofs.stream.Stream.take_back.Goals as goal
 
 pub returns : goal.returns

@@ -1,5 +1,5 @@
 use Rattle.std.proofs.Common.{◌<◌, refl, arith, length}
-use Rattle.hk_marks.proofs.Joins.{room_undone, room_used}
+use Rattle.hk_marks.proofs.JoinedStreams.{room_undone, room_used}
 use Rattle.hk_marks.proofs.stream.join.+join_from.Goals as goal
 
 pub returns-in-Err-clause-err : goal.returns-in-Err-clause-err

@@ -2,7 +2,7 @@ use Rattle.std.proofs.Common.{ap, ◌∙◌, List, ℕ, false, true}
 use Rattle.std.specs.BTreeMap.{is_at}
 use Rattle.std.specs.Ordering.{nat_cmp}
 use Rattle.std.specs.List.{list_any}
-use Rattle.hk_marks.proofs.Rooms.{of_error, taken_back}
+use Rattle.hk_marks.proofs.RoomForMore.{of_error, taken_back}
 use Rattle.hk_marks.proofs.stream.join.insert_numbers.Goals as goal
 
 pub returns-then-is_err-clause-err : goal.returns-then-is_err-clause-err

@@ -8,8 +8,8 @@ use Rattle.std.specs.Map.Iter.{deref_pair}
 use Rattle.hk_model.proofs.Streams.{later, told}
 use Rattle.hk_model.specs.Replica.Streams.{stream_with}
 use Rattle.hk_marks.specs.Seen.{waiting_seen}
-use Rattle.hk_marks.proofs.Trees.{get-waiting_seen}
-use Rattle.hk_marks.proofs.Joins.{raised_closed, raised_waiting, same_counts, of_true, covered}
+use Rattle.hk_marks.proofs.StoredStreams.{get-waiting_seen}
+use Rattle.hk_marks.proofs.JoinedStreams.{raised_closed, raised_waiting, same_counts, of_true, covered}
 use Rattle.hk_marks.proofs.stream.join.raise_marks.Goals as goal
 
 pub loop-count-preserved-then-count-prefix : goal.loop-count-preserved-then-count-prefix

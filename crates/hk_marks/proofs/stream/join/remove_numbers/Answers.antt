@@ -1,4 +1,4 @@
-use Rattle.hk_marks.proofs.Rooms.{more_of}
+use Rattle.hk_marks.proofs.RoomForMore.{more_of}
 use Rattle.hk_marks.proofs.stream.join.remove_numbers.Goals as goal
 
 pub loop-number-preserved : goal.loop-number-preserved

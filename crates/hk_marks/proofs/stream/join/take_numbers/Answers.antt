@@ -1,5 +1,5 @@
 use Rattle.std.proofs.Common.{◌∙◌, sym}
-use Rattle.hk_marks.proofs.Joins.{joined_here, joined_next}
+use Rattle.hk_marks.proofs.JoinedStreams.{joined_here, joined_next}
 use Rattle.hk_marks.proofs.stream.join.take_numbers.Goals as goal
 
 pub returns-then-contains-clause-taken : goal.returns-then-contains-clause-taken

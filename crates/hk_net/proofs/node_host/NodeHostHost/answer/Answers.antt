@@ -1,4 +1,4 @@
-use Rattle.hk_net.proofs.Joining.{joined_is}
+use Rattle.hk_net.proofs.JoinRequests.{joined_is}
 use Rattle.hk_net.proofs.node_host.NodeHostHost.answer.Goals as goal
 
 pub returns-in-Items-clause-may : goal.returns-in-Items-clause-may

@@ -2,8 +2,8 @@ use Rattle.std.proofs.Common.{◌≡◌, ◌+◌, true, length-append, None, Lis
 use Rattle.logbook.specs.Pages.{Book}
 use Rattle.hk_node.specs.declared.op.Op.{Op}
 use Rattle.hk_node.specs.Replay.{config_of, replay, refusal_of, is_legal}
-use Rattle.hk_node.proofs.Adding.{adds_moves, added}
-use Rattle.hk_node.proofs.Legal.{config-snoc, legal-snoc}
+use Rattle.hk_node.proofs.AddedOperation.{adds_moves, added}
+use Rattle.hk_node.proofs.LegalLists.{config-snoc, legal-snoc}
 use Rattle.hk_node.proofs.book.Prefix.extended.Goals as goal
 
 pub compare_exchange-found-requires : goal.compare_exchange-found-requires

@@ -1,5 +1,5 @@
 use Rattle.std.proofs.Common.{drop}
-use Rattle.hk_node.proofs.Publishing.{new_publisher}
+use Rattle.hk_node.proofs.PublisherSteps.{new_publisher}
 use Rattle.hk_node.proofs.publisher.Publisher.new.Goals as goal
 
 pub invariant_of-result : goal.invariant_of-result

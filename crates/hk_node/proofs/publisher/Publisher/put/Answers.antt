@@ -3,7 +3,7 @@ use Rattle.hk_node.specs.declared.op.Op.{Op}
 use Rattle.hk_node.specs.Replay.{replay, refusal_of}
 use Rattle.hk_node.specs.Changes.{Lists}
 use Rattle.hk_node.specs.Published.{queue, ops_of}
-use Rattle.hk_node.proofs.Publishing.{none_pending, puts}
+use Rattle.hk_node.proofs.PublisherSteps.{none_pending, puts}
 use Rattle.hk_node.proofs.publisher.Publisher.put.Goals as goal
 
 pub invariant_of-self : goal.invariant_of-self

@@ -5,8 +5,8 @@ use Rattle.hk_log.specs.declared.item.Item.TheVariants.{Commit}
 use Rattle.hk_model.specs.History.Histories.{entries_in, last}
 use Rattle.hk_store.specs.Facts.{with_entry}
 use Rattle.hk_primary.specs.Log.{PrimaryValue, IsNext, IsPrimary, with_item, history_of, transaction_of}
-use Rattle.hk_primary.proofs.Kept.{counts_length, count_is, count_few, is_history, last_bound, with_next}
-use Rattle.hk_primary.proofs.Reading.{read_on-push}
+use Rattle.hk_primary.proofs.PrimaryRules.{counts_length, count_is, count_few, is_history, last_bound, with_next}
+use Rattle.hk_primary.proofs.HistoryOfLog.{read_on-push}
 use Rattle.hk_primary.proofs.primary.Primary.add.Goals as goal
 
 pub index_mut-requires : goal.index_mut-requires

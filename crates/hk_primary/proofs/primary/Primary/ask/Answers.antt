@@ -3,7 +3,7 @@ use Rattle.hk_types.specs.declared.faults.Refusal.{Refusal}
 use Rattle.hk_model.specs.declared.answer.Answer.{Answer}
 use Rattle.hk_model.specs.Replica.Answers.{answer, answer_seen}
 use Rattle.hk_model.specs.History.Histories.{Tables, table_at}
-use Rattle.hk_primary.proofs.Shown.{shown_is}
+use Rattle.hk_primary.proofs.ShownTables.{shown_is}
 use Rattle.hk_primary.specs.Log.{PrimaryValue}
 use Rattle.hk_model.specs.declared.query.Query.{Query}
 use Rattle.hk_primary.proofs.primary.Primary.ask.Goals as goal

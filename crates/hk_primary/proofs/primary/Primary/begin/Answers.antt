@@ -1,4 +1,4 @@
-use Rattle.hk_primary.proofs.Reading.{honest}
+use Rattle.hk_primary.proofs.HistoryOfLog.{honest}
 use Rattle.hk_primary.proofs.primary.Primary.begin.Goals as goal
 
 pub returns-clause-honest : goal.returns-clause-honest

@@ -3,7 +3,7 @@ use Rattle.hk_primary.specs.Calls.{verdict_of, verdict_time}
 use Rattle.hk_primary.specs.Log.{PrimaryValue}
 use Rattle.std.specs.FinMap as finmap
 use Rattle.hk_model.specs.History.Histories.{Transaction}
-use Rattle.hk_primary.proofs.Judged.{accepted_law_proof, judged_shape}
+use Rattle.hk_primary.proofs.Verdicts.{accepted_law_proof, judged_shape}
 use Rattle.hk_primary.proofs.primary.Primary.commit.Goals as goal
 
 pub store-requires : goal.store-requires

@@ -1,7 +1,7 @@
 use Rattle.std.proofs.Common.{◌≡◌, ◌≤◌, ◌<◌, ◌-◌, sym, ap, ◌∙◌, subst, arith, length, get_or, ℕ}
 use Rattle.hk_model.specs.History.Histories.{entries_in, last}
 use Rattle.hk_primary.specs.Log.{PrimaryValue, history_of}
-use Rattle.hk_primary.proofs.Kept.{counts_length, count_is, count_few, is_history, last_bound}
+use Rattle.hk_primary.proofs.PrimaryRules.{counts_length, count_is, count_few, is_history, last_bound}
 use Rattle.hk_primary.proofs.primary.Primary.count_of.Goals as goal
 
 pub index-requires : goal.index-requires

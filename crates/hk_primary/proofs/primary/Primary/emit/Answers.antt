@@ -2,8 +2,8 @@ use Rattle.std.proofs.Common.{◌≡◌, sym, ap, ◌∙◌, subst, ◌++◌, �
 use Rattle.hk_log.specs.declared.item.Item.TheVariants.{Closed}
 use Rattle.hk_model.specs.History.Histories.{IsTruthful}
 use Rattle.hk_primary.specs.Log.{PrimaryValue, with_item, history_of}
-use Rattle.hk_primary.proofs.Kept.{with_mark}
-use Rattle.hk_primary.proofs.Reading.{read_on-push}
+use Rattle.hk_primary.proofs.PrimaryRules.{with_mark}
+use Rattle.hk_primary.proofs.HistoryOfLog.{read_on-push}
 use Rattle.hk_primary.proofs.primary.Primary.emit.Goals as goal
 
 pub invariant_of-self-2 : goal.invariant_of-self-2

@@ -4,7 +4,7 @@ use Rattle.hk_log.specs.Items.{EntryValue, IsEntry}
 use Rattle.hk_model.specs.History.Histories.{Transaction, Follows, entry_of}
 use Rattle.hk_model.proofs.Formed.{entry_formed}
 use Rattle.hk_primary.specs.Log.{PrimaryValue, history_of}
-use Rattle.hk_primary.proofs.Kept.{is_history}
+use Rattle.hk_primary.proofs.PrimaryRules.{is_history}
 use Rattle.hk_primary.proofs.primary.Primary.entry_of.Goals as goal
 
 pub of_parts-requires : goal.of_parts-requires

@@ -1,4 +1,4 @@
-use Rattle.hk_primary.proofs.Reading.{honest}
+use Rattle.hk_primary.proofs.HistoryOfLog.{honest}
 use Rattle.hk_primary.proofs.primary.Primary.items.Goals as goal
 
 pub returns-in_err-copies-clause-honest : goal.returns-in_err-copies-clause-honest

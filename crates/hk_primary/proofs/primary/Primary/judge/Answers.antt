@@ -2,7 +2,7 @@ use Rattle.std.proofs.Common.{◌≡◌, ◌≤◌, ℕ, sym, ap, ◌∙◌, sub
 use Rattle.std.proofs.lemmas.Bool.Decides.{nat_tests}
 use Rattle.hk_model.specs.History.Histories.{last}
 use Rattle.hk_primary.specs.Log.{PrimaryValue}
-use Rattle.hk_primary.proofs.Judged.{judged_empty, judged_time, judged_full}
+use Rattle.hk_primary.proofs.Verdicts.{judged_empty, judged_time, judged_full}
 use Rattle.hk_primary.proofs.primary.Primary.judge.Goals as goal
 
 not_below : (a b : ℕ) → is_lt (nat_cmp a b) ≡ false → b ≤ a

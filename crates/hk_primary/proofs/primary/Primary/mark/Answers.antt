@@ -2,8 +2,8 @@ use Rattle.std.proofs.Common.{◌≡◌, ◌≤◌, sym, ap, ◌∙◌, subst, a
 use Rattle.hk_log.specs.Items.{MarkValue}
 use Rattle.hk_model.specs.History.Histories.{IsTruthful}
 use Rattle.hk_primary.specs.Log.{PrimaryValue, history_of}
-use Rattle.hk_primary.proofs.Kept.{mark_truthful}
-use Rattle.hk_primary.proofs.Reading.{honest}
+use Rattle.hk_primary.proofs.PrimaryRules.{mark_truthful}
+use Rattle.hk_primary.proofs.HistoryOfLog.{honest}
 use Rattle.hk_primary.proofs.primary.Primary.mark.Goals as goal
 
 pub emit-requires : goal.emit-requires

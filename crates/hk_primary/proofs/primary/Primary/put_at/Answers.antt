@@ -1,6 +1,6 @@
 use Rattle.std.proofs.Common.{◌≡◌, ℕ, sym, ap, ◌∙◌, refl, true, false, true≢false, Option, Some, None, is_some}
-use Rattle.hk_primary.proofs.Kept.{standing_is}
-use Rattle.hk_primary.proofs.Latest.{put_by}
+use Rattle.hk_primary.proofs.PrimaryRules.{standing_is}
+use Rattle.hk_primary.proofs.LatestVersions.{put_by}
 use Rattle.hk_primary.proofs.primary.Primary.put_at.Goals as goal
 
 ended : (b : ℕ) (died : Option ℕ) → is_some died ≡ true → None ≡ put_by (Some (b, died))

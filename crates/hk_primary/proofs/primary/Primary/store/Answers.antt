@@ -6,7 +6,7 @@ use Rattle.hk_log.specs.declared.item.Item.TheVariants.{Commit}
 use Rattle.hk_model.specs.History.Histories.{Transaction, Follows, entry_of}
 use Rattle.hk_primary.specs.Calls.{with_transaction}
 use Rattle.hk_primary.specs.Log.{PrimaryValue, IsNext, transaction_of, with_item}
-use Rattle.hk_primary.proofs.Entered.{read_back}
+use Rattle.hk_primary.proofs.EntryReadBack.{read_back}
 use Rattle.hk_primary.proofs.primary.Primary.store.Goals as goal
 
 next_entry : (p : PrimaryValue) (t : Transaction) (e : EntryValue) → Follows p.config p.history t → e ≡ entry_of p.config p.history t → IsNext p.config p.history e

@@ -1,6 +1,6 @@
 use Rattle.std.proofs.Common.{◌≡◌, ℕ, sym, ap, ◌∙◌, refl, Option, Some, None, unwrap_or}
-use Rattle.hk_primary.proofs.Kept.{last_written_is}
-use Rattle.hk_primary.proofs.Latest.{written_by}
+use Rattle.hk_primary.proofs.PrimaryRules.{last_written_is}
+use Rattle.hk_primary.proofs.LatestVersions.{written_by}
 use Rattle.hk_primary.proofs.primary.Primary.written_at.Goals as goal
 
 dead_or_born : (b : ℕ) (died : Option ℕ) → unwrap_or died b ≡ written_by (Some (b, died))

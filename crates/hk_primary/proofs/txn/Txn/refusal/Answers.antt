@@ -2,7 +2,7 @@ use Rattle.std.proofs.Common.{◌≡◌, sym, ap, ◌∙◌, true, false, cond, 
 use Rattle.std.proofs.lemmas.Bool.Decides.{nat_tests}
 use Rattle.std.specs.FinMap as finmap
 use Rattle.hk_types.specs.declared.faults.Refusal.TheVariants.{TwiceWritten, TooManyWrites}
-use Rattle.hk_primary.proofs.Trees.{len_seen, contains_seen, seen}
+use Rattle.hk_primary.proofs.StoredWrites.{len_seen, contains_seen, seen}
 use Rattle.hk_primary.proofs.txn.Txn.refusal.Goals as goal
 
 below : (n : ℕ) → n ≤ 1023 → nat_le 1024 n ≡ false

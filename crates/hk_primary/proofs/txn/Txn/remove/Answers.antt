@@ -2,8 +2,8 @@ use Rattle.std.proofs.Common.{◌≡◌, sym, ap, ◌∙◌, subst, Some, None}
 use Rattle.std.specs.FinMap as finmap
 use Rattle.hk_model.specs.declared.write_op.WriteOp.TheVariants.{Remove}
 use Rattle.hk_primary.specs.Txns.{AreWrites, TxnValue, write_refused}
-use Rattle.hk_primary.proofs.Trees.{seen, seen_insert}
-use Rattle.hk_primary.proofs.Written.{one_more}
+use Rattle.hk_primary.proofs.StoredWrites.{seen, seen_insert}
+use Rattle.hk_primary.proofs.OneMoreWrite.{one_more}
 use Rattle.hk_primary.proofs.txn.Txn.remove.Goals as goal
 
 pub invariant_of-self-2 : goal.invariant_of-self-2

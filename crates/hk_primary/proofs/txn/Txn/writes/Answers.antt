@@ -1,5 +1,5 @@
 use Rattle.std.proofs.Common.{sym, ap, ◌∙◌}
-use Rattle.hk_primary.proofs.Trees.{values_seen}
+use Rattle.hk_primary.proofs.StoredWrites.{values_seen}
 use Rattle.hk_primary.proofs.txn.Txn.writes.Goals as goal
 
 pub returns-clause-value : goal.returns-clause-value

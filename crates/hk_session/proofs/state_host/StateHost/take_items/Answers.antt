@@ -1,6 +1,6 @@
 use Rattle.std.proofs.Common.{◌<◌, ◌^◌, arith, sym, ◌∙◌}
 use Rattle.std.proofs.lemmas.Bool.{ltb-false}
-use Rattle.hk_session.proofs.Settling.{settled_is}
+use Rattle.hk_session.proofs.ChangeReplies.{settled_is}
 use Rattle.hk_session.proofs.state_host.StateHost.take_items.Goals as goal
 
 pub returns : goal.returns

@@ -3,8 +3,8 @@ use Rattle.hk_log.specs.declared.item.Item.TheVariants.{Commit, Closed}
 use Rattle.hk_model.specs.Replica.Content.{Content}
 use Rattle.hk_model.specs.Replica.Items.{wrong_log}
 use Rattle.hk_state.specs.Calls.{Absorbs}
-use Rattle.hk_state.proofs.Absorbing.{fits, refused}
-use Rattle.hk_state.proofs.Standing.{absorbs_of}
+use Rattle.hk_state.proofs.AbsorbedItem.{fits, refused}
+use Rattle.hk_state.proofs.Represented.{absorbs_of}
 use Rattle.hk_state.proofs.replica.ReplicaState.absorb.Goals as goal
 
 pub returns-in-Some-clause-gives : goal.returns-in-Some-clause-gives

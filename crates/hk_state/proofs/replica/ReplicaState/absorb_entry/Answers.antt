@@ -7,9 +7,9 @@ use Rattle.hk_log.specs.declared.item.Item.TheVariants.{Commit}
 use Rattle.hk_state.specs.Calls.{Absorbs}
 use Rattle.hk_store.specs.Facts.{conflicts_with_entry}
 use Rattle.hk_state.specs.Replica.{content_of_parts}
-use Rattle.hk_state.proofs.Absorbing.{entry_result}
+use Rattle.hk_state.proofs.AbsorbedItem.{entry_result}
 use Rattle.hk_state.proofs.replica.ReplicaState.absorb_entry.Goals as goal
-use Rattle.hk_state.proofs.Pruning.{not_above}
+use Rattle.hk_state.proofs.PrunedState.{not_above}
 
 pub invariant_of-self : goal.invariant_of-self
 invariant_of-self c =

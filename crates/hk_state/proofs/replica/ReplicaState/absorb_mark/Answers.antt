@@ -6,7 +6,7 @@ use Rattle.hk_model.specs.declared.took.Took.TheVariants.{Repeated}
 use Rattle.hk_model.specs.Replica.Items.{wrong_log}
 use Rattle.hk_state.specs.Calls.{Absorbs}
 use Rattle.hk_state.specs.Replica.{content_of_parts}
-use Rattle.hk_state.proofs.Absorbing.{mark_repeated, mark_result}
+use Rattle.hk_state.proofs.AbsorbedItem.{mark_repeated, mark_result}
 use Rattle.hk_state.proofs.replica.ReplicaState.absorb_mark.Goals as goal
 
 pub returns-then-adds_nothing : goal.returns-then-adds_nothing

@@ -1,4 +1,4 @@
-use Rattle.hk_state.proofs.Standing.{prunes_of}
+use Rattle.hk_state.proofs.Represented.{prunes_of}
 use Rattle.hk_state.proofs.replica.ReplicaState.prune.Goals as goal
 
 pub returns-clause-represents : goal.returns-clause-represents

@@ -2,7 +2,7 @@ use Rattle.std.proofs.Common.{◌≡◌, sym, ap, ◌∙◌, subst, false, nat_l
 use Rattle.hk_model.specs.Replica.Content.{Content, readable}
 use Rattle.hk_state.specs.Calls.{Prunes}
 use Rattle.hk_state.specs.Replica.{content_of_parts}
-use Rattle.hk_state.proofs.Pruning.{prune_refused, prune_keeps, not_below, not_above}
+use Rattle.hk_state.proofs.PrunedState.{prune_refused, prune_keeps, not_below, not_above}
 use Rattle.hk_state.proofs.replica.ReplicaState.raise_horizon.Goals as goal
 
 pub returns-in_err-drop_until-clause-gives : goal.returns-in_err-drop_until-clause-gives

@@ -7,7 +7,7 @@ use Rattle.hk_types.specs.Values.{RowValue}
 use Rattle.hk_types.specs.declared.version_key.VersionKey.{VersionKey}
 use Rattle.hk_model.specs.Replica.Maps.{union}
 use Rattle.hk_store.specs.Facts.{FactsValue, with_added}
-use Rattle.hk_store.proofs.Undone.{union_none, union_push}
+use Rattle.hk_store.proofs.JournalUndone.{union_none, union_push}
 use Rattle.hk_store.proofs.facts.Facts.add_all_rows.Goals as goal
 
 pub loop-version-init : goal.loop-version-init

@@ -1,6 +1,6 @@
 use Rattle.std.proofs.Common.{refl, sym, ap, ◌∙◌, arith}
 use Rattle.hk_store.specs.Facts.{FactsValue}
-use Rattle.hk_store.proofs.Undone.{union_none, add_more}
+use Rattle.hk_store.proofs.JournalUndone.{union_none, add_more}
 use Rattle.hk_store.proofs.facts.Facts.add_ends.Goals as goal
 
 pub loop-version-init : goal.loop-version-init

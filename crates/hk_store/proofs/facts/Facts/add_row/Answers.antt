@@ -1,6 +1,6 @@
 use Rattle.std.proofs.Common.{sym}
 use Rattle.hk_facts.specs.declared.fact.Fact.TheVariants.{Row}
-use Rattle.hk_store.proofs.Undone.{put_back, none_there}
+use Rattle.hk_store.proofs.JournalUndone.{put_back, none_there}
 use Rattle.hk_store.proofs.facts.Facts.add_row.Goals as goal
 
 pub returns-clause-back : goal.returns-clause-back

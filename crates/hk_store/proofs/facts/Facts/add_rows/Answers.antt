@@ -1,7 +1,7 @@
 use Rattle.std.proofs.Common.{refl, sym, ap, ◌∙◌, arith}
 use Rattle.hk_model.specs.History.Facts.{inserted_version}
 use Rattle.hk_store.specs.Facts.{FactsValue}
-use Rattle.hk_store.proofs.Undone.{union_none, add_more}
+use Rattle.hk_store.proofs.JournalUndone.{union_none, add_more}
 use Rattle.hk_store.proofs.facts.Facts.add_rows.Goals as goal
 
 pub loop-table-init : goal.loop-table-init

@@ -1,6 +1,6 @@
 use Rattle.std.proofs.Common.{◌∙◌, subst}
 use Rattle.hk_store.specs.Indexed.{AreKeyed}
-use Rattle.hk_store.proofs.Walking.{conflict_walked}
+use Rattle.hk_store.proofs.ListedVersions.{conflict_walked}
 use Rattle.hk_store.proofs.facts.Facts.conflicts_with.Goals as goal
 
 pub returns : goal.returns

@@ -1,4 +1,4 @@
-use Rattle.hk_store.proofs.Listed.{row_conflict, end_conflict, found_first, found_second}
+use Rattle.hk_store.proofs.EntryConflicts.{row_conflict, end_conflict, found_first, found_second}
 use Rattle.hk_store.proofs.facts.Facts.conflicts_with_entry.Goals as goal
 
 pub returns-then-has_another_row : goal.returns-then-has_another_row

@@ -1,5 +1,5 @@
 use Rattle.std.proofs.Common.{arith}
-use Rattle.hk_store.proofs.Dropped.{dropped_none, dropped_more}
+use Rattle.hk_store.proofs.DroppedVersions.{dropped_none, dropped_more}
 use Rattle.hk_store.proofs.facts.Facts.drop_all.Goals as goal
 
 pub loop-version-init : goal.loop-version-init

@@ -1,6 +1,6 @@
 use Rattle.std.proofs.Common.{sym}
 use Rattle.hk_facts.specs.declared.fact.Fact.TheVariants.{Row}
-use Rattle.hk_store.proofs.Undone.{none_there}
+use Rattle.hk_store.proofs.JournalUndone.{none_there}
 use Rattle.hk_store.proofs.Indexed.{row_tagged, tag_back, put_is}
 use Rattle.hk_store.proofs.facts.Facts.put_row.Goals as goal
 

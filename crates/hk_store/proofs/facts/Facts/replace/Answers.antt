@@ -2,7 +2,7 @@ use Rattle.std.proofs.Common.{sym, ap, ◌∙◌, ◌||◌}
 use Rattle.std.specs.List.{list_any}
 use Rattle.std.specs.FinSet as set
 use Rattle.hk_store.specs.Drops.{without_all}
-use Rattle.hk_store.proofs.Replacing.{replaced_apart, meets_set}
+use Rattle.hk_store.proofs.ReplacedFacts.{replaced_apart, meets_set}
 use Rattle.hk_store.proofs.facts.Facts.replace.Goals as goal
 
 pub returns-clause-ok : goal.returns-clause-ok

@@ -1,5 +1,5 @@
 use Rattle.hk_store.specs.Reads.{with_facts}
-use Rattle.hk_store.proofs.Reading.{picked_shown, none_shown}
+use Rattle.hk_store.proofs.ChainsAtTime.{picked_shown, none_shown}
 use Rattle.hk_store.proofs.facts.Facts.row_shown.Goals as goal
 
 pub returns-in-Some : goal.returns-in-Some

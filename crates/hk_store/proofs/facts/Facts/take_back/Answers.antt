@@ -1,6 +1,6 @@
 use Rattle.std.proofs.Common.{sym, ap, ◌∙◌}
 use Rattle.hk_store.specs.Journal.{without_journal}
-use Rattle.hk_store.proofs.Undone.{undone_push}
+use Rattle.hk_store.proofs.JournalUndone.{undone_push}
 use Rattle.hk_store.proofs.facts.Facts.take_back.Goals as goal
 
 pub loop-version-preserved : goal.loop-version-preserved

@@ -8,7 +8,7 @@ use Rattle.hk_types.specs.declared.version_key.VersionKey.{VersionKey}
 use Rattle.hk_log.specs.Versions.{VersionValue}
 use Rattle.hk_store.specs.Indexed.{AreKeyed}
 use Rattle.hk_store.specs.Versions.{borrowed}
-use Rattle.hk_store.proofs.Walking.{IsKnown, knows, known_more, kept_more, kept_none, walked}
+use Rattle.hk_store.proofs.ListedVersions.{IsKnown, knows, known_more, kept_more, kept_none, walked}
 use Rattle.hk_store.proofs.facts.Facts.versions.Goals as goal
 
 pub loop-version-init : goal.loop-version-init

@@ -1,4 +1,4 @@
-use Rattle.hk_store.proofs.ByTable.{chain_some, chain_none, table_none}
+use Rattle.hk_store.proofs.FactsByTable.{chain_some, chain_none, table_none}
 use Rattle.hk_store.proofs.tables.Tables.chain.Goals as goal
 
 pub returns-in-Some-clause-some : goal.returns-in-Some-clause-some

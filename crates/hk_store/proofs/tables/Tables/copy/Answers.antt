@@ -1,8 +1,8 @@
 use Rattle.std.proofs.Common.{ap, sym, subst}
 use Rattle.std.specs.Map.Iter.{deref_pair}
 use Rattle.std.proofs.lemmas.Map.Iter.{iter_end}
-use Rattle.hk_facts.proofs.Copies.{fill_more, filled_all}
-use Rattle.hk_facts.proofs.Filled.{filled_alike}
+use Rattle.hk_facts.proofs.CopiedTrees.{fill_more, filled_all}
+use Rattle.hk_facts.proofs.NestedMaps.{filled_alike}
 use Rattle.hk_store.specs.Facts.{TablesValue, facts_of, AllKnown}
 use Rattle.hk_store.proofs.tables.Tables.copy.Goals as goal
 

@@ -1,9 +1,9 @@
 use Rattle.std.proofs.Common.{◌∙◌}
-use Rattle.hk_facts.proofs.Trees.{seen}
+use Rattle.hk_facts.proofs.StoredTrees.{seen}
 use Rattle.hk_store.specs.Facts.{facts_of}
 use Rattle.hk_store.specs.Reads.{with_facts}
-use Rattle.hk_store.proofs.ByTable.{chain_has, chain_lacks, table_none}
-use Rattle.hk_store.proofs.Counting.{chains_counted, none_counted}
+use Rattle.hk_store.proofs.FactsByTable.{chain_has, chain_lacks, table_none}
+use Rattle.hk_store.proofs.CountedRows.{chains_counted, none_counted}
 use Rattle.hk_store.proofs.tables.Tables.count_at.Goals as goal
 
 pub returns-in-Some : goal.returns-in-Some

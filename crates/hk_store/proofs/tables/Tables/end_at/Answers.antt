@@ -1,6 +1,6 @@
 use Rattle.std.proofs.Common.{sym, ap, ◌∙◌}
 use Rattle.hk_facts.specs.Facts.{died_of}
-use Rattle.hk_store.proofs.ByTable.{known_end}
+use Rattle.hk_store.proofs.FactsByTable.{known_end}
 use Rattle.hk_store.proofs.tables.Tables.end_at.Goals as goal
 
 pub returns-in_err-chain : goal.returns-in_err-chain

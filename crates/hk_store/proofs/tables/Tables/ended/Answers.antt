@@ -2,9 +2,9 @@ use Rattle.std.proofs.Common.{sym, ap, ◌∙◌}
 use Rattle.std.specs.List.{flat_map}
 use Rattle.std.specs.Map.Iter.{deref_pair}
 use Rattle.std.proofs.lemmas.Map.Iter.{iter_end}
-use Rattle.hk_facts.proofs.Trees.{seen, entries_seen}
+use Rattle.hk_facts.proofs.StoredTrees.{seen, entries_seen}
 use Rattle.hk_store.specs.Drops.{is_among, ended_of_keyed}
-use Rattle.hk_store.proofs.Ended.{ended_listed}
+use Rattle.hk_store.proofs.EndedVersions.{ended_listed}
 use Rattle.hk_store.proofs.tables.Tables.ended.Goals as goal
 
 pub returns : goal.returns

@@ -1,10 +1,10 @@
 use Rattle.std.proofs.Common.{refl, sym, ap, ◌∙◌, subst, true≢false}
 use Rattle.hk_facts.specs.TableChains.{keyed_forget}
-use Rattle.hk_facts.proofs.Trees.{seen}
-use Rattle.hk_facts.proofs.Filled.{len_some, filled_there, filled_gone, change_absent, change_there, change_gone}
+use Rattle.hk_facts.proofs.StoredTrees.{seen}
+use Rattle.hk_facts.proofs.NestedMaps.{len_some, filled_there, filled_gone, change_absent, change_there, change_gone}
 use Rattle.hk_store.specs.Facts.{TablesValue, facts_of, AllKnown}
-use Rattle.hk_store.proofs.Changed.{facts_forgotten, known_forgotten}
-use Rattle.hk_store.proofs.ByTable.{keyed_nothing}
+use Rattle.hk_store.proofs.ChangedChains.{facts_forgotten, known_forgotten}
+use Rattle.hk_store.proofs.FactsByTable.{keyed_nothing}
 use Rattle.hk_store.proofs.tables.Tables.forget.Goals as goal
 
 pub returns-in_default : goal.returns-in_default

@@ -1,8 +1,8 @@
 use Rattle.std.proofs.Common.{sym, ap, subst, ◌∙◌}
 use Rattle.hk_facts.specs.TableChains.{AllFilled}
-use Rattle.hk_facts.proofs.Filled.{filled_nothing}
+use Rattle.hk_facts.proofs.NestedMaps.{filled_nothing}
 use Rattle.hk_store.specs.Facts.{TablesValue, facts_of, AllKnown}
-use Rattle.hk_store.proofs.ByTable.{nothing_seen, known_nothing, empty_facts}
+use Rattle.hk_store.proofs.FactsByTable.{nothing_seen, known_nothing, empty_facts}
 use Rattle.hk_store.proofs.tables.Tables.new.Goals as goal
 
 pub invariant_of-result : goal.invariant_of-result

@@ -3,12 +3,12 @@ use Rattle.std.specs.FinMap as finmap
 use Rattle.std.proofs.lemmas.Result.{on_err_weaker, on_ok_weaker}
 use Rattle.hk_facts.specs.Chains.{chain_put}
 use Rattle.hk_facts.specs.TableChains.{or_empty, keyed_put, version_in}
-use Rattle.hk_facts.proofs.Trees.{seen, put_there, put_new, write_back, out_of_memory}
-use Rattle.hk_facts.proofs.Filled.{put_filled, kept_or_put, was_filled, filled_there, filled_new, known_absent, refused_there}
+use Rattle.hk_facts.proofs.StoredTrees.{seen, put_there, put_new, write_back, out_of_memory}
+use Rattle.hk_facts.proofs.NestedMaps.{put_filled, kept_or_put, was_filled, filled_there, filled_new, known_absent, refused_there}
 use Rattle.hk_store.specs.Facts.{facts_of}
-use Rattle.hk_store.proofs.Stored.{nothing_known}
-use Rattle.hk_store.proofs.Changed.{facts_put_ok, known_put}
-use Rattle.hk_store.proofs.ByTable.{kept_known, fact_refused}
+use Rattle.hk_store.proofs.StoredFacts.{nothing_known}
+use Rattle.hk_store.proofs.ChangedChains.{facts_put_ok, known_put}
+use Rattle.hk_store.proofs.FactsByTable.{kept_known, fact_refused}
 use Rattle.hk_store.proofs.tables.Tables.put.Goals as goal
 
 pub invariant_of-self : goal.invariant_of-self

@@ -1,7 +1,7 @@
 use Rattle.std.proofs.Common.{sym, ap, ◌∙◌}
 use Rattle.std.specs.Option.{option_copied}
 use Rattle.hk_facts.specs.Facts.{row_of}
-use Rattle.hk_store.proofs.ByTable.{known_row}
+use Rattle.hk_store.proofs.FactsByTable.{known_row}
 use Rattle.hk_store.proofs.tables.Tables.row_at.Goals as goal
 
 pub returns-in_err-chain : goal.returns-in_err-chain

@@ -1,0 +1,135 @@
+-- What items say together is the content of them at horizon 0, and its cut at 0 is their fragment.
+use Rattle.std.proofs.Common.{◌≡◌, refl, sym, ap, ◌∙◌, subst, ℕ, ◌<◌, ◌≤◌, Bool, true, false, cond, not, ◌||◌, Option, Some, None, List, All, Result, Ok, Err, ◌⊎◌, inl, inr, nat_le, arith}
+use Rattle.std.proofs.lemmas.Bool.Decides.{nat_tests}
+use Rattle.std.specs.List.{flat_map}
+use Rattle.std.specs.FinMap as finmap
+use Rattle.hk_types.specs.Values.{ConfigValue}
+use Rattle.hk_types.specs.declared.version_key.VersionKey.{VersionKey}
+use Rattle.hk_types.specs.declared.faults.Refusal.{Refusal}
+use Rattle.hk_types.specs.declared.faults.Refusal.TheVariants.{Conflict, Memory}
+use Rattle.hk_log.specs.Items.{EntryValue}
+use Rattle.hk_log.specs.declared.item.Item.{Item}
+use Rattle.hk_log.specs.declared.item.Item.TheVariants.{Commit}
+use Rattle.hk_model.specs.History.Rows.{version_key_cmp}
+use Rattle.hk_model.specs.History.Facts.{row_facts, end_facts, rows_of, ends_of}
+use Rattle.hk_model.specs.Replica.Content.{at_most, without_ended, readable}
+use Rattle.hk_model.specs.Replica.ContentOf.{content_of}
+use Rattle.hk_model.specs.Replica.Streams.{streams_of}
+use Rattle.hk_model.specs.Replica.Fragments.{FragmentValue, part}
+use Rattle.hk_model.specs.Replica.Lawful.{IsLawful, IsItem}
+use Rattle.hk_model.specs.Replica.Rules.{gather_result, gather_result_unless, first_wrong_log}
+use Rattle.hk_model.proofs.Maps.{version_key_total, version_key_same, get-without_ended}
+use Rattle.hk_model.proofs.Members.{In, In-map}
+use Rattle.hk_model.proofs.Logs.{fact_end, end_found}
+use Rattle.hk_model.proofs.Writes.{All_In}
+use Rattle.hk_model.proofs.Lawful.{IsSound, entry_sound, content_of_lawful}
+use Rattle.hk_model.proofs.Gathers.{gathered_law}
+use Rattle.hk_store.specs.Facts.{FactsValue, no_facts}
+use Rattle.hk_store.specs.Reads.{facts_of_content}
+use Rattle.hk_store.specs.Versions.{AreVersions}
+use Rattle.hk_fragment.specs.Parts.{Known, fragment_seen, fragment_fault}
+use Rattle.hk_delta.specs.Cuts.{all_left}
+use Rattle.hk_delta.specs.Gathers.{item_facts, all_put, have_conflict, Gathers, GathersOf}
+use Rattle.hk_delta.proofs.FactsInConflict.{facts_from, items_settle}
+use Rattle.hk_delta.proofs.CutLists.{parts_faultless, cut_is}
+
+same_ok : (f g : FactsValue) → ◌≡◌ {A = Result FactsValue Refusal} (Ok f) (Ok g) → f ≡ g
+same_ok f g e = cc
+
+same_err : (a b : Refusal) → ◌≡◌ {A = Result FactsValue Refusal} (Err a) (Err b) → a ≡ b
+same_err a b e = cc
+
+pub settled_ok : (items : List Item) (f : FactsValue) → all_put (Ok no_facts) (flat_map item_facts items) ≡ Ok f → (f ≡ facts_from (row_facts items) (end_facts items)) × (have_conflict items ≡ false)
+settled_ok items f e =
+    elim (items_settle items) [
+      | inl s ↦ (same_ok f (facts_from (row_facts items) (end_facts items)) (sym e ∙ s.0), (λ i. s.1 i || s.2 i))
+      | inr s ↦ absurd (values_conflict f Conflict (sym e ∙ s.0))
+    ]
+  where
+    values_conflict : (f : FactsValue) (why : Refusal) → ◌≡◌ {A = Result FactsValue Refusal} (Ok f) (Err why) → ⊥
+    values_conflict f why e = cc
+
+pub settled_err : (items : List Item) (why : Refusal) → all_put (Ok no_facts) (flat_map item_facts items) ≡ Err why → (why ≡ Conflict) × (have_conflict items ≡ true)
+settled_err items why e =
+    elim (items_settle items) [
+      | inl s ↦ absurd (values_conflict (facts_from (row_facts items) (end_facts items)) why (sym s.0 ∙ e))
+      | inr s ↦ (same_err why Conflict (sym e ∙ s.0), s.1)
+    ]
+  where
+    values_conflict : (f : FactsValue) (why : Refusal) → ◌≡◌ {A = Result FactsValue Refusal} (Ok f) (Err why) → ⊥
+    values_conflict f why e = cc
+
+module _ (config : ConfigValue) (items : List Item) (all : All IsItem items) where
+  sound : (e : EntryValue) → In (Commit e) items → IsSound e
+  sound e i = entry_sound e (All_In IsItem items all (Commit e) i)
+
+  zero_within : 0 ≤ readable (content_of config items 0)
+  zero_within = omega arith
+
+  pub whole_lawful : IsLawful (content_of config items 0)
+  whole_lawful = content_of_lawful config items 0 sound zero_within
+
+  -- no item states an end at 0
+  ends_later : (v : VersionKey) → at_most 0 (finmap.get (ends_of items) v) ≡ false
+  ends_later v = by (finmap.get (ends_of items) v) refl
+    where
+      by : (o : Option ℕ) → finmap.get (ends_of items) v ≡ o → at_most 0 o ≡ false
+      by None e = refl
+      by (Some d) e =
+          let f = fact_end v d items (end_found items v d e) in
+          let m = In-map (λ (u : VersionKey). (u, f.0.time)) (v, d) f.0.ends f.2 in
+          let dead : d ≡ f.0.time = ap (λ (z : VersionKey × ℕ). z.1) m.2 in
+          above d f.0.time dead (sound f.0 f.1).time
+        where
+          above : (d t : ℕ) → d ≡ t → 0 < t → nat_le d 0 ≡ false
+          above d t e l = grind (arith, nat_tests)
+
+  pub all_kept : {X : Type 0} (facts : finmap.FinMap version_key_cmp X) → without_ended (ends_of items) 0 facts ≡ facts
+  all_kept facts = finmap.same_map version_key_total version_key_same _ _ (λ v. get-without_ended (ends_of items) 0 facts v ∙ ap (λ b. cond (not b) (finmap.get facts v) None) (ends_later v))
+
+  pub whole_facts : facts_from (row_facts items) (end_facts items) ≡ facts_of_content (content_of config items 0)
+  whole_facts = λ i. record { rows = sym (all_kept (rows_of items)) i; ends = sym (all_kept (ends_of items)) i }
+
+  module _ (f : FactsValue) (is : f ≡ facts_from (row_facts items) (end_facts items)) (es : List Known) (are : AreVersions f es) where
+    listed : AreVersions (facts_of_content (content_of config items 0)) es
+    listed = subst (λ (g : FactsValue). AreVersions g es) (is ∙ whole_facts) are
+
+    pub whole_faultless : fragment_fault 0 0 (streams_of config.streams items) (all_left 0 es) ≡ None
+    whole_faultless = parts_faultless (content_of config items 0) whole_lawful 0 (inl refl) es listed
+
+    pub whole_is : fragment_seen config 0 0 (streams_of config.streams items) (all_left 0 es) ≡ part config items 0 0
+    whole_is = cut_is (content_of config items 0) whole_lawful 0 config refl es listed
+
+-- ---- what is answered
+
+pub gathered_ok : (config : ConfigValue) (items : List Item) → first_wrong_log config items ≡ None → have_conflict items ≡ false → gather_result config items ≡ Ok (part config items 0 0)
+gathered_ok config items fits agree = ap (gather_result_unless config items) fits ∙ ap (λ b. cond b (Err Conflict) (Ok (part config items 0 0))) agree
+
+pub gathered_err : (config : ConfigValue) (items : List Item) → first_wrong_log config items ≡ None → have_conflict items ≡ true → gather_result config items ≡ Err Conflict
+gathered_err config items fits conflicting = ap (gather_result_unless config items) fits ∙ ap (λ b. cond b (Err Conflict) (Ok (part config items 0 0))) conflicting
+
+-- a refusal of the growing, after the test for a conflict
+pub refused : (config : ConfigValue) (items : List Item) → first_wrong_log config items ≡ None → (why told : Refusal) → (why ≡ Memory) ⊎ ((why ≡ Conflict) × (have_conflict items ≡ true)) → (have_conflict items ≡ true → told ≡ Conflict) → (have_conflict items ≡ false → told ≡ why)
+    → (gather_result config items ≡ Err told) ⊎ ((told ≡ Memory) × ((f : FragmentValue) × (gather_result config items ≡ Ok f)))
+refused config items fits why told is conflicting even = by (have_conflict items) refl
+  where
+    by : (b : Bool) → have_conflict items ≡ b → (gather_result config items ≡ Err told) ⊎ ((told ≡ Memory) × ((f : FragmentValue) × (gather_result config items ≡ Ok f)))
+    by true e = inl (gathered_err config items fits e ∙ ap Err (sym (conflicting e)))
+    by false e = elim is [
+      | inl m ↦ inr (even e ∙ m, (part config items 0 0, gathered_ok config items fits e))
+      | inr c ↦ absurd (values_conflict (sym e ∙ c.1))
+    ]
+      where
+        values_conflict : false ≡ true → ⊥
+        values_conflict e = cc
+
+-- items of a history
+pub of_history : (config : ConfigValue) (items : List Item) (r : Result FragmentValue Refusal) → Gathers config items r → GathersOf config items r
+of_history config items (Ok f) gave history is all = (same f (part config items 0 0) (sym gave ∙ gathered_law config history is items all), tt)
+  where
+    same : (f g : FragmentValue) → ◌≡◌ {A = Result FragmentValue Refusal} (Ok f) (Ok g) → f ≡ g
+    same f g e = cc
+of_history config items (Err why) gave history is all = (tt, elim gave [ inl e ↦ absurd (values_conflict (part config items 0 0) why (sym (gathered_law config history is items all) ∙ e)) | inr m ↦ m.0 ])
+  where
+    values_conflict : (f : FragmentValue) (why : Refusal) → ◌≡◌ {A = Result FragmentValue Refusal} (Ok f) (Err why) → ⊥
+    values_conflict f why e = cc
