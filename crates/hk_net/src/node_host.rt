@@ -27,7 +27,7 @@ use std::marker::Model;
 use std::sync::Wait;
 use std::thread::Threads;
 
-/// How many items a list has at least that several workers gather; one gathers a shorter list sooner.
+/// How many items a list has at least that several workers gather.
 const LONG_LIST: usize = 4_096;
 
 /// How many workers gather a long list.
