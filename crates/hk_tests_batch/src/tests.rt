@@ -19,16 +19,15 @@ const TURNS: u32 = 10_000_000;
 
 /// Item 1 to 4 is an entry, 5 and 6 are the marks of both streams; 7 is like 1 with another body, 8 is of another log.
 fn item(alloc: Global, name: u8) -> Result<Item, Fail> {
-    let put = |key: u64, byte: &'static [u8]| (None, Some((key, byte)));
     let item = match name {
-        1 => entry(alloc, 7, (1, 1, 1), put(5, &[0x41])),
-        2 => entry(alloc, 7, (2, 1, 2), put(6, &[0x42])),
+        1 => entry(alloc, 7, (1, 1, 1), (None, Some((5, &[0x41])))),
+        2 => entry(alloc, 7, (2, 1, 2), (None, Some((6, &[0x42])))),
         3 => entry(alloc, 7, (1, 2, 3), (Some((5, 1)), Some((5, &[0x43])))),
         4 => entry(alloc, 7, (2, 2, 4), (Some((6, 2)), None)),
         5 => mark(1, 2, 4),
         6 => mark(2, 2, 4),
-        7 => entry(alloc, 7, (1, 1, 1), put(5, &[0x99])),
-        _ => entry(alloc, 8, (1, 1, 1), put(5, &[0x41])),
+        7 => entry(alloc, 7, (1, 1, 1), (None, Some((5, &[0x99])))),
+        _ => entry(alloc, 8, (1, 1, 1), (None, Some((5, &[0x41])))),
     };
     Ok(item?)
 }
