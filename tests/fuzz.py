@@ -7,6 +7,7 @@ bytes; a session's replies are whole messages, of which the last alone tells a f
 
 Prints a line for each kind and ends with 'N passed, M failed'. Standard library only."""
 import concurrent.futures
+import contextlib
 import importlib.machinery
 import importlib.util
 import os
@@ -309,8 +310,10 @@ def problem_of_push(source):
             child.stdin.close()
             link, _ = listener.accept()
             with link:
-                link.sendall(answer)
-                link.shutdown(socket.SHUT_WR)
+                # `push` may end the link before all of it was sent
+                with contextlib.suppress(OSError):
+                    link.sendall(answer)
+                    link.shutdown(socket.SHUT_WR)
                 out = child.stdout.read().decode()
             status = child.wait(LIMIT)
     refused = [line for line in out.splitlines() if line.startswith("refused")]

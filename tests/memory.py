@@ -298,7 +298,7 @@ class Node:
         try:
             return say.Link(self.port, LIMIT)
         except ConnectionRefusedError as error:
-            raise RuntimeError(f"{error}: the node said {self.said!r}, status {self.child.poll()}") from error
+            raise ConnectionRefusedError(f"{error}: the node said {self.said!r}, status {self.child.poll()}") from error
 
     def ends(self):
         """What it printed after its first line, and its status."""
