@@ -19,6 +19,7 @@ import struct
 import subprocess
 import sys
 import time
+import traceback
 
 sys.dont_write_bytecode = True
 import messages as say
@@ -192,7 +193,7 @@ def of_lines(source):
             words[place] = mutated(source, words[place].encode("utf-8", "surrogateescape")).replace(b"\0", b"").decode("utf-8", "surrogateescape")
     if "serve" in words and "--port" in words and "0" not in words[words.index("--port") + 1:]:
         words = ["serve"]
-    return [(words, compare.Frames.random(source).parts[0] if source.random() < 0.5 else b"", None)]
+    return [(words, (compare.Frames.random(source).parts or [b""])[0] if source.random() < 0.5 else b"", None)]
 
 
 def problem_of_run(words, data, wanted):
@@ -343,7 +344,7 @@ def guarded(kind, cases, seed):
     try:
         return KINDS[kind](cases, seed)
     except Exception as error:  # pylint: disable=broad-except
-        return [f"{type(error).__name__}: {error}"]
+        return [f"{type(error).__name__}: {error} ({traceback.extract_tb(error.__traceback__)[-1]})"]
 
 
 def main(words):
