@@ -177,7 +177,7 @@ LINES = [["at", "--log", "7", "--streams", "1", "1", "1", "5"], ["items"], ["wor
 
 
 def of_lines(source):
-    """A command line; what it prints isn't looked at. A node that were started would wait for ever, so its port stays 0."""
+    """A command line; what it prints isn't looked at. A node that were started would wait without end, so its port stays 0."""
     words = list(source.choice(LINES))
     for _ in range(source.randint(0, 3)):
         place = source.randrange(len(words) + 1)
