@@ -88,6 +88,7 @@ fn put_fields(refusal: &Refusal, out: &mut String) -> Result<(), AllocError>
             write!(out, " table {table} key {key} at {at}")
         }
         Refusal::NoRow { table, key } => write!(out, " table {table} key {key}"),
+        Refusal::Retired { stream } => write!(out, " stream {stream}"),
         Refusal::Held { reader, at } => write!(out, " reader {reader} at {at}"),
         Refusal::Unpublished { ops } => write!(out, " ops {ops}"),
         _ => Ok(()),

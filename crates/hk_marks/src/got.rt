@@ -1,6 +1,6 @@
 //! What is known of all streams of a log.
 
-ghost use Rattle.std.specs.Prelude.{◌≡◌, ◌≤◌, ◌<◌, ◌^◌, ◌-◌, ◌∷◌, [], ℕ, All, min, nat_le, length, replicate, slice_set, IsOk, IfOk, OnOk, OnErr, IfErr};
+ghost use Rattle.std.specs.Prelude.{◌≡◌, ◌≤◌, ◌<◌, ◌^◌, ◌-◌, ◌∷◌, ◌==◌, [], ℕ, All, min, nat_le, length, replicate, slice_set, IsOk, IfOk, OnOk, OnErr, IfErr};
 ghost use Rattle.std.specs.FinMap as finmap;
 ghost use Rattle.std.specs.FinSet as set;
 ghost use Rattle.std.specs.List.Sorted.{IsStrictlyIncreasing};
@@ -16,7 +16,7 @@ ghost use Rattle.hk_marks.specs.Seen.{IsNumbered};
 ghost use Rattle.hk_marks.specs.Steps.{with_number, with_mark, with_prefix, extra_numbers};
 
 use crate::stream::{Stream, join_streams};
-use hk_types::{Config, Refusal, StreamNo, Time};
+use hk_types::{Config, LAST_TIME, Refusal, StreamNo, Time};
 use std::alloc::Global;
 use std::collections::{btree_map, btree_set};
 use std::marker::Model;
@@ -208,6 +208,15 @@ impl Got {
         ensures { result ≡ (stream_at self.now s).closed }
     {
         self.streams[place(s)].closed()
+    }
+
+    /// Whether the stream is retired: it is closed up to the last time of all, so no entry of it can come that
+    /// is not taken.
+    pub fn retired(&self, s: StreamNo) -> bool
+        requires { s ≤ length self.now }
+        ensures { result ≡ ((stream_at self.now s).closed == 2 ^ 62) }
+    {
+        self.closed(s).number() == LAST_TIME
     }
 
     /// The least closed time over all streams. It needs no memory. Cost: O(s), s streams.

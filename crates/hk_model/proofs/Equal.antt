@@ -10,7 +10,7 @@ use Rattle.hk_model.proofs.Laws.{readable_more, same, represents_both, join_law_
 use Rattle.hk_model.specs.Replica.Streams.{streams_of}
 use Rattle.hk_model.specs.Replica.Content.{Content, readable, least_closed}
 use Rattle.hk_model.specs.Replica.ContentOf.{content_of}
-use Rattle.hk_model.specs.History.Histories.{Transaction, IsHistory, AreItemsOf}
+use Rattle.hk_model.specs.History.Histories.{History, IsHistory, AreItemsOf}
 use Rattle.hk_model.specs.Replica.Answers.{reply}
 use Rattle.hk_model.specs.Replica.Replicas.{Represents, Delivery, content_after_deliveries, delivered_items, accepted_horizon, empty_content}
 use Rattle.hk_model.specs.Replica.Replicas.Delivery.{Bring, PruneTo}

@@ -16,10 +16,10 @@ use Rattle.hk_model.specs.History.Rows.{RowKey, row_key_cmp, version_of}
 use Rattle.hk_model.specs.Replica.Lawful.{IsItem}
 use Rattle.hk_model.specs.declared.write_op.WriteOp.{WriteOp}
 use Rattle.hk_model.specs.declared.write_op.WriteOp.TheVariants.{Put, Remove}
-use Rattle.hk_model.specs.History.Histories.{Transaction, Tables, written_key, put_row, tables_of, last, last_put, entries_in, entry_of, entries_of, KeysRise, RemovesPresent, Follows, IsHistory, IsItemOf}
+use Rattle.hk_model.specs.History.Histories.{Transaction, History, Tables, IsHistory, MayClose, commits, written_key, put_row, tables_of, last, last_put, entries_in, entry_of, entries_of, KeysRise, RemovesPresent, Follows, IsItemOf}
 use Rattle.hk_model.proofs.Members.{In}
 use Rattle.hk_model.proofs.Logs.{row_born}
-use Rattle.hk_model.proofs.Histories.{entry_time, last_put_last, table_row}
+use Rattle.hk_model.proofs.Histories.{AreCommits, are_commits, entry_time, last_put_last, table_row}
 use Rattle.hk_model.proofs.Honest.{is_closed, closed_step, count_step, Contains_In}
 
 -- ---- places rise
@@ -97,7 +97,7 @@ some_fact tables f (Remove t n ∷ ws) few all =
 
 -- ---- born times
 
-pub put_time : (config : ConfigValue) (h : List Transaction) → IsHistory config h → (k : RowKey) → is_some (finmap.get (tables_of h) k) ≡ true → 0 < last_put h k
+pub put_time : (config : ConfigValue) (h : List Transaction) → AreCommits config h → (k : RowKey) → is_some (finmap.get (tables_of h) k) ≡ true → 0 < last_put h k
 put_time config h is k there = by (finmap.get (tables_of h) k) refl there
   where
     by : (x : Option RowValue) → finmap.get (tables_of h) k ≡ x → is_some x ≡ true → 0 < last_put h k
@@ -121,7 +121,7 @@ born_times time f there (k ∷ ks) within =
 
 -- ---- numbers
 
-pub few_entries : (config : ConfigValue) (h : List Transaction) → IsHistory config h → (s : ℕ) → entries_in h s ≤ last h
+pub few_entries : (config : ConfigValue) (h : List Transaction) → AreCommits config h → (s : ℕ) → entries_in h s ≤ last h
 few_entries config [] is s = omega arith
 few_entries config (t ∷ earlier) is s =
     let rest = few_entries config earlier is.1 s in
@@ -134,7 +134,7 @@ few_entries config (t ∷ earlier) is s =
     at_most_one true = omega arith
     at_most_one false = omega arith
 
-few_closed : (config : ConfigValue) (h : List Transaction) → IsHistory config h → (s u : ℕ) → count_by (is_closed s u) h ≤ u
+few_closed : (config : ConfigValue) (h : List Transaction) → AreCommits config h → (s u : ℕ) → count_by (is_closed s u) h ≤ u
 few_closed config [] is s u = omega arith
 few_closed config (t ∷ earlier) is s u =
     let step = closed_step s u t earlier in
@@ -169,7 +169,7 @@ counts_formed : (ends rows : ℕ) → ends ≤ 1024 → rows ≤ 1024 → 0 < en
 counts_formed ends rows few_ends few_rows some =
     and_from (nat_lt ends 1025 && nat_lt rows 1025) (nat_lt 0 (ends + rows)) (and_from (nat_lt ends 1025) (nat_lt rows 1025) (lt-ltb ends 1025 (omega arith)) (lt-ltb rows 1025 (omega arith))) (lt-ltb 0 (ends + rows) some)
 
-pub entry_formed : (config : ConfigValue) (earlier : List Transaction) (t : Transaction) → config.log < 2 ^ 64 → config.streams ≤ 64 → IsHistory config earlier → Follows config earlier t → IsEntry (entry_of config earlier t)
+pub entry_formed : (config : ConfigValue) (earlier : List Transaction) (t : Transaction) → config.log < 2 ^ 64 → config.streams ≤ 64 → AreCommits config earlier → Follows config earlier t → IsEntry (entry_of config earlier t)
 entry_formed config earlier t log streams is f =
     let above = f.stream_above in
     let within = f.stream_within in
@@ -192,24 +192,28 @@ entry_formed config earlier t log streams is f =
       born = born_times t.time (last_put earlier) (λ k. finmap.contains_key (tables_of earlier) k) (map written_key t.writes) (λ k there. let a = put_time config earlier is k there in let b = last_put_last config earlier is k in (a, omega arith));
     }
 
-entries_formed : (config : ConfigValue) (h : List Transaction) → config.log < 2 ^ 64 → config.streams ≤ 64 → IsHistory config h → (e : EntryValue) → In e (entries_of config h) → IsEntry e
+entries_formed : (config : ConfigValue) (h : List Transaction) → config.log < 2 ^ 64 → config.streams ≤ 64 → AreCommits config h → (e : EntryValue) → In e (entries_of config h) → IsEntry e
 entries_formed config [] log streams is e i = elim i [ ]
 entries_formed config (t ∷ earlier) log streams is e (inl s) = subst IsEntry (sym s) (entry_formed config earlier t log streams is.1 is.0)
 entries_formed config (t ∷ earlier) log streams is e (inr i) = entries_formed config earlier log streams is.1 e i
 
-last_in_time : (config : ConfigValue) (h : List Transaction) → IsHistory config h → last h ≤ 2 ^ 62
+pub last_in_time : (config : ConfigValue) (h : List Transaction) → AreCommits config h → last h ≤ 2 ^ 62
 last_in_time config [] is = omega arith
 last_in_time config (t ∷ earlier) is = is.0.in_time
 
-pub items_formed : (config : ConfigValue) (h : List Transaction) → config.log < 2 ^ 64 → config.streams ≤ 64 → IsHistory config h → (item : Item) → IsItemOf config h item → IsItem item
-items_formed config h log streams is (Commit e) i = entries_formed config h log streams is e (Contains_In (entries_of config h) e i)
+-- a stream is closed at most up to the last time of all
+closed_in_time : (config : ConfigValue) (h : History) → IsHistory config h → (stream upto : ℕ) → MayClose h stream upto → upto ≤ 2 ^ 62
+closed_in_time config h is stream upto (inl l) = let last = last_in_time config (commits h) (are_commits config h is) in omega arith
+closed_in_time config h is stream upto (inr r) = let e = r.0 in omega arith
+
+pub items_formed : (config : ConfigValue) (h : History) → config.log < 2 ^ 64 → config.streams ≤ 64 → IsHistory config h → (item : Item) → IsItemOf config h item → IsItem item
+items_formed config h log streams is (Commit e) i = entries_formed config (commits h) log streams (are_commits config h is) e (Contains_In (entries_of config (commits h)) e i)
 items_formed config h log streams is (Closed m) i =
     let above = i.stream_above in
     let within = i.stream_within in
-    let upto = i.upto_last in
-    let last = last_in_time config h is in
-    let few = few_closed config h is m.stream m.upto in
-    let counted : m.count ≡ count_by (is_closed m.stream m.upto) h = i.counted in
+    let upto = closed_in_time config h is m.stream m.upto i.may_close in
+    let few = few_closed config (commits h) (are_commits config h is) m.stream m.upto in
+    let counted : m.count ≡ count_by (is_closed m.stream m.upto) (commits h) = i.counted in
     let of_log = i.of_log in
     record {
       log = omega arith;

@@ -21,7 +21,7 @@ use Rattle.hk_model.specs.Replica.Fragments.{part}
 use Rattle.hk_model.specs.Replica.Rules.{first_wrong_log, gather_result, gather_result_unless, conflict}
 use Rattle.hk_types.specs.declared.faults.Refusal.TheVariants.{Conflict}
 use Rattle.hk_model.specs.Replica.Maps.{or_else}
-use Rattle.hk_model.specs.History.Histories.{Transaction, IsHistory, IsItemOf, AreItemsOf, entries_of}
+use Rattle.hk_model.specs.History.Histories.{History, commits, IsHistory, IsItemOf, AreItemsOf, entries_of}
 
 no_conflict : {X : Type 0} (same : X → X → Bool) (facts : List (VersionKey × X)) → ((v : VersionKey) (a b : X) → In (v, a) facts → In (v, b) facts → same a b ≡ true) → conflict same facts ≡ false
 no_conflict {X = X} same facts agree = by (conflict same facts) refl
@@ -40,15 +40,15 @@ no_conflict {X = X} same facts agree = by (conflict same facts) refl
     by false c = refl
 
 -- no item of a history is of another log
-all_fit : (config : ConfigValue) (h : List Transaction) → IsHistory config h → (items : List Item) → AreItemsOf config h items → first_wrong_log config items ≡ None
+all_fit : (config : ConfigValue) (h : History) → IsHistory config h → (items : List Item) → AreItemsOf config h items → first_wrong_log config items ≡ None
 all_fit config h is [] all = refl
 all_fit config h is (i ∷ items) all =
     (λ j. or_else (item_fits config h is i (All-head (IsItemOf config h) i items all) j) (all_fit config h is items (All-tail (IsItemOf config h) i items all) j))
 
-pub gathered_law : (config : ConfigValue) (h : List Transaction) → IsHistory config h → (items : List Item) → AreItemsOf config h items → gather_result config items ≡ Ok (part config items 0 0)
+pub gathered_law : (config : ConfigValue) (h : History) → IsHistory config h → (items : List Item) → AreItemsOf config h items → gather_result config items ≡ Ok (part config items 0 0)
 gathered_law config h is items all =
     let own = items_part config h is items all in
-    let rows : conflict same_row (row_facts items) ≡ false = no_conflict same_row (row_facts items) (λ v a b i j. same_row_if a b (facts_agree config (λ e. In e (entries_of config h)) (history_log config h is) items items own own v a b i j)) in
-    let ends : conflict (λ a b. a == b) (end_facts items) ≡ false = no_conflict (λ a b. a == b) (end_facts items) (λ v a b i j. eq-eqb a b (ends_agree config (λ e. In e (entries_of config h)) (history_log config h is) items items own own v a b i j)) in
+    let rows : conflict same_row (row_facts items) ≡ false = no_conflict same_row (row_facts items) (λ v a b i j. same_row_if a b (facts_agree config (λ e. In e (entries_of config (commits h))) (history_log config h is) items items own own v a b i j)) in
+    let ends : conflict (λ a b. a == b) (end_facts items) ≡ false = no_conflict (λ a b. a == b) (end_facts items) (λ v a b i j. eq-eqb a b (ends_agree config (λ e. In e (entries_of config (commits h))) (history_log config h is) items items own own v a b i j)) in
     ap (gather_result_unless config items) (all_fit config h is items all)
     ∙ (λ i. cond (rows i || ends i) (Err Conflict) (Ok (part config items 0 0)))

@@ -15,6 +15,10 @@ pub enum Event {
     MarkOf {
         stream: StreamNo,
     },
+    /// The primary retires a stream: it emits its last mark.
+    Retire {
+        stream: StreamNo,
+    },
     /// A replica absorbs an item.
     Absorb {
         replica: u16,

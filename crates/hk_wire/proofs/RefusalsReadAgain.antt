@@ -6,7 +6,7 @@ use Rattle.std.proofs.lemmas.Bool.{eqb-true}
 use Rattle.hk_types.specs.FaultNumbers.{refusal_number}
 use Rattle.hk_types.specs.declared.faults.FormFault.TheVariants.{Truncated, TooLong, BadVersion, BadKind, BadStream, BadNumber, BadOrder, BadCount, BadBody, WrongLength}
 use Rattle.hk_types.specs.declared.faults.Refusal.{Refusal}
-use Rattle.hk_types.specs.declared.faults.Refusal.TheVariants.{Form, ForeignLog, WrongStreams, Gap, Conflict, AheadOfMark, TooOld, NotYet, WriteConflict, NoRow, TwiceWritten, TooManyWrites, NoStream, ClockFull, Held, Damaged, Unpublished, NodeFull, NoHold, NoSuch, Memory}
+use Rattle.hk_types.specs.declared.faults.Refusal.TheVariants.{Form, ForeignLog, WrongStreams, Gap, Conflict, AheadOfMark, TooOld, NotYet, WriteConflict, NoRow, TwiceWritten, TooManyWrites, NoStream, ClockFull, Retired, Held, Damaged, Unpublished, NodeFull, NoHold, NoSuch, Memory}
 use Rattle.hk_frames.specs.Fields.{IsBytes, number, number_at}
 use Rattle.hk_frames.proofs.ReadingSteps.{Takes}
 use Rattle.hk_wire.specs.Readers.{both, fault_where, time_at}
@@ -162,6 +162,7 @@ refusal_again TwiceWritten rest h = absurd cc
 refusal_again TooManyWrites rest h = absurd cc
 refusal_again NoStream rest h = absurd cc
 refusal_again ClockFull rest h = absurd cc
+refusal_again (Retired stream) rest h = absurd cc
 
 pub refusal_field : IsField refusal_at refusal_text IsSent
 unfolding refusal_at refusal_text

@@ -4,7 +4,7 @@ use Rattle.std.specs.Int.{w64}
 use Rattle.hk_types.specs.FaultNumbers.{refusal_number}
 use Rattle.hk_types.specs.declared.faults.FormFault.TheVariants.{Truncated, TooLong, BadVersion, BadKind, BadStream, BadNumber, BadOrder, BadCount, BadBody, WrongLength}
 use Rattle.hk_types.specs.declared.faults.Refusal.{Refusal}
-use Rattle.hk_types.specs.declared.faults.Refusal.TheVariants.{Form, ForeignLog, WrongStreams, Gap, Conflict, AheadOfMark, TooOld, NotYet, WriteConflict, NoRow, TwiceWritten, TooManyWrites, NoStream, ClockFull, Held, Damaged, Unpublished, NodeFull, NoHold, NoSuch, Memory}
+use Rattle.hk_types.specs.declared.faults.Refusal.TheVariants.{Form, ForeignLog, WrongStreams, Gap, Conflict, AheadOfMark, TooOld, NotYet, WriteConflict, NoRow, TwiceWritten, TooManyWrites, NoStream, ClockFull, Retired, Held, Damaged, Unpublished, NodeFull, NoHold, NoSuch, Memory}
 use Rattle.hk_frames.specs.Fields.{number, number_at}
 use Rattle.hk_wire.specs.Readers.{Reader, both, fault_where, mapped_value, by_kind, time_at}
 
@@ -34,6 +34,7 @@ is_sent TwiceWritten = false
 is_sent TooManyWrites = false
 is_sent NoStream = false
 is_sent ClockFull = false
+is_sent (Retired stream) = false
 is_sent other = true
 
 -- a refusal whose numbers fit their fields

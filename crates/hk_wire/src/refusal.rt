@@ -120,7 +120,8 @@ pub(crate) fn is_sent(refusal: Refusal) -> bool
         | Refusal::TwiceWritten
         | Refusal::TooManyWrites
         | Refusal::NoStream
-        | Refusal::ClockFull => false,
+        | Refusal::ClockFull
+        | Refusal::Retired { .. } => false,
         _ => true,
     }
 }

@@ -5,13 +5,14 @@ use Rattle.hk_model.specs.declared.told.Told.{Told}
 use Rattle.hk_model.specs.declared.told.Told.TheVariants as tells
 use Rattle.hk_model.specs.Replica.Answers.{answer_seen}
 use Rattle.hk_model.specs.World.Worlds.{EventValue, ToldValue}
-use Rattle.hk_model.specs.World.Worlds.EventValue.{Commit, MarkOf, Absorb, Batch, Prune, Merge, Delta, Ask, FrontOf}
+use Rattle.hk_model.specs.World.Worlds.EventValue.{Commit, MarkOf, Retire, Absorb, Batch, Prune, Merge, Delta, Ask, FrontOf}
 use Rattle.hk_model.specs.World.Worlds.ToldValue.{Committed, Marked, Absorbed, Done, Answered, Fronted, Refused}
 
 -- the value that an `Event` has
 abbrev pub event_seen : Event → EventValue
 event_seen (events.Commit stream read_at writes) = Commit stream read_at writes.items
 event_seen (events.MarkOf stream) = MarkOf stream
+event_seen (events.Retire stream) = Retire stream
 event_seen (events.Absorb replica item) = Absorb replica item
 event_seen (events.Batch replica items) = Batch replica items.items
 event_seen (events.Prune replica horizon) = Prune replica horizon
