@@ -259,10 +259,13 @@ class Primary:
     """A history: transactions (time, stream, writes), each write a row key with its row, or None where it is removed."""
 
     def __init__(self, log, streams):
-        self.log, self.streams, self.history, self.items = log, streams, [], []
+        self.log, self.streams, self.history, self.items, self.retired = log, streams, [], [], set()
 
     def last(self):
         return self.history[-1][0] if self.history else 0
+
+    def readable(self):
+        return LAST_TIME if len(self.retired) == self.streams else self.last()
 
     def tables_at(self, time):
         tables = {}
@@ -281,6 +284,8 @@ class Primary:
     def check_stream(self, stream):
         if stream > self.streams:
             raise Refused(34)
+        if stream in self.retired:
+            raise Refused(36, "stream", stream)
 
     def commit(self, read_at, writes, stream):
         self.check_stream(stream)
@@ -303,8 +308,17 @@ class Primary:
         return time
 
     def mark(self, stream):
+        return self.close(stream, self.last())
+
+    def retire(self, stream):
+        return self.close(stream, LAST_TIME)
+
+    def close(self, stream, time):
+        """The mark of all entries of a stream up to a time; at the last time of all it retires the stream."""
         self.check_stream(stream)
-        self.items.append(Mark(self.log, stream, sum(1 for _, of, _ in self.history if of == stream), self.last()))
+        self.items.append(Mark(self.log, stream, sum(1 for _, of, _ in self.history if of == stream), time))
+        if time == LAST_TIME:
+            self.retired.add(stream)
         return self.items[-1]
 
 
@@ -324,6 +338,7 @@ U16, U32, U64, STREAM, SLOT = (0, 2 ** 16 - 1), (0, 2 ** 32 - 1), (0, 2 ** 64 - 
 TIME = (0, LAST_TIME)
 FORMS = {
     "begin": [SLOT], "put": [SLOT, U16, U64, U32, "body"], "remove": [SLOT, U16, U64], "commit": [SLOT, STREAM], "mark": [STREAM],
+    "retire": [STREAM],
     "absorb": [U16, U64], "prune": [U16, TIME], "merge": [U16, U16], "delta": [U16, U16, TIME], "front": [U16],
 }
 QUERIES = {"get": [U16, U64], "range": [U16, U64, U64], "tag": [U16, U32], "count": [U16]}
@@ -393,6 +408,10 @@ class World:
         made = self.primary.mark(stream)
         return [f"mark stream {stream} n {made.n} m {made.m}"]
 
+    def retire(self, stream):
+        made = self.primary.retire(stream)
+        return [f"mark stream {stream} n {made.n} m {made.m}"]
+
     def absorb(self, replica, item):
         items, horizon = self.replica(replica)
         after = [*items, self.item(item)]
@@ -429,8 +448,8 @@ class World:
 
     def ask(self, replica, time, *query):
         if replica == 0:
-            if time > self.primary.last():
-                raise Refused(26, "readable", self.primary.last())
+            if time > self.primary.readable():
+                raise Refused(26, "readable", self.primary.readable())
         else:
             items, horizon = self.replica(replica)
             mark = readable(items, self.streams)

@@ -110,6 +110,9 @@ fn event(alloc: Global, name: &str, words: &mut Words<'_>) -> Result<Event, Unre
         "mark" => Event::MarkOf {
             stream: words.stream()?,
         },
+        "retire" => Event::Retire {
+            stream: words.stream()?,
+        },
         "absorb" => Event::Absorb {
             replica: words.small()?,
             item: words.number()?,

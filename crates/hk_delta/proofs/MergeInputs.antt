@@ -34,7 +34,7 @@ use Rattle.hk_merge.proofs.JoinRefusals.{wrong_log_by, listed_itself, listed_who
 use Rattle.hk_log.specs.declared.item.Item.{Item}
 use Rattle.hk_model.specs.Replica.ContentOf.{content_of}
 use Rattle.hk_model.specs.Replica.Fragments.{part}
-use Rattle.hk_model.specs.History.Histories.{Transaction, IsHistory, AreItemsOf}
+use Rattle.hk_model.specs.History.Histories.{History, IsHistory, AreItemsOf}
 use Rattle.hk_model.specs.Replica.Replicas.{Represents}
 use Rattle.hk_model.proofs.Laws.{join_law_proof}
 use Rattle.hk_model.proofs.Steps.{gap_step}
@@ -78,7 +78,7 @@ fits_by t f config log streams fits = ap (λ n. cond (not (n == t.log)) (Some Fo
 same_refusal : (a b : Refusal) → ◌≡◌ {A = Result Content Refusal} (Err a) (Err b) → a ≡ b
 same_refusal a b e = cc
 
-module _ (config : ConfigValue) (history : List Transaction) (is : IsHistory config history) (own others : List Item) (g h base : ℕ) (old : Content) (a : Represents config history own g old) (of_history : AreItemsOf config history others) (reach : h ≤ readable (content_of config others h)) where
+module _ (config : ConfigValue) (history : History) (is : IsHistory config history) (own others : List Item) (g h base : ℕ) (old : Content) (a : Represents config history own g old) (of_history : AreItemsOf config history others) (reach : h ≤ readable (content_of config others h)) where
   sender : Represents config history others h (content_of config others h)
   sender = record { of_history = of_history; within = reach; is_content_of = refl }
 

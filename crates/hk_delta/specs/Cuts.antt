@@ -9,7 +9,7 @@ use Rattle.hk_log.specs.Versions.{VersionValue}
 use Rattle.hk_log.specs.declared.item.Item.{Item}
 use Rattle.hk_model.specs.Replica.Content.{Content, at_most}
 use Rattle.hk_model.specs.Replica.Fragments.{FragmentValue, cut, part}
-use Rattle.hk_model.specs.History.Histories.{Transaction}
+use Rattle.hk_model.specs.History.Histories.{History}
 use Rattle.hk_model.specs.Replica.Replicas.{Represents}
 use Rattle.hk_facts.specs.Facts.{if_known}
 use Rattle.hk_store.specs.Facts.{entry_if}
@@ -39,5 +39,5 @@ Cuts c base (Err why) = ((base < c.horizon) × (why ≡ TooOld c.horizon)) ⊎ (
 -- where the content represents items of a history, the fragment is the part of them at its horizon
 abbrev pub CutsOf : Content → ℕ → Result FragmentValue Refusal → Type 0
 CutsOf c base result =
-    (config : ConfigValue) (history : List Transaction) (items : List Item) (horizon : ℕ) → Represents config history items horizon c
+    (config : ConfigValue) (history : History) (items : List Item) (horizon : ℕ) → Represents config history items horizon c
     → IfOk result (λ f. f ≡ part config items horizon base)

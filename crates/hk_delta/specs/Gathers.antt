@@ -11,7 +11,7 @@ use Rattle.hk_log.specs.declared.item.Item.TheVariants.{Commit, Closed}
 use Rattle.hk_model.specs.History.Rows.{version_key_cmp}
 use Rattle.hk_model.specs.History.Facts.{inserted_version, entry_rows, entry_ends, row_facts, end_facts}
 use Rattle.hk_model.specs.Replica.Fragments.{FragmentValue, part}
-use Rattle.hk_model.specs.History.Histories.{Transaction, IsHistory, AreItemsOf}
+use Rattle.hk_model.specs.History.Histories.{History, IsHistory, AreItemsOf}
 use Rattle.hk_model.specs.Replica.Rules.{conflict, gather_result}
 use Rattle.hk_facts.specs.declared.fact.Fact.{Fact}
 use Rattle.hk_facts.specs.declared.fact.Fact.TheVariants.{Row, End}
@@ -73,5 +73,5 @@ Gathers config items (Err why) = (gather_result config items ≡ Err why) ⊎ ((
 -- items of a history are gathered to the part of base and horizon 0, unless memory ran out
 abbrev pub GathersOf : ConfigValue → List Item → Result FragmentValue Refusal → Type 0
 GathersOf config items result =
-    (history : List Transaction) → IsHistory config history → AreItemsOf config history items
+    (history : History) → IsHistory config history → AreItemsOf config history items
     → IfOk result (λ f. f ≡ part config items 0 0) × IfErr result (λ why. why ≡ Memory)

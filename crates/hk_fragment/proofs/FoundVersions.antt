@@ -30,7 +30,7 @@ use Rattle.hk_store.specs.Versions.{value_conflicts_at}
 use Rattle.hk_log.specs.declared.item.Item.{Item}
 use Rattle.hk_model.specs.Replica.ContentOf.{content_of}
 use Rattle.hk_model.specs.Replica.Fragments.{part}
-use Rattle.hk_model.specs.History.Histories.{Transaction, IsHistory, AreItemsOf}
+use Rattle.hk_model.specs.History.Histories.{IsHistory, AreItemsOf}
 use Rattle.hk_model.specs.Replica.Replicas.{Represents}
 use Rattle.hk_fragment.specs.Parts.{Known, versions_listed}
 use Rattle.hk_fragment.proofs.ListedVersions.{listed_of, pairs}

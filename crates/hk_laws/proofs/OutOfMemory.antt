@@ -11,14 +11,14 @@ use Rattle.hk_model.specs.declared.told.Told.{Told}
 use Rattle.hk_model.specs.World.Events.{told_seen}
 use Rattle.hk_model.specs.Replica.Content.{Content, readable}
 use Rattle.hk_model.specs.Replica.Answers.{AnswerValue, answer}
-use Rattle.hk_model.specs.History.Histories.{Transaction, last, table_at}
+use Rattle.hk_model.specs.History.Histories.{History, commits, table_at}
 use Rattle.hk_model.specs.declared.query.Query.{Query}
 use Rattle.hk_model.specs.Replica.Fragments.{FragmentValue, cut, part}
 use Rattle.hk_model.specs.Replica.Items.{log_of, stream_no, wrong_log}
 use Rattle.hk_model.specs.Replica.Rules.{join_result, content_after_join, contents_conflict, gather_result, gather_result_unless, first_wrong_log, conflict}
 use Rattle.hk_model.specs.Replica.Maps.{or_else}
 use Rattle.hk_model.specs.History.Facts.{row_facts, end_facts}
-use Rattle.hk_model.specs.World.Worlds.{ToldValue, asked_primary, delta_join, outcome_by, outcome_of_batch, outcome_of_reply}
+use Rattle.hk_model.specs.World.Worlds.{ToldValue, asked_primary, readable_on_primary, delta_join, outcome_by, outcome_of_batch, outcome_of_reply}
 use Rattle.hk_model.specs.World.Worlds.ToldValue.{Answered, Refused}
 use Rattle.hk_laws.specs.Calls.{Gives, is_first, is_first_outcome, is_memory, is_memory_outcome}
 
@@ -86,11 +86,12 @@ pub reply_first : (x : Result AnswerValue Refusal) (a : AnswerValue) (why : Refu
 reply_first x a why (inl e) m = ap (λ y. is_first_outcome (outcome_of_reply y)) e ∙ ap is_first m
 reply_first x a why (inr p) m = ap (λ y. is_first_outcome (outcome_of_reply y)) p.1
 
--- a primary that ran out of memory was asked at a time up to the last commit's
-pub asked_first : (history : List Transaction) (t : ℕ) (q : Query) (why : Refusal) → (last history < t → why ≡ NotYet (last history)) → why ≡ Memory → is_first_outcome (asked_primary history t q) ≡ false
-asked_first history t q why early m =
-    elim (nat_lt (last history) t) as (λ b. nat_lt (last history) t ≡ b → is_first_outcome (cond b (Refused (NotYet (last history))) (Answered (answer (table_at history t) q))) ≡ false) [
-      | true ↦ λ e. let w = early (ltb-true (last history) t e) in absurd (true≢false (sym (ap is_first w) ∙ ap is_first m))
+-- a primary that ran out of memory was asked at a time that may be read
+pub asked_first : (config : ConfigValue) (history : History) (t : ℕ) (q : Query) (why : Refusal) → (readable_on_primary config history < t → why ≡ NotYet (readable_on_primary config history)) → why ≡ Memory → is_first_outcome (asked_primary config history t q) ≡ false
+asked_first config history t q why early m =
+    let top = readable_on_primary config history in
+    elim (nat_lt top t) as (λ b. nat_lt top t ≡ b → is_first_outcome (cond b (Refused (NotYet top)) (Answered (answer (table_at (commits history) t) q))) ≡ false) [
+      | true ↦ λ e. let w = early (ltb-true top t e) in absurd (true≢false (sym (ap is_first w) ∙ ap is_first m))
       | false ↦ λ e. refl
     ] refl
 
@@ -99,9 +100,9 @@ pub reply_err : (x : Result AnswerValue Refusal) (a : AnswerValue) (why : Refusa
 reply_err x a why (Ok outcome) h m = tt
 reply_err x a why (Err e) h m = reply_first x a why h m.1
 
-pub asked_err : (history : List Transaction) (t : ℕ) (q : Query) (why : Refusal) (result : Result Told Refusal) → (last history < t → why ≡ NotYet (last history)) → Passes why result → OnErr result (is_first_outcome (asked_primary history t q) ≡ false)
-asked_err history t q why (Ok outcome) early m = tt
-asked_err history t q why (Err e) early m = asked_first history t q why early m.1
+pub asked_err : (config : ConfigValue) (history : History) (t : ℕ) (q : Query) (why : Refusal) (result : Result Told Refusal) → (readable_on_primary config history < t → why ≡ NotYet (readable_on_primary config history)) → Passes why result → OnErr result (is_first_outcome (asked_primary config history t q) ≡ false)
+asked_err config history t q why (Ok outcome) early m = tt
+asked_err config history t q why (Err e) early m = asked_first config history t q why early m.1
 
 -- ---- deltas
 

@@ -3,9 +3,9 @@ use Rattle.std.proofs.Common.{◌≡◌, refl, sym, ap, ◌∙◌, ℕ, Bool, tr
 use Rattle.std.specs.FinMap as finmap
 use Rattle.hk_types.specs.Values.{ConfigValue}
 use Rattle.hk_types.specs.declared.faults.Refusal.{Refusal}
-use Rattle.hk_types.specs.declared.faults.Refusal.TheVariants.{NoStream, NotYet, WriteConflict, NoRow, ClockFull, TwiceWritten, TooManyWrites}
+use Rattle.hk_types.specs.declared.faults.Refusal.TheVariants.{NoStream, Retired, NotYet, WriteConflict, NoRow, ClockFull, TwiceWritten, TooManyWrites}
 use Rattle.hk_model.specs.History.Rows.{RowKey, row_key_cmp}
-use Rattle.hk_model.specs.History.Histories.{Transaction, written_key, last, tables_of}
+use Rattle.hk_model.specs.History.Histories.{Transaction, commits, is_retired, written_key, last, tables_of}
 use Rattle.hk_model.specs.History.Commits.{writes_result, commit_result, committed_writes, accepted_writes, first_conflict, first_absent}
 use Rattle.hk_model.specs.Replica.Content.{Content}
 use Rattle.hk_model.specs.World.Worlds.{World, Replica, EventValue, after_commit}
@@ -49,20 +49,22 @@ module _ (config : ConfigValue) (w : World Content) (stream read_at : ℕ) (ws :
 
   -- what bars a transaction is told where its writes make one
   bars : (m : Writes) (why : Refusal) → refusal_of_transaction config w.history stream read_at ≡ Some why → known (Ok m) ≡ Err why
-  bars m why = by (nat_lt stream 1 || nat_lt config.streams stream) (nat_lt (last w.history) read_at) (accepted_writes w.history stream read_at (finmap.values m) (first_conflict w.history read_at (finmap.values m)) (first_absent (tables_of w.history) (finmap.values m)))
+  bars m why = by (nat_lt stream 1 || nat_lt config.streams stream) (is_retired w.history stream) (nat_lt (last (commits w.history)) read_at) (accepted_writes (commits w.history) stream read_at (finmap.values m) (first_conflict (commits w.history) read_at (finmap.values m)) (first_absent (tables_of (commits w.history)) (finmap.values m)))
     where
-      by : (p q : Bool) (rest : Result (Option Transaction) Refusal) → cond p (Some NoStream) (cond q (Some (NotYet (last w.history))) None) ≡ Some why → cond p (Err NoStream) (cond q (Err (NotYet (last w.history))) rest) ≡ Err why
-      by true q rest e = let k : NoStream ≡ why = cc in ap (λ x. Err x) k
-      by false true rest e = let k : NotYet (last w.history) ≡ why = cc in ap (λ x. Err x) k
-      by false false rest e = absurd cc
+      by : (p r q : Bool) (rest : Result (Option Transaction) Refusal) → cond p (Some NoStream) (cond r (Some (Retired stream)) (cond q (Some (NotYet (last (commits w.history)))) None)) ≡ Some why → cond p (Err NoStream) (cond r (Err (Retired stream)) (cond q (Err (NotYet (last (commits w.history)))) rest)) ≡ Err why
+      by true r q rest e = let k : NoStream ≡ why = cc in ap (λ x. Err x) k
+      by false true q rest e = let k : Retired stream ≡ why = cc in ap (λ x. Err x) k
+      by false false true rest e = let k : NotYet (last (commits w.history)) ≡ why = cc in ap (λ x. Err x) k
+      by false false false rest e = absurd cc
 
   bars_outcome : (why : Refusal) → refusal_of_transaction config w.history stream read_at ≡ Some why → is_memory why ≡ false
-  bars_outcome why = by (nat_lt stream 1 || nat_lt config.streams stream) (nat_lt (last w.history) read_at)
+  bars_outcome why = by (nat_lt stream 1 || nat_lt config.streams stream) (is_retired w.history stream) (nat_lt (last (commits w.history)) read_at)
     where
-      by : (p q : Bool) → cond p (Some NoStream) (cond q (Some (NotYet (last w.history))) None) ≡ Some why → is_memory why ≡ false
-      by true q e = let k : why ≡ NoStream = cc in ap is_memory k
-      by false true e = let k : why ≡ NotYet (last w.history) = cc in ap is_memory k
-      by false false e = absurd cc
+      by : (p r q : Bool) → cond p (Some NoStream) (cond r (Some (Retired stream)) (cond q (Some (NotYet (last (commits w.history)))) None)) ≡ Some why → is_memory why ≡ false
+      by true r q e = let k : why ≡ NoStream = cc in ap is_memory k
+      by false true q e = let k : why ≡ Retired stream = cc in ap is_memory k
+      by false false true e = let k : why ≡ NotYet (last (commits w.history)) = cc in ap is_memory k
+      by false false false e = absurd cc
 
   -- the first refusal of a transaction that is barred
   pub barred_tells : (o : Option Refusal) (why : Refusal) → MatchOption o (IsBuilt ws) (λ x. writes_result finmap.empty ws ≡ Err x) → refusal_of_transaction config w.history stream read_at ≡ Some why → commit_result config w.history stream read_at ws ≡ Err (unwrap_or o why)
@@ -77,15 +79,16 @@ module _ (config : ConfigValue) (w : World Content) (stream read_at : ℕ) (ws :
   pub open_first : refusal_of_transaction config w.history stream read_at ≡ None → is_first_outcome (after_commit config w (commit_result config w.history stream read_at ws)).0 ≡ false
   open_first e = of_built (writes_result finmap.empty ws) (built_first ws)
     where
-      by : (m : Writes) (p q : Bool) → cond p (Some NoStream) (cond q (Some (NotYet (last w.history))) None) ≡ None →
-          is_first_outcome (after_commit config w (cond p (Err NoStream) (cond q (Err (NotYet (last w.history))) (accepted_writes w.history stream read_at (finmap.values m) (first_conflict w.history read_at (finmap.values m)) (first_absent (tables_of w.history) (finmap.values m)))))).0 ≡ false
-      by m true q e = absurd cc
-      by m false true e = absurd cc
-      by m false false e = accepted_first config w w.history stream read_at (finmap.values m) (first_conflict w.history read_at (finmap.values m)) (first_absent (tables_of w.history) (finmap.values m))
+      by : (m : Writes) (p r q : Bool) → cond p (Some NoStream) (cond r (Some (Retired stream)) (cond q (Some (NotYet (last (commits w.history)))) None)) ≡ None →
+          is_first_outcome (after_commit config w (cond p (Err NoStream) (cond r (Err (Retired stream)) (cond q (Err (NotYet (last (commits w.history)))) (accepted_writes (commits w.history) stream read_at (finmap.values m) (first_conflict (commits w.history) read_at (finmap.values m)) (first_absent (tables_of (commits w.history)) (finmap.values m))))))).0 ≡ false
+      by m true r q e = absurd cc
+      by m false true q e = absurd cc
+      by m false false true e = absurd cc
+      by m false false false e = accepted_first config w (commits w.history) stream read_at (finmap.values m) (first_conflict (commits w.history) read_at (finmap.values m)) (first_absent (tables_of (commits w.history)) (finmap.values m))
 
       of_built : (x : Result Writes Refusal) → ((why : Refusal) → x ≡ Err why → is_first why ≡ false) → is_first_outcome (after_commit config w (known x)).0 ≡ false
       of_built (Err why) h = h why refl
-      of_built (Ok m) h = by m (nat_lt stream 1 || nat_lt config.streams stream) (nat_lt (last w.history) read_at) e
+      of_built (Ok m) h = by m (nat_lt stream 1 || nat_lt config.streams stream) (is_retired w.history stream) (nat_lt (last (commits w.history)) read_at) e
 
 -- what happened is all that was to be said, where nothing is expected that is tested first
 pub turned : (old new : Running) (event : EventValue) (result : Result Told Refusal) → Turns old new event result → is_first_outcome (step_outcome old event).0 ≡ false → Happens old new event result
@@ -111,14 +114,15 @@ built_lacks ws why e = elim (built_kind finmap.empty ws why e) [ inl t ↦ ap is
 pub commit_lacks : (config : ConfigValue) (w : World Replica) (stream read_at : ℕ) (ws : List WriteOp) → is_first_outcome (after_commit config w (commit_result config w.history stream read_at ws)).0 ≡ false → may_lack (after_commit config w (commit_result config w.history stream read_at ws)).0 ≡ true
 commit_lacks config w stream read_at ws = of_built (writes_result finmap.empty ws) (built_lacks ws)
   where
-    by : (p q : Bool) (rest : Result (Option Transaction) Refusal) → may_lack (after_commit config w rest).0 ≡ true →
-        is_first_outcome (after_commit config w (cond p (Err NoStream) (cond q (Err (NotYet (last w.history))) rest))).0 ≡ false → may_lack (after_commit config w (cond p (Err NoStream) (cond q (Err (NotYet (last w.history))) rest))).0 ≡ true
-    by true q rest h e = absurd (true≢false e)
-    by false true rest h e = absurd (true≢false e)
-    by false false rest h e = h
+    by : (p r q : Bool) (rest : Result (Option Transaction) Refusal) → may_lack (after_commit config w rest).0 ≡ true →
+        is_first_outcome (after_commit config w (cond p (Err NoStream) (cond r (Err (Retired stream)) (cond q (Err (NotYet (last (commits w.history)))) rest)))).0 ≡ false → may_lack (after_commit config w (cond p (Err NoStream) (cond r (Err (Retired stream)) (cond q (Err (NotYet (last (commits w.history)))) rest)))).0 ≡ true
+    by true r q rest h e = absurd (true≢false e)
+    by false true q rest h e = absurd (true≢false e)
+    by false false true rest h e = absurd (true≢false e)
+    by false false false rest h e = h
 
     of_built : (x : Result Writes Refusal) → ((why : Refusal) → x ≡ Err why → is_of_writes why ≡ true) → is_first_outcome (after_commit config w (committed_writes config w.history stream read_at x)).0 ≡ false → may_lack (after_commit config w (committed_writes config w.history stream read_at x)).0 ≡ true
     of_built (Err why) h e = h why refl
     of_built (Ok m) h e =
-        by (nat_lt stream 1 || nat_lt config.streams stream) (nat_lt (last w.history) read_at) (accepted_writes w.history stream read_at (finmap.values m) (first_conflict w.history read_at (finmap.values m)) (first_absent (tables_of w.history) (finmap.values m)))
-        (accepted_lacks config w w.history stream read_at (finmap.values m) (first_conflict w.history read_at (finmap.values m)) (first_absent (tables_of w.history) (finmap.values m))) e
+        by (nat_lt stream 1 || nat_lt config.streams stream) (is_retired w.history stream) (nat_lt (last (commits w.history)) read_at) (accepted_writes (commits w.history) stream read_at (finmap.values m) (first_conflict (commits w.history) read_at (finmap.values m)) (first_absent (tables_of (commits w.history)) (finmap.values m)))
+        (accepted_lacks config w (commits w.history) stream read_at (finmap.values m) (first_conflict (commits w.history) read_at (finmap.values m)) (first_absent (tables_of (commits w.history)) (finmap.values m))) e

@@ -1,14 +1,16 @@
 -- A step on contents is the step on the items for which they stand.
-use Rattle.std.proofs.Common.{◌≡◌, refl, sym, ap, ◌∙◌, subst, ℕ, Bool, true, false, true≢false, cond, nat_lt, ◌||◌, ◌==◌, Option, Some, None, List, max, inl, inr}
+use Rattle.std.proofs.Common.{◌≡◌, refl, sym, ap, ◌∙◌, subst, ℕ, Bool, true, false, true≢false, cond, nat_lt, ◌||◌, ◌==◌, Option, Some, None, List, [], ◌∷◌, ◌++◌, max, inl, inr}
 use Rattle.hk_types.specs.Values.{ConfigValue}
-use Rattle.hk_types.specs.declared.faults.Refusal.TheVariants.{NoStream, NotYet, TooOld, Gap, AheadOfMark}
+use Rattle.hk_types.specs.declared.faults.Refusal.TheVariants.{NoStream, Retired, NotYet, TooOld, Gap, AheadOfMark}
 use Rattle.hk_model.specs.Replica.Content.{Content}
 use Rattle.hk_model.specs.Replica.Answers.{answer}
 use Rattle.hk_model.specs.declared.query.Query.{Query}
-use Rattle.hk_model.specs.History.Histories.{Transaction, last, table_at}
-use Rattle.hk_model.specs.World.Worlds.{World, Replica, EventValue, ToldValue, Agree, act_on, after_mark, asked_primary, asked_of, both, by_items, delta_with, mark_now, merged_with, at_number, all_numbered, pruned_to, readable_of, step, outcome_of}
-use Rattle.hk_model.specs.World.Worlds.EventValue.{Commit, MarkOf, Absorb, Batch, Prune, Merge, Delta, Ask, FrontOf}
-use Rattle.hk_model.specs.World.Worlds.ToldValue.{Done, Answered, Refused}
+use Rattle.hk_model.specs.History.Histories.{History, commits, is_retired, history_with_mark, table_at}
+use Rattle.hk_log.specs.Items.{MarkValue}
+use Rattle.hk_log.specs.declared.item.Item.TheVariants.{Closed}
+use Rattle.hk_model.specs.World.Worlds.{World, Replica, EventValue, ToldValue, Agree, act_on, after_mark, asked_primary, asked_of, both, by_items, delta_with, mark_now, retirement, readable_on_primary, merged_with, at_number, all_numbered, pruned_to, readable_of, step, outcome_of}
+use Rattle.hk_model.specs.World.Worlds.EventValue.{Commit, MarkOf, Retire, Absorb, Batch, Prune, Merge, Delta, Ask, FrontOf}
+use Rattle.hk_model.specs.World.Worlds.ToldValue.{Done, Answered, Marked, Refused}
 use Rattle.hk_model.proofs.Runs.{step_law_proof}
 use Rattle.hk_laws.specs.Calls.{Steps, StepsOf, is_first_outcome, may_lack}
 use Rattle.hk_laws.proofs.RefusedCommits.{commit_lacks}
@@ -38,10 +40,10 @@ outcome_only : (x : Option Replica) (tell : Replica → ToldValue) → ((r : Rep
 outcome_only None tell h = λ e. absurd (true≢false e)
 outcome_only (Some r) tell h = h r
 
-asked_only : (config : ConfigValue) (history : List Transaction) (t : ℕ) (r : Replica) (q : Query) → OnlyFirst (asked_of config history r t q)
+asked_only : (config : ConfigValue) (history : History) (t : ℕ) (r : Replica) (q : Query) → OnlyFirst (asked_of config history r t q)
 asked_only config history t r q =
-    either_only (nat_lt t r.horizon) (Refused (TooOld r.horizon)) (cond (nat_lt (readable_of config r) t) (Refused (NotYet (readable_of config r))) (Answered (answer (table_at history t) q))) (λ e. absurd (true≢false e))
-    (either_only (nat_lt (readable_of config r) t) (Refused (NotYet (readable_of config r))) (Answered (answer (table_at history t) q)) (λ e. absurd (true≢false e)) (λ e. refl))
+    either_only (nat_lt t r.horizon) (Refused (TooOld r.horizon)) (cond (nat_lt (readable_of config r) t) (Refused (NotYet (readable_of config r))) (Answered (answer (table_at (commits history) t) q))) (λ e. absurd (true≢false e))
+    (either_only (nat_lt (readable_of config r) t) (Refused (NotYet (readable_of config r))) (Answered (answer (table_at (commits history) t) q)) (λ e. absurd (true≢false e)) (λ e. refl))
 
 pruned_only : (config : ConfigValue) (h : ℕ) (r : Replica) → OnlyFirst (pruned_to config r h).0
 pruned_only config h r =
@@ -52,20 +54,29 @@ delta_only config base a b =
     paired_only (nat_lt base b.horizon) (Refused (TooOld b.horizon), a) (cond (nat_lt (readable_of config a) base) (Refused (Gap base (readable_of config a)), a) (Done, merged_with a b)) (λ e. absurd (true≢false e))
     (paired_only (nat_lt (readable_of config a) base) (Refused (Gap base (readable_of config a)), a) (Done, merged_with a b) (λ e. absurd (true≢false e)) (λ e. refl))
 
-primary_only : (history : List Transaction) (t : ℕ) (q : Query) → OnlyFirst (asked_primary history t q)
-primary_only history t q = either_only (nat_lt (last history) t) (Refused (NotYet (last history))) (Answered (answer (table_at history t) q)) (λ e. absurd (true≢false e)) (λ e. refl)
+primary_only : (config : ConfigValue) (history : History) (t : ℕ) (q : Query) → OnlyFirst (asked_primary config history t q)
+primary_only config history t q = either_only (nat_lt (readable_on_primary config history) t) (Refused (NotYet (readable_on_primary config history))) (Answered (answer (table_at (commits history) t) q)) (λ e. absurd (true≢false e)) (λ e. refl)
+
+marked_only : (config : ConfigValue) (w : World Replica) (m : MarkValue) → OnlyFirst (after_mark config w m).0
+marked_only config w m =
+    world_only (nat_lt m.stream 1 || nat_lt config.streams m.stream) (Refused NoStream, w) (cond (is_retired w.history m.stream) (Refused (Retired m.stream), w) (Marked m, marked)) (λ f. absurd (true≢false f))
+    (world_only (is_retired w.history m.stream) (Refused (Retired m.stream), w) (Marked m, marked) (λ f. absurd (true≢false f)) (λ f. refl))
+  where
+    marked : World Replica
+    marked = record { history = history_with_mark w.history m; emitted = w.emitted ++ Closed m ∷ []; replicas = w.replicas }
 
 -- where nothing that is tested first is told on items, nothing is refused
 lack_of : (config : ConfigValue) (w : World Replica) (event : EventValue) → is_first_outcome (step (by_items config) config w event).0 ≡ false → may_lack (step (by_items config) config w event).0 ≡ true
 lack_of config w (Commit s r ws) e = commit_lacks config w s r ws e
-lack_of config w (MarkOf s) e = (world_only (nat_lt s 1 || nat_lt config.streams s) (Refused NoStream, w) (after_mark w (mark_now config w.history s)) (λ f. absurd (true≢false f)) (λ f. refl) e)
+lack_of config w (MarkOf s) e = marked_only config w (mark_now config w.history s) e
+lack_of config w (Retire s) e = marked_only config w (retirement config w.history s) e
 lack_of config w (Absorb k i) e = (acted_only w k (both (at_number w.replicas k) (at_number w.emitted i)) (λ p. (by_items config).absorb p.0 p.1) (λ p f. refl) e)
 lack_of config w (Batch k is) e = (acted_only w k (both (at_number w.replicas k) (all_numbered w.emitted is)) (λ p. (by_items config).batch p.0 p.1) (λ p f. refl) e)
 lack_of config w (Prune k h) e = (acted_only w k (at_number w.replicas k) (λ r. (by_items config).prune r h) (pruned_only config h) e)
 lack_of config w (Merge to from) e = (acted_only w to (both (at_number w.replicas to) (at_number w.replicas from)) (λ p. (by_items config).merge p.0 p.1) (λ p f. refl) e)
 lack_of config w (Delta to from base) e = (acted_only w to (both (at_number w.replicas to) (at_number w.replicas from)) (λ p. (by_items config).delta p.0 p.1 base) (λ p. delta_only config base p.0 p.1) e)
 lack_of config w (Ask k t q) e =
-    (either_only (k == 0) (asked_primary w.history t q) (outcome_of (at_number w.replicas k) (λ r. (by_items config).ask w.history r t q)) (primary_only w.history t q)
+    (either_only (k == 0) (asked_primary config w.history t q) (outcome_of (at_number w.replicas k) (λ r. (by_items config).ask w.history r t q)) (primary_only config w.history t q)
     (outcome_only (at_number w.replicas k) (λ r. (by_items config).ask w.history r t q) (λ r. asked_only config w.history t r q)) e)
 lack_of config w (FrontOf k) e = (outcome_only (at_number w.replicas k) (by_items config).front (λ r f. refl) e)
 

@@ -3,11 +3,11 @@ use Rattle.std.specs.Prelude.{◌≡◌, ◌⊎◌, ℕ, Bool, true, false, ◌|
 use Rattle.std.specs.FinMap as finmap
 use Rattle.hk_types.specs.Values.{ConfigValue}
 use Rattle.hk_model.specs.History.Rows.{row_key_cmp}
-use Rattle.hk_model.specs.History.Histories.{Transaction, last}
+use Rattle.hk_model.specs.History.Histories.{History, commits, is_retired, last}
 use Rattle.hk_model.specs.History.Commits.{writes_result}
 use Rattle.hk_model.specs.declared.write_op.WriteOp.{WriteOp}
 use Rattle.hk_types.specs.declared.faults.Refusal.{Refusal}
-use Rattle.hk_types.specs.declared.faults.Refusal.TheVariants.{Gap, AheadOfMark, TooOld, NotYet, WriteConflict, NoRow, TwiceWritten, TooManyWrites, NoStream, ClockFull, NoSuch, Memory}
+use Rattle.hk_types.specs.declared.faults.Refusal.TheVariants.{Gap, AheadOfMark, TooOld, NotYet, WriteConflict, NoRow, TwiceWritten, TooManyWrites, NoStream, ClockFull, Retired, NoSuch, Memory}
 use Rattle.hk_model.specs.declared.told.Told.{Told}
 use Rattle.hk_model.specs.Replica.Content.{Content}
 use Rattle.hk_model.specs.World.Events.{told_seen}
@@ -29,6 +29,7 @@ is_memory_outcome _ = false
 abbrev pub is_first : Refusal → Bool
 is_first NoSuch = true
 is_first NoStream = true
+is_first (Retired stream) = true
 is_first (NotYet readable) = true
 is_first (TooOld horizon) = true
 is_first (Gap base readable) = true
@@ -59,11 +60,13 @@ Acts old new k x act result = Gives (act_on_one_of old k x act) old new result
 abbrev pub IsBuilt : List WriteOp → Type 0
 IsBuilt writes = (made : finmap.FinMap row_key_cmp WriteOp) × (writes_result finmap.empty writes ≡ Ok made)
 
--- why a transaction is refused whatever it writes, if it is: there is no such stream, or it reads above the last time
-abbrev pub refusal_of_transaction : ConfigValue → List Transaction → ℕ → ℕ → Option Refusal
+-- why a transaction is refused whatever it writes, if it is: there is no such stream, or it is retired, or the
+-- transaction reads above the last time
+abbrev pub refusal_of_transaction : ConfigValue → History → ℕ → ℕ → Option Refusal
 refusal_of_transaction config history stream read_at =
     if nat_lt stream 1 || nat_lt config.streams stream then Some NoStream
-    else if nat_lt (last history) read_at then Some (NotYet (last history))
+    else if is_retired history stream then Some (Retired stream)
+    else if nat_lt (last (commits history)) read_at then Some (NotYet (last (commits history)))
     else None
 
 -- an event turned out so, where memory may have run out whatever is expected

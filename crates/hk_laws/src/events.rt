@@ -4,7 +4,7 @@ ghost use Rattle.std.specs.Prelude.{◌≡◌, IfOk, IfErr, OnErr, false};
 ghost use Rattle.hk_types.specs.declared.faults.Refusal.TheVariants.{Memory};
 ghost use Rattle.hk_model.specs.World.Events.{told_seen};
 ghost use Rattle.hk_model.specs.World.Worlds.{asked_primary};
-ghost use Rattle.hk_model.specs.World.Worlds.EventValue.{Commit, MarkOf, Absorb, Batch, Prune, Merge, Delta, Ask, FrontOf};
+ghost use Rattle.hk_model.specs.World.Worlds.EventValue.{Commit, MarkOf, Retire, Absorb, Batch, Prune, Merge, Delta, Ask, FrontOf};
 ghost use Rattle.hk_laws.specs.Running.{step_outcome};
 ghost use Rattle.hk_laws.specs.Calls.{Happens, Turns, refusal_of_transaction, is_memory_outcome, is_first_outcome};
 
@@ -19,10 +19,10 @@ use hk_types::{Refusal, StreamNo, Time};
 
 /// A primary is asked at a time.
 fn ask_primary(primary: &Primary, time: Time, query: &Query) -> Result<Told, Refusal>
-    ensures ok { IfOk result (λ outcome. told_seen outcome ≡ asked_primary primary.now.history time query.now) }
+    ensures ok { IfOk result (λ outcome. told_seen outcome ≡ asked_primary primary.now.config primary.now.history time query.now) }
     ensures heard { IfOk result (λ outcome. is_memory_outcome (told_seen outcome) ≡ false) }
     ensures err { IfErr result (λ why. why ≡ Memory) }
-    ensures first { OnErr result (is_first_outcome (asked_primary primary.now.history time query.now) ≡ false) }
+    ensures first { OnErr result (is_first_outcome (asked_primary primary.now.config primary.now.history time query.now) ≡ false) }
 {
     match primary.ask(time, query) {
         Ok(answer) => Ok(Told::Answered(answer)),
@@ -37,6 +37,9 @@ impl World {
     {
         if stream.number() > self.primary.config().streams() {
             return Some(Refusal::NoStream);
+        }
+        if self.primary.retired(stream) {
+            return Some(Refusal::Retired { stream });
         }
         let readable = self.primary.last();
         if readable < read_at {
@@ -85,6 +88,17 @@ impl World {
         ensures { Happens self.old self.new (MarkOf stream) result }
     {
         match self.primary.mark(stream) {
+            Ok(mark) => Ok(Told::Marked(mark)),
+            Err(Refusal::Memory) => Err(Refusal::Memory),
+            Err(why) => Ok(Told::Refused(why)),
+        }
+    }
+
+    /// The primary retires a stream.
+    pub(crate) fn retire(&mut self, stream: StreamNo) -> Result<Told, Refusal>
+        ensures { Happens self.old self.new (Retire stream) result }
+    {
+        match self.primary.retire(stream) {
             Ok(mark) => Ok(Told::Marked(mark)),
             Err(Refusal::Memory) => Err(Refusal::Memory),
             Err(why) => Ok(Told::Refused(why)),

@@ -18,6 +18,7 @@ impl World {
                 writes,
             } => self.commit(stream, read_at, writes),
             Event::MarkOf { stream } => self.mark_of(stream),
+            Event::Retire { stream } => self.retire(stream),
             Event::Absorb { replica, item } => self.absorb(replica, item),
             Event::Batch { replica, items } => self.batch(replica, &items),
             Event::Prune { replica, horizon } => self.prune(replica, horizon),

@@ -2,7 +2,7 @@
 
 ghost use Rattle.std.specs.Prelude.{◌≡◌, ◌≤◌, length, replicate, IfOk, IfErr};
 ghost use Rattle.hk_types.specs.declared.faults.Refusal.TheVariants.{Memory};
-ghost use Rattle.hk_model.specs.History.Histories.{last};
+ghost use Rattle.hk_model.specs.History.Histories.{commits, last};
 ghost use Rattle.hk_model.specs.Replica.Replicas.{empty_content};
 ghost use Rattle.hk_model.specs.World.Worlds.{Agree, new_contents, new_items};
 
@@ -79,7 +79,7 @@ impl World {
 
     /// The time of the primary's last commit, else 0.
     pub fn last(&self) -> Time
-        ensures { result ≡ last self.now.world.history }
+        ensures { result ≡ last (commits self.now.world.history) }
     {
         self.primary.last()
     }

@@ -6,7 +6,7 @@ use Rattle.hk_types.specs.declared.faults.Refusal.TheVariants.{Memory}
 use Rattle.hk_log.specs.declared.item.Item.{Item}
 use Rattle.hk_model.specs.Replica.Content.{Content}
 use Rattle.hk_model.specs.Replica.Fragments.{FragmentValue, cut}
-use Rattle.hk_model.specs.History.Histories.{Transaction, IsHistory}
+use Rattle.hk_model.specs.History.Histories.{History, IsHistory}
 use Rattle.hk_model.specs.Replica.Replicas.{Represents}
 use Rattle.hk_model.specs.Replica.Rules.{join_result}
 
@@ -24,5 +24,5 @@ Merges old new peer result = Joins old new (cut peer 0) result
 -- memory ran out
 abbrev pub MergesOf : Content → Content → Content → Result (Unit {0}) Refusal → Type 0
 MergesOf old new peer result =
-    (config : ConfigValue) (history : List Transaction) (own others : List Item) (g h : ℕ) → IsHistory config history → Represents config history own g old → Represents config history others h peer
+    (config : ConfigValue) (history : History) (own others : List Item) (g h : ℕ) → IsHistory config history → Represents config history own g old → Represents config history others h peer
     → IfOk result (λ done. Represents config history (own ++ others) (max g h) new) × IfErr result (λ why. why ≡ Memory)

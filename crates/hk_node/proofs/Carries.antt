@@ -13,7 +13,7 @@ use Rattle.hk_model.specs.Replica.Answers.{AnswerValue, answer, answer_seen, rep
 use Rattle.hk_model.specs.Replica.ContentOf.{content_of}
 use Rattle.hk_model.specs.Replica.Content.{Content, readable}
 use Rattle.hk_model.specs.Replica.Fragments.{FragmentValue, part}
-use Rattle.hk_model.specs.History.Histories.{Transaction, IsHistory, IsItemOf, table_at}
+use Rattle.hk_model.specs.History.Histories.{History, commits, IsHistory, IsItemOf, table_at}
 use Rattle.hk_model.specs.Replica.Replicas.{Represents, empty_content}
 use Rattle.hk_model.specs.Replica.Rules.{join_result, prune_result}
 use Rattle.hk_model.proofs.Laws.{join_law_proof, represents_both, reply_law_proof, nothing_content_of}
@@ -27,7 +27,7 @@ use Rattle.hk_node.specs.Carried.{IsPart, Brings, Carries, CarryLaw, IsOfPrimary
 use Rattle.hk_node.proofs.LegalLists.{and_left, and_right, none_of, applied-is}
 use Rattle.hk_node.proofs.Holds.{join_tests, prune_tests}
 
-module _ (config : ConfigValue) (history : List Transaction) (is : IsHistory config history) where
+module _ (config : ConfigValue) (history : History) (is : IsHistory config history) where
   -- the node's content represents these items, and there is no damage
   abbrev pub RepresentsFor : List Item → ℕ → NodeContent → Type 0
   RepresentsFor items h c = Represents config history items h c.content × (c.damaged ≡ false)
@@ -99,4 +99,4 @@ primary_answers ops t q (Ok a) legal gives history items h is b =
     let said : reply c t q ≡ Ok (answer_seen a) = ap (λ (d : Bool). if d then Err Damaged else reply c t q) (sym s.1) ∙ gives in
     let within = replied c t q (answer_seen a) said in
     let low : h ≤ t = subst (λ (d : Content). d.horizon ≤ t) s.0.is_content_of within.0 in
-    ok_same (answer_seen a) (answer (table_at history t) q) (reply c t q) said (reply_law_proof (config_of ops) history is items h c s.0 t low within.1 q)
+    ok_same (answer_seen a) (answer (table_at (commits history) t) q) (reply c t q) said (reply_law_proof (config_of ops) history is items h c s.0 t low within.1 q)

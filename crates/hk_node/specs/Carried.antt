@@ -9,7 +9,7 @@ use Rattle.hk_model.specs.Replica.Answers.{answer, answer_seen}
 use Rattle.hk_model.specs.Replica.ContentOf.{content_of}
 use Rattle.hk_model.specs.Replica.Content.{readable}
 use Rattle.hk_model.specs.Replica.Fragments.{FragmentValue, part}
-use Rattle.hk_model.specs.History.Histories.{Transaction, IsHistory, AreItemsOf, table_at}
+use Rattle.hk_model.specs.History.Histories.{History, commits, IsHistory, AreItemsOf, table_at}
 use Rattle.hk_model.specs.Replica.Replicas.{Represents}
 use Rattle.hk_node.specs.declared.op.Op.{Op}
 use Rattle.hk_node.specs.declared.op.Op.TheVariants.{Start, Join, Merge, Prune, Hold as HoldAt, Release}
@@ -17,7 +17,7 @@ use Rattle.hk_node.specs.NodeContent.{NodeContent}
 use Rattle.hk_node.specs.Replay.{config_of, replay, is_legal, tail_of}
 
 -- a fragment is a part of a history: of these items, at this horizon
-pub record IsPart (config : ConfigValue) (history : List Transaction) (items : List Item) (horizon : ℕ) (f : FragmentValue) : Type 0 where
+pub record IsPart (config : ConfigValue) (history : History) (items : List Item) (horizon : ℕ) (f : FragmentValue) : Type 0 where
   pub of_history : AreItemsOf config history items
   pub within : horizon ≤ readable (content_of config items horizon)
   pub base : (f.base ≡ 0) ⊎ (horizon ≤ f.base)
@@ -25,7 +25,7 @@ pub record IsPart (config : ConfigValue) (history : List Transaction) (items : L
 
 -- after items and a greatest horizon, the joins and merges of a list carry parts of a history, which bring
 -- it to all of these items and this greatest horizon joined or pruned to
-abbrev pub Brings : ConfigValue → List Transaction → List Op → List Item → ℕ → List Item → ℕ → Type 0
+abbrev pub Brings : ConfigValue → History → List Op → List Item → ℕ → List Item → ℕ → Type 0
 Brings config history [] own g all h = (all ≡ own) × (h ≡ g)
 Brings config history (Join f ∷ ops) own g all h = (items : List Item) × (k : ℕ) × IsPart config history items k f × Brings config history ops (own ++ items) (max g k) all h
 Brings config history (Merge f ∷ ops) own g all h = (items : List Item) × (k : ℕ) × IsPart config history items k f × Brings config history ops (own ++ items) (max g k) all h
@@ -36,17 +36,17 @@ Brings config history (Start other ∷ ops) own g all h = ⊥
 
 -- each join and merge of a node's list carries a part of a history: these items in all, and this greatest horizon
 -- joined or pruned to, 0 where there is none
-abbrev pub Carries : List Transaction → List Op → List Item → ℕ → Type 0
+abbrev pub Carries : History → List Op → List Item → ℕ → Type 0
 Carries history ops items horizon = Brings (config_of ops) history (tail_of ops) [] 0 items horizon
 
 -- where a legal list carries parts of one history, its content represents them, and there is no damage
 abbrev pub CarryLaw : Type 0
 CarryLaw =
-    (history : List Transaction) (ops : List Op) (items : List Item) (horizon : ℕ) → is_legal ops ≡ true → IsHistory (config_of ops) history → Carries history ops items horizon
+    (history : History) (ops : List Op) (items : List Item) (horizon : ℕ) → is_legal ops ≡ true → IsHistory (config_of ops) history → Carries history ops items horizon
     → Represents (config_of ops) history items horizon (replay ops).content × ((replay ops).damaged ≡ false)
 
 -- where the list carries parts of one history, the answer is that on the primary's rows
 abbrev pub IsOfPrimary : List Op → ℕ → Query → Result Answer Refusal → Type 0
 IsOfPrimary ops t query result =
-    (history : List Transaction) (items : List Item) (horizon : ℕ) → IsHistory (config_of ops) history → Carries history ops items horizon
-    → IfOk result (λ a. answer_seen a ≡ answer (table_at history t) query)
+    (history : History) (items : List Item) (horizon : ℕ) → IsHistory (config_of ops) history → Carries history ops items horizon
+    → IfOk result (λ a. answer_seen a ≡ answer (table_at (commits history) t) query)

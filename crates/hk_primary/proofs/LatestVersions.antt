@@ -10,16 +10,16 @@ use Rattle.hk_log.specs.declared.item.Item.{Item}
 use Rattle.hk_log.specs.declared.item.Item.TheVariants.{Commit}
 use Rattle.hk_model.specs.History.Rows.{RowKey, row_key_cmp, row_key_of, version_of}
 use Rattle.hk_model.specs.History.Facts.{entry_rows, entry_ends, rows_of, ends_of}
-use Rattle.hk_model.specs.History.Histories.{Transaction, written_key, tables_of, last, last_put, entries_of, entry_of, tables_after_writes, IsHistory, AreItemsOf, RemovesPresent}
+use Rattle.hk_model.specs.History.Histories.{Transaction, written_key, tables_of, last, last_put, entries_of, entry_of, tables_after_writes, RemovesPresent}
 use Rattle.hk_model.specs.History.Commits.{last_written}
 use Rattle.hk_model.specs.declared.write_op.WriteOp.{WriteOp}
 use Rattle.hk_model.specs.declared.write_op.WriteOp.TheVariants.{Put, Remove}
 use Rattle.hk_model.proofs.Members.{In, In-map}
 use Rattle.hk_model.proofs.Writes.{All_In, put_at, puts, puts-true, put-puts, is_written, key_tied, tied_key, get-unwritten, get-all_written, unwritten-unput}
-use Rattle.hk_model.proofs.Histories.{put_entry, entry_end, put_last, unput_last, last_put_last, entry_time, end_after, row_put, is_valid_row, table_unended}
+use Rattle.hk_model.proofs.Histories.{AreCommits, put_entry, entry_end, put_last, unput_last, last_put_last, entry_time, end_after, row_put, is_valid_row, table_unended}
 use Rattle.hk_model.proofs.Formed.{put_time}
 use Rattle.hk_model.proofs.Logs.{IsPart, fact_row, row_fact, fact_end, end_fact, row_born, row_found, end_found, find_row, find_end}
-use Rattle.hk_model.proofs.Honest.{history_log, items_part}
+use Rattle.hk_model.proofs.Honest.{commits_log}
 use Rattle.hk_store.specs.Facts.{FactsValue}
 use Rattle.hk_primary.specs.Looks.{IsLatest, put_time_of_row}
 
@@ -49,11 +49,11 @@ written_before : (t : Transaction) (earlier : List Transaction) (k : RowKey) →
 written_before t earlier k e = ap (λ b. cond b t.time (last_written earlier k)) e
 
 -- a row that a transaction removes was there
-removed_there : (config : ConfigValue) (t : Transaction) (earlier : List Transaction) → IsHistory config (t ∷ earlier) → (k : RowKey) (table key : ℕ) → In (Remove table key) t.writes → k ≡ written_key (Remove table key) → finmap.contains_key (tables_of earlier) k ≡ true
+removed_there : (config : ConfigValue) (t : Transaction) (earlier : List Transaction) → AreCommits config (t ∷ earlier) → (k : RowKey) (table key : ℕ) → In (Remove table key) t.writes → k ≡ written_key (Remove table key) → finmap.contains_key (tables_of earlier) k ≡ true
 removed_there config t earlier is k table key i e = ap (finmap.contains_key (tables_of earlier)) e ∙ All_In (RemovesPresent (tables_of earlier)) t.writes is.0.removes_present (Remove table key) i
 
 -- a row that was never put was never written
-pub never_written : (config : ConfigValue) (h : List Transaction) → IsHistory config h → (k : RowKey) → last_put h k ≡ 0 → last_written h k ≡ 0
+pub never_written : (config : ConfigValue) (h : List Transaction) → AreCommits config h → (k : RowKey) → last_put h k ≡ 0 → last_written h k ≡ 0
 never_written config [] is k e = refl
 never_written config (t ∷ earlier) is k e = by (never_written config earlier is.1 k) (puts t.writes k) refl
   where
@@ -71,7 +71,7 @@ never_written config (t ∷ earlier) is k e = by (never_written config earlier i
         ]
 
 -- a row that is there was last written where it was put
-pub there_written : (config : ConfigValue) (h : List Transaction) → IsHistory config h → (k : RowKey) → finmap.contains_key (tables_of h) k ≡ true → last_written h k ≡ last_put h k
+pub there_written : (config : ConfigValue) (h : List Transaction) → AreCommits config h → (k : RowKey) → finmap.contains_key (tables_of h) k ≡ true → last_written h k ≡ last_put h k
 there_written config [] is k e = refl
 there_written config (t ∷ earlier) is k e =
     elim (is_written k t.writes) [
@@ -91,7 +91,7 @@ there_written config (t ∷ earlier) is k e =
         absurd (true≢false (sym e ∙ gone))
 
 -- a row whose last version ended was last written there
-pub ended_written : (config : ConfigValue) (h : List Transaction) → IsHistory config h → (k : RowKey) (e : EntryValue) (d : ℕ) → In e (entries_of config h) → In (version_of k (last_put h k), d) (entry_ends e) → last_written h k ≡ d
+pub ended_written : (config : ConfigValue) (h : List Transaction) → AreCommits config h → (k : RowKey) (e : EntryValue) (d : ℕ) → In e (entries_of config h) → In (version_of k (last_put h k), d) (entry_ends e) → last_written h k ≡ d
 ended_written config [] is k e d i j = elim i [ ]
 ended_written config (t ∷ earlier) is k e d (inl s) j =
     let p = entry_end config earlier t (version_of k (last_put (t ∷ earlier) k)) d (subst (λ (f : EntryValue). In (version_of k (last_put (t ∷ earlier) k), d) (entry_ends f)) s j) in
@@ -124,7 +124,7 @@ ended_written config (t ∷ earlier) is k e d (inr i) j = by (ended_written conf
         ]
 
 -- the last put of a row has an entry
-pub put_has_row : (config : ConfigValue) (h : List Transaction) → IsHistory config h → (k : RowKey) → 0 < last_put h k → (e : EntryValue) × (r : RowValue) × In e (entries_of config h) × In (version_of k (last_put h k), r) (entry_rows e)
+pub put_has_row : (config : ConfigValue) (h : List Transaction) → AreCommits config h → (k : RowKey) → 0 < last_put h k → (e : EntryValue) × (r : RowValue) × In e (entries_of config h) × In (version_of k (last_put h k), r) (entry_rows e)
 put_has_row config [] is k l = absurd (omega arith)
 put_has_row config (t ∷ earlier) is k l = by (put_has_row config earlier is.1 k) (puts t.writes k) refl
   where
@@ -157,21 +157,18 @@ there_get : (x : Option RowValue) → is_some x ≡ true → (r : RowValue) × (
 there_get None e = absurd (true≢false (sym e))
 there_get (Some r) e = (r, refl)
 
-module _ (config : ConfigValue) (h : List Transaction) (is : IsHistory config h) (items : List Item) (of_history : AreItemsOf config h items) (all : (e : EntryValue) → In e (entries_of config h) → In (Commit e) items) where
-  part : IsPart (λ e. In e (entries_of config h)) items
-  part = items_part config h is items of_history
-
+module _ (config : ConfigValue) (h : List Transaction) (is : AreCommits config h) (items : List Item) (part : IsPart (λ e. In e (entries_of config h)) items) (all : (e : EntryValue) → In e (entries_of config h) → In (Commit e) items) where
   row_in : (v : VersionKey) (r : RowValue) → finmap.get (rows_of items) v ≡ Some r → (e : EntryValue) × In e (entries_of config h) × In (v, r) (entry_rows e)
   row_in v r g = let f = fact_row v r items (row_found items v r g) in (f.0, part.entry f.0 f.1, f.2)
 
   row_get : (v : VersionKey) (r : RowValue) (e : EntryValue) → In e (entries_of config h) → In (v, r) (entry_rows e) → finmap.get (rows_of items) v ≡ Some r
-  row_get v r e i j = find_row config (λ e. In e (entries_of config h)) (history_log config h is) items part v r (row_fact v r e items (all e i) j)
+  row_get v r e i j = find_row config (λ e. In e (entries_of config h)) (commits_log config h is) items part v r (row_fact v r e items (all e i) j)
 
   end_in : (v : VersionKey) (d : ℕ) → finmap.get (ends_of items) v ≡ Some d → (e : EntryValue) × In e (entries_of config h) × In (v, d) (entry_ends e)
   end_in v d g = let f = fact_end v d items (end_found items v d g) in (f.0, part.entry f.0 f.1, f.2)
 
   end_get : (v : VersionKey) (d : ℕ) (e : EntryValue) → In e (entries_of config h) → In (v, d) (entry_ends e) → finmap.get (ends_of items) v ≡ Some d
-  end_get v d e i j = find_end config (λ e. In e (entries_of config h)) (history_log config h is) items part v d (end_fact v d e items (all e i) j)
+  end_get v d e i j = find_end config (λ e. In e (entries_of config h)) (commits_log config h is) items part v d (end_fact v d e items (all e i) j)
 
   stands_none : (k : RowKey) → finmap.contains_key (tables_of h) k ≡ false → put_time_of_row h k ≡ None
   stands_none k e = ap (λ b. cond b (Some (last_put h k)) None) e

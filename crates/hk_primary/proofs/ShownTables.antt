@@ -10,11 +10,11 @@ use Rattle.hk_model.specs.History.Facts.{rows_of, ends_of}
 use Rattle.hk_model.specs.Replica.Content.{at_most, without_ended}
 use Rattle.hk_model.specs.Replica.ContentOf.{content_of}
 use Rattle.hk_model.specs.Replica.Answers.{visible}
-use Rattle.hk_model.specs.History.Histories.{Transaction, table_at, entries_of, IsHistory}
+use Rattle.hk_model.specs.History.Histories.{History, commits, table_at, entries_of, IsHistory}
 use Rattle.hk_model.proofs.Members.{In}
 use Rattle.hk_model.proofs.Maps.{version_key_total, version_key_same, get-without_ended}
 use Rattle.hk_model.proofs.Logs.{IsPart, fact_end, end_found}
-use Rattle.hk_model.proofs.Histories.{end_after}
+use Rattle.hk_model.proofs.Histories.{are_commits, end_after}
 use Rattle.hk_model.proofs.Honest.{items_part}
 use Rattle.hk_model.proofs.Visible.{upto, visible_at}
 use Rattle.hk_store.specs.Facts.{FactsValue}
@@ -25,14 +25,14 @@ use Rattle.hk_primary.proofs.HistoryOfLog.{history_is, items_are, log_has}
 above_zero : (d : ℕ) → 0 < d → at_most 0 (Some d) ≡ false
 above_zero d l = grind (arith, nat_tests)
 
-module _ (config : ConfigValue) (newest : ℕ) (items : List Item) (facts : FactsValue) (counts : List ℕ) (p : IsPrimary config newest items facts counts) where
-  abbrev history : List Transaction
+module _ (config : ConfigValue) (newest : ℕ) (items : List Item) (facts : FactsValue) (counts : List ℕ) (retired : List Bool) (p : IsPrimary config newest items facts counts retired) where
+  abbrev history : History
   history = history_of items
 
   is : IsHistory config history
   is = history_is config items p.logged
 
-  part : IsPart (λ e. In e (entries_of config history)) items
+  part : IsPart (λ e. In e (entries_of config (commits history))) items
   part = items_part config history is items (items_are config items p.logged)
 
   -- no version ended at 0
@@ -43,7 +43,7 @@ module _ (config : ConfigValue) (newest : ℕ) (items : List Item) (facts : Fact
       by None e = refl
       by (Some d) e =
           let f = fact_end v d items (end_found items v d e) in
-          let after = end_after config history is f.0 (part.entry f.0 f.1) v d f.2 in
+          let after = end_after config (commits history) (are_commits config history is) f.0 (part.entry f.0 f.1) v d f.2 in
           above_zero d (omega arith)
 
   all_kept : {X : Type 0} (m : finmap.FinMap version_key_cmp X) → without_ended (ends_of items) 0 m ≡ m
@@ -55,8 +55,8 @@ module _ (config : ConfigValue) (newest : ℕ) (items : List Item) (facts : Fact
   ends_kept : facts.ends ≡ (content_of config items 0).ends
   ends_kept = p.ends_are ∙ sym (all_kept (ends_of items))
 
-  pub shown_is : (t : ℕ) → visible (with_facts facts) t ≡ table_at history t
+  pub shown_is : (t : ℕ) → visible (with_facts facts) t ≡ table_at (commits history) t
   shown_is t =
-      let cut = upto config t history is in
+      let cut = upto config t (commits history) (are_commits config history is) in
       (λ i. visible (with_facts (record { rows = rows_kept i; ends = ends_kept i })) t)
-      ∙ visible_at config history is items part 0 t (omega arith) (λ e i l. log_has config items e p.logged i) cut.0 cut.1
+      ∙ visible_at config (commits history) (are_commits config history is) items part 0 t (omega arith) (λ e i l. log_has config items e p.logged i) cut.0 cut.1

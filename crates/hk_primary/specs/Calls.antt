@@ -1,12 +1,15 @@
 -- What calls on a primary leave and tell.
-use Rattle.std.specs.Prelude.{◌≡◌, ◌⊎◌, ◌<◌, ◌≤◌, ℕ, List, ◌∷◌, Option, Some, None, Result, Ok, Err}
+use Rattle.std.specs.Prelude.{◌≡◌, ◌⊎◌, ◌<◌, ◌≤◌, ℕ, List, ◌∷◌, Option, Some, None, Result, Ok, Err, nat_lt, if◌then◌else◌}
 use Rattle.std.specs.Option.{option_map}
 use Rattle.hk_types.specs.declared.faults.Refusal.{Refusal}
-use Rattle.hk_types.specs.declared.faults.Refusal.TheVariants.{Memory, NotYet}
+use Rattle.hk_types.specs.declared.faults.Refusal.TheVariants.{Memory, NoStream, NotYet, Retired}
 use Rattle.hk_log.specs.declared.item.Item.{Item}
-use Rattle.hk_log.specs.declared.item.Item.TheVariants.{Commit}
+use Rattle.hk_log.specs.declared.item.Item.TheVariants.{Commit, Closed}
+use Rattle.hk_log.specs.Items.{MarkValue}
 use Rattle.hk_types.specs.Values.{ConfigValue}
-use Rattle.hk_model.specs.History.Histories.{Transaction, entry_of, last}
+use Rattle.hk_model.specs.History.Histories.Act.{Commits}
+use Rattle.hk_model.specs.History.Histories.{Transaction, commits, is_retired, entry_of, history_with_mark}
+use Rattle.hk_model.specs.World.Worlds.{readable_on_primary}
 use Rattle.hk_primary.specs.Log.{PrimaryValue, with_item, IsHonest}
 use Rattle.hk_primary.specs.Txns.{TxnValue}
 use Rattle.hk_primary.specs.Verdicts.{committed_after}
@@ -35,7 +38,7 @@ Tells (Err why) (Err e) = e.1 ≡ why
 
 -- an accepted transaction extends the history, and its entry the log
 abbrev pub with_transaction : PrimaryValue → Transaction → PrimaryValue
-with_transaction p t = with_item p (t ∷ p.history) (Commit (entry_of p.config p.history t))
+with_transaction p t = with_item p (Commits t ∷ p.history) (Commit (entry_of p.config (commits p.history) t))
 
 -- the primary after this verdict
 abbrev pub primary_after : PrimaryValue → Result (Option Transaction) Refusal → PrimaryValue
@@ -59,6 +62,21 @@ no_config = record { log = 0; streams = 0 }
 abbrev pub AtSome : ConfigValue → ℕ → (PrimaryValue → Type 0) → Type 0
 AtSome config after P = (p : PrimaryValue) × IsHonest p × (p.config ≡ config) × (p.after ≡ after) × P p
 
--- a query at a time was rightly refused: the time is above that of the last commit, which is told, or memory ran out
+-- why a primary emits no mark of a stream, if it emits none: it has no such stream, or the stream is retired
+abbrev pub mark_refused : PrimaryValue → ℕ → Option Refusal
+mark_refused p stream =
+    if nat_lt p.config.streams stream then Some NoStream
+    else if is_retired p.history stream then Some (Retired stream)
+    else None
+
+-- the primary after a mark was emitted
+abbrev pub with_mark : PrimaryValue → MarkValue → PrimaryValue
+with_mark p m = with_item p (history_with_mark p.history m) (Closed m)
+
+-- the greatest time that may be read on a primary
+abbrev pub readable_on : PrimaryValue → ℕ
+readable_on p = readable_on_primary p.config p.history
+
+-- a query at a time was rightly refused: the time is above what may be read, which is told, or memory ran out
 abbrev pub NotAnswered : PrimaryValue → ℕ → Refusal → Type 0
-NotAnswered p time why = ((last p.history < time) × (why ≡ NotYet (last p.history))) ⊎ ((time ≤ last p.history) × (why ≡ Memory))
+NotAnswered p time why = ((readable_on p < time) × (why ≡ NotYet (readable_on p))) ⊎ ((time ≤ readable_on p) × (why ≡ Memory))

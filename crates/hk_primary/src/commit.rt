@@ -4,7 +4,8 @@ ghost use Rattle.std.specs.Prelude.{◌≡◌, ◌∷◌, IfErr, OnOk, OnErr};
 ghost use Rattle.std.specs.FinMap as finmap;
 ghost use Rattle.hk_types.specs.declared.faults.Refusal.TheVariants.{Memory};
 ghost use Rattle.hk_log.specs.declared.item.Item.TheVariants.{Commit};
-ghost use Rattle.hk_model.specs.History.Histories.{Follows};
+ghost use Rattle.hk_model.specs.History.Histories.Act.{Commits};
+ghost use Rattle.hk_model.specs.History.Histories.{MayCommit, commits};
 ghost use Rattle.hk_primary.specs.Calls.{Tells, with_transaction, primary_after, verdict_of, verdict_time};
 ghost use Rattle.hk_primary.specs.Log.{IsNext, transaction_of, with_item};
 ghost use Rattle.hk_primary.specs.Txns.{AreWrites};
@@ -18,7 +19,7 @@ use hk_types::{Refusal, StreamNo, Time};
 impl Primary {
     /// The time that the next commit comes after.
     fn clock(&self) -> Time
-        ensures { result ≡ clock self.now.after self.now.history }
+        ensures { result ≡ clock self.now.after (commits self.now.history) }
     {
         if self.after < self.newest {
             self.newest
@@ -35,6 +36,9 @@ impl Primary {
         let read_at = txn.read_at();
         if stream.number() > self.config.streams() {
             return Err(Refusal::NoStream);
+        }
+        if self.retired(stream) {
+            return Err(Refusal::Retired { stream });
         }
         if self.newest < read_at {
             return Err(Refusal::NotYet {
@@ -66,7 +70,7 @@ impl Primary {
     /// Emits an entry that may come next, and adds what it says to the tables.
     fn add(&mut self, entry: Entry) -> Result<(), Refusal>
         requires { IsNext self.old.config self.old.history entry }
-        ensures ok { OnOk result (self.new ≡ with_item self.old (transaction_of entry ∷ self.old.history) (Commit entry)) }
+        ensures ok { OnOk result (self.new ≡ with_item self.old (Commits (transaction_of entry) ∷ self.old.history) (Commit entry)) }
         ensures err { IfErr result (λ why. why ≡ Memory) }
         ensures kept { OnErr result (self.new ≡ self.old) }
     {
@@ -82,7 +86,7 @@ impl Primary {
 
     /// Emits the entry of an accepted transaction.
     fn store(&mut self, txn: &Txn, stream: StreamNo, time: Time) -> Result<(), Refusal>
-        requires { Follows self.old.config self.old.history (record { time = time; stream = stream; writes = finmap.values txn.now.writes }) }
+        requires { MayCommit self.old.config self.old.history (record { time = time; stream = stream; writes = finmap.values txn.now.writes }) }
         ensures ok { OnOk result (self.new ≡ with_transaction self.old (record { time = time; stream = stream; writes = finmap.values txn.now.writes })) }
         ensures err { IfErr result (λ why. why ≡ Memory) }
         ensures kept { OnErr result (self.new ≡ self.old) }
@@ -94,12 +98,12 @@ impl Primary {
     /// Commits a transaction on a stream. It answers the time of the commit, one above the last time, or `None`
     /// where the transaction writes nothing; then nothing is emitted.
     ///
-    /// It is refused, in this order: `NoStream` where the stream is above the configured number; `NotYet` with
-    /// the time of the last commit, where the transaction reads above that; `WriteConflict` with the first
-    /// written key, by table and key, that a commit later than the read time wrote, and the time of the last
-    /// such commit, on whatever stream; `NoRow` with the first removed key that has no row; `ClockFull` where
-    /// there is something to write and no time is left; `Memory` where a growth was refused. A refusal hands
-    /// the transaction back and changes nothing. Cost: O((1 + w) · log n + b), w writes, n versions, b bytes
+    /// It is refused, in this order: `NoStream` where the stream is above the configured number; `Retired` where
+    /// the stream is retired; `NotYet` with the time of the last commit, where the transaction reads above that;
+    /// `WriteConflict` with the first written key, by table and key, that a commit later than the read time wrote,
+    /// and the time of the last such commit, on whatever stream; `NoRow` with the first removed key that has no
+    /// row; `ClockFull` where there is something to write and no time is left; `Memory` where a growth was
+    /// refused. A refusal hands the transaction back and changes nothing. Cost: O((1 + w) · log n + b), w writes, n versions, b bytes
     /// of their bodies, which are copied.
     pub fn commit(&mut self, txn: Txn, stream: StreamNo) -> Result<Option<Time>, (Txn, Refusal)>
         ensures told { Tells (verdict_of self.old txn stream) result }

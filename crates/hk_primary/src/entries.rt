@@ -3,7 +3,7 @@
 ghost use Rattle.std.specs.Prelude.{◌≡◌, ◌++◌, ◌∷◌, [], IfOk, OnOk};
 ghost use Rattle.std.specs.FinMap as finmap;
 ghost use Rattle.std.specs.List.{filter_map};
-ghost use Rattle.hk_model.specs.History.Histories.{Follows, entry_of, put_row};
+ghost use Rattle.hk_model.specs.History.Histories.{Follows, commits, entry_of, put_row};
 ghost use Rattle.hk_primary.specs.Looks.{ended_by_all, version_born};
 
 use crate::primary::Primary;
@@ -56,7 +56,7 @@ fn rows_of(alloc: Global, txn: &Txn) -> Result<Vec<(Table, Key, Row)>, AllocErro
 impl Primary {
     /// The versions that a transaction ends.
     fn ends_of(&self, txn: &Txn) -> Result<Vec<VersionKey>, AllocError>
-        ensures { IfOk result (λ ends. ends.items ≡ ended_by_all self.now.history (finmap.values txn.now.writes)) }
+        ensures { IfOk result (λ ends. ends.items ≡ ended_by_all (commits self.now.history) (finmap.values txn.now.writes)) }
     {
         let mut ends = Vec::new(self.alloc);
         for write in txn.writes() {
@@ -73,8 +73,8 @@ impl Primary {
         stream: StreamNo,
         time: Time,
     ) -> Result<Entry, AllocError>
-        requires { Follows self.now.config self.now.history (record { time = time; stream = stream; writes = finmap.values txn.now.writes }) }
-        ensures { IfOk result (λ entry. entry ≡ entry_of self.now.config self.now.history (record { time = time; stream = stream; writes = finmap.values txn.now.writes })) }
+        requires { Follows self.now.config (commits self.now.history) (record { time = time; stream = stream; writes = finmap.values txn.now.writes }) }
+        ensures { IfOk result (λ entry. entry ≡ entry_of self.now.config (commits self.now.history) (record { time = time; stream = stream; writes = finmap.values txn.now.writes })) }
     {
         let ends = self.ends_of(txn)?;
         let rows = rows_of(self.alloc, txn)?;

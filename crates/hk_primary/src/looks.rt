@@ -4,7 +4,7 @@ ghost use Rattle.std.specs.Prelude.{◌≡◌, unwrap_or};
 ghost use Rattle.std.specs.Option.{option_map};
 ghost use Rattle.std.specs.FinMap as finmap;
 ghost use Rattle.hk_model.specs.History.Commits.{first_absent, first_conflict, last_written};
-ghost use Rattle.hk_model.specs.History.Histories.{tables_of};
+ghost use Rattle.hk_model.specs.History.Histories.{commits, tables_of};
 ghost use Rattle.hk_primary.specs.Looks.{IsLatest, removes_none, put_time_of_row};
 
 use crate::primary::Primary;
@@ -45,7 +45,7 @@ impl Primary {
     /// The time of the last commit that wrote a row, 0 where none did. It takes no memory. Cost: O(log n),
     /// n versions.
     pub(crate) fn written_at(&self, key: RowKey) -> Time
-        ensures { result ≡ last_written self.now.history key }
+        ensures { result ≡ last_written (commits self.now.history) key }
     {
         match latest(&self.facts, self.newest, key) {
             Some(span) => written(span),
@@ -56,7 +56,7 @@ impl Primary {
     /// The time of the commit that put in the row that is there now, if one is there. It takes no memory.
     /// Cost: O(log n), n versions.
     pub(crate) fn put_at(&self, key: RowKey) -> Option<Time>
-        ensures { result ≡ put_time_of_row self.now.history key }
+        ensures { result ≡ put_time_of_row (commits self.now.history) key }
     {
         let (born, died) = latest(&self.facts, self.newest, key)?;
         if died.is_some() {
@@ -68,7 +68,7 @@ impl Primary {
     /// The first key that a transaction writes and that a later commit than its read time wrote, with the time
     /// of the last such commit.
     pub(crate) fn first_conflict(&self, txn: &Txn) -> Option<(RowKey, Time)>
-        ensures { result ≡ option_map (λ k. (k, last_written self.now.history k)) (first_conflict self.now.history txn.now.read_at (finmap.values txn.now.writes)) }
+        ensures { result ≡ option_map (λ k. (k, last_written (commits self.now.history) k)) (first_conflict (commits self.now.history) txn.now.read_at (finmap.values txn.now.writes)) }
     {
         let read_at = txn.read_at();
         for write in txn.writes() {
@@ -83,7 +83,7 @@ impl Primary {
 
     /// The first key that a transaction removes and that has no row.
     pub(crate) fn first_absent(&self, txn: &Txn) -> Option<RowKey>
-        ensures { result ≡ first_absent (tables_of self.now.history) (finmap.values txn.now.writes) }
+        ensures { result ≡ first_absent (tables_of (commits self.now.history)) (finmap.values txn.now.writes) }
     {
         for write in txn.writes() {
             if self.is_absent(write) {
@@ -95,7 +95,7 @@ impl Primary {
 
     /// Whether a write removes a row that is not there.
     fn is_absent(&self, write: &WriteOp) -> bool
-        ensures { result ≡ removes_none (tables_of self.now.history) write.now }
+        ensures { result ≡ removes_none (tables_of (commits self.now.history)) write.now }
     {
         match write {
             WriteOp::Put { .. } => false,

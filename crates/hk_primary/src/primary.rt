@@ -1,17 +1,18 @@
 //! The primary.
 
-ghost use Rattle.std.specs.Prelude.{◌≡◌, ◌≤◌, ◌<◌, ◌-◌, ◌^◌, IfOk, IfErr, OnOk, OnErr, MatchResult, length, drop};
-ghost use Rattle.hk_types.specs.declared.faults.Refusal.TheVariants.{Memory, NoStream as Streamless};
-ghost use Rattle.hk_log.specs.declared.item.Item.TheVariants.{Closed};
-ghost use Rattle.hk_model.specs.History.Histories.{IsTruthful, entries_in, last};
-ghost use Rattle.hk_model.specs.World.Worlds.{mark_now};
-ghost use Rattle.hk_primary.specs.Log.{IsHonest, no_commits, with_item};
-ghost use Rattle.hk_primary.specs.Txns.{no_writes};
+ghost use Rattle.std.specs.Prelude.{◌≡◌, ◌⊎◌, false, ◌≤◌, ◌<◌, ◌-◌, ◌^◌, IfOk, IfErr, OnOk, OnErr, MatchResult, length, drop};
+ghost use Rattle.std.specs.List.{list_all, range_with_len};
+ghost use Rattle.hk_types.specs.declared.faults.Refusal.TheVariants.{Memory};
+ghost use Rattle.hk_model.specs.History.Histories.{commits, entries_in, is_retired, last};
+ghost use Rattle.hk_model.specs.World.Worlds.{mark_now, mark_upto, readable_on_primary, retirement};
+ghost use Rattle.hk_primary.specs.Calls.{mark_refused, with_mark};
+ghost use Rattle.hk_primary.specs.Log.{IsHonest, IsNextMark, no_commits};
+ghost use Rattle.hk_primary.specs.Txns.{IsRefusal, no_writes};
 
 use crate::txn::Txn;
 use hk_log::{Item, Mark};
 use hk_store::Facts;
-use hk_types::{Config, Refusal, StreamNo, Time};
+use hk_types::{Config, LAST_TIME, Refusal, StreamNo, Time};
 use std::alloc::{AllocError, Global};
 use std::marker::Model;
 
@@ -27,6 +28,7 @@ pub struct Primary {
     pub(crate) log: Vec<Item>,
     pub(crate) facts: Facts,
     pub(crate) counts: Vec<u64>,
+    pub(crate) retired: Vec<bool>,
 }
 
 impl Model for Primary {
@@ -36,7 +38,7 @@ impl Model for Primary {
 
     ghost view = { λ a. record { config = a.config; after = a.after; history = history_of a.log.items; items = a.log.items } };
 
-    ghost invariant = { λ a. IsPrimary a.config a.newest a.log.items a.facts a.counts.items };
+    ghost invariant = { λ a. IsPrimary a.config a.newest a.log.items a.facts a.counts.items a.retired.items };
 }
 
 impl Primary {
@@ -56,6 +58,7 @@ impl Primary {
         ensures err { IfErr result (λ why. why ≡ Memory) }
     {
         let counts = vec![in alloc; 0_u64; usize::from(config.streams())]?;
+        let retired = vec![in alloc; false; usize::from(config.streams())]?;
         Ok(Primary {
             alloc,
             config,
@@ -64,6 +67,7 @@ impl Primary {
             log: Vec::new(alloc),
             facts: Facts::new(alloc),
             counts,
+            retired,
         })
     }
 
@@ -74,9 +78,9 @@ impl Primary {
         self.config
     }
 
-    /// The time of the last commit, else 0.
+    /// The time of the last commit, else 0. A retirement has no time.
     pub fn last(&self) -> Time
-        ensures value { result ≡ last self.now.history }
+        ensures value { result ≡ last (commits self.now.history) }
         ensures honest { IsHonest self.now }
     {
         self.newest
@@ -84,60 +88,124 @@ impl Primary {
 
     /// A transaction with no writes that reads at the time of the last commit. It takes no memory.
     pub fn begin(&self) -> Txn
-        ensures value { result ≡ no_writes (last self.now.history) }
+        ensures value { result ≡ no_writes (last (commits self.now.history)) }
         ensures honest { IsHonest self.now }
     {
         Txn::at(self.alloc, self.newest)
     }
 
+    /// The greatest time that may be read: the time of the last commit, or `LAST_TIME` where all streams are
+    /// retired, since no commit can come then. It takes no memory. Cost: O(s), s streams.
+    pub fn readable(&self) -> Time
+        ensures value { result ≡ readable_on_primary self.now.config self.now.history }
+        ensures honest { IsHonest self.now }
+    {
+        let newest = self.newest;
+        if self.is_over() { Time::last() } else { newest }
+    }
+
+    /// Whether all streams are retired.
+    fn is_over(&self) -> bool
+        ensures { result ≡ list_all (is_retired self.now.history) (range_with_len 1 self.now.config.streams) }
+    {
+        all_true(&self.retired)
+    }
+
     /// How many entries a stream has.
     pub(crate) fn count_of(&self, stream: StreamNo) -> u64
         requires { stream ≤ self.now.config.streams }
-        ensures value { result ≡ entries_in self.now.history stream }
-        ensures bound { result ≤ last self.now.history }
+        ensures value { result ≡ entries_in (commits self.now.history) stream }
+        ensures bound { result ≤ last (commits self.now.history) }
         ensures fits { result < 2 ^ 63 }
     {
         self.counts[usize::from(stream.number()) - 1]
     }
 
-    /// Emits the mark of a stream at the time of the last commit: it counts the entries of the stream.
+    /// Whether a stream is retired. Ask only for streams up to the configured number.
+    pub fn retired(&self, stream: StreamNo) -> bool
+        requires { stream ≤ self.now.config.streams }
+        ensures { result ≡ is_retired self.now.history stream }
+    {
+        self.retired[usize::from(stream.number()) - 1]
+    }
+
+    /// Emits the mark of a stream at the time of the last commit: it counts the entries of the stream. Where that
+    /// time is `LAST_TIME`, the mark retires the stream, as `retire` does.
     ///
-    /// A stream above the configured number is refused `NoStream`, and then `Memory` comes where a growth was
-    /// refused. A refusal changes nothing. It takes one place in the log.
+    /// A stream above the configured number is refused `NoStream`, a retired one `Retired`, and then `Memory`
+    /// comes where a growth was refused. A refusal changes nothing. It takes one place in the log.
     pub fn mark(&mut self, stream: StreamNo) -> Result<Mark, Refusal>
         ensures told { IfOk result (λ mark. mark ≡ mark_now self.old.config self.old.history stream) }
-        ensures done { IfOk result (λ mark. self.new ≡ with_item self.old self.old.history (Closed mark)) }
+        ensures done { IfOk result (λ mark. self.new ≡ with_mark self.old mark) }
         ensures known { OnOk result (stream ≤ self.old.config.streams) }
-        ensures unknown { self.old.config.streams < stream → IfErr result (λ why. why ≡ Streamless) }
-        ensures memory { stream ≤ self.old.config.streams → IfErr result (λ why. why ≡ Memory) }
+        ensures open { OnOk result (is_retired self.old.history stream ≡ false) }
+        ensures refused { IfErr result (λ why. IsRefusal (mark_refused self.old stream) why) }
         ensures kept { OnErr result (self.new ≡ self.old) }
         ensures honest { IsHonest self.old }
+    {
+        let newest = self.newest;
+        self.close(stream, newest)
+    }
+
+    /// Retires a stream: it takes no commit from then on, and its last mark, which is emitted, closes it up to
+    /// `LAST_TIME`. So it holds no replica's readable mark back any more.
+    ///
+    /// A stream above the configured number is refused `NoStream`, one that is retired already `Retired`, and then
+    /// `Memory` comes where a growth was refused. A refusal changes nothing. It takes one place in the log.
+    pub fn retire(&mut self, stream: StreamNo) -> Result<Mark, Refusal>
+        ensures told { IfOk result (λ mark. mark ≡ retirement self.old.config self.old.history stream) }
+        ensures done { IfOk result (λ mark. self.new ≡ with_mark self.old mark) }
+        ensures known { OnOk result (stream ≤ self.old.config.streams) }
+        ensures open { OnOk result (is_retired self.old.history stream ≡ false) }
+        ensures refused { IfErr result (λ why. IsRefusal (mark_refused self.old stream) why) }
+        ensures kept { OnErr result (self.new ≡ self.old) }
+        ensures honest { IsHonest self.old }
+    {
+        self.close(stream, Time::last())
+    }
+
+    /// Emits the mark of a stream at a time up to which it may be closed.
+    fn close(&mut self, stream: StreamNo, upto: Time) -> Result<Mark, Refusal>
+        requires { (upto ≡ last (commits self.old.history)) ⊎ (upto ≡ 2 ^ 62) }
+        ensures honest { IsHonest self.old }
+        ensures told { IfOk result (λ mark. mark ≡ mark_upto self.old.config self.old.history stream upto) }
+        ensures done { IfOk result (λ mark. self.new ≡ with_mark self.old mark) }
+        ensures known { OnOk result (stream ≤ self.old.config.streams) }
+        ensures open { OnOk result (is_retired self.old.history stream ≡ false) }
+        ensures refused { IfErr result (λ why. IsRefusal (mark_refused self.old stream) why) }
+        ensures kept { OnErr result (self.new ≡ self.old) }
     {
         if stream.number() > self.config.streams() {
             return Err(Refusal::NoStream);
         }
-        let mark = self.mark_of(stream);
+        if self.retired(stream) {
+            return Err(Refusal::Retired { stream });
+        }
+        let mark = self.mark_of(stream, upto);
         self.emit(mark)?;
         Ok(mark)
     }
 
-    fn mark_of(&self, stream: StreamNo) -> Mark
-        requires { stream ≤ self.now.config.streams }
-        ensures { result ≡ mark_now self.now.config self.now.history stream }
+    fn mark_of(&self, stream: StreamNo, upto: Time) -> Mark
+        requires known { stream ≤ self.now.config.streams }
+        requires late { last (commits self.now.history) ≤ upto }
+        ensures { result ≡ mark_upto self.now.config self.now.history stream upto }
     {
         let count = self.count_of(stream);
-        match Mark::new(self.config.log(), stream, count, self.newest) {
+        match Mark::new(self.config.log(), stream, count, upto) {
             Ok(mark) => mark,
             Err(_) => unreachable!(),
         }
     }
 
     fn emit(&mut self, mark: Mark) -> Result<(), AllocError>
-        requires truthful { IsTruthful self.old.config self.old.history mark }
-        ensures ok { OnOk result (self.new ≡ with_item self.old self.old.history (Closed mark)) }
+        requires { IsNextMark self.old.config self.old.history mark }
+        ensures ok { OnOk result (self.new ≡ with_mark self.old mark) }
         ensures kept { OnErr result (self.new ≡ self.old) }
     {
         self.log.push(Item::Closed(mark))?;
+        let place = usize::from(mark.stream().number()) - 1;
+        self.retired[place] = mark.m().number() == LAST_TIME;
         Ok(())
     }
 
@@ -168,6 +236,17 @@ impl Primary {
         let copies = copied(self.alloc, items_from(&self.log, from))?;
         Ok(copies)
     }
+}
+
+fn all_true(flags: &[bool]) -> bool
+    ensures { result ≡ list_all (λ flag. flag) flags.now }
+{
+    for flag in flags {
+        if !*flag {
+            return false;
+        }
+    }
+    true
 }
 
 /// The items from a position on, counted from 1.

@@ -1,12 +1,12 @@
 //! A primary that threads share.
 
 ghost use Rattle.std.specs.Prelude.{◌≡◌, ◌≤◌, ◌<◌, ◌+◌, ◌-◌, drop, length, IfErr, IfOk, OnOk, OnErr};
-ghost use Rattle.hk_types.specs.declared.faults.Refusal.TheVariants.{Memory, NoStream as Streamless};
+ghost use Rattle.hk_types.specs.declared.faults.Refusal.TheVariants.{Memory};
 ghost use Rattle.hk_model.specs.Replica.Answers.{answer, answer_seen};
-ghost use Rattle.hk_model.specs.History.Histories.{last, table_at};
-ghost use Rattle.hk_model.specs.World.Worlds.{mark_now};
-ghost use Rattle.hk_primary.specs.Calls.{AtSome, NotAnswered, Tells, items_of, verdict_of};
-ghost use Rattle.hk_primary.specs.Txns.{no_writes};
+ghost use Rattle.hk_model.specs.History.Histories.{commits, last, table_at};
+ghost use Rattle.hk_model.specs.World.Worlds.{mark_now, retirement};
+ghost use Rattle.hk_primary.specs.Calls.{AtSome, NotAnswered, Tells, items_of, mark_refused, readable_on, verdict_of};
+ghost use Rattle.hk_primary.specs.Txns.{IsRefusal, no_writes};
 
 use crate::primary::Primary;
 use crate::txn::Txn;
@@ -77,14 +77,29 @@ impl<K: Naming> Held<K> {
         requires { 0 < share.old.parts }
         ensures told { IfOk result (λ mark. AtSome K.config K.after (λ p. mark ≡ mark_now p.config p.history stream)) }
         ensures known { OnOk result (stream ≤ K.config.streams) }
-        ensures unknown { K.config.streams < stream → IfErr result (λ why. why ≡ Streamless) }
-        ensures memory { stream ≤ K.config.streams → IfErr result (λ why. why ≡ Memory) }
+        ensures refused { IfErr result (λ why. AtSome K.config K.after (λ p. IsRefusal (mark_refused p stream) why)) }
         ensures parts { share.new.parts ≡ share.old.parts }
         ensures counted { OnOk result (share.new.amount ≡ share.old.amount + 1) }
         ensures kept { OnErr result (share.new.amount ≡ share.old.amount) }
     {
         let Held { primary, emitted } = self;
         let mark = primary.mark(stream)?;
+        emitted.add(share, 1);
+        Ok(mark)
+    }
+
+    /// Retires a stream, and counts its last mark.
+    fn retire(&mut self, share: &mut Share<K>, stream: StreamNo) -> Result<Mark, Refusal>
+        requires { 0 < share.old.parts }
+        ensures told { IfOk result (λ mark. AtSome K.config K.after (λ p. mark ≡ retirement p.config p.history stream)) }
+        ensures known { OnOk result (stream ≤ K.config.streams) }
+        ensures refused { IfErr result (λ why. AtSome K.config K.after (λ p. IsRefusal (mark_refused p stream) why)) }
+        ensures parts { share.new.parts ≡ share.old.parts }
+        ensures counted { OnOk result (share.new.amount ≡ share.old.amount + 1) }
+        ensures kept { OnErr result (share.new.amount ≡ share.old.amount) }
+    {
+        let Held { primary, emitted } = self;
+        let mark = primary.retire(stream)?;
         emitted.add(share, 1);
         Ok(mark)
     }
@@ -181,14 +196,21 @@ impl<K: Naming> SharedPrimary<K> {
 
     /// The time of the last commit, else 0.
     pub fn last<R: Wait>(&self, rt: &R) -> Time
-        ensures { AtSome K.config K.after (λ p. result ≡ last p.history) }
+        ensures { AtSome K.config K.after (λ p. result ≡ last (commits p.history)) }
     {
         self.held.lock(rt).primary.last()
     }
 
+    /// The greatest time that may be read, as `Primary::readable` tells it.
+    pub fn readable<R: Wait>(&self, rt: &R) -> Time
+        ensures { AtSome K.config K.after (λ p. result ≡ readable_on p) }
+    {
+        self.held.lock(rt).primary.readable()
+    }
+
     /// A transaction with no writes that reads at the time of the last commit.
     pub fn begin<R: Wait>(&self, rt: &R) -> Txn
-        ensures { AtSome K.config K.after (λ p. result ≡ no_writes (last p.history)) }
+        ensures { AtSome K.config K.after (λ p. result ≡ no_writes (last (commits p.history))) }
     {
         self.held.lock(rt).primary.begin()
     }
@@ -223,13 +245,33 @@ impl<K: Naming> SharedPrimary<K> {
         ensures told { IfOk result
             (λ mark. AtSome K.config K.after (λ p. mark ≡ mark_now p.config p.history stream)) }
         ensures known { OnOk result (stream ≤ K.config.streams) }
-        ensures unknown { K.config.streams < stream → IfErr result (λ why. why ≡ Streamless) }
-        ensures memory { stream ≤ K.config.streams → IfErr result (λ why. why ≡ Memory) }
+        ensures refused { IfErr result
+            (λ why. AtSome K.config K.after (λ p. IsRefusal (mark_refused p stream) why)) }
         ensures parts { share.new.parts ≡ share.old.parts }
         ensures counted { OnOk result (share.new.amount ≡ share.old.amount + 1) }
         ensures kept { OnErr result (share.new.amount ≡ share.old.amount) }
     {
         self.held.lock(rt).mark(share, stream)
+    }
+
+    /// Retires a stream, as `Primary::retire` does. It adds one to the share, and a refusal adds none.
+    pub fn retire<R: Wait>(
+        &self,
+        rt: &R,
+        share: &mut Share<K>,
+        stream: StreamNo,
+    ) -> Result<Mark, Refusal>
+        requires { 0 < share.old.parts }
+        ensures told { IfOk result
+            (λ mark. AtSome K.config K.after (λ p. mark ≡ retirement p.config p.history stream)) }
+        ensures known { OnOk result (stream ≤ K.config.streams) }
+        ensures refused { IfErr result
+            (λ why. AtSome K.config K.after (λ p. IsRefusal (mark_refused p stream) why)) }
+        ensures parts { share.new.parts ≡ share.old.parts }
+        ensures counted { OnOk result (share.new.amount ≡ share.old.amount + 1) }
+        ensures kept { OnErr result (share.new.amount ≡ share.old.amount) }
+    {
+        self.held.lock(rt).retire(share, stream)
     }
 
     /// How many items were emitted: no fewer than the share counts, and just as many where it is the whole.
@@ -256,13 +298,13 @@ impl<K: Naming> SharedPrimary<K> {
     /// Answers a query at a time, as `Primary::ask` does. Cost: that of `Primary::ask`.
     pub fn ask<R: Wait>(&self, rt: &R, time: Time, query: &Query) -> Result<Answer, Refusal>
         ensures told { IfOk result (λ a. AtSome K.config K.after
-            (λ p. (answer_seen a ≡ answer (table_at p.history time) query.now) × (time ≤ last p.history))) }
+            (λ p. (answer_seen a ≡ answer (table_at (commits p.history) time) query.now) × (time ≤ readable_on p))) }
         ensures refused { IfErr result (λ why. AtSome K.config K.after (λ p. NotAnswered p time why)) }
     {
         let held = self.held.lock(rt);
-        let last = held.primary.last();
-        if last < time {
-            return Err(Refusal::NotYet { readable: last });
+        let readable = held.primary.readable();
+        if readable < time {
+            return Err(Refusal::NotYet { readable });
         }
         held.primary.ask(time, query)
     }

@@ -7,7 +7,7 @@ use Rattle.hk_log.specs.declared.item.Item.{Item}
 use Rattle.hk_model.specs.declared.answer.Answer.{Answer}
 use Rattle.hk_model.specs.declared.query.Query.{Query}
 use Rattle.hk_model.specs.Replica.Content.{Content, readable}
-use Rattle.hk_model.specs.History.Histories.{Transaction, IsHistory, table_at}
+use Rattle.hk_model.specs.History.Histories.{History, commits, IsHistory, table_at}
 use Rattle.hk_model.specs.Replica.Replicas.{Represents}
 use Rattle.hk_model.specs.Replica.Answers.{answer, answer_seen}
 
@@ -15,5 +15,5 @@ use Rattle.hk_model.specs.Replica.Answers.{answer, answer_seen}
 -- on the primary's rows at that time, unless memory ran out
 abbrev pub IsOfPrimary : Content → ℕ → Query → Result Answer Refusal → Type 0
 IsOfPrimary c t query result =
-    (config : ConfigValue) (history : List Transaction) (items : List Item) (horizon : ℕ) → IsHistory config history → Represents config history items horizon c → horizon ≤ t → t ≤ readable c
-    → IfOk result (λ a. answer_seen a ≡ answer (table_at history t) query) × IfErr result (λ why. why ≡ Memory)
+    (config : ConfigValue) (history : History) (items : List Item) (horizon : ℕ) → IsHistory config history → Represents config history items horizon c → horizon ≤ t → t ≤ readable c
+    → IfOk result (λ a. answer_seen a ≡ answer (table_at (commits history) t) query) × IfErr result (λ why. why ≡ Memory)

@@ -7,7 +7,7 @@ use Rattle.hk_log.specs.declared.item.Item.{Item}
 use Rattle.hk_model.specs.declared.took.Took.{Took}
 use Rattle.hk_model.specs.declared.took.Took.TheVariants.{Taken}
 use Rattle.hk_model.specs.Replica.Content.{Content, readable}
-use Rattle.hk_model.specs.History.Histories.{Transaction, IsHistory, IsItemOf}
+use Rattle.hk_model.specs.History.Histories.{History, IsHistory, IsItemOf}
 use Rattle.hk_model.specs.Replica.Replicas.{Represents}
 use Rattle.hk_model.specs.Replica.Rules.{take_result, prune_result}
 
@@ -26,12 +26,12 @@ Prunes old new h (Err why) = (new ≡ old) × ((prune_result old h ≡ Err why) 
 -- all, unless memory ran out
 abbrev pub AbsorbsOf : Content → Content → Item → Result Took Refusal → Type 0
 AbsorbsOf old new item result =
-    (config : ConfigValue) (history : List Transaction) (items : List Item) (horizon : ℕ) → IsHistory config history → Represents config history items horizon old → IsItemOf config history item
+    (config : ConfigValue) (history : History) (items : List Item) (horizon : ℕ) → IsHistory config history → Represents config history items horizon old → IsItemOf config history item
     → IfOk result (λ took. Represents config history (item ∷ items) horizon new) × IfErr result (λ why. why ≡ Memory)
 
 -- where the old state represents items of a history, a prune up to its readable mark leaves one that represents
 -- them at the greater horizon, unless memory ran out
 abbrev pub PrunesOf : Content → Content → ℕ → Result (Unit {0}) Refusal → Type 0
 PrunesOf old new h result =
-    (config : ConfigValue) (history : List Transaction) (items : List Item) (horizon : ℕ) → Represents config history items horizon old → h ≤ readable old
+    (config : ConfigValue) (history : History) (items : List Item) (horizon : ℕ) → Represents config history items horizon old → h ≤ readable old
     → IfOk result (λ done. Represents config history items (max horizon h) new) × IfErr result (λ why. why ≡ Memory)

@@ -37,6 +37,13 @@ impl Time {
         Time { number: 0 }
     }
 
+    /// The last time of all, `LAST_TIME`.
+    pub fn last() -> Time
+        ensures { result ≡ 2 ^ 62 }
+    {
+        Time { number: LAST_TIME }
+    }
+
     /// The time with this number. A number above `LAST_TIME` is refused as `BadNumber`.
     pub fn new(number: u64) -> Result<Time, FormFault>
         ensures { result ≡ checked_time number }

@@ -2,7 +2,7 @@ use Rattle.std.proofs.Common.{◌≡◌, sym, ap, ◌∙◌, Result, Ok, Err, If
 use Rattle.hk_types.specs.declared.faults.Refusal.{Refusal}
 use Rattle.hk_model.specs.declared.answer.Answer.{Answer}
 use Rattle.hk_model.specs.Replica.Answers.{answer, answer_seen}
-use Rattle.hk_model.specs.History.Histories.{Tables, table_at}
+use Rattle.hk_model.specs.History.Histories.{Tables, commits, table_at}
 use Rattle.hk_primary.proofs.ShownTables.{shown_is}
 use Rattle.hk_primary.specs.Log.{PrimaryValue}
 use Rattle.hk_model.specs.declared.query.Query.{Query}
@@ -15,5 +15,5 @@ on_same (Err why) s t q e h = h
 pub returns-clause-told : goal.returns-clause-told
 returns-clause-told c =
     let a = c.self.inside in
-    on_same c.answer_at.result _ (table_at c.args.self.now.history c.args.time) c.args.query.now
-    (shown_is a.config a.newest a.log.items a.facts a.counts.items c.self.invariant c.args.time ∙ ap (λ (p : PrimaryValue). table_at p.history c.args.time) c.self.view_is) c.answer_at.ensures.ok
+    on_same c.answer_at.result _ (table_at (commits c.args.self.now.history) c.args.time) c.args.query.now
+    (shown_is a.config a.newest a.log.items a.facts a.counts.items a.retired.items c.self.invariant c.args.time ∙ ap (λ (p : PrimaryValue). table_at (commits p.history) c.args.time) c.self.view_is) c.answer_at.ensures.ok

@@ -3,19 +3,20 @@ use Rattle.std.specs.FinMap as finmap
 use Rattle.std.proofs.lemmas.Result.{on_ok_weaker}
 use Rattle.hk_log.specs.Items.{EntryValue}
 use Rattle.hk_log.specs.declared.item.Item.TheVariants.{Commit}
-use Rattle.hk_model.specs.History.Histories.{Transaction, Follows, entry_of}
+use Rattle.hk_model.specs.History.Histories.Act.{Commits}
+use Rattle.hk_model.specs.History.Histories.{Transaction, MayCommit, commits, entry_of}
 use Rattle.hk_primary.specs.Calls.{with_transaction}
 use Rattle.hk_primary.specs.Log.{PrimaryValue, IsNext, transaction_of, with_item}
 use Rattle.hk_primary.proofs.EntryReadBack.{read_back}
 use Rattle.hk_primary.proofs.primary.Primary.store.Goals as goal
 
-next_entry : (p : PrimaryValue) (t : Transaction) (e : EntryValue) → Follows p.config p.history t → e ≡ entry_of p.config p.history t → IsNext p.config p.history e
+next_entry : (p : PrimaryValue) (t : Transaction) (e : EntryValue) → MayCommit p.config p.history t → e ≡ entry_of p.config (commits p.history) t → IsNext p.config p.history e
 next_entry p t e f is =
-    let back : transaction_of e ≡ t = ap transaction_of is ∙ read_back p.config p.history t f in
-    record { follows = subst (Follows p.config p.history) (sym back) f; is_entry = is ∙ ap (entry_of p.config p.history) (sym back) }
+    let back : transaction_of e ≡ t = ap transaction_of is ∙ read_back p.config (commits p.history) t f.follows in
+    record { may_commit = subst (MayCommit p.config p.history) (sym back) f; is_entry = is ∙ ap (entry_of p.config (commits p.history)) (sym back) }
 
-entered : (p : PrimaryValue) (t : Transaction) (e : EntryValue) → Follows p.config p.history t → e ≡ entry_of p.config p.history t → with_item p (transaction_of e ∷ p.history) (Commit e) ≡ with_transaction p t
-entered p t e f is = λ i. with_item p ((ap transaction_of is ∙ read_back p.config p.history t f) i ∷ p.history) (Commit (is i))
+entered : (p : PrimaryValue) (t : Transaction) (e : EntryValue) → MayCommit p.config p.history t → e ≡ entry_of p.config (commits p.history) t → with_item p (Commits (transaction_of e) ∷ p.history) (Commit e) ≡ with_transaction p t
+entered p t e f is = λ i. with_item p (Commits ((ap transaction_of is ∙ read_back p.config (commits p.history) t f.follows) i) ∷ p.history) (Commit (is i))
 
 pub add-requires : goal.add-requires
 add-requires c =
