@@ -8,4 +8,5 @@ pub mod StepOnItems
 pub mod RunByEvents
 pub mod OutOfMemory
 pub mod TestedWrites
+pub mod TurnedCommits
 pub mod RefusedCommits
