@@ -13,7 +13,7 @@ use Rattle.hk_types.specs.declared.version_key.VersionKey.{VersionKey}
 use Rattle.hk_model.specs.History.Rows.{version_key_cmp}
 use Rattle.hk_model.proofs.Maps.{version_key_total, version_key_same}
 use Rattle.hk_index.specs.declared.timed.TimedVersion.{TimedVersion}
-use Rattle.hk_index.specs.Timed.{timed_cmp, first_after, versions_where, is_at, AreTimed}
+use Rattle.hk_index.specs.Timed.{timed_cmp, first_after, versions_where, is_at, AreTimed, passes_at}
 use Rattle.hk_index.proofs.StoredKeys.{tied_versions}
 
 abbrev Times : Type 0
@@ -39,12 +39,15 @@ tied_parts s t =
     times : (a b : ℕ) → (a == b) ≡ is_eq (nat_cmp a b)
     times a b = grind (arith, nat_tests)
 
-pub timed_same : finmap.IsAntisymmetric timed_cmp
-timed_same s t e =
-    let parts = and_parts (s.time == t.time) (eq_by_cmp version_key_cmp s.version t.version) (sym (tied_parts s t) ∙ ap is_eq e) in
+pub tied_timed : (s t : TimedVersion) → eq_by_cmp timed_cmp s t ≡ true → s ≡ t
+tied_timed s t e =
+    let parts = and_parts (s.time == t.time) (eq_by_cmp version_key_cmp s.version t.version) (sym (tied_parts s t) ∙ e) in
     let time = eqb-true s.time t.time parts.0 in
     let version = tied_versions s.version t.version parts.1 in
     λ i. record { time = time i; version = version i }
+
+pub timed_same : finmap.IsAntisymmetric timed_cmp
+timed_same s t e = tied_timed s t (ap is_eq e)
 
 -- ---- the set of a tree's keys
 
@@ -131,17 +134,10 @@ any-filter : (p : TimedVersion → Bool) (ts : List TimedVersion) (q : TimedVers
 any-filter p [] q = refl
 any-filter p (t ∷ ts) q =
     elim (eq_by_cmp timed_cmp q t) as (λ b. eq_by_cmp timed_cmp q t ≡ b → is_listed q (cond (p t) (t ∷ filter p ts) (filter p ts)) ≡ ((b || is_listed q ts) && p q)) [
-      | true ↦ λ e. here (p t) e (ap p (sym (same_one q t e))) (any-filter p ts q)
+      | true ↦ λ e. here (p t) e (ap p (sym (tied_timed q t e))) (any-filter p ts q)
       | false ↦ λ e. elsewhere (p t) e ∙ any-filter p ts q
     ] refl
   where
-    same_one : (q t : TimedVersion) → eq_by_cmp timed_cmp q t ≡ true → q ≡ t
-    same_one q t e =
-        let parts = and_parts (q.time == t.time) (eq_by_cmp version_key_cmp q.version t.version) (sym (tied_parts q t) ∙ e) in
-        let time = eqb-true q.time t.time parts.0 in
-        let version = tied_versions q.version t.version parts.1 in
-        λ i. record { time = time i; version = version i }
-
     and_false : (k : Bool) → (k && false) ≡ false
     and_false true = refl
     and_false false = refl
@@ -214,10 +210,6 @@ before_after time t = ap not (from_after time t) ∙ turned time t.time
     turned a b = grind (arith, nat_tests)
 
 -- ---- an index of the times that versions have
-
-abbrev pub passes_at : (ℕ → Bool) → Option ℕ → Bool
-passes_at test None = false
-passes_at test (Some t) = test t
 
 module _ (at : VersionKey → Option ℕ) (index : Times) (are : AreTimed at index) where
   -- a member is at its time

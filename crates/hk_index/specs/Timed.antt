@@ -32,3 +32,8 @@ is_at time (Some t) = t == time
 -- the index has each version that has a time, with that time, and no other
 abbrev pub AreTimed : (VersionKey → Option ℕ) → set.FinSet timed_cmp → Type 0
 AreTimed at index = (time : ℕ) (v : VersionKey) → set.contains index (record { time = time; version = v }) ≡ is_at time (at v)
+
+-- whether there is a time, and it passes a test
+abbrev pub passes_at : (ℕ → Bool) → Option ℕ → Bool
+passes_at test None = false
+passes_at test (Some t) = test t
