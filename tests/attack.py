@@ -225,25 +225,38 @@ def endless_frame():
             lambda count: say.front() * (count * 40 // 6), 10_000)
 
 
-# ---------------------------------------------------------------- known to grow
+# ---------------------------------------------------------------- small requests to a full node
 
 def rows_and_mark(count):
     return say.items(*(say.entry(n, n, [(1, n, 9, b"")]) for n in range(1, count + 1)), say.mark(1, count, count))
 
 
-def open_prunes():
-    compare("prunes that each go one further", serve_seconds, lambda count: rows_and_mark(count) + b"".join(say.prune(n) for n in range(1, count)),
-            lambda count: rows_and_mark(count) + say.front() * count, 1_000)
+def fronts(count):
+    return rows_and_mark(count) + say.front() * count
 
 
-def open_deltas():
-    compare("deltas with nothing in them", serve_seconds, lambda count: rows_and_mark(count) + say.delta(count) * count,
-            lambda count: rows_and_mark(count) + say.front() * count, 1_000)
+def prunes():
+    compare("prunes that each go one further", serve_seconds,
+            lambda count: rows_and_mark(count) + b"".join(say.prune(n) for n in range(1, count)), fronts, 1_000)
 
+
+def deltas():
+    compare("deltas with nothing in them", serve_seconds, lambda count: rows_and_mark(count) + say.delta(count) * count, fronts, 1_000)
+
+
+def rising_joins():
+    def dear(count):
+        sent = (say.join_this(base=count, horizon=n, streams=[(count, count, [], [])]) for n in range(1, count))
+        return rows_and_mark(count) + b"".join(sent)
+
+    compare("joins of nothing that each raise the horizon", serve_seconds, dear, fronts, 1_000)
+
+
+# ---------------------------------------------------------------- known to grow
 
 def open_counts():
     compare("counts of a table", serve_seconds, lambda count: rows_and_mark(count) + say.ask(count, say.count(1)) * count,
-            lambda count: rows_and_mark(count) + say.front() * count, 1_000)
+            fronts, 1_000)
 
 
 def open_waiting():
@@ -266,8 +279,8 @@ def open_chains():
 
 
 GATE = (tags, marks, covered_marks, numbers_, numbers_with_gaps, streams, chains, contradictions, all_contradict, endless_line, empty_lines,
-        endless_frame)
-OPEN = (open_prunes, open_deltas, open_counts, open_waiting, open_chains)
+        endless_frame, prunes, deltas, rising_joins)
+OPEN = (open_counts, open_waiting, open_chains)
 
 
 def main(words):

@@ -1,8 +1,8 @@
 -- What is left of a state's versions above a base makes a fragment, and it is the cut at the base.
-use Rattle.std.proofs.Common.{◌≡◌, refl, sym, ap, subst, ◌∙◌, ℕ, ◌<◌, ◌≤◌, Bool, true, false, cond, not, ◌||◌, ◌&&◌, ◌==◌, Option, Some, None, List, [], ◌∷◌, ◌++◌, All, ◌⊎◌, inl, inr, T, nat_lt, nat_le, arith}
+use Rattle.std.proofs.Common.{◌≡◌, refl, sym, ap, subst, ◌∙◌, ℕ, ◌<◌, ◌≤◌, Bool, true, false, cond, not, true≢false, ◌||◌, ◌&&◌, ◌==◌, Option, Some, None, List, [], ◌∷◌, ◌++◌, All, ◌⊎◌, inl, inr, T, nat_lt, nat_le, arith}
 use Rattle.std.proofs.lemmas.List.Elements.{All-head, All-tail}
 use Rattle.std.proofs.lemmas.Bool.Decides.{nat_tests}
-use Rattle.std.specs.Option.{option_and_then}
+use Rattle.std.specs.Option.{is_some, option_and_then, option_map}
 use Rattle.std.specs.Ordering.{is_lt}
 use Rattle.std.specs.FinMap.Entries.{is_sorted, below_all}
 use Rattle.std.specs.FinMap as finmap
@@ -17,12 +17,14 @@ use Rattle.hk_model.proofs.Maps.{version_key_total, version_key_same, get-retain
 use Rattle.hk_model.proofs.Visible.{T_both}
 use Rattle.hk_marks.proofs.Readers.{is_sorted-from}
 use Rattle.hk_facts.specs.Facts.{if_known}
-use Rattle.hk_store.specs.Facts.{known_at, entry_if}
+use Rattle.hk_index.specs.Timed.{passes_at}
+use Rattle.hk_store.specs.Facts.{FactsValue, known_at, entry_if}
+use Rattle.hk_store.specs.Indexed.{is_stated}
 use Rattle.hk_store.specs.Reads.{facts_of_content}
-use Rattle.hk_store.specs.Versions.{AreVersions}
-use Rattle.hk_store.proofs.PickedVersions.{find_picked}
+use Rattle.hk_store.specs.Versions.{AreVersions, AreVersionsOf}
+use Rattle.hk_store.proofs.PickedVersions.{find_known, unlisted}
 use Rattle.hk_fragment.specs.Parts.{Known, values_by_version, fragment_seen, follows, is_valid_row, is_valid_end, is_valid_fact, facts_fault, fragment_fault}
-use Rattle.hk_delta.specs.Cuts.{row_above, end_above, left_above, all_left}
+use Rattle.hk_delta.specs.Cuts.{row_above, end_above, left_above, all_left, HasLeft}
 use Rattle.hk_fragment.proofs.ListedVersions.{get-among}
 use Rattle.hk_fragment.proofs.FragmentRules.{AllFollow, are_facts}
 
@@ -102,7 +104,7 @@ module _ (c : Content) (l : IsLawful c) (base : ℕ) where
       by rest None o = rest before (beyond before f)
       by rest (Some x) o = rw (next before f, left_stands e.0 e.1 x (All-head IsKnown e es k) o) (rest (Some e.0) both.0)
 
-  pub faultless : (versions : List Known) → AreVersions (facts_of_content c) versions → facts_fault base c.horizon None (all_left base versions) ≡ None
+  pub faultless : (versions : List Known) → HasLeft (facts_of_content c) base versions → facts_fault base c.horizon None (all_left base versions) ≡ None
   faultless versions are = faultless_left versions (is_sorted-from version_key_cmp versions are.rising) None tt are.known
 
   row_found : (v : VersionKey) → option_and_then (λ x. x.row) (option_and_then (left_above base v) (known_at (facts_of_content c) v)) ≡ cond (nat_lt base v.born) (finmap.get c.rows v) None
@@ -155,7 +157,7 @@ module _ (c : Content) (l : IsLawful c) (base : ℕ) where
           some false true = refl
           some false false = refl
 
-  pub cut_is : (config : ConfigValue) → config.log ≡ c.log → (versions : List Known) → AreVersions (facts_of_content c) versions → fragment_seen config base c.horizon c.streams (all_left base versions) ≡ cut c base
+  pub cut_is : (config : ConfigValue) → config.log ≡ c.log → (versions : List Known) → HasLeft (facts_of_content c) base versions → fragment_seen config base c.horizon c.streams (all_left base versions) ≡ cut c base
   cut_is config log versions are = λ i. record { base = base; content = record { log = log i; horizon = c.horizon; rows = rows i; ends = ends i; streams = c.streams } }
     where
       sorted : T (is_sorted version_key_cmp (all_left base versions))
@@ -164,13 +166,13 @@ module _ (c : Content) (l : IsLawful c) (base : ℕ) where
       rows : values_by_version (λ x. x.row) (all_left base versions) ≡ finmap.retain_keys c.rows (λ v. nat_lt base v.born)
       rows = finmap.same_map version_key_total version_key_same _ _ (λ v.
           get-among (λ x. x.row) (all_left base versions) sorted v
-          ∙ ap (option_and_then (λ x. x.row)) (find_picked (facts_of_content c) (left_above base) v versions are)
+          ∙ ap (option_and_then (λ x. x.row)) (find_known (facts_of_content c) (left_above base) v versions are.known (are.others v))
           ∙ row_found v ∙ sym (get-retain version_key_total version_key_same c.rows (λ v. nat_lt base v.born) v))
 
       ends : values_by_version (λ x. x.died) (all_left base versions) ≡ without_ended c.ends base c.ends
       ends = finmap.same_map version_key_total version_key_same _ _ (λ v.
           get-among (λ x. x.died) (all_left base versions) sorted v
-          ∙ ap (option_and_then (λ x. x.died)) (find_picked (facts_of_content c) (left_above base) v versions are)
+          ∙ ap (option_and_then (λ x. x.died)) (find_known (facts_of_content c) (left_above base) v versions are.known (are.others v))
           ∙ end_found v ∙ sym (get-without_ended c.ends base c.ends v))
 
   base_stands : (base ≡ 0) ⊎ (c.horizon ≤ base) → ((base == 0) || nat_le c.horizon base) ≡ true
@@ -178,8 +180,59 @@ module _ (c : Content) (l : IsLawful c) (base : ℕ) where
   base_stands (inr b) = grind (arith, nat_tests)
 
   -- the parts of the cut at a base that is 0 or at least the horizon have no fault
-  pub parts_faultless : (base ≡ 0) ⊎ (c.horizon ≤ base) → (versions : List Known) → AreVersions (facts_of_content c) versions → fragment_fault base c.horizon c.streams (all_left base versions) ≡ None
+  pub parts_faultless : (base ≡ 0) ⊎ (c.horizon ≤ base) → (versions : List Known) → HasLeft (facts_of_content c) base versions → fragment_fault base c.horizon c.streams (all_left base versions) ≡ None
   parts_faultless b versions are = rw (base_stands b, within c.horizon (least_closed c.streams) l.in_reach) (faultless versions are)
     where
       within : (h m : ℕ) → h ≤ m → nat_lt m h ≡ false
       within h m e = grind (arith, nat_tests)
+
+-- ---- lists that have what is left
+
+-- all versions
+pub all_have : (f : FactsValue) (base : ℕ) (versions : List Known) → AreVersions f versions → HasLeft f base versions
+all_have f base versions are = record {
+  known = are.known;
+  others = λ v x k e. absurd (true≢false (sym (ap is_some k) ∙ are.all v ∙ e));
+  rising = are.rising;
+}
+
+-- those with a row or an end above the base
+pub stated_have : (f : FactsValue) (base : ℕ) (some : VersionKey → Bool) → ((v : VersionKey) → some v ≡ is_stated f (λ t. nat_lt base t) v) → (versions : List Known) → AreVersionsOf f some versions → HasLeft f base versions
+stated_have f base some is versions are = record {
+  known = are.known;
+  others = λ v x k e. subst (λ y. left_above base v y ≡ None) (if_known_is (record { row = finmap.get f.rows v; died = finmap.get f.ends v }) x k).0 (nothing_left v (finmap.get f.rows v) (finmap.get f.ends v) (sym (is v) ∙ unlisted f some versions are v x k e));
+  rising = are.rising;
+}
+  where
+    turned : (a b : ℕ) → nat_lt a b ≡ false → nat_le b a ≡ true
+    turned a b e = grind (arith, nat_tests)
+
+    gone : (k b : Bool) (r : Option RowValue) (d : ℕ) → b ≡ true → k ≡ false → if_known (record { row = cond k r None; died = cond b None (Some d) }) ≡ None
+    gone true b r d e h = absurd (true≢false h)
+    gone false true r d e h = refl
+    gone false false r d e h = absurd (true≢false (sym e))
+
+    gone_row : (k : Bool) (r : Option RowValue) → k ≡ false → if_known (record { row = cond k r None; died = None }) ≡ None
+    gone_row true r h = absurd (true≢false h)
+    gone_row false r h = refl
+
+    empty : (k b : Bool) (d : ℕ) → b ≡ true → if_known (record { row = cond {A = Option RowValue} k None None; died = cond b None (Some d) }) ≡ None
+    empty true true d e = refl
+    empty false true d e = refl
+    empty k false d e = absurd (true≢false (sym e))
+
+    none : (k : Bool) → if_known (record { row = cond {A = Option RowValue} k None None; died = None }) ≡ None
+    none true = refl
+    none false = refl
+
+    neither : (a b : Bool) → (a || b) ≡ false → (a ≡ false) × (b ≡ false)
+    neither false b e = (refl, e)
+    neither true b e = absurd (true≢false e)
+
+    nothing_left : (v : VersionKey) (r : Option RowValue) (d : Option ℕ) → (passes_at (λ t. nat_lt base t) (option_map (λ row. v.born) r) || passes_at (λ t. nat_lt base t) d) ≡ false → left_above base v (record { row = r; died = d }) ≡ None
+    nothing_left v None None e = none (nat_lt base v.born)
+    nothing_left v None (Some d) e = empty (nat_lt base v.born) (nat_le d base) d (turned base d e)
+    nothing_left v (Some row) None e = gone_row (nat_lt base v.born) (Some row) (neither (nat_lt base v.born) false e).0
+    nothing_left v (Some row) (Some d) e =
+        let parts = neither (nat_lt base v.born) (nat_lt base d) e in
+        gone (nat_lt base v.born) (nat_le d base) (Some row) d (turned base d parts.1) parts.0

@@ -28,10 +28,10 @@ use Rattle.hk_store.specs.Facts.{FactsValue, no_facts}
 use Rattle.hk_store.specs.Reads.{facts_of_content}
 use Rattle.hk_store.specs.Versions.{AreVersions}
 use Rattle.hk_fragment.specs.Parts.{Known, fragment_seen, fragment_fault}
-use Rattle.hk_delta.specs.Cuts.{all_left}
+use Rattle.hk_delta.specs.Cuts.{HasLeft, all_left}
 use Rattle.hk_delta.specs.Gathers.{item_facts, all_put, have_conflict, Gathers, GathersOf}
 use Rattle.hk_delta.proofs.FactsInConflict.{facts_from, items_settle}
-use Rattle.hk_delta.proofs.CutLists.{parts_faultless, cut_is}
+use Rattle.hk_delta.proofs.CutLists.{parts_faultless, cut_is, all_have}
 
 same_ok : (f g : FactsValue) → ◌≡◌ {A = Result FactsValue Refusal} (Ok f) (Ok g) → f ≡ g
 same_ok f g e = cc
@@ -91,8 +91,8 @@ module _ (config : ConfigValue) (items : List Item) (all : All IsItem items) whe
   whole_facts = λ i. record { rows = sym (all_kept (rows_of items)) i; ends = sym (all_kept (ends_of items)) i }
 
   module _ (f : FactsValue) (is : f ≡ facts_from (row_facts items) (end_facts items)) (es : List Known) (are : AreVersions f es) where
-    listed : AreVersions (facts_of_content (content_of config items 0)) es
-    listed = subst (λ (g : FactsValue). AreVersions g es) (is ∙ whole_facts) are
+    listed : HasLeft (facts_of_content (content_of config items 0)) 0 es
+    listed = all_have _ 0 es (subst (λ (g : FactsValue). AreVersions g es) (is ∙ whole_facts) are)
 
     pub whole_faultless : fragment_fault 0 0 (streams_of config.streams items) (all_left 0 es) ≡ None
     whole_faultless = parts_faultless (content_of config items 0) whole_lawful 0 (inl refl) es listed

@@ -4,9 +4,10 @@ ghost use Rattle.std.specs.Prelude.{◌≡◌, ◌⊎◌, ◌≤◌, ◌++◌, m
 ghost use Rattle.hk_types.specs.declared.faults.Refusal.TheVariants.{Memory, TooOld as Old};
 ghost use Rattle.hk_model.specs.Replica.Fragments.{cut};
 ghost use Rattle.hk_store.specs.Facts.{entry_if};
+ghost use Rattle.hk_store.specs.Reads.{facts_of_content};
 ghost use Rattle.hk_store.specs.Versions.{borrowed};
 ghost use Rattle.hk_delta.specs.Cuts as spec;
-ghost use Rattle.hk_delta.specs.Cuts.{Cuts, CutsOf, left_above, all_left};
+ghost use Rattle.hk_delta.specs.Cuts.{Cuts, CutsOf, HasLeft, left_above, all_left};
 
 use crate::Fragment;
 use hk_log::Version;
@@ -71,15 +72,21 @@ pub(crate) fn left_of(
     Ok(facts)
 }
 
-/// The fragment of a state with a base that is 0 or at least its horizon.
-fn fragment_from(alloc: Global, state: &ReplicaState, base: Time) -> Result<Fragment, Refusal>
-    requires { (base ≡ 0) ⊎ (state.now.horizon ≤ base) }
+/// The fragment of a state with a base that is 0 or at least its horizon, of the versions of which anything is left
+/// above the base.
+fn fragment_from(
+    alloc: Global,
+    state: &ReplicaState,
+    base: Time,
+    versions: &[(VersionKey, &Version)],
+) -> Result<Fragment, Refusal>
+    requires base { (base ≡ 0) ⊎ (state.now.horizon ≤ base) }
+    requires left { HasLeft (facts_of_content state.now) base (map borrowed versions.now) }
     ensures ok { IfOk result (λ fragment. fragment ≡ cut state.now base) }
     ensures err { IfErr result (λ why. why ≡ Memory) }
 {
     let got = state.got().copy(alloc)?;
-    let versions = state.facts().versions(alloc)?;
-    let facts = left_of(alloc, base, &versions)?;
+    let facts = left_of(alloc, base, versions)?;
     Ok(Fragment::of_parts(state.config(), base, state.horizon(), got, facts))
 }
 
@@ -92,15 +99,16 @@ pub fn whole_of(alloc: Global, state: &ReplicaState) -> Result<Fragment, Refusal
     ensures err { IfErr result (λ why. why ≡ Memory) }
     ensures represents { CutsOf state.now 0 result }
 {
-    fragment_from(alloc, state, Time::zero())
+    let versions = state.facts().versions(alloc)?;
+    fragment_from(alloc, state, Time::zero(), &versions)
 }
 
 /// What a state holds that a replica may lack which is readable up to the base: the rows that were born above
 /// it, the ends above it, and all numbers and marks.
 ///
 /// A base below the horizon is refused `TooOld` with the horizon, and then `Memory` comes where a growth was
-/// refused. Cost: O(n · log n + b), n versions, extra numbers and waiting marks held, each looked at, b bytes
-/// of the bodies that are copied.
+/// refused. Cost: O((1 + k) · log n + b), k versions with a row or an end above the base and extra numbers and waiting
+/// marks held, n versions, b bytes of the bodies that are copied.
 pub fn delta_since(alloc: Global, state: &ReplicaState, base: Time) -> Result<Fragment, Refusal>
     ensures gives { Cuts state.now base result }
     ensures represents { CutsOf state.now base result }
@@ -109,5 +117,7 @@ pub fn delta_since(alloc: Global, state: &ReplicaState, base: Time) -> Result<Fr
     if base < horizon {
         return Err(Refusal::TooOld { horizon });
     }
-    fragment_from(alloc, state, base)
+    let changed = state.facts().stated_above(alloc, base)?;
+    let versions = state.facts().versions_of(alloc, &changed)?;
+    fragment_from(alloc, state, base, &versions)
 }

@@ -54,3 +54,13 @@ module _ (f : FactsValue) where
         whole : (x : Option VersionValue) → cond (is_some x) (passes (test q) x) false ≡ passes (test q) x
         whole None = refl
         whole (Some v) = refl
+
+    -- of a list of some versions, where the others do not pass
+    pub among_known : (es : List (VersionKey × VersionValue)) → All (IsKnown f) es → ((x : VersionValue) → known_at f q ≡ Some x → is_among (map (λ e. e.0) es) q ≡ false → test q x ≡ false) → is_among (flat_map (λ e. cond (test e.0 e.1) (e.0 ∷ []) []) es) q ≡ passes (test q) (known_at f q)
+    among_known es known others = among_those es known ∙ by (known_at f q) refl (is_among (map (λ e. e.0) es) q) refl
+      where
+        by : (x : Option VersionValue) → known_at f q ≡ x → (b : Bool) → is_among (map (λ e. e.0) es) q ≡ b → cond b (passes (test q) x) false ≡ passes (test q) x
+        by None k true e = refl
+        by None k false e = refl
+        by (Some v) k true e = refl
+        by (Some v) k false e = sym (others v k e)

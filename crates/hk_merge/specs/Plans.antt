@@ -1,15 +1,16 @@
 -- What a join changes, version by version.
-use Rattle.std.specs.Prelude.{ℕ, Bool, false, not, max, ◌&&◌, ◌||◌, ◌==◌, nat_lt, if◌then◌else◌, Option, Some, None, List, [], ◌∷◌, is_some}
+use Rattle.std.specs.Prelude.{ℕ, Bool, false, not, max, ◌&&◌, ◌||◌, ◌==◌, nat_le, nat_lt, if◌then◌else◌, Option, Some, None, List, [], ◌∷◌, is_some}
 use Rattle.std.specs.Option.{option_and_then}
 use Rattle.std.specs.List.{flat_map}
 use Rattle.std.specs.FinMap as finmap
 use Rattle.hk_types.specs.Values.{RowValue}
 use Rattle.hk_types.specs.declared.version_key.VersionKey.{VersionKey}
 use Rattle.hk_log.specs.Versions.{VersionValue}
-use Rattle.hk_model.specs.Replica.Content.{Content, at_most}
+use Rattle.hk_model.specs.Replica.Content.{Content, at_most, ended_by}
 use Rattle.hk_model.specs.Replica.Fragments.{FragmentValue}
 use Rattle.hk_facts.specs.Facts.{row_of, died_of}
 use Rattle.hk_store.specs.Facts.{FactsValue, known_at, entry_if}
+use Rattle.hk_store.specs.Indexed.{is_stated}
 use Rattle.hk_store.specs.Reads.{facts_of_content}
 
 -- ---- what is left of the target's own, where the horizon rises to h: `whole` where the whole is sent, and then
@@ -41,6 +42,11 @@ module _ (whole : Bool) (h : ℕ) (sent : VersionKey → Bool) where
 
   abbrev pub ends_back : List (VersionKey × VersionValue) → List (VersionKey × ℕ)
   ends_back own = flat_map (λ e. entry_if e.0 (end_back e.0 e.1)) own
+
+-- whether a version of the target's own may go where the horizon rises to h: it has a row born by then, or an end by then,
+-- and where not the whole is sent, an end by then
+abbrev pub may_go : Bool → ℕ → FactsValue → VersionKey → Bool
+may_go whole h f v = if whole then is_stated f (λ t. nat_le t h) v else ended_by f.ends h v
 
 -- ---- what comes of what is sent, at the horizon h: `old` where rows born at or below it come too
 

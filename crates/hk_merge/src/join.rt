@@ -17,7 +17,7 @@ ghost use Rattle.hk_merge.specs.Plans.{gone_at, row_back_at, end_back_at};
 ghost use Rattle.hk_merge.specs.Calls.{Joins, Merges, MergesOf};
 
 use crate::merge_input::MergeInput;
-use crate::plan::{Coming, Leaving, leave, take, with_rows};
+use crate::plan::{Coming, Leaving, leave, may_go, take, with_rows};
 use crate::refusals::{has_conflict_with, wrong_log};
 use hk_state::{Change, ReplicaState};
 use hk_types::{Refusal, Time};
@@ -36,9 +36,9 @@ fn later(a: Time, b: Time) -> Time
 /// version another row or another end than the target has is refused `Conflict`; so far no memory is taken.
 /// `Memory` comes last, where a growth was refused. A refusal changes nothing.
 ///
-/// Cost: O(c · log n + b), c versions sent and numbers and marks of both that wait for others, n these and the
-/// target's versions together, b bytes of bodies compared or copied. Where the horizon rises, something of the
-/// target's own may have to go: O(n · log n + b).
+/// Cost: O((1 + c + d) · log n + b), c versions sent and numbers and marks of both that wait for others, d versions
+/// of the target's own that go since the horizon rises, n all these and the target's versions together, b bytes of
+/// bodies compared or copied.
 pub fn join_sent(target: &mut ReplicaState, sent: &MergeInput) -> Result<(), Refusal>
     requires listed { AreVersions (facts_listed (map borrowed sent.now.facts.now))
         (map borrowed sent.now.facts.now) }
@@ -68,9 +68,9 @@ pub fn join_sent(target: &mut ReplicaState, sent: &MergeInput) -> Result<(), Ref
 /// another row or another end of a version is refused `Conflict`; so far no memory is taken. `Memory` comes last,
 /// where a growth was refused. A refusal changes nothing.
 ///
-/// Cost: O(c · log n + b), c versions of the peer and numbers and marks of both that wait for others, n these
-/// and the target's versions together, b bytes of bodies compared or copied. Where the horizon rises, something
-/// of the target's own may have to go: O(n · log n + b). The target is not copied.
+/// Cost: O((1 + c + d) · log n + b), c versions of the peer and numbers and marks of both that wait for others,
+/// d versions of the target's own that go since the horizon rises, n all these and the target's versions together,
+/// b bytes of bodies compared or copied. The target is not copied.
 pub fn merge(target: &mut ReplicaState, peer: &ReplicaState) -> Result<(), Refusal>
     ensures gives { Merges target.old target.new peer.now result }
     ensures represents { MergesOf target.old target.new peer.now result }
@@ -140,7 +140,8 @@ fn rise(change: &mut Change, target: &ReplicaState, sent: &MergeInput) -> Result
         horizon: sent.horizon,
         sent: with_rows(alloc, sent.facts)?,
     };
-    let own = target.facts().versions(alloc)?;
+    let some = may_go(alloc, target.facts(), leaving.whole, leaving.horizon)?;
+    let own = target.facts().versions_of(alloc, &some)?;
     leave(alloc, change, &leaving, &own)?;
     Ok(())
 }

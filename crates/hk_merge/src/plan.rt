@@ -4,10 +4,11 @@ ghost use Rattle.std.specs.Prelude.{◌≡◌, ◌++◌, ◌∷◌, [], map, is_
 ghost use Rattle.std.specs.Option.{option_copied};
 ghost use Rattle.std.specs.FinSet as set;
 ghost use Rattle.hk_types.specs.declared.faults.Refusal.TheVariants.{Memory};
+ghost use Rattle.hk_types.specs.declared.version_key.VersionKey.{VersionKey};
 ghost use Rattle.hk_facts.specs.Facts.{row_of, died_of};
 ghost use Rattle.hk_store.specs.Facts.{entry_if};
 ghost use Rattle.hk_store.specs.Versions.{borrowed};
-ghost use Rattle.hk_merge.specs.Plans.{stays, goes, row_back, end_back, all_gone, rows_back, ends_back, row_comes, end_comes, rows_come, ends_come, keys_of_rows};
+ghost use Rattle.hk_merge.specs.Plans.{stays, goes, row_back, end_back, all_gone, rows_back, ends_back, row_comes, end_comes, rows_come, ends_come, keys_of_rows, may_go};
 
 use hk_facts::ended_by;
 use hk_index::KeyIndex;
@@ -215,4 +216,22 @@ pub(crate) fn with_rows(
         }
     }
     KeyIndex::of(alloc, &found)
+}
+
+/// The versions of the target's own that may go where the horizon rises. The only refusal is `Memory`.
+/// Cost: O(log n + k · log k), n facts, k versions given.
+pub(crate) fn may_go(
+    alloc: Global,
+    own: &Facts,
+    whole: bool,
+    horizon: Time,
+) -> Result<KeyIndex, Refusal>
+    ensures ok { IfOk result (λ versions. (q : VersionKey) → set.contains versions q ≡ may_go whole horizon own.now q) }
+    ensures err { IfErr result (λ why. why ≡ Memory) }
+{
+    if whole {
+        return own.stated_until(alloc, horizon);
+    }
+    let ended = own.ended(alloc, horizon)?;
+    KeyIndex::of(alloc, &ended)
 }

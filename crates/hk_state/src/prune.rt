@@ -21,7 +21,8 @@ impl ReplicaState {
     ///
     /// A time above the readable mark is refused `AheadOfMark` with that mark. One at most the horizon
     /// is never refused, changes nothing and takes no memory. `Memory` comes where the list of what goes could not be
-    /// made. A refusal changes nothing. Cost: O(n + d · log n), n facts held, d versions that go.
+    /// made. A refusal changes nothing. Cost: O(s + (1 + d) · log n), s streams, n facts held,
+    /// d versions that go.
     pub fn prune(&mut self, time: Time) -> Result<(), Refusal>
         ensures gives { Prunes self.old self.new time result }
         ensures represents { PrunesOf self.old self.new time result }

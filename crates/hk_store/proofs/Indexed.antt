@@ -14,6 +14,7 @@ use Rattle.hk_model.specs.Replica.Maps.{or_else}
 use Rattle.hk_model.proofs.Maps.{version_key_total}
 use Rattle.hk_index.specs.declared.tagged.TaggedVersion.{TaggedVersion}
 use Rattle.hk_index.specs.Tagged.{tagged_cmp}
+use Rattle.hk_index.specs.Timed.{timed_cmp, is_at}
 use Rattle.hk_index.proofs.StoredTags.{tagged_total, tied_parts}
 use Rattle.hk_facts.specs.declared.fact.Fact.{Fact}
 use Rattle.hk_facts.specs.declared.fact.Fact.TheVariants.{Row, End}
@@ -34,8 +35,10 @@ Keys = set.FinSet version_key_cmp
 abbrev at_tag : ℕ → VersionKey → TaggedVersion
 at_tag tag v = record { tag = tag; version = v }
 
-pub none_indexed : AreIndexed no_facts set.empty set.empty
+pub none_indexed : AreIndexed no_facts set.empty set.empty set.empty set.empty
 none_indexed = record {
+  born = λ t v. set.contains-empty timed_cmp (record { time = t; version = v }) ∙ ap (λ (o : Option RowValue). is_at t (option_map (λ (r : RowValue). v.born) o)) (sym (finmap.get-empty version_key_cmp v));
+  dead = λ t v. set.contains-empty timed_cmp (record { time = t; version = v }) ∙ ap (is_at t) (sym (finmap.get-empty version_key_cmp v));
   tagged = λ t v. set.contains-empty tagged_cmp (at_tag t v) ∙ ap (is_tagged t) (sym (finmap.get-empty version_key_cmp v));
   keyed = λ v. set.contains-empty version_key_cmp v ∙ (λ i. is_some (sym (finmap.get-empty {X = RowValue} version_key_cmp v) i) || is_some (sym (finmap.get-empty {X = ℕ} version_key_cmp v) i));
 }

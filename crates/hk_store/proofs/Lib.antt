@@ -4,7 +4,7 @@ pub mod FactsByTable
 pub mod JournalUndone
 pub mod Conflicts
 pub mod EntryConflicts
-pub mod EndedVersions
+pub mod TimedFacts
 pub mod DroppedVersions
 pub mod Indexed
 pub mod ChainsAtTime

@@ -1,5 +1,5 @@
 -- The list of the versions of which anything is known.
-use Rattle.std.proofs.Common.{◌≡◌, refl, sym, ap, ◌∙◌, subst, Bool, true, false, cond, ◌&&◌, ◌||◌, ◌==◌, Some, None, List, [], ◌∷◌, ◌++◌, map, filter, All}
+use Rattle.std.proofs.Common.{◌≡◌, refl, sym, ap, ◌∙◌, subst, Bool, true, false, cond, ◌&&◌, ◌||◌, ◌==◌, Some, None, Result, Ok, Err, IfOk, List, [], ◌∷◌, ◌++◌, map, filter, All}
 use Rattle.std.proofs.lemmas.List.{map_push, append-nil}
 use Rattle.std.proofs.lemmas.List.Elements.{All-push, All-head, All-tail, filter-append}
 use Rattle.std.proofs.lemmas.List.Kept.{IsStrictlySortedBy-filter}
@@ -22,7 +22,7 @@ use Rattle.hk_store.specs.Facts.{FactsValue, known_at}
 use Rattle.hk_store.specs.Indexed.{AreKeyed, has_fact}
 use Rattle.hk_store.specs.Drops.{is_among}
 use Rattle.hk_store.specs.Reads.{with_facts}
-use Rattle.hk_store.specs.Versions.{AreVersions, conflict_at, value_conflicts_at}
+use Rattle.hk_store.specs.Versions.{AreVersions, AreVersionsOf, conflict_at, value_conflicts_at}
 use Rattle.hk_facts.specs.Facts.{row_of, died_of}
 use Rattle.hk_store.proofs.FactsByTable.{known_row, known_end}
 use Rattle.hk_store.proofs.Indexed.{known_fact}
@@ -61,17 +61,26 @@ module _ (f : FactsValue) where
   among_keys : (keys : set.FinSet version_key_cmp) (ks : List VersionKey) → AreKeyed f keys → Lists ks keys → (v : VersionKey) → is_among ks v ≡ knows v
   among_keys keys ks keyed lists v = sym (set.contains-from_list version_key_total ks v) ∙ ap (λ s. set.contains s v) lists.same ∙ keyed v ∙ sym (known_fact f v)
 
-  -- all of them
-  pub walked : (keys : set.FinSet version_key_cmp) (ks : List VersionKey) (es : List (VersionKey × VersionValue)) → AreKeyed f keys → Lists ks keys → All IsKnown es → map (λ e. e.0) es ≡ filter knows ks → AreVersions f es
-  walked keys ks es keyed lists known kept = record {
+  -- those of a set
+  pub walked : (some : set.FinSet version_key_cmp) (ks : List VersionKey) (es : List (VersionKey × VersionValue)) → Lists ks some → All IsKnown es → map (λ e. e.0) es ≡ filter knows ks → AreVersionsOf f (set.contains some) es
+  walked some ks es lists known kept = record {
     known = known;
-    all = λ v. sym (ap (λ l. is_among l v) kept ∙ any-filter knows ks v ∙ ap (λ b. b && knows v) (among_keys keys ks keyed lists v) ∙ twice (knows v));
+    all = λ v. sym (ap (λ l. is_among l v) kept ∙ any-filter knows ks v ∙ ap (λ b. b && knows v) (sym (set.contains-from_list version_key_total ks v) ∙ ap (λ s. set.contains s v) lists.same));
     rising = subst (IsStrictlySortedBy version_key_cmp) (sym kept) (IsStrictlySortedBy-filter version_key_cmp knows ks lists.rising);
+  }
+
+  -- all of them
+  pub all_walked : (keys : set.FinSet version_key_cmp) → AreKeyed f keys → {A E : Type 0} (r : Result A E) (versions : A → List (VersionKey × VersionValue)) → IfOk r (λ w. AreVersionsOf f (set.contains keys) (versions w)) → IfOk r (λ w. AreVersions f (versions w))
+  all_walked keys keyed (Ok w) versions are = record {
+    known = are.known;
+    all = λ v. sym (ap (λ b. b && knows v) (keyed v ∙ sym (known_fact f v)) ∙ twice (knows v)) ∙ are.all v;
+    rising = are.rising;
   }
     where
       twice : (b : Bool) → (b && b) ≡ b
       twice true = refl
       twice false = refl
+  all_walked keys keyed (Err why) versions are = tt
 
 any_either : {A : Type 0} (p q : A → Bool) (xs : List A) → list_any (λ x. p x || q x) xs ≡ (list_any p xs || list_any q xs)
 any_either p q [] = refl

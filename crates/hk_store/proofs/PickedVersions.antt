@@ -1,5 +1,5 @@
 -- What is listed of versions is found by look-ups.
-use Rattle.std.proofs.Common.{◌≡◌, refl, sym, ap, ◌∙◌, Bool, true, false, cond, ◌||◌, Option, Some, None, List, [], ◌∷◌, map, All}
+use Rattle.std.proofs.Common.{◌≡◌, refl, sym, ap, ◌∙◌, Bool, true, false, cond, ◌||◌, ◌&&◌, Option, Some, None, List, [], ◌∷◌, map, All}
 use Rattle.std.proofs.lemmas.List.Elements.{All-head, All-tail}
 use Rattle.std.specs.Option.{is_some, option_and_then}
 use Rattle.std.specs.List.{flat_map}
@@ -13,7 +13,7 @@ use Rattle.hk_model.proofs.Maps.{find-append}
 use Rattle.hk_index.proofs.StoredKeys.{tied_versions}
 use Rattle.hk_store.specs.Facts.{FactsValue, known_at, entry_if}
 use Rattle.hk_store.specs.Drops.{is_among}
-use Rattle.hk_store.specs.Versions.{AreVersions}
+use Rattle.hk_store.specs.Versions.{AreVersions, AreVersionsOf}
 use Rattle.hk_store.proofs.StoredFacts.{find_entry}
 use Rattle.hk_store.proofs.ListedVersions.{IsKnown}
 
@@ -44,3 +44,21 @@ module _ (f : FactsValue) where
         whole : (x : Option VersionValue) → cond (is_some x) (option_and_then (pick q) x) None ≡ option_and_then (pick q) x
         whole None = refl
         whole (Some v) = refl
+
+    -- of a list of some versions, where nothing is picked of the others
+    pub find_known : (es : List (VersionKey × VersionValue)) → All (IsKnown f) es → ((x : VersionValue) → known_at f q ≡ Some x → is_among (map (λ e. e.0) es) q ≡ false → pick q x ≡ None) → find version_key_cmp q (flat_map (λ e. entry_if e.0 (pick e.0 e.1)) es) ≡ option_and_then (pick q) (known_at f q)
+    find_known es known others = find_among es known ∙ by (known_at f q) refl (is_among (map (λ e. e.0) es) q) refl
+      where
+        by : (x : Option VersionValue) → known_at f q ≡ x → (b : Bool) → is_among (map (λ e. e.0) es) q ≡ b → cond b (option_and_then (pick q) x) None ≡ option_and_then (pick q) x
+        by None k true e = refl
+        by None k false e = refl
+        by (Some v) k true e = refl
+        by (Some v) k false e = sym (others v k e)
+
+-- what is known and not listed is none of those that are listed
+pub unlisted : (f : FactsValue) (some : VersionKey → Bool) (es : List (VersionKey × VersionValue)) → AreVersionsOf f some es → (q : VersionKey) (x : VersionValue) → known_at f q ≡ Some x → is_among (map (λ e. e.0) es) q ≡ false → some q ≡ false
+unlisted f some es are q x k e = sym (and_true (some q)) ∙ ap (λ o. some q && is_some o) (sym k) ∙ are.all q ∙ e
+  where
+    and_true : (b : Bool) → (b && true) ≡ b
+    and_true true = refl
+    and_true false = refl

@@ -7,6 +7,7 @@ use Rattle.hk_types.specs.Values.{RowValue}
 use Rattle.hk_types.specs.declared.version_key.VersionKey.{VersionKey}
 use Rattle.hk_model.specs.History.Rows.{version_key_cmp}
 use Rattle.hk_index.specs.Tagged.{tagged_cmp}
+use Rattle.hk_index.specs.Timed.{timed_cmp, AreTimed, passes_at}
 use Rattle.hk_facts.specs.declared.fact.Fact.{Fact}
 use Rattle.hk_facts.specs.declared.fact.Fact.TheVariants.{Row, End}
 use Rattle.hk_facts.specs.declared.fact.Part.{Part}
@@ -34,9 +35,23 @@ has_fact f v = is_some (finmap.get f.rows v) || is_some (finmap.get f.ends v)
 abbrev pub AreKeyed : FactsValue → set.FinSet version_key_cmp → Type 0
 AreKeyed f keys = (v : VersionKey) → set.contains keys v ≡ has_fact f v
 
-pub record AreIndexed (f : FactsValue) (tags : set.FinSet tagged_cmp) (keys : set.FinSet version_key_cmp) : Type 0 where
+-- the time at which a version was born, where its row is known
+abbrev pub born_at : FactsValue → VersionKey → Option ℕ
+born_at f v = option_map (λ row. v.born) (finmap.get f.rows v)
+
+-- the time of its end, where that is known
+abbrev pub died_at : FactsValue → VersionKey → Option ℕ
+died_at f v = finmap.get f.ends v
+
+pub record AreIndexed (f : FactsValue) (tags : set.FinSet tagged_cmp) (births deaths : set.FinSet timed_cmp) (keys : set.FinSet version_key_cmp) : Type 0 where
   pub tagged : AreTagged f tags
+  pub born : AreTimed (born_at f) births
+  pub dead : AreTimed (died_at f) deaths
   pub keyed : AreKeyed f keys
+
+-- whether a version has a row that was born at a time that passes a test, or an end at such a time
+abbrev pub is_stated : FactsValue → (ℕ → Bool) → VersionKey → Bool
+is_stated f test v = passes_at test (born_at f v) || passes_at test (died_at f v)
 
 -- nothing like this fact is known of the version
 abbrev pub IsNew : FactsValue → VersionKey → Fact → Type 0
@@ -48,3 +63,19 @@ abbrev pub tag_lost : FactsValue → VersionKey → Part → Option ℕ
 tag_lost f v EndPart = None
 tag_lost f v RowPart = option_map (λ r. r.tag) (finmap.get f.rows v)
 tag_lost f v Whole = option_map (λ r. r.tag) (finmap.get f.rows v)
+
+-- the end that is taken back with a part of a version
+abbrev pub end_lost : FactsValue → VersionKey → Part → Option ℕ
+end_lost f v EndPart = finmap.get f.ends v
+end_lost f v RowPart = None
+end_lost f v Whole = finmap.get f.ends v
+
+-- the index by tag without a version that has this tag
+abbrev pub tags_without : set.FinSet tagged_cmp → VersionKey → Option ℕ → set.FinSet tagged_cmp
+tags_without tags v None = tags
+tags_without tags v (Some tag) = set.remove tags (record { tag = tag; version = v })
+
+-- an index by time without a version that has this time
+abbrev pub times_without : set.FinSet timed_cmp → VersionKey → Option ℕ → set.FinSet timed_cmp
+times_without index v None = index
+times_without index v (Some time) = set.remove index (record { time = time; version = v })

@@ -1,5 +1,5 @@
 -- Facts as a list of versions.
-use Rattle.std.specs.Prelude.{◌≡◌, Bool, ◌||◌, ◌==◌, All, List, map, Some, is_some}
+use Rattle.std.specs.Prelude.{◌≡◌, Bool, ◌||◌, ◌&&◌, ◌==◌, All, List, map, Some, is_some}
 use Rattle.std.specs.Borrow.{Bor}
 use Rattle.std.specs.List.Sorted.{IsStrictlySortedBy}
 use Rattle.hk_types.specs.Values.{same_row}
@@ -19,6 +19,12 @@ borrowed e = (e.0, e.1.now)
 pub record AreVersions (f : FactsValue) (versions : List (VersionKey × VersionValue)) : Type 0 where
   pub known : All (λ e. known_at f e.0 ≡ Some e.1) versions
   pub all : (v : VersionKey) → is_some (known_at f v) ≡ is_among (map (λ e. e.0) versions) v
+  pub rising : IsStrictlySortedBy version_key_cmp (map (λ e. e.0) versions)
+
+-- the list has each of some versions of which anything is known, with what is known of it, in rising order
+pub record AreVersionsOf (f : FactsValue) (some : VersionKey → Bool) (versions : List (VersionKey × VersionValue)) : Type 0 where
+  pub known : All (λ e. known_at f e.0 ≡ Some e.1) versions
+  pub all : (v : VersionKey) → (some v && is_some (known_at f v)) ≡ is_among (map (λ e. e.0) versions) v
   pub rising : IsStrictlySortedBy version_key_cmp (map (λ e. e.0) versions)
 
 -- whether a version has another row, or another end, than this

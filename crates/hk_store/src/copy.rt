@@ -16,7 +16,15 @@ impl Facts {
     {
         let tables = self.tables.copy(alloc)?;
         let tags = self.tags.copy(alloc)?;
+        let births = self.births.copy(alloc)?;
+        let deaths = self.deaths.copy(alloc)?;
         let keys = self.keys.copy(alloc)?;
-        Ok(Facts { tables, tags, keys })
+        Ok(Facts {
+            tables,
+            tags,
+            births,
+            deaths,
+            keys,
+        })
     }
 }

@@ -1,12 +1,12 @@
 //! Versions that are dropped.
 
-ghost use Rattle.std.specs.Prelude.{◌≡◌, OnOk, OnErr};
+ghost use Rattle.std.specs.Prelude.{◌≡◌, OnOk, OnErr, IfErr};
+ghost use Rattle.hk_types.specs.declared.faults.Refusal.TheVariants.{Memory};
 ghost use Rattle.hk_store.specs.Drops.{without_all, pruned_facts};
 
 use crate::facts::Facts;
 use hk_facts::Part;
-use hk_types::{Time, VersionKey};
-use std::alloc::AllocError;
+use hk_types::{Refusal, Time, VersionKey};
 
 impl Facts {
     /// Drops all that is known of these versions. It cannot fail. Cost: O(d · log n), d versions dropped,
@@ -19,13 +19,14 @@ impl Facts {
         }
     }
 
-    /// Drops each version whose end is known and at most `until`. The only error is out of memory, and it
-    /// changes nothing. Cost: O(n + d · log n), n facts, d versions that go.
-    pub fn drop_until(&mut self, until: Time) -> Result<(), AllocError>
+    /// Drops each version whose end is known and at most `until`. The only refusal is `Memory`, and it
+    /// changes nothing. Cost: O((1 + d) · log n), n facts, d versions that go.
+    pub fn drop_until(&mut self, until: Time) -> Result<(), Refusal>
         ensures ok { OnOk result (self.new ≡ pruned_facts self.old until) }
-        ensures err { OnErr result (self.new ≡ self.old) }
+        ensures err { IfErr result (λ why. why ≡ Memory) }
+        ensures kept { OnErr result (self.new ≡ self.old) }
     {
-        let ended = self.ended(until)?;
+        let ended = self.ended(self.allocator(), until)?;
         self.drop_all(&ended);
         Ok(())
     }

@@ -1,31 +1,32 @@
 //! The facts of a replica, with the indexes of their versions.
 
-ghost use Rattle.std.specs.Prelude.{◌≡◌, ◌==◌, length, is_some, ◌⊎◌, ◌<◌, OnOk, OnErr, IfErr, IfOk, IfSome, IfNone, Ok, Err, Some, None, ℕ};
-ghost use Rattle.std.specs.Option.{option_copied};
+ghost use Rattle.std.specs.Prelude.{◌≡◌, ◌==◌, length, false, is_some, ◌⊎◌, ◌<◌, OnOk, OnErr, IfErr, IfOk, IfSome, IfNone, Ok, Err, Some, None, ℕ};
+ghost use Rattle.std.specs.Option.{option_copied, option_map};
 ghost use Rattle.std.specs.FinMap as finmap;
+ghost use Rattle.std.specs.FinSet as set;
 ghost use Rattle.hk_types.specs.declared.faults.Refusal.TheVariants.{Memory};
 ghost use Rattle.hk_types.specs.declared.version_key.VersionKey.{VersionKey};
-ghost use Rattle.hk_facts.specs.declared.fact.Fact.TheVariants.{Row as RowFact};
-ghost use Rattle.hk_model.specs.Replica.Content.{ended_by};
+ghost use Rattle.hk_facts.specs.declared.fact.Fact.TheVariants.{Row as RowFact, End as EndFact};
 ghost use Rattle.hk_model.specs.Replica.Answers.{visible, rows_where};
 ghost use Rattle.hk_store.specs.Reads.{with_facts};
-ghost use Rattle.hk_store.specs.Drops.{is_among};
 ghost use Rattle.hk_store.specs.Facts.{no_facts, known_at, facts_put, facts_without};
-ghost use Rattle.hk_store.specs.Indexed.{AreTagged, AreKeyed, IsNew, tag_lost};
+ghost use Rattle.hk_store.specs.Indexed.{AreTagged, AreKeyed, IsNew, end_lost, tag_lost, tags_without, times_without};
 
 use crate::tables::Tables;
 use hk_facts::{Chain, Fact, Part};
-use hk_index::{KeyIndex, TagIndex};
+use hk_index::{KeyIndex, TagIndex, TimeIndex};
 use hk_types::{Key, Refusal, Row, Table, Tag, Time, VersionKey};
-use std::alloc::{AllocError, Global};
+use std::alloc::Global;
 use std::marker::Model;
 
-/// The rows and the ends of all versions, with two indexes: by tag those whose row is known, and by table and
-/// key those of which a row or an end is known.
+/// The rows and the ends of all versions, with four indexes: by tag and by the time of birth those whose row is
+/// known, by the time of death those whose end is known, and by table and key those of which either is known.
 #[derive(Drop)]
 pub struct Facts {
     pub(crate) tables: Tables,
     pub(crate) tags: TagIndex,
+    pub(crate) births: TimeIndex,
+    pub(crate) deaths: TimeIndex,
     pub(crate) keys: KeyIndex,
 }
 
@@ -39,7 +40,7 @@ impl Model for Facts {
 
     ghost view = { λ a. a.tables };
 
-    ghost invariant = { λ a. AreIndexed a.tables a.tags a.keys };
+    ghost invariant = { λ a. AreIndexed a.tables a.tags a.births a.deaths a.keys };
 }
 
 impl Facts {
@@ -50,6 +51,8 @@ impl Facts {
         Facts {
             tables: Tables::new(alloc),
             tags: TagIndex::new(alloc),
+            births: TimeIndex::new(alloc),
+            deaths: TimeIndex::new(alloc),
             keys: KeyIndex::new(alloc),
         }
     }
@@ -125,9 +128,7 @@ impl Facts {
     {
         match fact {
             Fact::Row(row) => self.put_row(version, row),
-            Fact::End(died) => {
-                put_listed(&mut self.tables, &mut self.keys, version, Fact::End(died))
-            }
+            Fact::End(died) => self.put_end(version, died),
         }
     }
 
@@ -137,11 +138,18 @@ impl Facts {
         ensures kept { OnErr result (self.new ≡ self.old) }
     {
         if self.tables.row_at(version).is_some() {
-            return put_listed(&mut self.tables, &mut self.keys, version, Fact::Row(row));
+            return self.tables.put(version, Fact::Row(row));
         }
         let tag = row.tag();
         self.tags.add(tag, *version)?;
-        let put = put_listed(&mut self.tables, &mut self.keys, version, Fact::Row(row));
+        let put = put_timed(
+            &mut self.tables,
+            &mut self.keys,
+            &mut self.births,
+            version,
+            version.born,
+            Fact::Row(row),
+        );
         if let Err(why) = put {
             self.tags.remove(tag, *version);
             return Err(why);
@@ -149,15 +157,33 @@ impl Facts {
         Ok(())
     }
 
+    fn put_end(&mut self, version: &VersionKey, died: Time) -> Result<(), Refusal>
+        ensures ok { OnOk result (facts_put self.old version.now (EndFact died) ≡ Ok self.new) }
+        ensures err { IfErr result (λ why. (facts_put self.old version.now (EndFact died) ≡ Err why) ⊎ ((why ≡ Memory) × IsNew self.old version.now (EndFact died))) }
+        ensures kept { OnErr result (self.new ≡ self.old) }
+    {
+        if self.tables.end_at(version).is_some() {
+            return self.tables.put(version, Fact::End(died));
+        }
+        put_timed(
+            &mut self.tables,
+            &mut self.keys,
+            &mut self.deaths,
+            version,
+            died,
+            Fact::End(died),
+        )
+    }
+
     /// Takes a part of a version back, where it is known. Cost: O(log n), n facts.
     pub fn forget(&mut self, version: &VersionKey, part: Part)
         ensures { self.new ≡ facts_without self.old version.now part }
     {
         let tag = self.tag_of(version, part);
+        let died = self.end_of(version, part);
         forget_listed(&mut self.tables, &mut self.keys, version, part);
-        if let Some(tag) = tag {
-            self.tags.remove(tag, *version);
-        }
+        forget_birth(&mut self.tags, &mut self.births, version, tag);
+        forget_death(&mut self.deaths, version, died);
     }
 
     /// The tag of the row that goes with a part of a version.
@@ -171,14 +197,41 @@ impl Facts {
         Some(row.tag())
     }
 
-    /// The versions whose end is known and at most `until`. The only error is out of memory. Cost: O(n),
-    /// n facts.
-    pub fn ended(&self, until: Time) -> Result<Vec<VersionKey>, AllocError>
-        ensures { IfOk result (λ versions. (q : VersionKey) → is_among versions.items q
-            ≡ ended_by self.now.ends until q) }
+    /// The end that goes with a part of a version.
+    fn end_of(&self, version: &VersionKey, part: Part) -> Option<Time>
+        ensures { result ≡ end_lost self.now version.now part }
     {
-        self.tables.ended(until)
+        if part == Part::Row {
+            return None;
+        }
+        self.tables.end_at(version)
     }
+}
+
+/// Adds a fact that has a time, and its version to the index by this time, which has it not.
+fn put_timed(
+    tables: &mut Tables,
+    keys: &mut KeyIndex,
+    index: &mut TimeIndex,
+    version: &VersionKey,
+    time: Time,
+    fact: Fact,
+) -> Result<(), Refusal>
+    requires keyed { AreKeyed tables.old keys.old }
+    requires new { set.contains index.old (record { time = time; version = version.now }) ≡ false }
+    ensures ok { OnOk result (facts_put tables.old version.now fact ≡ Ok tables.new) }
+    ensures timed { OnOk result (index.new ≡ set.insert index.old (record { time = time; version = version.now })) }
+    ensures err { IfErr result (λ why. (facts_put tables.old version.now fact ≡ Err why) ⊎ (why ≡ Memory)) }
+    ensures kept { OnErr result (tables.new ≡ tables.old) }
+    ensures untimed { OnErr result (index.new ≡ index.old) }
+    ensures keyed { AreKeyed tables.new keys.new }
+{
+    index.add(time, *version)?;
+    if let Err(why) = put_listed(tables, keys, version, fact) {
+        index.remove(time, *version);
+        return Err(why);
+    }
+    Ok(())
 }
 
 /// Adds a fact, and its version to the index by key.
@@ -214,5 +267,30 @@ fn forget_listed(tables: &mut Tables, keys: &mut KeyIndex, version: &VersionKey,
     tables.forget(version, part);
     if !tables.knows(version) {
         keys.remove(*version);
+    }
+}
+
+/// Takes a version out of the indexes of those whose row is known, where a row goes that has this tag.
+fn forget_birth(
+    tags: &mut TagIndex,
+    births: &mut TimeIndex,
+    version: &VersionKey,
+    tag: Option<Tag>,
+)
+    ensures tags { tags.new ≡ tags_without tags.old version.now tag }
+    ensures births { births.new ≡ times_without births.old version.now (option_map (λ t. version.now.born) tag) }
+{
+    if let Some(tag) = tag {
+        tags.remove(tag, *version);
+        births.remove(version.born, *version);
+    }
+}
+
+/// Takes a version out of the index of those whose end is known, where this end goes.
+fn forget_death(deaths: &mut TimeIndex, version: &VersionKey, died: Option<Time>)
+    ensures { deaths.new ≡ times_without deaths.old version.now died }
+{
+    if let Some(died) = died {
+        deaths.remove(died, *version);
     }
 }

@@ -8,6 +8,7 @@ mod facts;
 mod journal;
 mod replace;
 mod shown;
+mod stated;
 mod tables;
 mod versions;
 

@@ -1,20 +1,17 @@
 //! The facts of a replica, as chains of versions by table and key.
 
-ghost use Rattle.std.specs.Prelude.{◌≡◌, ◌==◌, length, is_some, ◌++◌, map, ◌⊎◌, ◌↔◌, ◌<◌, IsTrue, OnOk, OnErr, IfErr, IfOk, IfSome, IfNone, Ok, Err, Some, None, ℕ};
+ghost use Rattle.std.specs.Prelude.{◌≡◌, ◌==◌, length, is_some, ◌⊎◌, ◌↔◌, ◌<◌, IsTrue, OnOk, OnErr, IfErr, IfOk, IfSome, IfNone, Ok, Err, Some, None, ℕ};
 ghost use Rattle.std.specs.Option.{option_copied};
 ghost use Rattle.std.specs.Ordering.{nat_cmp};
 ghost use Rattle.std.specs.BTreeMap.{Updates};
 ghost use Rattle.std.specs.FinMap as finmap;
 ghost use Rattle.hk_types.specs.declared.faults.Refusal.TheVariants.{Memory};
 ghost use Rattle.hk_types.specs.declared.version_key.VersionKey.{VersionKey};
-ghost use Rattle.hk_model.specs.Replica.Content.{ended_by};
 ghost use Rattle.hk_model.specs.Replica.Answers.{visible, rows_where};
 ghost use Rattle.hk_store.specs.Reads.{chains_at, with_facts};
-ghost use Rattle.hk_store.specs.Drops.{is_among, end_by, ended_of_chain, ended_of_keyed};
-ghost use Rattle.hk_store.specs.Facts.{entry_if, no_facts, known_at, facts_put, facts_without};
+ghost use Rattle.hk_store.specs.Facts.{no_facts, known_at, facts_put, facts_without};
 
 use hk_facts::{Chain, Fact, Part, TableChains};
-use hk_log::Version;
 use hk_types::{Key, Refusal, Row, Table, Time, VersionKey};
 use std::alloc::{AllocError, Global};
 use std::collections::BTreeMap;
@@ -135,19 +132,6 @@ impl Tables {
         self.tables.remove(&version.table);
     }
 
-    /// The versions whose end is known and at most `until`. The only error is out of memory. Cost: O(n),
-    /// n facts.
-    pub fn ended(&self, until: Time) -> Result<Vec<VersionKey>, AllocError>
-        ensures { IfOk result (λ versions. (q : VersionKey) → is_among versions.items q
-            ≡ ended_by self.now.ends until q) }
-    {
-        let mut found = Vec::new(self.alloc);
-        for (table, keyed) in &self.tables {
-            list_keyed(&mut found, *table, keyed, until)?;
-        }
-        Ok(found)
-    }
-
     /// How many rows of a table show at a time. It takes no memory. Cost: O(log n + k · (log n + s)),
     /// n facts, k keys of the table, s versions without a row that are stepped over at a key.
     pub fn count_at(&self, table: Table, time: Time) -> usize
@@ -181,56 +165,6 @@ fn count_chains(keyed: &TableChains, time: Time) -> usize
         .iter()
         .filter(|(_key, chain)| chain.at(time).is_some())
         .count()
-}
-
-fn list_keyed(
-    found: &mut Vec<VersionKey>,
-    table: Table,
-    keyed: &TableChains,
-    until: Time,
-) -> Result<(), AllocError>
-    ensures { OnOk result (found.new.items ≡ found.old.items ++ ended_of_keyed until table keyed.now) }
-{
-    for (key, chain) in keyed.iter() {
-        list_chain(found, table, *key, chain, until)?;
-    }
-    Ok(())
-}
-
-fn list_chain(
-    found: &mut Vec<VersionKey>,
-    table: Table,
-    key: Key,
-    chain: &Chain,
-    until: Time,
-) -> Result<(), AllocError>
-    ensures { OnOk result (found.new.items ≡ found.old.items ++ ended_of_chain until table key chain.now) }
-{
-    for (born, version) in chain.iter() {
-        let ended = VersionKey {
-            table,
-            key,
-            born: *born,
-        };
-        list_version(found, ended, version, until)?;
-    }
-    Ok(())
-}
-
-fn list_version(
-    found: &mut Vec<VersionKey>,
-    ended: VersionKey,
-    version: &Version,
-    until: Time,
-) -> Result<(), AllocError>
-    ensures { OnOk result (found.new.items ≡ found.old.items ++ map (λ e. e.0) (entry_if ended (end_by until version.now))) }
-{
-    if let Some(died) = version.died()
-        && died <= until
-    {
-        found.push(ended)?;
-    }
-    Ok(())
 }
 
 fn insert(

@@ -3,14 +3,16 @@
 ghost use Rattle.std.specs.Prelude.{◌≡◌, ◌++◌, ◌∷◌, [], IfOk, OnOk, map};
 ghost use Rattle.std.specs.Option.{option_copied};
 ghost use Rattle.std.specs.List.{list_any};
+ghost use Rattle.std.specs.FinSet as set;
 ghost use Rattle.std.specs.Map.Iter.{ShowsInOrder, deref};
 ghost use Rattle.hk_types.specs.declared.version_key.VersionKey.{VersionKey};
 ghost use Rattle.hk_model.specs.Replica.Rules.{contents_conflict};
 ghost use Rattle.hk_store.specs.Facts.{known_at};
 ghost use Rattle.hk_store.specs.Reads.{with_facts};
-ghost use Rattle.hk_store.specs.Versions.{AreVersions, borrowed, value_conflicts_at, conflict_at};
+ghost use Rattle.hk_store.specs.Versions.{AreVersions, AreVersionsOf, borrowed, value_conflicts_at, conflict_at};
 
 use crate::facts::Facts;
+use hk_index::KeyIndex;
 use hk_log::Version;
 use hk_types::VersionKey;
 use std::alloc::{AllocError, Global};
@@ -30,8 +32,21 @@ impl Facts {
     pub fn versions(&self, alloc: Global) -> Result<Vec<(VersionKey, &Version)>, AllocError>
         ensures { IfOk result (λ versions. AreVersions self.now (map borrowed versions.items)) }
     {
+        self.versions_of(alloc, &self.keys)
+    }
+
+    /// Those of a set's versions of which anything is known, in rising order. The only error is out of
+    /// memory. Cost: O(k · log n), k versions of the set, n facts.
+    pub fn versions_of(
+        &self,
+        alloc: Global,
+        some: &KeyIndex,
+    ) -> Result<Vec<(VersionKey, &Version)>, AllocError>
+        ensures { IfOk result (λ versions.
+            AreVersionsOf self.now (set.contains some.now) (map borrowed versions.items)) }
+    {
         let mut found = Vec::new(alloc);
-        for version in self.keys.iter() {
+        for version in some.iter() {
             if let Some(known) = self.version(version) {
                 push_borrowed(&mut found, *version, known)?;
             }

@@ -1,9 +1,10 @@
 use Rattle.std.proofs.Common.{◌≡◌, refl, sym, ap, ◌∙◌, subst, map, nat_lt, true, false, ◌==◌, ◌++◌}
 use Rattle.std.specs.FinSet as set
+use Rattle.hk_types.specs.declared.version_key.VersionKey.{VersionKey}
 use Rattle.hk_store.specs.Reads.{facts_of_content}
-use Rattle.hk_store.specs.Versions.{AreVersions, borrowed}
+use Rattle.hk_store.specs.Versions.{AreVersionsOf, borrowed}
 use Rattle.hk_merge.specs.Listed.{fragment_sent}
-use Rattle.hk_merge.specs.Plans.{rises, all_gone, rows_back, ends_back}
+use Rattle.hk_merge.specs.Plans.{rises, may_go, all_gone, rows_back, ends_back}
 use Rattle.hk_merge.proofs.RisingHorizon.{facts_are, row_sent, risen_drops, risen_rows, risen_ends, level_drops, level_rows, level_ends, no_rise, some_rise}
 use Rattle.hk_merge.proofs.join.rise.Goals as goal
 
@@ -28,16 +29,19 @@ returns c =
     let up : rises t f ≡ true = ap (λ n. nat_lt n f.content.horizon) (sym c.horizon.ensures.value) ∙ some_rise c.horizon.result f.content.horizon (sym c.ge.ensures ∙ c.if-ge.false) in
     let whole : c.eq.result ≡ (f.base == 0) = c.eq.ensures ∙ ap (λ n. f.base == n) c.zero.ensures in
     let own = map borrowed c.in_ok-own.own.items in
-    let are : AreVersions (facts_of_content t) own = subst (λ x. AreVersions x own) (facts_are c.facts.result.now t c.facts.ensures.rows c.facts.ensures.ends) c.in_ok-own.ensures in
+    let some = set.contains c.in_ok-some.some in
+    let same = facts_are c.facts.result.now t c.facts.ensures.rows c.facts.ensures.ends in
+    let are : AreVersionsOf (facts_of_content t) some own = subst (λ x. AreVersionsOf x some own) (facts_are c.facts-2.result.now t c.facts-2.ensures.rows c.facts-2.ensures.ends) c.in_ok-own.ensures in
+    let may : (q : VersionKey) → some q ≡ may_go c.eq.result f.content.horizon (facts_of_content t) q = λ q. c.in_ok-some.ensures.ok q ∙ ap (λ x. may_go c.eq.result f.content.horizon x q) same in
     let rows = c.in_ok-with_rows.field-0 in
     let sent = row_sent (map borrowed c.args.sent.now.facts.now) c.requires rows c.in_ok-with_rows.ensures.ok in
     let e = c.in_ok-leave.ensures in
     let old = c.args.change.now in
     let new = c.leave.new.change in
     record {
-      drops = risen_drops t f up own are c.eq.result whole rows sent old.drops.items new.drops.items (e.drops ∙ ap (λ l. old.drops.items ++ all_gone c.eq.result f.content.horizon (set.contains rows) (map borrowed l)) c.deref.ensures.value);
-      rows = risen_rows t f up own are c.eq.result whole rows sent old.rows.items new.rows.items (e.rows ∙ ap (λ l. old.rows.items ++ rows_back c.eq.result f.content.horizon (set.contains rows) (map borrowed l)) c.deref.ensures.value);
-      ends = risen_ends t f up own are c.eq.result whole rows sent old.ends.items new.ends.items (e.ends ∙ ap (λ l. old.ends.items ++ ends_back c.eq.result f.content.horizon (set.contains rows) (map borrowed l)) c.deref.ensures.value);
+      drops = risen_drops t f up own some are c.eq.result whole rows sent may old.drops.items new.drops.items (e.drops ∙ ap (λ l. old.drops.items ++ all_gone c.eq.result f.content.horizon (set.contains rows) (map borrowed l)) c.deref.ensures.value);
+      rows = risen_rows t f up own some are c.eq.result whole rows sent may old.rows.items new.rows.items (e.rows ∙ ap (λ l. old.rows.items ++ rows_back c.eq.result f.content.horizon (set.contains rows) (map borrowed l)) c.deref.ensures.value);
+      ends = risen_ends t f up own some are c.eq.result whole rows sent may old.ends.items new.ends.items (e.ends ∙ ap (λ l. old.ends.items ++ ends_back c.eq.result f.content.horizon (set.contains rows) (map borrowed l)) c.deref.ensures.value);
       horizon = c.leave.ensures.horizon;
       got = c.leave.ensures.got;
       err = tt;

@@ -1,4 +1,6 @@
 use Rattle.std.proofs.Common.{◌≡◌, sym, ap, ◌∙◌, subst, false, nat_lt, nat_le}
+use Rattle.std.specs.Result.{IsErrAnd}
+use Rattle.hk_types.specs.declared.faults.Refusal.{Refusal}
 use Rattle.hk_model.specs.Replica.Content.{Content, readable}
 use Rattle.hk_state.specs.Calls.{Prunes}
 use Rattle.hk_state.specs.Replica.{content_of_parts}
@@ -14,7 +16,7 @@ returns-in_err-drop_until-clause-gives c =
     let below : nat_lt (readable here) t ≡ false = ap (λ n. nat_lt n t) (sym c.readable-readable.ensures.value) ∙ sym (not_below c.readable-readable.result t) ∙ sym c.lt.ensures ∙ c.if-lt.false in
     let above : nat_le t a.horizon ≡ false = sym (not_above t a.horizon) ∙ sym c.le.ensures ∙ c.if-le.false in
     subst (λ (x : Content). Prunes x after t c.from_residual.result) c.self.view_is
-    (prune_refused a.config a.horizon a.facts a.got t below above c.from_residual.result c.from_residual.ensures.0 c.from_residual.ensures.1 c.drop_until.new.self c.in_err-drop_until.ensures.err)
+    (prune_refused a.config a.horizon a.facts a.got t below above c.from_residual.result c.from_residual.ensures.0 (subst (λ (w : Refusal). IsErrAnd c.from_residual.result (λ why. why ≡ w)) c.in_err-drop_until.ensures.err c.from_residual.ensures.1) c.drop_until.new.self c.in_err-drop_until.ensures.kept)
 
 pub invariant_of-self-2 : goal.invariant_of-self-2
 invariant_of-self-2 c =

@@ -1,4 +1,7 @@
+use Rattle.hk_store.proofs.TimedFacts.{until_ended}
 use Rattle.hk_store.proofs.facts.Facts.ended.Goals as goal
 
-pub returns : goal.returns
-returns c = rw (← c.self.view_is) c.ended.ensures
+pub returns-clause-ok : goal.returns-clause-ok
+returns-clause-ok c =
+    let a = c.self.inside in
+    rw (← c.self.view_is) (until_ended a.tables a.deaths c.self.invariant.dead c.args.until c.until.result (λ w. w.items) c.until.ensures.ok)

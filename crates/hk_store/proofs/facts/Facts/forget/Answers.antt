@@ -1,22 +1,18 @@
 use Rattle.std.proofs.Common.{sym, ap, ◌∙◌}
-use Rattle.hk_store.specs.Indexed.{tag_lost}
-use Rattle.hk_store.proofs.Indexed.{part_gone, part_rowless}
+use Rattle.hk_store.specs.Indexed.{tag_lost, end_lost}
+use Rattle.hk_store.proofs.TimedFacts.{tags_left, births_left, deaths_left}
 use Rattle.hk_store.proofs.facts.Facts.forget.Goals as goal
 
 pub invariant_of-self : goal.invariant_of-self
 invariant_of-self c =
     let a = c.self.inside in
     let v = c.args.version.now in
+    let part = c.args.part in
+    let tag = c.tag_of-tag.ensures ∙ ap (λ f. tag_lost f v part) (sym c.self.view_is) in
+    let died = c.end_of-died.ensures ∙ ap (λ f. end_lost f v part) (sym c.self.view_is) in
     record {
-      tagged = rw (c.remove.ensures, c.forget_listed.ensures.value) (part_gone a.tables a.tags c.self.invariant.tagged v c.args.part c.in-Some.tag (ap (λ f. tag_lost f v c.args.part) c.self.view_is ∙ sym c.in-Some.ensures));
-      keyed = c.forget_listed.ensures.keyed;
-    }
-
-pub invariant_of-self-in_default : goal.invariant_of-self-in_default
-invariant_of-self-in_default c =
-    let a = c.self.inside in
-    let v = c.args.version.now in
-    record {
-      tagged = rw c.forget_listed.ensures.value (part_rowless a.tables a.tags c.self.invariant.tagged v c.args.part (ap (λ f. tag_lost f v c.args.part) c.self.view_is ∙ sym c.in_default.ensures));
+      tagged = rw (c.forget_birth.ensures.tags, c.forget_listed.ensures.value, tag) (tags_left a.tables v a.tags c.self.invariant.tagged part);
+      born = rw (c.forget_birth.ensures.births, c.forget_listed.ensures.value, tag) (births_left a.tables v a.births c.self.invariant.born part);
+      dead = rw (c.forget_death.ensures, c.forget_listed.ensures.value, died) (deaths_left a.tables v a.deaths c.self.invariant.dead part);
       keyed = c.forget_listed.ensures.keyed;
     }

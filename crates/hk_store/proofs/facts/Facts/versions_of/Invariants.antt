@@ -3,7 +3,7 @@ use Rattle.std.specs.Option.{is_some}
 use Rattle.std.specs.Map.Iter.{deref}
 use Rattle.hk_store.specs.Facts.{known_at}
 use Rattle.hk_store.specs.Versions.{borrowed}
-use Rattle.hk_store.proofs.facts.Facts.versions.Given as goal
+use Rattle.hk_store.proofs.facts.Facts.versions_of.Given as goal
 
 abbrev pub invariant-loop-version : goal.invariant-loop-version
 invariant-loop-version l = record {

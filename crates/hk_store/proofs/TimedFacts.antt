@@ -1,0 +1,206 @@
+-- Indexes by time follow the facts.
+use Rattle.std.proofs.Common.{◌≡◌, refl, sym, ap, ◌∙◌, subst, ℕ, Bool, true, false, cond, not, ◌||◌, ◌&&◌, ◌==◌, Option, Some, None, Result, Ok, Err, IfOk, OnOk, OnErr, option_map, nat_le, arith, List, ◌++◌}
+use Rattle.std.proofs.lemmas.Bool.Decides.{nat_tests}
+use Rattle.std.proofs.lemmas.List.Folds.{list_any-append}
+use Rattle.std.specs.Option.{is_some}
+use Rattle.std.specs.Ordering.{eq_by_cmp}
+use Rattle.std.specs.FinMap as finmap
+use Rattle.std.specs.FinSet as set
+use Rattle.hk_types.specs.Values.{RowValue}
+use Rattle.hk_types.specs.declared.version_key.VersionKey.{VersionKey}
+use Rattle.hk_types.specs.declared.faults.Refusal.{Refusal}
+use Rattle.hk_model.specs.History.Rows.{version_key_cmp}
+use Rattle.hk_model.specs.Replica.Content.{at_most, ended_by}
+use Rattle.hk_model.specs.Replica.Maps.{or_else}
+use Rattle.hk_model.proofs.Maps.{version_key_total}
+use Rattle.hk_index.specs.Tagged.{tagged_cmp}
+use Rattle.hk_index.specs.declared.timed.TimedVersion.{TimedVersion}
+use Rattle.hk_index.specs.Timed.{timed_cmp, is_at, AreTimed, passes_at, versions_where}
+use Rattle.hk_index.proofs.StoredTimes.{timed_total, timed_same, tied_parts, tied_timed, timed_where}
+use Rattle.hk_facts.specs.declared.fact.Fact.{Fact}
+use Rattle.hk_facts.specs.declared.fact.Fact.TheVariants.{Row, End}
+use Rattle.hk_facts.specs.declared.fact.Part.{Part}
+use Rattle.hk_facts.specs.declared.fact.Part.TheVariants.{Row as RowPart, End as EndPart, Whole}
+use Rattle.hk_store.specs.Facts.{FactsValue, no_facts, with_fact_at, facts_put, facts_without}
+use Rattle.hk_store.specs.Drops.{is_among}
+use Rattle.hk_store.specs.Indexed.{AreTagged, AreKeyed, AreIndexed, born_at, died_at, is_stated, tag_lost, end_lost, tags_without, times_without}
+use Rattle.hk_store.proofs.StoredFacts.{tied, key_tied}
+use Rattle.hk_store.proofs.ChangedChains.{get-added, get-without, tied_is}
+use Rattle.hk_store.proofs.Indexed.{part_gone, part_rowless, put_is}
+
+abbrev Times : Type 0
+Times = set.FinSet timed_cmp
+
+abbrev at_time : ℕ → VersionKey → TimedVersion
+at_time time v = record { time = time; version = v }
+
+tied_at : (t n : ℕ) (q v : VersionKey) → eq_by_cmp timed_cmp (at_time t q) (at_time n v) ≡ ((t == n) && tied q v)
+tied_at t n q v = tied_parts (at_time t q) (at_time n v) ∙ ap (λ b. (t == n) && b) (key_tied q v)
+
+same_number : (a b : ℕ) → (a == b) ≡ (b == a)
+same_number a b = grind (arith, nat_tests)
+
+with_time : (index : Times) (t n : ℕ) (q v : VersionKey) → set.contains (set.insert index (at_time n v)) (at_time t q) ≡ (((t == n) && tied q v) || set.contains index (at_time t q))
+with_time index t n q v = set.contains-insert timed_total index (at_time n v) (at_time t q) ∙ ap (λ b. b || set.contains index (at_time t q)) (tied_at t n q v)
+
+without_time : (index : Times) (t n : ℕ) (q v : VersionKey) → set.contains (set.remove index (at_time n v)) (at_time t q) ≡ (not ((t == n) && tied q v) && set.contains index (at_time t q))
+without_time index t n q v = set.contains-remove timed_total index (at_time n v) (at_time t q) ∙ ap (λ b. not b && set.contains index (at_time t q)) (tied_at t n q v)
+
+-- a member that was not there is added and taken back
+pub time_back : (index : Times) (x : TimedVersion) → set.contains index x ≡ false → set.remove (set.insert index x) x ≡ index
+time_back index x none = set.same_set timed_total timed_same _ _ (λ q.
+    set.contains-remove timed_total (set.insert index x) x q
+    ∙ ap (λ b. not (eq_by_cmp timed_cmp q x) && b) (set.contains-insert timed_total index x q)
+    ∙ cases q (eq_by_cmp timed_cmp q x) refl)
+  where
+    cases : (q : TimedVersion) (b : Bool) → eq_by_cmp timed_cmp q x ≡ b → (not b && (b || set.contains index q)) ≡ set.contains index q
+    cases q true e = sym (ap (set.contains index) (tied_timed q x e) ∙ none)
+    cases q false e = refl
+
+module _ (at : VersionKey → Option ℕ) (index : Times) (are : AreTimed at index) (v : VersionKey) where
+  -- a version without a time is not in the index
+  pub none_at : (n : ℕ) → at v ≡ None → set.contains index (at_time n v) ≡ false
+  none_at n none = are n v ∙ ap (is_at n) none
+
+  -- a time where there was none
+  time_added : (n : ℕ) → at v ≡ None → (now : VersionKey → Option ℕ) → ((q : VersionKey) → now q ≡ cond (tied q v) (Some n) (at q)) → AreTimed now (set.insert index (at_time n v))
+  time_added n none now is t q =
+      with_time index t n q v
+      ∙ ap (λ b. ((t == n) && tied q v) || b) (are t q)
+      ∙ there (tied q v) refl
+      ∙ sym (ap (is_at t) (is q))
+    where
+      clean : (b : Bool) → ((b && true) || false) ≡ b
+      clean true = refl
+      clean false = refl
+
+      old_time : (a b : Bool) → ((a && false) || b) ≡ b
+      old_time true b = refl
+      old_time false b = refl
+
+      there : (b : Bool) → tied q v ≡ b → (((t == n) && b) || is_at t (at q)) ≡ is_at t (cond b (Some n) (at q))
+      there true e = ap (λ o. ((t == n) && true) || is_at t o) (ap at (tied_is q v e) ∙ none) ∙ clean (t == n) ∙ same_number t n
+      there false e = old_time (t == n) (is_at t (at q))
+
+  -- the time that there was is taken away
+  time_lost : (o : Option ℕ) → o ≡ at v → (now : VersionKey → Option ℕ) → ((q : VersionKey) → now q ≡ cond (tied q v) None (at q)) → AreTimed now (times_without index v o)
+  time_lost None e now is t q = are t q ∙ sym (ap (is_at t) (is q ∙ there (tied q v) refl))
+    where
+      there : (b : Bool) → tied q v ≡ b → cond b None (at q) ≡ at q
+      there true f = e ∙ sym (ap at (tied_is q v f))
+      there false f = refl
+  time_lost (Some n) e now is t q =
+      without_time index t n q v
+      ∙ ap (λ b. not ((t == n) && tied q v) && b) (are t q)
+      ∙ there (tied q v) refl
+      ∙ sym (ap (is_at t) (is q))
+    where
+      gone : (a b : Bool) → b ≡ a → (not (a && true) && b) ≡ false
+      gone true b e = refl
+      gone false b e = e
+
+      still : (a b : Bool) → (not (a && false) && b) ≡ b
+      still true b = refl
+      still false b = refl
+
+      there : (b : Bool) → tied q v ≡ b → (not ((t == n) && b) && is_at t (at q)) ≡ is_at t (cond b None (at q))
+      there true f = ap (λ o. not ((t == n) && true) && is_at t o) (ap at (tied_is q v f) ∙ sym e) ∙ gone (t == n) (n == t) (same_number n t)
+      there false f = still (t == n) (is_at t (at q))
+
+-- ---- births and deaths
+
+module _ (f : FactsValue) (v : VersionKey) where
+  mapped : {X : Type 0} (g : X → ℕ) (b : Bool) (x : Option X) → option_map g (cond b None x) ≡ cond b None (option_map g x)
+  mapped g true x = refl
+  mapped g false x = refl
+
+  pub births_added : (births : Times) → AreTimed (born_at f) births → (row : RowValue) → finmap.get f.rows v ≡ None → AreTimed (born_at (with_fact_at f v (Row row))) (set.insert births (at_time v.born v))
+  births_added births are row none =
+      time_added (born_at f) births are v v.born (ap (option_map (λ (r : RowValue). v.born)) none) (born_at (with_fact_at f v (Row row)))
+      (λ q. ap (option_map (λ (r : RowValue). q.born)) (get-added f.rows v row q ∙ ap (λ o. cond (tied q v) (or_else o (Some row)) (finmap.get f.rows q)) none) ∙ there q (tied q v) refl)
+    where
+      there : (q : VersionKey) (b : Bool) → tied q v ≡ b → option_map (λ r. q.born) (cond b (Some row) (finmap.get f.rows q)) ≡ cond b (Some v.born) (option_map (λ r. q.born) (finmap.get f.rows q))
+      there q true e = ap (λ (w : VersionKey). Some w.born) (tied_is q v e)
+      there q false e = refl
+
+  pub deaths_added : (deaths : Times) → AreTimed (died_at f) deaths → (died : ℕ) → finmap.get f.ends v ≡ None → AreTimed (died_at (with_fact_at f v (End died))) (set.insert deaths (at_time died v))
+  deaths_added deaths are died none =
+      time_added (died_at f) deaths are v died none (died_at (with_fact_at f v (End died)))
+      (λ q. get-added f.ends v died q ∙ ap (λ o. cond (tied q v) (or_else o (Some died)) (finmap.get f.ends q)) none)
+
+  rows_left : (births : Times) → AreTimed (born_at f) births → (g : FactsValue) → ((q : VersionKey) → finmap.get g.rows q ≡ cond (tied q v) None (finmap.get f.rows q)) → AreTimed (born_at g) (times_without births v (option_map (λ t. v.born) (option_map (λ r. r.tag) (finmap.get f.rows v))))
+  rows_left births are g left =
+      time_lost (born_at f) births are v _ (twice (finmap.get f.rows v)) (born_at g) (λ q. ap (option_map (λ (r : RowValue). q.born)) (left q) ∙ mapped (λ (r : RowValue). q.born) (tied q v) (finmap.get f.rows q))
+    where
+      twice : (o : Option RowValue) → option_map (λ t. v.born) (option_map (λ r. r.tag) o) ≡ option_map (λ r. v.born) o
+      twice None = refl
+      twice (Some r) = refl
+
+  pub births_left : (births : Times) → AreTimed (born_at f) births → (part : Part) → AreTimed (born_at (facts_without f v part)) (times_without births v (option_map (λ t. v.born) (tag_lost f v part)))
+  births_left births are RowPart = rows_left births are (facts_without f v RowPart) (get-without f.rows v)
+  births_left births are Whole = rows_left births are (facts_without f v Whole) (get-without f.rows v)
+  births_left births are EndPart = are
+
+  pub deaths_left : (deaths : Times) → AreTimed (died_at f) deaths → (part : Part) → AreTimed (died_at (facts_without f v part)) (times_without deaths v (end_lost f v part))
+  deaths_left deaths are RowPart = are
+  deaths_left deaths are Whole = time_lost (died_at f) deaths are v (finmap.get f.ends v) refl (died_at (facts_without f v Whole)) (get-without f.ends v)
+  deaths_left deaths are EndPart = time_lost (died_at f) deaths are v (finmap.get f.ends v) refl (died_at (facts_without f v EndPart)) (get-without f.ends v)
+
+  pub tags_left : (tags : set.FinSet tagged_cmp) → AreTagged f tags → (part : Part) → AreTagged (facts_without f v part) (tags_without tags v (tag_lost f v part))
+  tags_left tags are part = by (tag_lost f v part) refl
+    where
+      by : (o : Option ℕ) → tag_lost f v part ≡ o → AreTagged (facts_without f v part) (tags_without tags v o)
+      by None e = part_rowless f tags are v part e
+      by (Some tag) e = part_gone f tags are v part tag e
+
+pub none_born : (f : FactsValue) (v : VersionKey) → finmap.get f.rows v ≡ None → born_at f v ≡ None
+none_born f v none = ap (option_map (λ (r : RowValue). v.born)) none
+
+-- what a put of an end leaves, told or refused
+pub end_put : (f g : FactsValue) (v : VersionKey) {A : Type 0} (r : Result A Refusal) → OnErr r (g ≡ f) → (died : ℕ) → OnOk r (facts_put f v (End died) ≡ Ok g) → finmap.get f.ends v ≡ None
+    → (tags : set.FinSet tagged_cmp) (births deaths : Times) (keys : set.FinSet version_key_cmp) → AreIndexed f tags births deaths keys
+    → (now : Times) (known : set.FinSet version_key_cmp) → OnOk r (now ≡ set.insert deaths (at_time died v)) → OnErr r (now ≡ deaths) → AreKeyed g known → AreIndexed g tags births now known
+end_put f g v (Ok done) kept died ok none tags births deaths keys are now known timed untimed keyed =
+    let is = put_is f g v (End died) ok in
+    record {
+      tagged = subst (λ h. AreTagged h tags) (sym is) are.tagged;
+      born = subst (λ h. AreTimed (born_at h) births) (sym is) are.born;
+      dead = subst (λ h. AreTimed (died_at h) now) (sym is) (subst (λ s. AreTimed (died_at (with_fact_at f v (End died))) s) (sym timed) (deaths_added f v deaths are.dead died none));
+      keyed = keyed;
+    }
+end_put f g v (Err why) kept died ok none tags births deaths keys are now known timed untimed keyed = record {
+  tagged = subst (λ h. AreTagged h tags) (sym kept) are.tagged;
+  born = subst (λ h. AreTimed (born_at h) births) (sym kept) are.born;
+  dead = subst (λ h. AreTimed (died_at h) now) (sym kept) (subst (λ s. AreTimed (died_at f) s) (sym untimed) are.dead);
+  keyed = keyed;
+}
+
+-- ---- what the indexes by time list
+
+among : (vs : List VersionKey) (q : VersionKey) → is_among vs q ≡ set.contains (set.from_list {R = version_key_cmp} vs) q
+among vs q = sym (set.contains-from_list version_key_total vs q)
+
+pub ended_listed : (f : FactsValue) (deaths : Times) → AreTimed (died_at f) deaths → (h : ℕ) (vs : List VersionKey) → set.from_list vs ≡ versions_where deaths (λ t. nat_le t h) → (q : VersionKey) → is_among vs q ≡ ended_by f.ends h q
+ended_listed f deaths are h vs is q = among vs q ∙ ap (λ s. set.contains s q) is ∙ timed_where (died_at f) deaths are (λ t. nat_le t h) q ∙ at (finmap.get f.ends q)
+  where
+    at : (o : Option ℕ) → passes_at (λ t. nat_le t h) o ≡ at_most h o
+    at None = refl
+    at (Some d) = refl
+
+pub stated_listed : (f : FactsValue) (births deaths : Times) → AreTimed (born_at f) births → AreTimed (died_at f) deaths → (test : ℕ → Bool) (vs ws : List VersionKey) → set.from_list vs ≡ versions_where births test → set.from_list ws ≡ versions_where deaths test
+    → (index : set.FinSet version_key_cmp) → index ≡ set.from_list (vs ++ ws) → (q : VersionKey) → set.contains index q ≡ is_stated f test q
+stated_listed f births deaths born dead test vs ws first second index is q =
+    ap (λ s. set.contains s q) is
+    ∙ sym (among (vs ++ ws) q)
+    ∙ list_any-append (eq_by_cmp version_key_cmp q) vs ws
+    ∙ (λ i. (among vs q ∙ ap (λ s. set.contains s q) first ∙ timed_where (born_at f) births born test q) i || (among ws q ∙ ap (λ s. set.contains s q) second ∙ timed_where (died_at f) deaths dead test q) i)
+
+-- as their calls answer
+pub until_ended : (f : FactsValue) (deaths : Times) → AreTimed (died_at f) deaths → (h : ℕ) {A E : Type 0} (r : Result A E) (items : A → List VersionKey) → IfOk r (λ w. set.from_list (items w) ≡ versions_where deaths (λ t. nat_le t h)) → IfOk r (λ w. (q : VersionKey) → is_among (items w) q ≡ ended_by f.ends h q)
+until_ended f deaths are h (Ok w) items is = ended_listed f deaths are h (items w) is
+until_ended f deaths are h (Err why) items is = tt
+
+pub either_stated : (f : FactsValue) (births deaths : Times) → AreTimed (born_at f) births → AreTimed (died_at f) deaths → (test : ℕ → Bool) (vs ws : List VersionKey) → set.from_list vs ≡ versions_where births test → set.from_list ws ≡ versions_where deaths test
+    → (more : List VersionKey) → more ≡ ws → {E : Type 0} (r : Result (set.FinSet version_key_cmp) E) → IfOk r (λ index. index ≡ set.from_list (vs ++ more)) → IfOk r (λ index. (q : VersionKey) → set.contains index q ≡ is_stated f test q)
+either_stated f births deaths born dead test vs ws first second more same (Ok index) is = stated_listed f births deaths born dead test vs ws first second index (is ∙ ap (λ l. set.from_list (vs ++ l)) same)
+either_stated f births deaths born dead test vs ws first second more same (Err why) is = tt

@@ -1,0 +1,16 @@
+use Rattle.std.proofs.Common.{sym}
+use Rattle.hk_store.proofs.JournalUndone.{none_here}
+use Rattle.hk_store.proofs.TimedFacts.{none_at, end_put}
+use Rattle.hk_store.specs.Indexed.{died_at}
+use Rattle.hk_store.proofs.facts.Facts.put_end.Goals as goal
+
+pub put_timed-requires-clause-new : goal.put_timed-requires-clause-new
+put_timed-requires-clause-new c =
+    let a = c.self.inside in
+    none_at (died_at a.tables) a.deaths c.self.invariant.dead c.args.version.now c.args.died (none_here c.end_at.result _ c.end_at.ensures (sym c.if-is_some.ensures))
+
+pub invariant_of-self-2 : goal.invariant_of-self-2
+invariant_of-self-2 c =
+    let a = c.self.inside in
+    let e = c.put_timed.ensures in
+    end_put a.tables c.put_timed.new.tables c.args.version.now c.put_timed.result e.kept c.args.died e.ok (none_here c.end_at.result _ c.end_at.ensures (sym c.if-is_some.ensures)) a.tags a.births a.deaths a.keys c.self.invariant c.put_timed.new.index c.put_timed.new.keys e.timed e.untimed e.keyed
