@@ -53,7 +53,7 @@ fn prints_each_fault(rt: HostRuntime) -> Result<(), Fail> {
     Ok(())
 }
 
-/// The refusal of a number, with table 1, key 5, the times 2, 6 and 9, reader 3 and 8 operations; `Memory` for others.
+/// The refusal of a number, with table 1, key 5, stream 2, the times 2, 6 and 9, reader 3 and 8 operations; `Memory` for others.
 fn refusal_of(number: u8) -> Result<Refusal, Fail> {
     let (table, key, at) = (Table::new(1), Key::new(5), Time::new(2)?);
     let (base, readable) = (Time::new(9)?, Time::new(6)?);
@@ -71,6 +71,9 @@ fn refusal_of(number: u8) -> Result<Refusal, Fail> {
         33 => Refusal::TooManyWrites,
         34 => Refusal::NoStream,
         35 => Refusal::ClockFull,
+        36 => Refusal::Retired {
+            stream: StreamNo::new(2)?,
+        },
         40 => Refusal::Held { reader: 3, at },
         41 => Refusal::Damaged,
         42 => Refusal::Unpublished { ops: 8 },
@@ -82,7 +85,7 @@ fn refusal_of(number: u8) -> Result<Refusal, Fail> {
 }
 
 /// The numbers of refusals, and what these are printed as.
-const REFUSALS: [(u8, &str); 20] = [
+const REFUSALS: [(u8, &str); 21] = [
     (20, "another log"),
     (
         21,
@@ -99,6 +102,7 @@ const REFUSALS: [(u8, &str); 20] = [
     (33, "the transaction has 1,024 writes already"),
     (34, "no such stream"),
     (35, "the last time is given out"),
+    (36, "stream 2 is retired"),
     (40, "reader 3 holds 2"),
     (41, "the node met a conflict"),
     (42, "not yet published: operation 8"),

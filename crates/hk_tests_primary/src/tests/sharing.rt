@@ -6,7 +6,7 @@ use super::transaction;
 use hk_log::Item;
 use hk_primary::{Answer, Naming, Query, SharedPrimary, Txn};
 use hk_tests_values::{stream, time};
-use hk_types::{Config, StreamNo, Table, Time};
+use hk_types::{Config, LAST_TIME, StreamNo, Table, Time};
 use std::alloc::Global;
 use std::marker::Brand;
 use std::sync::Wait;
@@ -106,9 +106,27 @@ fn two_threads_commit(rt: HostRuntime) -> Result<(), Fail> {
     Ok(())
 }
 
+/// The time of the mark that retires stream 2, the number with which it is refused the second time, and up to when may
+/// be read after stream 1 is retired too.
+fn retired<K: Naming, R: Wait>(
+    rt: &R,
+    primary: &SharedPrimary<K>,
+    share: &mut Share<K>,
+) -> Result<(u64, u8, u64), Fail>
+    requires { 0 < share.old.parts }
+{
+    let mark = primary.retire(rt, share, stream(2)?)?;
+    let again = match primary.retire(rt, share, stream(2)?) {
+        Ok(_mark) => 0,
+        Err(why) => why.number(),
+    };
+    primary.retire(rt, share, stream(1)?)?;
+    Ok((mark.m().number(), again, primary.readable(rt).number()))
+}
+
 /// What a shared primary tells whose clock started after 4, with key 5 put on stream 2 at 5: the id of the log, the
-/// last time, that of a new transaction, the mark of stream 2, and what `Count` answers at 4, 5 and 6.
-type Tells = (u64, u64, u64, (u64, u64), [(u8, u64); 3]);
+/// last time, that of a new transaction, the mark of stream 2, what `Count` answers at 4, 5 and 6, and how it retires.
+type Tells = (u64, u64, u64, (u64, u64), [(u8, u64); 3], (u64, u8, u64));
 
 fn told<K: Naming, R: Wait>(
     rt: &R,
@@ -138,6 +156,7 @@ fn told<K: Naming, R: Wait>(
         primary.begin(rt).read_at().number(),
         (mark.n(), mark.m().number()),
         counts,
+        retired(rt, &primary, &mut all)?,
     ))
 }
 
@@ -145,7 +164,8 @@ fn told<K: Naming, R: Wait>(
 fn its_calls_are_those_of_the_primary(rt: HostRuntime) -> Result<(), Fail> {
     let config = Config::new(7, 2)?;
     let told = told::<Brand, HostRuntime>(&rt, rt.alloc(), config, time(4)?, Blank::new(1))?;
-    assert_eq!(rt; told, (7, 5, 5, (1, 5), [(0, 0), (0, 1), (26, 0)]));
+    let counts = [(0, 0), (0, 1), (26, 0)];
+    assert_eq!(rt; told, (7, 5, 5, (1, 5), counts, (LAST_TIME, 36, LAST_TIME)));
     Ok(())
 }
 

@@ -5,7 +5,7 @@ use hk_delta::Fragment;
 use hk_log::Version;
 use hk_marks::Got;
 use hk_tests_values::bytes_of;
-use hk_types::{Config, FormFault, Key, Refusal, StreamNo, Table, Time, VersionKey};
+use hk_types::{Config, FormFault, Key, LAST_TIME, Refusal, StreamNo, Table, Time, VersionKey};
 use hk_wire::{Reply, Request, encode_reply, encode_request};
 use std::alloc::Global;
 use std::test::Fail;
@@ -159,5 +159,24 @@ fn encodes_and_reads_fragments_of_replies_cut_anywhere(rt: HostRuntime) -> Resul
             assert!(rt; heard(alloc, &want, cut)? == want, "{head} cut at {cut}");
         }
     }
+    Ok(())
+}
+
+/// Whether a stream is retired.
+fn is_retired(got: &Got, stream: u16) -> Result<bool, Fail> {
+    let s = StreamNo::new(stream)?;
+    Ok(s.number() <= got.streams() && got.retired(s))
+}
+
+#[test]
+fn a_mark_at_the_last_time_retires_with_its_entries(rt: HostRuntime) -> Result<(), Fail> {
+    let mut got = Got::new(rt.alloc(), Config::new(7, 2)?)?;
+    mark(&mut got, 1, 1, LAST_TIME)?;
+    let waits = is_retired(&got, 1)?;
+    take(&mut got, 1, 1)?;
+    assert_eq!(rt;
+        (waits, is_retired(&got, 1)?, is_retired(&got, 2)?),
+        (false, true, false)
+    );
     Ok(())
 }
