@@ -4,8 +4,8 @@ ghost use Rattle.std.specs.Prelude.{◌≡◌, ◌≤◌, ◌<◌, ℕ, IfErr, I
 ghost use Rattle.hk_types.specs.declared.faults.Refusal.TheVariants.{Memory, NotYet as Early};
 ghost use Rattle.hk_model.specs.Replica.Answers.{answer, answer_seen};
 ghost use Rattle.hk_model.specs.History.Histories.{commits, table_at};
-ghost use Rattle.hk_model.specs.World.Worlds.{readable_on_primary};
 ghost use Rattle.hk_model.specs.declared.query.Query.TheVariants.{Count};
+ghost use Rattle.hk_primary.specs.Calls.{readable_on};
 
 use crate::primary::Primary;
 use hk_query::{Answer, Query, answer_at};
@@ -14,19 +14,20 @@ use hk_types::{Refusal, Time};
 impl Primary {
     /// What the primary answers to a query on the rows that the commits up to a time left.
     ///
-    /// A time above what may be read (see `readable`) is refused `NotYet` with that time, and then `Memory` comes where a
-    /// growth was refused; a `Count` takes no memory. Cost: `Get` O(log n + b), `Range` and `ByTag`
-    /// O((1 + v) · log n + b), `Count` O((1 + k) · log n), n versions, v of them listed by the index, k keys of
-    /// the table, b bytes of the bodies that are copied.
+    /// A time above what may be read (see `readable`) is refused `NotYet` with that time, and then `Memory` comes
+    /// where a growth was refused; a `Count` takes no memory. Cost: that of `readable`, and `Get` O(log n + b),
+    /// `Range` and `ByTag` O((1 + v) · log n + b), `Count` O((1 + k) · log n), n versions, v of them listed by the
+    /// index, k keys of the table, b bytes of the bodies that are copied.
     pub fn ask(&self, time: Time, query: &Query) -> Result<Answer, Refusal>
-        ensures told { IfOk result (λ a. answer_seen a ≡ answer (table_at (commits self.now.history) time) query.now) }
-        ensures known { OnOk result (time ≤ readable_on_primary self.now.config self.now.history) }
-        ensures early { readable_on_primary self.now.config self.now.history < time → IfErr result
-            (λ why. why ≡ Early (readable_on_primary self.now.config self.now.history)) }
-        ensures memory { time ≤ readable_on_primary self.now.config self.now.history → IfErr result (λ why. why ≡ Memory) }
+        ensures told { IfOk result
+            (λ a. answer_seen a ≡ answer (table_at (commits self.now.history) time) query.now) }
+        ensures known { OnOk result (time ≤ readable_on self.now) }
+        ensures early { readable_on self.now < time → IfErr result
+            (λ why. why ≡ Early (readable_on self.now)) }
+        ensures memory { time ≤ readable_on self.now → IfErr result (λ why. why ≡ Memory) }
 
         // A count takes no memory.
-        ensures count { (table : ℕ) → query.now ≡ Count table → time ≤ readable_on_primary self.now.config self.now.history → IsOk result }
+        ensures count { (table : ℕ) → query.now ≡ Count table → time ≤ readable_on self.now → IsOk result }
     {
         let readable = self.readable();
         if readable < time {

@@ -4,8 +4,8 @@ ghost use Rattle.std.specs.Prelude.{◌≡◌, ◌⊎◌, false, ◌≤◌, ◌<
 ghost use Rattle.std.specs.List.{list_all, range_with_len};
 ghost use Rattle.hk_types.specs.declared.faults.Refusal.TheVariants.{Memory};
 ghost use Rattle.hk_model.specs.History.Histories.{commits, entries_in, is_retired, last};
-ghost use Rattle.hk_model.specs.World.Worlds.{mark_now, mark_upto, readable_on_primary, retirement};
-ghost use Rattle.hk_primary.specs.Calls.{mark_refused, with_mark};
+ghost use Rattle.hk_model.specs.World.Worlds.{mark_now, mark_upto, retirement};
+ghost use Rattle.hk_primary.specs.Calls.{mark_refused, readable_on, with_mark};
 ghost use Rattle.hk_primary.specs.Log.{IsHonest, IsNextMark, no_commits};
 ghost use Rattle.hk_primary.specs.Txns.{IsRefusal, no_writes};
 
@@ -97,7 +97,7 @@ impl Primary {
     /// The greatest time that may be read: the time of the last commit, or `LAST_TIME` where all streams are
     /// retired, since no commit can come then. It takes no memory. Cost: O(s), s streams.
     pub fn readable(&self) -> Time
-        ensures value { result ≡ readable_on_primary self.now.config self.now.history }
+        ensures value { result ≡ readable_on self.now }
         ensures honest { IsHonest self.now }
     {
         let newest = self.newest;

@@ -298,7 +298,8 @@ impl<K: Naming> SharedPrimary<K> {
     /// Answers a query at a time, as `Primary::ask` does. Cost: that of `Primary::ask`.
     pub fn ask<R: Wait>(&self, rt: &R, time: Time, query: &Query) -> Result<Answer, Refusal>
         ensures told { IfOk result (λ a. AtSome K.config K.after
-            (λ p. (answer_seen a ≡ answer (table_at (commits p.history) time) query.now) × (time ≤ readable_on p))) }
+            (λ p. (answer_seen a ≡ answer (table_at (commits p.history) time) query.now)
+            × (time ≤ readable_on p))) }
         ensures refused { IfErr result (λ why. AtSome K.config K.after (λ p. NotAnswered p time why)) }
     {
         let held = self.held.lock(rt);
