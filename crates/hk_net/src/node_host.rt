@@ -39,7 +39,8 @@ const WORKERS: usize = 4;
 /// Items are taken all or nothing, as the join of the one fragment that they make. Lists of 4,096 items and
 /// more are gathered by four workers side by side, shorter ones by the thread that answers. A fragment is
 /// joined, and a whole is joined in the same way. A change that took effect is learnt by the seat, so that
-/// the link's later replies show it, and is answered `Done` with the number of operations that ends with it.
+/// the link's later replies show it, and is answered `Done` with the number of operations that ends with it;
+/// how far a prune reached is told by the next front.
 /// A refused change is answered as the node refuses it, and items that make no fragment as their gathering
 /// is; `Unpublished` says that the change stands and waits. The other requests are answered by the seat, and
 /// take no lock. Cost: that of the calls.
@@ -141,7 +142,7 @@ impl<'a, J: NodeName, N: Wait + Drop, R: Threads + Wait + Sync> NodeHost<'a, J, 
         ensures told { IsChangeReply self.new (Some (PruneTo horizon)) (reply_seen result) }
     {
         match self.node.prune(self.rt, horizon) {
-            Ok(receipt) => self.learn(receipt),
+            Ok((_, receipt)) => self.learn(receipt),
             Err(why) => Reply::Refused(why),
         }
     }

@@ -1,11 +1,11 @@
 -- A list whose joins and merges carry parts of one history represents them.
-use Rattle.std.proofs.Common.{◌≡◌, ℕ, ◌≤◌, max, Bool, true, false, if◌then◌else◌, List, [], ◌∷◌, ◌++◌, Option, Some, None, Result, Ok, Err, fold, is_none, refl, sym, ap, ◌∙◌, subst, arith}
-use Rattle.std.specs.Prelude.{IfOk, nat_lt}
+use Rattle.std.proofs.Common.{◌≡◌, ℕ, ◌≤◌, max, Bool, true, false, if◌then◌else◌, List, [], ◌∷◌, ◌++◌, None, Result, Ok, Err, fold, is_none, refl, sym, ap, ◌∙◌, subst, arith}
+use Rattle.std.specs.Prelude.{nat_lt}
 use Rattle.std.proofs.lemmas.Bool.Decides.{nat_tests}
 use Rattle.std.proofs.lemmas.List.Elements.{All-nil}
 use Rattle.hk_types.specs.Values.{ConfigValue}
 use Rattle.hk_types.specs.declared.faults.Refusal.{Refusal}
-use Rattle.hk_types.specs.declared.faults.Refusal.TheVariants.{TooOld, NotYet, Damaged, Memory}
+use Rattle.hk_types.specs.declared.faults.Refusal.TheVariants.{TooOld, NotYet, Damaged}
 use Rattle.hk_log.specs.declared.item.Item.{Item}
 use Rattle.hk_model.specs.declared.answer.Answer.{Answer}
 use Rattle.hk_model.specs.declared.query.Query.{Query}
@@ -14,16 +14,16 @@ use Rattle.hk_model.specs.Replica.ContentOf.{content_of}
 use Rattle.hk_model.specs.Replica.Content.{Content, readable}
 use Rattle.hk_model.specs.Replica.Fragments.{FragmentValue, part}
 use Rattle.hk_model.specs.History.Histories.{History, commits, IsHistory, IsItemOf, table_at}
-use Rattle.hk_model.specs.Replica.Replicas.{Represents, empty_content}
+use Rattle.hk_model.specs.Replica.Replicas.{Represents}
 use Rattle.hk_model.specs.Replica.Rules.{join_result, prune_result}
 use Rattle.hk_model.proofs.Laws.{join_law_proof, represents_both, reply_law_proof, nothing_content_of}
 use Rattle.hk_model.proofs.Steps.{prune_law_proof}
 use Rattle.hk_node.specs.declared.op.Op.{Op}
 use Rattle.hk_node.specs.declared.op.Op.TheVariants.{Start, Join, Merge, Prune, Hold as HoldAt, Release}
 use Rattle.hk_node.specs.NodeContent.{NodeContent}
-use Rattle.hk_node.specs.Replay.{refusal_of, after_join, after_prune, start_content, effect, content_after_op, replay, config_of, legal_from, is_legal, join_refused}
+use Rattle.hk_node.specs.Replay.{prune_reach, refusal_of, after_join, after_prune, start_content, content_after_op, replay, config_of, legal_from, is_legal, join_refused}
 use Rattle.hk_node.specs.Replies.{Answers, node_reply}
-use Rattle.hk_node.specs.Carried.{IsPart, Brings, Carries, CarryLaw, IsOfPrimary}
+use Rattle.hk_node.specs.Carried.{IsPart, Brings, CarryLaw, IsOfPrimary}
 use Rattle.hk_node.proofs.LegalLists.{and_left, and_right, none_of, applied-is}
 use Rattle.hk_node.proofs.Holds.{join_tests, prune_tests}
 
@@ -40,12 +40,12 @@ module _ (config : ConfigValue) (history : History) (is : IsHistory config histo
       let both = represents_both config history is own items g k c.content (content_of config items k) s.0 other in
       subst (λ (r : Result Content Refusal). RepresentsFor (own ++ items) (max g k) (after_join c r)) (sym gives) (both, s.1)
 
-  prune_represents : (c : NodeContent) (own : List Item) (g n : ℕ) → refusal_of c (Prune n) ≡ None → RepresentsFor own g c → RepresentsFor own (max g n) (after_prune c (prune_result c.content n))
+  prune_represents : (c : NodeContent) (own : List Item) (g n : ℕ) → refusal_of c (Prune n) ≡ None → RepresentsFor own g c → RepresentsFor own (max g (prune_reach c n)) (after_prune c (prune_result c.content (prune_reach c n)))
   prune_represents c own g n e s =
-      let law = prune_law_proof config history own g n c.content s.0 (prune_tests c n e).in_reach in
-      subst (λ (r : Result Content Refusal). RepresentsFor own (max g n) (after_prune c r)) (sym law.1) (law.2, s.1)
+      let law = prune_law_proof config history own g (prune_reach c n) c.content s.0 (prune_tests c n e).in_reach in
+      subst (λ (r : Result Content Refusal). RepresentsFor own (max g (prune_reach c n)) (after_prune c r)) (sym law.1) (law.2, s.1)
 
-  from_represents_for : (c : NodeContent) (ops : List Op) (own all : List Item) (g h : ℕ) → legal_from c ops ≡ true → Brings config history ops own g all h → RepresentsFor own g c → RepresentsFor all h (fold content_after_op c ops)
+  from_represents_for : (c : NodeContent) (ops : List Op) (own all : List Item) (g h : ℕ) → legal_from c ops ≡ true → Brings config history c ops own g all h → RepresentsFor own g c → RepresentsFor all h (fold content_after_op c ops)
   from_represents_for c [] own all g h legal b s = subst (λ (n : ℕ). RepresentsFor all n c) (sym b.1) (subst (λ (items : List Item). RepresentsFor items g c) (sym b.0) s)
   from_represents_for c (Start other ∷ ops) own all g h legal b s = absurd b
   from_represents_for c (Join f ∷ ops) own all g h legal b s =
@@ -58,8 +58,8 @@ module _ (config : ConfigValue) (history : History) (is : IsHistory config histo
       (subst (RepresentsFor (own ++ b.0) (max g b.1)) (sym (applied-is c (Merge f) none)) (join_represents c f own b.0 g b.1 none b.2 s))
   from_represents_for c (Prune n ∷ ops) own all g h legal b s =
       let none : refusal_of c (Prune n) ≡ None = none_of (refusal_of c (Prune n)) (and_left (is_none (refusal_of c (Prune n))) _ legal) in
-      from_represents_for (content_after_op c (Prune n)) ops own all (max g n) h (and_right (is_none (refusal_of c (Prune n))) _ legal) b
-      (subst (RepresentsFor own (max g n)) (sym (applied-is c (Prune n) none)) (prune_represents c own g n none s))
+      from_represents_for (content_after_op c (Prune n)) ops own all (max g (prune_reach c n)) h (and_right (is_none (refusal_of c (Prune n))) _ legal) b
+      (subst (RepresentsFor own (max g (prune_reach c n))) (sym (applied-is c (Prune n) none)) (prune_represents c own g n none s))
   from_represents_for c (HoldAt at ∷ ops) own all g h legal b s =
       let none : refusal_of c (HoldAt at) ≡ None = none_of (refusal_of c (HoldAt at)) (and_left (is_none (refusal_of c (HoldAt at))) _ legal) in
       from_represents_for (content_after_op c (HoldAt at)) ops own all g h (and_right (is_none (refusal_of c (HoldAt at))) _ legal) b

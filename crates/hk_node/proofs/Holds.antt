@@ -1,22 +1,21 @@
 -- No horizon passes a hold that stands, and a hold stands until it is released.
-use Rattle.std.proofs.Common.{◌≡◌, ◌≢◌, ℕ, zero, suc, ◌+◌, ◌<◌, ◌≤◌, ◌==◌, max, Bool, true, false, not, ◌&&◌, ◌||◌, if◌then◌else◌, cond, List, [], ◌∷◌, ◌++◌, length, slice_get, filter, Option, Some, None, Result, Ok, Err, fold, is_none, refl, sym, ap, ◌∙◌, subst, ⊎_elim, arith, le_trans, le_refl}
-use Rattle.std.specs.Prelude.{nat_lt, nat_le, All, MatchOption, IfErr}
-use Rattle.std.specs.List.{list_any, filter_map}
+use Rattle.std.proofs.Common.{◌≡◌, ℕ, zero, suc, ◌+◌, ◌<◌, ◌≤◌, ◌==◌, min, max, Bool, true, false, not, ◌||◌, if◌then◌else◌, cond, List, [], ◌∷◌, ◌++◌, length, slice_get, filter, Option, Some, None, Result, Ok, Err, fold, is_none, refl, sym, ap, ◌∙◌, subst, arith, le_trans}
+use Rattle.std.specs.Prelude.{nat_lt, nat_le, All, MatchOption}
+use Rattle.std.specs.List.{list_any}
 use Rattle.core.specs.List.{cons_option}
 use Rattle.std.proofs.lemmas.Bool.Decides.{nat_tests}
-use Rattle.std.proofs.lemmas.List.Elements.{All-nil, All-cons, All-head, All-tail, All-push, All-filter, All-weaker}
-use Rattle.hk_types.specs.Values.{ConfigValue}
+use Rattle.std.proofs.lemmas.List.Elements.{All-nil, All-cons, All-head, All-tail, All-push, All-filter}
 use Rattle.hk_types.specs.declared.faults.Refusal.{Refusal}
-use Rattle.hk_types.specs.declared.faults.Refusal.TheVariants.{ForeignLog, WrongStreams, Gap, Conflict, AheadOfMark, TooOld, NotYet, Held, Damaged, NodeFull, NoHold, Memory}
+use Rattle.hk_types.specs.declared.faults.Refusal.TheVariants.{ForeignLog, WrongStreams, Gap, Conflict, AheadOfMark, TooOld, Held, Damaged}
 use Rattle.hk_model.specs.Replica.Maps.{or_else}
 use Rattle.hk_model.specs.Replica.Content.{Content, readable, without_ended}
 use Rattle.hk_model.specs.Replica.Fragments.{FragmentValue}
-use Rattle.hk_model.specs.Replica.Rules.{join_result, content_after_join, contents_conflict, prune_result}
+use Rattle.hk_model.specs.Replica.Rules.{join_result, content_after_join, prune_result}
 use Rattle.hk_node.specs.declared.op.Hold.{Hold}
 use Rattle.hk_node.specs.declared.op.Op.{Op}
 use Rattle.hk_node.specs.declared.op.Op.TheVariants.{Start, Join, Merge, Prune, Hold as HoldAt, Release}
 use Rattle.hk_node.specs.NodeContent.{NodeContent}
-use Rattle.hk_node.specs.Replay.{is_before, first_of_two, least_hold, is_hold, full_refusal, passed_hold, held_refusal, join_refused, refusal_of, after_join, after_prune, start_content, effect, content_after_op, replay, legal_from, is_legal}
+use Rattle.hk_node.specs.Replay.{is_before, first_of_two, least_hold, up_to_hold, prune_reach, is_hold, full_refusal, passed_hold, held_refusal, join_refused, refusal_of, after_join, after_prune, start_content, effect, content_after_op, replay, legal_from, is_legal}
 use Rattle.hk_node.specs.Lists.{hold_time, hold_times, releases, is_released}
 use Rattle.hk_node.specs.Holds.{HoldLaw}
 use Rattle.hk_node.proofs.LegalLists.{and_left, and_right, none_of, applied-is}
@@ -104,19 +103,40 @@ join_tests c f e =
     let h = passed_or (held_refusal c f.content.horizon) (full_refusal c) g.1 in
     record { whole = a.0; no_gap = not_below (readable c.content) f.base g.0; none_passed = h.0; room = h.1 }
 
--- what a prune passes that is not refused
+-- a prune reaches no further than its time
+up_to_time : (n : ℕ) (o : Option Hold) → up_to_hold n o ≤ n
+up_to_time n None = omega arith
+up_to_time n (Some h) = omega arith
+
+-- nor further than a hold
+stops : (n : ℕ) (o : Option Hold) → passed_hold (up_to_hold n o) o ≡ None
+stops n None = refl
+stops n (Some h) = go (nat_lt h.at (min n h.at)) refl
+  where
+    go : (b : Bool) → nat_lt h.at (min n h.at) ≡ b → (if b then Some (Held h.reader h.at) else None) ≡ None
+    go true is = absurd (grind (arith, nat_tests))
+    go false is = refl
+
+reach_passes_none : (c : NodeContent) (n : ℕ) → held_refusal c (prune_reach c n) ≡ None
+reach_passes_none c n = go (nat_lt c.content.horizon (prune_reach c n))
+  where
+    go : (b : Bool) → (if b then passed_hold (prune_reach c n) (least_hold c.holds) else None) ≡ None
+    go true = stops n (least_hold c.holds)
+    go false = refl
+
+-- where a prune reaches that is not refused
 pub record PruneTests (c : NodeContent) (n : ℕ) : Type 0 where
   pub whole : c.damaged ≡ false
-  pub in_reach : n ≤ readable c.content
-  pub none_passed : held_refusal c n ≡ None
+  pub in_reach : prune_reach c n ≤ readable c.content
+  pub none_passed : held_refusal c (prune_reach c n) ≡ None
   pub room : full_refusal c ≡ None
 
 pub prune_tests : (c : NodeContent) (n : ℕ) → refusal_of c (Prune n) ≡ None → PruneTests c n
 prune_tests c n e =
     let a = passed c.damaged Damaged _ e in
     let b = passed (nat_lt (readable c.content) n) (AheadOfMark (readable c.content)) _ a.1 in
-    let h = passed_or (held_refusal c n) (full_refusal c) b.1 in
-    record { whole = a.0; in_reach = not_below (readable c.content) n b.0; none_passed = h.0; room = h.1 }
+    let low = up_to_time n (least_hold c.holds) in
+    record { whole = a.0; in_reach = le_trans low (not_below (readable c.content) n b.0); none_passed = reach_passes_none c n; room = b.1 }
 
 join_held : (c : NodeContent) (f : FragmentValue) → join_refused c f ≡ None → IsHeld c → IsHeld (after_join c (join_result c.content f))
 join_held c f e held = after_join_held c f (join_result c.content f) refl held (passes_none c f.content.horizon held (join_tests c f e).none_passed)
@@ -150,7 +170,7 @@ effect_held : (c : NodeContent) (op : Op) → refusal_of c op ≡ None → IsHel
 effect_held c (Start config) e held = absurd (cc)
 effect_held c (Join f) e held = join_held c f e held
 effect_held c (Merge f) e held = join_held c f e held
-effect_held c (Prune n) e held = after_prune_held c n (prune_result c.content n) refl held (passes_none c n held (prune_tests c n e).none_passed)
+effect_held c (Prune n) e held = after_prune_held c (prune_reach c n) (prune_result c.content (prune_reach c n)) refl held (passes_none c (prune_reach c n) held (prune_tests c n e).none_passed)
 effect_held c (HoldAt at) e held =
     let a = passed c.damaged Damaged _ e in
     let low : c.content.horizon ≤ at = not_below at c.content.horizon (passed (nat_lt at c.content.horizon) (TooOld c.content.horizon) _ a.1).0 in
@@ -219,7 +239,7 @@ effect_stays : (reader at : ℕ) (c : NodeContent) (op : Op) → refusal_of c op
 effect_stays reader at c (Start config) e apart h = absurd (cc)
 effect_stays reader at c (Join f) e apart h = after_join_stays reader at c (join_result c.content f) h
 effect_stays reader at c (Merge f) e apart h = after_join_stays reader at c (join_result c.content f) h
-effect_stays reader at c (Prune n) e apart h = after_prune_stays reader at c (prune_result c.content n) h
+effect_stays reader at c (Prune n) e apart h = after_prune_stays reader at c (prune_result c.content (prune_reach c n)) h
 effect_stays reader at c (HoldAt t) e apart h = any_left (is_hold reader at) c.holds _ h
 effect_stays reader at c (Release r t) e apart h = any_filter (is_hold reader at) (λ g. not (is_hold r t g)) c.holds (λ g is. other_hold reader at r t g apart is) h
 
@@ -249,7 +269,7 @@ effect_count : (c : NodeContent) (op : Op) → refusal_of c op ≡ None → (eff
 effect_count c (Start config) e = absurd (cc)
 effect_count c (Join f) e = after_join_count c (join_result c.content f) ∙ omega arith
 effect_count c (Merge f) e = after_join_count c (join_result c.content f) ∙ omega arith
-effect_count c (Prune n) e = after_prune_count c (prune_result c.content n) ∙ omega arith
+effect_count c (Prune n) e = after_prune_count c (prune_result c.content (prune_reach c n)) ∙ omega arith
 effect_count c (HoldAt at) e = refl
 effect_count c (Release r t) e = omega arith
 

@@ -1,12 +1,9 @@
 -- Legal lists, and one more operation.
-use Rattle.std.proofs.Common.{◌≡◌, ◌+◌, ◌≤◌, Bool, true, false, ◌&&◌, List, [], ◌∷◌, ◌++◌, length, Option, Some, None, Result, Ok, Err, fold, is_none, refl, ap, ◌∙◌, arith}
-use Rattle.hk_types.specs.Values.{ConfigValue}
-use Rattle.hk_types.specs.declared.faults.Refusal.{Refusal}
-use Rattle.hk_model.specs.Replica.Content.{Content}
+use Rattle.std.proofs.Common.{◌≡◌, ◌≤◌, Bool, true, false, ◌&&◌, List, [], ◌∷◌, ◌++◌, length, Option, Some, None, fold, is_none, refl, ap, arith}
 use Rattle.hk_node.specs.declared.op.Op.{Op}
 use Rattle.hk_node.specs.declared.op.Op.TheVariants.{Start, Join, Merge, Prune, Hold as HoldAt, Release}
 use Rattle.hk_node.specs.NodeContent.{NodeContent}
-use Rattle.hk_node.specs.Replay.{refusal_of, effect, unless, content_after_op, start_content, replay, config_of, tail_of, legal_from, is_legal}
+use Rattle.hk_node.specs.Replay.{refusal_of, effect, unless, content_after_op, start_content, replay, config_of, legal_from, is_legal}
 use Rattle.hk_node.specs.Lists.{last_of}
 
 pub fold-snoc : {A B : Type 0} (f : A → B → A) (a : A) (xs : List B) (x : B) → fold f a (xs ++ x ∷ []) ≡ f (fold f a xs) x

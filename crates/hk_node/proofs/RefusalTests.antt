@@ -1,8 +1,7 @@
 -- Why a change is refused by its tests.
-use Rattle.std.proofs.Common.{◌≡◌, ℕ, ◌<◌, ◌^◌, ◌==◌, Bool, true, false, not, if◌then◌else◌, List, [], ◌∷◌, ◌++◌, length, Option, Some, None, refl, sym, ap, ◌∙◌, subst, arith}
+use Rattle.std.proofs.Common.{◌≡◌, ℕ, ◌^◌, ◌==◌, Bool, true, false, not, if◌then◌else◌, length, Option, Some, None, refl, sym, ap, ◌∙◌, subst}
 use Rattle.std.specs.Prelude.{nat_lt, IfSome}
 use Rattle.std.specs.List.{list_any}
-use Rattle.std.proofs.lemmas.Bool.Decides.{nat_tests}
 use Rattle.hk_types.specs.declared.faults.Refusal.{Refusal}
 use Rattle.hk_types.specs.declared.faults.Refusal.TheVariants.{ForeignLog, WrongStreams, Gap, Conflict, AheadOfMark, TooOld, Held, Damaged, Unpublished, NodeFull, NoHold, Memory}
 use Rattle.hk_model.specs.Replica.Maps.{or_else}
@@ -65,8 +64,7 @@ refused_tested c (Join f) = join_tested c f
 refused_tested c (Merge f) = join_tested c f
 refused_tested c (Prune n) =
     if_tested c.damaged Damaged _ refl
-    (if_tested (nat_lt (readable c.content) n) (AheadOfMark (readable c.content)) _ refl
-    (or_tested (held_refusal c n) (full_refusal c) (held_tested c n) (full_tested c)))
+    (if_tested (nat_lt (readable c.content) n) (AheadOfMark (readable c.content)) _ refl (full_tested c))
 refused_tested c (HoldAt at) = if_tested c.damaged Damaged _ refl (if_tested (nat_lt at c.content.horizon) (TooOld c.content.horizon) _ refl (full_tested c))
 refused_tested c (Release reader at) = if_tested c.damaged Damaged _ refl (go (list_any (is_hold reader at) c.holds))
   where

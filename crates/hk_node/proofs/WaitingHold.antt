@@ -1,12 +1,11 @@
 -- A hold that waits to be published.
-use Rattle.std.proofs.Common.{◌≡◌, ℕ, ◌+◌, true, List, [], ◌∷◌, ◌++◌, length, Option, Some, None, refl, sym, ap, ◌∙◌, subst, arith, length-append}
+use Rattle.std.proofs.Common.{◌≡◌, ℕ, ◌+◌, true, List, [], ◌∷◌, ◌++◌, length, Some, refl, sym, ap, ◌∙◌, subst, length-append}
 use Rattle.std.proofs.lemmas.List.Elements.{filter_map-append}
-use Rattle.hk_types.specs.declared.faults.Refusal.{Refusal}
 use Rattle.hk_types.specs.declared.faults.Refusal.TheVariants.{Unpublished}
 use Rattle.hk_node.specs.declared.op.Op.{Op}
 use Rattle.hk_node.specs.declared.op.Op.TheVariants.{Hold as HoldAt}
-use Rattle.hk_node.specs.Replay.{replay, refusal_of, is_legal}
-use Rattle.hk_node.specs.Lists.{hold_time, hold_times, last_of}
+use Rattle.hk_node.specs.Replay.{replay, is_legal}
+use Rattle.hk_node.specs.Lists.{hold_time, hold_times}
 use Rattle.hk_node.specs.Changes.{Lists, all_of, Refuses, IsHandedOut}
 use Rattle.hk_node.proofs.LegalLists.{legal-snoc, last_snoc}
 use Rattle.hk_node.proofs.Holds.{replay_count}

@@ -1,5 +1,5 @@
 -- Lists of operations that carry parts of one history.
-use Rattle.std.specs.Prelude.{◌≡◌, ◌⊎◌, ◌≤◌, ◌++◌, ℕ, max, true, false, List, [], ◌∷◌, Result, IfOk, Ok}
+use Rattle.std.specs.Prelude.{◌≡◌, ◌⊎◌, ◌≤◌, ◌++◌, ℕ, max, true, false, List, [], ◌∷◌, Result, IfOk}
 use Rattle.hk_types.specs.Values.{ConfigValue}
 use Rattle.hk_types.specs.declared.faults.Refusal.{Refusal}
 use Rattle.hk_log.specs.declared.item.Item.{Item}
@@ -14,7 +14,7 @@ use Rattle.hk_model.specs.Replica.Replicas.{Represents}
 use Rattle.hk_node.specs.declared.op.Op.{Op}
 use Rattle.hk_node.specs.declared.op.Op.TheVariants.{Start, Join, Merge, Prune, Hold as HoldAt, Release}
 use Rattle.hk_node.specs.NodeContent.{NodeContent}
-use Rattle.hk_node.specs.Replay.{config_of, replay, is_legal, tail_of}
+use Rattle.hk_node.specs.Replay.{start_content, prune_reach, content_after_op, config_of, replay, is_legal, tail_of}
 
 -- a fragment is a part of a history: of these items, at this horizon
 pub record IsPart (config : ConfigValue) (history : History) (items : List Item) (horizon : ℕ) (f : FragmentValue) : Type 0 where
@@ -23,21 +23,21 @@ pub record IsPart (config : ConfigValue) (history : History) (items : List Item)
   pub base : (f.base ≡ 0) ⊎ (horizon ≤ f.base)
   pub is_part : f ≡ part config items horizon f.base
 
--- after items and a greatest horizon, the joins and merges of a list carry parts of a history, which bring
--- it to all of these items and this greatest horizon joined or pruned to
-abbrev pub Brings : ConfigValue → History → List Op → List Item → ℕ → List Item → ℕ → Type 0
-Brings config history [] own g all h = (all ≡ own) × (h ≡ g)
-Brings config history (Join f ∷ ops) own g all h = (items : List Item) × (k : ℕ) × IsPart config history items k f × Brings config history ops (own ++ items) (max g k) all h
-Brings config history (Merge f ∷ ops) own g all h = (items : List Item) × (k : ℕ) × IsPart config history items k f × Brings config history ops (own ++ items) (max g k) all h
-Brings config history (Prune k ∷ ops) own g all h = Brings config history ops own (max g k) all h
-Brings config history (HoldAt at ∷ ops) own g all h = Brings config history ops own g all h
-Brings config history (Release reader at ∷ ops) own g all h = Brings config history ops own g all h
-Brings config history (Start other ∷ ops) own g all h = ⊥
+-- after items and a greatest horizon, in a node that holds this, the joins and merges of a list carry parts of a
+-- history, which bring it to all of these items and this greatest horizon joined, or reached by a prune
+abbrev pub Brings : ConfigValue → History → NodeContent → List Op → List Item → ℕ → List Item → ℕ → Type 0
+Brings config history c [] own g all h = (all ≡ own) × (h ≡ g)
+Brings config history c (Join f ∷ ops) own g all h = (items : List Item) × (k : ℕ) × IsPart config history items k f × Brings config history (content_after_op c (Join f)) ops (own ++ items) (max g k) all h
+Brings config history c (Merge f ∷ ops) own g all h = (items : List Item) × (k : ℕ) × IsPart config history items k f × Brings config history (content_after_op c (Merge f)) ops (own ++ items) (max g k) all h
+Brings config history c (Prune t ∷ ops) own g all h = Brings config history (content_after_op c (Prune t)) ops own (max g (prune_reach c t)) all h
+Brings config history c (HoldAt at ∷ ops) own g all h = Brings config history (content_after_op c (HoldAt at)) ops own g all h
+Brings config history c (Release reader at ∷ ops) own g all h = Brings config history (content_after_op c (Release reader at)) ops own g all h
+Brings config history c (Start other ∷ ops) own g all h = ⊥
 
 -- each join and merge of a node's list carries a part of a history: these items in all, and this greatest horizon
--- joined or pruned to, 0 where there is none
+-- joined, or reached by a prune, 0 where there is none
 abbrev pub Carries : History → List Op → List Item → ℕ → Type 0
-Carries history ops items horizon = Brings (config_of ops) history (tail_of ops) [] 0 items horizon
+Carries history ops items horizon = Brings (config_of ops) history (start_content (config_of ops)) (tail_of ops) [] 0 items horizon
 
 -- where a legal list carries parts of one history, its content represents them, and there is no damage
 abbrev pub CarryLaw : Type 0

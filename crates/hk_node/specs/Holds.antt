@@ -1,5 +1,5 @@
 -- What a hold promises.
-use Rattle.std.specs.Prelude.{◌≡◌, ◌+◌, ◌≤◌, ℕ, true, List, All, Some, None, Result, Ok, Err, IfErr, slice_get}
+use Rattle.std.specs.Prelude.{◌≡◌, ◌+◌, ◌≤◌, ℕ, true, List, All, Some, Result, IfErr, slice_get}
 use Rattle.hk_types.specs.declared.faults.Refusal.{Refusal}
 use Rattle.hk_types.specs.declared.faults.Refusal.TheVariants.{TooOld}
 use Rattle.hk_node.specs.declared.op.Op.{Op}

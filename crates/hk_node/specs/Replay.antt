@@ -1,5 +1,5 @@
 -- What a list of operations comes to, and which lists are legal.
-use Rattle.std.specs.Prelude.{ℕ, ◌+◌, ◌^◌, Bool, true, false, not, ◌&&◌, ◌||◌, ◌==◌, nat_lt, if◌then◌else◌, List, [], ◌∷◌, ◌++◌, length, fold, filter, Option, Some, None, Result, Ok, Err, is_none}
+use Rattle.std.specs.Prelude.{ℕ, ◌+◌, ◌^◌, Bool, true, false, not, ◌&&◌, ◌||◌, ◌==◌, nat_lt, min, if◌then◌else◌, List, [], ◌∷◌, ◌++◌, length, fold, filter, Option, Some, None, Result, Ok, Err, is_none}
 use Rattle.std.specs.List.{list_any}
 use Rattle.hk_types.specs.Values.{ConfigValue}
 use Rattle.hk_types.specs.declared.faults.Refusal.{Refusal}
@@ -32,6 +32,15 @@ first_of_two (Some g) h = if is_before h g then Some h else Some g
 abbrev pub least_hold : List Hold → Option Hold
 least_hold holds = fold first_of_two None holds
 
+-- the lower of a time and that of a hold
+abbrev pub up_to_hold : ℕ → Option Hold → ℕ
+up_to_hold t None = t
+up_to_hold t (Some h) = min t h.at
+
+-- how far a prune to a time reaches: to the least hold that stands, where that is lower
+abbrev pub prune_reach : NodeContent → ℕ → ℕ
+prune_reach c t = up_to_hold t (least_hold c.holds)
+
 abbrev pub is_hold : ℕ → ℕ → Hold → Bool
 is_hold reader at h = (h.reader == reader) && (h.at == at)
 
@@ -44,7 +53,7 @@ abbrev pub passed_hold : ℕ → Option Hold → Option Refusal
 passed_hold horizon None = None
 passed_hold horizon (Some h) = if nat_lt h.at horizon then Some (Held h.reader h.at) else None
 
--- the hold that a horizon would pass, where it rises to this
+-- the hold that the horizon of a join would pass, where it rises to this
 abbrev pub held_refusal : NodeContent → ℕ → Option Refusal
 held_refusal c horizon = if nat_lt c.content.horizon horizon then passed_hold horizon (least_hold c.holds) else None
 
@@ -60,7 +69,8 @@ join_refusal c log streams base horizon =
 abbrev pub join_refused : NodeContent → FragmentValue → Option Refusal
 join_refused c f = join_refusal c f.content.log (length f.content.streams) f.base f.content.horizon
 
--- why an operation is refused, if it is. A conflict is no refusal of a join: it damages the node
+-- why an operation is refused, if it is. A conflict is no refusal of a join, since it damages the node; a hold is none
+-- of a prune, which stops there
 abbrev pub refusal_of : NodeContent → Op → Option Refusal
 refusal_of c (Start config) = Some Damaged
 refusal_of c (Join f) = join_refused c f
@@ -68,7 +78,7 @@ refusal_of c (Merge f) = join_refused c f
 refusal_of c (Prune h) =
     if c.damaged then Some Damaged
     else if nat_lt (readable c.content) h then Some (AheadOfMark (readable c.content))
-    else or_else (held_refusal c h) (full_refusal c)
+    else full_refusal c
 refusal_of c (HoldAt at) =
     if c.damaged then Some Damaged
     else if nat_lt at c.content.horizon then Some (TooOld c.content.horizon)
@@ -97,7 +107,7 @@ abbrev pub effect : NodeContent → Op → NodeContent
 effect c (Start config) = start_content config
 effect c (Join f) = after_join c (join_result c.content f)
 effect c (Merge f) = after_join c (join_result c.content f)
-effect c (Prune h) = after_prune c (prune_result c.content h)
+effect c (Prune h) = after_prune c (prune_result c.content (prune_reach c h))
 effect c (HoldAt at) = record c { holds = c.holds ++ (record { reader = c.hold_count + 1; at = at }) ∷ []; hold_count = c.hold_count + 1; op_count = c.op_count + 1 }
 effect c (Release reader at) = record c { holds = filter (λ h. not (is_hold reader at h)) c.holds; op_count = c.op_count + 1 }
 

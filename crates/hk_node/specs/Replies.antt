@@ -1,5 +1,5 @@
 -- What a node replies to its readers.
-use Rattle.std.specs.Prelude.{◌≡◌, ◌⊎◌, ℕ, nat_lt, if◌then◌else◌, List, Result, Ok, Err, MatchResult}
+use Rattle.std.specs.Prelude.{◌≡◌, ◌⊎◌, ℕ, nat_lt, if◌then◌else◌, Result, Ok, Err, MatchResult}
 use Rattle.hk_types.specs.declared.faults.Refusal.{Refusal}
 use Rattle.hk_types.specs.declared.faults.Refusal.TheVariants.{Damaged, TooOld, Memory}
 use Rattle.hk_model.specs.declared.answer.Answer.{Answer}

@@ -3,7 +3,7 @@
 ghost use Rattle.std.specs.Prelude.{◌≡◌, ◌<◌, ◌≤◌, ◌^◌, None, IfOk, IfErr, MatchResult};
 ghost use Rattle.hk_types.specs.declared.faults.Refusal.TheVariants.{Memory};
 ghost use Rattle.hk_model.specs.Replica.Maps.{or_else};
-ghost use Rattle.hk_model.specs.Replica.Rules.{join_result, prune_result};
+ghost use Rattle.hk_model.specs.Replica.Rules.{join_result};
 ghost use Rattle.hk_node.specs.declared.op.Op.TheVariants.{Prune as PruneTo, Hold as HoldAt, Release};
 ghost use Rattle.hk_node.specs.Replay as spec;
 ghost use Rattle.std.specs.List.{list_any};
@@ -114,7 +114,17 @@ impl Body {
         }
     }
 
-    /// The hold that a horizon would pass, where it rises to this.
+    /// How far a prune to a time reaches: to the least hold that stands, where that is lower.
+    fn reach(&self, time: Time) -> Time
+        ensures { result ≡ spec.prune_reach self.now time }
+    {
+        match least_hold(&self.holds) {
+            Some(Hold { at, .. }) if at < time => at,
+            _ => time,
+        }
+    }
+
+    /// The hold that the horizon of a join would pass, where it rises to this.
     fn held_refusal(&self, horizon: Time) -> Option<Refusal>
         ensures { result ≡ held_refusal self.now horizon }
     {
@@ -169,7 +179,7 @@ impl Body {
         if readable < time {
             return Some(Refusal::AheadOfMark { readable });
         }
-        self.held_or_full(time)
+        self.full_refusal()
     }
 
     fn hold_refused(&self, time: Time) -> Option<Refusal>
@@ -198,7 +208,7 @@ impl Body {
     }
 
     /// Why an operation is refused, if it is. It takes no memory. Cost: O(s + h), s streams, h holds that stand,
-    /// which are looked at where a horizon would rise.
+    /// which are looked at where the horizon of a join would rise, and for a release.
     pub fn refusal(&self, op: &Op) -> Option<Refusal>
         ensures { result ≡ refusal_of self.now op.now }
     {
@@ -227,9 +237,10 @@ impl Body {
 
     fn prune(&mut self, time: Time) -> Result<(), AllocError>
         requires { refusal_of self.old (PruneTo time) ≡ None }
-        ensures { MatchResult result (λ _. self.new ≡ spec.after_prune self.old (prune_result self.old.content time)) (λ _. self.new ≡ self.old) }
+        ensures { MatchResult result (λ _. self.new ≡ effect self.old (PruneTo time)) (λ _. self.new ≡ self.old) }
     {
-        if self.state.prune(time).is_err() {
+        let reach = self.reach(time);
+        if self.state.prune(reach).is_err() {
             return Err(AllocError);
         }
         self.op_count += 1;
@@ -298,6 +309,13 @@ impl Body {
         ensures bound { result ≤ 2 ^ 62 }
     {
         self.hold_count
+    }
+
+    /// The horizon of its state.
+    pub fn horizon(&self) -> Time
+        ensures { result ≡ self.now.content.horizon }
+    {
+        self.state.horizon()
     }
 
     /// The answer to a query at a time.

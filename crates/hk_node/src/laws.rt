@@ -2,12 +2,12 @@
 
 ghost use Rattle.std.specs.Prelude.{◌≡◌, Some, Ok, Err, true, IfOk, IfErr, MatchResult};
 ghost use Rattle.hk_model.specs.Replica.Fragments.{cut};
-ghost use Rattle.hk_node.specs.declared.op.Op.TheVariants.{Hold as HoldAt, Merge as MergeOf, Release};
+ghost use Rattle.hk_node.specs.declared.op.Op.TheVariants.{Hold as HoldAt, Merge as MergeOf, Prune as PruneTo, Release};
 ghost use Rattle.hk_node.specs.Carried.{CarryLaw};
 ghost use Rattle.hk_node.specs.Changes.{all_of, Changes, IsGiven, IsHandedBack, IsHandedOut, Refuses};
 ghost use Rattle.hk_node.specs.Holds.{HoldLaw};
 ghost use Rattle.hk_node.specs.Lists.{last_of};
-ghost use Rattle.hk_node.specs.Replay.{is_legal};
+ghost use Rattle.hk_node.specs.Replay.{is_legal, replay};
 
 use crate::book::NodeName;
 use crate::node::Receipt;
@@ -91,6 +91,24 @@ fn refusal_of_merge<J: NodeName, R: Wait + Drop>(
     }
 }
 
+/// A prune to a time, at what lies under the writer's lock: it runs as `change`, and gives the horizon after it. Cost:
+/// that of `change`.
+pub fn prune_to<J: NodeName, R: Wait + Drop>(
+    publisher: &mut Publisher<J, R>,
+    time: Time,
+) -> Result<(Time, Receipt<J>), Refusal>
+    ensures change { MatchResult result (λ t. Changes publisher.old (PruneTo time) (Ok t.1) publisher.new)
+        (λ why. Changes publisher.old (PruneTo time) (Err why) publisher.new) }
+    ensures before { is_legal (all_of publisher.old) ≡ true }
+    ensures legal { IfOk result (λ t. is_legal t.1 ≡ true) }
+    ensures last { IfOk result (λ t. last_of t.1 ≡ Some (PruneTo time)) }
+    ensures horizon { IfOk result (λ t. t.0 ≡ (replay t.1).content.horizon) }
+{
+    let receipt = change(publisher, Op::Prune(time))?;
+    let horizon = publisher.horizon();
+    Ok((horizon, receipt))
+}
+
 /// A hold at a time, at what lies under the writer's lock: it runs as `change`. Its number is that of the holds of the
 /// list, with it. Cost: that of `change`.
 pub fn hold_at<J: NodeName, R: Wait + Drop>(
@@ -152,7 +170,7 @@ pub fn hold_law()
 {}
 
 /// Where every join and merge of a list carries a part of one history, the content represents the union of their items
-/// at the greatest horizon joined or pruned to, and the node is not damaged.
+/// at the greatest horizon joined, or reached by a prune, and the node is not damaged.
 pub fn carry_law()
     ensures { CarryLaw }
 {}

@@ -7,10 +7,10 @@ ghost use Rattle.hk_node.specs.declared.op.Op.{Op as OpValue};
 ghost use Rattle.hk_model.specs.Replica.Fragments.{cut};
 ghost use Rattle.hk_node.specs.declared.op.Op.TheVariants.{Start as StartOf, Join as JoinOf, Merge as MergeOf, Prune as PruneTo, Hold as HoldAt, Release};
 ghost use Rattle.hk_node.specs.Lists.{last_of};
-ghost use Rattle.hk_node.specs.Replay.{is_legal};
+ghost use Rattle.hk_node.specs.Replay.{is_legal, replay};
 
 use crate::book::{NewList, NodeName, Prefix};
-use crate::laws::{change, hold_at, merge_whole, release_hold};
+use crate::laws::{change, hold_at, merge_whole, prune_to, release_hold};
 use crate::op::{Hold, Op};
 use crate::publisher::{Publisher, copies_of};
 use crate::seat::{ReaderSeat, seats_of};
@@ -144,21 +144,25 @@ impl<J: NodeName, R: Wait + Drop> Node<J, R> {
         merge_whole(&mut *publisher, state, whole)
     }
 
-    /// Prunes to a time.
+    /// Prunes to a time, or to the least hold that stands where that is lower, and gives the horizon after it. Where the
+    /// lower of the two is at most the horizon, the horizon and what can be read stay as they are.
     ///
-    /// Refusals in order: `Damaged`; `AheadOfMark` with the readable mark, where the time is above it; `Held` with the
-    /// hold of the least time, and of the least number there, that the horizon would pass; `NodeFull`; `Memory`;
-    /// `Unpublished`. Cost: that of pruning a state, and O(h), h holds that stand.
-    pub fn prune<W: Wait>(&self, rt: &W, time: Time) -> Result<Receipt<J>, Refusal>
-        ensures legal { IfOk result (λ list. is_legal list ≡ true) }
-        ensures change { ChangesSome (PruneTo time) result }
-        ensures last { IfOk result (λ list. last_of list ≡ Some (PruneTo time)) }
+    /// Refusals in order: `Damaged`; `AheadOfMark` with the readable mark, where the time is above it; `NodeFull`;
+    /// `Memory`; `Unpublished`, which tells the operation's number and no horizon: once `publish` gave a receipt, the
+    /// front of a seat that learnt it has the horizon. Cost: that of pruning a state, and O(h), h holds that stand.
+    pub fn prune<W: Wait>(&self, rt: &W, time: Time) -> Result<(Time, Receipt<J>), Refusal>
+        ensures legal { IfOk result (λ t. is_legal t.1 ≡ true) }
+        ensures change { MatchResult result (λ t. ChangesSome (PruneTo time) (Ok t.1))
+            (λ why. ChangesSome (PruneTo time) (Err why)) }
+        ensures last { IfOk result (λ t. last_of t.1 ≡ Some (PruneTo time)) }
+        ensures horizon { IfOk result (λ t. t.0 ≡ (replay t.1).content.horizon) }
     {
         let mut publisher = self.publisher.lock(rt);
-        change(&mut *publisher, Op::Prune(time))
+        prune_to(&mut *publisher, time)
     }
 
-    /// Holds a time, so that no horizon passes it until the hold is released.
+    /// Holds a time, so that no horizon passes it until the hold is released: a prune stops there, a join or merge of a
+    /// greater horizon is refused.
     ///
     /// Refusals in order: `Damaged`; `TooOld` with the horizon, where the time is below it; `NodeFull`; `Memory`;
     /// `Unpublished`, with the hold, which stands once its operation is published. Cost: O(1).

@@ -22,7 +22,7 @@ pub enum Op {
     Join(Fragment),
     /// A merge of a state, as the join of the whole of it.
     Merge(Fragment),
-    /// A prune to a time.
+    /// A prune to a time, or to the least hold that stands where that is lower.
     Prune(Time),
     /// A hold at a time.
     Hold(Time),

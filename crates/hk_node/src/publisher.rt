@@ -213,6 +213,13 @@ impl<J: NodeName, R: Wait + Drop> Publisher<J, R> {
         self.published().body.hold_count()
     }
 
+    /// The horizon after the published list.
+    pub fn horizon(&self) -> Time
+        ensures { result ≡ (replay self.now.0).content.horizon }
+    {
+        self.published().body.horizon()
+    }
+
     /// Whether the published list has a conflict.
     pub fn is_damaged(&self) -> bool
         ensures { result ≡ (replay self.now.0).damaged }

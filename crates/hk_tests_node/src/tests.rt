@@ -2,7 +2,7 @@
 
 ghost use Rattle.std.specs.Prelude.{◌≡◌};
 
-use hk_delta::{Fragment, delta_since, fragment_of, join};
+use hk_delta::{Fragment, delta_since, fragment_of, join, whole_of};
 use hk_log::Item;
 use hk_model::{Answer, Query};
 use hk_node::{Hold, LAST_OP, NewList, Node, NodeName, ReaderSeat, Receipt, next_op, start};

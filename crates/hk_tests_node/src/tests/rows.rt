@@ -15,7 +15,9 @@ enum Does<'a> {
     JoinForeign,
     /// Of two streams.
     MergeWide,
-    /// A state with all items, pruned to a time.
+    /// The whole of a state with all items, pruned to a time.
+    JoinPruned(u64),
+    /// Such a state.
     Merge(u64),
     Prune(u64),
     Hold(u64),
@@ -184,11 +186,15 @@ impl<J: NodeName, S: Wait + Drop> Game<J, S> {
         told(merged)
     }
 
+    /// The number of operations and the horizon.
     fn prune<R: Wait>(&mut self, rt: &R, to: Time) -> Tells {
         refuse(self.alloc, self.number);
         let pruned = self.node.prune(rt, to);
         refuse(self.alloc, 0);
-        told(pruned)
+        match pruned {
+            Ok((horizon, receipt)) => (0, receipt.ops(), horizon.number()),
+            Err(why) => refused(why),
+        }
     }
 
     fn change<R: Wait>(&mut self, rt: &R, does: Does) -> Result<Tells, Fail> {
@@ -204,6 +210,10 @@ impl<J: NodeName, S: Wait + Drop> Game<J, S> {
             Does::MergeWide => {
                 let wide = ReplicaState::new(self.alloc, Config::new(7, 2)?)?;
                 Ok(self.merge(rt, &wide))
+            }
+            Does::JoinPruned(to) => {
+                let whole = whole_of(self.alloc, &state_of(self.alloc, to)?)?;
+                Ok(self.join(rt, whole))
             }
             Does::Merge(to) => Ok(self.merge(rt, &state_of(self.alloc, to)?)),
             Does::Prune(to) => Ok(self.prune(rt, time(to)?)),
@@ -262,29 +272,46 @@ fn steps<J: NodeName, R: Wait + Abort>(
 
 const ALL: [u64; 4] = [1, 2, 3, 4];
 
-const HOLDS: [(Does, Tells); 22] = [
+/// A prune stops at a hold, and goes on once the hold is released.
+const A_HOLD: [(Does, Tells); 9] = [
     (Does::Join(&ALL), (0, 2, 0)),
     (Does::Get(5, 3), (0, 0x42, 0)),
     (Does::Hold(2), (0, 3, 1)),
+    (Does::Prune(3), (0, 4, 2)),
+    (Does::Front, (0, 2, 3)),
+    (Does::Release(1), (0, 5, 0)),
+    (Does::Prune(3), (0, 6, 3)),
+    (Does::Get(5, 2), (25, 3, 0)),
+    (Does::Publish, (0, 6, 6)),
+];
+
+/// It stops at the least of several holds; a join or merge that would pass one is refused.
+const HOLDS: [(Does, Tells); 25] = [
+    (Does::Join(&ALL), (0, 2, 0)),
+    (Does::Hold(2), (0, 3, 1)),
     (Does::Hold(1), (0, 4, 2)),
-    (Does::Prune(3), (40, 2, 1)),
-    (Does::Release(2), (0, 5, 0)),
-    (Does::Prune(3), (40, 1, 2)),
-    (Does::Hold(2), (0, 6, 3)),
-    (Does::Merge(3), (40, 1, 2)),
+    (Does::Merge(3), (40, 2, 1)),
+    (Does::JoinPruned(3), (40, 2, 1)),
     (Does::Front, (0, 0, 3)),
-    (Does::Release(1), (0, 7, 0)),
+    (Does::Prune(3), (0, 5, 1)),
+    (Does::Release(2), (0, 6, 0)),
+    (Does::Prune(3), (0, 7, 2)),
+    (Does::Hold(2), (0, 8, 3)),
+    (Does::Merge(3), (40, 1, 2)),
+    (Does::Front, (0, 2, 3)),
+    (Does::Prune(3), (0, 9, 2)),
+    (Does::Prune(1), (0, 10, 2)),
+    (Does::Prune(4), (24, 3, 0)),
+    (Does::Hold(1), (25, 2, 0)),
+    (Does::Release(1), (0, 11, 0)),
     (Does::Forged(1, 2), (44, 0, 0)),
     (Does::Forged(3, 1), (44, 0, 0)),
-    (Does::Prune(3), (40, 3, 2)),
-    (Does::Prune(2), (0, 8, 0)),
-    (Does::Hold(1), (25, 2, 0)),
-    (Does::Release(3), (0, 9, 0)),
-    (Does::Prune(4), (24, 3, 0)),
-    (Does::Prune(3), (0, 10, 0)),
+    (Does::Merge(3), (40, 3, 2)),
+    (Does::Release(3), (0, 12, 0)),
+    (Does::Prune(3), (0, 13, 3)),
     (Does::Get(5, 2), (25, 3, 0)),
     (Does::Get(5, 3), (0, 0x42, 0)),
-    (Does::Publish, (0, 10, 10)),
+    (Does::Publish, (0, 13, 13)),
 ];
 
 const FRAGMENTS: [(Does, Tells); 11] = [
@@ -320,6 +347,7 @@ const DAMAGE: [(Does, Tells); 13] = [
 #[test]
 fn one_day(rt: HostRuntime) -> Result<(), Fail> {
     let alloc = rt.alloc();
+    steps::<Brand, _>(&rt, alloc, NewList::new(config()?), &A_HOLD)?;
     steps::<Brand, _>(&rt, alloc, NewList::new(config()?), &HOLDS)?;
     steps::<Brand, _>(&rt, alloc, NewList::new(config()?), &FRAGMENTS)?;
     steps::<Brand, _>(&rt, alloc, NewList::new(config()?), &DAMAGE)?;
@@ -382,6 +410,7 @@ fn waits<J: NodeName, R: Wait + Abort>(
     at_last(rt, &mut game, Does::Release(1), number, 6)?;
     at_last(rt, &mut game, Does::Prune(3), number, 7)?;
     assert_eq!(rt; game.release(rt, 2)?, (0, 8, 0));
+    assert_eq!(rt; game.front(), (0, 3, 3));
     assert_eq!(rt; game.get(5, 3), (0, 0x42, 0));
     Ok(())
 }
