@@ -6,3 +6,4 @@ pub mod CopiedTrees
 pub mod NestedMaps
 pub mod LatestVersion
 pub mod ShownRow
+pub mod FirstOfChains

@@ -2,26 +2,25 @@
 
 ghost use Rattle.std.specs.Prelude.{◌≡◌, ◌⊎◌, ◌↔◌, IsTrue, OnOk, OnErr, IfErr, IfOk, Ok, Err, Some, None};
 ghost use Rattle.std.specs.Option.{option_copied, option_map};
-ghost use Rattle.std.specs.Ordering.{nat_cmp};
-ghost use Rattle.std.specs.BTreeMap.{Updates};
 ghost use Rattle.std.specs.FinMap as finmap;
 ghost use Rattle.hk_types.specs.declared.faults.Refusal.TheVariants.{Memory};
 ghost use Rattle.hk_facts.specs.declared.fact.Fact.TheVariants.{Row as RowFact, End as EndFact};
-ghost use Rattle.hk_model.specs.Replica.Content.{at_most};
 ghost use Rattle.hk_facts.specs.Chains.{chain_put, chain_forget, chain_until, latest_at, row_at};
+ghost use Rattle.hk_facts.specs.FirstOfChain.{first_at, first_put, first_without, first_until, first_latest, is_later};
 
 use crate::fact::{Fact, Part, join, take_back, version_of};
+use crate::versions::{Versions, ended_by};
 use hk_log::Version;
 use hk_types::{Refusal, Row, Time};
 use std::alloc::{AllocError, Global};
-use std::collections::BTreeMap;
-use std::collections::btree_map::Iter;
 use std::marker::Model;
 
-/// What is known of the versions of one key, by the time at which each was born.
+/// What is known of the versions of one key, by the time at which each was born. One of them stands in the chain
+/// itself, so that a key with one version needs no map.
 #[derive(Drop)]
 pub struct Chain {
-    versions: BTreeMap<Time, Version>,
+    first: Option<(Time, Version)>,
+    more: Versions,
 }
 
 impl Model for Chain {
@@ -30,12 +29,15 @@ impl Model for Chain {
     ghost use Rattle.std.specs.FinMap as finmap;
     ghost use Rattle.hk_log.specs.Versions.{version_code};
     ghost use Rattle.hk_facts.specs.Chains.{ChainValue};
+    ghost use Rattle.hk_facts.specs.FirstOfChain.{with_first, IsApart};
 
     ghost Value = { ChainValue };
 
     ghost coded = { finmap.code coded_ℕ version_code };
 
-    ghost view = { λ a. finmap.from_entries a.versions.entries };
+    ghost view = { λ a. with_first a.first a.more };
+
+    ghost invariant = { λ a. IsApart a.first a.more };
 }
 
 impl Chain {
@@ -44,7 +46,8 @@ impl Chain {
         ensures { result ≡ finmap.empty }
     {
         Chain {
-            versions: BTreeMap::new(alloc),
+            first: None,
+            more: Versions::new(alloc),
         }
     }
 
@@ -52,9 +55,10 @@ impl Chain {
     pub fn of_fact(alloc: Global, born: Time, fact: Fact) -> Result<Chain, AllocError>
         ensures { IfOk result (λ chain. chain_put finmap.empty born fact ≡ Ok chain) }
     {
-        let mut versions = BTreeMap::new(alloc);
-        insert(&mut versions, born, version_of(fact))?;
-        Ok(Chain { versions })
+        Ok(Chain {
+            first: Some((born, version_of(fact))),
+            more: Versions::new(alloc),
+        })
     }
 
     /// Adds a fact on the version that was born then. One that is known already changes nothing, and one
@@ -67,11 +71,14 @@ impl Chain {
             ⊎ ((why ≡ Memory) × (finmap.get self.old born ≡ None))) }
         ensures kept { OnErr result (self.new ≡ self.old) }
     {
-        if let Some(version) = self.versions.get_mut(&born) {
-            return join(version, fact);
+        if at(&self.first, born).is_some() {
+            return join_first(&mut self.first, fact);
         }
-        insert(&mut self.versions, born, version_of(fact))?;
-        Ok(())
+        if self.first.is_none() && self.more.is_empty() {
+            self.first = Some((born, version_of(fact)));
+            return Ok(());
+        }
+        self.more.put(born, fact)
     }
 
     /// Adds a row, as `put` does. Cost: that of `put`.
@@ -99,13 +106,11 @@ impl Chain {
     pub fn forget(&mut self, born: Time, part: Part)
         ensures { self.new ≡ chain_forget self.old born part }
     {
-        let Some(version) = self.versions.get_mut(&born) else {
-            return;
-        };
-        if take_back(version, part) {
+        if at(&self.first, born).is_some() {
+            forget_first(&mut self.first, part);
             return;
         }
-        self.versions.remove(&born);
+        self.more.forget(born, part);
     }
 
     /// Drops what is known of a version. Cost: O(log n), n versions.
@@ -120,8 +125,8 @@ impl Chain {
     pub fn drop_until(&mut self, until: Time)
         ensures { self.new ≡ chain_until self.old until }
     {
-        self.versions
-            .retain(|_born, version| !ended_by(version, until));
+        drop_first(&mut self.first, until);
+        self.more.drop_until(until);
     }
 
     /// Of the versions that have a row and were born at a time or before, the one born last, with the time
@@ -130,13 +135,10 @@ impl Chain {
     pub fn latest(&self, time: Time) -> Option<(Time, &Version)>
         ensures { option_map (λ p. (p.0, p.1.now)) result ≡ latest_at self.now time }
     {
-        let mut earlier = self.versions.range(..=time);
-        while let Some((born, version)) = earlier.next_back() {
-            if let Some(_row) = version.row() {
-                return Some((*born, version));
-            }
+        if is_first_latest(&self.first, &self.more, time) {
+            return latest_first(&self.first, time);
         }
-        None
+        self.more.latest(time)
     }
 
     /// The row at a time: that of the latest version with a row, unless its end is known and at most that
@@ -154,27 +156,16 @@ impl Chain {
     pub fn version(&self, born: Time) -> Option<&Version>
         ensures { option_copied result ≡ finmap.get self.now born }
     {
-        self.versions.get(&born)
-    }
-
-    /// The number of versions.
-    pub fn len(&self) -> usize
-        ensures { result ≡ finmap.len self.now }
-    {
-        self.versions.len()
+        if let Some(version) = at(&self.first, born) {
+            return Some(version);
+        }
+        self.more.version(born)
     }
 
     pub fn is_empty(&self) -> bool
         ensures { IsTrue result ↔ (self.now ≡ finmap.empty) }
     {
-        self.versions.is_empty()
-    }
-
-    /// The versions, by rising time of birth.
-    pub fn iter(&self) -> Iter<'_, Time, Version>
-        ensures { result ≡ finmap.entries self.now }
-    {
-        self.versions.iter()
+        self.first.is_none() && self.more.is_empty()
     }
 
     /// The same chain again. The only error is out of memory. Cost: O(n · log n + b), n versions, b bytes
@@ -182,32 +173,82 @@ impl Chain {
     pub fn copy(&self, alloc: Global) -> Result<Chain, AllocError>
         ensures { IfOk result (λ chain. chain ≡ self.now) }
     {
-        let mut versions = BTreeMap::new(alloc);
-        for (born, version) in &self.versions {
-            insert(&mut versions, *born, version.copy(alloc)?)?;
-        }
-        Ok(Chain { versions })
+        let first = match &self.first {
+            Some((born, version)) => Some((*born, version.copy(alloc)?)),
+            None => None,
+        };
+        let more = self.more.copy(alloc)?;
+        Ok(Chain { first, more })
     }
 }
 
-fn insert(
-    versions: &mut BTreeMap<Time, Version>,
-    born: Time,
-    version: Version,
-) -> Result<(), AllocError>
-    ensures ok { OnOk result (Updates nat_cmp versions.old versions.new born (Some version)) }
-    ensures err { OnErr result (versions.new.entries ≡ versions.old.entries) }
+/// The first version, where it was born then.
+fn at(first: &Option<(Time, Version)>, born: Time) -> Option<&Version>
+    ensures { option_copied result ≡ first_at first.now born }
 {
-    versions.insert(born, version)?;
-    Ok(())
+    match first {
+        Some((time, version)) if *time == born => Some(version),
+        _ => None,
+    }
 }
 
-/// Whether the end of a version is known, and at most this time. It takes no memory.
-pub fn ended_by(version: &Version, time: Time) -> bool
-    ensures { result ≡ at_most time version.now.died }
+/// Adds a fact to the first version, where there is one.
+fn join_first(first: &mut Option<(Time, Version)>, fact: Fact) -> Result<(), Refusal>
+    ensures ok { OnOk result (first_put fact first.old ≡ Ok first.new) }
+    ensures err { IfErr result (λ why. first_put fact first.old ≡ Err why) }
+    ensures kept { OnErr result (first.new ≡ first.old) }
 {
-    match version.died() {
+    match first {
+        Some((_born, version)) => join(version, fact),
+        None => Ok(()),
+    }
+}
+
+/// Takes a part of the first version back.
+fn forget_first(first: &mut Option<(Time, Version)>, part: Part)
+    ensures { first.new ≡ first_without part first.old }
+{
+    let left = match first {
+        Some((_born, version)) => take_back(version, part),
         None => false,
-        Some(died) => died <= time,
+    };
+    if !left {
+        *first = None;
+    }
+}
+
+/// Drops the first version, where it ended by then.
+fn drop_first(first: &mut Option<(Time, Version)>, until: Time)
+    ensures { first.new ≡ first_until until first.old }
+{
+    let ended = match first {
+        Some((_born, version)) => ended_by(version, until),
+        None => false,
+    };
+    if ended {
+        *first = None;
+    }
+}
+
+/// The first version, where it has a row and was born by then.
+fn latest_first(first: &Option<(Time, Version)>, time: Time) -> Option<(Time, &Version)>
+    ensures { option_map (λ p. (p.0, p.1.now)) result ≡ first_latest time first.now }
+{
+    match first {
+        Some((born, version)) if *born <= time && version.row().is_some() => Some((*born, version)),
+        _ => None,
+    }
+}
+
+/// Whether the first version has a row and was born by then, and none of the others that has one was born later.
+fn is_first_latest(first: &Option<(Time, Version)>, more: &Versions, time: Time) -> bool
+    ensures { result ≡ is_later (first_latest time first.now) (latest_at more.now time) }
+{
+    let Some((born, _first)) = latest_first(first, time) else {
+        return false;
+    };
+    match more.latest(time) {
+        Some((other, _version)) => other <= born,
+        None => true,
     }
 }

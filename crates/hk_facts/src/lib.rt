@@ -4,7 +4,9 @@
 mod chain;
 mod fact;
 mod table_chains;
+mod versions;
 
-pub use chain::{Chain, ended_by};
+pub use chain::Chain;
 pub use fact::{Fact, Part};
 pub use table_chains::TableChains;
+pub use versions::ended_by;

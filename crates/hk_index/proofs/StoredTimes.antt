@@ -159,10 +159,10 @@ kept_where keys p test same vs is = set.same_set version_key_total version_key_s
     set.contains-from_list version_key_total vs q
     ∙ ap (is_named q) is
     ∙ same_named (filter p keys) (set.items some) (λ t.
-        any-filter p keys t
-        ∙ (λ i. sym (set.contains-from_list timed_total keys t) i && same t i)
-        ∙ sym (retained (set.from_list keys) test t)
-        ∙ set.contains-items some t) q
+    any-filter p keys t
+    ∙ (λ i. sym (set.contains-from_list timed_total keys t) i && same t i)
+    ∙ sym (retained (set.from_list keys) test t)
+    ∙ set.contains-items some t) q
     ∙ sym (set.contains-from_list version_key_total (versions_of (set.items some)) q))
   where
     some : Times

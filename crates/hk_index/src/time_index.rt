@@ -38,7 +38,10 @@ fn list_before(
 ) -> Result<Vec<VersionKey>, AllocError>
     ensures { IfOk result (λ found. found.items ≡ map (λ t. t.version) (filter (λ t. not (is_le (timed_cmp end t))) versions.now.keys)) }
 {
-    versions.range(..end).map(|timed| timed.version).collect(alloc)
+    versions
+        .range(..end)
+        .map(|timed| timed.version)
+        .collect(alloc)
 }
 
 /// The versions from this one on.
@@ -49,7 +52,10 @@ fn list_from(
 ) -> Result<Vec<VersionKey>, AllocError>
     ensures { IfOk result (λ found. found.items ≡ map (λ t. t.version) (filter (λ t. is_le (timed_cmp first t)) versions.now.keys)) }
 {
-    versions.range(first..).map(|timed| timed.version).collect(alloc)
+    versions
+        .range(first..)
+        .map(|timed| timed.version)
+        .collect(alloc)
 }
 
 /// Where the versions with times above one begin.

@@ -271,12 +271,7 @@ fn forget_listed(tables: &mut Tables, keys: &mut KeyIndex, version: &VersionKey,
 }
 
 /// Takes a version out of the indexes of those whose row is known, where a row goes that has this tag.
-fn forget_birth(
-    tags: &mut TagIndex,
-    births: &mut TimeIndex,
-    version: &VersionKey,
-    tag: Option<Tag>,
-)
+fn forget_birth(tags: &mut TagIndex, births: &mut TimeIndex, version: &VersionKey, tag: Option<Tag>)
     ensures tags { tags.new ≡ tags_without tags.old version.now tag }
     ensures births { births.new ≡ times_without births.old version.now (option_map (λ t. version.now.born) tag) }
 {

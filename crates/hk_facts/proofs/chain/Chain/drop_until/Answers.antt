@@ -1,7 +1,8 @@
-use Rattle.std.proofs.Common.{rules}
-use Rattle.std.proofs.lemmas.Map.Made.{filter_same_pairs}
-use Rattle.hk_facts.proofs.DroppedEnds.{stays, seen_until}
+use Rattle.hk_facts.proofs.FirstOfChains.{until_first, until_apart}
 use Rattle.hk_facts.proofs.chain.Chain.drop_until.Goals as goal
 
+pub invariant_of-self : goal.invariant_of-self
+invariant_of-self c = rw (c.drop_first.ensures, c.drop_until.ensures) (until_apart c.self.inside.first c.self.inside.more c.args.until c.self.invariant)
+
 pub returns : goal.returns
-returns c = rw (← c.self.view_is) (seen_until c.self.inside.versions c.retain.new.self c.args.until c.retain.ensures.was_ordered (filter_same_pairs _ (stays c.args.until) _ (λ k v b w f' t. search rules) _ _ c.retain.ensures.filtered))
+returns c = rw (c.drop_first.ensures, c.drop_until.ensures, ← c.self.view_is) (until_first c.self.inside.first c.self.inside.more c.args.until c.self.invariant)

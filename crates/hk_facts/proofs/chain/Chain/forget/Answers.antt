@@ -1,13 +1,12 @@
-use Rattle.hk_facts.specs.Facts.{without}
-use Rattle.hk_facts.proofs.StoredTrees.{alter_absent, alter_there, alter_gone}
-use Rattle.hk_facts.proofs.ForgottenParts.{nothing_left}
+use Rattle.std.proofs.Common.{sym}
+use Rattle.hk_facts.proofs.FirstOfChains.{none_at, some_at, forget_first, forget_others, set_apart}
 use Rattle.hk_facts.proofs.chain.Chain.forget.Goals as goal
 
-pub returns-in_default : goal.returns-in_default
-returns-in_default c = rw (c.get_mut.follows.holds-at-none, ← c.self.view_is) (alter_absent c.self.inside.versions c.args.born (without c.args.part) c.in_default.ensures.value (nothing_left c.args.part))
+pub returns-then-is_some : goal.returns-then-is_some
+returns-then-is_some c = rw (c.forget_first.ensures, ← c.self.view_is) (forget_first c.self.inside.first c.self.inside.more c.args.born c.args.part (some_at (λ x. x.now) c.at.result _ c.at.ensures (sym c.if-is_some.ensures)) c.self.invariant)
 
-pub returns-then-take_back : goal.returns-then-take_back
-returns-then-take_back c = rw (← c.self.view_is) (alter_there c.self.inside.versions (c.get_mut.follows.lender c.take_back.new.version) c.args.born _ _ (without c.args.part) c.in-Some.ensures.value (c.get_mut.follows.holds c.take_back.new.version).3 c.if-take_back.ensures.left)
+pub invariant_of-self-2 : goal.invariant_of-self-2
+invariant_of-self-2 c = rw c.forget.ensures (set_apart c.self.inside.first c.self.inside.more c.args.born _ (none_at (λ x. x.now) c.at.result _ c.at.ensures (sym c.if-is_some.ensures)) c.self.invariant)
 
 pub returns : goal.returns
-returns c = rw (← c.self.view_is) (alter_gone c.self.inside.versions (c.get_mut.follows.lender c.take_back.new.version) c.args.born c.remove.new.self _ _ (without c.args.part) c.in-Some.ensures.value (c.get_mut.follows.holds c.take_back.new.version).3 c.remove.ensures.updates c.if-take_back.ensures.gone)
+returns c = rw (c.forget.ensures, ← c.self.view_is) (forget_others c.self.inside.first c.self.inside.more c.args.born c.args.part (none_at (λ x. x.now) c.at.result _ c.at.ensures (sym c.if-is_some.ensures)))

@@ -1,5 +1,6 @@
-use Rattle.hk_facts.proofs.StoredTrees.{seen_none, none_seen}
+use Rattle.std.proofs.Common.{sym, ◌∙◌, true≢false}
+use Rattle.hk_facts.proofs.FirstOfChains.{empty_none}
 use Rattle.hk_facts.proofs.chain.Chain.is_empty.Goals as goal
 
-pub returns : goal.returns
-returns c = rw (← c.self.view_is) (λ t. seen_none c.self.inside.versions (c.is_empty.ensures.0 t), λ e. c.is_empty.ensures.1 (none_seen c.self.inside.versions e))
+pub returns-else-is_none : goal.returns-else-is_none
+returns-else-is_none c = rw c.if-is_none.false ((λ t. absurd (true≢false (sym t))), (λ e. absurd (true≢false (sym c.if-is_none.ensures ∙ (empty_none c.self.inside.first c.self.inside.more (c.self.view_is ∙ e)).0))))

@@ -1,14 +1,9 @@
-use Rattle.std.proofs.Common.{sym, ap, ◌∙◌, ◌&&◌, leb}
-use Rattle.hk_facts.specs.Chains.{last_where}
-use Rattle.hk_facts.proofs.StoredTrees.{entries_seen}
-use Rattle.hk_facts.proofs.LastOfList.{has_row, latest_in_range, step_back, step_onto}
+use Rattle.std.proofs.Common.{sym, ◌∙◌}
+use Rattle.hk_facts.proofs.FirstOfChains.{first_wins, other_wins}
 use Rattle.hk_facts.proofs.chain.Chain.latest.Goals as goal
 
-pub loop-born-init : goal.loop-born-init
-loop-born-init c = rw (← c.self.view_is) (sym (ap (last_where (λ e. leb e.0 c.args.time && has_row e)) (entries_seen c.self.inside.versions c.range-earlier.ensures.ordered) ∙ latest_in_range c.args.time c.self.inside.versions.entries c.range-earlier.result (c.range-earlier.ensures.between tt)))
+pub returns-then-is_first_latest : goal.returns-then-is_first_latest
+returns-then-is_first_latest c = rw (← c.self.view_is) (c.latest_first.ensures ∙ first_wins c.args.time c.self.inside.first c.self.inside.more c.self.invariant (sym c.is_first_latest.ensures ∙ c.if-is_first_latest.true))
 
-pub returns-in-Some-row : goal.returns-in-Some-row
-returns-in-Some-row c = sym (step_onto _ _ _ _ c.in-Some.ensures.steps c.in-Some-row.ensures.value) ∙ c.loop-born.invariant
-
-pub loop-born-preserved : goal.loop-born-preserved
-loop-born-preserved c = sym (step_back _ _ _ c.in-Some.ensures.steps c.in_default-row.ensures.value) ∙ c.loop-born.invariant
+pub returns : goal.returns
+returns c = rw (← c.self.view_is) (c.latest.ensures ∙ other_wins c.args.time c.self.inside.first c.self.inside.more c.self.invariant (sym c.is_first_latest.ensures ∙ c.if-is_first_latest.false))

@@ -2,7 +2,7 @@ use Rattle.std.proofs.Common.{ap}
 use Rattle.std.specs.Map.Iter.{deref_pair}
 use Rattle.std.proofs.lemmas.Map.Iter.{iter_end}
 use Rattle.hk_facts.proofs.CopiedTrees.{fill_more, filled_all}
-use Rattle.hk_facts.proofs.chain.Chain.copy.Goals as goal
+use Rattle.hk_facts.proofs.versions.Versions.copy.Goals as goal
 
 pub loop-born-preserved : goal.loop-born-preserved
 loop-born-preserved c = fill_more deref_pair c.loop-born.versions c.insert.new.versions c.loop-born.yielded (c.in-Some.born, c.in-Some.version) c.in-Some.born.now _ (ap (λ v. (c.in-Some.born.now, v)) c.in_ok-copy.ensures) c.loop-born.invariant c.in_ok-insert.ensures.ok
