@@ -39,6 +39,11 @@ def picture():
     report("docs/streams.svg is what its script draws", [got.stderr] if got.returncode else [])
 
 
+def calling():
+    got = subprocess.run([ROOT / "docs" / "calling", "--check"], stderr=subprocess.PIPE, text=True, check=False)
+    report("each CALLING.md is as the sources say", [got.stderr] if got.returncode else [])
+
+
 def commands():
     listed = re.findall(r"^hkrep (\w+) ", README, re.M)
     got = subprocess.run([PROGRAM, "--help"], stdout=subprocess.PIPE, text=True, check=False)
@@ -75,7 +80,7 @@ def links():
 
 
 def main():
-    for check in (listings, picture, commands, asked_node, links):
+    for check in (listings, picture, calling, commands, asked_node, links):
         check()
     print(f"{passed} passed, {failed} failed")
     return 1 if failed else 0
