@@ -1,6 +1,6 @@
 -- The encodings of an item, one in version 1 and one in version 2. All numbers are big-endian.
-use Rattle.std.specs.Prelude.{◌≡◌, ℕ, ◌^◌, ◌<◌, ◌≤◌, ◌⊎◌, ◌==◌, if◌then◌else◌, List, ◌∷◌, ◌++◌, length}
-use Rattle.std.specs.List.{flat_map, AllByRecursion}
+use Rattle.std.specs.Prelude.{◌≡◌, ℕ, ◌^◌, ◌<◌, ◌≤◌, ◌⊎◌, List, ◌∷◌, ◌++◌, length}
+use Rattle.std.specs.List.{AllByRecursion}
 use Rattle.std.specs.Int.{w16, w32, w64}
 use Rattle.hk_types.specs.Values.{RowValue}
 use Rattle.hk_types.specs.declared.version_key.VersionKey.{VersionKey}
@@ -8,7 +8,7 @@ use Rattle.hk_log.specs.Items.{EntryValue, MarkValue, IsEntry, IsMark, end_place
 use Rattle.hk_log.specs.declared.item.Item.{Item}
 use Rattle.hk_log.specs.declared.item.Item.TheVariants.{Commit, Closed}
 use Rattle.hk_frames.specs.Fields.{number}
-use Rattle.hk_codec.specs.Groups.{grouped_text}
+use Rattle.hk_codec.specs.Lists.{list_text}
 
 -- an item, and the version that its frame is written in
 pub record WrittenItem : Type 0 where
@@ -19,29 +19,21 @@ pub record WrittenItem : Type 0 where
 unfoldable pub keyed_end_text : VersionKey → List ℕ
 keyed_end_text v = number w64 v.key ++ number w64 v.born
 
--- table, key, born
-unfoldable pub end_text : VersionKey → List ℕ
-end_text v = number w16 v.table ++ keyed_end_text v
-
 -- a row beside its table: key, tag, the length of the body, the body
 unfoldable pub keyed_row_text : ℕ × ℕ × RowValue → List ℕ
 keyed_row_text r = number w64 r.1 ++ (number w32 r.2.tag ++ (number w16 (length r.2.body) ++ r.2.body))
-
--- table, key, tag, the length of the body, the body
-unfoldable pub row_text : ℕ × ℕ × RowValue → List ℕ
-row_text r = number w16 r.0 ++ keyed_row_text r
 
 -- the version, the kind, the log, the stream
 unfoldable pub head_text : ℕ → ℕ → ℕ → ℕ → List ℕ
 head_text version kind log stream = version ∷ kind ∷ number w64 log ++ number w16 stream
 
--- the ends: in version 1 one by one behind their count, in version 2 in groups of one table
-unfoldable pub ends_text : ℕ → List VersionKey → List ℕ
-ends_text version vs = if version == 1 then number w16 (length vs) ++ flat_map end_text vs else grouped_text end_place keyed_end_text vs
+-- the ends
+abbrev pub ends_text : ℕ → List VersionKey → List ℕ
+ends_text version vs = list_text version end_place keyed_end_text vs
 
--- the rows, likewise
-unfoldable pub rows_text : ℕ → List (ℕ × ℕ × RowValue) → List ℕ
-rows_text version rs = if version == 1 then number w16 (length rs) ++ flat_map row_text rs else grouped_text row_place keyed_row_text rs
+-- the rows
+abbrev pub rows_text : ℕ → List (ℕ × ℕ × RowValue) → List ℕ
+rows_text version rs = list_text version row_place keyed_row_text rs
 
 -- number, time, the ends, the rows
 unfoldable pub entry_text : ℕ → EntryValue → List ℕ

@@ -1,5 +1,5 @@
 pub mod Encoding
-pub mod Groups
+pub mod Lists
 pub mod Reading
 pub mod Frames
 pub mod Parts

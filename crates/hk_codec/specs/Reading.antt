@@ -10,7 +10,7 @@ use Rattle.hk_log.specs.declared.item.Item.{Item}
 use Rattle.hk_log.specs.declared.item.Item.TheVariants.{Commit, Closed}
 use Rattle.hk_frames.specs.Fields.{◌>>=◌, check, byte_at, number_at, body_at, list_at}
 use Rattle.hk_codec.specs.Encoding.{WrittenItem}
-use Rattle.hk_codec.specs.Groups.{groups_at}
+use Rattle.hk_codec.specs.Lists.{groups_at}
 
 -- an end of this table after the place before it, of an entry with this time
 unfoldable pub keyed_end_at : ℕ → ℕ → Option (ℕ × ℕ) → List ℕ → Result (VersionKey × List ℕ) FormFault
