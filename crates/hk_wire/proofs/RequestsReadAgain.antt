@@ -21,7 +21,7 @@ use Rattle.hk_codec.proofs.ItemFrames.{item_format}
 use Rattle.hk_wire.specs.Readers.{both, fault_where, list_by, time_at, Chained}
 use Rattle.hk_wire.specs.Messages.{message_at}
 use Rattle.hk_wire.specs.Queries.{query_kind, query_fields, query_text, QueryFits, query_of, query_at}
-use Rattle.hk_wire.specs.Requests.{RequestOf, WrittenRequest, Items, Front, Delta, Full, Ask, JoinThis, MergeThis, Prune, whole_at, frame_taken, item_frame_at, item_count_at, item_frames_at, no_place, items_at, keeps_rules, request_kind, request_body, request_rest, RequestFits, IsRequest, request_of, request_at}
+use Rattle.hk_wire.specs.Requests.{RequestOf, WrittenRequest, Items, Front, Delta, Full, Ask, JoinThis, MergeThis, Prune, whole_at, frame_taken, item_frame_at, item_count_at, no_place, items_at, keeps_rules, request_kind, request_body, request_rest, RequestFits, IsRequest, request_of, request_at}
 use Rattle.hk_wire.specs.Fragments.{WireFragment, fragment_text, fragment_at, FragmentFits, is_counted}
 use Rattle.hk_wire.proofs.FragmentsReadAgain.{fragment_field}
 use Rattle.hk_wire.proofs.ReadersAndEncodings.{IsField, field16, field32, field64, time_field, both_field, barred_field, same_field, listed_field, this_or, made_takes, nothing_takes, made_again, kinded_field, message_format, same_format}
@@ -128,12 +128,6 @@ items_chained before (i ∷ items) h = (h.0, items_chained (Some tt) items h.1)
 items_each : (before : Option (Unit {0})) (items : List WrittenItem) → Chained no_place (λ _. IsWritten) before items → AllByRecursion IsWritten items
 items_each before [] h = tt
 items_each before (i ∷ items) h = (h.0, items_each (Some tt) items h.1)
-
--- items don't depend on what stands before them
-pub any_before : (n : ℕ) (bytes : List ℕ) → item_frames_at n None bytes ≡ item_frames_at n (Some tt) bytes
-unfolding list_at
-any_before zero bytes = refl
-any_before (suc n) bytes = refl
 
 count_field : IsField item_count_at (number w32) (λ n. n ≤ 65536)
 unfolding item_count_at

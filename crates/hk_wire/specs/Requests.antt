@@ -54,6 +54,10 @@ with_items f (Prune horizon) = Prune horizon
 abbrev pub request_meant : WrittenRequest → RequestValue
 request_meant r = with_items (λ w. w.item) r
 
+-- these items with frames of version 2
+abbrev pub new_items : List Item → List WrittenItem
+new_items items = map (λ item. record { version = 2; item = item }) items
+
 -- the request with all of its item frames in version 2
 abbrev pub newly_written : RequestValue → WrittenRequest
 newly_written r = with_items (λ item. record { version = 2; item = item }) r

@@ -33,7 +33,7 @@ pub(crate) fn put_head(out: &mut Vec<u8>, rest: u32, kind: u8) -> Result<(), All
 
 /// Whether a request keeps the rules of its kind.
 fn keeps_rules(request: &Request) -> bool
-    ensures { result ≡ requests.keeps_rules (requests.as_written request.now) }
+    ensures { result ≡ requests.keeps_rules (requests.request_seen request.now) }
 {
     match request {
         Request::Items(items) => items.len() <= MOST_ITEMS,
@@ -46,7 +46,7 @@ fn keeps_rules(request: &Request) -> bool
 /// How many bytes the rest of the frame of a request that keeps its rules has.
 #[tactic(auto, using(crate::proofs::Lengths::items_rest_len, crate::proofs::Lengths::front_len, crate::proofs::Lengths::delta_len, crate::proofs::Lengths::full_len, crate::proofs::Lengths::ask_len, crate::proofs::Lengths::prune_len, crate::proofs::Lengths::join_this_len, crate::proofs::Lengths::merge_this_len))]
 fn rest_len(request: &Request) -> u64
-    requires { requests.keeps_rules (requests.as_written request.now) ≡ true }
+    requires { requests.keeps_rules (requests.request_seen request.now) ≡ true }
     ensures len { result ≡ length (requests.request_rest (requests.as_written request.now)) }
     ensures fits { requests.RequestFits (requests.as_written request.now) }
 {
@@ -61,9 +61,10 @@ fn rest_len(request: &Request) -> u64
 }
 
 /// How many bytes the rest of a request's frame has, or `None` where it has no encoding.
+#[tactic(auto, using(crate::proofs::EncodedMessages::keeps_same))]
 fn request_len(request: &Request) -> Option<u32>
     ensures len { MatchOption result (requests.is_encodable (requests.as_written request.now) ≡ false) (λ len. (requests.is_encodable (requests.as_written request.now) ≡ true) × (len ≡ length (requests.request_rest (requests.as_written request.now)))) }
-    ensures rules { IfSome result (λ _. requests.keeps_rules (requests.as_written request.now) ≡ true) }
+    ensures rules { IfSome result (λ _. requests.keeps_rules (requests.request_seen request.now) ≡ true) }
     ensures request { IfSome result (λ _. requests.IsRequest (requests.as_written request.now)) }
 {
     if !keeps_rules(request) {
@@ -80,7 +81,7 @@ fn request_len(request: &Request) -> Option<u32>
 #[tactic(auto, using(std::proofs::Common::append_assoc, hk_frames::proofs::Prefix::kept_all, hk_frames::proofs::Prefix::kept_before, hk_frames::proofs::Prefix::kept_both), unfolding(hk_frames::specs::Framing::encoded, crate::specs::Requests::request_rest))]
 fn put_request(out: &mut Vec<u8>, request: &Request, rest: u32) -> Result<(), AllocError>
     requires len { rest ≡ length (requests.request_rest (requests.as_written request.now)) }
-    requires rules { requests.keeps_rules (requests.as_written request.now) ≡ true }
+    requires rules { requests.keeps_rules (requests.request_seen request.now) ≡ true }
     ensures ok { OnOk result (out.new.items ≡ out.old.items ++ requests.request_text (requests.as_written request.now)) }
     ensures kept { OnErr result (take (length out.old.items) out.new.items ≡ out.old.items) }
 {
