@@ -37,8 +37,13 @@ frame_plain bytes =
     ap (λ (r : Result (Option (Item × ℕ)) FormFault). r >>= λ frame. frame_taken frame bytes) (framed_seen item_of 28 4233248 item_at bytes)
     ∙ taken_plain bytes (frame_at bytes)
 
-items_of : List WrittenItem → List Item
-items_of ws = map item_of ws
+-- a frame whose bytes can't be passed over
+pub frame_fails : (bytes : List ℕ) (frame : Option (Item × ℕ)) (i : Item) (n : ℕ) (f : FormFault) → framed 28 4233248 (λ rest. mapped item_of (item_at rest)) bytes ≡ Ok frame → frame ≡ Some (i, n) → bytes_at n bytes ≡ Err f → plain_frame_at bytes ≡ Err f
+unfolding plain_frame_at
+frame_fails bytes frame i n f e s h =
+    ap (λ (r : Result (Option (Item × ℕ)) FormFault). r >>= λ o. frame_taken o bytes) e
+    ∙ ap (λ (o : Option (Item × ℕ)). frame_taken o bytes) s
+    ∙ ap (λ (t : Result (List ℕ × List ℕ) FormFault). t >>= λ taken. Ok (i, taken.1)) h
 
 more_plain : (r : Result (WrittenItem × List ℕ) FormFault) (others : List ℕ → Result (List WrittenItem × List ℕ) FormFault) (plain : List ℕ → Result (List Item × List ℕ) FormFault) → ((bytes : List ℕ) → plain bytes ≡ mapped (seen_of (map item_of)) (others bytes))
     → (mapped (seen_of item_of) r >>= λ first. plain first.1 >>= λ rest. Ok (first.0 ∷ rest.0, rest.1)) ≡ mapped (seen_of (map item_of)) (r >>= λ first. others first.1 >>= λ rest. Ok (first.0 ∷ rest.0, rest.1))
