@@ -110,7 +110,7 @@ abbrev list_of : RequestValue → List RequestValue → List RequestValue
 list_of x xs = x ∷ xs
 
 cons_is : (x y : RequestValue) (xs ys : List RequestValue) → list_of x xs ≡ list_of y ys → (x ≡ y) × (xs ≡ ys)
-cons_is x y xs ys e = cc
+cons_is x y xs ys e = (cc, cc)
 
 record Parted (front back : List Request) (written : List WrittenRequest) : Type 0 where
   first : List WrittenRequest
