@@ -27,8 +27,15 @@ E3 = frame("00000031 01 01 0000000000000007 0001 0000000000000003 00000000000000
            "0001 0001 0000000000000006 00000009 0001 43")
 
 
-def mark(stream, n, m, log=7):
-    rest = bytes([1, 2]) + log.to_bytes(8, "big") + stream.to_bytes(2, "big")
+# The same in version 2.
+NEW_E1 = frame("00000033 02 01 0000000000000007 0001 0000000000000001 0000000000000001 0000"
+               "0001 0001 0001 0000000000000005 00000009 0001 41")
+NEW_E2 = frame("00000047 02 01 0000000000000007 0001 0000000000000002 0000000000000002 0001"
+               "0001 0001 0000000000000005 0000000000000001 0001 0001 0001 0000000000000005 00000009 0001 42")
+
+
+def mark(stream, n, m, log=7, version=1):
+    rest = bytes([version, 2]) + log.to_bytes(8, "big") + stream.to_bytes(2, "big")
     rest += n.to_bytes(8, "big") + m.to_bytes(8, "big")
     return len(rest).to_bytes(4, "big") + rest
 
@@ -45,6 +52,36 @@ def entry(number, time, rows=(), ends=(), stream=1, log=7):
         rest += table.to_bytes(2, "big") + key.to_bytes(8, "big") + tag.to_bytes(4, "big")
         rest += len(body).to_bytes(2, "big") + body
     return len(rest).to_bytes(4, "big") + rest
+
+
+def framed(rest):
+    return len(rest).to_bytes(4, "big") + rest
+
+
+def number_of(value, size):
+    return value.to_bytes(size, "big")
+
+
+def group(table, elements, count=None):
+    """A group of a table: its elements are bytes; another count than theirs may be told."""
+    return number_of(table, 2) + number_of(len(elements) if count is None else count, 2) + b"".join(elements)
+
+
+def groups_of(groups, count=None):
+    return number_of(len(groups) if count is None else count, 2) + b"".join(groups)
+
+
+def end(key, born):
+    return number_of(key, 8) + number_of(born, 8)
+
+
+def row(key, tag=9, body=b"A", length=None):
+    return number_of(key, 8) + number_of(tag, 4) + number_of(len(body) if length is None else length, 2) + body
+
+
+def grouped(number, time, ends, rows, stream=1, log=7):
+    """An entry of version 2, of the bytes of its groups."""
+    return framed(bytes([2, 1]) + number_of(log, 8) + number_of(stream, 2) + number_of(number, 8) + number_of(time, 8) + ends + rows)
 
 
 def at(time, table, key, log="7", streams="1"):
@@ -133,8 +170,9 @@ def bytes_of_all_kinds():
           "4294967295 00\n")
     check("a cut frame is 1, after the items before it", ["items"], E2 + E1[:-1],
           "commit log 7 stream 1 number 2 time 2 ends 1 rows 1\nrefused 1\n", 1)
-    check("a length above the greatest is 2", ["items"], frame("00408821"), "refused 2\n", 1)
-    check("the greatest length goes on", ["items"], frame("00408820"), "refused 1\n", 1)
+    check("a length above the greatest is 2", ["items"], frame("00409821"), "refused 2\n", 1)
+    check("the greatest length goes on", ["items"], frame("00409820"), "refused 1\n", 1)
+    check("a length above the greatest of version 1 goes on", ["items"], frame("00408821"), "refused 1\n", 1)
     check("a length below the least is 10", ["items"], frame("0000001b"), "refused 10\n", 1)
     check("rows that do not rise are 7", ["items"], entry(1, 1, [(1, 6, 9, b""), (1, 5, 9, b"")]), "refused 7\n", 1)
     check("nothing follows a fault", ["items"], frame("0000001b") + E1, "refused 10\n", 1)
@@ -145,14 +183,14 @@ def bytes_of_all_kinds():
 
 # A place of E2, the byte there, and the number that is printed, or 0 where an item is.
 FAULTS_OF_AN_ENTRY = [
-    (0, 1, 2), (3, 27, 10), (3, 0x42, 10), (3, 0x44, 1), (4, 0, 3), (4, 2, 3), (5, 0, 4), (5, 2, 10), (5, 3, 4), (6, 0xff, 0),
+    (0, 1, 2), (3, 27, 10), (3, 0x42, 10), (3, 0x44, 1), (4, 0, 3), (4, 2, 8), (4, 3, 3), (5, 0, 4), (5, 2, 10), (5, 3, 4), (6, 0xff, 0),
     (14, 1, 5), (15, 0, 5), (15, 64, 0), (15, 65, 5), (23, 0, 6), (23, 1, 0), (23, 3, 6), (24, 0x40, 6), (31, 1, 6), (32, 4, 8),
     (33, 0, 10), (34, 0xff, 0), (36, 0xff, 0), (44, 0x40, 6), (51, 0, 6), (51, 2, 6), (52, 4, 8), (53, 0, 10), (53, 2, 10),
     (54, 0xff, 0), (56, 0xff, 0), (64, 0xff, 0), (68, 0x10, 9), (69, 0, 10), (69, 2, 10), (70, 0xff, 0)]
 
 # The same of the mark (1, 2, 2).
 FAULTS_OF_A_MARK = [
-    (0, 1, 2), (3, 27, 10), (3, 29, 1), (4, 0, 3), (4, 2, 3), (5, 0, 4), (5, 1, 10), (5, 3, 4), (13, 0xff, 0), (15, 0, 5),
+    (0, 1, 2), (3, 27, 10), (3, 29, 1), (4, 0, 3), (4, 2, 0), (4, 3, 3), (5, 0, 4), (5, 1, 10), (5, 3, 4), (13, 0xff, 0), (15, 0, 5),
     (15, 64, 0), (15, 65, 5), (16, 1, 6), (23, 0, 0), (23, 3, 6), (24, 0x40, 6), (31, 1, 6), (31, 3, 0)]
 
 # The same of an entry with the ends of keys 5 and 7 and rows there: the low bytes of tables, keys and births.
@@ -192,8 +230,104 @@ def faults_of_frames():
     check_faults("each cut of an entry", [(f"cut at {end}", E1[:end], 1) for end in range(1, len(E1))])
     check_faults("numbers and times", [(f"number {n}, time {at}", entry(n, at, [(1, 5, 9, b"")]), want) for n, at, want in (
         (0, 5, 6), (1, 5, 0), (5, 5, 0), (6, 5, 6), (1, 0, 6), (1, 2 ** 62, 0), (1, 2 ** 62 + 1, 6))])
-    check("the items before a fault are printed", ["items"], E1 + patched(E2, (4, 2)) + E1,
+    check("the items before a fault are printed", ["items"], E1 + patched(E2, (4, 3)) + E1,
           "commit log 7 stream 1 number 1 time 1 ends 0 rows 1\nrefused 3\n", 1)
+
+
+# A place of E2 in version 2, the byte there, and the number that is printed, or 0 where an item is.
+FAULTS_OF_A_NEW_ENTRY = [
+    (0, 1, 2), (3, 27, 10), (3, 0x46, 10), (3, 0x48, 1), (4, 0, 3), (4, 3, 3), (5, 0, 4), (5, 2, 10), (5, 3, 4), (6, 0xff, 0),
+    (14, 1, 5), (15, 0, 5), (15, 64, 0), (15, 65, 5), (23, 0, 6), (23, 1, 0), (23, 3, 6), (24, 0x40, 6), (31, 1, 6), (32, 4, 8),
+    (33, 2, 7), (34, 0xff, 0), (36, 4, 8), (37, 0, 8), (38, 0xff, 0), (46, 0x40, 6), (53, 0, 6), (53, 2, 6), (54, 4, 8), (55, 0, 10),
+    (55, 2, 10), (56, 0xff, 0), (58, 4, 8), (59, 0, 8), (59, 2, 10), (60, 0xff, 0), (68, 0xff, 0), (72, 0x10, 9), (73, 0, 10),
+    (73, 2, 10), (74, 0xff, 0)]
+
+# The same of the mark (1, 2, 2) of version 2.
+FAULTS_OF_A_NEW_MARK = [
+    (0, 1, 2), (3, 27, 10), (3, 29, 1), (4, 0, 3), (4, 1, 0), (4, 3, 3), (5, 0, 4), (5, 3, 4), (15, 0, 5), (15, 65, 5), (16, 1, 6),
+    (23, 0, 0), (23, 3, 6), (24, 0x40, 6), (31, 1, 6)]
+
+
+def new_lists():
+    """Each rule of the groups of version 2, kept and broken."""
+    one, nothing = groups_of([group(1, [row(5)])]), groups_of([])
+    of = lambda ends, rows: grouped(9, 9, ends, rows)
+    many = [row(key, body=b"") for key in range(1024)]
+    cases = [
+        ("a row", of(nothing, one), 0), ("an end", of(groups_of([group(1, [end(5, 1)])]), nothing), 0), ("neither", of(nothing, nothing), 8),
+        ("two groups of rows", of(nothing, groups_of([group(1, [row(5)]), group(2, [row(5)])])), 0),
+        ("two groups of rows of one table", of(nothing, groups_of([group(1, [row(5)]), group(1, [row(6)])])), 7),
+        ("tables of rows that fall", of(nothing, groups_of([group(2, [row(5)]), group(1, [row(6)])])), 7),
+        ("a group without rows", of(nothing, groups_of([group(1, [])])), 8),
+        ("a second group without rows", of(nothing, groups_of([group(1, [row(5)]), group(2, [])])), 8),
+        ("a table before a count", of(nothing, groups_of([group(1, [row(5)]), group(1, [])])), 7),
+        ("keys of rows that stand still", of(nothing, groups_of([group(1, [row(5), row(5)])])), 7),
+        ("keys of rows that fall", of(nothing, groups_of([group(1, [row(6), row(5)])])), 7),
+        ("keys that fall from table to table", of(nothing, groups_of([group(1, [row(6)]), group(2, [row(5)])])), 0),
+        ("order before a body", of(nothing, groups_of([group(1, [row(6), row(5, length=4097)])])), 7),
+        ("a body of 4,097 bytes", of(nothing, groups_of([group(1, [row(5, body=b"A" * 4097)])])), 9),
+        ("two groups of ends", of(groups_of([group(1, [end(5, 1)]), group(2, [end(5, 1)])]), nothing), 0),
+        ("two groups of ends of one table", of(groups_of([group(1, [end(5, 1)]), group(1, [end(6, 1)])]), nothing), 7),
+        ("tables of ends that fall", of(groups_of([group(2, [end(5, 1)]), group(1, [end(6, 1)])]), nothing), 7),
+        ("a group without ends", of(groups_of([group(1, [])]), one), 8),
+        ("keys of ends that stand still", of(groups_of([group(1, [end(5, 1), end(5, 1)])]), nothing), 7),
+        ("order before birth", of(groups_of([group(1, [end(5, 1), end(5, 9)])]), nothing), 7),
+        ("born at the time", of(groups_of([group(1, [end(5, 9)])]), nothing), 6),
+        ("born at 0", of(groups_of([group(1, [end(5, 0)])]), nothing), 6),
+        ("1,024 rows of a table", of(nothing, groups_of([group(1, many)])), 0),
+        ("1,025 rows of a table", of(nothing, groups_of([group(1, many + [row(2000)])])), 8),
+        ("1,024 rows of two tables", of(nothing, groups_of([group(1, many[:-1]), group(2, [row(1)])])), 0),
+        ("1,025 rows of two tables", of(nothing, groups_of([group(1, many), group(2, [row(1)])])), 8),
+        ("1,024 tables of rows", of(nothing, groups_of([group(table, [row(5, body=b"")]) for table in range(1024)])), 0),
+        ("1,025 groups of rows", of(nothing, groups_of([group(table, [row(5, body=b"")]) for table in range(1025)])), 8),
+        ("1,024 tables of ends", of(groups_of([group(table, [end(5, 1)]) for table in range(1024)]), nothing), 0),
+        ("1,025 groups of ends", of(groups_of([group(table, [end(5, 1)]) for table in range(1025)]), nothing), 8),
+        ("1,025 ends of two tables", of(groups_of([group(1, [end(key, 1) for key in range(1024)]), group(2, [end(1, 1)])]), nothing), 8),
+        ("a byte after the rows", framed(of(nothing, one)[4:] + b"\0"), 10)]
+    check_faults("the groups of version 2", cases)
+
+
+def faults_of_new_frames():
+    for name, data, table in (("an entry", NEW_E2, FAULTS_OF_A_NEW_ENTRY), ("a mark", mark(1, 2, 2, version=2), FAULTS_OF_A_NEW_MARK)):
+        check_faults(f"each fault of {name} of version 2", [(f"byte {at} is {byte}", patched(data, (at, byte)), want) for at, byte, want in table])
+    check_faults("each cut of an entry of version 2", [(f"cut at {end}", NEW_E2[:end], 1) for end in range(1, len(NEW_E2))])
+    check_faults("each shorter rest of version 2", [(f"{size} bytes", framed(NEW_E2[4:4 + size]), 10) for size in range(28, len(NEW_E2) - 4)])
+    new_lists()
+    full = [row(5, body=b"A" * 4096)]
+    check_faults("the longest frame", [("of version 2", grouped(9, 9, groups_of([group(table, [end(5, 1)]) for table in range(1024)]),
+                                                                groups_of([group(table, full) for table in range(1024)])), 0)])
+
+
+def check_rewritten(name, data, wanted):
+    got = run(["rewrite"], data)
+    problems = [] if (got.stdout, got.returncode, got.stderr) == (wanted, 0, b"") else [f"{got.returncode} {got.stdout[:200]!r}, wanted {wanted[:200]!r}"]
+    report(name, problems)
+
+
+def rewriting():
+    check_rewritten("E1 and its mark in version 2", E1 + mark(1, 1, 1), NEW_E1 + mark(1, 1, 1, version=2))
+    check_rewritten("frames of version 2 stay", NEW_E2 + NEW_E1 + mark(1, 2, 2, version=2), NEW_E2 + NEW_E1 + mark(1, 2, 2, version=2))
+    check_rewritten("frames of both versions", E2 + NEW_E1 + mark(1, 2, 2), NEW_E2 + NEW_E1 + mark(1, 2, 2, version=2))
+    check_rewritten("nothing", b"", b"")
+    tables = entry(9, 9, [(1, 5, 9, b"A"), (1, 6, 9, b"A"), (3, 1, 9, b"A")], [(2, 7, 1), (4, 1, 1), (4, 2, 1)])
+    check_rewritten("the longest runs of one table", tables, grouped(9, 9, groups_of([group(2, [end(7, 1)]), group(4, [end(1, 1), end(2, 1)])]),
+                                                                     groups_of([group(1, [row(5), row(6)]), group(3, [row(1)])])))
+    many = b"".join(entry(n, n, [(1, n, 9, b"\x41")]) for n in range(1, 3001))
+    check_rewritten("many frames", many, b"".join(grouped(n, n, groups_of([]), groups_of([group(1, [row(n)])])) for n in range(1, 3001)))
+    for name, data, fault in (("a cut frame", E1 + E2[:-1], 1), ("a fault after an item", E1 + patched(E2, (4, 3)), 3),
+                              ("a fault of version 2", NEW_E1 + patched(NEW_E2, (59, 0)) + E1, 8), ("a cut length", E1 + b"\0", 1)):
+        check(f"nothing but the refusal is written of {name}", ["rewrite"], data, f"refused {fault}\n", 1)
+
+
+def new_worked_rows():
+    """The first stories with frames of version 2."""
+    new = lambda stream, n, m: mark(stream, n, m, version=2)
+    check("an entry of version 2 and its mark answer", at(1, 1, 5), NEW_E1 + new(1, 1, 1), "9 41\n")
+    check("an entry of version 2 without a mark can't be read", at(1, 1, 5), NEW_E1, "refused 26 readable 0\n", 1)
+    check("frames of both versions answer", at(2, 1, 5), NEW_E2 + E1 + new(1, 2, 2), "9 42\n")
+    check("both items of version 2 are printed", ["items"], NEW_E1 + new(1, 1, 1),
+          "commit log 7 stream 1 number 1 time 1 ends 0 rows 1\nmark log 7 stream 1 n 1 m 1\n")
+    check("E2 of version 2 is printed", ["items"], NEW_E2, "commit log 7 stream 1 number 2 time 2 ends 1 rows 1\n")
 
 
 def pieces():
@@ -493,8 +627,8 @@ def main():
         print(f"FAILED {PROGRAM} is not built")
         print("0 passed, 1 failed")
         return 1
-    for group in (worked_rows, bytes_of_all_kinds, faults_of_frames, pieces, deliveries, generated_histories, refusals, world_scripts, bad_scripts, long_scripts, command_lines, failing_devices, failing_reads_and_writes, links_example):
-        group()
+    for group_of_checks in (worked_rows, new_worked_rows, bytes_of_all_kinds, faults_of_frames, faults_of_new_frames, rewriting, pieces, deliveries, generated_histories, refusals, world_scripts, bad_scripts, long_scripts, command_lines, failing_devices, failing_reads_and_writes, links_example):
+        group_of_checks()
     print(f"{passed} passed, {failed} failed")
     return 1 if failed else 0
 

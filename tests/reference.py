@@ -7,7 +7,7 @@ Standard library only."""
 import sys
 
 LAST_TIME = 2 ** 62
-LARGEST_REST = 4_229_152
+LARGEST_REST = 4_233_248
 
 
 # ---------------------------------------------------------------- items
@@ -33,8 +33,11 @@ class Entry:
         return (f"commit log {self.log} stream {self.stream} number {self.number} time {self.time} "
                 f"ends {len(self.ends)} rows {len(self.rows)}")
 
-    def rest(self):
-        out = bytes([1, 1]) + num(self.log, 8) + num(self.stream, 2) + num(self.number, 8) + num(self.time, 8)
+    def rest(self, version):
+        out = bytes([version, 1]) + num(self.log, 8) + num(self.stream, 2) + num(self.number, 8) + num(self.time, 8)
+        if version == 2:
+            return (out + grouped([(t, num(k, 8) + num(b, 8)) for t, k, b in self.ends])
+                    + grouped([(t, num(k, 8) + num(tag, 4) + num(len(body), 2) + body) for (t, k), (tag, body) in self.rows]))
         out += num(len(self.ends), 2) + b"".join(num(t, 2) + num(k, 8) + num(b, 8) for t, k, b in self.ends)
         out += num(len(self.rows), 2)
         return out + b"".join(num(t, 2) + num(k, 8) + num(tag, 4) + num(len(body), 2) + body
@@ -50,16 +53,27 @@ class Mark:
     def line(self):
         return f"mark log {self.log} stream {self.stream} n {self.n} m {self.m}"
 
-    def rest(self):
-        return bytes([1, 2]) + num(self.log, 8) + num(self.stream, 2) + num(self.n, 8) + num(self.m, 8)
+    def rest(self, version):
+        return bytes([version, 2]) + num(self.log, 8) + num(self.stream, 2) + num(self.n, 8) + num(self.m, 8)
 
 
 def num(value, size):
     return value.to_bytes(size, "big")
 
 
-def frame(item):
-    return num(len(item.rest()), 4) + item.rest()
+def grouped(elements):
+    """Elements, each a table and the bytes beside it, in the longest runs of one table."""
+    groups = []
+    for table, beside in elements:
+        if not groups or groups[-1][0] != table:
+            groups.append((table, []))
+        groups[-1][1].append(beside)
+    return num(len(groups), 2) + b"".join(num(table, 2) + num(len(group), 2) + b"".join(group) for table, group in groups)
+
+
+def frame(item, version=1):
+    rest = item.rest(version)
+    return num(len(rest), 4) + rest
 
 
 # ---------------------------------------------------------------- reading frames
@@ -85,6 +99,44 @@ def check(holds, fault):
         raise Fault(fault)
 
 
+def end_of(rest, ends, table, time):
+    key, born = rest.number(8), rest.number(8)
+    check(not ends or ends[-1][:2] < (table, key), 7)
+    check(1 <= born < time, 6)
+    ends.append((table, key, born))
+
+
+def row_of(rest, rows, table):
+    place = (table, rest.number(8))
+    check(not rows or rows[-1][0] < place, 7)
+    tag, length = rest.number(4), rest.number(2)
+    check(length <= 4096, 9)
+    rows.append((place, (tag, rest.take(length))))
+
+
+def groups_of(rest, count, elements, table_of, one):
+    """So many groups, whose elements `one` reads."""
+    for _ in range(count):
+        table = rest.number(2)
+        check(not elements or table_of(elements[-1]) < table, 7)
+        size = rest.number(2)
+        check(size >= 1 and len(elements) + size <= 1024, 8)
+        for _ in range(size):
+            one(table)
+
+
+def grouped_entry_of(rest, log, stream):
+    number, time = rest.number(8), rest.number(8)
+    check(1 <= number <= time <= LAST_TIME, 6)
+    count, ends, rows = rest.number(2), [], []
+    check(count <= 1024, 8)
+    groups_of(rest, count, ends, lambda end: end[0], lambda table: end_of(rest, ends, table, time))
+    count = rest.number(2)
+    check(count <= 1024 and (count or ends), 8)
+    groups_of(rest, count, rows, lambda row: row[0][0], lambda table: row_of(rest, rows, table))
+    return Entry(log, stream, number, time, ends, rows)
+
+
 def entry_of(rest, log, stream):
     number, time = rest.number(8), rest.number(8)
     check(1 <= number <= time <= LAST_TIME, 6)
@@ -92,19 +144,12 @@ def entry_of(rest, log, stream):
     check(count <= 1024, 8)
     ends = []
     for _ in range(count):
-        table, key, born = rest.number(2), rest.number(8), rest.number(8)
-        check(not ends or ends[-1][:2] < (table, key), 7)
-        check(1 <= born < time, 6)
-        ends.append((table, key, born))
+        end_of(rest, ends, rest.number(2), time)
     count = rest.number(2)
     check(count <= 1024 and (count or ends), 8)
     rows = []
     for _ in range(count):
-        place = (rest.number(2), rest.number(8))
-        check(not rows or rows[-1][0] < place, 7)
-        tag, length = rest.number(4), rest.number(2)
-        check(length <= 4096, 9)
-        rows.append((place, (tag, rest.take(length))))
+        row_of(rest, rows, rest.number(2))
     return Entry(log, stream, number, time, ends, rows)
 
 
@@ -116,12 +161,14 @@ def mark_of(rest, log, stream):
 
 def item_of(data):
     rest = Rest(data)
-    check(rest.number(1) == 1, 3)
+    version = rest.number(1)
+    check(version in (1, 2), 3)
     kind = rest.number(1)
     check(kind in (1, 2), 4)
     log, stream = rest.number(8), rest.number(2)
     check(1 <= stream <= 64, 5)
-    item = entry_of(rest, log, stream) if kind == 1 else mark_of(rest, log, stream)
+    entry = entry_of if version == 1 else grouped_entry_of
+    item = entry(rest, log, stream) if kind == 1 else mark_of(rest, log, stream)
     check(rest.place == len(data), 10)
     return item
 

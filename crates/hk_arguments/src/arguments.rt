@@ -17,6 +17,8 @@ pub enum Call {
     },
     /// Print item frames.
     Items,
+    /// Write item frames in version 2.
+    Rewrite,
     /// Play a script of a primary and its replicas.
     World,
     /// Start a node, and serve so many links on a port.
@@ -59,6 +61,13 @@ prints
   commit log 7 stream 1 number 1 time 1 ends 0 rows 1
   mark log 7 stream 1 n 1 m 1
 A fault of the input is printed after the items before it, as 'refused NUMBER'.";
+
+const REWRITE_ABOUT: &str = "Write the item frames of standard input in version 2";
+
+const REWRITE_EXAMPLE: &str = "Example:
+  hkrep rewrite < examples/first.bin > second.bin
+writes the same items, their ends and rows in groups of one table. A fault of the input is printed \
+as 'refused NUMBER' in place of the frames.";
 
 const WORLD_ABOUT: &str =
     "Play the script of standard input: a primary, and replicas that take its items";
@@ -206,6 +215,7 @@ fn whole<'a>(alloc: Global) -> Command<'a> {
 fn program<'a>(alloc: Global) -> Result<Command<'a>, AllocError> {
     let command = whole(alloc).subcommand(at_command(alloc)?)?;
     let command = command.subcommand(plain(alloc, "items", ITEMS_ABOUT, ITEMS_EXAMPLE))?;
+    let command = command.subcommand(plain(alloc, "rewrite", REWRITE_ABOUT, REWRITE_EXAMPLE))?;
     let command = command.subcommand(plain(alloc, "world", WORLD_ABOUT, WORLD_EXAMPLE))?;
     let command = command.subcommand(serve_command(alloc)?)?;
     command.subcommand(push_command(alloc)?)
@@ -296,6 +306,7 @@ pub fn read_call<'a>(alloc: Global, words: &'a [String]) -> Result<Call, Error> 
         Some(("at", at)) => checked(alloc, at, &AT_NUMBERS, at_call(at)),
         Some(("serve", serve)) => checked(alloc, serve, &SERVE_NUMBERS, serve_call(serve)),
         Some(("push", push)) => checked(alloc, push, &PUSH_NUMBERS, push_call(push)),
+        Some(("rewrite", _none)) => Ok(Call::Rewrite),
         Some(("world", _none)) => Ok(Call::World),
         _items => Ok(Call::Items),
     }

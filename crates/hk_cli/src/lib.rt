@@ -5,7 +5,7 @@ mod notice;
 mod push;
 mod serve;
 
-pub use hk_commands::{run_at, run_items, run_world};
+pub use hk_commands::{run_at, run_items, run_rewrite, run_world};
 pub use hk_lines::{Printed, line_of};
 pub use hk_types::Links;
 pub use push::run_push;

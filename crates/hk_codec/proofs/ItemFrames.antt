@@ -1,37 +1,51 @@
--- Items are a format: their frames are read and encoded in one way.
-use Rattle.std.proofs.Common.{◌≡◌, ℕ, ◌≤◌, List, ◌++◌, length, Result, Ok, arith}
+-- Items are a format: their frames are read and encoded in one way in each version.
+use Rattle.std.proofs.Common.{◌≡◌, ℕ, ◌≤◌, ◌⊎◌, List, [], ◌∷◌, ◌++◌, length, map, Option, Result, Ok, Err, refl, sym, ap, ◌∙◌, append-nil, append_assoc, arith}
+use Rattle.std.specs.List.{flat_map}
+use Rattle.std.proofs.lemmas.List.{map-append}
 use Rattle.hk_types.specs.declared.faults.FormFault.{FormFault}
+use Rattle.hk_types.specs.declared.faults.Refusal.{Refusal}
 use Rattle.hk_log.specs.declared.item.Item.{Item}
-use Rattle.hk_log.specs.declared.item.Item.TheVariants.{Commit, Closed}
-use Rattle.hk_codec.specs.Encoding.{rest_text, IsEncodableItem}
+use Rattle.hk_codec.specs.Encoding.{WrittenItem, rest_text, IsEncodableItem, IsWritten}
 use Rattle.hk_codec.specs.Reading.{item_at}
-use Rattle.hk_codec.specs.Frames.{encoding_of, Reads}
+use Rattle.hk_codec.specs.Frames.{frame_text, encoding_of, Reads, Adds}
 use Rattle.hk_codec.proofs.ReadItems.{item_takes}
-use Rattle.hk_codec.proofs.Lengths.{rows_most, mark_rest_len, entry_rest_len}
-use Rattle.hk_codec.proofs.ReadAgain.{counts_are, item_again}
-use Rattle.hk_frames.specs.Framing.{IsFormat}
-use Rattle.hk_frames.proofs.FrameStream.{one_encoding_only, one_reading_only, pieces_join_up}
+use Rattle.hk_codec.proofs.Lengths.{rest_least, rest_most}
+use Rattle.hk_codec.proofs.ReadAgain.{item_again}
+use Rattle.hk_frames.specs.Framing.{IsFormat, AddsValues, Feeds}
+use Rattle.hk_frames.proofs.FrameStream.{one_encoding_only, one_reading_only, pieces_join_up, one_value_begins, feeds_so}
 
-at_least : (i : Item) → IsEncodableItem i → 28 ≤ length (rest_text i)
-at_least (Commit e) h = omega (arith, entry_rest_len e)
-at_least (Closed k) h = omega (arith, mark_rest_len k)
+pub item_format : IsFormat 28 4233248 item_at rest_text IsWritten
+item_format = record { takes = λ bytes w fits most e. item_takes bytes w fits e; again = item_again; at_least = λ w h. rest_least w.version w.item; at_most = λ w h. rest_most w.version w.item h.0 h.1; in_width = omega arith }
 
-at_most : (i : Item) → IsEncodableItem i → length (rest_text i) ≤ 4229152
-at_most (Commit e) h =
-    let counts = counts_are e h.0 in
-    let len = entry_rest_len e in
-    let rows = rows_most e.rows h.2 in
-    omega (arith, len, rows.most, counts.ends, counts.rows)
-at_most (Closed k) h = omega (arith, mark_rest_len k)
+pub items_encode : (i j : WrittenItem) (a b : List ℕ) → IsWritten i → IsWritten j → frame_text i ++ a ≡ frame_text j ++ b → (i ≡ j) × (a ≡ b)
+items_encode = one_encoding_only 28 4233248 item_at rest_text IsWritten item_format
 
-pub item_format : IsFormat 28 4229152 item_at rest_text IsEncodableItem
-item_format = record { takes = λ bytes i fits most e. item_takes bytes i fits e; again = item_again; at_least = at_least; at_most = at_most; in_width = omega arith }
-
-pub items_encode : (i j : Item) (a b : List ℕ) → IsEncodableItem i → IsEncodableItem j → encoding_of i ++ a ≡ encoding_of j ++ b → (i ≡ j) × (a ≡ b)
-items_encode = one_encoding_only 28 4229152 item_at rest_text IsEncodableItem item_format
+abbrev items_of : List WrittenItem → List Item
+items_of ws = map (λ w. w.item) ws
 
 pub items_read : (text : List ℕ) (xs ys : List Item) (l r : Result (List ℕ) FormFault) → Reads text xs l → Reads text ys r → (xs ≡ ys) × (l ≡ r)
-items_read = one_reading_only 28 4229152 item_at rest_text IsEncodableItem item_format
+items_read text xs ys l r h k =
+    let one = one_reading_only 28 4233248 item_at rest_text IsWritten item_format text h.0 k.0 l r h.2 k.2 in
+    (h.1 ∙ ap items_of one.0 ∙ sym k.1, one.1)
 
 pub items_join : (text more left : List ℕ) (xs ys : List Item) (r : Result (List ℕ) FormFault) → Reads text xs (Ok left) → Reads (left ++ more) ys r → Reads (text ++ more) (xs ++ ys) r
-items_join = pieces_join_up 28 4229152 item_at rest_text IsEncodableItem
+items_join text more left xs ys r h k =
+    let same : xs ++ ys ≡ items_of (h.0 ++ k.0) = ap (λ (l : List Item). l ++ ys) h.1 ∙ ap (λ (l : List Item). items_of h.0 ++ l) k.1 ∙ sym (map-append (λ w. w.item) h.0 k.0) in
+    (h.0 ++ k.0, same, pieces_join_up 28 4233248 item_at rest_text IsWritten text more left h.0 k.0 r h.2 k.2)
+
+-- an encoding is read as its item alone
+pub item_reads : (version : ℕ) (i : Item) → (version ≡ 1) ⊎ (version ≡ 2) → IsEncodableItem i → Reads (encoding_of version i) (i ∷ []) (Ok [])
+item_reads version i which fits =
+    let w : WrittenItem = record { version = version; item = i } in
+    (w ∷ [], refl, one_value_begins 28 4233248 item_at rest_text IsWritten w (which, fits))
+
+-- items are seen as they are
+same_items : (xs : List Item) → map (λ (i : Item). i) xs ≡ xs
+same_items [] = refl
+same_items (x ∷ xs) = ap (λ (l : List Item). x ∷ l) (same_items xs)
+
+pub items_added : (before after : List Item) (text : List ℕ) (left : Result (List ℕ) FormFault) → AddsValues (λ (i : Item). i) (λ (w : WrittenItem). w.item) 28 4233248 item_at rest_text IsWritten before after text left → Adds before after text left
+items_added before after text left h = (h.0, h.1, (h.2.0, sym (same_items h.0) ∙ h.2.1, h.2.2))
+
+pub items_fed : (old new : Result (List ℕ) FormFault) (before after : List Item) (piece : List ℕ) (result : Result (Unit {0}) Refusal) → Feeds (AddsValues (λ (i : Item). i) (λ (w : WrittenItem). w.item) 28 4233248 item_at rest_text IsWritten) old new before after piece result → Feeds Adds old new before after piece result
+items_fed old new before after piece result h = feeds_so (AddsValues (λ (i : Item). i) (λ (w : WrittenItem). w.item) 28 4233248 item_at rest_text IsWritten) Adds items_added old new before after piece result h

@@ -1,6 +1,10 @@
+pub mod ListsRead
+pub mod LongestRuns
+pub mod ListLoops
 pub mod ReadFields
 pub mod ReadItems
 pub mod Lengths
 pub mod ReadAgain
 pub mod ItemFrames
 pub mod PartsRead
+pub mod RewrittenFrames

@@ -1,13 +1,16 @@
 -- Items of parts of a text, one part after the other.
-use Rattle.std.proofs.Common.{◌≡◌, ℕ, zero, suc, List, [], ◌∷◌, All, length, arith}
+use Rattle.std.proofs.Common.{◌≡◌, ℕ, zero, suc, List, [], ◌∷◌, All, IfSome, length, map, refl, arith}
+use Rattle.std.specs.Global.{Vec}
 use Rattle.std.specs.List.{AllZip, AllByRecursion, flat_map}
-use Rattle.std.proofs.Common.{◌-◌, ◌≤◌, ◌+◌, ◌++◌, Option, Some, Result, Ok, Err, take, drop, sym, ap, subst, ◌∙◌, append_assoc}
+use Rattle.std.proofs.Common.{◌-◌, ◌≤◌, ◌+◌, ◌++◌, Option, Some, None, Result, Ok, Err, take, drop, sym, ap, subst, ◌∙◌, append_assoc}
 use Rattle.std.proofs.lemmas.Grind.{flat_map-append}
-use Rattle.std.proofs.lemmas.List.{take_rest, drop-drop, take-append-drop}
+use Rattle.std.proofs.lemmas.List.{map-append, take_rest, drop-drop, take-append-drop}
 use Rattle.hk_types.specs.declared.faults.FormFault.{FormFault}
 use Rattle.hk_log.specs.declared.item.Item.{Item}
-use Rattle.hk_codec.specs.Encoding.{IsEncodableItem}
-use Rattle.hk_codec.specs.Frames.{encoding_of, Reads, Adds, rest_of}
+use Rattle.hk_frames.specs.Framing.{Begins}
+use Rattle.hk_codec.specs.Encoding.{WrittenItem, rest_text, IsWritten}
+use Rattle.hk_codec.specs.Reading.{item_at}
+use Rattle.hk_codec.specs.Frames.{frame_text, Adds, Decodes, rest_of}
 use Rattle.hk_codec.specs.Parts.{HasRead, IsPart}
 
 pub all_right : {A B : Type 0} (Q : B → Type 0) (xs : List A) (ys : List B) → AllZip (λ x y. Q y) xs ys → All Q ys
@@ -19,21 +22,34 @@ all_right Q (x ∷ xs) (y ∷ ys) h (suc k) d lt = all_right Q xs ys h.1 k d (om
 
 -- ---- what follows
 
-each_append : (xs ys : List Item) → AllByRecursion IsEncodableItem xs → AllByRecursion IsEncodableItem ys → AllByRecursion IsEncodableItem (xs ++ ys)
+abbrev items_of : List WrittenItem → List Item
+items_of ws = map (λ w. w.item) ws
+
+items_both : (ws vs : List WrittenItem) → items_of (ws ++ vs) ≡ items_of ws ++ items_of vs
+items_both ws vs = map-append (λ w. w.item) ws vs
+
+each_append : (xs ys : List WrittenItem) → AllByRecursion IsWritten xs → AllByRecursion IsWritten ys → AllByRecursion IsWritten (xs ++ ys)
 each_append [] ys h k = k
 each_append (x ∷ xs) ys h k = (h.0, each_append xs ys h.1 k)
 
-text_after : (text : List ℕ) (before mid : List Item) (used : ℕ) (items : List Item) (left : List ℕ) (s : HasRead text before mid used) → drop used text ≡ flat_map encoding_of items ++ left → text ≡ flat_map encoding_of (s.items ++ items) ++ left
-text_after text before mid used items left s e =
-    s.whole ∙ ap (λ (t : List ℕ). flat_map encoding_of s.items ++ t) e ∙ sym (append_assoc (flat_map encoding_of s.items) (flat_map encoding_of items) left) ∙ ap (λ (t : List ℕ). t ++ left) (sym (flat_map-append encoding_of s.items items))
+text_after : (text : List ℕ) (before mid : List Item) (used : ℕ) (written : List WrittenItem) (left : List ℕ) (s : HasRead text before mid used) → drop used text ≡ flat_map frame_text written ++ left → text ≡ flat_map frame_text (s.written ++ written) ++ left
+text_after text before mid used written left s e =
+    s.whole ∙ ap (λ (t : List ℕ). flat_map frame_text s.written ++ t) e ∙ sym (append_assoc (flat_map frame_text s.written) (flat_map frame_text written) left) ∙ ap (λ (t : List ℕ). t ++ left) (sym (flat_map-append frame_text s.written written))
 
-reads_after : (text : List ℕ) (before mid : List Item) (used : ℕ) (items : List Item) (left : Result (List ℕ) FormFault) (s : HasRead text before mid used) → Reads (drop used text) items left → Reads text (s.items ++ items) left
-reads_after text before mid used items (Ok left) s r = (text_after text before mid used items left s r.0, each_append s.items items s.each r.1, r.2)
-reads_after text before mid used items (Err fault) s r = (r.0, text_after text before mid used items r.0 s r.1, each_append s.items items s.each r.2, r.3)
+abbrev BeginsWritten : List ℕ → List WrittenItem → Result (List ℕ) FormFault → Type 0
+BeginsWritten text written left = Begins 28 4233248 item_at rest_text IsWritten text written left
+
+begins_after : (text : List ℕ) (before mid : List Item) (used : ℕ) (written : List WrittenItem) (left : Result (List ℕ) FormFault) (s : HasRead text before mid used) → BeginsWritten (drop used text) written left → BeginsWritten text (s.written ++ written) left
+begins_after text before mid used written (Ok left) s r = (text_after text before mid used written left s r.0, each_append s.written written s.each r.1, r.2)
+begins_after text before mid used written (Err fault) s r = (r.0, text_after text before mid used written r.0 s r.1, each_append s.written written s.each r.2, r.3)
+
+added_after : (before mid after more : List Item) (ws vs : List WrittenItem) → mid ≡ before ++ items_of ws → after ≡ mid ++ more → more ≡ items_of vs → after ≡ before ++ items_of (ws ++ vs)
+added_after before mid after more ws vs a b c =
+    b ∙ ap (λ (t : List Item). t ++ more) a ∙ append_assoc before (items_of ws) more ∙ ap (λ (t : List Item). before ++ (items_of ws ++ t)) c ∙ ap (λ (t : List Item). before ++ t) (sym (items_both ws vs))
 
 pub adds_after : (text : List ℕ) (before mid after : List Item) (used : ℕ) (left : Result (List ℕ) FormFault) → HasRead text before mid used → Adds mid after (drop used text) left → Adds before after text left
 adds_after text before mid after used left s a =
-    (s.items ++ a.0, a.1 ∙ ap (λ (t : List Item). t ++ a.0) s.added ∙ append_assoc before s.items a.0, reads_after text before mid used a.0 left s a.2)
+    (items_of (s.written ++ a.2.0), added_after before mid after a.0 s.written a.2.0 s.added a.1 a.2.1, (s.written ++ a.2.0, refl, begins_after text before mid used a.2.0 left s a.2.2))
 
 -- the same for a slice from a place on, and a place in it
 pub tail_adds : (text : List ℕ) (before mid after : List Item) (used more : ℕ) (fault : Option FormFault) → HasRead text before mid used → Adds mid after (take (length text - used) (drop used text)) (rest_of (drop more (take (length text - used) (drop used text))) fault) → Adds before after text (rest_of (drop (used + more) text) fault)
@@ -51,20 +67,25 @@ others_of_all P xs ys x e all = λ k d lt. (subst (All P) e all) (suc k) d (omeg
 
 -- ---- pieces
 
-pub part_is : (text : List ℕ) (start end : ℕ) (items : List Item) → start ≤ end → end ≤ length text → take (end - start) (drop start text) ≡ flat_map encoding_of items → AllByRecursion IsEncodableItem items → IsPart text start end items
-part_is text start end items le fits e each =
+pub part_is : (text : List ℕ) (start end : ℕ) (items : List Item) (written : List WrittenItem) → start ≤ end → end ≤ length text → items ≡ map (λ w. w.item) written → take (end - start) (drop start text) ≡ flat_map frame_text written → AllByRecursion IsWritten written → IsPart text start end items
+part_is text start end items written le fits same e each =
     let n : end - start + start ≡ end = omega arith in
     let after : drop (end - start) (drop start text) ≡ drop end text = drop-drop (end - start) start text ∙ ap (λ (k : ℕ). drop k text) (omega arith) in
-    let whole : drop start text ≡ flat_map encoding_of items ++ drop end text = sym (take-append-drop (end - start) (drop start text)) ∙ ap (λ (t : List ℕ). t ++ drop (end - start) (drop start text)) e ∙ ap (λ (t : List ℕ). flat_map encoding_of items ++ t) after in
-    record { fits = fits; whole = whole; each = each }
+    let whole : drop start text ≡ flat_map frame_text written ++ drop end text = sym (take-append-drop (end - start) (drop start text)) ∙ ap (λ (t : List ℕ). t ++ drop (end - start) (drop start text)) e ∙ ap (λ (t : List ℕ). flat_map frame_text written ++ t) after in
+    record { fits = fits; written = written; same = same; whole = whole; each = each }
 
 pub part_more : (text : List ℕ) (before mid : List Item) (used start end : ℕ) (items : List Item) → HasRead text before mid used → start ≡ used → IsPart text start end items → HasRead text before (mid ++ items) end
 part_more text before mid used start end items s at p =
-    let rest : drop used text ≡ flat_map encoding_of items ++ drop end text = ap (λ (k : ℕ). drop k text) (sym at) ∙ p.whole in
+    let rest : drop used text ≡ flat_map frame_text p.written ++ drop end text = ap (λ (k : ℕ). drop k text) (sym at) ∙ p.whole in
     record {
       fits = p.fits;
-      items = s.items ++ items;
-      added = ap (λ (t : List Item). t ++ items) s.added ∙ append_assoc before s.items items;
-      whole = text_after text before mid used items (drop end text) s rest;
-      each = each_append s.items items s.each p.each;
+      written = s.written ++ p.written;
+      added = added_after before mid (mid ++ items) items s.written p.written s.added refl p.same;
+      whole = text_after text before mid used p.written (drop end text) s rest;
+      each = each_append s.written p.written s.each p.each;
     }
+
+-- a slice of the text that is decoded is a part
+pub part_read : (text : List ℕ) (start end : ℕ) (items : Option (Vec Item)) → start ≤ end → end ≤ length text → IfSome items (λ v. Decodes (take (end - start) (drop start text)) (Ok v)) → IfSome items (λ v. IsPart text start end v.items)
+part_read text start end None le fits h = tt
+part_read text start end (Some v) le fits h = part_is text start end v.items h.0 le fits h.1 h.2 h.3

@@ -1,41 +1,56 @@
--- The one encoding of each item. All numbers are big-endian.
-use Rattle.std.specs.Prelude.{ℕ, ◌^◌, ◌<◌, ◌≤◌, List, ◌∷◌, ◌++◌, length}
-use Rattle.std.specs.List.{flat_map, AllByRecursion}
+-- The encodings of an item, one in version 1 and one in version 2. All numbers are big-endian.
+use Rattle.std.specs.Prelude.{◌≡◌, ℕ, ◌^◌, ◌<◌, ◌≤◌, ◌⊎◌, List, ◌∷◌, ◌++◌, length}
+use Rattle.std.specs.List.{AllByRecursion}
 use Rattle.std.specs.Int.{w16, w32, w64}
 use Rattle.hk_types.specs.Values.{RowValue}
 use Rattle.hk_types.specs.declared.version_key.VersionKey.{VersionKey}
-use Rattle.hk_log.specs.Items.{EntryValue, MarkValue, IsEntry, IsMark}
+use Rattle.hk_log.specs.Items.{EntryValue, MarkValue, IsEntry, IsMark, end_place, row_place}
 use Rattle.hk_log.specs.declared.item.Item.{Item}
 use Rattle.hk_log.specs.declared.item.Item.TheVariants.{Commit, Closed}
 use Rattle.hk_frames.specs.Fields.{number}
+use Rattle.hk_codec.specs.Lists.{list_text}
 
--- table, key, born
-unfoldable pub end_text : VersionKey → List ℕ
-end_text v = number w16 v.table ++ (number w64 v.key ++ number w64 v.born)
+-- an item, and the version that its frame is written in
+pub record WrittenItem : Type 0 where
+  pub version : ℕ
+  pub item : Item
 
--- table, key, tag, the length of the body, the body
-unfoldable pub row_text : ℕ × ℕ × RowValue → List ℕ
-row_text r = number w16 r.0 ++ (number w64 r.1 ++ (number w32 r.2.tag ++ (number w16 (length r.2.body) ++ r.2.body)))
+-- an end beside its table: key, born
+unfoldable pub keyed_end_text : VersionKey → List ℕ
+keyed_end_text v = number w64 v.key ++ number w64 v.born
 
--- version 1, the kind, the log, the stream
-unfoldable pub head_text : ℕ → ℕ → ℕ → List ℕ
-head_text kind log stream = 1 ∷ kind ∷ number w64 log ++ number w16 stream
+-- a row beside its table: key, tag, the length of the body, the body
+unfoldable pub keyed_row_text : ℕ × ℕ × RowValue → List ℕ
+keyed_row_text r = number w64 r.1 ++ (number w32 r.2.tag ++ (number w16 (length r.2.body) ++ r.2.body))
 
--- number, time, the ends behind their count, the rows behind their count
-unfoldable pub entry_text : EntryValue → List ℕ
-entry_text e =
-    number w64 e.number ++ (number w64 e.time
-    ++ (number w16 (length e.ends) ++ (flat_map end_text e.ends
-    ++ (number w16 (length e.rows) ++ flat_map row_text e.rows))))
+-- the version, the kind, the log, the stream
+unfoldable pub head_text : ℕ → ℕ → ℕ → ℕ → List ℕ
+head_text version kind log stream = version ∷ kind ∷ number w64 log ++ number w16 stream
+
+-- the ends
+abbrev pub ends_text : ℕ → List VersionKey → List ℕ
+ends_text version vs = list_text version end_place keyed_end_text vs
+
+-- the rows
+abbrev pub rows_text : ℕ → List (ℕ × ℕ × RowValue) → List ℕ
+rows_text version rs = list_text version row_place keyed_row_text rs
+
+-- number, time, the ends, the rows
+unfoldable pub entry_text : ℕ → EntryValue → List ℕ
+entry_text version e = number w64 e.number ++ (number w64 e.time ++ (ends_text version e.ends ++ rows_text version e.rows))
 
 -- the number of entries, and the time up to which they are all
 unfoldable pub mark_text : MarkValue → List ℕ
 mark_text k = number w64 k.count ++ number w64 k.upto
 
--- what comes after the length: kind 1 is an entry, kind 2 a mark
-unfoldable pub rest_text : Item → List ℕ
-rest_text (Commit e) = head_text 1 e.log e.stream ++ entry_text e
-rest_text (Closed k) = head_text 2 k.log k.stream ++ mark_text k
+-- what comes after the length, in a version: kind 1 is an entry, kind 2 a mark
+unfoldable pub version_text : ℕ → Item → List ℕ
+version_text version (Commit e) = head_text version 1 e.log e.stream ++ entry_text version e
+version_text version (Closed k) = head_text version 2 k.log k.stream ++ mark_text k
+
+-- what comes after the length
+abbrev pub rest_text : WrittenItem → List ℕ
+rest_text w = version_text w.version w.item
 
 -- an end whose numbers fit their fields
 pub record EndFits (v : VersionKey) : Type 0 where
@@ -49,7 +64,11 @@ pub record RowFits (r : ℕ × ℕ × RowValue) : Type 0 where
   pub tag : r.2.tag < 2 ^ 32
   pub body : length r.2.body ≤ 4096
 
--- what has an encoding: an item as its constructor lets it be, whose parts fit their fields
+-- what has encodings: an item as its constructor lets it be, whose parts fit their fields
 abbrev pub IsEncodableItem : Item → Type 0
 IsEncodableItem (Commit e) = IsEntry e × AllByRecursion EndFits e.ends × AllByRecursion RowFits e.rows
 IsEncodableItem (Closed k) = IsMark k
+
+-- such an item, in version 1 or 2
+abbrev pub IsWritten : WrittenItem → Type 0
+IsWritten w = ((w.version ≡ 1) ⊎ (w.version ≡ 2)) × IsEncodableItem w.item

@@ -1,4 +1,5 @@
 pub mod Encoding
+pub mod Lists
 pub mod Reading
 pub mod Frames
 pub mod Parts

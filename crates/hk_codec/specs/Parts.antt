@@ -1,20 +1,29 @@
 -- Frames of items that were read from the front of a text, and parts of it that are whole frames.
-use Rattle.std.specs.Prelude.{◌≡◌, ℕ, ◌≤◌, List, ◌++◌, length, drop}
+use Rattle.std.specs.Prelude.{◌≡◌, ℕ, ◌≤◌, ◌⊎◌, List, [], ◌++◌, length, map, take, drop, Result, Ok, Err}
 use Rattle.std.specs.List.{flat_map, AllByRecursion}
 use Rattle.hk_log.specs.declared.item.Item.{Item}
-use Rattle.hk_codec.specs.Encoding.{IsEncodableItem}
-use Rattle.hk_codec.specs.Frames.{encoding_of}
+use Rattle.hk_codec.specs.Encoding.{WrittenItem, IsWritten}
+use Rattle.hk_types.specs.declared.faults.Refusal.{Refusal}
+use Rattle.hk_types.specs.declared.faults.Refusal.TheVariants as refusals
+use Rattle.hk_codec.specs.Frames.{frame_text, encoding_of, Reads, IsRefused}
 
 -- the frames of so many bytes from the front were read, and their items added
 pub record HasRead (text : List ℕ) (before after : List Item) (used : ℕ) : Type 0 where
   pub fits : used ≤ length text
-  pub items : List Item
-  pub added : after ≡ before ++ items
-  pub whole : text ≡ flat_map encoding_of items ++ drop used text
-  pub each : AllByRecursion IsEncodableItem items
+  pub written : List WrittenItem
+  pub added : after ≡ before ++ map (λ w. w.item) written
+  pub whole : text ≡ flat_map frame_text written ++ drop used text
+  pub each : AllByRecursion IsWritten written
 
--- from start to end are the encodings of the items
+-- from start to end are encodings of the items
 pub record IsPart (text : List ℕ) (start end : ℕ) (items : List Item) : Type 0 where
   pub fits : end ≤ length text
-  pub whole : drop start text ≡ flat_map encoding_of items ++ drop end text
-  pub each : AllByRecursion IsEncodableItem items
+  pub written : List WrittenItem
+  pub same : items ≡ map (λ w. w.item) written
+  pub whole : drop start text ≡ flat_map frame_text written ++ drop end text
+  pub each : AllByRecursion IsWritten written
+
+-- the items of the text were added in version 2, or the text is refused and what was there is still the front
+abbrev pub HasRewritten : List ℕ → List ℕ → List ℕ → Result (Unit {0}) Refusal → Type 0
+HasRewritten text before after (Ok done) = (items : List Item) × Reads text items (Ok []) × (after ≡ before ++ flat_map (encoding_of 2) items)
+HasRewritten text before after (Err r) = (take (length before) after ≡ before) × ((r ≡ refusals.Memory) ⊎ IsRefused text r)

@@ -2,13 +2,13 @@
 
 ghost use Rattle.std.specs.Prelude.{List};
 ghost use Rattle.hk_log.specs.declared.item.Item.{Item};
-ghost use Rattle.hk_codec.specs.Encoding.{IsEncodableItem};
+ghost use Rattle.hk_codec.specs.Encoding.{IsWritten};
 ghost use Rattle.hk_frames.specs.Framing.{OneEncoding, OneReading, PiecesJoin};
-ghost use Rattle.hk_codec.specs.Frames.{encoding_of, Reads};
+ghost use Rattle.hk_codec.specs.Frames.{frame_text, Reads};
 
-/// No item has two encodings, no encoding is that of two items, and none begins another.
+/// No item has two encodings in a version, no encoding is that of two items or versions, and none begins another.
 pub fn one_encoding()
-    ensures { OneEncoding IsEncodableItem encoding_of }
+    ensures { OneEncoding IsWritten frame_text }
 {}
 
 /// A text is read in one way: which items it begins with, and what follows them.

@@ -1,4 +1,4 @@
-//! The two lists of an entry.
+//! The two lists of an entry, element by element, and in version 1.
 
 ghost use Rattle.hk_frames.specs.Fields.{GivesValue, GivesOrRunsOut};
 ghost use Rattle.hk_codec.specs.Reading as spec;
@@ -15,13 +15,18 @@ const END_BYTES: usize = 18;
 const LEAST_ROW_BYTES: usize = 16;
 
 /// The place before, where there is one.
-type Before = Option<(Table, Key)>;
+pub(crate) type Before = Option<(Table, Key)>;
 
-#[tactic(auto, unfolding(crate::specs::Reading::end_at))]
-fn read_end(cursor: &mut Cursor, time: Time, before: Before) -> Result<VersionKey, FormFault>
-    ensures { GivesValue (λ x. (x, cursor.new)) result (spec.end_at time before cursor.old) }
+/// Reads an end of a table.
+#[tactic(auto, unfolding(crate::specs::Reading::keyed_end_at))]
+pub(crate) fn read_keyed_end(
+    cursor: &mut Cursor,
+    time: Time,
+    table: Table,
+    before: Before,
+) -> Result<VersionKey, FormFault>
+    ensures { GivesValue (λ x. (x, cursor.new)) result (spec.keyed_end_at time table before cursor.old) }
 {
-    let table = Table::new(cursor.u16()?);
     let key = Key::new(cursor.u64()?);
     let born = cursor.u64()?;
     if !is_after(before, table, key) {
@@ -32,6 +37,14 @@ fn read_end(cursor: &mut Cursor, time: Time, before: Before) -> Result<VersionKe
     }
     let born = Time::new(born)?;
     Ok(VersionKey { table, key, born })
+}
+
+#[tactic(auto, unfolding(crate::specs::Reading::end_at))]
+fn read_end(cursor: &mut Cursor, time: Time, before: Before) -> Result<VersionKey, FormFault>
+    ensures { GivesValue (λ x. (x, cursor.new)) result (spec.end_at time before cursor.old) }
+{
+    let table = Table::new(cursor.u16()?);
+    read_keyed_end(cursor, time, table, before)
 }
 
 /// Reads so many ends. No more is reserved for them than what is left can hold.
@@ -54,15 +67,16 @@ pub(crate) fn read_ends(
     Ok(ends)
 }
 
-#[tactic(auto, unfolding(crate::specs::Reading::row_at))]
-fn read_row(
+/// Reads a row of a table.
+#[tactic(auto, unfolding(crate::specs::Reading::keyed_row_at))]
+pub(crate) fn read_keyed_row(
     alloc: Global,
     cursor: &mut Cursor,
+    table: Table,
     before: Before,
 ) -> Result<(Table, Key, Row), ReadError>
-    ensures { GivesOrRunsOut (λ x. (x, cursor.new)) result (spec.row_at before cursor.old) }
+    ensures { GivesOrRunsOut (λ x. (x, cursor.new)) result (spec.keyed_row_at table before cursor.old) }
 {
-    let table = Table::new(cursor.u16()?);
     let key = Key::new(cursor.u64()?);
     if !is_after(before, table, key) {
         return Err(ReadError::Fault(FormFault::BadOrder));
@@ -73,6 +87,18 @@ fn read_row(
         Ok(row) => Ok((table, key, row)),
         Err((_body, fault)) => Err(ReadError::Fault(fault)),
     }
+}
+
+#[tactic(auto, unfolding(crate::specs::Reading::row_at))]
+fn read_row(
+    alloc: Global,
+    cursor: &mut Cursor,
+    before: Before,
+) -> Result<(Table, Key, Row), ReadError>
+    ensures { GivesOrRunsOut (λ x. (x, cursor.new)) result (spec.row_at before cursor.old) }
+{
+    let table = Table::new(cursor.u16()?);
+    read_keyed_row(alloc, cursor, table, before)
 }
 
 /// Reads so many rows. No more is reserved for them than what is left can hold.

@@ -1,16 +1,22 @@
 //! The rest of an item's frame.
 
-ghost use Rattle.hk_frames.specs.Fields.{IsBytes, GivesValue, GivesOrRunsOut};
+ghost use Rattle.std.specs.Prelude.{◌≡◌, ◌⊎◌};
+ghost use Rattle.hk_frames.specs.Fields.{IsBytes, GivesValue, GivesOrRunsOut, mapped};
 ghost use Rattle.hk_codec.specs.Reading as spec;
 
+use crate::elements::{Ends, Rows};
+use crate::groups::read_groups;
 use crate::lists::{read_ends, read_rows};
 use hk_frames::{Cursor, Format, ReadError};
 use hk_log::{Entry, Item, MOST_WRITES, Mark};
 use hk_types::{FormFault, Key, Row, StreamNo, Table, Time, VersionKey};
 use std::alloc::Global;
 
-/// The version byte.
-pub(crate) const VERSION: u8 = 1;
+/// The version byte of frames that name the table of each end and row.
+pub(crate) const VERSION_1: u8 = 1;
+
+/// The version byte of frames with their ends and rows in groups of one table.
+pub(crate) const VERSION_2: u8 = 2;
 
 /// The kind byte of an entry.
 pub(crate) const ENTRY_KIND: u8 = 1;
@@ -62,6 +68,70 @@ fn read_counted_rows(
     read_rows(alloc, cursor, count)
 }
 
+#[tactic(auto, unfolding(crate::specs::Reading::grouped_ends_at))]
+fn read_grouped_ends(
+    alloc: Global,
+    cursor: &mut Cursor,
+    time: Time,
+) -> Result<Vec<VersionKey>, ReadError>
+    ensures { GivesOrRunsOut (λ x. (x.items, cursor.new)) result (spec.grouped_ends_at time cursor.old) }
+{
+    let count = cursor.u16()?;
+    if count as usize > MOST_WRITES {
+        return Err(ReadError::Fault(FormFault::BadCount));
+    }
+    read_groups::<Ends>(alloc, cursor, time, count)
+}
+
+#[tactic(auto, unfolding(crate::specs::Reading::grouped_rows_at))]
+fn read_grouped_rows(
+    alloc: Global,
+    cursor: &mut Cursor,
+    time: Time,
+    ends: usize,
+) -> Result<Vec<(Table, Key, Row)>, ReadError>
+    ensures { GivesOrRunsOut (λ x. (x.items, cursor.new)) result (spec.grouped_rows_at ends cursor.old) }
+{
+    let count = cursor.u16()?;
+    if count as usize > MOST_WRITES || (ends == 0 && count == 0) {
+        return Err(ReadError::Fault(FormFault::BadCount));
+    }
+    read_groups::<Rows>(alloc, cursor, time, count)
+}
+
+/// Reads the ends as the version has them.
+fn read_version_ends(
+    alloc: Global,
+    cursor: &mut Cursor,
+    version: u8,
+    time: Time,
+) -> Result<Vec<VersionKey>, ReadError>
+    ensures { GivesOrRunsOut (λ x. (x.items, cursor.new)) result (spec.ends_of_version version time cursor.old) }
+{
+    if version == VERSION_1 {
+        read_counted_ends(alloc, cursor, time)
+    } else {
+        read_grouped_ends(alloc, cursor, time)
+    }
+}
+
+/// Reads the rows as the version has them.
+fn read_version_rows(
+    alloc: Global,
+    cursor: &mut Cursor,
+    version: u8,
+    time: Time,
+    ends: usize,
+) -> Result<Vec<(Table, Key, Row)>, ReadError>
+    ensures { GivesOrRunsOut (λ x. (x.items, cursor.new)) result (spec.rows_of_version version ends cursor.old) }
+{
+    if version == VERSION_1 {
+        read_counted_rows(alloc, cursor, ends)
+    } else {
+        read_grouped_rows(alloc, cursor, time, ends)
+    }
+}
+
 #[tactic(auto, unfolding(crate::specs::Reading::mark_at))]
 fn read_mark(cursor: &mut Cursor, log: u64, stream: StreamNo) -> Result<Mark, FormFault>
     ensures { GivesValue (λ x. (x, cursor.new)) result (spec.mark_at log stream cursor.old) }
@@ -74,6 +144,7 @@ fn read_mark(cursor: &mut Cursor, log: u64, stream: StreamNo) -> Result<Mark, Fo
 /// What the first bytes of a rest say.
 #[derive(Clone, Copy)]
 struct Head {
+    version: u8,
     kind: u8,
     log: u64,
     stream: StreamNo,
@@ -81,9 +152,10 @@ struct Head {
 
 #[tactic(auto, unfolding(crate::specs::Reading::head_at))]
 fn read_head(cursor: &mut Cursor) -> Result<Head, FormFault>
-    ensures { GivesValue (λ x. (record { kind = x.kind; log = x.log; stream = x.stream }, cursor.new)) result (spec.head_at cursor.old) }
+    ensures { GivesValue (λ x. (record { version = x.version; kind = x.kind; log = x.log; stream = x.stream }, cursor.new)) result (spec.head_at cursor.old) }
 {
-    if cursor.u8()? != VERSION {
+    let version = cursor.u8()?;
+    if version != VERSION_1 && version != VERSION_2 {
         return Err(FormFault::BadVersion);
     }
     let kind = cursor.u8()?;
@@ -92,34 +164,47 @@ fn read_head(cursor: &mut Cursor) -> Result<Head, FormFault>
     }
     let log = cursor.u64()?;
     let stream = StreamNo::new(cursor.u16()?)?;
-    Ok(Head { kind, log, stream })
+    Ok(Head {
+        version,
+        kind,
+        log,
+        stream,
+    })
 }
 
 #[tactic(auto, unfolding(crate::specs::Reading::entry_at))]
 fn read_entry(
     alloc: Global,
     cursor: &mut Cursor,
-    log: u64,
-    stream: StreamNo,
+    head: Head,
 ) -> Result<Entry, ReadError>
-    requires { IsBytes cursor.old }
-    ensures { GivesOrRunsOut (λ x. (x, cursor.new)) result (spec.entry_at log stream cursor.old) }
+    requires bytes { IsBytes cursor.old }
+    requires version { (head.version ≡ 1) ⊎ (head.version ≡ 2) }
+    ensures { GivesOrRunsOut (λ x. (x, cursor.new)) result (spec.entry_at head.version head.log head.stream cursor.old) }
 {
     let (number, time) = read_moment(cursor)?;
-    let ends = read_counted_ends(alloc, cursor, time)?;
-    let rows = read_counted_rows(alloc, cursor, ends.len())?;
-    let _in_range = stream.number();
-    Ok(Entry::of_parts(log, stream, number, time, ends, rows))
+    let ends = read_version_ends(alloc, cursor, head.version, time)?;
+    let rows = read_version_rows(alloc, cursor, head.version, time, ends.len())?;
+    let _in_range = head.stream.number();
+    Ok(Entry::of_parts(
+        head.log,
+        head.stream,
+        number,
+        time,
+        ends,
+        rows,
+    ))
 }
 
 /// Reads what stands behind the head.
 #[tactic(auto, unfolding(crate::specs::Reading::kind_at))]
 fn read_kind(alloc: Global, cursor: &mut Cursor, head: Head) -> Result<Item, ReadError>
-    requires { IsBytes cursor.old }
-    ensures { GivesOrRunsOut (λ x. (x, cursor.new)) result (spec.kind_at (record { kind = head.kind; log = head.log; stream = head.stream }) cursor.old) }
+    requires bytes { IsBytes cursor.old }
+    requires version { (head.version ≡ 1) ⊎ (head.version ≡ 2) }
+    ensures { GivesOrRunsOut (λ x. (x, cursor.new)) result (spec.kind_at (record { version = head.version; kind = head.kind; log = head.log; stream = head.stream }) cursor.old) }
 {
     if head.kind == ENTRY_KIND {
-        let entry = read_entry(alloc, cursor, head.log, head.stream)?;
+        let entry = read_entry(alloc, cursor, head)?;
         return Ok(Item::Commit(entry));
     }
     let mark = read_mark(cursor, head.log, head.stream)?;
@@ -127,11 +212,11 @@ fn read_kind(alloc: Global, cursor: &mut Cursor, head: Head) -> Result<Item, Rea
 }
 
 /// The item that is all of the rest. In the order of the bytes: a field that does not fit is a wrong
-/// length, another version, an unknown kind, a stream outside 1 to 64, and then what `Entry::new` and
+/// length, a version that is neither 1 nor 2, an unknown kind, a stream outside 1 to 64, and then what `Entry::new` and
 /// `Mark::new` ask; bytes behind the last field are a wrong length.
 #[tactic(auto, unfolding(crate::specs::Reading::item_at))]
 pub(crate) fn read_item(alloc: Global, rest: &[u8]) -> Result<Item, ReadError>
-    ensures { GivesOrRunsOut (λ x. x) result (spec.item_at rest.now) }
+    ensures { GivesOrRunsOut (λ x. x) result (mapped (λ w. w.item) (spec.item_at rest.now)) }
 {
     let mut cursor = Cursor::new(rest);
     let head = read_head(&mut cursor)?;
@@ -142,34 +227,38 @@ pub(crate) fn read_item(alloc: Global, rest: &[u8]) -> Result<Item, ReadError>
     Ok(item)
 }
 
-/// The format of items. The least rest is a mark's. The greatest is that of an entry with 1,024 ends and 1,024 rows of
-/// full bodies.
+/// The format of items. The least rest is a mark's. The greatest is that in version 2 of an entry with 1,024 ends and
+/// 1,024 rows of full bodies, each in a table of its own.
 pub struct ItemFormat;
 
 impl Format for ItemFormat {
     ghost use Rattle.hk_log.specs.declared.item.Item.{Item};
-    ghost use Rattle.hk_codec.specs.Encoding.{rest_text, IsEncodableItem};
+    ghost use Rattle.hk_codec.specs.Encoding.{WrittenItem, rest_text, IsWritten};
     ghost use Rattle.hk_codec.specs.Reading.{item_at};
 
     type Value = Item;
 
     ghost LEAST_BYTES = { 28 };
 
-    ghost MOST_BYTES = { 4229152 };
+    ghost MOST_BYTES = { 4233248 };
 
-    ghost Told = { Item };
+    ghost Told = { WrittenItem };
+
+    ghost Seen = { Item };
 
     ghost seen = { λ x. x };
+
+    ghost meant = { λ w. w.item };
 
     ghost read = { item_at };
 
     ghost rest_text = { rest_text };
 
-    ghost IsEncodable = { IsEncodableItem };
+    ghost IsEncodable = { IsWritten };
 
     const LEAST_BYTES: usize = 28;
 
-    const MOST_BYTES: usize = 4_229_152;
+    const MOST_BYTES: usize = 4_233_248;
 
     fn read_rest(alloc: Global, rest: &[u8]) -> Result<Item, ReadError> {
         read_item(alloc, rest)

@@ -1,4 +1,4 @@
-//! The commands that need no network, over any reader and writer: `at`, `items` and `world`, with what prints their
+//! The commands that need no network, over any reader and writer: `at`, `items`, `rewrite` and `world`, with what prints their
 //! lines and says why one stopped.
 #![tactic(auto)]
 
@@ -7,6 +7,7 @@ mod command;
 mod frames;
 mod items;
 mod output;
+mod rewrite;
 mod script;
 mod stop;
 mod words;
@@ -16,5 +17,6 @@ pub use at::run_at;
 pub use frames::{MOST_READS, PIECE_BYTES};
 pub use items::run_items;
 pub use output::Output;
+pub use rewrite::run_rewrite;
 pub use stop::Stop;
 pub use world::run_world;

@@ -54,6 +54,14 @@ impl<'a, W: Write> Output<'a, W> {
         }
     }
 
+    /// Writes bytes that are no lines. Cost: O(n), n bytes written.
+    pub fn send(&mut self, bytes: &[u8]) -> Result<(), Stop> {
+        match self.writer.write_all(bytes) {
+            Ok(()) => self.sent(),
+            Err(_error) => Err(Stop::WriteFault),
+        }
+    }
+
     fn sent(&mut self) -> Result<(), Stop> {
         match self.writer.flush() {
             Ok(()) => Ok(()),

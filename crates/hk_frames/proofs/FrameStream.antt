@@ -1,16 +1,17 @@
 -- Frames of any kind of value, one after the other.
-use Rattle.std.proofs.Common.{◌≡◌, ℕ, ◌+◌, ◌-◌, ◌≤◌, List, [], ◌∷◌, ◌++◌, length, take, drop, Option, Some, None, Result, Ok, Err, true, false, is_some, refl, sym, ap, subst, ◌∙◌, append_assoc, arith, inl, inr}
+use Rattle.std.proofs.Common.{◌≡◌, ℕ, ◌+◌, ◌-◌, ◌≤◌, List, [], ◌∷◌, ◌++◌, length, map, take, drop, Option, Some, None, Result, Ok, Err, true, false, is_some, refl, sym, ap, subst, ◌∙◌, append_assoc, arith, inl, inr}
 use Rattle.std.specs.List.{flat_map, AllByRecursion, All}
-use Rattle.std.proofs.lemmas.List.{length-append, length-drop, drop-drop, drop_at, append-nil, nil_from_length}
+use Rattle.std.proofs.lemmas.List.{map-append, length-append, length-drop, drop-drop, drop_at, append-nil, nil_from_length}
 use Rattle.std.proofs.lemmas.List.Elements.{All-cons, All-nil}
 use Rattle.std.proofs.lemmas.Grind.{flat_map-append}
 use Rattle.std.proofs.lemmas.List.Concat.{flat_map-cons}
 use Rattle.std.proofs.Math.Seq.{take-append_seam, take-length}
 use Rattle.hk_types.specs.declared.faults.FormFault.{FormFault}
-use Rattle.hk_frames.specs.Fields.{IsBytes}
-use Rattle.hk_frames.specs.Framing.{len_of, framed, encoded, IsWhole, Begins, IsFormat, AddsValues, rest_of}
+use Rattle.hk_types.specs.declared.faults.Refusal.{Refusal}
+use Rattle.hk_frames.specs.Fields.{IsBytes, mapped}
+use Rattle.hk_frames.specs.Framing.{len_of, framed, encoded, IsWhole, Begins, BeginsAs, IsFormat, AddsValues, Feeds, rest_of}
 use Rattle.hk_frames.proofs.ReadingSteps.{IsBytes-drop}
-use Rattle.hk_frames.proofs.OneFrame.{maybe, frame_takes, frame_again, partial_is, partial_again, fault_stays, encoded_len}
+use Rattle.hk_frames.proofs.OneFrame.{maybe, frame_takes, frame_again, partial_is, partial_again, fault_stays, encoded_len, frame_is_told, no_frame_is_told, frame_fault_is_told}
 
 -- the bytes from a place on, as a slice has them
 pub tail_is : (used : ℕ) (text : List ℕ) → take (length text - used) (drop used text) ≡ drop used text
@@ -33,43 +34,61 @@ each_weaker P Q weaker (x ∷ xs) h = All-cons Q x xs (weaker x h.0) (each_weake
 
 -- ---- the frames that were read so far
 
-pub record SoFar {X : Type 0} (rest_text : X → List ℕ) (IsValue : X → Type 0) (text : List ℕ) (before after : List X) (used : ℕ) : Type 0 where
+pub record SoFar {X Y T : Type 0} (seen : X → Y) (meant : T → Y) (rest_text : T → List ℕ) (IsTold : T → Type 0) (text : List ℕ) (before after : List X) (used : ℕ) : Type 0 where
   pub fits : used ≤ length text
   pub values : List X
   pub added : after ≡ before ++ values
-  pub whole : text ≡ flat_map (encoded rest_text) values ++ drop used text
-  pub each : AllByRecursion IsValue values
+  pub told : List T
+  pub same : map seen values ≡ map meant told
+  pub whole : text ≡ flat_map (encoded rest_text) told ++ drop used text
+  pub each : AllByRecursion IsTold told
 
-pub at_start : {X : Type 0} (rest_text : X → List ℕ) (IsValue : X → Type 0) (text : List ℕ) (before : List X) → SoFar rest_text IsValue text before before 0
-at_start rest_text IsValue text before = record { fits = omega arith; values = []; added = sym (append-nil before); whole = refl; each = tt }
+pub at_start : {X Y T : Type 0} (seen : X → Y) (meant : T → Y) (rest_text : T → List ℕ) (IsTold : T → Type 0) (text : List ℕ) (before : List X) → SoFar seen meant rest_text IsTold text before before 0
+at_start seen meant rest_text IsTold text before = record { fits = omega arith; values = []; added = sym (append-nil before); told = []; same = refl; whole = refl; each = tt }
 
-pub kept : {X : Type 0} (rest_text : X → List ℕ) (IsValue : X → Type 0) (text : List ℕ) (before after : List X) (used : ℕ) → SoFar rest_text IsValue text before after used → take (length before) after ≡ before
-kept {X = X} rest_text IsValue text before after used s = ap (λ (t : List X). take (length before) t) s.added ∙ take-append_seam before s.values
+pub kept : {X Y T : Type 0} (seen : X → Y) (meant : T → Y) (rest_text : T → List ℕ) (IsTold : T → Type 0) (text : List ℕ) (before after : List X) (used : ℕ) → SoFar seen meant rest_text IsTold text before after used → take (length before) after ≡ before
+kept {X = X} seen meant rest_text IsTold text before after used s = ap (λ (t : List X). take (length before) t) s.added ∙ take-append_seam before s.values
 
 -- one frame more
-pub record OneMore {X : Type 0} (rest_text : X → List ℕ) (IsValue : X → Type 0) (text : List ℕ) (before after : List X) (used n : ℕ) : Type 0 where
-  pub so_far : SoFar rest_text IsValue text before after (used + n)
+pub record OneMore {X Y T : Type 0} (seen : X → Y) (meant : T → Y) (rest_text : T → List ℕ) (IsTold : T → Type 0) (text : List ℕ) (before after : List X) (used n : ℕ) : Type 0 where
+  pub so_far : SoFar seen meant rest_text IsTold text before after (used + n)
   pub least : 4 ≤ n
 
-module _ {X Y : Type 0} (seen : X → Y) (least most : ℕ) (read : List ℕ → Result Y FormFault) (text_of : Y → List ℕ) (IsY : Y → Type 0) (format : IsFormat least most read text_of IsY) where
-  pub one_more : (text : List ℕ) (before after : List X) (used : ℕ) (x : X) (n : ℕ) → IsBytes text → SoFar (λ x. text_of (seen x)) (λ x. IsY (seen x)) text before after used → framed least most read (drop used text) ≡ Ok (Some (seen x, n)) → OneMore (λ x. text_of (seen x)) (λ x. IsY (seen x)) text before (after ++ x ∷ []) used n
+one_more_same : {X Y T : Type 0} (seen : X → Y) (meant : T → Y) (xs : List X) (ts : List T) (x : X) (t : T) → map seen xs ≡ map meant ts → seen x ≡ meant t → map seen (xs ++ x ∷ []) ≡ map meant (ts ++ t ∷ [])
+one_more_same {Y = Y} seen meant xs ts x t e h =
+    map-append seen xs (x ∷ []) ∙ ap (λ (l : List Y). l ++ seen x ∷ []) e ∙ ap (λ (y : Y). map meant ts ++ y ∷ []) h ∙ sym (map-append meant ts (t ∷ []))
+
+module _ {X Y T : Type 0} (seen : X → Y) (meant : T → Y) (least most : ℕ) (read : List ℕ → Result T FormFault) (text_of : T → List ℕ) (IsT : T → Type 0) (format : IsFormat least most read text_of IsT) where
+  pub one_more : (text : List ℕ) (before after : List X) (used : ℕ) (x : X) (n : ℕ) → IsBytes text → SoFar seen meant text_of IsT text before after used → framed least most (λ rest. mapped meant (read rest)) (drop used text) ≡ Ok (Some (seen x, n)) → OneMore seen meant text_of IsT text before (after ++ x ∷ []) used n
   unfolding encoded
   one_more text before after used x n bytes s e =
-      let f = frame_takes least most read text_of IsY format (drop used text) (seen x) n (IsBytes-drop used text bytes) e in
+      let t = frame_is_told meant least most read (drop used text) (seen x) n e in
+      let f = frame_takes least most read text_of IsT format (drop used text) t.0 n (IsBytes-drop used text bytes) t.1 in
       let fits : used + n ≤ length text = omega (arith, s.fits, f.fits, length-drop used text) in
       let added : after ++ x ∷ [] ≡ before ++ (s.values ++ x ∷ []) = ap (λ (t : List X). t ++ x ∷ []) s.added ∙ append_assoc before s.values (x ∷ []) in
-      let rest : drop used text ≡ encoded (λ x. text_of (seen x)) x ++ drop (used + n) text = f.parts ∙ ap (λ (t : List ℕ). encoded (λ x. text_of (seen x)) x ++ t) (drop-drop n used text) in
-      let one : flat_map (encoded (λ x. text_of (seen x))) (x ∷ []) ≡ encoded (λ x. text_of (seen x)) x = flat_map-cons (encoded (λ x. text_of (seen x))) x [] ∙ append-nil (encoded (λ x. text_of (seen x)) x) in
-      let texts : flat_map (encoded (λ x. text_of (seen x))) (s.values ++ x ∷ []) ≡ flat_map (encoded (λ x. text_of (seen x))) s.values ++ encoded (λ x. text_of (seen x)) x = flat_map-append (encoded (λ x. text_of (seen x))) s.values (x ∷ []) ∙ ap (λ (t : List ℕ). flat_map (encoded (λ x. text_of (seen x))) s.values ++ t) one in
-      let whole : text ≡ flat_map (encoded (λ x. text_of (seen x))) (s.values ++ x ∷ []) ++ drop (used + n) text =
-      s.whole ∙ ap (λ (t : List ℕ). flat_map (encoded (λ x. text_of (seen x))) s.values ++ t) rest ∙ sym (append_assoc (flat_map (encoded (λ x. text_of (seen x))) s.values) (encoded (λ x. text_of (seen x)) x) (drop (used + n) text)) ∙ ap (λ (t : List ℕ). t ++ drop (used + n) text) (sym texts) in
-      record { so_far = record { fits = fits; values = s.values ++ x ∷ []; added = added; whole = whole; each = each_more (λ x. IsY (seen x)) s.values x s.each f.value }; least = f.least }
+      let rest : drop used text ≡ encoded text_of t.0 ++ drop (used + n) text = f.parts ∙ ap (λ (r : List ℕ). encoded text_of t.0 ++ r) (drop-drop n used text) in
+      let one : flat_map (encoded text_of) (t.0 ∷ []) ≡ encoded text_of t.0 = flat_map-cons (encoded text_of) t.0 [] ∙ append-nil (encoded text_of t.0) in
+      let texts : flat_map (encoded text_of) (s.told ++ t.0 ∷ []) ≡ flat_map (encoded text_of) s.told ++ encoded text_of t.0 = flat_map-append (encoded text_of) s.told (t.0 ∷ []) ∙ ap (λ (r : List ℕ). flat_map (encoded text_of) s.told ++ r) one in
+      let whole : text ≡ flat_map (encoded text_of) (s.told ++ t.0 ∷ []) ++ drop (used + n) text =
+      s.whole ∙ ap (λ (r : List ℕ). flat_map (encoded text_of) s.told ++ r) rest ∙ sym (append_assoc (flat_map (encoded text_of) s.told) (encoded text_of t.0) (drop (used + n) text)) ∙ ap (λ (r : List ℕ). r ++ drop (used + n) text) (sym texts) in
+      record {
+        so_far = record {
+          fits = fits;
+          values = s.values ++ x ∷ [];
+          added = added;
+          told = s.told ++ t.0 ∷ [];
+          same = one_more_same seen meant s.values s.told x t.0 s.same t.2;
+          whole = whole;
+          each = each_more IsT s.told t.0 s.each f.value;
+        };
+        least = f.least;
+      }
 
-  pub stops : (text : List ℕ) (before after : List X) (used : ℕ) → SoFar (λ x. text_of (seen x)) (λ x. IsY (seen x)) text before after used → framed least most read (drop used text) ≡ Ok None → (values : List X) × (after ≡ before ++ values) × Begins least most read (λ x. text_of (seen x)) (λ x. IsY (seen x)) text values (Ok (drop used text))
-  stops text before after used s e = (s.values, s.added, (s.whole, s.each, partial_is least most read (drop used text) e))
+  pub stops : (text : List ℕ) (before after : List X) (used : ℕ) → SoFar seen meant text_of IsT text before after used → framed least most (λ rest. mapped meant (read rest)) (drop used text) ≡ Ok None → AddsValues seen meant least most read text_of IsT before after text (Ok (drop used text))
+  stops text before after used s e = (s.values, s.added, (s.told, s.same, (s.whole, s.each, partial_is least most read (drop used text) (no_frame_is_told meant least most read (drop used text) e))))
 
-  pub faults : (text : List ℕ) (before after : List X) (used : ℕ) (f : FormFault) → SoFar (λ x. text_of (seen x)) (λ x. IsY (seen x)) text before after used → framed least most read (drop used text) ≡ Err f → (values : List X) × (after ≡ before ++ values) × Begins least most read (λ x. text_of (seen x)) (λ x. IsY (seen x)) text values (Err f)
-  faults text before after used f s e = (s.values, s.added, (drop used text, s.whole, s.each, e))
+  pub faults : (text : List ℕ) (before after : List X) (used : ℕ) (f : FormFault) → SoFar seen meant text_of IsT text before after used → framed least most (λ rest. mapped meant (read rest)) (drop used text) ≡ Err f → AddsValues seen meant least most read text_of IsT before after text (Err f)
+  faults text before after used f s e = (s.values, s.added, (s.told, s.same, (drop used text, s.whole, s.each, frame_fault_is_told meant least most read (drop used text) f e)))
 
 -- ---- one reading
 
@@ -137,17 +156,23 @@ joined rest_text text more left after xs ys e k =
     ap (λ (t : List ℕ). t ++ more) e ∙ append_assoc (flat_map (encoded rest_text) xs) left more ∙ ap (λ (t : List ℕ). flat_map (encoded rest_text) xs ++ t) k
     ∙ sym (append_assoc (flat_map (encoded rest_text) xs) (flat_map (encoded rest_text) ys) after) ∙ ap (λ (t : List ℕ). t ++ after) (sym (flat_map-append (encoded rest_text) xs ys))
 
-pub pieces_join_up : {X Y : Type 0} (least most : ℕ) (read : List ℕ → Result Y FormFault) (rest_text : X → List ℕ) (IsValue : X → Type 0) (text more left : List ℕ) (xs ys : List X) (r : Result (List ℕ) FormFault) → Begins least most read rest_text IsValue text xs (Ok left) → Begins least most read rest_text IsValue (left ++ more) ys r → Begins least most read rest_text IsValue (text ++ more) (xs ++ ys) r
+pub pieces_join_up : {X : Type 0} (least most : ℕ) (read : List ℕ → Result X FormFault) (rest_text : X → List ℕ) (IsValue : X → Type 0) (text more left : List ℕ) (xs ys : List X) (r : Result (List ℕ) FormFault) → Begins least most read rest_text IsValue text xs (Ok left) → Begins least most read rest_text IsValue (left ++ more) ys r → Begins least most read rest_text IsValue (text ++ more) (xs ++ ys) r
 pieces_join_up least most read rest_text IsValue text more left xs ys (Ok after) h k = (joined rest_text text more left after xs ys h.0 k.0, each_both IsValue xs ys h.1 k.1, k.2)
 pieces_join_up least most read rest_text IsValue text more left xs ys (Err f) h k = (k.0, joined rest_text text more left k.0 xs ys h.0 k.1, each_both IsValue xs ys h.1 k.2, k.3)
 
+pub both_same : {X Y T : Type 0} (seen : X → Y) (meant : T → Y) (xs ys : List X) (ts us : List T) → map seen xs ≡ map meant ts → map seen ys ≡ map meant us → map seen (xs ++ ys) ≡ map meant (ts ++ us)
+both_same {Y = Y} seen meant xs ys ts us e h = map-append seen xs ys ∙ ap (λ (l : List Y). l ++ map seen ys) e ∙ ap (λ (l : List Y). map meant ts ++ l) h ∙ sym (map-append meant ts us)
+
+pub pieces_join_as : {X Y T : Type 0} (seen : X → Y) (meant : T → Y) (least most : ℕ) (read : List ℕ → Result T FormFault) (rest_text : T → List ℕ) (IsT : T → Type 0) (text more left : List ℕ) (xs ys : List X) (r : Result (List ℕ) FormFault) → BeginsAs seen meant least most read rest_text IsT text xs (Ok left) → BeginsAs seen meant least most read rest_text IsT (left ++ more) ys r → BeginsAs seen meant least most read rest_text IsT (text ++ more) (xs ++ ys) r
+pieces_join_as seen meant least most read rest_text IsT text more left xs ys r h k = (h.0 ++ k.0, both_same seen meant xs ys h.0 k.0 h.1 k.1, pieces_join_up least most read rest_text IsT text more left h.0 k.0 r h.2 k.2)
+
 -- what is read up to a fault is read so, whatever follows
-pub fault_behind : {X Y : Type 0} (least most : ℕ) (read : List ℕ → Result Y FormFault) (rest_text : X → List ℕ) (IsValue : X → Type 0) (text more : List ℕ) (xs : List X) (f : FormFault) → Begins least most read rest_text IsValue text xs (Err f) → Begins least most read rest_text IsValue (text ++ more) xs (Err f)
+pub fault_behind : {X : Type 0} (least most : ℕ) (read : List ℕ → Result X FormFault) (rest_text : X → List ℕ) (IsValue : X → Type 0) (text more : List ℕ) (xs : List X) (f : FormFault) → Begins least most read rest_text IsValue text xs (Err f) → Begins least most read rest_text IsValue (text ++ more) xs (Err f)
 fault_behind least most read rest_text IsValue text more xs f h = (h.0 ++ more, ap (λ (t : List ℕ). t ++ more) h.1 ∙ append_assoc (flat_map (encoded rest_text) xs) h.0 more, h.2, fault_stays least most read h.0 more f h.3)
 
-module _ {X Y : Type 0} (seen : X → Y) (least most : ℕ) (read : List ℕ → Result Y FormFault) (text_of : Y → List ℕ) (IsY : Y → Type 0) (format : IsFormat least most read text_of IsY) where
+module _ {X : Type 0} (least most : ℕ) (read : List ℕ → Result X FormFault) (rest_text : X → List ℕ) (IsValue : X → Type 0) (format : IsFormat least most read rest_text IsValue) where
   -- of one frame, as its length says, nothing is left
-  pub whole_leaves_nothing : (text left : List ℕ) (xs : List X) → IsWhole text → Begins least most read (λ x. text_of (seen x)) (λ x. IsY (seen x)) text xs (Ok left) → left ≡ []
+  pub whole_leaves_nothing : (text left : List ℕ) (xs : List X) → IsWhole text → Begins least most read rest_text IsValue text xs (Ok left) → left ≡ []
   unfolding encoded
   whole_leaves_nothing text left [] whole (is, each, inl few) = let same : length text ≡ length left = ap length is in absurd (omega (arith, same, few, whole.0))
   whole_leaves_nothing text left [] whole (is, each, inr p) =
@@ -155,46 +180,74 @@ module _ {X Y : Type 0} (seen : X → Y) (least most : ℕ) (read : List ℕ →
       let len : len_of text ≡ len_of left = ap len_of is in
       absurd (omega (arith, same, len, p.2, whole.1))
   whole_leaves_nothing text left (x ∷ xs) whole h =
-      let parts : text ≡ encoded (λ x. text_of (seen x)) x ++ (flat_map (encoded (λ x. text_of (seen x))) xs ++ left) = h.0 ∙ ap (λ (t : List ℕ). t ++ left) (flat_map-cons (encoded (λ x. text_of (seen x))) x xs) ∙ append_assoc (encoded (λ x. text_of (seen x)) x) (flat_map (encoded (λ x. text_of (seen x))) xs) left in
-      let len = encoded_len least most read text_of IsY format (seen x) (flat_map (encoded (λ x. text_of (seen x))) xs ++ left) h.1.0 in
-      let all : length text ≡ length (encoded (λ x. text_of (seen x)) x) + length (flat_map (encoded (λ x. text_of (seen x))) xs ++ left) = ap length parts ∙ length-append (encoded (λ x. text_of (seen x)) x) (flat_map (encoded (λ x. text_of (seen x))) xs ++ left) in
-      let own : len_of text ≡ len_of (encoded (λ x. text_of (seen x)) x ++ (flat_map (encoded (λ x. text_of (seen x))) xs ++ left)) = ap len_of parts in
-      nil_from_length left (omega (arith, len, all, own, whole.1, length-append (flat_map (encoded (λ x. text_of (seen x))) xs) left))
+      let parts : text ≡ encoded rest_text x ++ (flat_map (encoded rest_text) xs ++ left) = h.0 ∙ ap (λ (t : List ℕ). t ++ left) (flat_map-cons (encoded rest_text) x xs) ∙ append_assoc (encoded rest_text x) (flat_map (encoded rest_text) xs) left in
+      let len = encoded_len least most read rest_text IsValue format x (flat_map (encoded rest_text) xs ++ left) h.1.0 in
+      let all : length text ≡ length (encoded rest_text x) + length (flat_map (encoded rest_text) xs ++ left) = ap length parts ∙ length-append (encoded rest_text x) (flat_map (encoded rest_text) xs ++ left) in
+      let own : len_of text ≡ len_of (encoded rest_text x ++ (flat_map (encoded rest_text) xs ++ left)) = ap len_of parts in
+      nil_from_length left (omega (arith, len, all, own, whole.1, length-append (flat_map (encoded rest_text) xs) left))
 
+module _ {X Y T : Type 0} (seen : X → Y) (meant : T → Y) (least most : ℕ) (read : List ℕ → Result T FormFault) (text_of : T → List ℕ) (IsT : T → Type 0) (format : IsFormat least most read text_of IsT) where
   -- behind one frame, the second part of a piece is read alone
   pub whole_first : (before middle after : List X) (rest piece first second text left : List ℕ) (fault : Option FormFault) (r : Result (List ℕ) FormFault) → first ++ second ≡ piece → text ≡ rest ++ first → is_some fault ≡ false → IsWhole text
-      → AddsValues least most read (λ x. text_of (seen x)) (λ x. IsY (seen x)) before middle text (rest_of left fault) → AddsValues least most read (λ x. text_of (seen x)) (λ x. IsY (seen x)) middle after second r → AddsValues least most read (λ x. text_of (seen x)) (λ x. IsY (seen x)) before after (rest ++ piece) r
+      → AddsValues seen meant least most read text_of IsT before middle text (rest_of left fault) → AddsValues seen meant least most read text_of IsT middle after second r → AddsValues seen meant least most read text_of IsT before after (rest ++ piece) r
   whole_first before middle after rest piece first second text left (Some f) r whole is none one h k = absurd cc
   whole_first before middle after rest piece first second text left None r whole is none one h k =
       let text-is : text ++ second ≡ rest ++ piece = ap (λ (t : List ℕ). t ++ second) is ∙ append_assoc rest first second ∙ ap (λ (t : List ℕ). rest ++ t) whole in
-      let nothing : left ≡ [] = whole_leaves_nothing text left h.0 one h.2 in
-      let front : Begins least most read (λ x. text_of (seen x)) (λ x. IsY (seen x)) text h.0 (Ok []) = subst (λ (l : List ℕ). Begins least most read (λ x. text_of (seen x)) (λ x. IsY (seen x)) text h.0 (Ok l)) nothing h.2 in
+      let told = h.2.0 in
+      let nothing : left ≡ [] = whole_leaves_nothing least most read text_of IsT format text left told one h.2.2 in
+      let front : Begins least most read text_of IsT text told (Ok []) = subst (λ (l : List ℕ). Begins least most read text_of IsT text told (Ok l)) nothing h.2.2 in
+      let begins : BeginsAs seen meant least most read text_of IsT text h.0 (Ok []) = (told, h.2.1, front) in
       let added : after ≡ before ++ (h.0 ++ k.0) = k.1 ∙ ap (λ (t : List X). t ++ k.0) h.1 ∙ append_assoc before h.0 k.0 in
-      (h.0 ++ k.0, added, subst (λ (t : List ℕ). Begins least most read (λ x. text_of (seen x)) (λ x. IsY (seen x)) t (h.0 ++ k.0) r) text-is (pieces_join_up least most read (λ x. text_of (seen x)) (λ x. IsY (seen x)) text second [] h.0 k.0 r front k.2))
+      (h.0 ++ k.0, added, subst (λ (t : List ℕ). BeginsAs seen meant least most read text_of IsT t (h.0 ++ k.0) r) text-is (pieces_join_as seen meant least most read text_of IsT text second [] h.0 k.0 r begins k.2))
 
 -- up to a fault, the second part of a piece adds nothing
-pub fault_first : {X Y : Type 0} (least most : ℕ) (read : List ℕ → Result Y FormFault) (rest_text : X → List ℕ) (IsValue : X → Type 0) (before after : List X) (rest piece first second text left kept_ : List ℕ) (fault : Option FormFault) → first ++ second ≡ piece → text ≡ rest ++ first → is_some fault ≡ true
-    → AddsValues least most read rest_text IsValue before after text (rest_of left fault) → AddsValues least most read rest_text IsValue before after (rest ++ piece) (rest_of kept_ fault)
-fault_first least most read rest_text IsValue before after rest piece first second text left kept_ None whole is some h = absurd cc
-fault_first least most read rest_text IsValue before after rest piece first second text left kept_ (Some f) whole is some h =
+pub fault_first : {X Y T : Type 0} (seen : X → Y) (meant : T → Y) (least most : ℕ) (read : List ℕ → Result T FormFault) (rest_text : T → List ℕ) (IsT : T → Type 0) (before after : List X) (rest piece first second text left kept_ : List ℕ) (fault : Option FormFault) → first ++ second ≡ piece → text ≡ rest ++ first → is_some fault ≡ true
+    → AddsValues seen meant least most read rest_text IsT before after text (rest_of left fault) → AddsValues seen meant least most read rest_text IsT before after (rest ++ piece) (rest_of kept_ fault)
+fault_first seen meant least most read rest_text IsT before after rest piece first second text left kept_ None whole is some h = absurd cc
+fault_first seen meant least most read rest_text IsT before after rest piece first second text left kept_ (Some f) whole is some h =
     let text-is : text ++ second ≡ rest ++ piece = ap (λ (t : List ℕ). t ++ second) is ∙ append_assoc rest first second ∙ ap (λ (t : List ℕ). rest ++ t) whole in
-    (h.0, h.1, subst (λ (t : List ℕ). Begins least most read rest_text IsValue t h.0 (Err f)) text-is (fault_behind least most read rest_text IsValue text second h.0 f h.2))
+    (h.0, h.1, (h.2.0, h.2.1, subst (λ (t : List ℕ). Begins least most read rest_text IsT t h.2.0 (Err f)) text-is (fault_behind least most read rest_text IsT text second h.2.0 f h.2.2)))
+
+-- where the whole piece was read behind what was held
+pub piece_read : {X Y T : Type 0} (seen : X → Y) (meant : T → Y) (least most : ℕ) (read : List ℕ → Result T FormFault) (rest_text : T → List ℕ) (IsT : T → Type 0) (before after : List X) (rest piece first second text left kept_ : List ℕ) (fault : Option FormFault) → first ++ second ≡ piece → text ≡ rest ++ first → second ≡ [] → is_some fault ≡ false → kept_ ≡ left
+    → AddsValues seen meant least most read rest_text IsT before after text (rest_of left fault) → AddsValues seen meant least most read rest_text IsT before after (rest ++ piece) (Ok kept_)
+piece_read seen meant least most read rest_text IsT before after rest piece first second text left kept_ (Some f) whole is none no_fault same h = absurd cc
+piece_read seen meant least most read rest_text IsT before after rest piece first second text left kept_ None whole is none no_fault same h =
+    let all : first ≡ piece = sym (append-nil first) ∙ ap (λ (t : List ℕ). first ++ t) (sym none) ∙ whole in
+    let text-is : text ≡ rest ++ piece = is ∙ ap (λ (t : List ℕ). rest ++ t) all in
+    subst (λ (t : List ℕ). AddsValues seen meant least most read rest_text IsT before after t (Ok kept_)) text-is (subst (λ (l : List ℕ). AddsValues seen meant least most read rest_text IsT before after text (Ok l)) (sym same) h)
 
 -- the bytes from a place on, as a slice has them
 abbrev pub from_place : ℕ → List ℕ → List ℕ
 from_place used text = take (length text - used) (drop used text)
 
-module _ {X Y : Type 0} (seen : X → Y) (least most : ℕ) (read : List ℕ → Result Y FormFault) (text_of : Y → List ℕ) (IsY : Y → Type 0) (format : IsFormat least most read text_of IsY) where
-  pub value_more : (text : List ℕ) (before after : List X) (used : ℕ) (x : X) (n : ℕ) → IsBytes text → SoFar (λ x. text_of (seen x)) (λ x. IsY (seen x)) text before after used → framed least most read (from_place used text) ≡ Ok (Some (seen x, n)) → OneMore (λ x. text_of (seen x)) (λ x. IsY (seen x)) text before (after ++ x ∷ []) used n
-  value_more text before after used x n bytes s e = one_more seen least most read text_of IsY format text before after used x n bytes s (ap (framed least most read) (sym (tail_is used text)) ∙ e)
+module _ {X Y T : Type 0} (seen : X → Y) (meant : T → Y) (least most : ℕ) (read : List ℕ → Result T FormFault) (text_of : T → List ℕ) (IsT : T → Type 0) (format : IsFormat least most read text_of IsT) where
+  pub value_more : (text : List ℕ) (before after : List X) (used : ℕ) (x : X) (n : ℕ) → IsBytes text → SoFar seen meant text_of IsT text before after used → framed least most (λ rest. mapped meant (read rest)) (from_place used text) ≡ Ok (Some (seen x, n)) → OneMore seen meant text_of IsT text before (after ++ x ∷ []) used n
+  value_more text before after used x n bytes s e = one_more seen meant least most read text_of IsT format text before after used x n bytes s (ap (framed least most (λ rest. mapped meant (read rest))) (sym (tail_is used text)) ∙ e)
 
-  pub values_stop : (text : List ℕ) (before after : List X) (used : ℕ) → SoFar (λ x. text_of (seen x)) (λ x. IsY (seen x)) text before after used → framed least most read (from_place used text) ≡ Ok None → AddsValues least most read (λ x. text_of (seen x)) (λ x. IsY (seen x)) before after text (Ok (drop used text))
-  values_stop text before after used s e = stops seen least most read text_of IsY format text before after used s (ap (framed least most read) (sym (tail_is used text)) ∙ e)
+  pub values_stop : (text : List ℕ) (before after : List X) (used : ℕ) → SoFar seen meant text_of IsT text before after used → framed least most (λ rest. mapped meant (read rest)) (from_place used text) ≡ Ok None → AddsValues seen meant least most read text_of IsT before after text (Ok (drop used text))
+  values_stop text before after used s e = stops seen meant least most read text_of IsT format text before after used s (ap (framed least most (λ rest. mapped meant (read rest))) (sym (tail_is used text)) ∙ e)
 
-  pub values_fault : (text : List ℕ) (before after : List X) (used : ℕ) (f : FormFault) → SoFar (λ x. text_of (seen x)) (λ x. IsY (seen x)) text before after used → framed least most read (from_place used text) ≡ Err f → AddsValues least most read (λ x. text_of (seen x)) (λ x. IsY (seen x)) before after text (Err f)
-  values_fault text before after used f s e = faults seen least most read text_of IsY format text before after used f s (ap (framed least most read) (sym (tail_is used text)) ∙ e)
+  pub values_fault : (text : List ℕ) (before after : List X) (used : ℕ) (f : FormFault) → SoFar seen meant text_of IsT text before after used → framed least most (λ rest. mapped meant (read rest)) (from_place used text) ≡ Err f → AddsValues seen meant least most read text_of IsT before after text (Err f)
+  values_fault text before after used f s e = faults seen meant least most read text_of IsT format text before after used f s (ap (framed least most (λ rest. mapped meant (read rest))) (sym (tail_is used text)) ∙ e)
 
 -- the encoding of one value is read as that value
-pub one_value_begins : {X Y : Type 0} (least most : ℕ) (read : List ℕ → Result Y FormFault) (rest_text : X → List ℕ) (IsValue : X → Type 0) (x : X) → IsValue x → Begins least most read rest_text IsValue (encoded rest_text x) (x ∷ []) (Ok [])
+pub one_value_begins : {X : Type 0} (least most : ℕ) (read : List ℕ → Result X FormFault) (rest_text : X → List ℕ) (IsValue : X → Type 0) (x : X) → IsValue x → Begins least most read rest_text IsValue (encoded rest_text x) (x ∷ []) (Ok [])
 one_value_begins least most read rest_text IsValue x fits =
     (sym (append-nil (flat_map (encoded rest_text) (x ∷ [])) ∙ flat_map-cons (encoded rest_text) x [] ∙ append-nil (encoded rest_text x)), (fits, tt), inl (omega arith))
+
+-- what is told in one way is seen in one way
+pub one_reading_as : {X Y T : Type 0} (seen : X → Y) (meant : T → Y) (least most : ℕ) (read : List ℕ → Result T FormFault) (rest_text : T → List ℕ) (IsT : T → Type 0) (format : IsFormat least most read rest_text IsT) (text : List ℕ) (xs ys : List X) (l r : Result (List ℕ) FormFault) → BeginsAs seen meant least most read rest_text IsT text xs l → BeginsAs seen meant least most read rest_text IsT text ys r → (map seen xs ≡ map seen ys) × (l ≡ r)
+one_reading_as seen meant least most read rest_text IsT format text xs ys l r h k =
+    let one = one_reading_only least most read rest_text IsT format text h.0 k.0 l r h.2 k.2 in
+    (h.1 ∙ ap (map meant) one.0 ∙ sym k.1, one.1)
+
+-- ---- what a feeder promises, said otherwise
+
+pub feeds_so : {X : Type 0} (adds said : List X → List X → List ℕ → Result (List ℕ) FormFault → Type 0) → ((before after : List X) (text : List ℕ) (left : Result (List ℕ) FormFault) → adds before after text left → said before after text left)
+    → (old new : Result (List ℕ) FormFault) (before after : List X) (piece : List ℕ) (result : Result (Unit {0}) Refusal) → Feeds adds old new before after piece result → Feeds said old new before after piece result
+feeds_so adds said so old new before after piece result h rest e =
+    elim (h rest e) [
+      | inl m ↦ inl m
+      | inr k ↦ inr (k.0, so before after (rest ++ piece) new k.1)
+    ]

@@ -5,7 +5,7 @@ use Rattle.std.proofs.lemmas.Bool.{ltb-true, ltb-false, lt-ltb, le-ltb}
 use Rattle.std.proofs.lemmas.List.{take-append-le, drop-append-le, take_at, take-append-drop, length-take, length-drop, length-append, drop-drop}
 use Rattle.hk_types.specs.declared.faults.FormFault.{FormFault}
 use Rattle.hk_types.specs.declared.faults.FormFault.TheVariants.{TooLong, WrongLength}
-use Rattle.hk_frames.specs.Fields.{IsBytes, ◌>>=◌, number, number_at}
+use Rattle.hk_frames.specs.Fields.{IsBytes, ◌>>=◌, mapped, number, number_at}
 use Rattle.hk_frames.specs.Framing.{len_of, rest_at, value_of, framed, encoded, IsPartial, IsFormat}
 use Rattle.hk_frames.proofs.ReadingSteps.{IsBytes-take, IsBytes-drop, bind_ok, done, ok_is}
 use Rattle.hk_frames.proofs.Numbers.{wide32, number_takes, number_again, number_len}
@@ -236,3 +236,54 @@ encoded_len least most read rest_text IsValue format x behind h =
     let size : length (number w32 (length (rest_text x)) ++ rest_text x) ≡ 4 + length (rest_text x) = omega (arith, length-append (number w32 (length (rest_text x))) (rest_text x), number_len w32 (2 ^ 32) wide32 (length (rest_text x))) in
     let field = field_is (length (rest_text x)) (rest_text x ++ behind) (omega (arith, format.at_most x h, format.in_width)) in
     size ∙ ap (λ (k : ℕ). 4 + k) (sym field.0 ∙ ap len_of (sym (append_assoc (number w32 (length (rest_text x))) (rest_text x) behind)))
+
+-- ---- what is seen of a frame
+
+-- what is seen of a frame that was read, where one is there
+abbrev pub frame_seen : {T Y : Type 0} → (T → Y) → Option (T × ℕ) → Option (Y × ℕ)
+frame_seen meant None = None
+frame_seen meant (Some x) = Some (meant x.0, x.1)
+
+rest_seen : {T Y : Type 0} (meant : T → Y) (n : ℕ) (r : Result T FormFault) → (mapped meant r >>= λ y. Ok (Some (y, n))) ≡ mapped (frame_seen meant) (r >>= λ t. Ok (Some (t, n)))
+rest_seen meant n (Ok t) = refl
+rest_seen meant n (Err f) = refl
+
+value_seen : {T Y : Type 0} (meant : T → Y) (read : List ℕ → Result T FormFault) (r : Result (Option (List ℕ)) FormFault) → (r >>= value_of (λ rest. mapped meant (read rest))) ≡ mapped (frame_seen meant) (r >>= value_of read)
+value_seen meant read (Err f) = refl
+value_seen meant read (Ok None) = refl
+value_seen meant read (Ok (Some rest)) = rest_seen meant (4 + length rest) (read rest)
+
+-- a frame, read for what is seen of its value
+pub framed_seen : {T Y : Type 0} (meant : T → Y) (least most : ℕ) (read : List ℕ → Result T FormFault) (bytes : List ℕ) → framed least most (λ rest. mapped meant (read rest)) bytes ≡ mapped (frame_seen meant) (framed least most read bytes)
+unfolding framed
+framed_seen meant least most read bytes = value_seen meant read (rest_at least most bytes)
+
+abbrev seen_frame : {Y : Type 0} → Option (Y × ℕ) → Result (Option (Y × ℕ)) FormFault
+seen_frame o = Ok o
+
+frame_told : {T Y : Type 0} (meant : T → Y) (r : Result (Option (T × ℕ)) FormFault) (y : Y) (n : ℕ) → mapped (frame_seen meant) r ≡ seen_frame (Some (y, n)) → (t : T) × (r ≡ Ok (Some (t, n))) × (y ≡ meant t)
+frame_told meant (Err f) y n e = absurd cc
+frame_told meant (Ok None) y n e = absurd cc
+frame_told {Y = Y} meant (Ok (Some x)) y n e =
+    let p = some_is (meant x.0, x.1) (y, n) e in
+    (x.0, ap (λ (k : ℕ). Ok (Some (x.0, k))) (ap (λ (z : Y × ℕ). z.1) p), sym (ap (λ (z : Y × ℕ). z.0) p))
+
+none_told : {T Y : Type 0} (meant : T → Y) (r : Result (Option (T × ℕ)) FormFault) → mapped (frame_seen meant) r ≡ seen_frame None → r ≡ Ok None
+none_told meant (Err f) e = absurd cc
+none_told meant (Ok None) e = refl
+none_told meant (Ok (Some x)) e = absurd cc
+
+fault_told : {T Y : Type 0} (meant : T → Y) (r : Result (Option (T × ℕ)) FormFault) (f : FormFault) → mapped (frame_seen meant) r ≡ Err f → r ≡ Err f
+fault_told meant (Err g) f e = cc
+fault_told meant (Ok None) f e = absurd cc
+fault_told meant (Ok (Some x)) f e = absurd cc
+
+module _ {T Y : Type 0} (meant : T → Y) (least most : ℕ) (read : List ℕ → Result T FormFault) (bytes : List ℕ) where
+  pub frame_is_told : (y : Y) (n : ℕ) → framed least most (λ rest. mapped meant (read rest)) bytes ≡ Ok (Some (y, n)) → (t : T) × (framed least most read bytes ≡ Ok (Some (t, n))) × (y ≡ meant t)
+  frame_is_told y n e = frame_told meant (framed least most read bytes) y n (sym (framed_seen meant least most read bytes) ∙ e)
+
+  pub no_frame_is_told : framed least most (λ rest. mapped meant (read rest)) bytes ≡ Ok None → framed least most read bytes ≡ Ok None
+  no_frame_is_told e = none_told meant (framed least most read bytes) (sym (framed_seen meant least most read bytes) ∙ e)
+
+  pub frame_fault_is_told : (f : FormFault) → framed least most (λ rest. mapped meant (read rest)) bytes ≡ Err f → framed least most read bytes ≡ Err f
+  frame_fault_is_told f e = fault_told meant (framed least most read bytes) f (sym (framed_seen meant least most read bytes) ∙ e)

@@ -20,6 +20,11 @@ abbrev pub ◌>>=◌ : {A B : Type 0} → Result A FormFault → (A → Result B
 (Ok x) >>= f = f x
 (Err fault) >>= f = Err fault
 
+-- what is made of what was read
+abbrev pub mapped : {A B : Type 0} → (A → B) → Result A FormFault → Result B FormFault
+mapped f (Ok x) = Ok (f x)
+mapped f (Err fault) = Err fault
+
 -- goes on unless the test shows a fault
 abbrev pub check : Bool → FormFault → Result Bool FormFault
 check bad fault = if bad then Err fault else Ok true

@@ -1,5 +1,5 @@
 -- Frames of values of any kind: a length of four bytes, and then as many bytes, the rest.
-use Rattle.std.specs.Prelude.{◌≡◌, ℕ, ◌+◌, ◌^◌, ◌<◌, ◌≤◌, ◌⊎◌, nat_lt, if◌then◌else◌, List, [], ◌∷◌, ◌++◌, length, take, drop, Option, Some, None, Result, Ok, Err}
+use Rattle.std.specs.Prelude.{◌≡◌, ℕ, ◌+◌, ◌^◌, ◌<◌, ◌≤◌, ◌⊎◌, nat_lt, if◌then◌else◌, List, [], ◌∷◌, ◌++◌, length, map, take, drop, Option, Some, None, Result, Ok, Err}
 use Rattle.std.specs.List.{flat_map, AllByRecursion}
 use Rattle.std.specs.Int.{w32, from_be_bytes}
 use Rattle.hk_types.specs.declared.faults.FormFault.{FormFault}
@@ -43,16 +43,23 @@ IsWhole bytes = (4 ≤ length bytes) × (length bytes ≡ 4 + len_of bytes)
 unfoldable pub encoded : {X : Type 0} → (X → List ℕ) → X → List ℕ
 encoded rest_text x = number w32 (length (rest_text x)) ++ rest_text x
 
--- For values that `rest_text` encodes where they are `IsValue`, and as what `read` sees them, in rests of at
--- least `least` and at most `most` bytes: the text begins with the encodings of these values. After them comes
--- less than a frame, which is left, or bytes with this fault.
-abbrev pub Begins : {X Y : Type 0} → ℕ → ℕ → (List ℕ → Result Y FormFault) → (X → List ℕ) → (X → Type 0) → List ℕ → List X → Result (List ℕ) FormFault → Type 0
+-- For values that `rest_text` encodes where they are `IsValue`, in rests of at least `least` and at most `most` bytes
+-- that `read` reads: the text begins with the encodings of these values. After them comes less than a frame, which is
+-- left, or bytes with this fault.
+abbrev pub Begins : {X : Type 0} → ℕ → ℕ → (List ℕ → Result X FormFault) → (X → List ℕ) → (X → Type 0) → List ℕ → List X → Result (List ℕ) FormFault → Type 0
 Begins least most read rest_text IsValue text values (Ok left) = (text ≡ flat_map (encoded rest_text) values ++ left) × AllByRecursion IsValue values × IsPartial least most left
 Begins least most read rest_text IsValue text values (Err fault) = (left : List ℕ) × (text ≡ flat_map (encoded rest_text) values ++ left) × AllByRecursion IsValue values × (framed least most read left ≡ Err fault)
 
+-- The same of values that are seen as what the encodings tell: `seen` is what is seen of a value, and `meant` what is
+-- seen of what an encoding tells, which may be one of several of the value.
+abbrev pub BeginsAs : {X Y T : Type 0} → (X → Y) → (T → Y) → ℕ → ℕ → (List ℕ → Result T FormFault) → (T → List ℕ) → (T → Type 0) → List ℕ → List X → Result (List ℕ) FormFault → Type 0
+BeginsAs {X} {Y} {T} seen meant least most read rest_text IsTold text values left =
+    (told : List T) × (map seen values ≡ map meant told) × Begins least most read rest_text IsTold text told left
+
 -- what is added to a list of values where this text is read so far
-abbrev pub AddsValues : {X Y : Type 0} → ℕ → ℕ → (List ℕ → Result Y FormFault) → (X → List ℕ) → (X → Type 0) → List X → List X → List ℕ → Result (List ℕ) FormFault → Type 0
-AddsValues {X} least most read rest_text IsValue before after text left = (values : List X) × (after ≡ before ++ values) × Begins least most read rest_text IsValue text values left
+abbrev pub AddsValues : {X Y T : Type 0} → (X → Y) → (T → Y) → ℕ → ℕ → (List ℕ → Result T FormFault) → (T → List ℕ) → (T → Type 0) → List X → List X → List ℕ → Result (List ℕ) FormFault → Type 0
+AddsValues {X} seen meant least most read rest_text IsTold before after text left =
+    (values : List X) × (after ≡ before ++ values) × BeginsAs seen meant least most read rest_text IsTold text values left
 
 -- reading and encoding of a rest undo each other, and the rest of each value is in its limits
 pub record IsFormat {X : Type 0} (least most : ℕ) (read : List ℕ → Result X FormFault) (rest_text : X → List ℕ) (IsValue : X → Type 0) : Type 0 where

@@ -9,7 +9,7 @@ use std::alloc::Global;
 pub trait Format {
     ghost use Rattle.std.specs.Prelude.{ℕ, List, Result};
     ghost use Rattle.hk_types.specs.declared.faults.FormFault.{FormFault};
-    ghost use Rattle.hk_frames.specs.Fields.{GivesOrRunsOut};
+    ghost use Rattle.hk_frames.specs.Fields.{GivesOrRunsOut, mapped};
 
     /// What stands in a frame.
     type Value: Drop;
@@ -20,11 +20,17 @@ pub trait Format {
     /// The most.
     ghost MOST_BYTES: { ℕ };
 
-    /// What the bytes tell of a value.
+    /// What the bytes of a rest tell: a value, and how it is written, where that can be done in several ways.
     ghost Told: { Type 0 };
 
-    /// What is told by the bytes that encode a value.
-    ghost seen: { Self.Value → Told };
+    /// What is seen of a value.
+    ghost Seen: { Type 0 };
+
+    /// What is seen of this value.
+    ghost seen: { Self.Value → Seen };
+
+    /// What is seen of the value that is told.
+    ghost meant: { Told → Seen };
 
     /// What a rest tells, or its first fault.
     ghost read: { List ℕ → Result Told FormFault };
@@ -43,5 +49,5 @@ pub trait Format {
 
     /// The value that is all of the rest, or its first fault; `Memory` where memory runs out.
     fn read_rest(alloc: Global, rest: &[u8]) -> Result<Self::Value, ReadError>
-        ensures { GivesOrRunsOut seen result (read rest.now) };
+        ensures { GivesOrRunsOut seen result (mapped meant (read rest.now)) };
 }

@@ -50,8 +50,7 @@ impl FrameFeeder {
     pub fn feed<F: Format>(&mut self, piece: &[u8], out: &mut Vec<F::Value>) -> Result<(), Refusal>
         requires { IsFormat F.LEAST_BYTES F.MOST_BYTES F.read F.rest_text F.IsEncodable }
         // What is held and the piece begin with the encodings of the added values. What follows them is held.
-        ensures reads { Feeds (AddsValues F.LEAST_BYTES F.MOST_BYTES F.read (λ x. F.rest_text (F.seen x))
-            (λ x. F.IsEncodable (F.seen x)))
+        ensures reads { Feeds (AddsValues F.seen F.meant F.LEAST_BYTES F.MOST_BYTES F.read F.rest_text F.IsEncodable)
             self.old self.new out.old.items out.new.items piece.now result }
         // A fault stays.
         ensures fault { KeepsFault self.old self.new out.old.items out.new.items result }
@@ -104,7 +103,7 @@ fn fresh_frames<F: Format>(
 ) -> Result<Option<FormFault>, AllocError>
     requires format { IsFormat F.LEAST_BYTES F.MOST_BYTES F.read F.rest_text F.IsEncodable }
     requires empty { rest.old.items ≡ [] }
-    ensures read { IfOk result (λ fault. AddsValues F.LEAST_BYTES F.MOST_BYTES F.read (λ x. F.rest_text (F.seen x)) (λ x. F.IsEncodable (F.seen x)) out.old.items out.new.items piece.now (rest_of rest.new.items fault)) }
+    ensures read { IfOk result (λ fault. AddsValues F.seen F.meant F.LEAST_BYTES F.MOST_BYTES F.read F.rest_text F.IsEncodable out.old.items out.new.items piece.now (rest_of rest.new.items fault)) }
     ensures kept { OnErr result (take (length out.old.items) out.new.items ≡ out.old.items) }
     ensures err { OnErr result (rest.new.items ≡ rest.old.items) }
 {
@@ -121,7 +120,7 @@ fn more_frames<F: Format>(
     out: &mut Vec<F::Value>,
 ) -> Result<Option<FormFault>, AllocError>
     requires { IsFormat F.LEAST_BYTES F.MOST_BYTES F.read F.rest_text F.IsEncodable }
-    ensures read { IfOk result (λ fault. AddsValues F.LEAST_BYTES F.MOST_BYTES F.read (λ x. F.rest_text (F.seen x)) (λ x. F.IsEncodable (F.seen x)) out.old.items out.new.items (rest.old.items ++ piece.now) (rest_of rest.new.items fault)) }
+    ensures read { IfOk result (λ fault. AddsValues F.seen F.meant F.LEAST_BYTES F.MOST_BYTES F.read F.rest_text F.IsEncodable out.old.items out.new.items (rest.old.items ++ piece.now) (rest_of rest.new.items fault)) }
     ensures kept { OnErr result (take (length out.old.items) out.new.items ≡ out.old.items) }
     ensures err { OnErr result (rest.new.items ≡ rest.old.items) }
 {
@@ -142,7 +141,7 @@ fn topped_frames<F: Format>(
     out: &mut Vec<F::Value>,
 ) -> Result<Option<FormFault>, AllocError>
     requires { IsFormat F.LEAST_BYTES F.MOST_BYTES F.read F.rest_text F.IsEncodable }
-    ensures read { IfOk result (λ fault. AddsValues F.LEAST_BYTES F.MOST_BYTES F.read (λ x. F.rest_text (F.seen x)) (λ x. F.IsEncodable (F.seen x)) out.old.items out.new.items (rest.old.items ++ piece.now) (rest_of rest.new.items fault)) }
+    ensures read { IfOk result (λ fault. AddsValues F.seen F.meant F.LEAST_BYTES F.MOST_BYTES F.read F.rest_text F.IsEncodable out.old.items out.new.items (rest.old.items ++ piece.now) (rest_of rest.new.items fault)) }
     ensures kept { OnErr result (take (length out.old.items) out.new.items ≡ out.old.items) }
     ensures front { OnErr result (take (length rest.old.items) rest.new.items ≡ rest.old.items) }
 {

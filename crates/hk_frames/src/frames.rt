@@ -2,7 +2,7 @@
 
 ghost use Rattle.std.specs.Prelude.{◌≡◌, ◌≤◌, ◌<◌, ◌^◌, length, take, drop, IfOk, OnErr};
 ghost use Rattle.std.specs.Option.{option_copied, option_map};
-ghost use Rattle.hk_frames.specs.Fields.{GivesValue, GivesOrRunsOut};
+ghost use Rattle.hk_frames.specs.Fields.{GivesValue, GivesOrRunsOut, mapped};
 ghost use Rattle.hk_frames.specs.Framing.{len_of, rest_at, framed, AddsValues, IsFormat, rest_of};
 
 use crate::cursor::ReadError;
@@ -54,7 +54,7 @@ pub fn next_frame<F: Format>(
     bytes: &[u8],
 ) -> Result<Option<(F::Value, usize)>, ReadError>
     ensures { GivesOrRunsOut (option_map (λ x. (F.seen x.0, x.1))) result
-        (framed F.LEAST_BYTES F.MOST_BYTES F.read bytes.now) }
+        (framed F.LEAST_BYTES F.MOST_BYTES (λ rest. mapped F.meant (F.read rest)) bytes.now) }
 {
     match frame_rest(bytes, F::LEAST_BYTES, F::MOST_BYTES)? {
         None => Ok(None),
@@ -81,9 +81,8 @@ pub fn take_frames<F: Format>(
 ) -> Result<Progress, AllocError>
     requires { IsFormat F.LEAST_BYTES F.MOST_BYTES F.read F.rest_text F.IsEncodable }
     ensures used { IfOk result (λ p. p.used ≤ length bytes.now) }
-    ensures read { IfOk result (λ p. AddsValues F.LEAST_BYTES F.MOST_BYTES F.read
-        (λ x. F.rest_text (F.seen x)) (λ x. F.IsEncodable (F.seen x)) out.old.items out.new.items
-        bytes.now (rest_of (drop p.used bytes.now) p.fault)) }
+    ensures read { IfOk result (λ p. AddsValues F.seen F.meant F.LEAST_BYTES F.MOST_BYTES F.read
+        F.rest_text F.IsEncodable out.old.items out.new.items bytes.now (rest_of (drop p.used bytes.now) p.fault)) }
     ensures kept { OnErr result (take (length out.old.items) out.new.items ≡ out.old.items) }
 {
     let mut used = 0;

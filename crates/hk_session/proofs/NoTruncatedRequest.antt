@@ -5,9 +5,10 @@ use Rattle.hk_types.specs.declared.version_key.VersionKey.{VersionKey}
 use Rattle.hk_types.specs.declared.faults.FormFault.{FormFault}
 use Rattle.hk_types.specs.declared.faults.FormFault.TheVariants.{Truncated, BadVersion, BadKind, BadStream, BadNumber, BadOrder, BadCount, BadBody, WrongLength}
 use Rattle.hk_log.specs.Items.{end_place, row_place, is_after}
-use Rattle.hk_log.specs.declared.item.Item.{Item}
+use Rattle.hk_codec.specs.Encoding.{WrittenItem}
+use Rattle.hk_codec.specs.Lists.{last_place, is_above, elements_at, group_at, groups_at}
 use Rattle.hk_frames.specs.Fields.{◌>>=◌, check, byte_at, number_at, bytes_at, body_at, list_at}
-use Rattle.hk_codec.specs.Reading.{end_at, row_at, moment_at, counted_ends_at, counted_rows_at, entry_at, mark_at, HeadValue, head_at, kind_at, item_at}
+use Rattle.hk_codec.specs.Reading.{keyed_end_at, end_at, keyed_row_at, row_at, moment_at, counted_ends_at, counted_rows_at, grouped_ends_at, grouped_rows_at, ends_of_version, rows_of_version, entry_at, mark_at, HeadValue, head_at, kind_at, item_at}
 use Rattle.hk_frames.specs.Framing.{len_of, rest_at, framed, value_of}
 use Rattle.hk_codec.specs.Frames.{frame_at}
 use Rattle.hk_wire.specs.Readers.{Reader, both, after, fault_where, mapped_value, by_kind, list_by, list_by_count, time_at}
@@ -112,23 +113,44 @@ framed_whole least most read h bytes =
 
 -- ---- items
 
+pub keyed_end_whole : (time table : ℕ) (before : Option (ℕ × ℕ)) → Whole (keyed_end_at time table before)
+unfolding keyed_end_at
+keyed_end_whole time table before bytes =
+    bind_whole (number_at w64 bytes) _ (number_whole w64 bytes) (λ key.
+    bind_whole (number_at w64 key.1) _ (number_whole w64 key.1) (λ born.
+    bind_whole (check (cond (is_after before (table, key.0)) false true) BadOrder) _ (check_whole _ BadOrder refl) (λ _.
+    bind_whole (check (cond (ltb 0 born.0 && ltb born.0 time) false true) BadNumber) _ (check_whole _ BadNumber refl) (λ _. refl))))
+
 pub end_whole : (time : ℕ) (before : Option (ℕ × ℕ)) → Whole (end_at time before)
 unfolding end_at
-end_whole time before bytes =
-    bind_whole (number_at w16 bytes) _ (number_whole w16 bytes) (λ table.
-    bind_whole (number_at w64 table.1) _ (number_whole w64 table.1) (λ key.
-    bind_whole (number_at w64 key.1) _ (number_whole w64 key.1) (λ born.
-    bind_whole (check (cond (is_after before (table.0, key.0)) false true) BadOrder) _ (check_whole _ BadOrder refl) (λ _.
-    bind_whole (check (cond (ltb 0 born.0 && ltb born.0 time) false true) BadNumber) _ (check_whole _ BadNumber refl) (λ _. refl)))))
+end_whole time before bytes = bind_whole (number_at w16 bytes) _ (number_whole w16 bytes) (λ table. keyed_end_whole time table.0 before table.1)
+
+pub keyed_row_whole : (table : ℕ) (before : Option (ℕ × ℕ)) → Whole (keyed_row_at table before)
+unfolding keyed_row_at
+keyed_row_whole table before bytes =
+    bind_whole (number_at w64 bytes) _ (number_whole w64 bytes) (λ key.
+    bind_whole (check (cond (is_after before (table, key.0)) false true) BadOrder) _ (check_whole _ BadOrder refl) (λ _.
+    bind_whole (number_at w32 key.1) _ (number_whole w32 key.1) (λ tag.
+    bind_whole (body_at tag.1) _ (body_whole tag.1) (λ _. refl))))
 
 pub row_whole : (before : Option (ℕ × ℕ)) → Whole (row_at before)
 unfolding row_at
-row_whole before bytes =
+row_whole before bytes = bind_whole (number_at w16 bytes) _ (number_whole w16 bytes) (λ table. keyed_row_whole table.0 before table.1)
+
+-- groups of one table
+pub group_whole : {X : Type 0} (place : X → ℕ × ℕ) (one : ℕ → Option (ℕ × ℕ) → Reader X) → ((table : ℕ) (before : Option (ℕ × ℕ)) → Whole (one table before)) → (before : List X) → Whole (group_at place one before)
+unfolding group_at elements_at
+group_whole place one h before bytes =
     bind_whole (number_at w16 bytes) _ (number_whole w16 bytes) (λ table.
-    bind_whole (number_at w64 table.1) _ (number_whole w64 table.1) (λ key.
-    bind_whole (check (cond (is_after before (table.0, key.0)) false true) BadOrder) _ (check_whole _ BadOrder refl) (λ _.
-    bind_whole (number_at w32 key.1) _ (number_whole w32 key.1) (λ tag.
-    bind_whole (body_at tag.1) _ (body_whole tag.1) (λ _. refl)))))
+    bind_whole (check (cond (is_above (last_place place None before) table.0) false true) BadOrder) _ (check_whole _ BadOrder refl) (λ _.
+    bind_whole (number_at w16 table.1) _ (number_whole w16 table.1) (λ count.
+    bind_whole (check (ltb count.0 1 || ltb 1024 (length before + count.0)) BadCount) _ (check_whole _ BadCount refl) (λ _.
+    bind_whole (list_at place (one table.0) count.0 (last_place place None before) count.1) _ (list_whole place (one table.0) (h table.0) count.0 (last_place place None before) count.1) (λ _. refl)))))
+
+pub groups_whole : {X : Type 0} (place : X → ℕ × ℕ) (one : ℕ → Option (ℕ × ℕ) → Reader X) → ((table : ℕ) (before : Option (ℕ × ℕ)) → Whole (one table before)) → (n : ℕ) (before : List X) → Whole (groups_at place one n before)
+unfolding groups_at
+groups_whole place one h zero before bytes = refl
+groups_whole place one h (suc n) before bytes = bind_whole (group_at place one before bytes) _ (group_whole place one h before bytes) (λ more. groups_whole place one h n more.0 more.1)
 
 pub moment_whole : Whole moment_at
 unfolding moment_at
@@ -149,12 +171,24 @@ counted_rows_whole ends bytes =
     bind_whole (number_at w16 bytes) _ (number_whole w16 bytes) (λ count.
     bind_whole (check (ltb 1024 count.0 || ltb (ends + count.0) 1) BadCount) _ (check_whole _ BadCount refl) (λ _. list_whole row_place row_at row_whole count.0 None count.1))
 
-pub entry_whole : (log stream : ℕ) → Whole (entry_at log stream)
+pub grouped_ends_whole : (time : ℕ) → Whole (grouped_ends_at time)
+unfolding grouped_ends_at
+grouped_ends_whole time bytes =
+    bind_whole (number_at w16 bytes) _ (number_whole w16 bytes) (λ count.
+    bind_whole (check (ltb 1024 count.0) BadCount) _ (check_whole _ BadCount refl) (λ _. groups_whole end_place (keyed_end_at time) (keyed_end_whole time) count.0 [] count.1))
+
+pub grouped_rows_whole : (ends : ℕ) → Whole (grouped_rows_at ends)
+unfolding grouped_rows_at
+grouped_rows_whole ends bytes =
+    bind_whole (number_at w16 bytes) _ (number_whole w16 bytes) (λ count.
+    bind_whole (check (ltb 1024 count.0 || ltb (ends + count.0) 1) BadCount) _ (check_whole _ BadCount refl) (λ _. groups_whole row_place keyed_row_at keyed_row_whole count.0 [] count.1))
+
+pub entry_whole : (version log stream : ℕ) → Whole (entry_at version log stream)
 unfolding entry_at
-entry_whole log stream bytes =
+entry_whole version log stream bytes =
     bind_whole (moment_at bytes) _ (moment_whole bytes) (λ moment.
-    bind_whole (counted_ends_at moment.0.1 moment.1) _ (counted_ends_whole moment.0.1 moment.1) (λ ends.
-    bind_whole (counted_rows_at (length ends.0) ends.1) _ (counted_rows_whole (length ends.0) ends.1) (λ _. refl)))
+    bind_whole (ends_of_version version moment.0.1 moment.1) _ (cond_whole (eqb version 1) _ _ (counted_ends_whole moment.0.1 moment.1) (grouped_ends_whole moment.0.1 moment.1)) (λ ends.
+    bind_whole (rows_of_version version (length ends.0) ends.1) _ (cond_whole (eqb version 1) _ _ (counted_rows_whole (length ends.0) ends.1) (grouped_rows_whole (length ends.0) ends.1)) (λ _. refl)))
 
 pub mark_whole : (log stream : ℕ) → Whole (mark_at log stream)
 unfolding mark_at
@@ -167,7 +201,7 @@ pub head_whole : Whole head_at
 unfolding head_at
 head_whole bytes =
     bind_whole (byte_at bytes) _ (byte_whole bytes) (λ version.
-    bind_whole (check (cond (eqb version.0 1) false true) BadVersion) _ (check_whole _ BadVersion refl) (λ _.
+    bind_whole (check (cond (eqb version.0 1 || eqb version.0 2) false true) BadVersion) _ (check_whole _ BadVersion refl) (λ _.
     bind_whole (byte_at version.1) _ (byte_whole version.1) (λ kind.
     bind_whole (check (cond (eqb kind.0 1 || eqb kind.0 2) false true) BadKind) _ (check_whole _ BadKind refl) (λ _.
     bind_whole (number_at w64 kind.1) _ (number_whole w64 kind.1) (λ log.
@@ -178,7 +212,7 @@ pub kind_whole : (head : HeadValue) → Whole (kind_at head)
 unfolding kind_at
 kind_whole head bytes =
     cond_whole (eqb head.kind 1) _ _
-    (bind_whole (entry_at head.log head.stream bytes) _ (entry_whole head.log head.stream bytes) (λ _. refl))
+    (bind_whole (entry_at head.version head.log head.stream bytes) _ (entry_whole head.version head.log head.stream bytes) (λ _. refl))
     (bind_whole (mark_at head.log head.stream bytes) _ (mark_whole head.log head.stream bytes) (λ _. refl))
 
 pub item_whole : Whole item_at
@@ -284,13 +318,13 @@ pub query_whole : Whole query_at
 unfolding query_at
 query_whole = kinded_whole query_of query_of_whole
 
-taken_whole : (frame : Option (Item × ℕ)) → Whole (frame_taken frame)
+taken_whole : (frame : Option (WrittenItem × ℕ)) → Whole (frame_taken frame)
 taken_whole None bytes = refl
 taken_whole (Some frame) bytes = bind_whole (bytes_at frame.1 bytes) _ (bytes_whole frame.1 bytes) (λ _. refl)
 
 pub item_frame_whole : Whole item_frame_at
 unfolding item_frame_at
-item_frame_whole bytes = bind_whole (frame_at bytes) _ (framed_whole 28 4229152 item_at item_whole bytes) (λ frame. taken_whole frame bytes)
+item_frame_whole bytes = bind_whole (frame_at bytes) _ (framed_whole 28 4233248 item_at item_whole bytes) (λ frame. taken_whole frame bytes)
 
 pub items_whole : Whole items_at
 unfolding items_at item_count_at
@@ -331,6 +365,6 @@ request_whole = message_whole request_of of_kind_whole
 
 pub never_cut : (text : List ℕ) (qs : List Request) → ReadsRequests text qs (Err Truncated) → ⊥
 never_cut text qs h =
-    let w : is_whole (framed 2 268435456 request_at h.0) ≡ true = framed_whole 2 268435456 request_at request_whole h.0 in
-    let v : is_whole (framed 2 268435456 request_at h.0) ≡ false = ap is_whole h.3 in
+    let w : is_whole (framed 2 268435456 request_at h.2.0) ≡ true = framed_whole 2 268435456 request_at request_whole h.2.0 in
+    let v : is_whole (framed 2 268435456 request_at h.2.0) ≡ false = ap is_whole h.2.3 in
     absurd cc

@@ -1,5 +1,5 @@
 -- A session that goes on.
-use Rattle.std.proofs.Common.{◌≡◌, ◌≢◌, ℕ, ◌⊎◌, true, List, [], ◌∷◌, ◌++◌, take, Option, Some, None, Result, Ok, Err, refl, sym, ap, subst, ◌∙◌, append_assoc, append-nil, arith, inl, inr}
+use Rattle.std.proofs.Common.{◌≡◌, ◌≢◌, ℕ, ◌⊎◌, true, List, [], ◌∷◌, ◌++◌, map, take, Option, Some, None, Result, Ok, Err, refl, sym, ap, subst, ◌∙◌, append_assoc, append-nil, arith, inl, inr}
 use Rattle.std.specs.List.{flat_map, AllByRecursion}
 use Rattle.std.specs.Io.KnownBytes.{Appends, Consumes}
 use Rattle.std.proofs.KnownBytes.{Appends-nil, Appends-trans, Consumes-trans}
@@ -8,17 +8,18 @@ use Rattle.hk_types.specs.declared.faults.FormFault.{FormFault}
 use Rattle.hk_types.specs.declared.faults.FormFault.TheVariants.{Truncated}
 use Rattle.hk_types.specs.declared.faults.Refusal.{Refusal}
 use Rattle.hk_types.specs.declared.faults.Refusal.TheVariants as refusals
-use Rattle.hk_frames.specs.Framing.{answer}
+use Rattle.hk_frames.specs.Framing.{answer, encoded}
 use Rattle.hk_wire.specs.declared.request.Request.{Request}
 use Rattle.hk_wire.specs.declared.reply.Reply.{Reply}
 use Rattle.hk_wire.specs.declared.reply.Reply.TheVariants as told
 use Rattle.hk_wire.specs.Replies.{Refused, is_encodable}
 use Rattle.hk_wire.proofs.Lengths.{refused_len}
 use Rattle.std.proofs.lemmas.Bool.{le-leb}
-use Rattle.hk_wire.specs.Requests.{ReadsRequests, AddsRequests}
+use Rattle.hk_wire.specs.Requests.{RequestValue, WrittenRequest, request_seen, request_meant, request_at, request_rest, IsRequest, ReadsRequests, AddsRequests}
+use Rattle.hk_frames.proofs.FrameStream.{pieces_join_as, both_same}
 use Rattle.hk_session.specs.declared.ended.Ended.{Ended}
 use Rattle.hk_session.specs.declared.ended.Ended.TheVariants.{Clean, Fault, Memory, ReadFault, WriteFault}
-use Rattle.hk_session.specs.Transcript.{asked_text, IsAsked, Answers, refused_text, reply_bytes, replies_bytes, fault_of, fault_met, BeginsWith, IsPrefixOf, GoesOn, Ends, SessionStep, Refuses, Sends, Stops, IsMidway, IsDone, IsStopped, Transcript, PartialTranscript, closing_bytes}
+use Rattle.hk_session.specs.Transcript.{Answers, refused_text, reply_bytes, replies_bytes, fault_of, fault_met, BeginsWith, IsPrefixOf, GoesOn, Ends, SessionStep, Refuses, Sends, Stops, IsMidway, IsDone, IsStopped, Transcript, PartialTranscript, closing_bytes}
 
 pub Answers-then : {H : Type 0} (may : H → Request → Reply → H → Type 0) (a b c : H) (xs ys : List Request) (rs ss : List Reply) → Answers may a xs rs b → Answers may b ys ss c → Answers may a (xs ++ ys) (rs ++ ss) c
 Answers-then {H} may a b c [] ys [] ss x y = subst (λ (s : H). Answers may s ys ss c) x y
@@ -26,26 +27,30 @@ Answers-then may a b c (q ∷ xs) ys (r ∷ rs) ss x y = (x.0, x.1, Answers-then
 Answers-then may a b c [] ys (r ∷ rs) ss x y = absurd x
 Answers-then may a b c (q ∷ xs) ys [] ss x y = absurd x
 
-each_both : (xs ys : List Request) → AllByRecursion IsAsked xs → AllByRecursion IsAsked ys → AllByRecursion IsAsked (xs ++ ys)
+each_both : (xs ys : List WrittenRequest) → AllByRecursion IsRequest xs → AllByRecursion IsRequest ys → AllByRecursion IsRequest (xs ++ ys)
 each_both [] ys h k = k
 each_both (x ∷ xs) ys h k = (h.0, each_both xs ys h.1 k)
 
-each_front : (xs ys : List Request) → AllByRecursion IsAsked (xs ++ ys) → AllByRecursion IsAsked xs
+each_front : (xs ys : List WrittenRequest) → AllByRecursion IsRequest (xs ++ ys) → AllByRecursion IsRequest xs
 each_front [] ys h = tt
 each_front (x ∷ xs) ys h = (h.0, each_front xs ys h.1)
 
+-- the encodings of requests
+abbrev texts : List WrittenRequest → List ℕ
+texts ws = flat_map (encoded request_rest) ws
+
 -- the bytes that go on from what was left
-joined : (text left more rest : List ℕ) (xs ys : List Request) → text ≡ flat_map asked_text xs ++ left → left ++ more ≡ flat_map asked_text ys ++ rest → text ++ more ≡ flat_map asked_text (xs ++ ys) ++ rest
+joined : (text left more rest : List ℕ) (xs ys : List WrittenRequest) → text ≡ texts xs ++ left → left ++ more ≡ texts ys ++ rest → text ++ more ≡ texts (xs ++ ys) ++ rest
 joined text left more rest xs ys e f =
-    ap (λ (t : List ℕ). t ++ more) e ∙ append_assoc (flat_map asked_text xs) left more ∙ ap (λ (t : List ℕ). flat_map asked_text xs ++ t) f
-    ∙ sym (append_assoc (flat_map asked_text xs) (flat_map asked_text ys) rest) ∙ ap (λ (t : List ℕ). t ++ rest) (sym (flat_map-append asked_text xs ys))
+    ap (λ (t : List ℕ). t ++ more) e ∙ append_assoc (texts xs) left more ∙ ap (λ (t : List ℕ). texts xs ++ t) f
+    ∙ sym (append_assoc (texts xs) (texts ys) rest) ∙ ap (λ (t : List ℕ). t ++ rest) (sym (flat_map-append (encoded request_rest) xs ys))
 
 pub ReadsRequests-then : (text left more : List ℕ) (xs ys : List Request) (r : Result (List ℕ) FormFault) → ReadsRequests text xs (Ok left) → ReadsRequests (left ++ more) ys r → ReadsRequests (text ++ more) (xs ++ ys) r
-ReadsRequests-then text left more xs ys (Ok rest) h k = (joined text left more rest xs ys h.0 k.0, each_both xs ys h.1 k.1, k.2)
-ReadsRequests-then text left more xs ys (Err f) h k = (k.0, joined text left more k.0 xs ys h.0 k.1, each_both xs ys h.1 k.2, k.3)
+ReadsRequests-then text left more xs ys r h k = pieces_join_as request_seen request_meant 2 268435456 request_at request_rest IsRequest text more left xs ys r h k
 
 BeginsWith-then : (text left more : List ℕ) (xs ys : List Request) → ReadsRequests text xs (Ok left) → BeginsWith (left ++ more) ys → BeginsWith (text ++ more) (xs ++ ys)
-BeginsWith-then text left more xs ys h k = (k.0, joined text left more k.0 xs ys h.0 k.1, each_both xs ys h.1 k.2)
+BeginsWith-then text left more xs ys h k =
+    (h.0 ++ k.0, both_same request_seen request_meant xs ys h.0 k.0 h.1 k.1, k.2, joined text left more k.2 h.0 k.0 h.2.0 k.3, each_both h.0 k.0 h.2.1 k.4)
 
 IsPrefixOf-after : (s w t : List ℕ) → IsPrefixOf w t → IsPrefixOf (s ++ w) (s ++ t)
 IsPrefixOf-after s w t h = (h.0, append_assoc s w h.0 ∙ ap (λ (x : List ℕ). s ++ x) h.1)
@@ -97,25 +102,46 @@ SessionStep-then may a b c o p q text left more How joins s t =
     }
 
 pub at_start : {H : Type 0} (may : H → Request → Reply → H → Type 0) (a : H) (o : Option (List ℕ)) → SessionStep may a a o o [] (GoesOn [])
-at_start may a o = record { requests = []; replies = []; answers = refl; written = []; appended = Appends-nil o; how = ((refl, tt, inl (omega arith)), refl) }
+at_start may a o = record { requests = []; replies = []; answers = refl; written = []; appended = Appends-nil o; how = (([], refl, (refl, tt, inl (omega arith))), refl) }
 
 -- ---- a piece
 
+abbrev list_of : RequestValue → List RequestValue → List RequestValue
+list_of x xs = x ∷ xs
+
+cons_is : (x y : RequestValue) (xs ys : List RequestValue) → list_of x xs ≡ list_of y ys → (x ≡ y) × (xs ≡ ys)
+cons_is x y xs ys e = (cc, cc)
+
+record Parted (front back : List Request) (written : List WrittenRequest) : Type 0 where
+  first : List WrittenRequest
+  second : List WrittenRequest
+  whole : written ≡ first ++ second
+  same : map request_seen front ≡ map request_meant first
+
+parted : (front back : List Request) (written : List WrittenRequest) → map request_seen (front ++ back) ≡ map request_meant written → Parted front back written
+parted [] back written e = record { first = []; second = written; whole = refl; same = refl }
+parted (q ∷ front) back [] e = absurd cc
+parted (q ∷ front) back (w ∷ written) e =
+    let c = cons_is (request_seen q) (request_meant w) (map request_seen (front ++ back)) (map request_meant written) e in
+    let p = parted front back written c.1 in
+    record { first = w ∷ p.first; second = p.second; whole = ap (λ (l : List WrittenRequest). w ∷ l) p.whole; same = cc (c.0, p.same) }
+
 begins_front : (text : List ℕ) (qs front back : List Request) → BeginsWith text qs → qs ≡ front ++ back → BeginsWith text front
 begins_front text qs front back h e =
-    let texts : flat_map asked_text qs ≡ flat_map asked_text front ++ flat_map asked_text back = ap (flat_map asked_text) e ∙ flat_map-append asked_text front back in
-    (flat_map asked_text back ++ h.0, h.1 ∙ ap (λ (t : List ℕ). t ++ h.0) texts ∙ append_assoc (flat_map asked_text front) (flat_map asked_text back) h.0, each_front front back (subst (AllByRecursion IsAsked) e h.2))
+    let p = parted front back h.0 (ap (map request_seen) (sym e) ∙ h.1) in
+    let split : texts h.0 ≡ texts p.first ++ texts p.second = ap texts p.whole ∙ flat_map-append (encoded request_rest) p.first p.second in
+    (p.first, p.same, texts p.second ++ h.2, h.3 ∙ ap (λ (t : List ℕ). t ++ h.2) split ∙ append_assoc (texts p.first) (texts p.second) h.2, each_front p.first p.second (subst (AllByRecursion IsRequest) p.whole h.4))
 
 pub begins_reads : (text : List ℕ) (qs : List Request) (r : Result (List ℕ) FormFault) → ReadsRequests text qs r → BeginsWith text qs
-begins_reads text qs (Ok left) h = (left, h.0, h.1)
-begins_reads text qs (Err f) h = (h.0, h.1, h.2)
+begins_reads text qs (Ok left) h = (h.0, h.1, left, h.2.0, h.2.1)
+begins_reads text qs (Err f) h = (h.0, h.1, h.2.0, h.2.1, h.2.2)
 
 -- what was read where the list was empty
 pub added : (qs : List Request) (text : List ℕ) (r : Result (List ℕ) FormFault) → AddsRequests [] qs text r → ReadsRequests text qs r
 added qs text r h = subst (λ (xs : List Request). ReadsRequests text xs r) (sym h.1) h.2
 
 pub nothing_said : {H : Type 0} (may : H → Request → Reply → H → Type 0) (a : H) (o : Option (List ℕ)) (text : List ℕ) → SessionStep may a a o o text (Ends Memory)
-nothing_said may a o text = record { requests = []; replies = []; answers = refl; written = []; appended = Appends-nil o; how = ((text, refl, tt), ([], refl)) }
+nothing_said may a o text = record { requests = []; replies = []; answers = refl; written = []; appended = Appends-nil o; how = (([], refl, text, refl, tt), ([], refl)) }
 
 pub part_said : {H : Type 0} (may : H → Request → Reply → H → Type 0) (a b : H) (o p : Option (List ℕ)) (text : List ℕ) (qs front back : List Request) (rs : List Reply) (part : List ℕ) (e : Ended)
     → BeginsWith text qs → qs ≡ front ++ back → Answers may a front rs b → IsPrefixOf part (replies_bytes rs) → Appends o p part → (e ≡ Memory) ⊎ (e ≡ WriteFault) → SessionStep may a b o p text (Ends e)
@@ -280,9 +306,9 @@ transcripts may a b o p bytes WriteFault done s = absurd done
 -- the requests that the bytes begin with are whole
 prefix_transcript : {H : Type 0} (may : H → Request → Reply → H → Type 0) (a b : H) (bytes part : List ℕ) (qs : List Request) (rs : List Reply) → BeginsWith bytes qs → Answers may a qs rs b → IsPrefixOf part (replies_bytes rs) → PartialTranscript may a b bytes part
 prefix_transcript may a b bytes part qs rs h answers is_front =
-    let front = flat_map asked_text qs in
-    let reads : ReadsRequests front qs (Ok []) = (sym (append-nil front), h.2, inl (omega arith)) in
-    (front, h.0, h.1, inl (qs, reads), replies_bytes rs, is_front, record { requests = qs; left = Ok []; reads = reads; replies = rs; answers = answers; told = sym (append-nil (replies_bytes rs)) })
+    let front = texts h.0 in
+    let reads : ReadsRequests front qs (Ok []) = (h.0, h.1, (sym (append-nil front), h.4, inl (omega arith))) in
+    (front, h.2, h.3, inl (qs, reads), replies_bytes rs, is_front, record { requests = qs; left = Ok []; reads = reads; replies = rs; answers = answers; told = sym (append-nil (replies_bytes rs)) })
 
 pub partial_transcript : {H : Type 0} (may : H → Request → Reply → H → Type 0) (a b : H) (o p : Option (List ℕ)) (bytes : List ℕ) (e : Ended) → IsStopped e → SessionStep may a b o p bytes (Ends e) → (part : List ℕ) × Appends o p part × PartialTranscript may a b bytes part
 partial_transcript may a b o p bytes Clean done s = absurd done

@@ -1,5 +1,5 @@
 -- What a session writes, by what it read.
-use Rattle.std.specs.Prelude.{◌≡◌, ◌≢◌, ◌⊎◌, ℕ, if◌then◌else◌, List, [], ◌∷◌, ◌++◌, Option, Some, None, Result, Ok, Err}
+use Rattle.std.specs.Prelude.{◌≡◌, ◌≢◌, ◌⊎◌, ℕ, if◌then◌else◌, List, [], ◌∷◌, ◌++◌, map, Option, Some, None, Result, Ok, Err}
 use Rattle.std.specs.List.{flat_map, AllByRecursion}
 use Rattle.std.specs.Io.KnownBytes.{Appends}
 use Rattle.hk_types.specs.declared.faults.FormFault.{FormFault}
@@ -8,7 +8,7 @@ use Rattle.hk_types.specs.declared.faults.Refusal.TheVariants as refusals
 use Rattle.hk_frames.specs.Framing.{encoded}
 use Rattle.hk_wire.specs.declared.request.Request.{Request}
 use Rattle.hk_wire.specs.declared.reply.Reply.{Reply}
-use Rattle.hk_wire.specs.Requests.{request_seen, request_rest, IsRequest, ReadsRequests}
+use Rattle.hk_wire.specs.Requests.{WrittenRequest, request_seen, request_meant, request_rest, IsRequest, ReadsRequests}
 use Rattle.hk_wire.specs.Replies.{Refused, reply_seen, reply_text, is_encodable}
 use Rattle.hk_session.specs.declared.ended.Ended.{Ended}
 use Rattle.hk_session.specs.declared.ended.Ended.TheVariants.{Clean, Fault, Memory, ReadFault, WriteFault}
@@ -72,17 +72,10 @@ abbrev pub fault_met : Result (List ℕ) FormFault → Option FormFault
 fault_met (Ok left) = None
 fault_met (Err f) = Some f
 
--- the encoding of a request
-abbrev pub asked_text : Request → List ℕ
-asked_text = encoded (λ q. request_rest (request_seen q))
-
--- a request that has an encoding
-abbrev pub IsAsked : Request → Type 0
-IsAsked q = IsRequest (request_seen q)
-
--- the bytes begin with the encodings of these requests
+-- the bytes begin with encodings of these requests, each item frame in version 1 or 2
 abbrev pub BeginsWith : List ℕ → List Request → Type 0
-BeginsWith bytes requests = (rest : List ℕ) × (bytes ≡ flat_map asked_text requests ++ rest) × AllByRecursion IsAsked requests
+BeginsWith bytes requests =
+    (written : List WrittenRequest) × (map request_seen requests ≡ map request_meant written) × (rest : List ℕ) × (bytes ≡ flat_map (encoded request_rest) written ++ rest) × AllByRecursion IsRequest written
 
 -- A session that goes on has written the replies to all whole requests, and less than one is left.
 abbrev pub GoesOn : List ℕ → List ℕ → List Request → List Reply → List ℕ → Type 0

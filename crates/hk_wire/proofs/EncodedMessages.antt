@@ -1,50 +1,96 @@
 -- What is encoded is read back, and a text is read in one way.
-use Rattle.std.proofs.Common.{◌≡◌, refl, ap, ◌∙◌, ℕ, List, [], ◌∷◌, ◌++◌, map, Result, Ok, Err}
+use Rattle.std.proofs.Common.{◌≡◌, refl, sym, ap, subst, ◌∙◌, ℕ, leb, List, [], ◌∷◌, ◌++◌, length, map, Result, Ok, Err, inr}
 use Rattle.std.specs.List.{flat_map, AllByRecursion}
+use Rattle.std.proofs.lemmas.List.{length-map, map-append}
+use Rattle.std.proofs.lemmas.List.Folds.{flat_map-map}
+use Rattle.hk_types.specs.declared.faults.Refusal.{Refusal}
+use Rattle.hk_log.specs.declared.item.Item.{Item}
+use Rattle.hk_codec.specs.Encoding.{WrittenItem, IsEncodableItem, IsWritten}
+use Rattle.hk_codec.specs.Frames.{frame_text, encoding_of}
 use Rattle.hk_types.specs.declared.faults.FormFault.{FormFault}
-use Rattle.hk_frames.specs.Framing.{encoded, Begins}
-use Rattle.hk_frames.proofs.FrameStream.{one_value_begins, one_reading_only}
+use Rattle.hk_frames.specs.Framing.{Begins, AddsValues, Feeds}
+use Rattle.hk_frames.proofs.FrameStream.{one_value_begins, one_reading_only, one_reading_as, pieces_join_up, feeds_so}
 use Rattle.hk_wire.specs.declared.request.Request.{Request}
 use Rattle.hk_wire.specs.declared.reply.Reply.{Reply}
-use Rattle.hk_wire.specs.Requests.{request_seen, request_at, request_rest, request_text, IsRequest, ReadsRequests}
-use Rattle.hk_wire.specs.Replies.{reply_seen, reply_at, reply_rest, reply_text, IsReply, ReadsReplies}
+use Rattle.hk_wire.specs.Requests.{RequestValue, Items, Front, Delta, Full, Ask, JoinThis, MergeThis, Prune, new_items, newly_written, keeps_rules, request_seen, request_meant, as_written, request_at, request_rest, IsRequest, ReadsRequests, ReadsBack}
+use Rattle.hk_wire.specs.Replies.{ReplyValue, reply_seen, reply_at, reply_rest, reply_text, IsReply, ReadsReplies, AddsReplies}
 use Rattle.hk_wire.proofs.RequestsReadAgain.{request_format}
 use Rattle.hk_wire.proofs.RepliesReadAgain.{reply_format}
 
 -- ---- messages by their values
 
-texts_seen : {X Y : Type 0} (seen : X → Y) (rest_text : Y → List ℕ) (xs : List X) → flat_map (encoded (λ x. rest_text (seen x))) xs ≡ flat_map (encoded rest_text) (map seen xs)
-unfolding encoded
-texts_seen seen rest_text [] = refl
-texts_seen seen rest_text (x ∷ xs) = ap (λ t. encoded rest_text (seen x) ++ t) (texts_seen seen rest_text xs)
-
-each_seen : {X Y : Type 0} (seen : X → Y) (P : Y → Type 0) (xs : List X) → AllByRecursion (λ x. P (seen x)) xs → AllByRecursion P (map seen xs)
-each_seen seen P [] h = tt
-each_seen seen P (x ∷ xs) h = (h.0, each_seen seen P xs h.1)
-
-begins_seen : {X Y : Type 0} (least most : ℕ) (read : List ℕ → Result Y FormFault) (seen : X → Y) (rest_text : Y → List ℕ) (P : Y → Type 0) (text : List ℕ) (xs : List X) (r : Result (List ℕ) FormFault)
-    → Begins least most read (λ x. rest_text (seen x)) (λ x. P (seen x)) text xs r → Begins least most read rest_text P text (map seen xs) r
-begins_seen least most read seen rest_text P text xs (Ok left) h = (h.0 ∙ ap (λ t. t ++ left) (texts_seen seen rest_text xs), each_seen seen P xs h.1, h.2)
-begins_seen least most read seen rest_text P text xs (Err fault) (left, is, each, bad) = (left, is ∙ ap (λ t. t ++ left) (texts_seen seen rest_text xs), each_seen seen P xs each, bad)
+same_list : {Y : Type 0} (ys : List Y) → map (λ (y : Y). y) ys ≡ ys
+same_list [] = refl
+same_list {Y = Y} (y ∷ ys) = ap (λ (l : List Y). y ∷ l) (same_list ys)
 
 -- ---- requests
 
-pub request_begins : (r : Request) → IsRequest (request_seen r) → ReadsRequests (request_text (request_seen r)) (r ∷ []) (Ok [])
-unfolding encoded
-request_begins r h = one_value_begins 2 268435456 request_at (λ x. request_rest (request_seen x)) (λ x. IsRequest (request_seen x)) r h
+keeps_as_many : (n m : ℕ) → n ≡ m → leb n 65536 ≡ leb m 65536
+keeps_as_many n m e = ap (λ (k : ℕ). leb k 65536) e
+
+-- the versions of item frames are no matter to the rules
+pub keeps_same : (r : RequestValue) → keeps_rules (newly_written r) ≡ keeps_rules r
+keeps_same (Items items) = keeps_as_many (length (new_items items)) (length items) (length-map items _)
+keeps_same Front = refl
+keeps_same (Delta base) = refl
+keeps_same Full = refl
+keeps_same (Ask t query) = refl
+keeps_same (JoinThis fragment) = refl
+keeps_same (MergeThis fragment) = refl
+keeps_same (Prune horizon) = refl
+
+items_meant : (items : List Item) → map (λ (w : WrittenItem). w.item) (new_items items) ≡ items
+items_meant [] = refl
+items_meant (i ∷ items) = ap (λ (l : List Item). i ∷ l) (items_meant items)
+
+-- written anew, a request is seen as it is
+pub newly_meant : (r : RequestValue) → request_meant (newly_written r) ≡ r
+newly_meant (Items items) = ap (λ (l : List Item). Items l) (items_meant items)
+newly_meant Front = refl
+newly_meant (Delta base) = refl
+newly_meant Full = refl
+newly_meant (Ask t query) = refl
+newly_meant (JoinThis fragment) = refl
+newly_meant (MergeThis fragment) = refl
+newly_meant (Prune horizon) = refl
+
+pub new_items_text : (items : List Item) → flat_map frame_text (new_items items) ≡ flat_map (encoding_of 2) items
+new_items_text items = flat_map-map frame_text _ items
+
+pub new_items_fit : (items : List Item) → AllByRecursion IsEncodableItem items → AllByRecursion IsWritten (new_items items)
+new_items_fit [] h = tt
+new_items_fit (i ∷ items) h = ((inr refl, h.0), new_items_fit items h.1)
+
+one_seen : (r : Request) → request_seen r ∷ [] ≡ request_meant (as_written r) ∷ []
+one_seen r = ap (λ (v : RequestValue). v ∷ []) (sym (newly_meant (request_seen r)))
+
+pub request_begins : (r : Request) → IsRequest (as_written r) → ReadsBack r
+request_begins r h = (as_written r ∷ [], one_seen r, one_value_begins 2 268435456 request_at request_rest IsRequest (as_written r) h)
 
 pub requests_read : (text : List ℕ) (xs ys : List Request) (l r : Result (List ℕ) FormFault) → ReadsRequests text xs l → ReadsRequests text ys r → (map request_seen xs ≡ map request_seen ys) × (l ≡ r)
-requests_read text xs ys l r h k =
-    one_reading_only 2 268435456 request_at request_rest IsRequest request_format text (map request_seen xs) (map request_seen ys) l r
-    (begins_seen 2 268435456 request_at request_seen request_rest IsRequest text xs l h) (begins_seen 2 268435456 request_at request_seen request_rest IsRequest text ys r k)
+requests_read = one_reading_as request_seen request_meant 2 268435456 request_at request_rest IsRequest request_format
 
 -- ---- replies
 
 pub reply_begins : (r : Reply) → IsReply (reply_seen r) → ReadsReplies (reply_text (reply_seen r)) (r ∷ []) (Ok [])
-unfolding encoded
-reply_begins r h = one_value_begins 2 268435456 reply_at (λ x. reply_rest (reply_seen x)) (λ x. IsReply (reply_seen x)) r h
+reply_begins r h = one_value_begins 2 268435456 reply_at reply_rest IsReply (reply_seen r) h
 
 pub replies_read : (text : List ℕ) (xs ys : List Reply) (l r : Result (List ℕ) FormFault) → ReadsReplies text xs l → ReadsReplies text ys r → (map reply_seen xs ≡ map reply_seen ys) × (l ≡ r)
 replies_read text xs ys l r h k =
-    one_reading_only 2 268435456 reply_at reply_rest IsReply reply_format text (map reply_seen xs) (map reply_seen ys) l r
-    (begins_seen 2 268435456 reply_at reply_seen reply_rest IsReply text xs l h) (begins_seen 2 268435456 reply_at reply_seen reply_rest IsReply text ys r k)
+    one_reading_only 2 268435456 reply_at reply_rest IsReply reply_format text (map reply_seen xs) (map reply_seen ys) l r h k
+
+pub replies_join : (text more left : List ℕ) (xs ys : List Reply) (r : Result (List ℕ) FormFault) → ReadsReplies text xs (Ok left) → ReadsReplies (left ++ more) ys r → ReadsReplies (text ++ more) (xs ++ ys) r
+replies_join text more left xs ys r h k =
+    subst (λ (l : List ReplyValue). Begins 2 268435456 reply_at reply_rest IsReply (text ++ more) l r) (sym (map-append reply_seen xs ys))
+    (pieces_join_up 2 268435456 reply_at reply_rest IsReply text more left (map reply_seen xs) (map reply_seen ys) r h k)
+
+abbrev AddsSeen : List Reply → List Reply → List ℕ → Result (List ℕ) FormFault → Type 0
+AddsSeen before after text left = AddsValues reply_seen (λ (v : ReplyValue). v) 2 268435456 reply_at reply_rest IsReply before after text left
+
+replies_added : (before after : List Reply) (text : List ℕ) (left : Result (List ℕ) FormFault) → AddsSeen before after text left → AddsReplies before after text left
+replies_added before after text left h =
+    let told : h.2.0 ≡ map reply_seen h.0 = sym (same_list h.2.0) ∙ sym h.2.1 in
+    (h.0, h.1, subst (λ (l : List ReplyValue). Begins 2 268435456 reply_at reply_rest IsReply text l left) told h.2.2)
+
+pub replies_fed : (old new : Result (List ℕ) FormFault) (before after : List Reply) (piece : List ℕ) (result : Result (Unit {0}) Refusal) → Feeds AddsSeen old new before after piece result → Feeds AddsReplies old new before after piece result
+replies_fed old new before after piece result h = feeds_so AddsSeen AddsReplies replies_added old new before after piece result h

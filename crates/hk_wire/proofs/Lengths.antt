@@ -14,8 +14,8 @@ use Rattle.hk_types.specs.declared.faults.Refusal.{Refusal}
 use Rattle.hk_wire.specs.Refusals.{refusal_text}
 use Rattle.hk_wire.specs.Replies.{Done, Front as Told, Fragment, Answer, Refused, reply_rest}
 use Rattle.hk_wire.specs.Queries.{query_text}
-use Rattle.hk_log.specs.declared.item.Item.{Item}
-use Rattle.hk_codec.specs.Frames.{encoding_of}
+use Rattle.hk_codec.specs.Encoding.{WrittenItem}
+use Rattle.hk_codec.specs.Frames.{frame_text}
 use Rattle.hk_wire.specs.Requests.{Items, Front as AskFront, Delta, Full, Ask, JoinThis, MergeThis, Prune, request_rest}
 use Rattle.hk_wire.specs.Fragments.{WireStream, WireFragment, mark_text, stream_text, parts_text, fact_text, fragment_text}
 use Rattle.hk_log.specs.Versions.{VersionValue}
@@ -165,6 +165,6 @@ fragment_rest_len f = omega arith
 
 -- ---- items
 
-pub items_rest_len : (items : List Item) → length (request_rest (Items items)) ≡ 6 + length (flat_map encoding_of items)
+pub items_rest_len : (items : List WrittenItem) → length (request_rest (Items items)) ≡ 6 + length (flat_map frame_text items)
 unfolding request_rest
 items_rest_len items = simp (length-append, len32) (omega arith)

@@ -14,3 +14,4 @@ pub mod WrittenFragments
 pub mod OneWireFragment
 pub mod FragmentFits
 pub mod EncodedMessages
+pub mod PlainItems

@@ -11,9 +11,9 @@ use Rattle.hk_model.specs.declared.query.Query.{Query}
 use Rattle.hk_model.specs.declared.query.Query.TheVariants.{Get, Range, ByTag, Count}
 use Rattle.hk_frames.specs.Fields.{IsBytes, ◌>>=◌, number, number_at, bytes_at, list_at}
 use Rattle.hk_frames.specs.Framing.{IsFormat}
-use Rattle.hk_codec.specs.Encoding.{rest_text, IsEncodableItem}
+use Rattle.hk_codec.specs.Encoding.{WrittenItem, rest_text, IsWritten}
 use Rattle.hk_codec.specs.Reading.{item_at}
-use Rattle.hk_codec.specs.Frames.{encoding_of, frame_at}
+use Rattle.hk_codec.specs.Frames.{frame_text, frame_at}
 use Rattle.hk_frames.proofs.ReadingSteps.{IsBytes-drop, bind_ok, ok_is, Takes, both as both_true}
 use Rattle.hk_frames.proofs.Numbers.{guard_ok}
 use Rattle.hk_frames.proofs.OneFrame.{frame_takes, frame_again}
@@ -21,7 +21,7 @@ use Rattle.hk_codec.proofs.ItemFrames.{item_format}
 use Rattle.hk_wire.specs.Readers.{both, fault_where, list_by, time_at, Chained}
 use Rattle.hk_wire.specs.Messages.{message_at}
 use Rattle.hk_wire.specs.Queries.{query_kind, query_fields, query_text, QueryFits, query_of, query_at}
-use Rattle.hk_wire.specs.Requests.{RequestValue, Items, Front, Delta, Full, Ask, JoinThis, MergeThis, Prune, whole_at, frame_taken, item_frame_at, item_count_at, item_frames_at, no_place, items_at, keeps_rules, request_kind, request_body, request_rest, RequestFits, IsRequest, request_of, request_at}
+use Rattle.hk_wire.specs.Requests.{RequestOf, WrittenRequest, Items, Front, Delta, Full, Ask, JoinThis, MergeThis, Prune, whole_at, frame_taken, item_frame_at, item_count_at, no_place, items_at, keeps_rules, request_kind, request_body, request_rest, RequestFits, IsRequest, request_of, request_at}
 use Rattle.hk_wire.specs.Fragments.{WireFragment, fragment_text, fragment_at, FragmentFits, is_counted}
 use Rattle.hk_wire.proofs.FragmentsReadAgain.{fragment_field}
 use Rattle.hk_wire.proofs.ReadersAndEncodings.{IsField, field16, field32, field64, time_field, both_field, barred_field, same_field, listed_field, this_or, made_takes, nothing_takes, made_again, kinded_field, message_format, same_format}
@@ -97,43 +97,37 @@ whole_field =
     (barred_field fragment_at (λ f. not (eqb f.base 0)) BadNumber fragment_text (λ f. FragmentFits f × (is_counted f ≡ true)) fragment_field)
 
 -- item frames
-frame_is : (frame : Option (Item × ℕ)) (bytes : List ℕ) (x : Item × List ℕ) → frame_taken frame bytes ≡ Ok x → (n : ℕ) × (frame ≡ Some (x.0, n)) × (x.1 ≡ drop n bytes)
+frame_is : (frame : Option (WrittenItem × ℕ)) (bytes : List ℕ) (x : WrittenItem × List ℕ) → frame_taken frame bytes ≡ Ok x → (n : ℕ) × (frame ≡ Some (x.0, n)) × (x.1 ≡ drop n bytes)
 unfolding bytes_at
 frame_is None bytes x e = absurd cc
 frame_is (Some frame) bytes x e =
     let a = bind_ok (bytes_at frame.1 bytes) (λ taken. Ok (frame.0, taken.1)) x e in
     let g = guard_ok (ltb (length bytes) frame.1) WrongLength (take frame.1 bytes, drop frame.1 bytes) a.0 a.1 in
     let same = ok_is (frame.0, a.0.1) x a.2 in
-    (frame.1, ap (λ (y : Item × List ℕ). Some (y.0, frame.1)) same, sym (ap (λ (y : Item × List ℕ). y.1) same) ∙ sym (ap (λ (y : List ℕ × List ℕ). y.1) g.1))
+    (frame.1, ap (λ (y : WrittenItem × List ℕ). Some (y.0, frame.1)) same, sym (ap (λ (y : WrittenItem × List ℕ). y.1) same) ∙ sym (ap (λ (y : List ℕ × List ℕ). y.1) g.1))
 
-frame_field : IsField item_frame_at encoding_of IsEncodableItem
+frame_field : IsField item_frame_at frame_text IsWritten
 unfolding item_frame_at bytes_at
 frame_field =
     record {
       takes = λ bytes x fits e.
           let a = bind_ok (frame_at bytes) (λ frame. frame_taken frame bytes) x e in
           let b = frame_is a.0 bytes x a.2 in
-          let f = frame_takes 28 4229152 item_at rest_text IsEncodableItem item_format bytes x.0 b.0 fits (a.1 ∙ ap (λ (o : Option (Item × ℕ)). Ok o) b.1) in
-          (record { parts = f.parts ∙ ap (λ (t : List ℕ). encoding_of x.0 ++ t) (sym b.2); rest_fits = subst IsBytes (sym b.2) (IsBytes-drop b.0 bytes fits) }, f.value);
+          let f = frame_takes 28 4233248 item_at rest_text IsWritten item_format bytes x.0 b.0 fits (a.1 ∙ ap (λ (o : Option (WrittenItem × ℕ)). Ok o) b.1) in
+          (record { parts = f.parts ∙ ap (λ (t : List ℕ). frame_text x.0 ++ t) (sym b.2); rest_fits = subst IsBytes (sym b.2) (IsBytes-drop b.0 bytes fits) }, f.value);
       again = λ x rest h.
-          let long : ltb (length (encoding_of x ++ rest)) (length (encoding_of x)) ≡ false = le-ltb _ _ (omega (arith, length-append (encoding_of x) rest)) in
-          ap (λ (r : Result (Option (Item × ℕ)) FormFault). r >>= λ frame. frame_taken frame (encoding_of x ++ rest)) (frame_again 28 4229152 item_at rest_text IsEncodableItem item_format x rest h)
-          ∙ rw (long, drop_at (encoding_of x) rest (length (encoding_of x)) refl) refl;
+          let long : ltb (length (frame_text x ++ rest)) (length (frame_text x)) ≡ false = le-ltb _ _ (omega (arith, length-append (frame_text x) rest)) in
+          ap (λ (r : Result (Option (WrittenItem × ℕ)) FormFault). r >>= λ frame. frame_taken frame (frame_text x ++ rest)) (frame_again 28 4233248 item_at rest_text IsWritten item_format x rest h)
+          ∙ rw (long, drop_at (frame_text x) rest (length (frame_text x)) refl) refl;
     }
 
-items_chained : (before : Option (Unit {0})) (items : List Item) → AllByRecursion IsEncodableItem items → Chained no_place (λ _. IsEncodableItem) before items
+items_chained : (before : Option (Unit {0})) (items : List WrittenItem) → AllByRecursion IsWritten items → Chained no_place (λ _. IsWritten) before items
 items_chained before [] h = tt
 items_chained before (i ∷ items) h = (h.0, items_chained (Some tt) items h.1)
 
-items_each : (before : Option (Unit {0})) (items : List Item) → Chained no_place (λ _. IsEncodableItem) before items → AllByRecursion IsEncodableItem items
+items_each : (before : Option (Unit {0})) (items : List WrittenItem) → Chained no_place (λ _. IsWritten) before items → AllByRecursion IsWritten items
 items_each before [] h = tt
 items_each before (i ∷ items) h = (h.0, items_each (Some tt) items h.1)
-
--- items don't depend on what stands before them
-pub any_before : (n : ℕ) (bytes : List ℕ) → item_frames_at n None bytes ≡ item_frames_at n (Some tt) bytes
-unfolding list_at
-any_before zero bytes = refl
-any_before (suc n) bytes = refl
 
 count_field : IsField item_count_at (number w32) (λ n. n ≤ 65536)
 unfolding item_count_at
@@ -142,44 +136,44 @@ count_field =
     (λ n h. ltb-false 65536 n h.1) (λ n h. (omega (arith, h), le-ltb 65536 n h))
     (barred_field (number_at w32) (λ n. ltb 65536 n) BadCount (number w32) (λ n. n < 2 ^ 32) field32)
 
-abbrev AreItems : List Item → Type 0
-AreItems items = AllByRecursion IsEncodableItem items × (leb (length items) 65536 ≡ true)
+abbrev AreItems : List WrittenItem → Type 0
+AreItems items = AllByRecursion IsWritten items × (leb (length items) 65536 ≡ true)
 
-abbrev items_text : List Item → List ℕ
-items_text items = number w32 (length items) ++ flat_map encoding_of items
+abbrev items_text : List WrittenItem → List ℕ
+items_text items = number w32 (length items) ++ flat_map frame_text items
 
 items_field : IsField items_at items_text AreItems
 unfolding items_at
 items_field =
-    same_field (list_by item_count_at no_place (λ _. item_frame_at)) items_text (λ items. (length items ≤ 65536) × Chained no_place (λ _. IsEncodableItem) None items) AreItems
+    same_field (list_by item_count_at no_place (λ _. item_frame_at)) items_text (λ items. (length items ≤ 65536) × Chained no_place (λ _. IsWritten) None items) AreItems
     (λ items h. (items_each None items h.1, le-leb _ _ h.0)) (λ items h. (leb-true _ _ h.1, items_chained None items h.0))
-    (listed_field no_place (λ _. item_frame_at) encoding_of (λ _. IsEncodableItem) (λ _. frame_field) item_count_at (λ n. n ≤ 65536) count_field)
+    (listed_field no_place (λ _. item_frame_at) frame_text (λ _. IsWritten) (λ _. frame_field) item_count_at (λ n. n ≤ 65536) count_field)
 
-abbrev delta_of : ℕ → RequestValue
+abbrev delta_of : ℕ → WrittenRequest
 delta_of base = Delta base
 
-abbrev ask_of : ℕ × Query → RequestValue
+abbrev ask_of : ℕ × Query → WrittenRequest
 ask_of p = Ask p.0 p.1
 
-abbrev prune_of : ℕ → RequestValue
+abbrev prune_of : ℕ → WrittenRequest
 prune_of horizon = Prune horizon
 
-abbrev join_of : WireFragment → RequestValue
+abbrev join_of : WireFragment → WrittenRequest
 join_of fragment = JoinThis fragment
 
-abbrev merge_of : WireFragment → RequestValue
+abbrev merge_of : WireFragment → WrittenRequest
 merge_of fragment = MergeThis fragment
 
-abbrev items_of : List Item → RequestValue
+abbrev items_of : List WrittenItem → WrittenRequest
 items_of items = Items items
 
-abbrev Keeps : RequestValue → Type 0
+abbrev Keeps : WrittenRequest → Type 0
 Keeps r = RequestFits r × (keeps_rules r ≡ true)
 
-abbrev IsRequestOf : ℕ → List ℕ → RequestValue × List ℕ → Type 0
+abbrev IsRequestOf : ℕ → List ℕ → WrittenRequest × List ℕ → Type 0
 IsRequestOf k bytes x = (request_kind x.0 ≡ k) × (Takes bytes (request_body x.0) x.1 × Keeps x.0)
 
-request_takes : (k : ℕ) (bytes : List ℕ) (x : RequestValue × List ℕ) → IsBytes bytes → request_of k bytes ≡ Ok x → IsRequestOf k bytes x
+request_takes : (k : ℕ) (bytes : List ℕ) (x : WrittenRequest × List ℕ) → IsBytes bytes → request_of k bytes ≡ Ok x → IsRequestOf k bytes x
 unfolding request_of
 request_takes k bytes x fits e =
     this_or k 16 _ _ x (IsRequestOf k bytes x) e
@@ -200,7 +194,7 @@ request_takes k bytes x fits e =
     (λ is f. made_takes prune_of time_at _ _ time_field request_kind request_body Keeps k (λ a. sym is) (λ a. refl) (λ a h. (h, refl)) bytes x fits f)
     (λ e8. absurd cc))))))))
 
-request_again : (r : RequestValue) (rest : List ℕ) → Keeps r → request_of (request_kind r) (request_body r ++ rest) ≡ Ok (r, rest)
+request_again : (r : WrittenRequest) (rest : List ℕ) → Keeps r → request_of (request_kind r) (request_body r ++ rest) ≡ Ok (r, rest)
 unfolding request_of
 request_again (Items items) rest h = made_again items_of items_at _ _ items_field items rest h
 request_again Front rest h = refl

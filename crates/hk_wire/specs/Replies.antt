@@ -1,11 +1,11 @@
 -- Replies: their encoding and their reading.
-use Rattle.std.specs.Prelude.{◌≡◌, ℕ, ◌^◌, ◌<◌, ◌≤◌, Bool, true, ◌&&◌, ◌||◌, nat_le, nat_lt, ◌==◌, if◌then◌else◌, List, ◌++◌, length, Result, Err, ◌⊎◌, false, [], ◌∷◌, Ok}
+use Rattle.std.specs.Prelude.{◌≡◌, ℕ, ◌^◌, ◌<◌, ◌≤◌, Bool, true, ◌&&◌, ◌||◌, nat_le, nat_lt, ◌==◌, if◌then◌else◌, List, ◌++◌, length, Result, Err, ◌⊎◌, false, [], ◌∷◌, Ok, map}
 use Rattle.std.specs.Int.{w64}
 use Rattle.hk_types.specs.declared.faults.FormFault.{FormFault}
 use Rattle.hk_types.specs.declared.faults.Refusal.TheVariants as refusals
 use Rattle.hk_types.specs.declared.faults.FormFault.TheVariants.{BadKind, BadNumber, TooLong}
 use Rattle.hk_frames.specs.Fields.{number, number_at}
-use Rattle.hk_frames.specs.Framing.{encoded, Begins, AddsValues}
+use Rattle.hk_frames.specs.Framing.{encoded, Begins}
 use Rattle.hk_wire.specs.declared.reply.Reply.{Reply}
 use Rattle.hk_wire.specs.declared.reply.Reply.TheVariants as replied
 use Rattle.hk_types.specs.declared.faults.Refusal.{Refusal}
@@ -105,11 +105,11 @@ reply_at bytes = message_at reply_of bytes
 -- The text begins with the encodings of these replies. After them comes less than a frame, which is left, or
 -- bytes with this fault.
 abbrev pub ReadsReplies : List ℕ → List Reply → Result (List ℕ) FormFault → Type 0
-ReadsReplies text replies left = Begins 2 268435456 reply_at (λ r. reply_rest (reply_seen r)) (λ r. IsReply (reply_seen r)) text replies left
+ReadsReplies text replies left = Begins 2 268435456 reply_at reply_rest IsReply text (map reply_seen replies) left
 
 -- what is added to a list where this text is read so far
 abbrev pub AddsReplies : List Reply → List Reply → List ℕ → Result (List ℕ) FormFault → Type 0
-AddsReplies before after text left = AddsValues 2 268435456 reply_at (λ r. reply_rest (reply_seen r)) (λ r. IsReply (reply_seen r)) before after text left
+AddsReplies before after text left = (replies : List Reply) × (after ≡ before ++ replies) × ReadsReplies text replies left
 
 -- a reply was added at the end, as its encoding
 abbrev pub Encodes : Reply → List ℕ → List ℕ → Type 0

@@ -1,5 +1,5 @@
 -- Requests: their encoding and their reading.
-use Rattle.std.specs.Prelude.{◌≡◌, ℕ, ◌^◌, ◌≤◌, Bool, true, not, ◌&&◌, nat_le, nat_lt, ◌==◌, if◌then◌else◌, List, [], ◌++◌, length, Option, Some, None, Result, Ok, Err, ◌⊎◌, false, ◌∷◌}
+use Rattle.std.specs.Prelude.{◌≡◌, ℕ, ◌^◌, ◌≤◌, Bool, true, not, ◌&&◌, nat_le, nat_lt, ◌==◌, if◌then◌else◌, List, [], ◌++◌, length, map, Option, Some, None, Result, Ok, Err, ◌⊎◌, false, ◌∷◌}
 use Rattle.std.specs.List.{flat_map, AllByRecursion}
 use Rattle.std.specs.Int.{w32, w64}
 use Rattle.hk_types.specs.declared.faults.FormFault.{FormFault}
@@ -8,10 +8,11 @@ use Rattle.hk_types.specs.declared.faults.Refusal.TheVariants as refusals
 use Rattle.hk_types.specs.declared.faults.FormFault.TheVariants.{BadKind, BadNumber, BadCount, WrongLength, TooLong}
 use Rattle.hk_log.specs.declared.item.Item.{Item}
 use Rattle.hk_model.specs.declared.query.Query.{Query}
-use Rattle.hk_frames.specs.Fields.{◌>>=◌, number, number_at, bytes_at, list_at}
-use Rattle.hk_codec.specs.Encoding.{IsEncodableItem}
-use Rattle.hk_codec.specs.Frames.{encoding_of, frame_at}
-use Rattle.hk_frames.specs.Framing.{encoded, Begins, AddsValues}
+use Rattle.hk_frames.specs.Fields.{◌>>=◌, mapped, number, number_at, bytes_at, list_at}
+use Rattle.hk_codec.specs.Encoding.{WrittenItem, IsEncodableItem, IsWritten}
+use Rattle.hk_codec.specs.Reading.{item_at}
+use Rattle.hk_codec.specs.Frames.{frame_text, frame_at}
+use Rattle.hk_frames.specs.Framing.{encoded, framed, BeginsAs, AddsValues}
 use Rattle.hk_wire.specs.declared.request.Request.{Request}
 use Rattle.hk_wire.specs.declared.request.Request.TheVariants as asked
 use Rattle.hk_wire.specs.Readers.{Reader, both, fault_where, mapped_value, nothing, list_by, time_at}
@@ -19,16 +20,47 @@ use Rattle.hk_wire.specs.Messages.{message_text, message_at}
 use Rattle.hk_wire.specs.Fragments.{WireFragment, wire_fragment_of, fragment_text, fragment_at, FragmentFits, is_counted}
 use Rattle.hk_wire.specs.Queries.{query_text, query_at, QueryFits}
 
+-- a request, with items that are told so
+pub data RequestOf (I : Type 0) : Type 0 where
+  Items : List I → RequestOf I
+  Front : RequestOf I
+  Delta : ℕ → RequestOf I
+  Full : RequestOf I
+  Ask : ℕ → Query → RequestOf I
+  JoinThis : WireFragment → RequestOf I
+  MergeThis : WireFragment → RequestOf I
+  Prune : ℕ → RequestOf I
+
 -- the value of a `Request`
-pub data RequestValue : Type 0 where
-  Items : List Item → RequestValue
-  Front : RequestValue
-  Delta : ℕ → RequestValue
-  Full : RequestValue
-  Ask : ℕ → Query → RequestValue
-  JoinThis : WireFragment → RequestValue
-  MergeThis : WireFragment → RequestValue
-  Prune : ℕ → RequestValue
+abbrev pub RequestValue : Type 0
+RequestValue = RequestOf Item
+
+-- a request, and the version that each of its item frames is written in
+abbrev pub WrittenRequest : Type 0
+WrittenRequest = RequestOf WrittenItem
+
+-- the request with something else told of each item
+abbrev pub with_items : {I J : Type 0} → (I → J) → RequestOf I → RequestOf J
+with_items f (Items items) = Items (map f items)
+with_items f Front = Front
+with_items f (Delta base) = Delta base
+with_items f Full = Full
+with_items f (Ask t query) = Ask t query
+with_items f (JoinThis fragment) = JoinThis fragment
+with_items f (MergeThis fragment) = MergeThis fragment
+with_items f (Prune horizon) = Prune horizon
+
+-- the request, without the versions
+abbrev pub request_meant : WrittenRequest → RequestValue
+request_meant r = with_items (λ w. w.item) r
+
+-- these items with frames of version 2
+abbrev pub new_items : List Item → List WrittenItem
+new_items items = map (λ item. record { version = 2; item = item }) items
+
+-- the request with all of its item frames in version 2
+abbrev pub newly_written : RequestValue → WrittenRequest
+newly_written r = with_items (λ item. record { version = 2; item = item }) r
 
 -- the value that a `Request` has
 abbrev pub request_seen : Request → RequestValue
@@ -42,7 +74,7 @@ request_seen (asked.MergeThis fragment) = MergeThis (wire_fragment_of fragment)
 request_seen (asked.Prune horizon) = Prune horizon
 
 -- the kind byte of a request
-abbrev pub request_kind : RequestValue → ℕ
+abbrev pub request_kind : {I : Type 0} → RequestOf I → ℕ
 request_kind (Items items) = 16
 request_kind Front = 17
 request_kind (Delta base) = 18
@@ -53,8 +85,8 @@ request_kind (MergeThis fragment) = 22
 request_kind (Prune horizon) = 23
 
 -- its body
-abbrev pub request_body : RequestValue → List ℕ
-request_body (Items items) = number w32 (length items) ++ flat_map encoding_of items
+abbrev pub request_body : WrittenRequest → List ℕ
+request_body (Items items) = number w32 (length items) ++ flat_map frame_text items
 request_body Front = []
 request_body (Delta base) = number w64 base
 request_body Full = []
@@ -64,15 +96,15 @@ request_body (MergeThis fragment) = fragment_text fragment
 request_body (Prune horizon) = number w64 horizon
 
 -- the rest of its frame
-unfoldable pub request_rest : RequestValue → List ℕ
+unfoldable pub request_rest : WrittenRequest → List ℕ
 request_rest r = message_text (request_kind r) (request_body r)
 
--- its encoding: the length of the rest, and the rest
-abbrev pub request_text : RequestValue → List ℕ
+-- its encoding, with these versions of its item frames: the length of the rest, and the rest
+abbrev pub request_text : WrittenRequest → List ℕ
 request_text r = encoded request_rest r
 
 -- whether a request keeps the rules of its kind
-abbrev pub keeps_rules : RequestValue → Bool
+abbrev pub keeps_rules : {I : Type 0} → RequestOf I → Bool
 keeps_rules (Items items) = nat_le (length items) 65536
 keeps_rules Front = true
 keeps_rules (Delta base) = true
@@ -82,13 +114,13 @@ keeps_rules (JoinThis fragment) = is_counted fragment
 keeps_rules (MergeThis fragment) = (fragment.base == 0) && is_counted fragment
 keeps_rules (Prune horizon) = true
 
--- whether a request has an encoding: it keeps its rules, and its rest has at most 2^28 bytes
-abbrev pub is_encodable : RequestValue → Bool
+-- whether a request has an encoding with these versions of its item frames: it keeps its rules, and its rest has at most 2^28 bytes
+abbrev pub is_encodable : WrittenRequest → Bool
 is_encodable r = keeps_rules r && nat_le (length (request_rest r)) 268435456
 
 -- a request whose numbers fit their fields
-abbrev pub RequestFits : RequestValue → Type 0
-RequestFits (Items items) = AllByRecursion IsEncodableItem items
+abbrev pub RequestFits : WrittenRequest → Type 0
+RequestFits (Items items) = AllByRecursion IsWritten items
 RequestFits Front = Unit {0}
 RequestFits (Delta base) = base ≤ 2 ^ 62
 RequestFits Full = Unit {0}
@@ -98,16 +130,16 @@ RequestFits (MergeThis fragment) = FragmentFits fragment
 RequestFits (Prune horizon) = horizon ≤ 2 ^ 62
 
 -- what has an encoding
-abbrev pub IsRequest : RequestValue → Type 0
+abbrev pub IsRequest : WrittenRequest → Type 0
 IsRequest r = RequestFits r × (is_encodable r ≡ true)
 
 -- a whole item frame, and the bytes after it
-abbrev pub frame_taken : Option (Item × ℕ) → Reader Item
+abbrev pub frame_taken : {I : Type 0} → Option (I × ℕ) → Reader I
 frame_taken None bytes = Err WrongLength
 frame_taken (Some frame) bytes = bytes_at frame.1 bytes >>= λ taken. Ok (frame.0, taken.1)
 
 -- the item frame at the front; one that is not all there is of a wrong length
-unfoldable pub item_frame_at : Reader Item
+unfoldable pub item_frame_at : Reader WrittenItem
 item_frame_at bytes = frame_at bytes >>= λ frame. frame_taken frame bytes
 
 -- a count of items, at most 65,536
@@ -115,23 +147,33 @@ unfoldable pub item_count_at : Reader ℕ
 item_count_at bytes = fault_where (number_at w32) (λ count. nat_lt 65536 count) BadCount bytes
 
 -- items stand in any order
-abbrev pub no_place : Item → Unit {0}
+abbrev pub no_place : {I : Type 0} → I → Unit {0}
 no_place item = tt
 
 -- so many item frames
-abbrev pub item_frames_at : ℕ → Option (Unit {0}) → Reader (List Item)
+abbrev pub item_frames_at : ℕ → Option (Unit {0}) → Reader (List WrittenItem)
 item_frames_at count before bytes = list_at no_place (λ _. item_frame_at) count before bytes
 
 -- the items behind their count
-unfoldable pub items_at : Reader (List Item)
+unfoldable pub items_at : Reader (List WrittenItem)
 items_at bytes = list_by item_count_at no_place (λ _. item_frame_at) bytes
+
+-- the same without the versions: an item frame, so many of them, the items behind their count
+unfoldable pub plain_frame_at : Reader Item
+plain_frame_at bytes = framed 28 4233248 (λ rest. mapped (λ w. w.item) (item_at rest)) bytes >>= λ frame. frame_taken frame bytes
+
+abbrev pub plain_frames_at : ℕ → Option (Unit {0}) → Reader (List Item)
+plain_frames_at count before bytes = list_at no_place (λ _. plain_frame_at) count before bytes
+
+unfoldable pub plain_items_at : Reader (List Item)
+plain_items_at bytes = list_by item_count_at no_place (λ _. plain_frame_at) bytes
 
 -- a fragment of base 0
 unfoldable pub whole_at : Reader WireFragment
 whole_at bytes = fault_where fragment_at (λ fragment. not (fragment.base == 0)) BadNumber bytes
 
 -- the body of a kind
-unfoldable pub request_of : ℕ → Reader RequestValue
+unfoldable pub request_of : ℕ → Reader WrittenRequest
 request_of kind bytes =
     if kind == 16 then mapped_value (λ items. Items items) items_at bytes
     else if kind == 17 then nothing Front bytes
@@ -144,27 +186,38 @@ request_of kind bytes =
     else Err BadKind
 
 -- the request that is all of the rest of a frame
-unfoldable pub request_at : List ℕ → Result RequestValue FormFault
+unfoldable pub request_at : List ℕ → Result WrittenRequest FormFault
 request_at bytes = message_at request_of bytes
 
--- The text begins with the encodings of these requests. After them comes less than a frame, which is left,
--- or bytes with this fault.
+-- the same without the versions of item frames: the body of a kind, the request that is all of the rest
+unfoldable pub plain_request_of : ℕ → Reader RequestValue
+plain_request_of kind bytes = mapped (λ x. (request_meant x.0, x.1)) (request_of kind bytes)
+
+unfoldable pub plain_request_at : List ℕ → Result RequestValue FormFault
+plain_request_at bytes = message_at plain_request_of bytes
+
+-- The text begins with encodings of these requests, each item frame in version 1 or 2. After them comes less than a
+-- frame, which is left, or bytes with this fault.
 abbrev pub ReadsRequests : List ℕ → List Request → Result (List ℕ) FormFault → Type 0
-ReadsRequests text requests left = Begins 2 268435456 request_at (λ r. request_rest (request_seen r)) (λ r. IsRequest (request_seen r)) text requests left
+ReadsRequests text requests left = BeginsAs request_seen request_meant 2 268435456 request_at request_rest IsRequest text requests left
 
 -- what is added to a list where this text is read so far
 abbrev pub AddsRequests : List Request → List Request → List ℕ → Result (List ℕ) FormFault → Type 0
-AddsRequests before after text left = AddsValues 2 268435456 request_at (λ r. request_rest (request_seen r)) (λ r. IsRequest (request_seen r)) before after text left
+AddsRequests before after text left = AddsValues request_seen request_meant 2 268435456 request_at request_rest IsRequest before after text left
 
--- a request was added at the end, as its encoding
+-- the request, with its item frames in version 2, as `encode_request` writes it
+abbrev pub as_written : Request → WrittenRequest
+as_written request = newly_written (request_seen request)
+
+-- a request was added at the end, as its encoding with item frames of version 2
 abbrev pub Encodes : Request → List ℕ → List ℕ → Type 0
-Encodes request before after = (is_encodable (request_seen request) ≡ true) × (after ≡ before ++ request_text (request_seen request))
+Encodes request before after = (is_encodable (as_written request) ≡ true) × (after ≡ before ++ request_text (as_written request))
 
 -- the encoding is read as the request alone
 abbrev pub ReadsBack : Request → Type 0
-ReadsBack request = ReadsRequests (request_text (request_seen request)) (request ∷ []) (Ok [])
+ReadsBack request = ReadsRequests (request_text (as_written request)) (request ∷ []) (Ok [])
 
--- why a request was not added: it has no encoding, or memory ran out
+-- why a request was not added: it has no encoding with item frames of version 2, or memory ran out
 abbrev pub IsRefusedAs : Request → Refusal → Type 0
 IsRefusedAs request why =
-    ((why ≡ refusals.Form TooLong) × (is_encodable (request_seen request) ≡ false)) ⊎ ((why ≡ refusals.Memory) × (is_encodable (request_seen request) ≡ true))
+    ((why ≡ refusals.Form TooLong) × (is_encodable (as_written request) ≡ false)) ⊎ ((why ≡ refusals.Memory) × (is_encodable (as_written request) ≡ true))

@@ -1,4 +1,4 @@
-//! The one encoding of a message.
+//! The encoding of a request.
 
 ghost use Rattle.std.specs.Prelude.{◌≡◌, ◌≤◌, ◌⊎◌, ◌++◌, ℕ, true, false, [], ◌∷◌, Ok, length, take, OnOk, OnErr, IfErr, IfSome, MatchOption};
 ghost use Rattle.std.specs.Int.{w32};
@@ -47,8 +47,8 @@ fn keeps_rules(request: &Request) -> bool
 #[tactic(auto, using(crate::proofs::Lengths::items_rest_len, crate::proofs::Lengths::front_len, crate::proofs::Lengths::delta_len, crate::proofs::Lengths::full_len, crate::proofs::Lengths::ask_len, crate::proofs::Lengths::prune_len, crate::proofs::Lengths::join_this_len, crate::proofs::Lengths::merge_this_len))]
 fn rest_len(request: &Request) -> u64
     requires { requests.keeps_rules (requests.request_seen request.now) ≡ true }
-    ensures len { result ≡ length (requests.request_rest (requests.request_seen request.now)) }
-    ensures fits { requests.RequestFits (requests.request_seen request.now) }
+    ensures len { result ≡ length (requests.request_rest (requests.as_written request.now)) }
+    ensures fits { requests.RequestFits (requests.as_written request.now) }
 {
     match request {
         Request::Items(items) => 6 + items_len(items),
@@ -61,10 +61,11 @@ fn rest_len(request: &Request) -> u64
 }
 
 /// How many bytes the rest of a request's frame has, or `None` where it has no encoding.
+#[tactic(auto, using(crate::proofs::EncodedMessages::keeps_same))]
 fn request_len(request: &Request) -> Option<u32>
-    ensures len { MatchOption result (requests.is_encodable (requests.request_seen request.now) ≡ false) (λ len. (requests.is_encodable (requests.request_seen request.now) ≡ true) × (len ≡ length (requests.request_rest (requests.request_seen request.now)))) }
+    ensures len { MatchOption result (requests.is_encodable (requests.as_written request.now) ≡ false) (λ len. (requests.is_encodable (requests.as_written request.now) ≡ true) × (len ≡ length (requests.request_rest (requests.as_written request.now)))) }
     ensures rules { IfSome result (λ _. requests.keeps_rules (requests.request_seen request.now) ≡ true) }
-    ensures request { IfSome result (λ _. requests.IsRequest (requests.request_seen request.now)) }
+    ensures request { IfSome result (λ _. requests.IsRequest (requests.as_written request.now)) }
 {
     if !keeps_rules(request) {
         return None;
@@ -79,9 +80,9 @@ fn request_len(request: &Request) -> Option<u32>
 /// Adds a request's frame, whose rest has so many bytes.
 #[tactic(auto, using(std::proofs::Common::append_assoc, hk_frames::proofs::Prefix::kept_all, hk_frames::proofs::Prefix::kept_before, hk_frames::proofs::Prefix::kept_both), unfolding(hk_frames::specs::Framing::encoded, crate::specs::Requests::request_rest))]
 fn put_request(out: &mut Vec<u8>, request: &Request, rest: u32) -> Result<(), AllocError>
-    requires len { rest ≡ length (requests.request_rest (requests.request_seen request.now)) }
+    requires len { rest ≡ length (requests.request_rest (requests.as_written request.now)) }
     requires rules { requests.keeps_rules (requests.request_seen request.now) ≡ true }
-    ensures ok { OnOk result (out.new.items ≡ out.old.items ++ requests.request_text (requests.request_seen request.now)) }
+    ensures ok { OnOk result (out.new.items ≡ out.old.items ++ requests.request_text (requests.as_written request.now)) }
     ensures kept { OnErr result (take (length out.old.items) out.new.items ≡ out.old.items) }
 {
     match request {
@@ -115,7 +116,7 @@ fn put_request(out: &mut Vec<u8>, request: &Request, rest: u32) -> Result<(), Al
     }
 }
 
-/// Adds a request's one encoding at the end. A request without an encoding is refused `Form(TooLong)`: more
+/// Adds a request's encoding whose item frames are all of version 2 at the end. A request without that encoding is refused `Form(TooLong)`: more
 /// than 65,536 items, a fragment with more than 2^32 - 1 of a counted thing, a fragment to merge whose base is
 /// not 0, and a rest of more than 2^28 bytes. After that comes `Memory`. On a refusal the output is as before.
 /// Cost: O(n), n bytes of the encoding: the whole frame is reserved at once, so the output grows once at most;
@@ -124,7 +125,7 @@ fn put_request(out: &mut Vec<u8>, request: &Request, rest: u32) -> Result<(), Al
 /// A `RequestFeeder` that is given the encoding alone gives a request of that value, and holds nothing.
 pub fn encode_request(request: &Request, out: &mut Vec<u8>) -> Result<(), Refusal>
     ensures ok { OnOk result (requests.Encodes request.now out.old.items out.new.items) }
-    ensures request { OnOk result (requests.IsRequest (requests.request_seen request.now)) }
+    ensures request { OnOk result (requests.IsRequest (requests.as_written request.now)) }
     ensures reads { OnOk result (requests.ReadsBack request.now) }
     ensures err { OnErr result (out.new.items ≡ out.old.items) }
     ensures why { IfErr result (λ why. requests.IsRefusedAs request.now why) }

@@ -1,11 +1,11 @@
 //! Lists of items as bytes.
 
-ghost use Rattle.std.specs.Prelude.{◌≡◌, ◌≤◌, ◌*◌, ◌++◌, None, All, length, take, OnOk, OnErr};
+ghost use Rattle.std.specs.Prelude.{◌≡◌, ◌≤◌, ◌*◌, ◌++◌, None, length, take, OnOk, OnErr};
 ghost use Rattle.std.specs.Int.{w32};
-ghost use Rattle.std.specs.List.{flat_map};
+ghost use Rattle.std.specs.List.{flat_map, AllByRecursion};
 ghost use Rattle.hk_frames.specs.Fields.{GivesValue, GivesOrRunsOut, number};
-ghost use Rattle.hk_codec.specs.Frames.{encoding_of};
-ghost use Rattle.hk_codec.specs.Encoding.{IsEncodableItem};
+ghost use Rattle.hk_codec.specs.Frames.{frame_text};
+ghost use Rattle.hk_codec.specs.Encoding.{IsWritten};
 ghost use Rattle.hk_wire.specs.Requests as spec;
 
 use hk_codec::{ItemFormat, frame_len, put_frame};
@@ -21,16 +21,16 @@ pub(crate) const MOST_ITEMS: usize = 65_536;
 const LEAST_FRAME_BYTES: usize = 32;
 
 /// Reads an item frame.
-#[tactic(auto, unfolding(crate::specs::Requests::item_frame_at))]
+#[tactic(auto, unfolding(crate::specs::Requests::plain_frame_at))]
 fn read_item_frame(alloc: Global, cursor: &mut Cursor) -> Result<Item, ReadError>
-    ensures { GivesOrRunsOut (λ x. (x, cursor.new)) result (spec.item_frame_at cursor.old) }
+    ensures { GivesOrRunsOut (λ x. (x, cursor.new)) result (spec.plain_frame_at cursor.old) }
 {
     match next_frame::<ItemFormat>(alloc, cursor.rest())? {
         None => Err(ReadError::Fault(FormFault::WrongLength)),
-        Some((item, len)) => {
-            cursor.bytes(len)?;
-            Ok(item)
-        }
+        Some((item, len)) => match cursor.bytes(len) {
+            Ok(_frame) => Ok(item),
+            Err(fault) => Err(ReadError::Fault(fault)),
+        },
     }
 }
 
@@ -48,7 +48,7 @@ fn read_item_count(cursor: &mut Cursor) -> Result<u32, FormFault>
 
 /// Reads so many item frames. No more is reserved for them than what is left can hold.
 fn read_many(alloc: Global, cursor: &mut Cursor, count: u32) -> Result<Vec<Item>, ReadError>
-    ensures { GivesOrRunsOut (λ x. (x.items, cursor.new)) result (spec.item_frames_at count None cursor.old) }
+    ensures { GivesOrRunsOut (λ x. (x.items, cursor.new)) result (spec.plain_frames_at count None cursor.old) }
 {
     let room = (count as usize).min(cursor.len() / LEAST_FRAME_BYTES);
     let mut items = Vec::with_capacity(alloc, room)?;
@@ -60,9 +60,9 @@ fn read_many(alloc: Global, cursor: &mut Cursor, count: u32) -> Result<Vec<Item>
 }
 
 /// Reads the items behind their count.
-#[tactic(auto, unfolding(crate::specs::Requests::items_at))]
+#[tactic(auto, unfolding(crate::specs::Requests::plain_items_at))]
 pub(crate) fn read_items(alloc: Global, cursor: &mut Cursor) -> Result<Vec<Item>, ReadError>
-    ensures { GivesOrRunsOut (λ x. (x.items, cursor.new)) result (spec.items_at cursor.old) }
+    ensures { GivesOrRunsOut (λ x. (x.items, cursor.new)) result (spec.plain_items_at cursor.old) }
 {
     let count = read_item_count(cursor)?;
     read_many(alloc, cursor, count)
@@ -71,9 +71,9 @@ pub(crate) fn read_items(alloc: Global, cursor: &mut Cursor) -> Result<Vec<Item>
 /// How many bytes the items have, without their count.
 pub(crate) fn items_len(items: &[Item]) -> u64
     requires { length items.now ≤ 65536 }
-    ensures len { result ≡ length (flat_map encoding_of items.now) }
-    ensures bound { result ≤ 4229156 * length items.now }
-    ensures fits { All IsEncodableItem items.now }
+    ensures len { result ≡ length (flat_map frame_text (spec.new_items items.now)) }
+    ensures bound { result ≤ 4233252 * length items.now }
+    ensures fits { AllByRecursion IsWritten (spec.new_items items.now) }
 {
     let mut total = 0;
     for item in items {
@@ -86,7 +86,7 @@ pub(crate) fn items_len(items: &[Item]) -> u64
 #[tactic(auto, using(std::proofs::Common::append_assoc, hk_frames::proofs::Prefix::kept_all, hk_frames::proofs::Prefix::kept_before, hk_frames::proofs::Prefix::kept_both))]
 pub(crate) fn put_items(out: &mut Vec<u8>, items: &[Item]) -> Result<(), AllocError>
     requires { length items.now ≤ 65536 }
-    ensures ok { OnOk result (out.new.items ≡ out.old.items ++ (number w32 (length items.now) ++ flat_map encoding_of items.now)) }
+    ensures ok { OnOk result (out.new.items ≡ out.old.items ++ (number w32 (length (spec.new_items items.now)) ++ flat_map frame_text (spec.new_items items.now))) }
     ensures kept { OnErr result (take (length out.old.items) out.new.items ≡ out.old.items) }
 {
     put_u32(out, items.len() as u32)?;

@@ -11,7 +11,8 @@ ghost use Rattle.hk_wire.specs.Replies.{ReplyValue, IsReply, reply_seen, reply_t
 
 use hk_fragment::Fragment;
 
-/// No request has two encodings, no encoding is that of two requests, and none begins another.
+/// No request has two encodings with the same versions of its item frames, no encoding is that of two requests or of
+/// other versions, and none begins another.
 pub fn one_request_encoding()
     ensures { OneEncoding IsRequest request_text }
 {}

@@ -120,7 +120,11 @@ impl Format for ReplyFormat {
 
     ghost Told = { ReplyValue };
 
+    ghost Seen = { ReplyValue };
+
     ghost seen = { reply_seen };
+
+    ghost meant = { λ x. x };
 
     ghost read = { reply_at };
 

@@ -53,9 +53,9 @@ pub(crate) const MERGE_THIS: u8 = 22;
 pub(crate) const PRUNE: u8 = 23;
 
 /// Reads the body of a kind.
-#[tactic(auto, unfolding(crate::specs::Requests::request_of))]
+#[tactic(auto, unfolding(crate::specs::Requests::request_of, crate::specs::Requests::plain_request_of))]
 fn read_body(alloc: Global, cursor: &mut Cursor, kind: u8) -> Result<Request, ReadError>
-    ensures { GivesOrRunsOut (λ x. (spec.request_seen x, cursor.new)) result (spec.request_of kind cursor.old) }
+    ensures { GivesOrRunsOut (λ x. (spec.request_seen x, cursor.new)) result (spec.plain_request_of kind cursor.old) }
 {
     match kind {
         ITEMS => {
@@ -90,9 +90,9 @@ fn read_body(alloc: Global, cursor: &mut Cursor, kind: u8) -> Result<Request, Re
 }
 
 /// The request that is all of the rest.
-#[tactic(auto, unfolding(crate::specs::Requests::request_at, crate::specs::Messages::message_at))]
+#[tactic(auto, unfolding(crate::specs::Requests::plain_request_at, crate::specs::Messages::message_at))]
 fn read_request(alloc: Global, rest: &[u8]) -> Result<Request, ReadError>
-    ensures { GivesOrRunsOut spec.request_seen result (spec.request_at rest.now) }
+    ensures { GivesOrRunsOut spec.request_seen result (spec.plain_request_at rest.now) }
 {
     let mut cursor = Cursor::new(rest);
     let kind = read_head(&mut cursor)?;
@@ -105,7 +105,7 @@ fn read_request(alloc: Global, rest: &[u8]) -> Result<Request, ReadError>
 pub(crate) struct RequestFormat;
 
 impl Format for RequestFormat {
-    ghost use Rattle.hk_wire.specs.Requests.{RequestValue, request_seen, request_at, request_rest, IsRequest};
+    ghost use Rattle.hk_wire.specs.Requests.{RequestValue, WrittenRequest, request_seen, request_meant, request_at, request_rest, IsRequest};
 
     type Value = Request;
 
@@ -113,9 +113,13 @@ impl Format for RequestFormat {
 
     ghost MOST_BYTES = { 268435456 };
 
-    ghost Told = { RequestValue };
+    ghost Told = { WrittenRequest };
+
+    ghost Seen = { RequestValue };
 
     ghost seen = { request_seen };
+
+    ghost meant = { request_meant };
 
     ghost read = { request_at };
 

@@ -2,7 +2,7 @@
 #![tactic(auto)]
 
 use hk_arguments::{Call, read_call};
-use hk_cli::{run_at, run_items, run_push, run_serve, run_world};
+use hk_cli::{run_at, run_items, run_push, run_rewrite, run_serve, run_world};
 use log::warn;
 use std::alloc::Global;
 use std::io;
@@ -41,6 +41,7 @@ where
             key,
         ),
         Call::Items => run_items(rt.alloc(), &mut input, &mut output),
+        Call::Rewrite => run_rewrite(rt.alloc(), &mut input, &mut output),
         Call::World => run_world(rt.alloc(), &mut input, &mut output),
         Call::Serve {
             config,

@@ -1,6 +1,6 @@
-//! The worked frames.
+//! The worked frames, in version 1 where nothing else is said.
 
-use hk_codec::{decode_all, encode};
+use hk_codec::{decode_all, encode, encode_old, rewrite};
 use hk_log::Item;
 use hk_tests_values::{entry, mark};
 use std::alloc::Global;
@@ -47,25 +47,62 @@ fn stream(alloc: Global) -> Result<Vec<u8>, Fail> {
     Ok(bytes)
 }
 
+/// E1 in version 2: no group of ends, and one group of rows, of table 1.
+const NEW_E1: [u8; 55] = [
+    0, 0, 0, 0x33, 2, 1, 0, 0, 0, 0, 0, 0, 0, 7, 0, 1, 0, 0, 0, 0, 0, 0, 0, 1, 0, 0, 0, 0, 0, 0, 0,
+    1, 0, 0, 0, 1, 0, 1, 0, 1, 0, 0, 0, 0, 0, 0, 0, 5, 0, 0, 0, 9, 0, 1, 0x41,
+];
+
+/// How E2 begins in version 2.
+const NEW_E2: [u8; 6] = [0, 0, 0, 0x47, 2, 1];
+
 #[test]
 fn encodes_and_reads_the_worked_frames(rt: HostRuntime) -> Result<(), Fail> {
+    let alloc = rt.alloc();
+    let mut bytes = Vec::new(alloc);
+    encode_old(
+        &entry(alloc, 7, (1, 1, 1), (None, Some((5, &[0x41]))))?,
+        &mut bytes,
+    )?;
+    assert_eq!(rt; bytes.as_slice(), E1.as_slice());
+    encode_old(&mark(1, 1, 1)?, &mut bytes)?;
+    assert_eq!(rt; bytes.len(), 85);
+    assert_eq!(rt; &bytes[53..], MARK_1.as_slice());
+    let mut bytes = Vec::new(alloc);
+    for item in &worked(alloc)? {
+        encode_old(item, &mut bytes)?;
+    }
+    assert_eq!(rt; bytes.as_slice(), stream(alloc)?.as_slice());
+    assert!(rt; decode_all(&rt, alloc, &bytes)? == worked(alloc)?);
+    assert!(rt; decode_all(&rt, alloc, &[])?.is_empty());
+    Ok(())
+}
+
+#[test]
+fn encodes_and_rewrites_in_version_2(rt: HostRuntime) -> Result<(), Fail> {
     let alloc = rt.alloc();
     let mut bytes = Vec::new(alloc);
     encode(
         &entry(alloc, 7, (1, 1, 1), (None, Some((5, &[0x41]))))?,
         &mut bytes,
     )?;
-    assert_eq!(rt; bytes.as_slice(), E1.as_slice());
-    encode(&mark(1, 1, 1)?, &mut bytes)?;
-    assert_eq!(rt; bytes.len(), 85);
-    assert_eq!(rt; &bytes[53..], MARK_1.as_slice());
-    let mut bytes = Vec::new(alloc);
+    assert_eq!(rt; bytes.as_slice(), NEW_E1.as_slice());
+    let mut old = Vec::from_slice(alloc, &E1)?;
+    old.extend_from_slice(&MARK_1)?;
+    let mut new = Vec::new(alloc);
+    rewrite(alloc, &old, &mut new)?;
+    assert_eq!(rt; new.len(), 87);
+    assert_eq!(rt; &new[..55], NEW_E1.as_slice());
+    assert_eq!(rt; &new[60..], &MARK_1[5..]);
+    let mut worked_anew = Vec::new(alloc);
     for item in &worked(alloc)? {
-        encode(item, &mut bytes)?;
+        encode(item, &mut worked_anew)?;
     }
-    assert_eq!(rt; bytes.as_slice(), stream(alloc)?.as_slice());
-    assert!(rt; decode_all(&rt, alloc, &bytes)? == worked(alloc)?);
-    assert!(rt; decode_all(&rt, alloc, &[])?.is_empty());
+    assert_eq!(rt; &worked_anew[..6], NEW_E2.as_slice());
+    assert!(rt; decode_all(&rt, alloc, &worked_anew)? == worked(alloc)?);
+    old.pop();
+    assert!(rt; rewrite(alloc, &old, &mut new).is_err());
+    assert_eq!(rt; new.len(), 87);
     Ok(())
 }
 
@@ -77,7 +114,7 @@ const FALLING_KEYS: [u8; 70] = [
 ];
 
 /// A length above the greatest, and one below the least.
-const TOO_LONG: [u8; 4] = [0, 0x40, 0x88, 0x21];
+const TOO_LONG: [u8; 4] = [0, 0x40, 0x98, 0x21];
 
 const TOO_SHORT: [u8; 4] = [0, 0, 0, 0x1b];
 

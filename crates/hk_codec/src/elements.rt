@@ -1,0 +1,201 @@
+//! What ends and rows have in common: the elements of an entry's lists, which version 2 writes in groups.
+
+ghost use Rattle.std.specs.Prelude.{◌≡◌, ◌≤◌, ◌++◌, length, take, OnOk, OnErr};
+ghost use Rattle.hk_codec.specs.Encoding as spec;
+
+use crate::lists::{Before, read_keyed_end, read_keyed_row};
+use hk_frames::{Cursor, ReadError, put_body, put_u32, put_u64};
+use hk_types::{FormFault, Key, Row, Table, Time, VersionKey};
+use std::alloc::{AllocError, Global};
+
+/// A kind of element. Each stands at a place, its table and key; the table stands before a group of them.
+pub(crate) trait Elements {
+    ghost use Rattle.std.specs.Prelude.{◌≡◌, ◌≤◌, ◌++◌, ℕ, List, Option, Result, length, take, OnOk, OnErr};
+    ghost use Rattle.hk_types.specs.declared.faults.FormFault.{FormFault};
+    ghost use Rattle.hk_frames.specs.Fields.{GivesOrRunsOut};
+
+    /// An element.
+    type Value: Drop;
+
+    /// Its place.
+    ghost place: { Self.Value → ℕ × ℕ };
+
+    /// The bytes of an element beside its table.
+    ghost text: { Self.Value → List ℕ };
+
+    /// What an element is whose parts fit their fields.
+    ghost Fits: { Self.Value → Type 0 };
+
+    /// What the bytes tell, in an entry of this time, of an element of this table after the place before it.
+    ghost read: { ℕ → ℕ → Option (ℕ × ℕ) → List ℕ → Result (Self.Value × List ℕ) FormFault };
+
+    /// The table and the key.
+    fn place_of(element: &Self::Value) -> (Table, Key)
+        ensures { result ≡ place element.now };
+
+    /// How many bytes an element has beside its table.
+    fn len_of(element: &Self::Value) -> u32
+        ensures len { result ≡ length (text element.now) }
+        ensures most { result ≤ 4110 }
+        ensures fits { Fits element.now };
+
+    /// Adds an element without its table.
+    fn put(out: &mut Vec<u8>, element: &Self::Value) -> Result<(), AllocError>
+        ensures ok { OnOk result (out.new.items ≡ out.old.items ++ text element.now) }
+        ensures kept { OnErr result (take (length out.old.items) out.new.items ≡ out.old.items) };
+
+    /// Reads an element of a table.
+    fn read_one(
+        alloc: Global,
+        cursor: &mut Cursor,
+        time: Time,
+        table: Table,
+        before: Before,
+    ) -> Result<Self::Value, ReadError>
+        ensures { GivesOrRunsOut (λ x. (x, cursor.new)) result (read time table before cursor.old) };
+
+    /// Passes so many elements over.
+    fn skip(cursor: &mut Cursor, count: u16) -> Result<(), FormFault>;
+}
+
+/// Adds an end without its table.
+#[tactic(auto, using(std::proofs::Common::append_assoc, hk_frames::proofs::Prefix::kept_all, hk_frames::proofs::Prefix::kept_before), unfolding(crate::specs::Encoding::keyed_end_text))]
+pub(crate) fn put_keyed_end(out: &mut Vec<u8>, end: &VersionKey) -> Result<(), AllocError>
+    ensures ok { OnOk result (out.new.items ≡ out.old.items ++ spec.keyed_end_text end.now) }
+    ensures kept { OnErr result (take (length out.old.items) out.new.items ≡ out.old.items) }
+{
+    put_u64(out, end.key.number())?;
+    put_u64(out, end.born.number())
+}
+
+/// Adds a row without its table.
+#[tactic(auto, using(std::proofs::Common::append_assoc, hk_frames::proofs::Prefix::kept_all, hk_frames::proofs::Prefix::kept_before, hk_frames::proofs::Prefix::kept_both), unfolding(crate::specs::Encoding::keyed_row_text))]
+pub(crate) fn put_keyed_row(out: &mut Vec<u8>, row: &(Table, Key, Row)) -> Result<(), AllocError>
+    ensures ok { OnOk result (out.new.items ≡ out.old.items ++ spec.keyed_row_text row.now) }
+    ensures kept { OnErr result (take (length out.old.items) out.new.items ≡ out.old.items) }
+{
+    put_u64(out, row.1.number())?;
+    put_u32(out, row.2.tag().number())?;
+    put_body(out, row.2.body())
+}
+
+/// How many bytes an end has beside its table. Its numbers are read for what their types say of them.
+#[tactic(auto, using(crate::proofs::Lengths::keyed_end_len))]
+pub(crate) fn keyed_end_len(end: &VersionKey) -> u32
+    ensures len { result ≡ length (spec.keyed_end_text end.now) }
+    ensures most { result ≤ 4110 }
+    ensures fits { spec.EndFits end.now }
+{
+    let _table = end.table.number();
+    let _key = end.key.number();
+    16
+}
+
+/// How many bytes a row has beside its table. Its numbers are read for what their types say of them.
+#[tactic(auto, using(crate::proofs::Lengths::keyed_row_len))]
+pub(crate) fn keyed_row_len(row: &(Table, Key, Row)) -> u32
+    ensures len { result ≡ length (spec.keyed_row_text row.now) }
+    ensures most { result ≤ 4110 }
+    ensures fits { spec.RowFits row.now }
+{
+    let _table = row.0.number();
+    let _key = row.1.number();
+    let _tag = row.2.tag().number();
+    14 + row.2.body().len() as u32
+}
+
+/// The ends of an entry: the versions that it ended.
+pub(crate) struct Ends;
+
+impl Elements for Ends {
+    ghost use Rattle.hk_log.specs.Items.{end_place};
+    ghost use Rattle.hk_codec.specs.Encoding.{keyed_end_text, EndFits};
+    ghost use Rattle.hk_codec.specs.Reading.{keyed_end_at};
+
+    type Value = VersionKey;
+
+    ghost place = { end_place };
+
+    ghost text = { keyed_end_text };
+
+    ghost Fits = { EndFits };
+
+    ghost read = { keyed_end_at };
+
+    fn place_of(end: &VersionKey) -> (Table, Key) {
+        (end.table, end.key)
+    }
+
+    fn len_of(end: &VersionKey) -> u32 {
+        keyed_end_len(end)
+    }
+
+    fn put(out: &mut Vec<u8>, end: &VersionKey) -> Result<(), AllocError> {
+        put_keyed_end(out, end)
+    }
+
+    fn read_one(
+        _alloc: Global,
+        cursor: &mut Cursor,
+        time: Time,
+        table: Table,
+        before: Before,
+    ) -> Result<VersionKey, ReadError> {
+        Ok(read_keyed_end(cursor, time, table, before)?)
+    }
+
+    fn skip(cursor: &mut Cursor, count: u16) -> Result<(), FormFault> {
+        cursor.bytes(16 * count as usize)?;
+        Ok(())
+    }
+}
+
+/// The rows of an entry: those that it put in.
+pub(crate) struct Rows;
+
+impl Elements for Rows {
+    ghost use Rattle.hk_log.specs.Items.{row_place};
+    ghost use Rattle.hk_codec.specs.Encoding.{keyed_row_text, RowFits};
+    ghost use Rattle.hk_codec.specs.Reading.{keyed_row_at};
+
+    type Value = (Table, Key, Row);
+
+    ghost place = { row_place };
+
+    ghost text = { keyed_row_text };
+
+    ghost Fits = { RowFits };
+
+    ghost read = { λ time. keyed_row_at };
+
+    fn place_of(row: &(Table, Key, Row)) -> (Table, Key) {
+        (row.0, row.1)
+    }
+
+    fn len_of(row: &(Table, Key, Row)) -> u32 {
+        keyed_row_len(row)
+    }
+
+    fn put(out: &mut Vec<u8>, row: &(Table, Key, Row)) -> Result<(), AllocError> {
+        put_keyed_row(out, row)
+    }
+
+    fn read_one(
+        alloc: Global,
+        cursor: &mut Cursor,
+        _time: Time,
+        table: Table,
+        before: Before,
+    ) -> Result<(Table, Key, Row), ReadError> {
+        read_keyed_row(alloc, cursor, table, before)
+    }
+
+    fn skip(cursor: &mut Cursor, count: u16) -> Result<(), FormFault> {
+        for _ in 0..count {
+            cursor.bytes(12)?;
+            let len = cursor.u16()?;
+            cursor.bytes(len as usize)?;
+        }
+        Ok(())
+    }
+}

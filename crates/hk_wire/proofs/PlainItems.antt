@@ -1,0 +1,109 @@
+-- Items and requests that are read for what is seen of them alone.
+use Rattle.std.proofs.Common.{◌≡◌, ℕ, zero, suc, Bool, true, false, ltb, List, [], ◌∷◌, length, map, Option, Some, None, Result, Ok, Err, refl, sym, ap, ◌∙◌}
+use Rattle.hk_types.specs.declared.faults.FormFault.{FormFault}
+use Rattle.hk_types.specs.declared.faults.FormFault.TheVariants.{WrongLength}
+use Rattle.hk_log.specs.declared.item.Item.{Item}
+use Rattle.hk_frames.specs.Fields.{◌>>=◌, mapped, check, bytes_at, list_at, Fails}
+use Rattle.hk_frames.specs.declared.cursor.ReadError.{ReadError}
+use Rattle.hk_frames.specs.declared.cursor.ReadError.TheVariants.{Memory, Fault}
+use Rattle.hk_frames.specs.Framing.{framed}
+use Rattle.hk_frames.proofs.OneFrame.{frame_seen, framed_seen}
+use Rattle.hk_codec.specs.Encoding.{WrittenItem}
+use Rattle.hk_codec.specs.Reading.{item_at}
+use Rattle.hk_codec.specs.Frames.{frame_at}
+use Rattle.hk_wire.specs.Readers.{Reader}
+use Rattle.hk_wire.specs.Messages.{head_at, message_at}
+use Rattle.hk_wire.specs.Requests.{WrittenRequest, RequestValue, Items, request_meant, frame_taken, item_frame_at, item_count_at, no_place, items_at, plain_frame_at, plain_items_at, request_of, request_at, plain_request_of, plain_request_at}
+
+abbrev item_of : WrittenItem → Item
+item_of w = w.item
+
+-- what is read, seen so, and the bytes after it
+abbrev pub seen_of : {A B : Type 0} → (A → B) → A × List ℕ → B × List ℕ
+seen_of f x = (f x.0, x.1)
+
+taken_plain : (bytes : List ℕ) (r : Result (Option (WrittenItem × ℕ)) FormFault) → (mapped (frame_seen item_of) r >>= λ frame. frame_taken frame bytes) ≡ mapped (seen_of item_of) (r >>= λ frame. frame_taken frame bytes)
+taken_plain bytes (Err f) = refl
+taken_plain bytes (Ok None) = refl
+taken_plain bytes (Ok (Some frame)) = by (bytes_at frame.1 bytes)
+  where
+    by : (t : Result (List ℕ × List ℕ) FormFault) → (t >>= λ taken. Ok (frame.0.item, taken.1)) ≡ mapped (seen_of item_of) (t >>= λ taken. Ok (frame.0, taken.1))
+    by (Ok x) = refl
+    by (Err f) = refl
+
+pub frame_plain : (bytes : List ℕ) → plain_frame_at bytes ≡ mapped (seen_of item_of) (item_frame_at bytes)
+unfolding plain_frame_at item_frame_at
+frame_plain bytes =
+    ap (λ (r : Result (Option (Item × ℕ)) FormFault). r >>= λ frame. frame_taken frame bytes) (framed_seen item_of 28 4233248 item_at bytes)
+    ∙ taken_plain bytes (frame_at bytes)
+
+-- a frame whose bytes can't be passed over
+pub frame_fails : (bytes : List ℕ) (frame : Option (Item × ℕ)) (i : Item) (n : ℕ) (f : FormFault) → framed 28 4233248 (λ rest. mapped item_of (item_at rest)) bytes ≡ Ok frame → frame ≡ Some (i, n) → bytes_at n bytes ≡ Err f → plain_frame_at bytes ≡ Err f
+unfolding plain_frame_at
+frame_fails bytes frame i n f e s h =
+    ap (λ (r : Result (Option (Item × ℕ)) FormFault). r >>= λ o. frame_taken o bytes) e
+    ∙ ap (λ (o : Option (Item × ℕ)). frame_taken o bytes) s
+    ∙ ap (λ (t : Result (List ℕ × List ℕ) FormFault). t >>= λ taken. Ok (i, taken.1)) h
+
+more_plain : (r : Result (WrittenItem × List ℕ) FormFault) (others : List ℕ → Result (List WrittenItem × List ℕ) FormFault) (plain : List ℕ → Result (List Item × List ℕ) FormFault) → ((bytes : List ℕ) → plain bytes ≡ mapped (seen_of (map item_of)) (others bytes))
+    → (mapped (seen_of item_of) r >>= λ first. plain first.1 >>= λ rest. Ok (first.0 ∷ rest.0, rest.1)) ≡ mapped (seen_of (map item_of)) (r >>= λ first. others first.1 >>= λ rest. Ok (first.0 ∷ rest.0, rest.1))
+more_plain (Err f) others plain same = refl
+more_plain (Ok first) others plain same = ap (λ (t : Result (List Item × List ℕ) FormFault). t >>= λ rest. Ok (first.0.item ∷ rest.0, rest.1)) (same first.1) ∙ by (others first.1)
+  where
+    by : (t : Result (List WrittenItem × List ℕ) FormFault) → (mapped (seen_of (map item_of)) t >>= λ rest. Ok (first.0.item ∷ rest.0, rest.1)) ≡ mapped (seen_of (map item_of)) (t >>= λ rest. Ok (first.0 ∷ rest.0, rest.1))
+    by (Ok x) = refl
+    by (Err f) = refl
+
+list_plain : (n : ℕ) (before : Option (Unit {0})) (bytes : List ℕ) → list_at no_place (λ _. plain_frame_at) n before bytes ≡ mapped (seen_of (map item_of)) (list_at no_place (λ _. item_frame_at) n before bytes)
+unfolding list_at
+list_plain zero before bytes = refl
+list_plain (suc n) before bytes =
+    ap (λ (r : Result (Item × List ℕ) FormFault). r >>= λ first. list_at no_place (λ _. plain_frame_at) n (Some tt) first.1 >>= λ rest. Ok (first.0 ∷ rest.0, rest.1)) (frame_plain bytes)
+    ∙ more_plain (item_frame_at bytes) (λ b. list_at no_place (λ _. item_frame_at) n (Some tt) b) (λ b. list_at no_place (λ _. plain_frame_at) n (Some tt) b) (list_plain n (Some tt))
+
+pub items_plain : (bytes : List ℕ) → plain_items_at bytes ≡ mapped (seen_of (map item_of)) (items_at bytes)
+unfolding plain_items_at items_at
+items_plain bytes = by (item_count_at bytes)
+  where
+    by : (r : Result (ℕ × List ℕ) FormFault) → (r >>= λ count. list_at no_place (λ _. plain_frame_at) count.0 None count.1) ≡ mapped (seen_of (map item_of)) (r >>= λ count. list_at no_place (λ _. item_frame_at) count.0 None count.1)
+    by (Ok count) = list_plain count.0 None count.1
+    by (Err f) = refl
+
+-- items don't depend on what stands before them
+pub any_plain_before : (n : ℕ) (bytes : List ℕ) → list_at no_place (λ _. plain_frame_at) n None bytes ≡ list_at no_place (λ _. plain_frame_at) n (Some tt) bytes
+unfolding list_at
+any_plain_before zero bytes = refl
+any_plain_before (suc n) bytes = refl
+
+-- ---- requests
+
+end_plain : (b : Bool) (x : WrittenRequest) → (check b WrongLength >>= λ _. Ok (request_meant x)) ≡ mapped request_meant (check b WrongLength >>= λ _. Ok x)
+end_plain true x = refl
+end_plain false x = refl
+
+body_plain : (r : Result (WrittenRequest × List ℕ) FormFault) → (mapped (seen_of request_meant) r >>= λ body. check (ltb 0 (length body.1)) WrongLength >>= λ _. Ok body.0) ≡ mapped request_meant (r >>= λ body. check (ltb 0 (length body.1)) WrongLength >>= λ _. Ok body.0)
+body_plain (Ok x) = end_plain (ltb 0 (length x.1)) x.0
+body_plain (Err f) = refl
+
+items_body_seen : (r : Result (List WrittenItem × List ℕ) FormFault) → mapped (seen_of request_meant) (r >>= λ a. Ok (Items a.0, a.1)) ≡ (mapped (seen_of (map item_of)) r >>= λ a. Ok (Items a.0, a.1))
+items_body_seen (Ok a) = refl
+items_body_seen (Err f) = refl
+
+items_body : (bytes : List ℕ) → plain_request_of 16 bytes ≡ (plain_items_at bytes >>= λ a. Ok (Items a.0, a.1))
+unfolding plain_request_of request_of
+items_body bytes = items_body_seen (items_at bytes) ∙ ap (λ (r : Result (List Item × List ℕ) FormFault). r >>= λ a. Ok (Items a.0, a.1)) (sym (items_plain bytes))
+
+pub items_body_ok : (bytes : List ℕ) (items : List Item) (after : List ℕ) → plain_items_at bytes ≡ Ok (items, after) → plain_request_of 16 bytes ≡ Ok (Items items, after)
+items_body_ok bytes items after e = items_body bytes ∙ ap (λ (r : Result (List Item × List ℕ) FormFault). r >>= λ a. Ok (Items a.0, a.1)) e
+
+pub items_body_fails : (bytes : List ℕ) (e : ReadError) → Fails e (plain_items_at bytes) → Fails e (plain_request_of 16 bytes)
+items_body_fails bytes Memory h = tt
+items_body_fails bytes (Fault f) h = items_body bytes ∙ ap (λ (r : Result (List Item × List ℕ) FormFault). r >>= λ a. Ok (Items a.0, a.1)) h
+
+pub request_plain : (bytes : List ℕ) → plain_request_at bytes ≡ mapped request_meant (request_at bytes)
+unfolding plain_request_at plain_request_of request_at message_at
+request_plain bytes = by (head_at bytes)
+  where
+    by : (r : Result (ℕ × List ℕ) FormFault) → (r >>= λ kind. mapped (seen_of request_meant) (request_of kind.0 kind.1) >>= λ body. check (ltb 0 (length body.1)) WrongLength >>= λ _. Ok body.0) ≡ mapped request_meant (r >>= λ kind. request_of kind.0 kind.1 >>= λ body. check (ltb 0 (length body.1)) WrongLength >>= λ _. Ok body.0)
+    by (Ok kind) = body_plain (request_of kind.0 kind.1)
+    by (Err f) = refl
