@@ -34,24 +34,24 @@ each_weaker P Q weaker (x ∷ xs) h = All-cons Q x xs (weaker x h.0) (each_weake
 
 -- ---- the frames that were read so far
 
-pub record SoFar {X Y T : Type 0} (seen : X → Y) (meant : T → Y) (rest_text : T → List ℕ) (IsTold : T → Type 0) (text : List ℕ) (before after : List X) (used : ℕ) : Type 0 where
+pub record SoFar {X Y T : Type 0} (seen : X → Y) (meant : T → Y) (rest_text : T → List ℕ) (HasText : T → Type 0) (text : List ℕ) (before after : List X) (used : ℕ) : Type 0 where
   pub fits : used ≤ length text
   pub values : List X
   pub added : after ≡ before ++ values
   pub told : List T
   pub same : map seen values ≡ map meant told
   pub whole : text ≡ flat_map (encoded rest_text) told ++ drop used text
-  pub each : AllByRecursion IsTold told
+  pub each : AllByRecursion HasText told
 
-pub at_start : {X Y T : Type 0} (seen : X → Y) (meant : T → Y) (rest_text : T → List ℕ) (IsTold : T → Type 0) (text : List ℕ) (before : List X) → SoFar seen meant rest_text IsTold text before before 0
-at_start seen meant rest_text IsTold text before = record { fits = omega arith; values = []; added = sym (append-nil before); told = []; same = refl; whole = refl; each = tt }
+pub at_start : {X Y T : Type 0} (seen : X → Y) (meant : T → Y) (rest_text : T → List ℕ) (HasText : T → Type 0) (text : List ℕ) (before : List X) → SoFar seen meant rest_text HasText text before before 0
+at_start seen meant rest_text HasText text before = record { fits = omega arith; values = []; added = sym (append-nil before); told = []; same = refl; whole = refl; each = tt }
 
-pub kept : {X Y T : Type 0} (seen : X → Y) (meant : T → Y) (rest_text : T → List ℕ) (IsTold : T → Type 0) (text : List ℕ) (before after : List X) (used : ℕ) → SoFar seen meant rest_text IsTold text before after used → take (length before) after ≡ before
-kept {X = X} seen meant rest_text IsTold text before after used s = ap (λ (t : List X). take (length before) t) s.added ∙ take-append_seam before s.values
+pub kept : {X Y T : Type 0} (seen : X → Y) (meant : T → Y) (rest_text : T → List ℕ) (HasText : T → Type 0) (text : List ℕ) (before after : List X) (used : ℕ) → SoFar seen meant rest_text HasText text before after used → take (length before) after ≡ before
+kept {X = X} seen meant rest_text HasText text before after used s = ap (λ (t : List X). take (length before) t) s.added ∙ take-append_seam before s.values
 
 -- one frame more
-pub record OneMore {X Y T : Type 0} (seen : X → Y) (meant : T → Y) (rest_text : T → List ℕ) (IsTold : T → Type 0) (text : List ℕ) (before after : List X) (used n : ℕ) : Type 0 where
-  pub so_far : SoFar seen meant rest_text IsTold text before after (used + n)
+pub record OneMore {X Y T : Type 0} (seen : X → Y) (meant : T → Y) (rest_text : T → List ℕ) (HasText : T → Type 0) (text : List ℕ) (before after : List X) (used n : ℕ) : Type 0 where
+  pub so_far : SoFar seen meant rest_text HasText text before after (used + n)
   pub least : 4 ≤ n
 
 one_more_same : {X Y T : Type 0} (seen : X → Y) (meant : T → Y) (xs : List X) (ts : List T) (x : X) (t : T) → map seen xs ≡ map meant ts → seen x ≡ meant t → map seen (xs ++ x ∷ []) ≡ map meant (ts ++ t ∷ [])

@@ -53,13 +53,13 @@ Begins least most read rest_text IsValue text values (Err fault) = (left : List 
 -- The same of values that are seen as what the encodings tell: `seen` is what is seen of a value, and `meant` what is
 -- seen of what an encoding tells, which may be one of several of the value.
 abbrev pub BeginsAs : {X Y T : Type 0} → (X → Y) → (T → Y) → ℕ → ℕ → (List ℕ → Result T FormFault) → (T → List ℕ) → (T → Type 0) → List ℕ → List X → Result (List ℕ) FormFault → Type 0
-BeginsAs {X} {Y} {T} seen meant least most read rest_text IsTold text values left =
-    (told : List T) × (map seen values ≡ map meant told) × Begins least most read rest_text IsTold text told left
+BeginsAs {X} {Y} {T} seen meant least most read rest_text HasText text values left =
+    (told : List T) × (map seen values ≡ map meant told) × Begins least most read rest_text HasText text told left
 
 -- what is added to a list of values where this text is read so far
 abbrev pub AddsValues : {X Y T : Type 0} → (X → Y) → (T → Y) → ℕ → ℕ → (List ℕ → Result T FormFault) → (T → List ℕ) → (T → Type 0) → List X → List X → List ℕ → Result (List ℕ) FormFault → Type 0
-AddsValues {X} seen meant least most read rest_text IsTold before after text left =
-    (values : List X) × (after ≡ before ++ values) × BeginsAs seen meant least most read rest_text IsTold text values left
+AddsValues {X} seen meant least most read rest_text HasText before after text left =
+    (values : List X) × (after ≡ before ++ values) × BeginsAs seen meant least most read rest_text HasText text values left
 
 -- reading and encoding of a rest undo each other, and the rest of each value is in its limits
 pub record IsFormat {X : Type 0} (least most : ℕ) (read : List ℕ → Result X FormFault) (rest_text : X → List ℕ) (IsValue : X → Type 0) : Type 0 where

@@ -50,7 +50,8 @@ impl FrameFeeder {
     pub fn feed<F: Format>(&mut self, piece: &[u8], out: &mut Vec<F::Value>) -> Result<(), Refusal>
         requires { IsFormat F.LEAST_BYTES F.MOST_BYTES F.read F.rest_text F.IsEncodable }
         // What is held and the piece begin with the encodings of the added values. What follows them is held.
-        ensures reads { Feeds (AddsValues F.seen F.meant F.LEAST_BYTES F.MOST_BYTES F.read F.rest_text F.IsEncodable)
+        ensures reads { Feeds
+            (AddsValues F.seen F.meant F.LEAST_BYTES F.MOST_BYTES F.read F.rest_text F.IsEncodable)
             self.old self.new out.old.items out.new.items piece.now result }
         // A fault stays.
         ensures fault { KeepsFault self.old self.new out.old.items out.new.items result }

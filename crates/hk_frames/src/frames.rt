@@ -82,7 +82,8 @@ pub fn take_frames<F: Format>(
     requires { IsFormat F.LEAST_BYTES F.MOST_BYTES F.read F.rest_text F.IsEncodable }
     ensures used { IfOk result (λ p. p.used ≤ length bytes.now) }
     ensures read { IfOk result (λ p. AddsValues F.seen F.meant F.LEAST_BYTES F.MOST_BYTES F.read
-        F.rest_text F.IsEncodable out.old.items out.new.items bytes.now (rest_of (drop p.used bytes.now) p.fault)) }
+        F.rest_text F.IsEncodable out.old.items out.new.items bytes.now
+        (rest_of (drop p.used bytes.now) p.fault)) }
     ensures kept { OnErr result (take (length out.old.items) out.new.items ≡ out.old.items) }
 {
     let mut used = 0;
