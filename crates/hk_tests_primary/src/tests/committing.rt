@@ -2,7 +2,7 @@
 
 use super::{Outcome, Write, commit, transaction};
 use hk_primary::Primary;
-use hk_tests_values::time;
+use hk_tests_values::{stream, time};
 use hk_types::{Config, LAST_TIME};
 use std::alloc::Global;
 use std::test::Fail;
@@ -43,6 +43,17 @@ fn the_last_time_is_given_out_once(rt: HostRuntime) -> Result<(), Fail> {
         (0, 1, &[(5, 0x41)], (30, 5, LAST_TIME), 1),
     ];
     assert!(rt; plays(&rt, &mut primary, &calls)?);
+    // its mark is at the last time of all, so it retires the stream
+    let mark = primary.mark(stream(1)?)?;
+    let calls: [Call<'_>; 2] = [
+        (0, 1, &[(6, 0x41)], (36, 0, 0), 2),
+        (0, 2, &[(6, 0x41)], (35, 0, 0), 2),
+    ];
+    assert!(rt; plays(&rt, &mut primary, &calls)?);
+    assert_eq!(rt;
+        (mark.m().number(), primary.readable().number()),
+        (LAST_TIME, LAST_TIME)
+    );
     Ok(())
 }
 
