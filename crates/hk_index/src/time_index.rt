@@ -87,8 +87,8 @@ impl TimeIndex {
     ///
     /// The only refusal is `Memory`; then nothing is changed. Cost: O(log n), n versions in the set.
     pub fn add(&mut self, time: Time, version: VersionKey) -> Result<(), Refusal>
-        ensures ok { OnOk result
-            (self.new ≡ set.insert self.old (record { time = time; version = version })) }
+        ensures ok { OnOk result (self.new
+            ≡ set.insert self.old (record { time = time; version = version })) }
         ensures err { IfErr result (λ why. why ≡ Memory) }
         ensures kept { OnErr result (self.new ≡ self.old) }
     {
