@@ -89,6 +89,8 @@ def guarded(check):
 E1 = say.entry(1, 1, [(1, 5, 9, b"\x41")])
 E2 = say.entry(2, 2, [(1, 5, 9, b"\x42")], [(1, 5, 1)])
 E3 = say.entry(3, 3, [(1, 6, 9, b"\x43")])
+NEW_E1 = say.new_entry(1, 1, [(1, 5, 9, b"\x41")])
+NEW_WORKED = say.items(NEW_E1, say.mark(1, 1, 1, version=2)) + say.ask(1, say.get(1, 5))
 WORKED = say.items(E1, say.mark(1, 1, 1)) + say.ask(1, say.get(1, 5))
 WHOLE_1 = {"streams": [(1, 1, [], [])], "facts": [(1, 5, 1, (9, b"\x41"), None)]}
 
@@ -103,6 +105,11 @@ def worked_bytes():
         link.send(WORKED)
         link.half_close()
         report("items and an ask, in bytes", differ([("asked", WORKED, wanted), ("told", link.read_all(), told), ("ends", node.ends(), ([0], 0, 0))]))
+    for name, worked in (("version 2", NEW_WORKED), ("both versions", say.items(NEW_E1, say.mark(1, 1, 1)) + say.ask(1, say.get(1, 5)))):
+        with Node(1) as node, node.link() as link:
+            link.send(worked)
+            link.half_close()
+            report(f"items of {name} and an ask", differ([("told", link.read_all(), told), ("ends", node.ends(), ([0], 0, 0))]))
 
 
 def all_requests():
@@ -202,6 +209,8 @@ def faults_of_requests():
     got = say.message(20, [("time", say.u64(1))] + say.get(1, 5))
     one = say.fields_of_entry(2, 2, [(1, 5, 9, b"a"), (1, 7, 9, b"b")], [(1, 5, 1), (1, 7, 1)])
     inside = lambda name, text, which=0: say.items(patched(one, name, text, which))
+    two = say.fields_of_new_entry(2, 2, [(1, 5, 9, b"a"), (1, 7, 9, b"b"), (2, 1, 9, b"c")], [(1, 5, 1), (1, 7, 1), (2, 1, 1)])
+    within = lambda name, text, which=0: say.items(E1, patched(two, name, text, which))
     return [
         ("length above the limit", say.u32(2 ** 28 + 1), 2), ("length below the least", say.u32(1), 10), ("no length", say.u32(0), 10),
         ("version", patched(got, "version", b"\2"), 3), ("version before kind", say.framed(b"\2\xff"), 3),
@@ -215,10 +224,10 @@ def faults_of_requests():
         ("query that is cut", say.spelled(got[:-1] + [("key", b"\0" * 7)]), 10),
         ("count of items", say.framed(b"\1\x10" + say.u32(65537)), 8), ("items that are not there", say.framed(b"\1\x10" + say.u32(1)), 10),
         ("items and a byte", say.spelled(say.fields_of_items([E1]) + [("more", b"\0")]), 10),
-        ("item's length above its limit", say.framed(b"\1\x10" + say.u32(1) + say.u32(4229153)), 2),
+        ("item's length above its limit", say.framed(b"\1\x10" + say.u32(1) + say.u32(4233249)), 2),
         ("item's length below the least", say.framed(b"\1\x10" + say.u32(1) + say.u32(27)), 10),
         ("item that does not fit", say.framed(b"\1\x10" + say.u32(1) + E1[:-1]), 10),
-        ("item's version", inside("version", b"\2"), 3), ("item's kind", inside("kind", b"\3"), 4),
+        ("item's version", inside("version", b"\3"), 3), ("item's kind", inside("kind", b"\3"), 4),
         ("item's stream", inside("stream", say.u16(0)), 5), ("item's stream above 64", inside("stream", say.u16(65)), 5),
         ("item's number", inside("number", say.u64(0)), 6), ("item's number above its time", inside("number", say.u64(3)), 6),
         ("item's time", inside("time", OVER), 6), ("count of ends", inside("count of ends", say.u16(1025)), 8),
@@ -226,6 +235,11 @@ def faults_of_requests():
         ("born at the time", inside("born", say.u64(2)), 6), ("count of rows", inside("count of rows", say.u16(1025)), 8),
         ("order of rows", inside("key", say.u64(5), 3), 7), ("item's body", inside("body length", say.u16(4097)), 9),
         ("mark's n above its m", say.items(say.mark(1, 2, 1)), 6),
+        ("groups of ends", within("groups of ends", say.u16(1025)), 8), ("order of tables of ends", within("table of ends", say.u16(1), 1), 7),
+        ("a group without ends", within("count of ends", say.u16(0)), 8), ("order of ends in a group", within("key", say.u64(5), 1), 7),
+        ("born in a group", within("born", say.u64(2)), 6), ("groups of rows", within("groups of rows", say.u16(1025)), 8),
+        ("order of tables of rows", within("table of rows", say.u16(1), 1), 7), ("a group without rows", within("count of rows", say.u16(0), 1), 8),
+        ("order of rows in a group", within("key", say.u64(5), 4), 7), ("a body in a group", within("body length", say.u16(4097)), 9),
         ("no streams", patched(joined, "streams", say.u16(0)), 5), ("streams", patched(joined, "streams", say.u16(65)), 5),
         ("base", patched(joined, "base", OVER), 6), ("base below the horizon", patched(pruned, "base", say.u64(2)), 6),
         ("base of a merge", patched(merged, "base", say.u64(1)), 6), ("horizon above closed", patched(joined, "horizon", say.u64(3)), 6),

@@ -230,7 +230,7 @@ def runs(kind, make, cases, seed):
 def random_request(source):
     time_ = source.choice([0, 1, 2, 3, 5, 9, 2 ** 62])
     number, key = source.randint(1, 6), source.randint(1, 4)
-    frames = [say.entry(n, n + source.choice([0, 0, 1]), [(1, key, 9, bytes([n]))], [(1, key, n - 1)] if n > 1 else [])
+    frames = [source.choice([say.entry, say.new_entry])(n, n + source.choice([0, 0, 1]), [(1, key, 9, bytes([n]))], [(1, key, n - 1)] if n > 1 else [])
               for n in range(number, number + 3)]
     fragment = {"base": source.choice([0, 0, 0, 1, 3]), "horizon": source.choice([0, 0, 1]),
                 "streams": [(source.choice([0, 1, 3]), source.choice([0, 1, 3]), source.choice([(), (6, 8)]), source.choice([(), ((7, 9),)]))],

@@ -44,8 +44,34 @@ def fields_of_entry(number, time, rows=(), ends=(), stream=1, log=7):
     return fields
 
 
-def fields_of_mark(stream, n, m, log=7):
-    return [("version", u8(1)), ("kind", u8(2)), ("log", u64(log)), ("stream", u16(stream)), ("n", u64(n)), ("m", u64(m))]
+def groups_of(elements):
+    """Elements, each a table and the fields beside it, in the longest runs of one table."""
+    groups = []
+    for table, fields in elements:
+        if not groups or groups[-1][0] != table:
+            groups.append((table, []))
+        groups[-1][1].append(fields)
+    return groups
+
+
+def fields_of_groups(name, elements):
+    groups = groups_of(elements)
+    fields = [("groups of " + name, u16(len(groups)))]
+    for table, group in groups:
+        fields += [("table of " + name, u16(table)), ("count of " + name, u16(len(group)))] + [field for it in group for field in it]
+    return fields
+
+
+def fields_of_new_entry(number, time, rows=(), ends=(), stream=1, log=7):
+    """The same in version 2."""
+    fields = [("version", u8(2)), ("kind", u8(1)), ("log", u64(log)), ("stream", u16(stream)), ("number", u64(number)), ("time", u64(time))]
+    fields += fields_of_groups("ends", [(table, [("key", u64(key)), ("born", u64(born))]) for table, key, born in ends])
+    return fields + fields_of_groups("rows", [(table, [("key", u64(key)), ("tag", u32(tag))] + fields_of_body(body))
+                                              for table, key, tag, body in rows])
+
+
+def fields_of_mark(stream, n, m, log=7, version=1):
+    return [("version", u8(version)), ("kind", u8(2)), ("log", u64(log)), ("stream", u16(stream)), ("n", u64(n)), ("m", u64(m))]
 
 
 def spelled(fields):
@@ -54,6 +80,10 @@ def spelled(fields):
 
 def entry(*args, **more):
     return spelled(fields_of_entry(*args, **more))
+
+
+def new_entry(*args, **more):
+    return spelled(fields_of_new_entry(*args, **more))
 
 
 def mark(*args, **more):

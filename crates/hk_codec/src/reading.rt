@@ -173,11 +173,7 @@ fn read_head(cursor: &mut Cursor) -> Result<Head, FormFault>
 }
 
 #[tactic(auto, unfolding(crate::specs::Reading::entry_at))]
-fn read_entry(
-    alloc: Global,
-    cursor: &mut Cursor,
-    head: Head,
-) -> Result<Entry, ReadError>
+fn read_entry(alloc: Global, cursor: &mut Cursor, head: Head) -> Result<Entry, ReadError>
     requires bytes { IsBytes cursor.old }
     requires version { (head.version ≡ 1) ⊎ (head.version ≡ 2) }
     ensures { GivesOrRunsOut (λ x. (x, cursor.new)) result (spec.entry_at head.version head.log head.stream cursor.old) }
@@ -186,14 +182,7 @@ fn read_entry(
     let ends = read_version_ends(alloc, cursor, head.version, time)?;
     let rows = read_version_rows(alloc, cursor, head.version, time, ends.len())?;
     let _in_range = head.stream.number();
-    Ok(Entry::of_parts(
-        head.log,
-        head.stream,
-        number,
-        time,
-        ends,
-        rows,
-    ))
+    Ok(Entry::of_parts(head.log, head.stream, number, time, ends, rows))
 }
 
 /// Reads what stands behind the head.
