@@ -1,7 +1,7 @@
 //! Many frames, read by several threads.
 
 use super::item;
-use hk_codec::{Feeder, decode_all, encode};
+use hk_codec::{Feeder, decode_all, encode, encode_old};
 use hk_log::Item;
 use hk_types::Refusal;
 use std::alloc::Global;
@@ -27,12 +27,16 @@ fn told(read: &Result<Vec<Item>, Refusal>) -> u8 {
     }
 }
 
-/// An entry of 71 bytes, a mark of 32, an entry, a mark and so on.
+/// An entry of 71 bytes in version 1, a mark of 32 in version 2, an entry, a mark and so on.
 fn frames(alloc: Global) -> Result<Vec<u8>, Fail> {
     let (entry, mark) = (item(alloc, 3)?, item(alloc, 6)?);
     let mut bytes = Vec::new(alloc);
     for number in 0..FRAMES {
-        encode(if number % 2 == 0 { &entry } else { &mark }, &mut bytes)?;
+        if number % 2 == 0 {
+            encode_old(&entry, &mut bytes)?;
+        } else {
+            encode(&mark, &mut bytes)?;
+        }
     }
     Ok(bytes)
 }
