@@ -100,7 +100,7 @@ class Ran:
         with Page(waits, left, stays) as page:
             ran = subprocess.run([PROGRAM, *args], input=data, stdout=subprocess.PIPE, stderr=subprocess.DEVNULL, timeout=LIMIT,
                                  env=page.environment(step), check=False)
-            self.out, self.status = ran.stdout.decode(), ran.returncode
+            self.out, self.status = ran.stdout.decode("latin-1"), ran.returncode
             self.count, self.refused, self.greatest = page.get("count"), page.get("refused"), page.get("greatest")
 
 
@@ -119,6 +119,7 @@ E2 = say.entry(2, 2, [(1, 5, 9, b"\x42")], [(1, 5, 1)])
 E3 = say.entry(3, 3, [(1, 6, 9, b"\x43")])
 FRAMES = E1 + E3 + say.mark(1, 3, 3) + E2
 LINES = "".join(f"{it.line()}\n" for it in reference.items_of(FRAMES)[0])
+NEW_FRAMES = b"".join(reference.frame(it, 2) for it in reference.items_of(FRAMES)[0]).decode("latin-1")
 
 
 def commands():
@@ -126,7 +127,7 @@ def commands():
     script = (ROOT / "examples" / "world" / "three_replicas.script").read_text(encoding="utf-8")
     lines, _ = reference.played(script)
     words = ["at", "--log", "7", "--streams", "1", "3", "1", "5"]
-    return [(words, FRAMES, "9 42\n"), (["items"], FRAMES, LINES), (["world"], script.encode(), "".join(f"{it}\n" for it in lines))]
+    return [(words, FRAMES, "9 42\n"), (["items"], FRAMES, LINES), (["rewrite"], FRAMES, NEW_FRAMES), (["world"], script.encode(), "".join(f"{it}\n" for it in lines))]
 
 
 # The lines that a script prints where some of its commands are refused.
@@ -135,9 +136,10 @@ LINE = re.compile(r"begun 1 at \d|ok|committed (none|\d)|mark stream \d n \d m \
 
 
 def problem_of_run(args, data, whole, **how):
-    """Nothing, or what is wrong with a run that meets a refusal. A script goes on behind a command that is refused."""
+    """Nothing, or what is wrong with a run that meets a refusal. A script goes on behind a command that is refused, and frames
+    are written all or none."""
     ran = Ran(args, data, **how)
-    told = is_front_of_lines(ran.out, whole) or (args == ["world"] and ran.out.endswith("\n") and all(map(LINE.fullmatch, ran.out.splitlines())))
+    told = ran.out in (whole, "refused 90\n", "") if args == ["rewrite"] else is_front_of_lines(ran.out, whole) or (args == ["world"] and ran.out.endswith("\n") and all(map(LINE.fullmatch, ran.out.splitlines())))
     is_right = ran.status in (0, 1, 2) and told and ran.refused > 0 and (ran.status != 0 or ran.out == whole)
     return None if is_right else f"{how}: status {ran.status}, {ran.refused} refused, printed {ran.out[-200:]!r}"
 
