@@ -120,7 +120,7 @@ def mutated_frames(source, frames):
 
 def ran(words, data):
     it = subprocess.run([PROGRAM, *words], input=data, stdout=subprocess.PIPE, stderr=subprocess.DEVNULL, timeout=LIMIT, check=False)
-    return it.stdout.decode(), it.returncode
+    return it.stdout.decode("latin-1"), it.returncode
 
 
 def told(lines, status):
@@ -129,7 +129,10 @@ def told(lines, status):
 
 def of_items(source):
     data = mutated_frames(source, compare.Frames.random(source).parts)
-    return [(["items"], data, told(*reference.printed(data)))]
+    items, fault = reference.items_of(data)
+    new = b"".join(reference.frame(it, 2) for it in items).decode("latin-1")
+    return [(["items"], data, told(*reference.printed(data))),
+            (["rewrite"], data, (f"refused {fault}\n", 1) if fault else (new, 0))]
 
 
 def of_at(source):
@@ -139,7 +142,7 @@ def of_at(source):
     return [(["at", "--log", str(log), "--streams", str(streams), *map(str, more)], data, told(*reference.asked(data, *case.question)))]
 
 
-WORDS = ["begin", "put", "remove", "commit", "mark", "absorb", "batch", "prune", "merge", "delta", "ask", "front", "world", "get", "range", "tag",
+WORDS = ["begin", "put", "remove", "commit", "mark", "retire", "absorb", "batch", "prune", "merge", "delta", "ask", "front", "world", "get", "range", "tag",
          "count", "-", "41", "0", "1", "00", "16", "17", "64", "65", "x", "", "18446744073709551615", "18446744073709551616", "4611686018427387904",
          "4611686018427387905", "4294967296", "65536", "1 1", "\t", "\r"]
 
@@ -172,7 +175,7 @@ def of_world(source):
     return [(["world"], text.encode("latin-1"), told(*reference.played(text)))]
 
 
-LINES = [["at", "--log", "7", "--streams", "1", "1", "1", "5"], ["items"], ["world"], ["--help"], ["--version"], ["push", "--port", "1"],
+LINES = [["at", "--log", "7", "--streams", "1", "1", "1", "5"], ["items"], ["rewrite"], ["world"], ["--help"], ["--version"], ["push", "--port", "1"],
          ["serve", "--log", "7", "--streams", "1", "--port", "0", "--links", "1"], ["help", "at"], ["at", "--help"]]
 
 
