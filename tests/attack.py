@@ -16,6 +16,7 @@ import time
 
 sys.dont_write_bytecode = True
 import messages as say
+from checks import ended, is_built, report
 from client import free_port
 
 ROOT = pathlib.Path(__file__).resolve().parent.parent
@@ -29,16 +30,6 @@ MOST_GROWTH = 2.0
 
 # What a run takes that reads nothing, and what is too little to be measured.
 LEAST_SECONDS = 0.1
-
-passed = 0
-failed = 0
-
-
-def report(name, problems, told=""):
-    global passed, failed
-    passed, failed = passed + (not problems), failed + bool(problems)
-    print(f"FAILED {name}: {told}" if problems else f"ok {name}: {told}", *problems, sep="\n  ", flush=True)
-
 
 def processor_seconds(child):
     """What an ended child took."""
@@ -285,10 +276,8 @@ OPEN = (open_counts, open_waiting, open_chains)
 
 def main(words):
     start = time.monotonic()
-    if not pathlib.Path(PROGRAM).exists():
-        print(f"FAILED {PROGRAM} is not built")
-        print("0 passed, 1 failed")
-        return 1
+    if not is_built(pathlib.Path(PROGRAM)):
+        return ended()
     checks = OPEN if words == ["open"] else [it for it in (*GATE, *OPEN) if it.__name__ in words] if words else GATE
     for check in checks:
         try:
@@ -296,8 +285,7 @@ def main(words):
         except Exception as error:  # pylint: disable=broad-except
             report(check.__name__, [f"{type(error).__name__}: {error}"])
     print(f"attack: {time.monotonic() - start:.1f} s")
-    print(f"{passed} passed, {failed} failed")
-    return 1 if failed else 0
+    return ended()
 
 
 if __name__ == "__main__":

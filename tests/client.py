@@ -15,31 +15,11 @@ import threading
 import time
 
 import messages as say
+from checks import differ, ended, report
 
 ROOT = pathlib.Path(__file__).resolve().parent.parent
 PROGRAM = str(ROOT / "bin" / "hkrep")
 LIMIT = 30
-
-passed = 0
-failed = 0
-
-
-def report(name, problems):
-    global passed, failed
-    if problems:
-        failed += 1
-        print(f"FAILED {name}")
-        for problem in problems[:5]:
-            print(f"  {str(problem)[:300]}")
-    else:
-        passed += 1
-        print(f"ok {name}", flush=True)
-
-
-def differ(pairs):
-    """A problem for each (what, got, wanted) where the last two differ."""
-    return [f"{what}: {got!r}, wanted {wanted!r}" for what, got, wanted in pairs if got != wanted]
-
 
 def free_port():
     with socket.socket() as it:
@@ -574,8 +554,7 @@ def main():
         if not wanted or check.__name__ in wanted:
             guarded(check)
     print(f"links: {time.monotonic() - start:.1f} s")
-    print(f"{passed} passed, {failed} failed")
-    return 1 if failed else 0
+    return ended()
 
 
 if __name__ == "__main__":

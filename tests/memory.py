@@ -22,6 +22,7 @@ import time
 
 sys.dont_write_bytecode = True
 import messages as say
+from checks import ended, is_built, report
 import reference
 
 ROOT = pathlib.Path(__file__).resolve().parent.parent
@@ -31,22 +32,6 @@ FIELDS = ("waits", "left", "stays", "count", "refused", "greatest")
 
 FOLDER = tempfile.TemporaryDirectory()
 POOL = concurrent.futures.ThreadPoolExecutor(max_workers=2 * (os.cpu_count() or 1))
-
-passed = 0
-failed = 0
-
-
-def report(name, problems):
-    global passed, failed
-    if problems:
-        failed += 1
-        print(f"FAILED {name}")
-        for problem in problems[:5]:
-            print(f"  {str(problem)[:400]}")
-    else:
-        passed += 1
-        print(f"ok {name}", flush=True)
-
 
 def library(name):
     """A library of tests/faults, built once."""
@@ -628,10 +613,8 @@ def false_counts():
 
 def main(words):
     start = time.monotonic()
-    if not pathlib.Path(PROGRAM).exists():
-        print(f"FAILED {PROGRAM} is not built")
-        print("0 passed, 1 failed")
-        return 1
+    if not is_built(pathlib.Path(PROGRAM)):
+        return ended()
     for check in (every_request, every_start, every_push, refused_commands, refused_requests, refused_in_tests, false_counts):
         if not words or check.__name__ in words:
             began = time.monotonic()
@@ -641,8 +624,7 @@ def main(words):
                 report(check.__name__, [f"{type(error).__name__}: {error}"])
             print(f"{check.__name__}: {time.monotonic() - began:.1f} s")
     print(f"memory: {time.monotonic() - start:.1f} s")
-    print(f"{passed} passed, {failed} failed")
-    return 1 if failed else 0
+    return ended()
 
 
 if __name__ == "__main__":

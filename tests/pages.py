@@ -7,22 +7,11 @@ import socket
 import subprocess
 import sys
 
+from checks import ended, is_built, report
+
 ROOT = pathlib.Path(__file__).resolve().parent.parent
 PROGRAM = ROOT / "bin" / "hkrep"
 README = (ROOT / "README.md").read_text()
-passed, failed = 0, 0
-
-
-def report(name, problems):
-    global passed, failed
-    if problems:
-        failed += 1
-        print(f"FAILED {name}: {problems[0]}")
-    else:
-        passed += 1
-        print(f"ok {name}")
-
-
 def sources():
     return [*(ROOT / "crates").glob("use_*/src/main.rt"), *(ROOT / "examples").glob("links/*.py")]
 
@@ -80,10 +69,11 @@ def links():
 
 
 def main():
+    if not is_built(PROGRAM):
+        return ended()
     for check in (listings, picture, calling, commands, asked_node, links):
         check()
-    print(f"{passed} passed, {failed} failed")
-    return 1 if failed else 0
+    return ended()
 
 
 if __name__ == "__main__":

@@ -11,6 +11,8 @@ import sys
 import tempfile
 import time
 
+from checks import ended, is_built, report
+
 ROOT = pathlib.Path(__file__).resolve().parent.parent
 PROGRAM = ROOT / "bin" / "hkrep"
 
@@ -86,22 +88,6 @@ def grouped(number, time, ends, rows, stream=1, log=7):
 
 def at(time, table, key, log="7", streams="1"):
     return ["at", "--log", log, "--streams", streams, str(time), str(table), str(key)]
-
-
-passed = 0
-failed = 0
-
-
-def report(name, problems):
-    global passed, failed
-    if problems:
-        failed += 1
-        print(f"FAILED {name}")
-        for problem in problems:
-            print(f"  {problem}")
-    else:
-        passed += 1
-        print(f"ok {name}")
 
 
 def run(args, data=b"", **more):
@@ -623,14 +609,11 @@ def links_example():
 
 
 def main():
-    if not PROGRAM.exists():
-        print(f"FAILED {PROGRAM} is not built")
-        print("0 passed, 1 failed")
-        return 1
+    if not is_built(PROGRAM):
+        return ended()
     for group_of_checks in (worked_rows, new_worked_rows, bytes_of_all_kinds, faults_of_frames, faults_of_new_frames, rewriting, pieces, deliveries, generated_histories, refusals, world_scripts, bad_scripts, long_scripts, command_lines, failing_devices, failing_reads_and_writes, links_example):
         group_of_checks()
-    print(f"{passed} passed, {failed} failed")
-    return 1 if failed else 0
+    return ended()
 
 
 if __name__ == "__main__":

@@ -1,0 +1,33 @@
+"""What a script of checks says: a line for each check, and at the end 'N passed, M failed'. Standard library only."""
+
+passed, failed = 0, 0
+
+
+def report(name, problems, told=""):
+    """Says that a check passed, or what is wrong, and what it was told, if anything."""
+    global passed, failed
+    name = f"{name}: {told}" if told else name
+    if problems:
+        failed += 1
+        print(f"FAILED {name}", *[f"  {str(problem)[:400]}" for problem in problems[:5]], sep="\n", flush=True)
+    else:
+        passed += 1
+        print(f"ok {name}", flush=True)
+
+
+def differ(pairs):
+    """A problem for each (what, got, wanted) where the last two differ."""
+    return [f"{what}: {got!r}, wanted {wanted!r}" for what, got, wanted in pairs if got != wanted]
+
+
+def is_built(program):
+    """Whether the program is there; where it isn't, that is a check that failed."""
+    if not program.exists():
+        report("the program", [f"{program} is not built"])
+    return program.exists()
+
+
+def ended():
+    """Says how many checks passed and failed, and gives the status."""
+    print(f"{passed} passed, {failed} failed")
+    return 1 if failed else 0
