@@ -1,11 +1,10 @@
 -- A chain whose first version stands apart is the chain of all of them.
-use Rattle.std.proofs.Common.{◌≡◌, refl, sym, ap, ◌∙◌, subst, ℕ, ◌<◌, ◌≤◌, Bool, true, false, cond, not, true≢false, ◌&&◌, ◌==◌, nat_le, nat_lt, nat_cmp, Option, Some, None, Result, Ok, Err, OnOk, OnErr, option_map, ◌⊎◌, inl, inr, arith}
+use Rattle.std.proofs.Common.{◌≡◌, refl, sym, ap, ◌∙◌, subst, ℕ, ◌≤◌, Bool, true, false, cond, not, true≢false, ◌&&◌, ◌==◌, nat_le, nat_lt, nat_cmp, Option, Some, None, Result, Ok, Err, OnOk, OnErr, option_map, ◌⊎◌, inl, inr, arith}
 use Rattle.std.proofs.lemmas.Bool.Decides.{nat_tests}
 use Rattle.std.specs.Option.{is_some}
 use Rattle.std.specs.Cmp.{nat_cmp_total}
 use Rattle.std.specs.Ordering.{eq_by_cmp}
 use Rattle.std.specs.FinMap as finmap
-use Rattle.std.specs.FinMap.{find}
 use Rattle.hk_types.specs.declared.faults.Refusal.{Refusal}
 use Rattle.hk_types.specs.declared.faults.Refusal.TheVariants.{Memory}
 use Rattle.hk_log.specs.Versions.{VersionValue}
@@ -18,7 +17,7 @@ use Rattle.hk_facts.specs.Facts.{put_result, without, died_of}
 use Rattle.hk_facts.specs.Chains.{ChainValue, set_at, put_at, chain_put, chain_forget, chain_until, latest_at, last_where}
 use Rattle.hk_facts.specs.FirstOfChain.{FirstValue, with_first, IsApart, first_at, born_then, first_put, first_without, first_until, first_latest, later_of, is_later}
 use Rattle.hk_facts.proofs.StoredTrees.{tied_self, tied_same, get-set_at, same_at_all}
-use Rattle.hk_facts.proofs.LatestVersion.{none_passes, last_passes, IsLast}
+use Rattle.hk_facts.proofs.LatestVersion.{none_passes, last_passes}
 
 abbrev tied : ℕ → ℕ → Bool
 tied q k = eq_by_cmp nat_cmp q k
@@ -266,7 +265,7 @@ forget_others o m born part none = sym (set_others o m born (without part (finma
 
 -- ---- versions that ended
 
-until_at : (c : ChainValue) (h q : ℕ) → finmap.get (chain_until c h) q ≡ cond (not (at_most h (died_of (finmap.get c q)))) (finmap.get c q) None
+pub until_at : (c : ChainValue) (h q : ℕ) → finmap.get (chain_until c h) q ≡ cond (not (at_most h (died_of (finmap.get c q)))) (finmap.get c q) None
 until_at c h q = get-retain nat_cmp_total finmap.nat_cmp-IsAntisymmetric c (λ born. not (at_most h (died_of (finmap.get c born)))) q
 
 pub until_first : (o : FirstValue) (m : ChainValue) (h : ℕ) → IsApart o m → with_first (first_until h o) (chain_until m h) ≡ chain_until (with_first o m) h
@@ -325,11 +324,11 @@ module _ (t : ℕ) where
   shows e = nat_le e.0 t && is_some e.1.row
 
   -- what the latest is, in the words of look-ups
-  abbrev IsLatest : ChainValue → Option (ℕ × VersionValue) → Type 0
+  abbrev pub IsLatest : ChainValue → Option (ℕ × VersionValue) → Type 0
   IsLatest c None = (b : ℕ) (w : VersionValue) → finmap.get c b ≡ Some w → shows (b, w) ≡ true → ⊥
   IsLatest c (Some e) = (finmap.get c e.0 ≡ Some e.1) × ((shows e ≡ true) × ((b : ℕ) (w : VersionValue) → finmap.get c b ≡ Some w → shows (b, w) ≡ true → b ≤ e.0))
 
-  is_latest : (c : ChainValue) → IsLatest c (latest_at c t)
+  pub is_latest : (c : ChainValue) → IsLatest c (latest_at c t)
   is_latest c = by (latest_at c t) refl
     where
       by : (o : Option (ℕ × VersionValue)) → last_where shows (finmap.entries c) ≡ o → IsLatest c o
@@ -338,7 +337,7 @@ module _ (t : ℕ) where
           let l = last_passes shows (finmap.entries c) f (finmap.entries_sorted c) e in
           (finmap.get-entries c f.0 ∙ l.found, (l.passes, λ b w g p. l.last b w (sym (finmap.get-entries c b) ∙ g) p))
 
-  one_latest : (c : ChainValue) (x y : Option (ℕ × VersionValue)) → IsLatest c x → IsLatest c y → x ≡ y
+  pub one_latest : (c : ChainValue) (x y : Option (ℕ × VersionValue)) → IsLatest c x → IsLatest c y → x ≡ y
   one_latest c None None p q = refl
   one_latest c None (Some f) p q = absurd (p f.0 f.1 q.0 q.1.0)
   one_latest c (Some e) None p q = absurd (q e.0 e.1 p.0 p.1.0)
@@ -409,7 +408,7 @@ module _ (t : ℕ) where
   pub latest_with : (o : FirstValue) (m : ChainValue) → IsApart o m → later_of (first_latest t o) (latest_at m t) ≡ latest_at (with_first o m) t
   latest_with o m apart = one_latest (with_first o m) _ _ (combined o m apart (latest_at m t) (is_latest m)) (is_latest (with_first o m))
 
-  wins : (x y : Option (ℕ × VersionValue)) → later_of x y ≡ cond (is_later x y) x y
+  pub wins : (x y : Option (ℕ × VersionValue)) → later_of x y ≡ cond (is_later x y) x y
   wins None y = refl
   wins (Some e) None = refl
   wins (Some e) (Some f) = by (nat_lt e.0 f.0) (nat_le f.0 e.0) (turned e.0 f.0)

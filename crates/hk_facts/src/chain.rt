@@ -9,7 +9,8 @@ ghost use Rattle.hk_facts.specs.Chains.{chain_put, chain_forget, chain_until, la
 ghost use Rattle.hk_facts.specs.FirstOfChain.{first_at, first_put, first_without, first_until, first_latest, is_later};
 
 use crate::fact::{Fact, Part, join, take_back, version_of};
-use crate::versions::{Versions, ended_by};
+use crate::others::Others;
+use crate::versions::ended_by;
 use hk_log::Version;
 use hk_types::{Refusal, Row, Time};
 use std::alloc::{AllocError, Global};
@@ -20,7 +21,7 @@ use std::marker::Model;
 #[derive(Drop)]
 pub struct Chain {
     first: Option<(Time, Version)>,
-    more: Versions,
+    more: Others,
 }
 
 impl Model for Chain {
@@ -47,7 +48,7 @@ impl Chain {
     {
         Chain {
             first: None,
-            more: Versions::new(alloc),
+            more: Others::new(alloc),
         }
     }
 
@@ -57,7 +58,7 @@ impl Chain {
     {
         Ok(Chain {
             first: Some((born, version_of(fact))),
-            more: Versions::new(alloc),
+            more: Others::new(alloc),
         })
     }
 
@@ -241,7 +242,7 @@ fn latest_first(first: &Option<(Time, Version)>, time: Time) -> Option<(Time, &V
 }
 
 /// Whether the first version has a row and was born by then, and none of the others that has one was born later.
-fn is_first_latest(first: &Option<(Time, Version)>, more: &Versions, time: Time) -> bool
+fn is_first_latest(first: &Option<(Time, Version)>, more: &Others, time: Time) -> bool
     ensures { result ≡ is_later (first_latest time first.now) (latest_at more.now time) }
 {
     let Some((born, _first)) = latest_first(first, time) else {

@@ -1,7 +1,7 @@
 use Rattle.std.proofs.Common.{refl, sym, inl}
 use Rattle.std.proofs.lemmas.Result.{on_ok_weaker}
 use Rattle.hk_facts.proofs.StoredTrees.{IfErr_map}
-use Rattle.hk_facts.proofs.FirstOfChains.{none_at, some_at, none_of, put_first, put_first_refused, put_empty, empty_apart, put_others, put_others_refused, put_others_apart, get_other, others_err}
+use Rattle.hk_facts.proofs.FirstOfChains.{none_at, some_at, none_of, put_first, put_first_refused, put_empty, empty_apart, put_others, put_others_apart, others_err}
 use Rattle.hk_facts.proofs.chain.Chain.put.Goals as goal
 
 pub returns-then-is_some-clause-ok : goal.returns-then-is_some-clause-ok

@@ -1,0 +1,203 @@
+//! The versions of a chain beside its first one.
+
+ghost use Rattle.std.specs.Prelude.{◌≡◌, ◌⊎◌, ◌↔◌, IsTrue, OnOk, OnErr, IfErr, IfOk, Ok, Err, Some, None};
+ghost use Rattle.std.specs.Option.{option_copied, option_map};
+ghost use Rattle.std.specs.FinMap as finmap;
+ghost use Rattle.hk_types.specs.declared.faults.Refusal.TheVariants.{Memory};
+ghost use Rattle.hk_facts.specs.declared.fact.Fact.TheVariants.{Row as RowFact, End as EndFact};
+ghost use Rattle.hk_facts.specs.Chains.{chain_put, chain_forget, chain_until, latest_at};
+ghost use Rattle.hk_facts.specs.FirstOfChain.{is_later};
+ghost use Rattle.hk_facts.specs.Parted.{both, AreApart, NoRows, lone_end};
+
+use crate::fact::{Fact, Part};
+use crate::versions::Versions;
+use hk_log::Version;
+use hk_types::{Refusal, Row, Time};
+use std::alloc::{AllocError, Global};
+use std::marker::Model;
+
+/// What is known of versions, by the time at which each was born. Those of which only the end is known stand
+/// apart, so that none of them is stepped over on the way to the latest row. Where there was no memory to move
+/// one of them when its row came, it has its row there, and `mixed` says so.
+#[derive(Drop)]
+pub(crate) struct Others {
+    rows: Versions,
+    ends: Versions,
+    mixed: bool,
+}
+
+impl Model for Others {
+    ghost use Rattle.std.specs.Coded.{coded_ℕ};
+    ghost use Rattle.std.specs.FinMap as finmap;
+    ghost use Rattle.hk_log.specs.Versions.{version_code};
+    ghost use Rattle.hk_facts.specs.Chains.{ChainValue};
+    ghost use Rattle.hk_facts.specs.Parted.{both, IsParted};
+
+    ghost Value = { ChainValue };
+
+    ghost coded = { finmap.code coded_ℕ version_code };
+
+    ghost view = { λ a. both a.rows a.ends };
+
+    ghost invariant = { λ a. IsParted a.rows a.ends a.mixed };
+}
+
+impl Others {
+    /// No versions. It takes no memory.
+    pub(crate) fn new(alloc: Global) -> Others
+        ensures { result ≡ finmap.empty }
+    {
+        Others {
+            rows: Versions::new(alloc),
+            ends: Versions::new(alloc),
+            mixed: false,
+        }
+    }
+
+    /// Adds a fact on the version that was born then. One that is known already changes nothing, and one
+    /// that differs from what is known is a conflict. `Memory` comes only where nothing is known of the
+    /// version. A refusal changes nothing. Cost: O(log n + b), n versions, b bytes of a body that is
+    /// compared.
+    pub(crate) fn put(&mut self, born: Time, fact: Fact) -> Result<(), Refusal>
+        ensures ok { OnOk result (chain_put self.old born fact ≡ Ok self.new) }
+        ensures err { IfErr result (λ why. (chain_put self.old born fact ≡ Err why)
+            ⊎ ((why ≡ Memory) × (finmap.get self.old born ≡ None))) }
+        ensures kept { OnErr result (self.new ≡ self.old) }
+    {
+        match fact {
+            Fact::Row(row) => self.put_row(born, row),
+            Fact::End(died) => self.put_end(born, died),
+        }
+    }
+
+    fn put_row(&mut self, born: Time, row: Row) -> Result<(), Refusal>
+        ensures ok { OnOk result (chain_put self.old born (RowFact row) ≡ Ok self.new) }
+        ensures err { IfErr result (λ why. (chain_put self.old born (RowFact row) ≡ Err why)
+            ⊎ ((why ≡ Memory) × (finmap.get self.old born ≡ None))) }
+        ensures kept { OnErr result (self.new ≡ self.old) }
+    {
+        make_way(&mut self.rows, &mut self.ends, born);
+        if self.ends.version(born).is_none() {
+            return self.rows.put(born, Fact::Row(row));
+        }
+        self.mixed = true;
+        self.ends.put(born, Fact::Row(row))
+    }
+
+    fn put_end(&mut self, born: Time, died: Time) -> Result<(), Refusal>
+        ensures ok { OnOk result (chain_put self.old born (EndFact died) ≡ Ok self.new) }
+        ensures err { IfErr result (λ why. (chain_put self.old born (EndFact died) ≡ Err why)
+            ⊎ ((why ≡ Memory) × (finmap.get self.old born ≡ None))) }
+        ensures kept { OnErr result (self.new ≡ self.old) }
+    {
+        if self.rows.version(born).is_some() {
+            return self.rows.put(born, Fact::End(died));
+        }
+        self.ends.put(born, Fact::End(died))
+    }
+
+    /// Takes a part of a version back. A version of which nothing else is known goes. Cost: O(log n),
+    /// n versions.
+    pub(crate) fn forget(&mut self, born: Time, part: Part)
+        ensures { self.new ≡ chain_forget self.old born part }
+    {
+        if self.rows.version(born).is_some() {
+            self.rows.forget(born, part);
+            return;
+        }
+        self.ends.forget(born, part);
+    }
+
+    /// Drops each version whose end is known and at most `until`, and nothing else.
+    /// Cost: O(n + d · log n), n versions, d of them dropped.
+    pub(crate) fn drop_until(&mut self, until: Time)
+        ensures { self.new ≡ chain_until self.old until }
+    {
+        self.rows.drop_until(until);
+        self.ends.drop_until(until);
+    }
+
+    /// Of the versions that have a row and were born at a time or before, the one born last, with the time
+    /// of its birth. It takes no memory. Cost: O(log n), n versions; versions that lost a row to a change
+    /// that was refused memory are stepped over, and where memory was refused to a version whose end came
+    /// before its row, all whose end did.
+    pub(crate) fn latest(&self, time: Time) -> Option<(Time, &Version)>
+        ensures { option_map (λ p. (p.0, p.1.now)) result ≡ latest_at self.now time }
+    {
+        if !self.mixed {
+            return self.rows.latest(time);
+        }
+        if is_later_in(&self.rows, &self.ends, time) {
+            return self.rows.latest(time);
+        }
+        self.ends.latest(time)
+    }
+
+    /// What is known of the version that was born then. Cost: O(log n), n versions.
+    pub(crate) fn version(&self, born: Time) -> Option<&Version>
+        ensures { option_copied result ≡ finmap.get self.now born }
+    {
+        match self.rows.version(born) {
+            Some(version) => Some(version),
+            None => self.ends.version(born),
+        }
+    }
+
+    pub(crate) fn is_empty(&self) -> bool
+        ensures { IsTrue result ↔ (self.now ≡ finmap.empty) }
+    {
+        self.rows.is_empty() && self.ends.is_empty()
+    }
+
+    /// The same versions again. The only error is out of memory. Cost: O(n · log n + b), n versions, b bytes
+    /// of bodies, all copied.
+    pub(crate) fn copy(&self, alloc: Global) -> Result<Others, AllocError>
+        ensures { IfOk result (λ others. others ≡ self.now) }
+    {
+        let rows = self.rows.copy(alloc)?;
+        let ends = self.ends.copy(alloc)?;
+        Ok(Others {
+            rows,
+            ends,
+            mixed: self.mixed,
+        })
+    }
+}
+
+/// Moves the version that was born then to those with a row, where only its end is known and there is memory.
+fn make_way(rows: &mut Versions, ends: &mut Versions, born: Time)
+    requires { AreApart rows.old ends.old }
+    ensures same { both rows.new ends.new ≡ both rows.old ends.old }
+    ensures apart { AreApart rows.new ends.new }
+    ensures bare { NoRows ends.old → NoRows ends.new }
+{
+    let Some(died) = end_alone(ends, born) else {
+        return;
+    };
+    if rows.put(born, Fact::End(died)).is_ok() {
+        ends.forget(born, Part::Whole);
+    }
+}
+
+/// The end of the version that was born then, where no row of it is known.
+fn end_alone(ends: &Versions, born: Time) -> Option<Time>
+    ensures { result ≡ lone_end (finmap.get ends.now born) }
+{
+    match ends.version(born) {
+        Some(version) if version.row().is_none() => version.died(),
+        _ => None,
+    }
+}
+
+/// Whether there is a latest with a row among the first, and none of the second that has one was born later.
+fn is_later_in(rows: &Versions, ends: &Versions, time: Time) -> bool
+    ensures { result ≡ is_later (latest_at rows.now time) (latest_at ends.now time) }
+{
+    let Some((born, _version)) = rows.latest(time) else {
+        return false;
+    };
+    match ends.latest(time) {
+        Some((other, _version)) => other <= born,
+        None => true,
+    }
+}
