@@ -1,5 +1,5 @@
 -- A chain whose versions with a row stand apart from the others is the chain of both.
-use Rattle.std.proofs.Common.{◌≡◌, refl, sym, ap, ◌∙◌, subst, ℕ, ◌≤◌, Bool, true, false, cond, not, true≢false, ◌&&◌, ◌||◌, nat_le, nat_lt, nat_cmp, Option, Some, None, Result, Ok, Err, OnOk, OnErr, ◌⊎◌, inl, inr, arith}
+use Rattle.std.proofs.Common.{option_map, ◌≡◌, refl, sym, ap, ◌∙◌, subst, ℕ, ◌≤◌, Bool, true, false, cond, not, true≢false, ◌&&◌, ◌||◌, nat_le, nat_lt, nat_cmp, Option, Some, None, Result, Ok, Err, OnOk, OnErr, ◌⊎◌, inl, inr, arith}
 use Rattle.std.proofs.lemmas.Bool.Decides.{nat_tests}
 use Rattle.std.specs.Option.{is_some}
 use Rattle.std.specs.Result.{is_ok}
@@ -20,8 +20,10 @@ use Rattle.hk_facts.specs.declared.fact.Part.TheVariants.{Row as RowPart, End as
 use Rattle.hk_facts.specs.Facts.{put_result, without, row_of, died_of, fact_conflicts, with_fact}
 use Rattle.hk_facts.specs.Chains.{ChainValue, set_at, put_at, chain_put, chain_forget, chain_until, latest_at}
 use Rattle.hk_facts.specs.FirstOfChain.{later_of, is_later}
+use Rattle.hk_facts.specs.TableChains.{or_empty}
+use Rattle.hk_facts.proofs.ForgottenParts.{nothing_left}
 use Rattle.hk_facts.specs.Parted.{both, AreApart, NoRows, IsParted, lone_end}
-use Rattle.hk_facts.proofs.StoredTrees.{tied_same, get-set_at, same_at_all}
+use Rattle.hk_facts.proofs.StoredTrees.{tied_same, get-set_at, same_at_all, set_at_same}
 use Rattle.hk_facts.proofs.FirstOfChains.{until_at, IsLatest, is_latest, one_latest, wins}
 
 abbrev tied : ℕ → ℕ → Bool
@@ -221,10 +223,10 @@ module _ (rows ends : ChainValue) (born died : ℕ) (alone : finmap.get ends bor
   moved_same new put =
       ap (λ m. both m (chain_forget ends born Whole)) (moved_is new put)
       ∙ same_at_all _ _ (λ q.
-        get_both (set_at rows born there) (set_at ends born None) q
-        ∙ (λ i. or_else (get-set_at rows born there q i) (get-set_at ends born None q i))
-        ∙ by q (tied q born) refl
-        ∙ sym (get_both rows ends q))
+      get_both (set_at rows born there) (set_at ends born None) q
+      ∙ (λ i. or_else (get-set_at rows born there q i) (get-set_at ends born None q i))
+      ∙ by q (tied q born) refl
+      ∙ sym (get_both rows ends q))
     where
       there : Option VersionValue
       there = Some (record { row = None; died = Some died })
@@ -345,7 +347,7 @@ module _ (t : ℕ) where
   shows e = nat_le e.0 t && is_some e.1.row
 
   -- where no version has a row there is none
-  none_latest : (ends : ChainValue) → NoRows ends → latest_at ends t ≡ None
+  pub none_latest : (ends : ChainValue) → NoRows ends → latest_at ends t ≡ None
   none_latest ends bare = one_latest t ends _ None (is_latest t ends) (λ b w g p. true≢false (sym p ∙ ap (λ r. nat_le b t && is_some r) (sym (ap row_of g) ∙ bare b) ∙ never (nat_le b t)))
     where
       never : (x : Bool) → (x && false) ≡ false
@@ -438,3 +440,24 @@ parted_mixed rows ends fact born r new none ok kept apart = record { apart = put
 pub was_ok : {A E P : Type 0} (r : Result A E) → is_ok r ≡ true → OnOk r P → P
 was_ok (Ok a) e p = p
 was_ok (Err why) e p = absurd (true≢false (sym e))
+
+-- ---- no box
+
+pub unboxed : {B : Type 0} (value : B → ChainValue) (o : Option B) → o ≡ None → or_empty (option_map value o) ≡ finmap.empty
+unboxed value o none = ap (λ x. or_empty (option_map value x)) none
+
+pub none_there : (m : ChainValue) (born : ℕ) → m ≡ finmap.empty → finmap.get m born ≡ None
+none_there m born none = ap (λ c. finmap.get c born) none ∙ finmap.get-empty nat_cmp born
+
+pub none_forgotten : (m : ChainValue) (born : ℕ) (part : Part) → m ≡ finmap.empty → m ≡ chain_forget m born part
+none_forgotten m born part none = sym (set_at_same m born (without part (finmap.get m born)) (none_there m born none ∙ sym (ap (without part) (none_there m born none) ∙ nothing_left part)))
+
+pub none_until : (m : ChainValue) (h : ℕ) → m ≡ finmap.empty → m ≡ chain_until m h
+none_until m h none = same_at_all _ _ (λ q. none_there m q none ∙ sym (until_at m h q ∙ ap (λ x. cond (not (at_most h (died_of x))) x None) (none_there m q none) ∙ either (not (at_most h None))))
+  where
+    either : (b : Bool) → cond {A = Option VersionValue} b None None ≡ None
+    either true = refl
+    either false = refl
+
+pub none_shown : (m : ChainValue) (t : ℕ) → m ≡ finmap.empty → None ≡ latest_at m t
+none_shown m t none = sym (none_latest t m (λ q. ap row_of (none_there m q none)))

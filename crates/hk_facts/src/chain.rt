@@ -9,7 +9,7 @@ ghost use Rattle.hk_facts.specs.Chains.{chain_put, chain_forget, chain_until, la
 ghost use Rattle.hk_facts.specs.FirstOfChain.{first_at, first_put, first_without, first_until, first_latest, is_later};
 
 use crate::fact::{Fact, Part, join, take_back, version_of};
-use crate::others::Others;
+use crate::more::More;
 use crate::versions::ended_by;
 use hk_log::Version;
 use hk_types::{Refusal, Row, Time};
@@ -21,7 +21,7 @@ use std::marker::Model;
 #[derive(Drop)]
 pub struct Chain {
     first: Option<(Time, Version)>,
-    more: Others,
+    more: More,
 }
 
 impl Model for Chain {
@@ -48,7 +48,7 @@ impl Chain {
     {
         Chain {
             first: None,
-            more: Others::new(alloc),
+            more: More::new(alloc),
         }
     }
 
@@ -58,7 +58,7 @@ impl Chain {
     {
         Ok(Chain {
             first: Some((born, version_of(fact))),
-            more: Others::new(alloc),
+            more: More::new(alloc),
         })
     }
 
@@ -131,8 +131,9 @@ impl Chain {
     }
 
     /// Of the versions that have a row and were born at a time or before, the one born last, with the time
-    /// of its birth. It takes no memory. Cost: O(log n + s), n versions, s of them without a row and
-    /// stepped over.
+    /// of its birth. It takes no memory. Cost: O(log n), n versions: those of which only the end is known stand
+    /// apart. Stepped over are alone versions whose row was taken back, and, after memory was refused to the row
+    /// of a version whose end had come first, those whose end came first.
     pub fn latest(&self, time: Time) -> Option<(Time, &Version)>
         ensures { option_map (λ p. (p.0, p.1.now)) result ≡ latest_at self.now time }
     {
@@ -242,7 +243,7 @@ fn latest_first(first: &Option<(Time, Version)>, time: Time) -> Option<(Time, &V
 }
 
 /// Whether the first version has a row and was born by then, and none of the others that has one was born later.
-fn is_first_latest(first: &Option<(Time, Version)>, more: &Others, time: Time) -> bool
+fn is_first_latest(first: &Option<(Time, Version)>, more: &More, time: Time) -> bool
     ensures { result ≡ is_later (first_latest time first.now) (latest_at more.now time) }
 {
     let Some((born, _first)) = latest_first(first, time) else {

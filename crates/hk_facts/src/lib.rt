@@ -3,6 +3,7 @@
 
 mod chain;
 mod fact;
+mod more;
 mod others;
 mod table_chains;
 mod versions;

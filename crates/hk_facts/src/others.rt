@@ -118,9 +118,8 @@ impl Others {
     }
 
     /// Of the versions that have a row and were born at a time or before, the one born last, with the time
-    /// of its birth. It takes no memory. Cost: O(log n), n versions; versions that lost a row to a change
-    /// that was refused memory are stepped over, and where memory was refused to a version whose end came
-    /// before its row, all whose end did.
+    /// of its birth. It takes no memory. Cost: O(log n), n versions. Stepped over are alone versions whose row was
+    /// taken back, and, where this is mixed, those whose end came before their row.
     pub(crate) fn latest(&self, time: Time) -> Option<(Time, &Version)>
         ensures { option_map (λ p. (p.0, p.1.now)) result ≡ latest_at self.now time }
     {

@@ -108,8 +108,8 @@ impl Facts {
         self.tables.knows(version)
     }
 
-    /// How many rows of a table show at a time. It takes no memory. Cost: O(log n + k · (log n + s)),
-    /// n facts, k keys of the table, s versions without a row that are stepped over at a key.
+    /// How many rows of a table show at a time. It takes no memory. Cost: O(log n + k · log n),
+    /// n facts, k keys of the table.
     pub fn count_at(&self, table: Table, time: Time) -> u64
         ensures { result ≡ length (rows_where
             (λ k row. k.table == table) (visible (with_facts self.now) time)) }

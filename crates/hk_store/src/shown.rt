@@ -12,8 +12,7 @@ use hk_facts::{Chain, ended_by};
 use hk_types::{Key, Row, Table, Time, VersionKey};
 
 impl Facts {
-    /// The row at a key of a table at a time. It takes no memory. Cost: O(log n + s), n facts, s versions
-    /// of the key without a row that are stepped over.
+    /// The row at a key of a table at a time. It takes no memory. Cost: O(log n), n facts.
     pub fn shown_at(&self, table: Table, key: Key, time: Time) -> Option<&Row>
         ensures { option_copied result
             ≡ finmap.get (visible (with_facts self.now) time) (record { table = table; key = key }) }
@@ -24,8 +23,8 @@ impl Facts {
         }
     }
 
-    /// The row of a version, where the version shows at a time. It takes no memory. Cost: O(log n + s),
-    /// n facts, s versions of the key without a row that are stepped over.
+    /// The row of a version, where the version shows at a time. It takes no memory. Cost: O(log n),
+    /// n facts.
     pub fn row_shown(&self, version: &VersionKey, time: Time) -> Option<&Row>
         ensures { option_copied result ≡ row_shown (with_facts self.now) time version.now }
     {
