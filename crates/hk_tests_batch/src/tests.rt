@@ -1,6 +1,7 @@
 //! Items and fragments of log 7 with two streams, by several workers.
 
 mod decoding;
+mod uniting;
 
 use hk_batch::{Gate, OpenGate, build};
 use hk_delta::Fragment;
