@@ -143,6 +143,18 @@ def all_requests():
         report("each request and its reply", problems + differ([("ends", node.ends(), ([0], 0, 0))]))
 
 
+def gaps():
+    """A number and two marks that wait behind a gap are told in the whole."""
+    streams = [(0, 0, [2], [(2, 2), (3, 3)]), (0, 0, [], [])]
+    facts = [(1, 5, 1, None, 2), (1, 5, 2, (9, b"\x42"), None)]
+    with Node(1, streams=2) as node, node.link() as link:
+        problems = differ([
+            ("an entry and marks behind a gap", link.ask(say.items(E2, say.mark(1, 3, 3), say.mark(1, 2, 2))), ("done", 2)),
+            ("the whole", link.ask(say.full()), ("fragment", {"log": 7, "base": 0, "horizon": 0, "streams": streams, "facts": facts}))])
+        link.close()
+        report("a whole with gaps", problems + differ([("ends", node.ends(), ([0], 0, 0))]))
+
+
 def many_links(cases):
     """Sends each case over a link of its own, one after the other, to a node for up to 64 of them.
 
@@ -405,7 +417,7 @@ def link_that_does_not_read():
 
 
 def failing_calls():
-    """A session over a link that gives and takes 7 bytes a call, of which each call in turn fails: what was written is the replies to
+    """A session over a link that gives and takes one byte a call, of which each call in turn fails: what was written is the replies to
     the whole requests that were read, or a front of the replies."""
     told = bytes.fromhex("0000000a 01 20 0000000000000002 0000000b 01 23 01 01 00000009 0001 41")
     first, whole = len(say.items(E1, say.mark(1, 1, 1))), len(WORKED)
@@ -413,19 +425,19 @@ def failing_calls():
         library = pathlib.Path(folder) / "failing_io.so"
         source = ROOT / "tests" / "faults" / "failing_io.c"
         subprocess.run(["cc", "-shared", "-fPIC", "-O1", "-o", str(library), str(source), "-ldl"], check=True)
-        # 120 bytes are received in 18 calls and an end; 14 and 15 are sent in two and three
-        for name, end, calls in (("FAILING_RECV", 91, 19), ("FAILING_SEND", 92, 5)):
+        # 120 bytes are received in as many calls and an end, 29 are sent
+        for name, end, calls in (("FAILING_RECV", 91, whole + 1), ("FAILING_SEND", 92, len(told))):
             problems = []
             for number in range(1, calls + 2):
-                environment = dict(os.environ, LD_PRELOAD=str(library), LINK_STEP="7", **{name: str(number)})
+                environment = dict(os.environ, LD_PRELOAD=str(library), LINK_STEP="1", **{name: str(number)})
                 with Node(1, environment=environment) as node, node.link() as link:
                     link.send(WORKED)
                     link.half_close()
                     got = link.read_all()
-                    read = 7 * (number - 1)
+                    read = number - 1
                     wanted = told[:0 if read < first else 14 if read < whole else 29]
                     if name == "FAILING_SEND":
-                        wanted = told[:[0, 7, 14, 21, 28, 29][number - 1]]
+                        wanted = told[:number - 1]
                     if number > calls:
                         wanted = told
                     ended = end if number <= calls else 0
@@ -482,6 +494,8 @@ def peer(answers, reset=False):
 
 # What a peer replies, in hexadecimal digits, and what `push` prints of it.
 BAD_REPLIES = (
+    ("a change that waits", "00000013 01 24 2a ffffffffffffffff 0000000000000000", "refused 42 ops 18446744073709551615"),
+    ("a hold", "00000013 01 24 28 ffffffffffffffff 0000000000000002", "refused 40 reader 18446744073709551615 at 2"),
     ("a length below the least", "00000001", "refused 10"), ("operations above the most", "0000000a 01 20 4000000000000001", "refused 6"),
     ("a horizon above the readable mark", "00000012 01 21 0000000000000005 0000000000000004", "refused 6"),
     ("a readable mark above the last time", "00000012 01 21 0000000000000005 4000000000000001", "refused 6"),
@@ -546,7 +560,7 @@ def bad_ports_and_lines():
 
 def main():
     start = time.monotonic()
-    checks = [worked_bytes, all_requests, each_fault, each_cut, pieces_and_pipelines, long_lists, silent_link, link_that_does_not_read,
+    checks = [worked_bytes, all_requests, gaps, each_fault, each_cut, pieces_and_pipelines, long_lists, silent_link, link_that_does_not_read,
               failing_calls, many_at_once, pushes,
               push_to_bad_peers, bad_ports_and_lines]
     wanted = sys.argv[1:]

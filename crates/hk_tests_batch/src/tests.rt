@@ -3,6 +3,8 @@
 mod decoding;
 mod uniting;
 
+ghost use Rattle.std.specs.Prelude.{◌≤◌};
+
 use hk_batch::{Gate, OpenGate, build};
 use hk_delta::Fragment;
 use hk_log::{Item, Version};
@@ -70,27 +72,35 @@ fn is_whole(fragment: &Fragment) -> bool {
     known && times == (0, 0, 4)
 }
 
-fn refused(built: Result<Fragment, Refusal>) -> u8 {
-    match built {
-        Ok(_fragment) => 0,
+/// 0 where so many workers give the fragment of the items 1 to 6, or the number of the refusal; 1 for another fragment.
+fn told<R: Threads + Sync>(
+    rt: &R,
+    alloc: Global,
+    config: Config,
+    items: &[Item],
+    workers: usize,
+) -> u8
+    requires some { 1 ≤ workers }
+    requires few { workers ≤ 16 }
+{
+    match build(rt, alloc, config, items, workers, &OpenGate) {
+        Ok(fragment) => u8::from(!is_whole(&fragment)),
         Err(why) => why.number(),
     }
 }
 
+/// Lists of items by their names, and what they are told: the items 1 to 6, one of another log, and a conflict.
+const LISTS: [(&[u8], u8); 3] = [(&[6, 5, 4, 3, 2, 1, 1], 0), (&[1, 7, 8], 20), (&[1, 7], 23)];
+
 #[test]
 fn every_number_of_workers_gives_the_fragment(rt: HostRuntime) -> Result<(), Fail> {
-    let alloc = rt.alloc();
     let config = Config::new(7, 2)?;
-    let whole = items(alloc, &[6, 5, 4, 3, 2, 1, 1])?;
-    let foreign = items(alloc, &[1, 7, 8])?;
-    let conflicting = items(alloc, &[1, 7])?;
-    for workers in 1..=16 {
-        let built = build(&rt, alloc, config, &whole, workers, &OpenGate)?;
-        assert!(rt; is_whole(&built), "by {workers} workers");
-        let told = refused(build(&rt, alloc, config, &foreign, workers, &OpenGate));
-        assert_eq!(rt; told, 20, "by {workers} workers");
-        let told = refused(build(&rt, alloc, config, &conflicting, workers, &OpenGate));
-        assert_eq!(rt; told, 23, "by {workers} workers");
+    for (names, wanted) in LISTS {
+        let items = items(rt.alloc(), names)?;
+        for workers in 1..=16 {
+            let tells = told(&rt, rt.alloc(), config, &items, workers);
+            assert!(rt; tells == wanted, "{wanted} by {workers} workers");
+        }
     }
     Ok(())
 }
@@ -109,38 +119,22 @@ fn refuse(alloc: Global, number: usize) {
 /// More than three workers and a last attempt make over seven items.
 const MOST_REQUESTS: usize = 150;
 
-/// The refusal of the fragment of a list by three workers, or 0, where one request for memory is refused.
-fn refused_at<R: Threads + Sync>(
-    rt: &R,
-    alloc: Global,
-    items: &[Item],
-    number: usize,
-) -> Result<u8, Fail> {
-    let config = Config::new(7, 2)?;
-    refuse(alloc, number);
-    let built = build(rt, alloc, config, items, 3, &OpenGate);
-    refuse(alloc, 0);
-    if let Ok(fragment) = &built
-        && !is_whole(fragment)
-    {
-        return Err(Fail::from("another fragment"));
-    }
-    Ok(refused(built))
-}
-
 #[test]
 fn each_request_refused(rt: HostRuntime) -> Result<(), Fail> {
-    let alloc = rt.alloc();
-    let whole = items(alloc, &[6, 5, 4, 3, 2, 1, 1])?;
-    let foreign = items(alloc, &[1, 7, 8])?;
-    let conflicting = items(alloc, &[1, 7])?;
-    for number in 1..=MOST_REQUESTS {
-        for first in [number, number + ALL] {
-            let told = refused_at(&rt, alloc, &whole, first)?;
-            assert!(rt; told == 0 || told == 90, "{first}: {told}");
-            assert_eq!(rt; refused_at(&rt, alloc, &foreign, first)?, 20, "{first}");
-            assert_eq!(rt; refused_at(&rt, alloc, &conflicting, first)?, 23, "{first}");
-            assert_eq!(rt; refused_at(&rt, alloc, &whole, 0)?, 0, "after {first}");
+    let config = Config::new(7, 2)?;
+    for (names, wanted) in LISTS {
+        let items = items(rt.alloc(), names)?;
+        for number in 1..=MOST_REQUESTS {
+            for first in [number, number + ALL, 0] {
+                refuse(rt.alloc(), first);
+                let tells = told(&rt, rt.alloc(), config, &items, 3);
+                refuse(rt.alloc(), 0);
+                let may_fail = first > 0 && wanted == 0;
+                assert!(rt;
+                    tells == wanted || may_fail && tells == 90,
+                    "{first}: {tells}"
+                );
+            }
         }
     }
     Ok(())

@@ -1,8 +1,9 @@
-//! Links to nodes of log 7 with one stream. The listener is bound before the threads start.
+//! Links to nodes of log 7 with one stream, both ends in one process; tests/client.py has the rest. The listener is
+//! bound before the threads start.
 
 ghost use Rattle.std.specs.Prelude.{◌≡◌};
 
-use hk_cli::{Links, run_push, run_serve};
+use hk_cli::run_push;
 use hk_net::serve_links;
 use hk_node::{NewList, NodeName, start};
 use hk_session::Ended;
@@ -32,41 +33,10 @@ const NO_FRONT: [u8; 22] = [
 /// How often a reply is looked for.
 const TURNS: u32 = 1_000_000;
 
-/// Whether all links ended between requests.
-fn are_clean(ends: &[Ended], count: usize) -> bool {
-    ends.len() == count && ends.iter().all(|ended| matches!(ended, Ended::Clean))
-}
-
 #[test]
 fn links_over_tcp(rt: HostRuntime) -> Result<(), Fail> {
-    let alloc = rt.alloc();
-    let config = Config::new(7, 1)?;
-    pushed::<Brand, _>(&rt, alloc, NewList::new(config))?;
-    silent::<Brand, _>(&rt, alloc, NewList::new(config))?;
-    unreached(&rt, alloc, config)
-}
-
-/// What is pushed is taken and answered, and the link ends between requests.
-fn pushed<
-    J: NodeName + Send + Sync,
-    R: Net<Listener = TcpListener, Stream = TcpStream> + Threads + Wait + Abort + Sync,
->(rt: &R, alloc: Global, list: NewList) -> Result<(), Fail>
-    requires { list.0 ≡ J.book }
-{
-    let listener = TcpListener::bind(rt, "127.0.0.1:47101")?;
-    let (node, seats) = start::<J, &R>(rt, alloc, list, 1)?;
-    let asked = bytes_of(alloc, ASKED)?;
-    let mut printed = Vec::new(alloc);
-    let (ends, status) = thread::join(
-        rt,
-        || serve_links(rt, alloc, &listener, &node, seats),
-        || run_push(rt, alloc, &mut asked.as_slice(), 47101, &mut printed),
-    );
-    assert_eq!(rt; status, 0);
-    assert_eq!(rt; printed.as_slice(), b"done 2\n9 41\n".as_slice());
-    let clean = ends.is_ok_and(|ends| are_clean(&ends, 1));
-    assert!(rt; clean);
-    Ok(())
+    let list = NewList::new(Config::new(7, 1)?);
+    linked::<Brand, _>(&rt, rt.alloc(), list)
 }
 
 /// Whether the reply of a node that took nothing came over a link that does not block.
@@ -104,41 +74,40 @@ fn second_before_first(first: &TcpStream, second: &TcpStream) -> bool {
     answered
 }
 
-fn silent<
+/// A link that does not block.
+fn connected<R: Net<Stream = TcpStream>>(rt: &R) -> Result<TcpStream, Fail> {
+    let link = TcpStream::connect(rt, "127.0.0.1:47101")?;
+    link.set_nonblocking(true)?;
+    Ok(link)
+}
+
+/// Three links, of which the first is silent until the second was answered; what is pushed over the third is taken and
+/// answered. All end between requests.
+fn linked<
     J: NodeName + Send + Sync,
     R: Net<Listener = TcpListener, Stream = TcpStream> + Threads + Wait + Abort + Sync,
 >(rt: &R, alloc: Global, list: NewList) -> Result<(), Fail>
     requires { list.0 ≡ J.book }
 {
-    let listener = TcpListener::bind(rt, "127.0.0.1:47102")?;
-    let (node, seats) = start::<J, &R>(rt, alloc, list, 2)?;
-    let first = TcpStream::connect(rt, "127.0.0.1:47102")?;
-    let second = TcpStream::connect(rt, "127.0.0.1:47102")?;
-    first.set_nonblocking(true)?;
-    second.set_nonblocking(true)?;
-    let (ends, answered) = thread::join(
+    let listener = TcpListener::bind(rt, "127.0.0.1:47101")?;
+    let (node, seats) = start::<J, &R>(rt, alloc, list, 3)?;
+    let (first, second) = (connected(rt)?, connected(rt)?);
+    let asked = bytes_of(alloc, ASKED)?;
+    let mut printed = Vec::new(alloc);
+    let (ends, (answered, status)) = thread::join(
         rt,
         || serve_links(rt, alloc, &listener, &node, seats),
-        || second_before_first(&first, &second),
+        || {
+            let answered = second_before_first(&first, &second);
+            let pushed = run_push(rt, alloc, &mut asked.as_slice(), 47101, &mut printed);
+            (answered, pushed)
+        },
     );
-    assert!(rt; answered);
-    let clean = ends.is_ok_and(|ends| are_clean(&ends, 2));
+    assert!(rt; answered && status == 0);
+    assert!(rt; printed.as_slice() == b"done 2\n9 41\n".as_slice());
+    let clean = ends.is_ok_and(|ends| {
+        matches!(ends.as_slice(), [Ended::Clean, Ended::Clean, Ended::Clean])
+    });
     assert!(rt; clean);
-    Ok(())
-}
-
-/// A port that is taken, and one that nobody listens to.
-fn unreached<R: Net<Listener = TcpListener, Stream = TcpStream> + Threads + Wait + Abort + Sync>(
-    rt: &R,
-    alloc: Global,
-    config: Config,
-) -> Result<(), Fail> {
-    let _taken = TcpListener::bind(rt, "127.0.0.1:47103")?;
-    let links = Links::new(1).ok_or("links")?;
-    let mut printed = Vec::new(alloc);
-    let served = run_serve(rt, alloc, 47103, config, links, &mut printed);
-    let pushed = run_push(rt, alloc, &mut FRONT.as_slice(), 47104, &mut printed);
-    assert_eq!(rt; (served, pushed), (1, 1));
-    assert_eq!(rt; printed.as_slice(), b"refused 93\nrefused 93\n".as_slice());
     Ok(())
 }

@@ -2,10 +2,10 @@
 
 ghost use Rattle.std.specs.Prelude.{◌≡◌};
 
-use hk_delta::{Fragment, delta_since, fragment_of, join, whole_of};
+use hk_delta::{Fragment, fragment_of, join, whole_of};
 use hk_log::Item;
 use hk_model::{Answer, Query};
-use hk_node::{Hold, LAST_OP, NewList, Node, NodeName, ReaderSeat, Receipt, next_op, start};
+use hk_node::{Hold, NewList, Node, NodeName, ReaderSeat, Receipt, start};
 use hk_state::ReplicaState;
 use hk_tests_values::{entry, mark, time};
 use hk_types::{Config, Key, Refusal, Table, Time};

@@ -1,4 +1,4 @@
-//! Tests of numbers, items and their bytes, and chains.
+//! Tests of printed words, and of items and their bytes.
 #![tactic(auto)]
 
 #[cfg(test)]

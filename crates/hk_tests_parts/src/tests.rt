@@ -1,4 +1,2 @@
-mod chains;
 mod frames;
-mod items;
-mod numbers;
+mod words;

@@ -1,4 +1,4 @@
-//! Tests of messages, sessions and printed replies.
+//! Tests of messages and sessions.
 #![tactic(auto)]
 
 #[cfg(test)]

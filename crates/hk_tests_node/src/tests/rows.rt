@@ -9,16 +9,10 @@ use super::*;
 enum Does<'a> {
     /// Items by their numbers.
     Join(&'a [u64]),
-    /// The same, since a base.
-    JoinSince(&'a [u64], u64),
-    /// Of log 8.
-    JoinForeign,
-    /// Of two streams.
-    MergeWide,
-    /// The whole of a state with all items, pruned to a time.
-    JoinPruned(u64),
-    /// Such a state.
+    /// A state with all items, pruned to a time.
     Merge(u64),
+    /// The whole of such a state.
+    JoinPruned(u64),
     Prune(u64),
     Hold(u64),
     /// Its number.
@@ -29,8 +23,6 @@ enum Does<'a> {
     Front,
     /// A key and a time.
     Get(u64, u64),
-    Since(u64),
-    Whole,
 }
 
 /// The number of a refusal, or 0, and two numbers that it names.
@@ -38,7 +30,6 @@ type Tells = (u8, u64, u64);
 
 fn refused(why: Refusal) -> Tells {
     match why {
-        Refusal::Gap { base, readable } => (22, base.number(), readable.number()),
         Refusal::AheadOfMark { readable } => (24, readable.number(), 0),
         Refusal::TooOld { horizon } => (25, horizon.number(), 0),
         Refusal::Held { reader, at } => (40, reader, at.number()),
@@ -55,26 +46,24 @@ fn told<J: NodeName>(answer: Result<Receipt<J>, Refusal>) -> Tells {
     }
 }
 
-/// Base, and how many versions.
-fn size_of(answer: Result<Fragment, Refusal>) -> Tells {
-    match answer {
-        Ok(fragment) => (0, fragment.base().number(), fragment.facts().len() as u64),
-        Err(why) => refused(why),
-    }
+/// A state that took all three entries and the mark.
+fn filled(alloc: Global) -> Result<ReplicaState, Fail> {
+    let items = fragment(alloc, &ALL)?;
+    let mut state = ReplicaState::new(alloc, config()?)?;
+    join(&mut state, &items)?;
+    Ok(state)
 }
 
-/// A state that took all three entries and the mark, pruned to a time.
+/// It, pruned to a time.
 fn state_of(alloc: Global, to: u64) -> Result<ReplicaState, Fail> {
-    let mut state = ReplicaState::new(alloc, config()?)?;
-    join(&mut state, &fragment(alloc, &[1, 2, 3, 4])?)?;
+    let mut state = filled(alloc)?;
     state.prune(time(to)?)?;
     Ok(state)
 }
 
-fn since(alloc: Global, numbers: &[u64], base: u64) -> Result<Fragment, Fail> {
-    let mut state = ReplicaState::new(alloc, config()?)?;
-    join(&mut state, &fragment(alloc, numbers)?)?;
-    Ok(delta_since(alloc, &state, time(base)?)?)
+/// The whole of it.
+fn pruned(alloc: Global, to: u64) -> Result<Fragment, Fail> {
+    Ok(whole_of(alloc, &state_of(alloc, to)?)?)
 }
 
 /// A node with a seat, and the holds that it gave. Of the requests for memory of each call of the node the one
@@ -98,8 +87,7 @@ fn refuse(alloc: Global, number: usize) {
 
 impl<J: NodeName, S: Wait + Drop> Game<J, S> {
     /// The number of operations and the number of the hold, which is kept with 42 too.
-    fn hold<R: Wait>(&mut self, rt: &R, at: u64) -> Result<Tells, Fail> {
-        let at = time(at)?;
+    fn hold<R: Wait>(&mut self, rt: &R, at: Time) -> Result<Tells, Fail> {
         refuse(self.alloc, self.number);
         let held = self.node.hold(rt, at);
         refuse(self.alloc, 0);
@@ -197,46 +185,25 @@ impl<J: NodeName, S: Wait + Drop> Game<J, S> {
         }
     }
 
-    fn change<R: Wait>(&mut self, rt: &R, does: Does) -> Result<Tells, Fail> {
-        match does {
-            Does::Join(numbers) => Ok(self.join(rt, fragment(self.alloc, numbers)?)),
-            Does::JoinSince(numbers, base) => {
-                Ok(self.join(rt, since(self.alloc, numbers, base)?))
-            }
-            Does::JoinForeign => {
-                let foreign = fragment_of(self.alloc, Config::new(8, 1)?, &[])?;
-                Ok(self.join(rt, foreign))
-            }
-            Does::MergeWide => {
-                let wide = ReplicaState::new(self.alloc, Config::new(7, 2)?)?;
-                Ok(self.merge(rt, &wide))
-            }
-            Does::JoinPruned(to) => {
-                let whole = whole_of(self.alloc, &state_of(self.alloc, to)?)?;
-                Ok(self.join(rt, whole))
-            }
-            Does::Merge(to) => Ok(self.merge(rt, &state_of(self.alloc, to)?)),
-            Does::Prune(to) => Ok(self.prune(rt, time(to)?)),
-            _ => Err(Fail::from("no change")),
-        }
-    }
-
     fn play<R: Wait>(&mut self, rt: &R, does: Does) -> Result<Tells, Fail> {
         match does {
-            Does::Hold(at) => self.hold(rt, at),
+            Does::Join(numbers) => Ok(self.join(rt, fragment(self.alloc, numbers)?)),
+            Does::Merge(to) => Ok(self.merge(rt, &state_of(self.alloc, to)?)),
+            Does::JoinPruned(to) => Ok(self.join(rt, pruned(self.alloc, to)?)),
+            Does::Prune(to) => Ok(self.prune(rt, time(to)?)),
+            Does::Hold(at) => self.hold(rt, time(at)?),
             Does::Release(reader) => self.release(rt, reader),
-            Does::Forged(reader, at) => {
-                let at = time(at)?;
-                self.release_this(rt, Hold { reader, at })
-            }
+            Does::Forged(reader, at) => self.release_this(rt, forged(reader, at)?),
             Does::Publish => Ok(self.publish(rt)),
             Does::Front => Ok(self.front()),
             Does::Get(key, at) => Ok(self.get(key, at)),
-            Does::Since(base) => Ok(size_of(self.seat.delta_since(time(base)?))),
-            Does::Whole => Ok(size_of(self.seat.whole())),
-            _ => self.change(rt, does),
         }
     }
+}
+
+fn forged(reader: u64, at: u64) -> Result<Hold, Fail> {
+    let at = time(at)?;
+    Ok(Hold { reader, at })
 }
 
 /// A node of log 7 with one stream and two places.
@@ -255,6 +222,18 @@ fn new_game<J: NodeName, R: Wait>(rt: &R, alloc: Global, list: NewList) -> Resul
 }
 
 /// Each step tells what it is to tell.
+fn plays<J: NodeName, R: Wait + Abort, S: Wait + Drop>(
+    rt: &R,
+    game: &mut Game<J, S>,
+    rows: &[(Does, Tells)],
+) -> Result<(), Fail> {
+    for (does, tells) in rows {
+        assert!(rt; game.play(rt, *does)? == *tells);
+    }
+    Ok(())
+}
+
+/// The same in a new node.
 fn steps<J: NodeName, R: Wait + Abort>(
     rt: &R,
     alloc: Global,
@@ -264,28 +243,12 @@ fn steps<J: NodeName, R: Wait + Abort>(
     requires { list.0 ≡ J.book }
 {
     let mut game = new_game::<J, R>(rt, alloc, list)?;
-    for (does, tells) in rows {
-        assert_eq!(rt; game.play(rt, *does)?, *tells);
-    }
-    Ok(())
+    plays(rt, &mut game, rows)
 }
 
 const ALL: [u64; 4] = [1, 2, 3, 4];
 
-/// A prune stops at a hold, and goes on once the hold is released.
-const A_HOLD: [(Does, Tells); 9] = [
-    (Does::Join(&ALL), (0, 2, 0)),
-    (Does::Get(5, 3), (0, 0x42, 0)),
-    (Does::Hold(2), (0, 3, 1)),
-    (Does::Prune(3), (0, 4, 2)),
-    (Does::Front, (0, 2, 3)),
-    (Does::Release(1), (0, 5, 0)),
-    (Does::Prune(3), (0, 6, 3)),
-    (Does::Get(5, 2), (25, 3, 0)),
-    (Does::Publish, (0, 6, 6)),
-];
-
-/// It stops at the least of several holds; a join or merge that would pass one is refused.
+/// A prune stops at the least hold, and goes on once it is released; a merge that would pass one is refused.
 const HOLDS: [(Does, Tells); 25] = [
     (Does::Join(&ALL), (0, 2, 0)),
     (Does::Hold(2), (0, 3, 1)),
@@ -314,28 +277,33 @@ const HOLDS: [(Does, Tells); 25] = [
     (Does::Publish, (0, 13, 13)),
 ];
 
-const FRAGMENTS: [(Does, Tells); 11] = [
-    (Does::JoinSince(&ALL, 2), (22, 2, 0)),
-    (Does::JoinForeign, (20, 0, 0)),
-    (Does::MergeWide, (21, 0, 0)),
-    (Does::Front, (0, 0, 0)),
+/// A prune stops at a hold, and goes on once the hold is released.
+const A_HOLD: [(Does, Tells); 9] = [
+    (Does::Join(&ALL), (0, 2, 0)),
+    (Does::Get(5, 3), (0, 0x42, 0)),
+    (Does::Hold(2), (0, 3, 1)),
+    (Does::Prune(3), (0, 4, 2)),
+    (Does::Front, (0, 2, 3)),
+    (Does::Release(1), (0, 5, 0)),
+    (Does::Prune(3), (0, 6, 3)),
+    (Does::Get(5, 2), (25, 3, 0)),
+    (Does::Publish, (0, 6, 6)),
+];
+
+/// A change made again is another operation. Joins that do not fit are shown by tests/client.py, over links.
+const AGAIN: [(Does, Tells); 4] = [
     (Does::Merge(0), (0, 2, 0)),
     (Does::Front, (0, 0, 3)),
     (Does::Join(&ALL), (0, 3, 0)),
     (Does::Join(&ALL), (0, 4, 0)),
-    (Does::JoinSince(&ALL, 2), (0, 5, 0)),
-    (Does::Since(2), (0, 2, 1)),
-    (Does::Whole, (0, 0, 3)),
 ];
 
-const DAMAGE: [(Does, Tells); 13] = [
+const DAMAGE: [(Does, Tells); 11] = [
     (Does::Join(&ALL), (0, 2, 0)),
     (Does::Hold(2), (0, 3, 1)),
     (Does::Join(&[9]), (23, 0, 0)),
     (Does::Get(5, 3), (41, 0, 0)),
     (Does::Front, (41, 0, 0)),
-    (Does::Since(2), (41, 0, 0)),
-    (Does::Whole, (41, 0, 0)),
     (Does::Join(&[1]), (41, 0, 0)),
     (Does::Merge(0), (41, 0, 0)),
     (Does::Prune(3), (41, 0, 0)),
@@ -347,19 +315,30 @@ const DAMAGE: [(Does, Tells); 13] = [
 #[test]
 fn one_day(rt: HostRuntime) -> Result<(), Fail> {
     let alloc = rt.alloc();
-    steps::<Brand, _>(&rt, alloc, NewList::new(config()?), &A_HOLD)?;
-    steps::<Brand, _>(&rt, alloc, NewList::new(config()?), &HOLDS)?;
-    steps::<Brand, _>(&rt, alloc, NewList::new(config()?), &FRAGMENTS)?;
-    steps::<Brand, _>(&rt, alloc, NewList::new(config()?), &DAMAGE)?;
+    for rows in [A_HOLD.as_slice(), &HOLDS, &AGAIN, &DAMAGE] {
+        steps::<Brand, _>(&rt, alloc, NewList::new(config()?), rows)?;
+    }
     for number in 0..=MOST_REQUESTS {
         waits::<Brand, _>(&rt, alloc, NewList::new(config()?), number)?;
     }
-    assert!(&rt; next_op(1) == Ok(2) && next_op(LAST_OP) == Err(Refusal::NodeFull));
     Ok(())
 }
 
 /// More than any change of `waits` makes.
 const MOST_REQUESTS: usize = 80;
+
+/// What a change that waits told is its operation, and readers see what they saw before, until it is published.
+fn publishes<J: NodeName, R: Wait + Abort, S: Wait + Drop>(
+    rt: &R,
+    game: &mut Game<J, S>,
+    before: Tells,
+    ops: u64,
+) {
+    let first = game.publish(rt);
+    assert!(rt; first.0 == 0 || game.front() == before);
+    game.number = 0;
+    assert!(rt; game.publish(rt).1 == ops);
+}
 
 /// Makes a change of whose requests for memory one is refused, and again where that refused it, until it is the
 /// operation number `ops`. Where it is refused 90, or waits to be published, readers see what they saw before.
@@ -372,28 +351,37 @@ fn at_last<J: NodeName, R: Wait + Abort, S: Wait + Drop>(
 ) -> Result<(), Fail> {
     let before = game.front();
     game.number = number;
-    let first = game.play(rt, does)?;
-    if first.0 == 42 {
-        assert_eq!(rt; (first.1, game.front()), (ops, before));
-        if game.publish(rt).0 == 90 {
-            assert_eq!(rt; game.front(), before);
-        }
+    let mut told = game.play(rt, does)?;
+    assert!(rt; told.0 == 0 || game.front() == before);
+    if told.0 == 42 {
+        publishes(rt, game, before, ops);
+    } else if told.0 == 90 {
         game.number = 0;
-        assert_eq!(rt; game.publish(rt).1, ops);
-        return Ok(());
+        told = game.play(rt, does)?;
     }
     game.number = 0;
-    if first.0 == 90 {
-        assert_eq!(rt; game.front(), before);
-        assert_eq!(rt; game.play(rt, does)?.1, ops);
-        return Ok(());
-    }
-    assert_eq!(rt; (first.0, first.1), (0, ops));
+    assert!(rt; told.1 == ops && (told.0 == 0 || told.0 == 42));
     Ok(())
 }
 
-/// A join, a merge, holds, a release and a prune, of each of which one request for memory is refused. The
-/// numbers of the holds go on, also where one was handed out with 42.
+/// Changes, of each of which one request for memory is refused: they are the operations from 2 on. The numbers of
+/// the holds go on, also where one was handed out with 42.
+const CHANGES: [Does; 6] = [
+    Does::Join(&ALL),
+    Does::Merge(0),
+    Does::Hold(2),
+    Does::Hold(3),
+    Does::Release(1),
+    Does::Prune(3),
+];
+
+/// What is told after them.
+const AFTER: [(Does, Tells); 3] = [
+    (Does::Release(2), (0, 8, 0)),
+    (Does::Front, (0, 3, 3)),
+    (Does::Get(5, 3), (0, 0x42, 0)),
+];
+
 fn waits<J: NodeName, R: Wait + Abort>(
     rt: &R,
     alloc: Global,
@@ -403,14 +391,8 @@ fn waits<J: NodeName, R: Wait + Abort>(
     requires { list.0 ≡ J.book }
 {
     let mut game = new_game::<J, R>(rt, alloc, list)?;
-    at_last(rt, &mut game, Does::Join(&ALL), number, 2)?;
-    at_last(rt, &mut game, Does::Merge(0), number, 3)?;
-    at_last(rt, &mut game, Does::Hold(2), number, 4)?;
-    at_last(rt, &mut game, Does::Hold(3), number, 5)?;
-    at_last(rt, &mut game, Does::Release(1), number, 6)?;
-    at_last(rt, &mut game, Does::Prune(3), number, 7)?;
-    assert_eq!(rt; game.release(rt, 2)?, (0, 8, 0));
-    assert_eq!(rt; game.front(), (0, 3, 3));
-    assert_eq!(rt; game.get(5, 3), (0, 0x42, 0));
-    Ok(())
+    for (ops, does) in (2u64..).zip(CHANGES) {
+        at_last(rt, &mut game, does, number, ops)?;
+    }
+    plays(rt, &mut game, &AFTER)
 }

@@ -56,7 +56,7 @@ fn reads_fronts<J: NodeName>(mut seat: ReaderSeat<J>) -> bool {
     true
 }
 
-/// Four readers ask for key 5, while a thousand entries that put it are joined one by one.
+/// Two readers ask for key 5, while a thousand entries that put it are joined one by one.
 fn keys<J: NodeName + Send + Sync, R: Threads + Wait + Abort + Sync>(
     rt: &R,
     alloc: Global,
@@ -64,26 +64,17 @@ fn keys<J: NodeName + Send + Sync, R: Threads + Wait + Abort + Sync>(
 ) -> Result<(), Fail>
     requires { list.0 ≡ J.book }
 {
-    let (node, mut seats) = start::<J, &R>(rt, alloc, list, 4)?;
+    let (node, mut seats) = start::<J, &R>(rt, alloc, list, 2)?;
     let one = seats.pop().ok_or("seat")?;
     let two = seats.pop().ok_or("seat")?;
-    let three = seats.pop().ok_or("seat")?;
-    let four = seats.pop().ok_or("seat")?;
     let node = &node;
     let (wrote, read) = thread::join(
         rt,
         move || joins_each(rt, alloc, node),
-        move || {
-            let (left, right) = thread::join(
-                rt,
-                move || thread::join(rt, move || reads_keys(one), move || reads_keys(two)),
-                move || thread::join(rt, move || reads_keys(three), move || reads_keys(four)),
-            );
-            left.0 && left.1 && right.0 && right.1
-        },
+        move || thread::join(rt, move || reads_keys(one), move || reads_keys(two)),
     );
     wrote?;
-    assert!(rt; read);
+    assert!(rt; read.0 && read.1);
     Ok(())
 }
 

@@ -6,7 +6,7 @@ use super::transaction;
 use hk_log::Item;
 use hk_primary::{Answer, Naming, Query, SharedPrimary, Txn};
 use hk_tests_values::{stream, time};
-use hk_types::{Config, LAST_TIME, StreamNo, Table, Time};
+use hk_types::{Config, StreamNo, Table, Time};
 use std::alloc::Global;
 use std::marker::Brand;
 use std::sync::Wait;
@@ -75,8 +75,8 @@ fn both_commit<K: Naming + Send + Sync, R: Threads + Wait + Sync>(
     requires after { K.after ≡ 0 }
 {
     let (primary, mut all) = SharedPrimary::<K>::new(alloc, config, blank)?;
-    let one = transaction(alloc, 0, &[(5, 0x41)])?;
-    let other = transaction(alloc, 0, &[(6, 0x42)])?;
+    let one = transaction(alloc, 5, 0x41)?;
+    let other = transaction(alloc, 6, 0x42)?;
     let (left, right) = (stream(1)?, stream(2)?);
     let borrowed = &primary;
     let part = all.split_off(1, 0);
@@ -106,28 +106,20 @@ fn two_threads_commit(rt: HostRuntime) -> Result<(), Fail> {
     Ok(())
 }
 
-/// The time of the mark that retires stream 2, the number with which it is refused the second time, and up to when may
-/// be read after stream 1 is retired too.
-fn retired<K: Naming, R: Wait>(
-    rt: &R,
-    primary: &SharedPrimary<K>,
-    share: &mut Share<K>,
-) -> Result<(u64, u8, u64), Fail>
-    requires { 0 < share.old.parts }
-{
-    let mark = primary.retire(rt, share, stream(2)?)?;
-    let again = match primary.retire(rt, share, stream(2)?) {
-        Ok(_mark) => 0,
-        Err(why) => why.number(),
-    };
-    primary.retire(rt, share, stream(1)?)?;
-    Ok((mark.m().number(), again, primary.readable(rt).number()))
+/// What `Count` of table 1 answers, or the number with which it is refused.
+fn counted<K: Naming, R: Wait>(rt: &R, primary: &SharedPrimary<K>, at: Time) -> (u8, u64) {
+    let table = Table::new(1);
+    match primary.ask(rt, at, &Query::Count { table }) {
+        Ok(Answer::Number(count)) => (0, count),
+        Ok(_) => (0, 0),
+        Err(why) => (why.number(), 0),
+    }
 }
 
-/// What a shared primary tells whose clock started after 4, with key 5 put on stream 2 at 5: the id of the log, the
-/// last time, that of a new transaction, the mark of stream 2, what `Count` answers at 4, 5 and 6, and how it retires.
-type Tells = (u64, u64, u64, (u64, u64), [(u8, u64); 3], (u64, u8, u64));
+/// The counts at 5 and 6, the time of the mark of stream 2, and the number with which its second retirement is refused.
+type Tells = ((u8, u64), (u8, u64), u64, u8);
 
+/// What a shared primary tells whose clock started after 4, once a key is put on stream 2 at 5.
 fn told<K: Naming, R: Wait>(
     rt: &R,
     alloc: Global,
@@ -142,21 +134,21 @@ fn told<K: Naming, R: Wait>(
     requires after { after ≡ K.after }
 {
     let (primary, all) = SharedPrimary::<K>::starting_after(alloc, config, after, blank)?;
-    let txn = transaction(alloc, 0, &[(5, 0x41)])?;
-    let (_at, mut all) = committed(rt, &primary, all, txn, stream(2)?);
-    let mark = primary.mark(rt, &mut all, stream(2)?)?;
-    let counts = [
-        counted(rt, &primary, time(4)?),
-        counted(rt, &primary, time(5)?),
-        counted(rt, &primary, time(6)?),
-    ];
+    let two = stream(2)?;
+    let txn = transaction(alloc, 5, 0x41)?;
+    let (_at, mut all) = committed(rt, &primary, all, txn, two);
+    let mark = primary.mark(rt, &mut all, two)?;
+    primary.retire(rt, &mut all, two)?;
+    let again = match primary.retire(rt, &mut all, two) {
+        Ok(_mark) => 0,
+        Err(why) => why.number(),
+    };
+    let early = counted(rt, &primary, time(6)?);
     Ok((
-        primary.config(rt).log(),
-        primary.last(rt).number(),
-        primary.begin(rt).read_at().number(),
-        (mark.n(), mark.m().number()),
-        counts,
-        retired(rt, &primary, &mut all)?,
+        counted(rt, &primary, time(5)?),
+        early,
+        mark.m().number(),
+        again,
     ))
 }
 
@@ -164,17 +156,6 @@ fn told<K: Naming, R: Wait>(
 fn its_calls_are_those_of_the_primary(rt: HostRuntime) -> Result<(), Fail> {
     let config = Config::new(7, 2)?;
     let told = told::<Brand, HostRuntime>(&rt, rt.alloc(), config, time(4)?, Blank::new(1))?;
-    let counts = [(0, 0), (0, 1), (26, 0)];
-    assert_eq!(rt; told, (7, 5, 5, (1, 5), counts, (LAST_TIME, 36, LAST_TIME)));
+    assert_eq!(rt; told, ((0, 1), (26, 0), 5, 36));
     Ok(())
-}
-
-/// The number of the refusal or 0, and how many rows table 1 has.
-fn counted<K: Naming, R: Wait>(rt: &R, primary: &SharedPrimary<K>, at: Time) -> (u8, u64) {
-    let table = Table::new(1);
-    match primary.ask(rt, at, &Query::Count { table }) {
-        Ok(Answer::Number(count)) => (0, count),
-        Ok(_) => (0, 0),
-        Err(why) => (why.number(), 0),
-    }
 }

@@ -1,30 +1,25 @@
-//! The calls of a world, once each; what worlds tell is shown by scripts (examples/world, tests/scripts).
+//! A run of a world; what worlds tell step by step is shown by scripts (examples/world, tests/scripts).
 
-use hk_laws::{World, run};
+use hk_laws::run;
 use hk_model::{Event, Told, Took};
-use hk_types::{Config, StreamNo};
+use hk_tests_values::stream;
+use hk_types::Config;
 use std::test::Fail;
 
 #[test]
-fn a_world_by_its_calls(rt: HostRuntime) -> Result<(), Fail> {
+fn a_run_of_two_events(rt: HostRuntime) -> Result<(), Fail> {
     let alloc = rt.alloc();
-    let config = Config::new(7, 1)?;
-    let mut world = World::new(alloc, config, 1)?;
-    let stream = StreamNo::new(1)?;
-    let marked = matches!(world.step(Event::MarkOf { stream }), Told::Marked(_));
-    let absorb = Event::Absorb {
+    let mut events = Vec::new(alloc);
+    events.push(Event::MarkOf { stream: stream(1)? })?;
+    events.push(Event::Absorb {
         replica: 1,
         item: 1,
-    };
-    let repeated = matches!(world.step(absorb), Told::Took(Took::Repeated));
-    let none = run(alloc, config, 1, Vec::new(alloc))?.is_empty();
-    assert!(rt; marked && repeated && none);
-    let counts = (
-        world.item_count(),
-        world.replica_count(),
-        world.last().number(),
+    })?;
+    let told = run(alloc, Config::new(7, 1)?, 1, events)?;
+    let marked = matches!(
+        told.as_slice(),
+        [Told::Marked(_), Told::Took(Took::Repeated)]
     );
-    assert_eq!(rt; counts, (1, 1, 0));
-    assert_eq!(rt; world.config(), config);
+    assert!(rt; marked);
     Ok(())
 }

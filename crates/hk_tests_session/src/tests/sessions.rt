@@ -1,38 +1,21 @@
 //! Sessions over bytes in memory.
 
-use super::{ASKED, ASKED_LEN, CUT, DONE, FIRST_LEN, SAID, session_over};
+use hk_session::{Counted, StateHost, serve};
+use hk_state::ReplicaState;
 use hk_tests_values::bytes_of;
+use hk_types::Config;
 use std::alloc::Global;
 use std::test::*;
 
-/// What is written for the first so many bytes of the session, and with which number it ends.
-fn wanted(k: usize) -> (&'static str, &'static str, u8) {
-    match k {
-        0 => ("", "", 0),
-        FIRST_LEN => (DONE, "", 0),
-        ASKED_LEN => (SAID, "", 0),
-        _ if k < FIRST_LEN => ("", CUT, 1),
-        _ => (DONE, CUT, 1),
-    }
-}
-
-fn cut_at(alloc: Global, k: usize) -> Result<bool, Fail> {
-    let asked = bytes_of(alloc, ASKED)?;
-    let (front, _behind) = asked.split_at(k.min(asked.len()));
-    let (ended, _faults, written) = session_over(alloc, front)?;
-    let (first, second, number) = wanted(k);
-    let mut want = bytes_of(alloc, first)?;
-    want.extend_from_slice(&bytes_of(alloc, second)?)?;
-    Ok(ended == number && written == want)
-}
-
-#[test]
-fn each_cut_of_a_session(rt: HostRuntime) -> Result<(), Fail> {
-    assert_eq!(rt; bytes_of(rt.alloc(), ASKED)?.len(), ASKED_LEN);
-    for k in 0..=ASKED_LEN {
-        assert!(rt; cut_at(rt.alloc(), k)?, "at {k}");
-    }
-    Ok(())
+/// The number with which a session of a host over the state of log 7 with one stream ends, and what was written.
+fn session(alloc: Global, asked: &str) -> Result<(u8, Vec<u8>), Fail> {
+    let bytes = bytes_of(alloc, asked)?;
+    let mut reader = Counted::new(bytes.as_slice());
+    let mut writer = Counted::new(Vec::new(alloc));
+    let state = ReplicaState::new(alloc, Config::new(7, 1)?)?;
+    let mut host = StateHost::new(alloc, state);
+    let ended = serve(alloc, &mut reader, &mut writer, &mut host);
+    Ok((ended.number(), writer.into_inner()))
 }
 
 /// What a session is of, what it reads, with which number it ends, and what it writes. Log 7 has one stream; entry 1 puts
@@ -132,11 +115,13 @@ const SESSIONS: [(&str, &str, u8, &str); 15] = [
 
 #[test]
 fn worked_sessions(rt: HostRuntime) -> Result<(), Fail> {
+    let alloc = rt.alloc();
     for (name, asked, number, said) in SESSIONS {
-        let bytes = bytes_of(rt.alloc(), asked)?;
-        let (ended, _faults, written) = session_over(rt.alloc(), bytes.as_slice())?;
-        assert_eq!(rt; ended, number, "{name}");
-        assert!(rt; written == bytes_of(rt.alloc(), said)?, "{name}");
+        let (ended, written) = session(alloc, asked)?;
+        assert!(rt;
+            ended == number && written == bytes_of(alloc, said)?,
+            "{name}"
+        );
     }
     Ok(())
 }

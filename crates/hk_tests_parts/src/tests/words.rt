@@ -15,49 +15,21 @@ fn prints_numbers(rt: HostRuntime) -> Result<(), Fail> {
     Ok(())
 }
 
-/// The faults, in the order of their numbers, which begin at 1.
-const FAULTS: [FormFault; 10] = [
-    FormFault::Truncated,
-    FormFault::TooLong,
-    FormFault::BadVersion,
-    FormFault::BadKind,
-    FormFault::BadStream,
-    FormFault::BadNumber,
-    FormFault::BadOrder,
-    FormFault::BadCount,
-    FormFault::BadBody,
-    FormFault::WrongLength,
-];
-
-/// What they are printed as.
-const FAULT_TEXTS: [&str; 10] = [
-    "the input ends inside a frame",
-    "the length is above its limit",
-    "the version is not 1",
-    "the kind has no meaning here",
-    "a stream is outside 1 to 64",
-    "a number is outside its range",
-    "a list does not rise strictly",
-    "a count is above its limit, or both lists are empty",
-    "a body is above 4,096 bytes",
-    "a field does not fit, or bytes are left",
-];
-
-#[test]
-fn prints_each_fault(rt: HostRuntime) -> Result<(), Fail> {
-    for (number, (fault, text)) in (1u8..).zip(FAULTS.iter().zip(FAULT_TEXTS)) {
-        let refusal = Refusal::Form(*fault);
-        assert_eq!(rt; refusal.number(), number);
-        assert_eq!(rt; format!(in rt.alloc(); "{refusal}")?.as_str(), text);
-    }
-    Ok(())
-}
-
 /// The refusal of a number, with table 1, key 5, stream 2, the times 2, 6 and 9, reader 3 and 8 operations; `Memory` for others.
 fn refusal_of(number: u8) -> Result<Refusal, Fail> {
     let (table, key, at) = (Table::new(1), Key::new(5), Time::new(2)?);
     let (base, readable) = (Time::new(9)?, Time::new(6)?);
     Ok(match number {
+        1 => Refusal::Form(FormFault::Truncated),
+        2 => Refusal::Form(FormFault::TooLong),
+        3 => Refusal::Form(FormFault::BadVersion),
+        4 => Refusal::Form(FormFault::BadKind),
+        5 => Refusal::Form(FormFault::BadStream),
+        6 => Refusal::Form(FormFault::BadNumber),
+        7 => Refusal::Form(FormFault::BadOrder),
+        8 => Refusal::Form(FormFault::BadCount),
+        9 => Refusal::Form(FormFault::BadBody),
+        10 => Refusal::Form(FormFault::WrongLength),
         20 => Refusal::ForeignLog,
         21 => Refusal::WrongStreams,
         22 => Refusal::Gap { base, readable },
@@ -85,7 +57,17 @@ fn refusal_of(number: u8) -> Result<Refusal, Fail> {
 }
 
 /// The numbers of refusals, and what these are printed as.
-const REFUSALS: [(u8, &str); 21] = [
+const REFUSALS: [(u8, &str); 31] = [
+    (1, "the input ends inside a frame"),
+    (2, "the length is above its limit"),
+    (3, "the version is not 1"),
+    (4, "the kind has no meaning here"),
+    (5, "a stream is outside 1 to 64"),
+    (6, "a number is outside its range"),
+    (7, "a list does not rise strictly"),
+    (8, "a count is above its limit, or both lists are empty"),
+    (9, "a body is above 4,096 bytes"),
+    (10, "a field does not fit, or bytes are left"),
     (20, "another log"),
     (
         21,

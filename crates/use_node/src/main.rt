@@ -1,0 +1,71 @@
+//! A running node that items are pushed to, and two readers that ask it and take no lock.
+#![tactic(auto)]
+
+ghost use Rattle.std.specs.Prelude.{◌≡◌};
+
+use hk_codec::decode_all;
+use hk_delta::{Fragment, fragment_of};
+use hk_lines::line_of;
+use hk_node::{NewList, NodeName, ReaderSeat, start};
+use hk_query::Query;
+use hk_types::{Config, Key, Refusal, Table, Time};
+use std::alloc::Global;
+use std::io::{self, Read};
+use std::marker::Brand;
+use std::sync::Wait;
+use std::thread::Threads;
+
+/// What a reader is told of table 1 at key 5 at time 1.
+fn row<J: NodeName>(alloc: Global, seat: &mut ReaderSeat<J>) -> Result<String, Refusal> {
+    let (table, key) = (Table::new(1), Key::new(5));
+    let line = match seat.ask(Time::new(1)?, &Query::Get { table, key }) {
+        Ok(answer) => line_of(alloc, &answer)?,
+        Err(why) => line_of(alloc, &why)?,
+    };
+    Ok(line)
+}
+
+/// Starts a node with two readers, and pushes a fragment to it. The first reader asks before, both ask after it.
+fn told<J: NodeName, R: Wait>(
+    rt: &R,
+    alloc: Global,
+    list: NewList,
+    pushed: Fragment,
+) -> Result<String, Refusal>
+    requires { list.0 ≡ J.book }
+{
+    let (node, mut seats) = start::<J, &R>(rt, alloc, list, 2)?;
+    let mut lines = String::new(alloc);
+    if let Some(first) = seats.first_mut() {
+        lines.push_str(row(alloc, first)?.as_str())?;
+    }
+    node.join(rt, pushed)?;
+    for seat in &mut seats {
+        seat.learn(node.publish(rt)?);
+        lines.push_str(row(alloc, seat)?.as_str())?;
+    }
+    Ok(lines)
+}
+
+/// The same of the items whose frames the bytes are, of log 7, which has one stream.
+fn filled<R: Threads + Wait + Sync>(
+    rt: &R,
+    alloc: Global,
+    bytes: &[u8],
+) -> Result<String, Refusal> {
+    let config = Config::new(7, 1)?;
+    let items = decode_all(rt, alloc, bytes)?;
+    let pushed = fragment_of(alloc, config, &items)?;
+    let list = NewList::new(config);
+    told::<Brand, R>(rt, alloc, list, pushed)
+}
+
+fn main(rt: HostRuntime) -> io::Result<()> {
+    let mut bytes = Vec::new(rt.alloc());
+    rt.reader().read_to_end(&mut bytes)?;
+    let lines = match filled(&rt, rt.alloc(), &bytes) {
+        Ok(lines) => lines,
+        Err(why) => line_of(rt.alloc(), &why)?,
+    };
+    print!(rt; "{lines}")
+}
