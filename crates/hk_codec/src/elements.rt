@@ -5,7 +5,7 @@ ghost use Rattle.hk_codec.specs.Encoding as spec;
 
 use crate::lists::{Before, read_keyed_end, read_keyed_row};
 use hk_frames::{Cursor, ReadError, put_body, put_u32, put_u64};
-use hk_types::{FormFault, Key, Row, Table, Time, VersionKey};
+use hk_types::{Key, Row, Table, Time, VersionKey};
 use std::alloc::{AllocError, Global};
 
 /// A kind of element. Each stands at a place, its table and key; the table stands before a group of them.
@@ -53,9 +53,6 @@ pub(crate) trait Elements {
         before: Before,
     ) -> Result<Self::Value, ReadError>
         ensures { GivesOrRunsOut (λ x. (x, cursor.new)) result (read time table before cursor.old) };
-
-    /// Passes so many elements over.
-    fn skip(cursor: &mut Cursor, count: u16) -> Result<(), FormFault>;
 }
 
 /// Adds an end without its table.
@@ -143,11 +140,6 @@ impl Elements for Ends {
     ) -> Result<VersionKey, ReadError> {
         Ok(read_keyed_end(cursor, time, table, before)?)
     }
-
-    fn skip(cursor: &mut Cursor, count: u16) -> Result<(), FormFault> {
-        cursor.bytes(16 * count as usize)?;
-        Ok(())
-    }
 }
 
 /// The rows of an entry: those that it put in.
@@ -188,14 +180,5 @@ impl Elements for Rows {
         before: Before,
     ) -> Result<(Table, Key, Row), ReadError> {
         read_keyed_row(alloc, cursor, table, before)
-    }
-
-    fn skip(cursor: &mut Cursor, count: u16) -> Result<(), FormFault> {
-        for _ in 0..count {
-            cursor.bytes(12)?;
-            let len = cursor.u16()?;
-            cursor.bytes(len as usize)?;
-        }
-        Ok(())
     }
 }

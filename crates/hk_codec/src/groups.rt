@@ -1,6 +1,6 @@
 //! Reading lists in groups of one table.
 
-ghost use Rattle.std.specs.Prelude.{◌≡◌, None, []};
+ghost use Rattle.std.specs.Prelude.{◌≡◌, ◌≤◌, ◌+◌, None, [], length};
 ghost use Rattle.hk_frames.specs.Fields.{GivesOrRunsOut};
 ghost use Rattle.hk_codec.specs.Lists as spec;
 
@@ -9,7 +9,7 @@ use crate::lists::Before;
 use hk_frames::{Cursor, ReadError};
 use hk_log::MOST_WRITES;
 use hk_types::{FormFault, Table, Time};
-use std::alloc::Global;
+use std::alloc::{AllocError, Global};
 
 /// The fewest bytes of an element beside its table.
 const LEAST_BYTES: usize = 14;
@@ -55,12 +55,33 @@ fn read_elements<E: Elements>(
     Ok(())
 }
 
-/// Reads a group behind the elements that are there.
+/// Makes room for the first of so many groups where it is not there, and for as many elements in each of them, but for no
+/// more than what is left of the bytes can hold.
+fn make_room<T>(
+    elements: &mut Vec<T>,
+    count: usize,
+    groups: u16,
+    left: usize,
+) -> Result<(), AllocError>
+    requires { length elements.old.items + count ≤ 1024 }
+    ensures { elements.new.items ≡ elements.old.items }
+{
+    let len = elements.len();
+    if len + count <= elements.capacity() {
+        return Ok(());
+    }
+    let wanted = count.saturating_mul(groups as usize);
+    let most = (MOST_WRITES - len).min(left / LEAST_BYTES);
+    elements.reserve_exact(wanted.min(most))
+}
+
+/// Reads the first of so many groups behind the elements that are there.
 #[tactic(auto, unfolding(crate::specs::Lists::group_at))]
 fn read_group<E: Elements>(
     alloc: Global,
     cursor: &mut Cursor,
     time: Time,
+    groups: u16,
     elements: &mut Vec<E::Value>,
 ) -> Result<(), ReadError>
     ensures { GivesOrRunsOut (λ _. (elements.new.items, cursor.new)) result (spec.group_at E.place (E.read time) elements.old.items cursor.old) }
@@ -73,37 +94,11 @@ fn read_group<E: Elements>(
     if count < 1 || elements.len() + count as usize > MOST_WRITES {
         return Err(ReadError::Fault(FormFault::BadCount));
     }
+    make_room(elements, count as usize, groups, cursor.len())?;
     read_elements::<E>(alloc, cursor, time, table, count, elements)
 }
 
-/// How many elements so many groups tell of. Those of the last group are not passed over, and counted only as far as
-/// what is left can hold them.
-fn count_elements<E: Elements>(ahead: &mut Cursor, groups: u16) -> Result<usize, FormFault> {
-    let mut total: usize = 0;
-    for _ in 1..groups {
-        ahead.u16()?;
-        let count = ahead.u16()?;
-        E::skip(ahead, count)?;
-        total = total.saturating_add(count as usize);
-    }
-    ahead.u16()?;
-    let last = (ahead.u16()? as usize).min(ahead.len() / LEAST_BYTES);
-    Ok(total.saturating_add(last))
-}
-
-/// What to reserve for so many groups: no more than the bytes can hold, and nothing where they are cut.
-fn room_for<E: Elements>(bytes: &[u8], groups: u16) -> usize {
-    if groups == 0 {
-        return 0;
-    }
-    let mut ahead = Cursor::new(bytes);
-    match count_elements::<E>(&mut ahead, groups) {
-        Ok(count) => count.min(MOST_WRITES),
-        Err(_fault) => 0,
-    }
-}
-
-/// Reads so many groups. One growth makes room for all of their elements.
+/// Reads so many groups. Room is made for all at the first, where none of them has more elements than it.
 pub(crate) fn read_groups<E: Elements>(
     alloc: Global,
     cursor: &mut Cursor,
@@ -112,9 +107,9 @@ pub(crate) fn read_groups<E: Elements>(
 ) -> Result<Vec<E::Value>, ReadError>
     ensures { GivesOrRunsOut (λ x. (x.items, cursor.new)) result (spec.groups_at E.place (E.read time) groups [] cursor.old) }
 {
-    let mut elements = Vec::with_capacity(alloc, room_for::<E>(cursor.rest(), groups))?;
-    for _ in 0..groups {
-        read_group::<E>(alloc, cursor, time, &mut elements)?;
+    let mut elements = Vec::new(alloc);
+    for passed in 0..groups {
+        read_group::<E>(alloc, cursor, time, groups - passed, &mut elements)?;
     }
     Ok(elements)
 }

@@ -68,6 +68,7 @@ pub(crate) fn read_ends(
 }
 
 /// Reads a row of a table.
+#[inline(always)]
 #[tactic(auto, unfolding(crate::specs::Reading::keyed_row_at))]
 pub(crate) fn read_keyed_row(
     alloc: Global,
