@@ -56,14 +56,22 @@ fn pushed<
     let listener = TcpListener::bind(rt, "127.0.0.1:47101")?;
     let (node, seats) = start::<J, &R>(rt, alloc, list, 1)?;
     let asked = bytes_of(alloc, ASKED)?;
-    let mut printed = Vec::new(alloc);
+    let (mut printed, mut told) = (Vec::new(alloc), Vec::<u8>::new(alloc));
     let (ends, status) = thread::join(
         rt,
         || serve_links(rt, alloc, &listener, &node, seats),
-        || run_push(rt, alloc, &mut asked.as_slice(), 47101, &mut printed),
+        || run_push(
+            rt,
+            alloc,
+            &mut asked.as_slice(),
+            47101,
+            &mut printed,
+            &mut told,
+        ),
     );
     assert_eq!(rt; status, 0);
     assert_eq!(rt; printed.as_slice(), b"done 2\n9 41\n".as_slice());
+    assert!(rt; told.is_empty());
     let clean = ends.is_ok_and(|ends| are_clean(&ends, 1));
     assert!(rt; clean);
     Ok(())
@@ -135,9 +143,16 @@ fn unreached<R: Net<Listener = TcpListener, Stream = TcpStream> + Threads + Wait
 ) -> Result<(), Fail> {
     let _taken = TcpListener::bind(rt, "127.0.0.1:47103")?;
     let links = Links::new(1).ok_or("links")?;
-    let mut printed = Vec::new(alloc);
-    let served = run_serve(rt, alloc, 47103, config, links, &mut printed);
-    let pushed = run_push(rt, alloc, &mut FRONT.as_slice(), 47104, &mut printed);
+    let (mut printed, mut told) = (Vec::new(alloc), Vec::<u8>::new(alloc));
+    let served = run_serve(rt, alloc, 47103, config, links, &mut printed, &mut told);
+    let pushed = run_push(
+        rt,
+        alloc,
+        &mut FRONT.as_slice(),
+        47104,
+        &mut printed,
+        &mut told,
+    );
     assert_eq!(rt; (served, pushed), (1, 1));
     assert_eq!(rt; printed.as_slice(), b"refused 93\nrefused 93\n".as_slice());
     Ok(())
