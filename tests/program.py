@@ -5,6 +5,8 @@ Prints a line for each check and ends with 'N passed, M failed'. Standard librar
 import os
 import pathlib
 import random
+import re
+import shutil
 import socket
 import subprocess
 import sys
@@ -95,18 +97,32 @@ def run(args, data=b"", **more):
     return subprocess.run([str(PROGRAM), *args], input=data, stderr=subprocess.PIPE, timeout=60, **more)
 
 
+def is_reason(line, why):
+    """Whether a line of standard error is of a line that was printed: of the same number, with what was refused and what to do."""
+    if line.endswith(": bad command"):
+        return why.startswith(line.split(":")[0] + ": ") and "; expected: " in why
+    return f"refused {line.split()[1]}: " in why and "; " in why
+
+
 def check(name, args, data, out, status=0):
-    """What is printed, the status, and one warning on standard error exactly where the status is 1."""
+    """What is printed, the status, and a line on standard error for each line that is a refusal or of no command."""
     got = run(args, data)
     problems = []
     if got.stdout != out.encode():
         problems.append(f"printed {got.stdout[:300]!r}, wanted {out[:300]!r}")
     if got.returncode != status:
         problems.append(f"status {got.returncode}, wanted {status}")
-    warnings = got.stderr.decode().splitlines()
-    if len(warnings) != (1 if status == 1 else 0):
-        problems.append(f"standard error has {warnings!r}")
+    reasons = got.stderr.decode().splitlines()
+    refused = [line for line in out.splitlines() if line.startswith("refused ") or line.endswith(": bad command")]
+    if len(reasons) != len(refused) or not all(map(is_reason, refused, reasons)):
+        problems.append(f"standard error has {reasons[:5]!r}")
     report(name, problems)
+
+
+def check_told(name, args, data, told):
+    """The whole of standard error."""
+    got = run(args, data).stderr.decode()
+    report(name, [] if got == told else [f"told {got!r}, wanted {told!r}"])
 
 
 def check_bad_line(name, args, words):
@@ -453,6 +469,80 @@ def world_scripts():
           "begun 1 at 0\nok\nrefused 31 table 1 key 9\n", 1)
 
 
+def reasons():
+    """What standard error says: where, what was refused with its numbers, and what to do."""
+    check_told("why a time is above the mark", at(1, 1, 5), E1,
+               "refused 26: time 1 is above the readable mark 0; feed the marks of all streams, or ask at 0\n")
+    check_told("which frame is cut", ["items"], E1 + E2[:9], "frame 2: refused 1: the input ends inside a frame; send the frame to its end\n")
+    check_told("which item is of another log", at(1, 1, 5, log="8"), E1,
+               "frame 1: refused 20: item of log 7, stream 1: another log; feed each log to a replica of its own\n")
+    check_told("which command is refused", ["world"], b"world 7 1 1\nbegin 1\nput 1 1 5 9 41\ncommit 1 1\nmark 1\nbatch 1 1 2\n\nprune 1 9\nprune 1 1\n"
+               b"ask 1 0 count 1\nask 1 2 get 1 5\nfront 2\nbegin 1\nremove 1 1 9\ncommit 1 1\n",
+               "line 8: refused 24: time 9 is above the readable mark 1; prune to 1 at most\n"
+               "line 10: refused 25: time 0 is below the horizon 1; ask at 1 or later\n"
+               "line 11: refused 26: time 2 is above the readable mark 1; feed the marks of all streams, or ask at 1\n"
+               "line 12: refused 45: no such replica or item; name a replica that the world has, and an item that was emitted\n"
+               "line 15: refused 31: table 1 key 9 has no row; remove only what is there when the transaction begins\n")
+    opening = b"world 7 1 1\n\n"
+    for line, told in ((b"commit 1 t", "commit 1 t: word 3 is no number; expected: commit SLOT STREAM"),
+                       (b"commit 1 65", "commit 1 65: word 3 is outside its range; expected: commit SLOT STREAM"),
+                       (b"commit 1 1", "commit 1 1: the slot has no transaction; expected: begin SLOT before it"),
+                       (b"mark", "mark: a word is missing; expected: mark STREAM"),
+                       (b"front 1 ", "front 1 : there is more than its words; expected: front REPLICA"),
+                       (b"ask 1 0 all 1", "ask 1 0 all 1: word 4 is no query; expected: ask REPLICA TIME get TABLE KEY, or range TABLE LOW HIGH, "
+                        "tag TABLE TAG, count TABLE"),
+                       (b"front 1\r", "front 1?: word 2 is no number; expected: front REPLICA"),
+                       (b"stop", "stop: no such command; expected: begin, put, remove, commit, mark, retire, absorb, batch, prune, merge, delta, ask or "
+                        "front"),
+                       (b"mark " + b"1" * 99, "mark " + "1" * 55 + "..: word 2 is outside its range; expected: mark STREAM")):
+        check_told(f"what is wrong with {line[:20]!r}", ["world"], opening + line, f"line 3: {told}\n")
+    check_told("a script begins with its world", ["world"], b"begin 1\n",
+               "line 1: begin 1: the first line makes the world; expected: world LOG STREAMS REPLICAS\n")
+
+
+def explained():
+    """`explain` has each number of docs/FORMATS.md with its name."""
+    rows = re.findall(r"^\| (\d+) \| (.*?) \| (.*?) \|$", (ROOT / "docs" / "FORMATS.md").read_text().split("## Faults and refusals")[1], re.M)
+    lines = run(["explain"]).stdout.decode().splitlines()
+    problems = [] if len(lines) == len(rows) == 34 else [f"{len(lines)} lines, {len(rows)} rows"]
+    for (number, name, _), line in zip(rows, lines):
+        if not line.startswith(f"{number} {name}: " if name else f"{number} ") or "; " not in line:
+            problems.append(f"{number} {name}: {line!r}")
+        if run(["explain", number]).stdout.decode() != line + "\n":
+            problems.append(f"explain {number}")
+    report("explain has each refusal", problems[:5])
+    for number in ("0", "11", "46", "94", "256", "282"):
+        check_bad_line(f"explain {number}", ["explain", number], ["no refusal"])
+    check_bad_line("explain of no number", ["explain", "x"], ["error"])
+
+
+def asked(command, *words, log="7", streams="1"):
+    return [command, "--log", log, "--streams", streams, *map(str, words)]
+
+
+def asks_and_fronts():
+    fed = E1 + E2 + E3 + mark(1, 3, 3)
+    check("ask for a row", asked("ask", 3, "get", 1, 5), fed, "9 42\n")
+    check("ask for no row", asked("ask", 0, "get", 1, 5), fed, "none\n")
+    check("ask for a range", asked("ask", 3, "range", 1, 0, 9), fed, "5 9 42\n6 9 43\nrows 2\n")
+    check("ask by tag", asked("ask", 1, "tag", 1, 9), fed, "5 9 41\nrows 1\n")
+    check("ask for a count", asked("ask", 3, "count", 1), fed, "count 2\n")
+    check("ask above the mark", asked("ask", 4, "count", 1), fed, "refused 26 readable 3\n", 1)
+    check("ask behind a fault", asked("ask", 3, "count", 1), fed + b"\0", "refused 1\n", 1)
+    check("front", asked("front"), fed, "front horizon 0 readable 3\n")
+    check("front of nothing", asked("front", streams="64"), b"", "front horizon 0 readable 0\n")
+    check("front of a foreign log", asked("front", log="8"), E1, "refused 20\n", 1)
+    late = E1 + E3 + mark(1, 3, 3) + entry(2, 9, [(1, 7, 9, b"")], stream=2) + mark(3, 0, 2 ** 62) + mark(4, 0, 5)
+    check("status", asked("status", streams="4"), late,
+          "stream 1 prefix 1 extra 1 closed 0 waiting 1 holds\nstream 2 prefix 0 extra 1 closed 0 waiting 0 holds\n"
+          "stream 3 prefix 0 extra 0 closed 4611686018427387904 waiting 0 retired\nstream 4 prefix 0 extra 0 closed 5 waiting 0 open\n"
+          "front horizon 0 readable 0\n")
+    check("status of a refused item", asked("status"), late, "refused 21\n", 1)
+    for words in (("1",), ("1", "get", "1"), ("1", "all", "1"), ("1", "get", "1", "+5"), ("+1", "get", "1", "5"), ("1", "count", "65536"),
+                  (str(2 ** 62 + 1), "count", "1"), ("1", "tag", "1", str(2 ** 32)), ("1", "count", "1", "1")):
+        check_bad_line(f"ask {' '.join(words)}", asked("ask", *words), ["error"])
+
+
 BAD_OPENINGS = ["world", "world 7", "world 7 1", "world 7 0 1", "world 7 65 1", "world 7 1 0", "world 7 1 17", "world 7 1 1 1",
                 " world 7 1 1", "world 7 1 1 ", "world  7 1 1", "World 7 1 1", "begin 1", "world -7 1 1", "world +7 1 1",
                 "world 18446744073709551616 1 1", "world 7 1 1\r"]
@@ -523,6 +613,17 @@ def command_lines():
     check_help("help of items", ["items", "--help"], ["Usage: hkrep items", "Example"])
     check_help("help of world", ["world", "--help"], ["Usage: hkrep world", "Example"])
     check_help("the version", ["--version"], ["hkrep"])
+    if shutil.which("rt"):
+        kit = subprocess.run(["rt", "version"], stdout=subprocess.PIPE, text=True, check=False).stdout.strip()
+        check_help("the version names the kit", ["--version"], [kit or "the kit"])
+    text = run(["world", "--help"]).stdout.decode()
+    table = (ROOT / "docs" / "FORMATS.md").read_text().split("## The world script")[1]
+    forms = [row.split("`")[1] for row in table.splitlines() if row.startswith("| `")]
+    report("help of world has each form", [form for form in forms if f"  {form}  " not in text] or ([] if len(forms) == 16 else [f"{len(forms)} forms"]))
+    example = text.split("<<END")[1].split("END")[0]
+    script = "".join(line.strip() + "\n" for line in example.splitlines() if line.strip())
+    check("the example of world's help", ["world"], script.encode(),
+          "begun 1 at 0\nok\ncommitted 1\nmark stream 1 n 1 m 1\ntaken\nfront horizon 0 readable 0\ntaken\n9 41\n")
 
 
 def failing_devices():
@@ -611,7 +712,7 @@ def links_example():
 def main():
     if not is_built(PROGRAM):
         return ended()
-    for group_of_checks in (worked_rows, new_worked_rows, bytes_of_all_kinds, faults_of_frames, faults_of_new_frames, rewriting, pieces, deliveries, generated_histories, refusals, world_scripts, bad_scripts, long_scripts, command_lines, failing_devices, failing_reads_and_writes, links_example):
+    for group_of_checks in (worked_rows, new_worked_rows, bytes_of_all_kinds, faults_of_frames, faults_of_new_frames, rewriting, pieces, deliveries, generated_histories, refusals, world_scripts, reasons, explained, asks_and_fronts, bad_scripts, long_scripts, command_lines, failing_devices, failing_reads_and_writes, links_example):
         group_of_checks()
     return ended()
 

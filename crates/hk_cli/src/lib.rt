@@ -1,11 +1,13 @@
-//! What the program's commands do, over any reader and writer, and the lines that they print.
+//! What the program's commands do, over any reader and writers, and the lines that they print.
 #![tactic(auto)]
 
 mod notice;
 mod push;
 mod serve;
 
-pub use hk_commands::{run_at, run_items, run_rewrite, run_world};
+pub use hk_commands::{
+    run_ask, run_at, run_explain, run_front, run_items, run_rewrite, run_status, run_world,
+};
 pub use hk_lines::{Printed, line_of};
 pub use hk_types::Links;
 pub use push::run_push;

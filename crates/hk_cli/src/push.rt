@@ -3,6 +3,7 @@
 ghost use Rattle.std.specs.Prelude.{◌≡◌, ◌≤◌};
 
 use hk_commands::{MOST_READS, Output, PIECE_BYTES, Stop};
+use hk_reasons::{Asked, Origin, Place};
 use hk_types::FormFault;
 use hk_wire::{Reply, ReplyFeeder, Request, RequestFeeder, encode_request};
 use std::alloc::Global;
@@ -18,7 +19,19 @@ struct Link<'a> {
     replies: Vec<Reply>,
     piece: Vec<u8>,
     text: Vec<u8>,
+    /// How many requests were sent.
+    sent: u64,
     is_refused: bool,
+}
+
+/// The time that a request asks for.
+fn asked_of(request: &Request) -> Asked {
+    match request {
+        Request::Ask { t, .. } => Asked::At(*t),
+        Request::Prune { horizon } => Asked::At(*horizon),
+        Request::Delta { base } => Asked::At(*base),
+        _other => Asked::Nothing,
+    }
 }
 
 impl<'a> Link<'a> {
@@ -29,12 +42,14 @@ impl<'a> Link<'a> {
             replies: Vec::new(alloc),
             piece: vec![in alloc; 0u8; PIECE_BYTES]?,
             text: Vec::new(alloc),
+            sent: 0,
             is_refused: false,
         })
     }
 
     fn send(&mut self, request: &Request) -> Result<(), Stop> {
         self.text.clear();
+        self.sent = self.sent.saturating_add(1);
         encode_request(request, &mut self.text)?;
         let mut writer = self.stream;
         match writer.write_all(&self.text) {
@@ -72,16 +87,19 @@ impl<'a> Link<'a> {
     }
 
     /// Sends each request, waits for its reply and prints it, before the next.
-    fn ask_all<W: Write>(
+    fn ask_all<W: Write, E: Write>(
         &mut self,
         requests: &[Request],
-        output: &mut Output<'_, W>,
+        output: &mut Output<'_, W, E>,
     ) -> Result<(), Stop> {
         for request in requests {
             self.send(request)?;
             let reply = self.reply()?;
-            if matches!(&reply, Reply::Refused(_why)) {
+            if let Reply::Refused(why) = &reply {
                 self.is_refused = true;
+                let place = Place::Request(self.sent);
+                let asked = asked_of(request);
+                output.tell(Origin { place, asked }, why);
             }
             output.print(&reply)?;
             output.flush()?;
@@ -91,11 +109,11 @@ impl<'a> Link<'a> {
 }
 
 /// Sends the requests of the input, one after the other, up to its end or to what stops them first.
-fn push_all<I: Read, W: Write>(
+fn push_all<I: Read, W: Write, E: Write>(
     alloc: Global,
     input: &mut I,
     link: &mut Link<'_>,
-    output: &mut Output<'_, W>,
+    output: &mut Output<'_, W, E>,
 ) -> Result<(), Stop> {
     let mut feeder = RequestFeeder::new(alloc);
     let mut requests = Vec::new(alloc);
@@ -118,12 +136,12 @@ fn push_all<I: Read, W: Write>(
 }
 
 /// Opens a link and sends the requests of the input, and says whether a reply was a refusal.
-fn push_to<R: Net<Listener = TcpListener, Stream = TcpStream>, I: Read, W: Write>(
+fn push_to<R: Net<Listener = TcpListener, Stream = TcpStream>, I: Read, W: Write, E: Write>(
     rt: &R,
     alloc: Global,
     port: u16,
     input: &mut I,
-    output: &mut Output<'_, W>,
+    output: &mut Output<'_, W, E>,
 ) -> Result<bool, Stop> {
     let stream = match TcpStream::connect(rt, (Ipv4Addr::LOCALHOST, port)) {
         Ok(stream) => stream,
@@ -149,18 +167,19 @@ fn push_to<R: Net<Listener = TcpListener, Stream = TcpStream>, I: Read, W: Write
 /// - `refused 93` where the link could not be opened, as to a port that nobody listens to;
 /// - no line where a write of the output failed or took no bytes: the status alone tells it.
 ///
-/// It reads 65,536 bytes at a time, and holds their requests and one reply. It waits for a reply without a limit.
+/// Each refusal is told to `errors` in words. It reads 65,536 bytes at a time, and holds their requests and one reply. It waits for a reply without a limit.
 /// Cost: O(n · log n), n bytes of the requests and the replies, beside the node's answers.
-pub fn run_push<R: Net<Listener = TcpListener, Stream = TcpStream>, I: Read, W: Write>(
+pub fn run_push<R: Net<Listener = TcpListener, Stream = TcpStream>, I: Read, W: Write, E: Write>(
     rt: &R,
     alloc: Global,
     input: &mut I,
     port: u16,
     writer: &mut W,
+    errors: &mut E,
 ) -> u8
     ensures { result ≤ 1 }
 {
-    let mut output = Output::new(alloc, writer);
+    let mut output = Output::new(alloc, writer, errors);
     match push_to(rt, alloc, port, input, &mut output) {
         Ok(is_refused) => u8::from(is_refused),
         Err(stop) => output.stop(stop),

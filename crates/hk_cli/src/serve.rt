@@ -6,6 +6,7 @@ use crate::notice::Notice;
 use hk_commands::{Output, Stop};
 use hk_net::{NetFault, serve_links};
 use hk_node::{NewList, NodeName, start};
+use hk_reasons::Place;
 use hk_session::Ended;
 use hk_types::{Config, Links, Refusal};
 use std::alloc::Global;
@@ -24,11 +25,15 @@ fn stop_of(fault: NetFault) -> Stop {
 }
 
 /// Prints how each link ended, and gives the status.
-fn print_ends<W: Write>(ends: &[Ended], output: &mut Output<'_, W>) -> Result<u8, Stop>
+fn print_ends<W: Write, E: Write>(ends: &[Ended], output: &mut Output<'_, W, E>) -> Result<u8, Stop>
     ensures { IfOk result (λ status. status ≤ 1) }
 {
+    let mut link = 0u64;
     for ended in ends {
-        output.print(&Notice::Ended(ended.number()))?;
+        link = link.saturating_add(1);
+        let number = ended.number();
+        output.tell_known(Place::Link(link), "ended", number);
+        output.print(&Notice::Ended(number))?;
     }
     output.flush()?;
     let all_clean = ends.iter().all(|ended| matches!(ended, Ended::Clean));
@@ -40,13 +45,14 @@ fn serve_list<
     J: NodeName + Send + Sync,
     R: Net<Listener = TcpListener, Stream = TcpStream> + Threads + Wait + Sync,
     W: Write,
+    E: Write,
 >(
     rt: &R,
     alloc: Global,
     port: u16,
     list: NewList,
     links: Links,
-    output: &mut Output<'_, W>,
+    output: &mut Output<'_, W, E>,
 ) -> Result<u8, Stop>
     requires { list.0 ≡ J.book }
     ensures { IfOk result (λ status. status ≤ 1) }
@@ -72,16 +78,25 @@ fn serve_list<
 /// - `refused 90` where memory ran out for the node or the list of links;
 /// - no line where a write failed or took no bytes: the status alone tells it.
 ///
-/// Cost: that of `start` and of `serve_links`.
+/// Each number above 0 and each such line is told to `errors` in words. Cost: that of `start` and of `serve_links`.
 pub fn run_serve<
     R: Net<Listener = TcpListener, Stream = TcpStream> + Threads + Wait + Sync,
     W: Write,
->(rt: &R, alloc: Global, port: u16, config: Config, links: Links, writer: &mut W) -> u8
+    E: Write,
+>(
+    rt: &R,
+    alloc: Global,
+    port: u16,
+    config: Config,
+    links: Links,
+    writer: &mut W,
+    errors: &mut E,
+) -> u8
     ensures { result ≤ 1 }
 {
-    let mut output = Output::new(alloc, writer);
+    let mut output = Output::new(alloc, writer, errors);
     let list = NewList::new(config);
-    match serve_list::<Brand, R, W>(rt, alloc, port, list, links, &mut output) {
+    match serve_list::<Brand, R, W, E>(rt, alloc, port, list, links, &mut output) {
         Ok(status) => status,
         Err(stop) => output.stop(stop),
     }

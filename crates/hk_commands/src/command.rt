@@ -2,8 +2,10 @@
 
 ghost use Rattle.std.specs.Prelude.{◌≤◌, IfOk};
 
+use crate::flaw::Flaw;
 use crate::words::{Unread, Words};
 use hk_model::{Event, Query};
+use hk_reasons::Asked;
 use hk_types::{Config, Key, Row, StreamNo, Table, Time};
 use std::alloc::Global;
 
@@ -55,7 +57,7 @@ pub(crate) fn opening_of(line: &str) -> Result<Opening, Unread>
 {
     let mut words = Words::new(line);
     if words.word()? != "world" {
-        return Err(Unread::BadCommand);
+        return Err(Unread::Bad(Flaw::NoWorld));
     }
     let log = words.number()?;
     let streams = words.within(1, 64)?;
@@ -63,9 +65,19 @@ pub(crate) fn opening_of(line: &str) -> Result<Opening, Unread>
     words.end()?;
     let config = Config::new(log, streams as u16);
     Ok(Opening {
-        config: config.ok().ok_or(Unread::BadCommand)?,
+        config: config.ok().ok_or(Unread::Bad(Flaw::NoWorld))?,
         replicas: replicas as u16,
     })
+}
+
+/// The time that a command asks for.
+pub(crate) fn asked_of(command: &Command) -> Asked {
+    match command {
+        Command::Event(Event::Ask { t, .. }) => Asked::At(*t),
+        Command::Event(Event::Prune { horizon, .. }) => Asked::At(*horizon),
+        Command::Event(Event::Delta { base, .. }) => Asked::At(*base),
+        _other => Asked::Nothing,
+    }
 }
 
 /// The command of a line.
@@ -142,7 +154,7 @@ fn event(alloc: Global, name: &str, words: &mut Words<'_>) -> Result<Event, Unre
         "front" => Event::FrontOf {
             replica: words.small()?,
         },
-        _other => return Err(Unread::BadCommand),
+        _other => return Err(Unread::Bad(Flaw::NoCommand)),
     })
 }
 
@@ -155,7 +167,7 @@ fn items(alloc: Global, words: &mut Words<'_>) -> Result<Vec<u64>, Unread> {
             return Ok(items);
         }
     }
-    Err(Unread::BadCommand)
+    Err(Unread::Bad(Flaw::TooMany))
 }
 
 fn query(words: &mut Words<'_>) -> Result<Query, Unread> {
@@ -176,6 +188,6 @@ fn query(words: &mut Words<'_>) -> Result<Query, Unread> {
         "count" => Query::Count {
             table: words.table()?,
         },
-        _other => return Err(Unread::BadCommand),
+        _other => return Err(words.no_query()),
     })
 }

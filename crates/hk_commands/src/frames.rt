@@ -3,6 +3,8 @@
 use crate::stop::Stop;
 use hk_codec::Feeder;
 use hk_log::Item;
+use hk_reasons::{Asked, Origin, Place};
+use hk_types::Refusal;
 use std::alloc::Global;
 use std::io::Read;
 
@@ -17,11 +19,38 @@ pub(crate) trait Sink {
     fn take(&mut self, item: &Item) -> Result<(), Stop>;
 }
 
-fn take_all<S: Sink>(items: &[Item], sink: &mut S) -> Result<(), Stop> {
+/// What is asked where an item is to be taken.
+fn asked_of(item: &Item) -> Asked {
+    let (log, stream) = match item {
+        Item::Commit(entry) => (entry.log(), entry.stream()),
+        Item::Closed(mark) => (mark.log(), mark.stream()),
+    };
+    Asked::Item { log, stream }
+}
+
+/// Where an item came from that stands behind so many frames.
+fn origin_of(frames: u64, asked: Asked) -> Origin {
+    let place = Place::Frame(frames.saturating_add(1));
+    Origin { place, asked }
+}
+
+/// Hands items to the sink, and counts those that it took.
+fn take_all<S: Sink>(items: &[Item], sink: &mut S, frames: &mut u64) -> Result<(), Stop> {
     for item in items {
-        sink.take(item)?;
+        if let Err(stop) = sink.take(item) {
+            return Err(stop.at(origin_of(*frames, asked_of(item))));
+        }
+        *frames = frames.saturating_add(1);
     }
     Ok(())
+}
+
+/// What an answer of a feeder stops, behind so many frames.
+fn checked(fed: Result<(), Refusal>, frames: u64) -> Result<(), Stop> {
+    match fed {
+        Ok(()) => Ok(()),
+        Err(why) => Err(Stop::RefusedAt(why, origin_of(frames, Asked::Nothing))),
+    }
 }
 
 /// Hands the items of the input to the sink in their order, up to the end, or to what stops them first:
@@ -33,6 +62,7 @@ pub(crate) fn hand_items<I: Read, S: Sink>(
 ) -> Result<(), Stop> {
     let mut feeder = Feeder::new(alloc);
     let mut items = Vec::new(alloc);
+    let mut frames = 0;
     let mut piece = vec![in alloc; 0u8; PIECE_BYTES]?;
     for _ in 0..MOST_READS {
         let count = match input.read(piece.as_mut_slice()) {
@@ -40,13 +70,12 @@ pub(crate) fn hand_items<I: Read, S: Sink>(
             Err(_error) => return Err(Stop::ReadFault),
         };
         if count == 0 {
-            feeder.finish()?;
-            return Ok(());
+            return checked(feeder.finish(), frames);
         }
         let fed = feeder.feed(&piece[..count], &mut items);
-        take_all(&items, sink)?;
+        take_all(&items, sink, &mut frames)?;
         items.clear();
-        fed?;
+        checked(fed, frames)?;
     }
     Err(Stop::ReadFault)
 }

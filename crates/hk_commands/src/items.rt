@@ -9,7 +9,7 @@ use hk_log::Item;
 use std::alloc::Global;
 use std::io::{Read, Write};
 
-impl<'a, W: Write> Sink for Output<'a, W> {
+impl<'a, W: Write, E: Write> Sink for Output<'a, W, E> {
     fn take(&mut self, item: &Item) -> Result<(), Stop> {
         self.print(item)
     }
@@ -23,12 +23,17 @@ impl<'a, W: Write> Sink for Output<'a, W> {
 /// - `refused 91` where a read failed, or 2^32 reads did not come to the end;
 /// - no line where a write failed or took no bytes: the status alone tells it.
 ///
-/// It reads 65,536 bytes at a time, holds their items and the part of a frame behind them, and writes once 65,536
-/// bytes of lines are gathered, and at the end. Cost: O(n), n bytes of the input.
-pub fn run_items<I: Read, W: Write>(alloc: Global, input: &mut I, writer: &mut W) -> u8
+/// What stops it is told to `errors` in words. It reads 65,536 bytes at a time, holds their items and the part of a frame
+/// behind them, and writes once 65,536 bytes of lines are gathered, and at the end. Cost: O(n), n bytes of the input.
+pub fn run_items<I: Read, W: Write, E: Write>(
+    alloc: Global,
+    input: &mut I,
+    writer: &mut W,
+    errors: &mut E,
+) -> u8
     ensures { result ≤ 1 }
 {
-    let mut output = Output::new(alloc, writer);
+    let mut output = Output::new(alloc, writer, errors);
     if let Err(stop) = hand_items(alloc, input, &mut output) {
         return output.stop(stop);
     }

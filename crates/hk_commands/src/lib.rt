@@ -1,22 +1,27 @@
-//! The commands that need no network, over any reader and writer: `at`, `items`, `rewrite` and `world`, with what prints their
-//! lines and says why one stopped.
+//! The commands that need no network, over any reader and writers: `at`, `ask`, `front`, `status`, `items`, `rewrite`, `world`
+//! and `explain`, with what prints their lines and says why one stopped.
 #![tactic(auto)]
 
-mod at;
+mod ask;
 mod command;
+mod explain;
+mod flaw;
 mod frames;
 mod items;
 mod output;
 mod rewrite;
 mod script;
+mod status;
 mod stop;
 mod words;
 mod world;
 
-pub use at::run_at;
+pub use ask::{run_ask, run_at, run_front, run_status};
+pub use explain::run_explain;
 pub use frames::{MOST_READS, PIECE_BYTES};
 pub use items::run_items;
 pub use output::Output;
 pub use rewrite::run_rewrite;
+pub use status::{Standing, StreamStatus, stream_status};
 pub use stop::Stop;
 pub use world::run_world;

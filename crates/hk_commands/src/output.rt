@@ -2,8 +2,10 @@
 
 ghost use Rattle.std.specs.Prelude.{◌≡◌};
 
+use crate::flaw::{Flaw, put_bad_line};
 use crate::stop::Stop;
 use hk_lines::Printed;
+use hk_reasons::{Asked, Origin, Place, put_known, put_reason};
 use hk_types::Refusal;
 use std::alloc::{AllocError, Global};
 use std::io::Write;
@@ -11,23 +13,37 @@ use std::io::Write;
 /// How many bytes of lines are gathered before they are written.
 const GATHERED_BYTES: usize = 65_536;
 
-/// The lines of a command on their way to a writer.
+/// What is told where memory runs out for the words.
+const NO_WORDS: &[u8] = b"refused: no memory to say why; hkrep explain has the numbers\n";
+
+/// What is told where memory ran out.
+const NO_MEMORY: &[u8] = b"refused 90: out of memory; free memory, and make the same call again\n";
+
+/// What is told where a write of the output failed.
+const NO_OUTPUT: &[u8] = b"stopped: the output can't be written; see where standard output goes\n";
+
+/// The lines of a command on their way to a writer, and what is told of refusals in words on its way to another.
 #[derive(Drop)]
-pub struct Output<'a, W: Write> {
+pub struct Output<'a, W: Write, E: Write> {
     alloc: Global,
     writer: &'a mut W,
+    errors: &'a mut E,
     /// What was gathered: whole lines.
     lines: String,
+    /// The same of what is told in words.
+    reasons: String,
     /// The lines of the value that is being printed; where memory runs out none of them is.
     next: String,
 }
 
-impl<'a, W: Write> Output<'a, W> {
-    pub fn new(alloc: Global, writer: &'a mut W) -> Output<'a, W> {
+impl<'a, W: Write, E: Write> Output<'a, W, E> {
+    pub fn new(alloc: Global, writer: &'a mut W, errors: &'a mut E) -> Output<'a, W, E> {
         Output {
             alloc,
             writer,
+            errors,
             lines: String::new(alloc),
+            reasons: String::new(alloc),
             next: String::new(alloc),
         }
     }
@@ -38,16 +54,55 @@ impl<'a, W: Write> Output<'a, W> {
         self.next.clear();
         value.print_to(self.alloc, &mut self.next)?;
         self.lines.push_str(&self.next)?;
-        if self.lines.len() >= GATHERED_BYTES {
+        if self.lines.len() >= GATHERED_BYTES || self.reasons.len() >= GATHERED_BYTES {
             return self.flush();
         }
         Ok(())
+    }
+
+    /// Adds why something was refused, in words: a line. Where there is no memory for it another line says that.
+    /// Cost: O(1).
+    pub fn tell(&mut self, origin: Origin, refusal: &Refusal) {
+        self.next.clear();
+        let made = put_reason(origin, refusal, &mut self.next);
+        self.keep_reason(made);
+    }
+
+    /// The same of a number that is no refusal of a call's, behind what happened with it. Cost: O(1).
+    pub fn tell_known(&mut self, place: Place, what: &str, number: u8) {
+        self.next.clear();
+        let made = put_known(place, what, number, &mut self.next);
+        self.keep_reason(made);
+    }
+
+    /// The same of a line that is no command. Cost: O(n), n bytes of the line.
+    pub(crate) fn tell_line(&mut self, number: u64, line: &[u8], flaw: Flaw) {
+        self.next.clear();
+        let made = put_bad_line(number, line, flaw, &mut self.next);
+        self.keep_reason(made);
+    }
+
+    /// Gathers the line that was made, where there was memory for it.
+    fn keep_reason(&mut self, made: Result<(), AllocError>) {
+        let is_kept = made.is_ok() && self.reasons.push_str(&self.next).is_ok();
+        if !is_kept {
+            self.say(NO_WORDS);
+        }
+    }
+
+    /// Writes a line in words; where that fails there is nobody to tell.
+    fn say(&mut self, line: &[u8]) {
+        let _ = self.errors.write_all(line);
     }
 
     /// Writes what was gathered. Cost: O(n), n bytes written.
     pub fn flush(&mut self) -> Result<(), Stop> {
         let written = self.writer.write_all(self.lines.as_bytes());
         self.lines.clear();
+        if !self.reasons.is_empty() {
+            let _ = self.errors.write_all(self.reasons.as_bytes());
+            self.reasons.clear();
+        }
         match written {
             Ok(()) => self.sent(),
             Err(_error) => Err(Stop::WriteFault),
@@ -74,21 +129,48 @@ impl<'a, W: Write> Output<'a, W> {
     pub fn stop(&mut self, stop: Stop) -> u8
         ensures { result ≡ 1 }
     {
-        if self.print_stop(stop).is_ok() {
-            let _ = self.flush();
+        self.tell_stop(&stop);
+        let printed = self.print_stop(&stop);
+        let flushed = self.flush();
+        if printed.is_err() || flushed.is_err() {
+            self.say(NO_OUTPUT);
         }
         1
     }
 
-    fn print_stop(&mut self, stop: Stop) -> Result<(), Stop> {
+    /// Adds why the command stopped, in words. Of a line that is no command it was told.
+    fn tell_stop(&mut self, stop: &Stop) {
+        match stop {
+            Stop::Refused(Refusal::Memory) | Stop::RefusedAt(Refusal::Memory, _) => {
+                self.say(NO_MEMORY)
+            }
+            Stop::Refused(refusal) => self.tell(
+                Origin {
+                    place: Place::Whole,
+                    asked: Asked::Nothing,
+                },
+                refusal,
+            ),
+            Stop::RefusedAt(refusal, origin) => self.tell(*origin, refusal),
+            Stop::ReadFault => self.tell_known(Place::Whole, "refused", 91),
+            Stop::SendFault => self.tell_known(Place::Whole, "refused", 92),
+            Stop::NetFault => self.tell_known(Place::Whole, "refused", 93),
+            Stop::WriteFault => self.say(NO_OUTPUT),
+            Stop::BadCommand(_) => (),
+        }
+    }
+
+    fn print_stop(&mut self, stop: &Stop) -> Result<(), Stop> {
         self.flush()?;
         match stop {
-            Stop::Refused(Refusal::Memory) => self.write_plain(b"refused 90\n"),
-            Stop::Refused(refusal) => match self.print(&refusal) {
+            Stop::Refused(Refusal::Memory) | Stop::RefusedAt(Refusal::Memory, _) => {
+                self.write_plain(b"refused 90\n")
+            }
+            Stop::Refused(refusal) | Stop::RefusedAt(refusal, _) => match self.print(refusal) {
                 Err(Stop::Refused(_memory)) => self.write_plain(b"refused 90\n"),
                 other => other,
             },
-            Stop::BadCommand(line) => self.print_bad(line),
+            Stop::BadCommand(line) => self.print_bad(*line),
             Stop::ReadFault => self.write_plain(b"refused 91\n"),
             Stop::WriteFault => Ok(()),
             Stop::SendFault => self.write_plain(b"refused 92\n"),

@@ -18,11 +18,17 @@ use std::io::{Read, Write};
 /// - `refused 91` where a read failed, or 2^32 reads did not come to the end;
 /// - no line where a write failed or took no bytes: the status alone tells it.
 ///
-/// It holds the bytes that it reads and those that it writes. Cost: O(n), n bytes of the input.
-pub fn run_rewrite<I: Read, W: Write>(alloc: Global, input: &mut I, writer: &mut W) -> u8
+/// What stops it is told to `errors` in words. It holds the bytes that it reads and those that it writes. Cost: O(n), n bytes
+/// of the input.
+pub fn run_rewrite<I: Read, W: Write, E: Write>(
+    alloc: Global,
+    input: &mut I,
+    writer: &mut W,
+    errors: &mut E,
+) -> u8
     ensures { result ≤ 1 }
 {
-    let mut output = Output::new(alloc, writer);
+    let mut output = Output::new(alloc, writer, errors);
     let sent = match rewritten(alloc, input) {
         Ok(frames) => output.send(&frames),
         Err(stop) => Err(stop),

@@ -4,6 +4,7 @@ ghost use Rattle.std.specs.Prelude.{◌≤◌};
 ghost use Rattle.hk_commands.specs.Scripts as spec;
 
 use crate::command::{Command, Opening, SLOTS};
+use crate::flaw::Flaw;
 use crate::words::Unread;
 use hk_laws::World;
 use hk_lines::Printed;
@@ -19,6 +20,16 @@ pub(crate) enum Reply {
     Begun { slot: usize, at: Time },
     /// What the world, or a transaction, told.
     Told(Told),
+}
+
+impl Reply {
+    /// The refusal that it tells.
+    pub(crate) fn refusal(&self) -> Option<Refusal> {
+        match self {
+            Reply::Told(Told::Refused(refusal)) => Some(*refusal),
+            _other => None,
+        }
+    }
 }
 
 impl Printed for Reply {
@@ -85,7 +96,10 @@ impl Script {
     /// A transaction that reads at the last commit begins, in place of what the slot had.
     fn begin(&mut self, slot: usize) -> Result<Reply, Unread> {
         let at = self.world.last();
-        let place = self.slots.get_mut(slot).ok_or(Unread::BadCommand)?;
+        let place = self
+            .slots
+            .get_mut(slot)
+            .ok_or(Unread::Bad(Flaw::EmptySlot))?;
         *place = Some(Txn::at(self.alloc, at));
         Ok(Reply::Begun {
             slot: slot.saturating_add(1),
@@ -97,7 +111,7 @@ impl Script {
     fn txn(&mut self, slot: usize) -> Result<&mut Txn, Unread> {
         match self.slots.get_mut(slot) {
             Some(Some(txn)) => Ok(txn),
-            _ => Err(Unread::BadCommand),
+            _ => Err(Unread::Bad(Flaw::EmptySlot)),
         }
     }
 

@@ -4,6 +4,7 @@ ghost use Rattle.std.specs.Prelude.{◌≡◌};
 ghost use Rattle.hk_types.specs.declared.faults.Refusal.TheVariants.{Form, Memory};
 ghost use Rattle.hk_commands.specs.declared.stop.Stop.TheVariants.{Refused};
 
+use hk_reasons::Origin;
 use hk_types::{FormFault, Refusal};
 use std::alloc::AllocError;
 
@@ -12,6 +13,8 @@ use std::alloc::AllocError;
 pub enum Stop {
     /// A fault of the input, or a refusal, `Memory` included.
     Refused(Refusal),
+    /// The same, with where it came from.
+    RefusedAt(Refusal, Origin),
     /// A read failed, or there were 2^32 reads without an end.
     ReadFault,
     /// The line of this number, counted from 1, is no command.
@@ -45,5 +48,15 @@ impl From<AllocError> for Stop {
 
     fn from(_error: AllocError) -> Stop {
         Stop::Refused(Refusal::Memory)
+    }
+}
+
+impl Stop {
+    /// The same, with where it came from, where it is a refusal of which that isn't known.
+    pub fn at(self, origin: Origin) -> Stop {
+        match self {
+            Stop::Refused(refusal) => Stop::RefusedAt(refusal, origin),
+            other => other,
+        }
     }
 }

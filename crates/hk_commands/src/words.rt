@@ -3,6 +3,7 @@
 ghost use Rattle.std.specs.Prelude.{◌≡◌, ◌≤◌, IfOk};
 ghost use Rattle.hk_commands.specs.declared.words.Unread.TheVariants.{Memory};
 
+use crate::flaw::Flaw;
 use hex::FromHexError;
 use hk_types::{Key, MOST_BODY_BYTES, Row, StreamNo, Table, Tag, Time};
 use std::alloc::{AllocError, Global};
@@ -11,7 +12,7 @@ use std::alloc::{AllocError, Global};
 #[derive(Clone, Copy)]
 pub(crate) enum Unread {
     /// The line has another form.
-    BadCommand,
+    Bad(Flaw),
     /// Memory ran out.
     Memory,
 }
@@ -28,16 +29,37 @@ impl From<AllocError> for Unread {
 #[derive(Drop)]
 pub(crate) struct Words<'a> {
     rest: Option<&'a str>,
+    /// How many words were taken.
+    taken: u64,
 }
 
 impl<'a> Words<'a> {
     pub(crate) fn new(line: &'a str) -> Words<'a> {
-        Words { rest: Some(line) }
+        Words {
+            rest: Some(line),
+            taken: 0,
+        }
+    }
+
+    /// That the word that was taken last is no number.
+    fn no_number(&self) -> Unread {
+        Unread::Bad(Flaw::NoNumber(self.taken))
+    }
+
+    /// That the number that was taken last is outside its range.
+    fn out_of_range(&self) -> Unread {
+        Unread::Bad(Flaw::OutOfRange(self.taken))
+    }
+
+    /// That the word that was taken last names no query.
+    pub(crate) fn no_query(&self) -> Unread {
+        Unread::Bad(Flaw::NoQuery(self.taken))
     }
 
     /// The next word, where one is left.
     fn next(&mut self) -> Option<&'a str> {
         let rest = self.rest?;
+        self.taken = self.taken.saturating_add(1);
         match rest.split_once(' ') {
             Some((word, more)) => {
                 self.rest = Some(more);
@@ -52,7 +74,7 @@ impl<'a> Words<'a> {
 
     /// The next word.
     pub(crate) fn word(&mut self) -> Result<&'a str, Unread> {
-        self.next().ok_or(Unread::BadCommand)
+        self.next().ok_or(Unread::Bad(Flaw::TooFew))
     }
 
     /// Whether a word is left.
@@ -63,7 +85,7 @@ impl<'a> Words<'a> {
     /// No word is left.
     pub(crate) fn end(&self) -> Result<(), Unread> {
         if self.has_more() {
-            return Err(Unread::BadCommand);
+            return Err(Unread::Bad(Flaw::TooMany));
         }
         Ok(())
     }
@@ -71,10 +93,10 @@ impl<'a> Words<'a> {
     /// A number of decimal digits alone.
     pub(crate) fn number(&mut self) -> Result<u64, Unread> {
         let word = self.word()?;
-        if !word.bytes().all(|byte| byte.is_ascii_digit()) {
-            return Err(Unread::BadCommand);
+        if word.is_empty() || !word.bytes().all(|byte| byte.is_ascii_digit()) {
+            return Err(self.no_number());
         }
-        word.parse::<u64>().ok().ok_or(Unread::BadCommand)
+        word.parse::<u64>().ok().ok_or(self.out_of_range())
     }
 
     /// A number from a least to a greatest one.
@@ -83,13 +105,14 @@ impl<'a> Words<'a> {
     {
         let number = self.number()?;
         if number < least || number > most {
-            return Err(Unread::BadCommand);
+            return Err(self.out_of_range());
         }
         Ok(number)
     }
 
     pub(crate) fn small(&mut self) -> Result<u16, Unread> {
-        u16::try_from(self.number()?).ok().ok_or(Unread::BadCommand)
+        let number = u16::try_from(self.number()?);
+        number.ok().ok_or(self.out_of_range())
     }
 
     pub(crate) fn table(&mut self) -> Result<Table, Unread> {
@@ -102,26 +125,28 @@ impl<'a> Words<'a> {
 
     pub(crate) fn tag(&mut self) -> Result<Tag, Unread> {
         let tag = u32::try_from(self.number()?);
-        Ok(Tag::new(tag.ok().ok_or(Unread::BadCommand)?))
+        Ok(Tag::new(tag.ok().ok_or(self.out_of_range())?))
     }
 
     pub(crate) fn time(&mut self) -> Result<Time, Unread> {
         let time = Time::new(self.number()?);
-        time.ok().ok_or(Unread::BadCommand)
+        time.ok().ok_or(self.out_of_range())
     }
 
     pub(crate) fn stream(&mut self) -> Result<StreamNo, Unread> {
         let stream = StreamNo::new(self.small()?);
-        stream.ok().ok_or(Unread::BadCommand)
+        stream.ok().ok_or(self.out_of_range())
     }
 
     /// A tag and a body, which is `-` where it is empty, else pairs of lower-case hexadecimal digits.
     pub(crate) fn row(&mut self, alloc: Global) -> Result<Row, Unread> {
         let tag = self.tag()?;
-        let body = body_of(alloc, self.word()?)?;
+        let word = self.word()?;
+        let no_body = Unread::Bad(Flaw::NoBody(self.taken));
+        let body = body_of(alloc, word, no_body)?;
         match Row::new(tag, body) {
             Ok(row) => Ok(row),
-            Err((_body, _fault)) => Err(Unread::BadCommand),
+            Err((_body, _fault)) => Err(no_body),
         }
     }
 }
@@ -131,16 +156,17 @@ fn is_digit(byte: u8) -> bool {
     byte.is_ascii_digit() || (b'a'..=b'f').contains(&byte)
 }
 
-fn body_of(alloc: Global, word: &str) -> Result<Vec<u8>, Unread> {
+/// The body of a word, or that it is none.
+fn body_of(alloc: Global, word: &str, no_body: Unread) -> Result<Vec<u8>, Unread> {
     if word == "-" {
         return Ok(Vec::new(alloc));
     }
     if word.is_empty() || word.len() > 2 * MOST_BODY_BYTES || !word.bytes().all(is_digit) {
-        return Err(Unread::BadCommand);
+        return Err(no_body);
     }
     match hex::decode(alloc, word) {
         Ok(body) => Ok(body),
         Err(FromHexError::OutOfMemory) => Err(Unread::Memory),
-        Err(_odd) => Err(Unread::BadCommand),
+        Err(_odd) => Err(no_body),
     }
 }

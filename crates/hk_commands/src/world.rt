@@ -2,18 +2,17 @@
 
 ghost use Rattle.std.specs.Prelude.{◌≤◌};
 
-use crate::command::{command_of, opening_of};
+use crate::command::{asked_of, command_of, opening_of};
+use crate::flaw::{Flaw, MOST_LINE_BYTES};
 use crate::frames::{MOST_READS, PIECE_BYTES};
 use crate::output::Output;
 use crate::script::{Reply, Script};
 use crate::stop::Stop;
 use crate::words::Unread;
+use hk_reasons::{Asked, Origin, Place};
 use hk_types::Refusal;
 use std::alloc::Global;
 use std::io::{Read, Write};
-
-/// The most bytes of a line, without its line feed.
-const MOST_LINE_BYTES: usize = 16_384;
 
 /// A script that is read line by line.
 #[derive(Drop)]
@@ -44,22 +43,33 @@ impl Player {
     }
 
     /// Why the line that is being read stops the script.
-    fn stop_of(&self, unread: Unread) -> Stop {
+    fn stop_of<W: Write, E: Write>(&self, unread: Unread, output: &mut Output<'_, W, E>) -> Stop {
         match unread {
-            Unread::BadCommand => Stop::BadCommand(self.number),
+            Unread::Bad(flaw) => {
+                output.tell_line(self.number, &self.line, flaw);
+                Stop::BadCommand(self.number)
+            }
             Unread::Memory => Stop::Refused(Refusal::Memory),
         }
     }
 
     /// Takes the bytes of a read, and prints what their lines are told.
-    fn take_all<W: Write>(&mut self, bytes: &[u8], output: &mut Output<'_, W>) -> Result<(), Stop> {
+    fn take_all<W: Write, E: Write>(
+        &mut self,
+        bytes: &[u8],
+        output: &mut Output<'_, W, E>,
+    ) -> Result<(), Stop> {
         for byte in bytes {
             self.take(*byte, output)?;
         }
         Ok(())
     }
 
-    fn take<W: Write>(&mut self, byte: u8, output: &mut Output<'_, W>) -> Result<(), Stop> {
+    fn take<W: Write, E: Write>(
+        &mut self,
+        byte: u8,
+        output: &mut Output<'_, W, E>,
+    ) -> Result<(), Stop> {
         if byte == b'\n' {
             self.end_line(output)?;
             self.line.clear();
@@ -67,7 +77,7 @@ impl Player {
             return Ok(());
         }
         if self.line.len() >= MOST_LINE_BYTES {
-            return Err(Stop::BadCommand(self.number));
+            return Err(self.stop_of(Unread::Bad(Flaw::TooLong), output));
         }
         self.line
             .push(byte)
@@ -75,26 +85,41 @@ impl Player {
     }
 
     /// Makes the command of the line that was read, and prints what it is told.
-    fn end_line<W: Write>(&mut self, output: &mut Output<'_, W>) -> Result<(), Stop> {
+    fn end_line<W: Write, E: Write>(&mut self, output: &mut Output<'_, W, E>) -> Result<(), Stop> {
         if self.line.is_empty() {
             return Ok(());
         }
         match self.make_line() {
-            Ok(Some(reply)) => output.print(&reply),
+            Ok(Some((reply, asked))) => self.tell(&reply, asked, output),
             Ok(None) => Ok(()),
-            Err(unread) => Err(self.stop_of(unread)),
+            Err(unread) => Err(self.stop_of(unread, output)),
         }
     }
 
+    /// Prints what the line is told, and tells why where that is a refusal.
+    fn tell<W: Write, E: Write>(
+        &self,
+        reply: &Reply,
+        asked: Asked,
+        output: &mut Output<'_, W, E>,
+    ) -> Result<(), Stop> {
+        if let Some(refusal) = reply.refusal() {
+            let place = Place::Line(self.number);
+            output.tell(Origin { place, asked }, &refusal);
+        }
+        output.print(reply)
+    }
+
     /// Makes the command of the line that was read; the first line makes the world, and is told nothing.
-    fn make_line(&mut self) -> Result<Option<Reply>, Unread> {
+    fn make_line(&mut self) -> Result<Option<(Reply, Asked)>, Unread> {
         let line = match str::from_utf8(&self.line) {
             Ok(line) => line,
-            Err(_error) => return Err(Unread::BadCommand),
+            Err(_error) => return Err(Unread::Bad(Flaw::NoText)),
         };
         if let Some(script) = &mut self.script {
             let command = command_of(self.alloc, line)?;
-            return Ok(Some(script.make(command)?));
+            let asked = asked_of(&command);
+            return Ok(Some((script.make(command)?, asked)));
         }
         let script = Script::new(self.alloc, opening_of(line)?);
         self.script = Some(script.map_err(|_refused| Unread::Memory)?);
@@ -103,11 +128,11 @@ impl Player {
 }
 
 /// Plays the script of the input up to its end, or to what stops it first.
-fn play<I: Read, W: Write>(
+fn play<I: Read, W: Write, E: Write>(
     alloc: Global,
     input: &mut I,
     player: &mut Player,
-    output: &mut Output<'_, W>,
+    output: &mut Output<'_, W, E>,
 ) -> Result<(), Stop> {
     let mut piece = vec![in alloc; 0u8; PIECE_BYTES]?;
     for _ in 0..MOST_READS {
@@ -135,12 +160,18 @@ fn play<I: Read, W: Write>(
 /// - `refused 91` where a read failed, or 2^32 reads did not come to the end;
 /// - no line where a write failed or took no bytes: the status alone tells it.
 ///
-/// A command that is refused prints its refusal, changes nothing, and the script goes on. Cost: that of the events,
-/// and O(n), n bytes of the script and of the lines.
-pub fn run_world<I: Read, W: Write>(alloc: Global, input: &mut I, writer: &mut W) -> u8
+/// A command that is refused prints its refusal, changes nothing, and the script goes on. What is refused, and a line
+/// that is no command, is told to `errors` in words. Cost: that of the events, and O(n), n bytes of the script and of
+/// the lines.
+pub fn run_world<I: Read, W: Write, E: Write>(
+    alloc: Global,
+    input: &mut I,
+    writer: &mut W,
+    errors: &mut E,
+) -> u8
     ensures { result ≤ 1 }
 {
-    let mut output = Output::new(alloc, writer);
+    let mut output = Output::new(alloc, writer, errors);
     let mut player = Player::new(alloc);
     match play(alloc, input, &mut player, &mut output) {
         Ok(()) => u8::from(player.is_refused()),

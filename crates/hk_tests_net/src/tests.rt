@@ -93,18 +93,25 @@ fn linked<
     let (node, seats) = start::<J, &R>(rt, alloc, list, 3)?;
     let (first, second) = (connected(rt)?, connected(rt)?);
     let asked = bytes_of(alloc, ASKED)?;
-    let mut printed = Vec::new(alloc);
+    let (mut printed, mut told) = (Vec::new(alloc), Vec::<u8>::new(alloc));
     let (ends, (answered, status)) = thread::join(
         rt,
         || serve_links(rt, alloc, &listener, &node, seats),
         || {
             let answered = second_before_first(&first, &second);
-            let pushed = run_push(rt, alloc, &mut asked.as_slice(), 47101, &mut printed);
+            let pushed = run_push(
+                rt,
+                alloc,
+                &mut asked.as_slice(),
+                47101,
+                &mut printed,
+                &mut told,
+            );
             (answered, pushed)
         },
     );
     assert!(rt; answered && status == 0);
-    assert!(rt; printed.as_slice() == b"done 2\n9 41\n".as_slice());
+    assert!(rt; printed.as_slice() == b"done 2\n9 41\n".as_slice() && told.is_empty());
     let clean = ends.is_ok_and(|ends| {
         matches!(ends.as_slice(), [Ended::Clean, Ended::Clean, Ended::Clean])
     });

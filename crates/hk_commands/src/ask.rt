@@ -1,0 +1,162 @@
+//! The commands `at`, `ask`, `front` and `status`.
+
+ghost use Rattle.std.specs.Prelude.{◌≤◌};
+
+use crate::frames::{Sink, hand_items};
+use crate::output::Output;
+use crate::status::stream_status;
+use crate::stop::Stop;
+use hk_log::Item;
+use hk_model::Told;
+use hk_query::{Answer, Query, ask};
+use hk_reasons::{Asked, Origin, Place};
+use hk_state::{ReplicaState, front_of};
+use hk_types::{Config, Key, StreamNo, Table, Time};
+use std::alloc::Global;
+use std::io::{Read, Write};
+
+/// A replica that absorbs what it is handed.
+#[derive(Drop)]
+struct Absorber {
+    state: ReplicaState,
+}
+
+impl Sink for Absorber {
+    fn take(&mut self, item: &Item) -> Result<(), Stop> {
+        let _took = self.state.absorb(item)?;
+        Ok(())
+    }
+}
+
+/// A replica that absorbed the items of the input.
+fn absorbed<I: Read>(alloc: Global, input: &mut I, config: Config) -> Result<Absorber, Stop> {
+    let mut absorber = Absorber {
+        state: ReplicaState::new(alloc, config)?,
+    };
+    hand_items(alloc, input, &mut absorber)?;
+    Ok(absorber)
+}
+
+fn answer_at<I: Read>(
+    alloc: Global,
+    input: &mut I,
+    config: Config,
+    time: Time,
+    query: &Query,
+) -> Result<Answer, Stop> {
+    let absorber = absorbed(alloc, input, config)?;
+    match ask(alloc, &absorber.state, time, query) {
+        Ok(answer) => Ok(answer),
+        Err(refusal) => Err(Stop::RefusedAt(
+            refusal,
+            Origin {
+                place: Place::Whole,
+                asked: Asked::At(time),
+            },
+        )),
+    }
+}
+
+/// Absorbs the item frames of the input, and prints the answer to a query at a time. Where a frame has a fault, an item
+/// is refused or the query is, the one that comes first is printed and no answer, and is told to `errors` in words. The
+/// status: 0, or 1 where a line `refused` was printed or a write failed. Cost: O(n · log n), n bytes of the input, and
+/// that of the query.
+pub fn run_ask<I: Read, W: Write, E: Write>(
+    alloc: Global,
+    input: &mut I,
+    writer: &mut W,
+    errors: &mut E,
+    config: Config,
+    time: Time,
+    query: &Query,
+) -> u8
+    ensures { result ≤ 1 }
+{
+    let mut output = Output::new(alloc, writer, errors);
+    let printed = match answer_at(alloc, input, config, time, query) {
+        Ok(answer) => output.print(&answer),
+        Err(stop) => Err(stop),
+    };
+    ended(printed, &mut output)
+}
+
+/// The same of the query for the row at a table and a key.
+pub fn run_at<I: Read, W: Write, E: Write>(
+    alloc: Global,
+    input: &mut I,
+    writer: &mut W,
+    errors: &mut E,
+    config: Config,
+    time: Time,
+    table: Table,
+    key: Key,
+) -> u8
+    ensures { result ≤ 1 }
+{
+    let query = Query::Get { table, key };
+    run_ask(alloc, input, writer, errors, config, time, &query)
+}
+
+/// Absorbs the item frames of the input, and prints from where to where the replica can be read. What stops it, and the
+/// status, are as at `run_ask`. Cost: O(n · log n), n bytes of the input.
+pub fn run_front<I: Read, W: Write, E: Write>(
+    alloc: Global,
+    input: &mut I,
+    writer: &mut W,
+    errors: &mut E,
+    config: Config,
+) -> u8
+    ensures { result ≤ 1 }
+{
+    let mut output = Output::new(alloc, writer, errors);
+    let printed = match absorbed(alloc, input, config) {
+        Ok(absorber) => output.print(&Told::Fronted(front_of(&absorber.state))),
+        Err(stop) => Err(stop),
+    };
+    ended(printed, &mut output)
+}
+
+/// Absorbs the item frames of the input, and prints a line for each stream, how far it is, and then from where to where
+/// the replica can be read. What stops it, and the status, are as at `run_ask`. Cost: O(n · log n), n bytes of the input.
+pub fn run_status<I: Read, W: Write, E: Write>(
+    alloc: Global,
+    input: &mut I,
+    writer: &mut W,
+    errors: &mut E,
+    config: Config,
+) -> u8
+    ensures { result ≤ 1 }
+{
+    let mut output = Output::new(alloc, writer, errors);
+    let printed = match absorbed(alloc, input, config) {
+        Ok(absorber) => print_status(&absorber.state, &mut output),
+        Err(stop) => Err(stop),
+    };
+    ended(printed, &mut output)
+}
+
+fn print_status<W: Write, E: Write>(
+    state: &ReplicaState,
+    output: &mut Output<'_, W, E>,
+) -> Result<(), Stop> {
+    let got = state.got();
+    for index in 0..got.streams() {
+        let stream = StreamNo::new(index + 1)?;
+        output.print(&stream_status(got, stream))?;
+    }
+    output.print(&Told::Fronted(front_of(state)))
+}
+
+/// Writes what was printed, or why it stopped, and gives the status.
+fn ended<W: Write, E: Write>(printed: Result<(), Stop>, output: &mut Output<'_, W, E>) -> u8
+    ensures { result ≤ 1 }
+{
+    let flushed = match printed {
+        Ok(()) => output.flush(),
+        Err(stop) => Err(stop),
+    };
+    match flushed {
+        Ok(()) => 0,
+        Err(stop) => output.stop(stop),
+    }
+}

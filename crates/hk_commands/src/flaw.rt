@@ -1,0 +1,118 @@
+//! What is wrong with a line that is no command.
+
+use std::alloc::AllocError;
+
+/// The most bytes of a line, without its line feed.
+pub(crate) const MOST_LINE_BYTES: usize = 16_384;
+
+/// The most letters of a line that are shown again.
+const MOST_SHOWN: usize = 60;
+
+/// What is wrong with a line; its words are counted from 1.
+#[derive(Clone, Copy)]
+pub(crate) enum Flaw {
+    /// Its bytes are no text.
+    NoText,
+    /// It has more than `MOST_LINE_BYTES` bytes.
+    TooLong,
+    /// It is the first, and doesn't make the world.
+    NoWorld,
+    /// No command has its first word.
+    NoCommand,
+    /// No query has this word.
+    NoQuery(u64),
+    /// It ends where a word is wanted.
+    TooFew,
+    /// It goes on where no word is wanted.
+    TooMany,
+    /// This word is no number.
+    NoNumber(u64),
+    /// This number is outside its range.
+    OutOfRange(u64),
+    /// This word is no body.
+    NoBody(u64),
+    /// The slot that it names has no transaction.
+    EmptySlot,
+}
+
+/// The form of the line that has this first word.
+fn form_of(name: &str) -> &'static str {
+    match name {
+        "begin" => "begin SLOT",
+        "put" => "put SLOT TABLE KEY TAG BODY",
+        "remove" => "remove SLOT TABLE KEY",
+        "commit" => "commit SLOT STREAM",
+        "mark" => "mark STREAM",
+        "retire" => "retire STREAM",
+        "absorb" => "absorb REPLICA ITEM",
+        "batch" => "batch REPLICA ITEM ITEM ..",
+        "prune" => "prune REPLICA TIME",
+        "merge" => "merge TO FROM",
+        "delta" => "delta TO FROM BASE",
+        "front" => "front REPLICA",
+        "ask" => {
+            "ask REPLICA TIME get TABLE KEY, or range TABLE LOW HIGH, tag TABLE TAG, count TABLE"
+        }
+        _other => {
+            "begin, put, remove, commit, mark, retire, absorb, batch, prune, merge, delta, ask or front"
+        }
+    }
+}
+
+fn wanted(flaw: Flaw, text: &str) -> &'static str {
+    match flaw {
+        Flaw::NoWorld => "world LOG STREAMS REPLICAS",
+        Flaw::EmptySlot => "begin SLOT before it",
+        _other => match text.split_once(' ') {
+            Some((name, _rest)) => form_of(name),
+            None => form_of(text),
+        },
+    }
+}
+
+fn put_flaw(flaw: Flaw, out: &mut String) -> Result<(), AllocError> {
+    match flaw {
+        Flaw::NoText => out.push_str("its bytes are no text"),
+        Flaw::TooLong => write!(out, "it has more than {MOST_LINE_BYTES} bytes"),
+        Flaw::NoWorld => out.push_str("the first line makes the world"),
+        Flaw::NoCommand => out.push_str("no such command"),
+        Flaw::NoQuery(word) => write!(out, "word {word} is no query"),
+        Flaw::TooFew => out.push_str("a word is missing"),
+        Flaw::TooMany => out.push_str("there is more than its words"),
+        Flaw::NoNumber(word) => write!(out, "word {word} is no number"),
+        Flaw::OutOfRange(word) => write!(out, "word {word} is outside its range"),
+        Flaw::NoBody(word) => write!(
+            out,
+            "word {word} is no body, which is - or up to 4096 pairs of 0 to 9 and a to f"
+        ),
+        Flaw::EmptySlot => out.push_str("the slot has no transaction"),
+    }
+}
+
+/// Adds the first letters of a line, with a question mark for each that would move the cursor.
+fn put_shown(text: &str, out: &mut String) -> Result<(), AllocError> {
+    for letter in text.chars().take(MOST_SHOWN) {
+        out.push(if letter.is_control() { '?' } else { letter })?;
+    }
+    if text.chars().count() > MOST_SHOWN {
+        out.push_str("..")?;
+    }
+    Ok(())
+}
+
+/// Adds a line that says what is wrong with the line of this number, and which form was expected. The only error is
+/// out of memory; then a part of the line may stand. Cost: O(n), n bytes of the line.
+pub(crate) fn put_bad_line(
+    number: u64,
+    line: &[u8],
+    flaw: Flaw,
+    out: &mut String,
+) -> Result<(), AllocError> {
+    let text = str::from_utf8(line).unwrap_or("");
+    let wanted = wanted(flaw, text);
+    write!(out, "line {number}: ")?;
+    put_shown(text, out)?;
+    out.push_str(": ")?;
+    put_flaw(flaw, out)?;
+    writeln!(out, "; expected: {wanted}")
+}

@@ -1,0 +1,117 @@
+//! How far each stream of a replica is.
+
+ghost use Rattle.std.specs.Prelude.{◌≡◌, ◌≤◌, ◌++◌, ℕ, nat_le, length, OnOk};
+ghost use Rattle.hk_model.specs.Replica.Content.{least_closed};
+ghost use Rattle.hk_model.specs.Replica.Streams.{covers, stream_at};
+ghost use Rattle.std.specs.String.{string_bytes};
+ghost use Rattle.hk_commands.specs.Statuses as spec;
+
+use hk_lines::Printed;
+use hk_marks::Got;
+use hk_types::{StreamNo, Time};
+use std::alloc::{AllocError, Global};
+
+/// What a stream does to the readable mark.
+#[derive(Clone, Copy)]
+pub enum Standing {
+    /// It is closed up to a time above the mark.
+    Open,
+    /// It is closed up to the mark, and holds it back.
+    Holds,
+    /// It is retired, and holds nobody back.
+    Retired,
+}
+
+/// How far a stream is.
+#[derive(Clone, Copy)]
+pub struct StreamStatus {
+    /// The stream's number.
+    pub stream: StreamNo,
+    /// The number up to which all its entries are taken.
+    pub prefix: u64,
+    /// How many entries above the prefix are taken.
+    pub extra: usize,
+    /// The time up to which it is closed.
+    pub closed: Time,
+    /// How many marks wait for entries.
+    pub waiting: usize,
+    /// What it does to the readable mark.
+    pub standing: Standing,
+}
+
+/// What a stream does to the readable mark.
+fn standing_of(got: &Got, stream: StreamNo) -> Standing
+    requires { stream ≤ length got.now }
+    ensures { result ≡ spec.standing_of (stream_at got.now stream).closed (least_closed got.now) }
+{
+    if got.retired(stream) {
+        return Standing::Retired;
+    }
+    if got.closed(stream) == got.readable() {
+        return Standing::Holds;
+    }
+    Standing::Open
+}
+
+/// How far a stream is. It takes no memory. Cost: O(s), s streams.
+pub fn stream_status(got: &Got, stream: StreamNo) -> StreamStatus
+    requires { stream ≤ length got.now }
+    ensures stream { result.stream ≡ stream }
+    ensures prefix { (n : ℕ) → covers (stream_at got.now stream).taken n ≡ nat_le n result.prefix }
+    ensures closed { result.closed ≡ (stream_at got.now stream).closed }
+    ensures standing { result.standing
+        ≡ spec.standing_of (stream_at got.now stream).closed (least_closed got.now) }
+{
+    StreamStatus {
+        stream,
+        prefix: got.prefix(stream),
+        extra: got.extra_numbers(stream).len(),
+        closed: got.closed(stream),
+        waiting: got.waiting_marks(stream).len(),
+        standing: standing_of(got, stream),
+    }
+}
+
+fn put_taken(status: &StreamStatus, out: &mut String) -> Result<(), AllocError>
+    ensures { OnOk result (string_bytes out.new ≡ string_bytes out.old ++ spec.taken_part status.now) }
+{
+    let stream = status.stream;
+    let prefix = status.prefix;
+    let extra = status.extra;
+    write!(out, "stream {stream} prefix {prefix} extra {extra}")
+}
+
+fn put_closed(status: &StreamStatus, out: &mut String) -> Result<(), AllocError>
+    ensures { OnOk result (string_bytes out.new ≡ string_bytes out.old ++ spec.closed_part status.now) }
+{
+    let closed = status.closed;
+    let waiting = status.waiting;
+    write!(out, " closed {closed} waiting {waiting}")
+}
+
+fn put_standing(standing: Standing, out: &mut String) -> Result<(), AllocError>
+    ensures { OnOk result (string_bytes out.new ≡ string_bytes out.old ++ spec.standing_part standing) }
+{
+    match standing {
+        Standing::Open => writeln!(out, " open"),
+        Standing::Holds => writeln!(out, " holds"),
+        Standing::Retired => writeln!(out, " retired"),
+    }
+}
+
+#[tactic(auto, using(std::proofs::Common::append_assoc))]
+fn put_status(status: &StreamStatus, out: &mut String) -> Result<(), AllocError>
+    ensures { OnOk result (string_bytes out.new ≡ string_bytes out.old ++ spec.status_line status.now) }
+{
+    put_taken(status, out)?;
+    put_closed(status, out)?;
+    put_standing(status.standing, out)
+}
+
+impl Printed for StreamStatus {
+    ghost text = { spec.status_line };
+
+    fn print_to(&self, _alloc: Global, out: &mut String) -> Result<(), AllocError> {
+        put_status(self, out)
+    }
+}

@@ -1,0 +1,80 @@
+//! Standard input, with a line on a terminal that tells how much of it was read.
+
+use std::io;
+use std::io::{IsTerminal, Read, Write};
+use std::time::Instant;
+
+/// A megabyte.
+const MEGABYTE: u64 = 1_000_000;
+
+/// A reader that tells each second how much was read, where standard error is a terminal. The line is overwritten by what
+/// is written next, and cleared at the end of the input.
+#[derive(Drop)]
+pub(crate) struct Watched<'a, I: Drop> {
+    rt: &'a HostRuntime,
+    input: I,
+    /// When the reading began, where it is told.
+    start: Option<Instant>,
+    bytes: u64,
+    /// How many whole seconds had gone by when it was told last.
+    seconds: u64,
+}
+
+impl<'a, I: Drop> Watched<'a, I> {
+    pub(crate) fn new(rt: &'a HostRuntime, input: I) -> Watched<'a, I> {
+        let start = if rt.stderr().is_terminal() {
+            Instant::now(rt).ok()
+        } else {
+            None
+        };
+        Watched {
+            rt,
+            input,
+            start,
+            bytes: 0,
+            seconds: 0,
+        }
+    }
+
+    /// How many whole seconds have gone by since the start, where they are more than were told.
+    fn next_seconds(&self) -> Option<u64> {
+        let seconds = self.start?.elapsed(self.rt).ok()?.as_secs();
+        if seconds > self.seconds {
+            Some(seconds)
+        } else {
+            None
+        }
+    }
+
+    /// Tells how much was read; where that fails there is nobody to tell.
+    fn tell(&mut self, seconds: u64) {
+        self.seconds = seconds;
+        let megabytes = self.bytes / MEGABYTE;
+        let mut errors = self.rt.stderr();
+        let _ = write!(errors, "\x1b[Kread {megabytes} MB in {seconds} s\r");
+    }
+
+    /// Clears what was told.
+    fn clear(&mut self) {
+        if self.seconds > 0 {
+            let mut errors = self.rt.stderr();
+            let _ = errors.write_all(b"\x1b[K");
+        }
+    }
+}
+
+impl<I: Read + Drop> Read for Watched<'_, I> {
+    fn read(&mut self, buf: &mut [u8]) -> io::Result<usize> {
+        let outcome = self.input.read(buf);
+        match &outcome {
+            Ok(0) | Err(_) => self.clear(),
+            Ok(count) => {
+                self.bytes = self.bytes.saturating_add(*count as u64);
+                if let Some(seconds) = self.next_seconds() {
+                    self.tell(seconds);
+                }
+            }
+        }
+        outcome
+    }
+}
