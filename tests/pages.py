@@ -12,6 +12,13 @@ from checks import ended, is_built, report
 ROOT = pathlib.Path(__file__).resolve().parent.parent
 PROGRAM = ROOT / "bin" / "hkrep"
 README = (ROOT / "README.md").read_text()
+PAGES = [ROOT / "README.md", *(ROOT / "docs").glob("*.md"), *(ROOT / "uses").glob("*.md"), *(ROOT / "examples").glob("*.md"),
+         *(ROOT / "examples").glob("world/*.md")]
+
+# What stands in a command of a page for something of the reader's own; a port is a free one.
+STAND_INS = {"FRAMES": "examples/first.bin", "NAME": "half_fed", "47000": None, "47110": None}
+
+
 def sources():
     return [*(ROOT / "crates").glob("use_*/src/main.rt"), *(ROOT / "examples").glob("links/*.py")]
 
@@ -59,9 +66,64 @@ def asked_node():
     report("examples/links/ask.py asks the README's node", problems)
 
 
+def shown():
+    """The commands of the pages that can be run as they stand: page, command, and what a comment behind it says."""
+    for page in PAGES:
+        text = page.read_text()
+        for line in re.findall(r"^    ((?:bin/)?hkrep .*)$", text, re.M):
+            command, _, said = line.partition("#")
+            yield page, command.strip(), said.strip()
+        for command in re.findall(r"`((?:bin/)?hkrep [^`]+)`", text):
+            if re.search(r" < | explain| help |--help|--version|^bin/hkrep serve", command):
+                yield page, command, ""
+
+
+def bash(command):
+    ran = subprocess.run(["bash", "-c", command], cwd=ROOT, stdout=subprocess.PIPE, stderr=subprocess.PIPE, text=True, timeout=60, check=False)
+    return ran.stdout, ran.returncode
+
+
+def as_said(printed, said):
+    """Whether it printed what a comment says: lines, or a file."""
+    if said.startswith("prints "):
+        return printed == (ROOT / said.removeprefix("prints ")).read_text()
+    return not said or printed.splitlines() == re.split(r", then |, ", said)
+
+
+def shown_commands():
+    """Each command that a page shows runs, and prints what the page says; `push` to the node that stands above it."""
+    problems, count, port = [], 0, free_port()
+    for page, command, said in shown():
+        count += 1
+        for word, stands_for in STAND_INS.items():
+            command = command.replace(word, stands_for or port)
+        if not command.startswith("bin/"):
+            command = f"bin/{command}"
+        if " serve " in command:
+            continue
+        if " push " in command:
+            node = subprocess.Popen([PROGRAM, "serve", "--log", "7", "--streams", "1", "--port", port, "--links", "1"], stdout=subprocess.PIPE)
+            node.stdout.readline()
+            printed, status = bash(command)
+            node.communicate(timeout=60)
+        else:
+            printed, status = bash(command)
+        is_refused = bool(re.search(r"^refused", printed, re.M))
+        if status != is_refused or not printed or not as_said(printed, said):
+            problems.append(f"{page.name}: {command}: status {status}, printed {printed[:200]!r}")
+    report("each command that a page shows runs and prints what the page says", problems or ([] if count >= 10 else [f"only {count} commands"]))
+
+
+def made():
+    """Each `make` that a page names is one of the Makefile's."""
+    known = set(re.findall(r"^([a-z-]+):", (ROOT / "Makefile").read_text(), re.M))
+    named = {word for page in PAGES for word in re.findall(r"(?:`|^)make ([a-z-]+)", page.read_text(), re.M)}
+    report("each make of a page is in the Makefile", sorted(named - known))
+
+
 def links():
     problems = []
-    for page in [ROOT / "README.md", *(ROOT / "docs").glob("*.md"), *(ROOT / "uses").glob("*.md"), *(ROOT / "examples").glob("*.md")]:
+    for page in PAGES:
         for target in re.findall(r"\]\(([^)#:]+)\)", page.read_text()):
             if not (page.parent / target).exists():
                 problems.append(f"{page.name}: {target}")
@@ -71,7 +133,7 @@ def links():
 def main():
     if not is_built(PROGRAM):
         return ended()
-    for check in (listings, picture, calling, commands, asked_node, links):
+    for check in (listings, picture, calling, commands, shown_commands, made, asked_node, links):
         check()
     return ended()
 
