@@ -74,7 +74,7 @@ def shown():
             command, _, said = line.partition("#")
             yield page, command.strip(), said.strip()
         for command in re.findall(r"`((?:bin/)?hkrep [^`]+)`", text):
-            if re.search(r" < | explain| help |--help|--version|^bin/hkrep serve", command):
+            if re.search(r" < | explain| help |--help|--version|--log ", command):
                 yield page, command, ""
 
 
@@ -101,6 +101,8 @@ def shown_commands():
             command = f"bin/{command}"
         if " serve " in command:
             continue
+        if " --log " in command and " < " not in command:
+            command += " < examples/first.bin"
         if " push " in command:
             node = subprocess.Popen([PROGRAM, "serve", "--log", "7", "--streams", "1", "--port", port, "--links", "1"], stdout=subprocess.PIPE)
             node.stdout.readline()
