@@ -120,7 +120,10 @@ def made():
     """Each `make` that a page names is one of the Makefile's."""
     known = set(re.findall(r"^([a-z-]+):", (ROOT / "Makefile").read_text(), re.M))
     named = {word for page in PAGES for word in re.findall(r"(?:`|^)make ([a-z-]+)", page.read_text(), re.M)}
-    report("each make of a page is in the Makefile", sorted(named - known))
+    problems = sorted(named - known)
+    problems += [word for word in sorted(named & known) if bash(f"make -n {word}")[1] != 0]
+    demo, status = bash(re.search(r"^demo:.*\n\t(.*)$", (ROOT / "Makefile").read_text(), re.M)[1])
+    report("each make of a page is in the Makefile, and the demo prints its answer", problems + ([] if (demo, status) == ("9 41\n", 0) else [demo]))
 
 
 def links():
