@@ -1,5 +1,5 @@
 -- The chain of a key: its versions, by the time at which they were born.
-use Rattle.std.specs.Prelude.{ℕ, Bool, not, ◌&&◌, ◌==◌, nat_le, List, [], ◌∷◌, Option, Some, None, Result, Ok, Err, if◌then◌else◌, is_some}
+use Rattle.std.specs.Prelude.{ℕ, Bool, not, ◌&&◌, ◌==◌, nat_le, List, [], ◌∷◌, Option, Some, None, Result, Ok, Err, if◌then◌else◌, is_some, ◌≡◌, true, ◌≤◌}
 use Rattle.std.specs.Ordering.{nat_cmp}
 use Rattle.std.specs.FinMap as finmap
 use Rattle.hk_types.specs.Values.{RowValue}
@@ -68,3 +68,14 @@ row_at c t = shown t (latest_at c t)
 abbrev pub picked : ℕ → ℕ → Option (ℕ × VersionValue) → Option RowValue
 picked t born None = None
 picked t born (Some e) = if (e.0 == born) && not (at_most t e.1.died) then e.1.row else None
+
+-- of the versions whose birth passes a test the one born first
+pub record IsEarliest (c : ChainValue) (test : ℕ → Bool) (found : ℕ × VersionValue) : Type 0 where
+  pub known : finmap.get c found.0 ≡ Some found.1
+  pub passes : test found.0 ≡ true
+  pub earliest : (born : ℕ) → test born ≡ true → is_some (finmap.get c born) ≡ true → found.0 ≤ born
+
+-- the version born first of those whose birth passes a test, or none where there is none
+abbrev pub FirstBorn : ChainValue → (ℕ → Bool) → Option (ℕ × VersionValue) → Type 0
+FirstBorn c test (Some found) = IsEarliest c test found
+FirstBorn c test None = (born : ℕ) → test born ≡ true → finmap.get c born ≡ None

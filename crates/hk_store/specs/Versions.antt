@@ -1,5 +1,6 @@
 -- Facts as a list of versions.
-use Rattle.std.specs.Prelude.{◌≡◌, Bool, ◌||◌, ◌&&◌, ◌==◌, All, List, map, Some, is_some}
+use Rattle.std.specs.Prelude.{◌≡◌, Bool, true, ◌||◌, ◌&&◌, ◌==◌, All, List, map, Option, Some, None, is_some}
+use Rattle.std.specs.Ordering.{is_le}
 use Rattle.std.specs.Borrow.{Bor}
 use Rattle.std.specs.List.Sorted.{IsStrictlySortedBy}
 use Rattle.hk_types.specs.Values.{same_row}
@@ -34,3 +35,14 @@ value_conflicts_at f v known = values_conflict same_row (finmap.get f.rows v) kn
 -- whether a version has another row, or another end, in the first than in the second
 abbrev pub conflict_at : FactsValue → FactsValue → VersionKey → Bool
 conflict_at f g v = values_conflict same_row (finmap.get f.rows v) (finmap.get g.rows v) || values_conflict (λ a b. a == b) (finmap.get f.ends v) (finmap.get g.ends v)
+
+-- of the versions that pass a test and of which anything is known the least one, with what is known of it
+pub record IsLeast (f : FactsValue) (test : VersionKey → Bool) (found : VersionKey × VersionValue) : Type 0 where
+  pub known : known_at f found.0 ≡ Some found.1
+  pub passes : test found.0 ≡ true
+  pub least : (q : VersionKey) → test q ≡ true → is_some (known_at f q) ≡ true → is_le (version_key_cmp found.0 q) ≡ true
+
+-- the least version that passes a test and of which anything is known, or none where there is none
+abbrev pub FirstWhere : FactsValue → (VersionKey → Bool) → Option (VersionKey × VersionValue) → Type 0
+FirstWhere f test (Some found) = IsLeast f test found
+FirstWhere f test None = (q : VersionKey) → test q ≡ true → known_at f q ≡ None
