@@ -22,8 +22,8 @@ struct Absorber {
 }
 
 impl Sink for Absorber {
-    fn take(&mut self, item: &Item) -> Result<(), Stop> {
-        let _took = self.state.absorb(item)?;
+    fn take(&mut self, item: Item) -> Result<(), Stop> {
+        let _took = self.state.absorb_owned(item)?;
         Ok(())
     }
 }

@@ -16,7 +16,7 @@ pub const MOST_READS: u64 = 4_294_967_296;
 
 /// What takes the items of an input, one after the other.
 pub(crate) trait Sink {
-    fn take(&mut self, item: &Item) -> Result<(), Stop>;
+    fn take(&mut self, item: Item) -> Result<(), Stop>;
 }
 
 /// What is asked where an item is to be taken.
@@ -35,10 +35,11 @@ fn origin_of(frames: u64, asked: Asked) -> Origin {
 }
 
 /// Hands items to the sink, and counts those that it took.
-fn take_all<S: Sink>(items: &[Item], sink: &mut S, frames: &mut u64) -> Result<(), Stop> {
+fn take_all<S: Sink>(items: Vec<Item>, sink: &mut S, frames: &mut u64) -> Result<(), Stop> {
     for item in items {
+        let asked = asked_of(&item);
         if let Err(stop) = sink.take(item) {
-            return Err(stop.at(origin_of(*frames, asked_of(item))));
+            return Err(stop.at(origin_of(*frames, asked)));
         }
         *frames = frames.saturating_add(1);
     }
@@ -61,7 +62,6 @@ pub(crate) fn hand_items<I: Read, S: Sink>(
     sink: &mut S,
 ) -> Result<(), Stop> {
     let mut feeder = Feeder::new(alloc);
-    let mut items = Vec::new(alloc);
     let mut frames = 0;
     let mut piece = vec![in alloc; 0u8; PIECE_BYTES]?;
     for _ in 0..MOST_READS {
@@ -72,9 +72,9 @@ pub(crate) fn hand_items<I: Read, S: Sink>(
         if count == 0 {
             return checked(feeder.finish(), frames);
         }
+        let mut items = Vec::new(alloc);
         let fed = feeder.feed(&piece[..count], &mut items);
-        take_all(&items, sink, &mut frames)?;
-        items.clear();
+        take_all(items, sink, &mut frames)?;
         checked(fed, frames)?;
     }
     Err(Stop::ReadFault)

@@ -10,8 +10,8 @@ use std::alloc::Global;
 use std::io::{Read, Write};
 
 impl<'a, W: Write, E: Write> Sink for Output<'a, W, E> {
-    fn take(&mut self, item: &Item) -> Result<(), Stop> {
-        self.print(item)
+    fn take(&mut self, item: Item) -> Result<(), Stop> {
+        self.print(&item)
     }
 }
 

@@ -165,6 +165,14 @@ impl Entry {
         self.rows.as_slice()
     }
 
+    /// The versions that it ended and the rows that it put in, moved out of it: no body is copied.
+    pub fn into_writes(self) -> (Vec<VersionKey>, Vec<(Table, Key, Row)>)
+        ensures ends { result.0.items ≡ self.ends }
+        ensures rows { result.1.items ≡ self.rows }
+    {
+        (self.ends, self.rows)
+    }
+
     /// The same entry again, its rows copied. The only error is out of memory. Cost: O(w + b), w ends and
     /// rows, b bytes of bodies.
     pub fn copy(&self, alloc: Global) -> Result<Entry, AllocError>

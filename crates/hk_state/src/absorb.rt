@@ -5,6 +5,7 @@ ghost use Rattle.hk_types.specs.declared.faults.Refusal.TheVariants.{Memory};
 ghost use Rattle.hk_log.specs.declared.item.Item.TheVariants.{Commit, Closed};
 ghost use Rattle.hk_model.specs.declared.took.Took.TheVariants.{Taken};
 ghost use Rattle.hk_model.specs.Replica.Items as spec;
+ghost use Rattle.hk_model.specs.Replica.Rules.{entry_conflicts};
 ghost use Rattle.hk_model.specs.Replica.Streams.{all_together, streams_of};
 ghost use Rattle.hk_state.specs.Calls.{Absorbs, AbsorbsOf};
 ghost use Rattle.hk_store.specs.Facts.{with_entry};
@@ -42,30 +43,32 @@ fn take_noted(
     facts: &mut Facts,
     got: &mut Got,
     journal: &mut Vec<(VersionKey, Part)>,
-    entry: &Entry,
+    entry: Entry,
 ) -> Result<(), Refusal>
-    requires { entry.now.stream ≤ length got.old }
-    ensures facts { OnOk result (facts.new ≡ with_entry facts.old entry.now) }
-    ensures got { OnOk result (got.new ≡ all_together got.old (streams_of (length got.old) (Commit entry.now ∷ []))) }
+    requires { entry.stream ≤ length got.old }
+    ensures facts { OnOk result (facts.new ≡ with_entry facts.old entry) }
+    ensures got { OnOk result (got.new ≡ all_together got.old (streams_of (length got.old) (Commit entry ∷ []))) }
     ensures err { IfErr result (λ why. why ≡ Memory) }
     ensures kept { OnErr result (got.new ≡ got.old) }
     ensures back { without_journal journal.new.items facts.new ≡ without_journal journal.old.items facts.old }
 {
+    let stream = entry.stream();
+    let number = entry.number();
     facts.add_writes(journal, entry)?;
-    got.add_number(entry.stream(), entry.number())
+    got.add_number(stream, number)
 }
 
-/// Adds an entry's rows, ends and number, or nothing of it.
+/// Adds an entry's rows, ends and number, or nothing of it. Its bodies are moved.
 fn take_entry(
     alloc: Global,
     facts: &mut Facts,
     got: &mut Got,
-    entry: &Entry,
+    entry: Entry,
 ) -> Result<Took, Refusal>
-    requires { entry.now.stream ≤ length got.old }
+    requires { entry.stream ≤ length got.old }
     ensures told { IfOk result (λ took. took ≡ Taken) }
-    ensures facts { OnOk result (facts.new ≡ with_entry facts.old entry.now) }
-    ensures got { OnOk result (got.new ≡ all_together got.old (streams_of (length got.old) (Commit entry.now ∷ []))) }
+    ensures facts { OnOk result (facts.new ≡ with_entry facts.old entry) }
+    ensures got { OnOk result (got.new ≡ all_together got.old (streams_of (length got.old) (Commit entry ∷ []))) }
     ensures err { IfErr result (λ why. why ≡ Memory) }
     ensures same_facts { OnErr result (facts.new ≡ facts.old) }
     ensures same_got { OnErr result (got.new ≡ got.old) }
@@ -91,16 +94,38 @@ fn take_mark(got: &mut Got, mark: &Mark) -> Result<Took, Refusal>
 }
 
 impl ReplicaState {
-    /// Absorbs an entry of the log.
+    /// Whether an entry conflicts with what is held: with a row, an end, or the closed time of its stream.
+    fn conflicts_with(&self, entry: &Entry) -> bool
+        requires { spec.wrong_log self.now.log (length self.now.streams) (Commit entry.now) ≡ None }
+        ensures { result ≡ entry_conflicts self.now entry.now }
+    {
+        self.facts.conflicts_with_entry(entry) || entry.time() <= self.got.closed(entry.stream())
+    }
+
+    /// Absorbs an entry of the log, of which it copies what it keeps.
     fn absorb_entry(&mut self, entry: &Entry) -> Result<Took, Refusal>
         requires { spec.wrong_log self.old.log (length self.old.streams) (Commit entry.now) ≡ None }
         ensures { Absorbs self.old self.new (Commit entry.now) result }
     {
-        let stream = entry.stream();
-        if self.got.has(stream, entry.number()) {
+        if self.got.has(entry.stream(), entry.number()) {
             return Ok(Took::Repeated);
         }
-        if self.facts.conflicts_with_entry(entry) || entry.time() <= self.got.closed(stream) {
+        if self.conflicts_with(entry) {
+            return Err(Refusal::Conflict);
+        }
+        let copied = entry.copy(self.alloc)?;
+        take_entry(self.alloc, &mut self.facts, &mut self.got, copied)
+    }
+
+    /// Absorbs an entry of the log, whose bodies it moves.
+    fn absorb_own_entry(&mut self, entry: Entry) -> Result<Took, Refusal>
+        requires { spec.wrong_log self.old.log (length self.old.streams) (Commit entry) ≡ None }
+        ensures { Absorbs self.old self.new (Commit entry) result }
+    {
+        if self.got.has(entry.stream(), entry.number()) {
+            return Ok(Took::Repeated);
+        }
+        if self.conflicts_with(&entry) {
             return Err(Refusal::Conflict);
         }
         take_entry(self.alloc, &mut self.facts, &mut self.got, entry)
@@ -136,6 +161,21 @@ impl ReplicaState {
         match item {
             Item::Commit(entry) => self.absorb_entry(entry),
             Item::Closed(mark) => self.absorb_mark(mark),
+        }
+    }
+
+    /// Absorbs an item as `absorb` does, and moves its bodies, so that none is copied. The item is dropped where it
+    /// is refused or repeated. Cost: that of `absorb`, with b the bytes of bodies compared.
+    pub fn absorb_owned(&mut self, item: Item) -> Result<Took, Refusal>
+        ensures gives { Absorbs self.old self.new item result }
+        ensures represents { AbsorbsOf self.old self.new item result }
+    {
+        if let Some(why) = wrong_log(self.config, &item) {
+            return Err(why);
+        }
+        match item {
+            Item::Commit(entry) => self.absorb_own_entry(entry),
+            Item::Closed(mark) => self.absorb_mark(&mark),
         }
     }
 }

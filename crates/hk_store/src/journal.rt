@@ -35,43 +35,47 @@ impl Facts {
         ensures err { IfErr result (λ why. why ≡ Memory) }
         ensures kept { OnErr result (self.new ≡ self.old) }
     {
+        let copied = entry.copy(self.allocator())?;
         let mut journal = Vec::new(self.allocator());
-        if let Err(why) = self.add_writes(&mut journal, entry) {
+        if let Err(why) = self.add_writes(&mut journal, copied) {
             self.take_back(journal);
             return Err(why);
         }
         Ok(())
     }
 
-    /// Adds the rows and ends of an entry, each named in the journal first. Cost: that of `add_entry`.
+    /// Adds the rows and ends of an entry, where none are known, each named in the journal first. The only
+    /// refusal is `Memory`. Cost: O(w · log n), w writes, n facts: bodies are moved.
     pub fn add_writes(
         &mut self,
         journal: &mut Vec<(VersionKey, Part)>,
-        entry: &Entry,
+        entry: Entry,
     ) -> Result<(), Refusal>
-        ensures ok { OnOk result (self.new ≡ with_entry self.old entry.now) }
+        ensures ok { OnOk result (self.new ≡ with_entry self.old entry) }
         ensures err { IfErr result (λ why. why ≡ Memory) }
         ensures back { without_journal journal.new.items self.new
             ≡ without_journal journal.old.items self.old }
     {
-        self.add_rows(journal, entry.rows(), entry.time())?;
-        self.add_ends(journal, entry.ends(), entry.time())
+        let time = entry.time();
+        let (ends, rows) = entry.into_writes();
+        self.add_rows(journal, rows, time)?;
+        self.add_ends(journal, &ends, time)
     }
 
     fn add_rows(
         &mut self,
         journal: &mut Vec<(VersionKey, Part)>,
-        rows: &[(Table, Key, Row)],
+        rows: Vec<(Table, Key, Row)>,
         time: Time,
     ) -> Result<(), Refusal>
-        ensures ok { OnOk result (self.new ≡ record { rows = union self.old.rows (finmap.from_entries (map (inserted_version time) rows.now)); ends = self.old.ends }) }
+        ensures ok { OnOk result (self.new ≡ record { rows = union self.old.rows (finmap.from_entries (map (inserted_version time) rows.items)); ends = self.old.ends }) }
         ensures err { IfErr result (λ why. why ≡ Memory) }
         ensures back { without_journal journal.new.items self.new ≡ without_journal journal.old.items self.old }
     {
         for (table, key, row) in rows {
             let version = VersionKey {
-                table: *table,
-                key: *key,
+                table,
+                key,
                 born: time,
             };
             self.add_row(journal, &version, row)?;
@@ -95,15 +99,15 @@ impl Facts {
         Ok(())
     }
 
-    /// Adds a copy of a row where none is known, and names it in the journal first. The only refusal is
-    /// `Memory`. Cost: O(log n + b), n facts, b bytes of the body.
+    /// Adds a row where none is known, and names it in the journal first. The only refusal is
+    /// `Memory`. Cost: O(log n), n facts: the body is moved.
     pub fn add_row(
         &mut self,
         journal: &mut Vec<(VersionKey, Part)>,
         version: &VersionKey,
-        row: &Row,
+        row: Row,
     ) -> Result<(), Refusal>
-        ensures ok { OnOk result (self.new ≡ with_fact_at self.old version.now (RowFact row.now)) }
+        ensures ok { OnOk result (self.new ≡ with_fact_at self.old version.now (RowFact row)) }
         ensures err { IfErr result (λ why. why ≡ Memory) }
         ensures back { without_journal journal.new.items self.new
             ≡ without_journal journal.old.items self.old }
@@ -111,9 +115,8 @@ impl Facts {
         if self.row_at(version).is_some() {
             return Ok(());
         }
-        let copied = row.copy(self.allocator())?;
         note(journal, version, Part::Row)?;
-        self.put(version, Fact::Row(copied))
+        self.put(version, Fact::Row(row))
     }
 
     /// Adds an end where none is known, and names it in the journal first. The only refusal is

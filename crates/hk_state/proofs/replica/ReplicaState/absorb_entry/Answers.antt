@@ -1,15 +1,14 @@
-use Rattle.std.proofs.Common.{◌≡◌, sym, ◌∙◌, subst, None, false, ◌||◌, nat_le, length}
+use Rattle.std.proofs.Common.{◌≡◌, sym, ◌∙◌, subst, None, false, length}
 use Rattle.std.specs.FinSet as set
 use Rattle.hk_model.specs.Replica.Content.{Content}
+use Rattle.hk_model.specs.Replica.Rules.{entry_conflicts}
 use Rattle.hk_model.specs.Replica.Streams.{stream_at}
 use Rattle.hk_model.specs.Replica.Items.{wrong_log}
 use Rattle.hk_log.specs.declared.item.Item.TheVariants.{Commit}
 use Rattle.hk_state.specs.Calls.{Absorbs}
-use Rattle.hk_store.specs.Facts.{conflicts_with_entry}
 use Rattle.hk_state.specs.Replica.{content_of_parts}
 use Rattle.hk_state.proofs.AbsorbedItem.{entry_result}
 use Rattle.hk_state.proofs.replica.ReplicaState.absorb_entry.Goals as goal
-use Rattle.hk_state.proofs.PrunedState.{not_above}
 
 pub invariant_of-self : goal.invariant_of-self
 invariant_of-self c =
@@ -17,10 +16,8 @@ invariant_of-self c =
     let e = c.args.entry.now in
     let t = c.take_entry.ensures in
     let none : wrong_log a.config.log (length a.got) (Commit e) ≡ None = subst (λ (x : Content). wrong_log x.log (length x.streams) (Commit e) ≡ None) (sym c.self.view_is) c.requires in
-    let new : set.contains (stream_at a.got e.stream).taken e.number ≡ false = (λ i. set.contains (stream_at a.got (sym c.stream-stream.ensures i)).taken (sym c.number.ensures.value i)) ∙ sym c.has.ensures ∙ c.if-has.false in
-    let agrees : (conflicts_with_entry a.facts e || nat_le e.time (stream_at a.got e.stream).closed) ≡ false =
-    (λ i. (sym c.conflicts_with_entry.ensures ∙ c.if-conflicts_with_entry.false) i || nat_le (sym c.time.ensures i) (stream_at a.got (sym c.stream-stream.ensures i)).closed)
-    ∙ (λ i. nat_le c.time.result (sym c.closed.ensures i)) ∙ sym (not_above c.time.result c.closed.result) ∙ sym c.le.ensures ∙ c.if-le.false in
+    let new : set.contains (stream_at a.got e.stream).taken e.number ≡ false = (λ i. set.contains (stream_at a.got (sym c.stream.ensures i)).taken (sym c.number.ensures.value i)) ∙ sym c.has.ensures ∙ c.if-has.false in
+    let agrees : entry_conflicts (content_of_parts a.config a.horizon a.facts a.got) e ≡ false = subst (λ (x : Content). entry_conflicts x e ≡ false) (sym c.self.view_is) (sym c.conflicts_with.ensures ∙ c.if-conflicts_with.false) in
     (entry_result a.config a.horizon a.facts a.got c.self.invariant e c.number.ensures.lawful none new agrees c.take_entry.result c.take_entry.new.facts c.take_entry.new.got t.told t.facts t.got t.err t.same_facts t.same_got).1
 
 pub returns : goal.returns
@@ -29,10 +26,8 @@ returns c =
     let e = c.args.entry.now in
     let t = c.take_entry.ensures in
     let none : wrong_log a.config.log (length a.got) (Commit e) ≡ None = subst (λ (x : Content). wrong_log x.log (length x.streams) (Commit e) ≡ None) (sym c.self.view_is) c.requires in
-    let new : set.contains (stream_at a.got e.stream).taken e.number ≡ false = (λ i. set.contains (stream_at a.got (sym c.stream-stream.ensures i)).taken (sym c.number.ensures.value i)) ∙ sym c.has.ensures ∙ c.if-has.false in
-    let agrees : (conflicts_with_entry a.facts e || nat_le e.time (stream_at a.got e.stream).closed) ≡ false =
-    (λ i. (sym c.conflicts_with_entry.ensures ∙ c.if-conflicts_with_entry.false) i || nat_le (sym c.time.ensures i) (stream_at a.got (sym c.stream-stream.ensures i)).closed)
-    ∙ (λ i. nat_le c.time.result (sym c.closed.ensures i)) ∙ sym (not_above c.time.result c.closed.result) ∙ sym c.le.ensures ∙ c.if-le.false in
+    let new : set.contains (stream_at a.got e.stream).taken e.number ≡ false = (λ i. set.contains (stream_at a.got (sym c.stream.ensures i)).taken (sym c.number.ensures.value i)) ∙ sym c.has.ensures ∙ c.if-has.false in
+    let agrees : entry_conflicts (content_of_parts a.config a.horizon a.facts a.got) e ≡ false = subst (λ (x : Content). entry_conflicts x e ≡ false) (sym c.self.view_is) (sym c.conflicts_with.ensures ∙ c.if-conflicts_with.false) in
     let after : Content = content_of_parts a.config a.horizon c.take_entry.new.facts c.take_entry.new.got in
     subst (λ (x : Content). Absorbs x after (Commit e) c.take_entry.result) c.self.view_is
     (entry_result a.config a.horizon a.facts a.got c.self.invariant e c.number.ensures.lawful none new agrees c.take_entry.result c.take_entry.new.facts c.take_entry.new.got t.told t.facts t.got t.err t.same_facts t.same_got).0
