@@ -1,12 +1,14 @@
 //! Absorbing items.
 
 ghost use Rattle.std.specs.Prelude.{◌≡◌, ◌≤◌, ◌∷◌, [], length, None, OnOk, OnErr, IfOk, IfErr};
+ghost use Rattle.std.specs.FinSet as set;
 ghost use Rattle.hk_types.specs.declared.faults.Refusal.TheVariants.{Memory};
+ghost use Rattle.hk_log.specs.Items.{IsEntry};
 ghost use Rattle.hk_log.specs.declared.item.Item.TheVariants.{Commit, Closed};
 ghost use Rattle.hk_model.specs.declared.took.Took.TheVariants.{Taken};
 ghost use Rattle.hk_model.specs.Replica.Items as spec;
 ghost use Rattle.hk_model.specs.Replica.Rules.{entry_conflicts};
-ghost use Rattle.hk_model.specs.Replica.Streams.{all_together, streams_of};
+ghost use Rattle.hk_model.specs.Replica.Streams.{all_together, stream_at, streams_of};
 ghost use Rattle.hk_state.specs.Calls.{Absorbs, AbsorbsOf};
 ghost use Rattle.hk_store.specs.Facts.{with_entry};
 ghost use Rattle.hk_store.specs.Journal.{without_journal};
@@ -94,6 +96,15 @@ fn take_mark(got: &mut Got, mark: &Mark) -> Result<Took, Refusal>
 }
 
 impl ReplicaState {
+    /// Whether the number of an entry is taken.
+    fn has_taken(&self, entry: &Entry) -> bool
+        requires { spec.wrong_log self.now.log (length self.now.streams) (Commit entry.now) ≡ None }
+        ensures value { result ≡ set.contains (stream_at self.now.streams entry.now.stream).taken entry.now.number }
+        ensures lawful { IsEntry entry.now }
+    {
+        self.got.has(entry.stream(), entry.number())
+    }
+
     /// Whether an entry conflicts with what is held: with a row, an end, or the closed time of its stream.
     fn conflicts_with(&self, entry: &Entry) -> bool
         requires { spec.wrong_log self.now.log (length self.now.streams) (Commit entry.now) ≡ None }
@@ -107,7 +118,7 @@ impl ReplicaState {
         requires { spec.wrong_log self.old.log (length self.old.streams) (Commit entry.now) ≡ None }
         ensures { Absorbs self.old self.new (Commit entry.now) result }
     {
-        if self.got.has(entry.stream(), entry.number()) {
+        if self.has_taken(entry) {
             return Ok(Took::Repeated);
         }
         if self.conflicts_with(entry) {
@@ -122,7 +133,7 @@ impl ReplicaState {
         requires { spec.wrong_log self.old.log (length self.old.streams) (Commit entry) ≡ None }
         ensures { Absorbs self.old self.new (Commit entry) result }
     {
-        if self.got.has(entry.stream(), entry.number()) {
+        if self.has_taken(&entry) {
             return Ok(Took::Repeated);
         }
         if self.conflicts_with(&entry) {
