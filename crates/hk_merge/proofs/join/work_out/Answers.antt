@@ -15,7 +15,6 @@ returns c =
     let t = c.args.target.now in
     let f = fragment_sent c.args.sent.now in
     let sent = map borrowed c.args.sent.now.facts.now in
-    let b = c.in_ok-change.ensures in
     let r = c.in_ok-rise.ensures in
     let k = c.in_ok-take.ensures in
     let owns = facts_are c.facts.result.now t c.facts.ensures.rows c.facts.ensures.ends in
