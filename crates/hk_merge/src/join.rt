@@ -1,12 +1,11 @@
 //! Joining what is sent.
 
-ghost use Rattle.std.specs.Prelude.{◌≡◌, ◌==◌, ◌||◌, ◌&&◌, max, length, map, IfOk, IfErr, OnOk, OnErr, false, [], Err};
+ghost use Rattle.std.specs.Prelude.{◌≡◌, ◌==◌, ◌||◌, ◌&&◌, max, length, map, IfOk, IfErr, OnOk, OnErr, false, Err};
 ghost use Rattle.std.specs.FinMap.{find};
 ghost use Rattle.hk_types.specs.declared.faults.Refusal.TheVariants.{Memory};
 ghost use Rattle.hk_types.specs.declared.version_key.VersionKey.{VersionKey};
 ghost use Rattle.hk_model.specs.History.Rows.{version_key_cmp};
 ghost use Rattle.hk_model.specs.Replica.Maps.{or_else};
-ghost use Rattle.hk_model.specs.Replica.Streams.{all_together};
 ghost use Rattle.hk_model.specs.Replica.Rules.{contents_conflict, content_after_join};
 ghost use Rattle.hk_model.specs.Replica.Lawful.{IsLawful, IsLawfulFragment};
 ghost use Rattle.hk_store.specs.Drops.{is_among};
