@@ -268,17 +268,17 @@ module _ (t : Content) (f : FragmentValue) (lawful : IsLawful t) (agree : conten
         ∙ ap (λ o. cond (not (at_most (max t.horizon f.content.horizon) (finmap.get f.content.ends q)) && not (is_some o)) (finmap.get f.content.ends q) None) (known_end (facts_of_content t) q)
 
   -- the change of each version makes the joined content
-  pub change_joins : change.horizon ≡ max t.horizon f.content.horizon → change.got ≡ all_together t.streams f.content.streams
+  pub change_joins : change.horizon ≡ max t.horizon f.content.horizon
       → ((q : VersionKey) → is_among change.drops.items q ≡ gone_at t f q)
       → ((q : VersionKey) → find version_key_cmp q change.rows.items ≡ or_else (row_back_at t f q) (row_comes_at t f q))
       → ((q : VersionKey) → find version_key_cmp q change.ends.items ≡ or_else (end_back_at t f q) (end_comes_at t f q))
-      → content_after_change t change ≡ content_after_join t f
-  change_joins horizon got drops rows ends = λ i. record {
+      → content_after_change t change f.content.streams ≡ content_after_join t f
+  change_joins horizon drops rows ends = λ i. record {
     log = t.log;
     horizon = horizon i;
-    rows = finmap.same_map version_key_total version_key_same (content_after_change t change).rows (content_after_join t f).rows row i;
-    ends = finmap.same_map version_key_total version_key_same (content_after_change t change).ends (content_after_join t f).ends end i;
-    streams = got i;
+    rows = finmap.same_map version_key_total version_key_same (content_after_change t change f.content.streams).rows (content_after_join t f).rows row i;
+    ends = finmap.same_map version_key_total version_key_same (content_after_change t change f.content.streams).ends (content_after_join t f).ends end i;
+    streams = all_together t.streams f.content.streams;
   }
     where
       listed : {X : Type 0} (m : finmap.FinMap version_key_cmp X) (es : List (VersionKey × X)) (q : VersionKey) (gone : Bool) (x : Option X) → is_among change.drops.items q ≡ gone → find version_key_cmp q es ≡ x
@@ -287,13 +287,13 @@ module _ (t : Content) (f : FragmentValue) (lawful : IsLawful t) (agree : conten
           get-union version_key_total version_key_same (finmap.retain_keys m (λ v. not (is_among change.drops.items v))) (finmap.from_entries es) q
           ∙ (λ i. or_else ((get-retain version_key_total version_key_same m (λ v. not (is_among change.drops.items v)) q ∙ ap (λ b. cond (not b) (finmap.get m q) None) is) i) ((finmap.get-from_entries version_key_total es q ∙ found) i))
 
-      row : (q : VersionKey) → finmap.get (content_after_change t change).rows q ≡ finmap.get (content_after_join t f).rows q
+      row : (q : VersionKey) → finmap.get (content_after_change t change f.content.streams).rows q ≡ finmap.get (content_after_join t f).rows q
       row q =
           listed t.rows change.rows.items q _ _ (drops q ∙ is_gone q) (rows q ∙ (λ i. or_else (row_comes_back q i) (row_arrives q i)))
           ∙ row_joined t.horizon f.content.horizon f.base q.born (finmap.get t.rows q) (finmap.get f.content.rows q) (finmap.get t.ends q) (finmap.get f.content.ends q) (λ x e. lawful.end_above q x e) (row_same q)
           ∙ sym (get-union version_key_total version_key_same _ _ q ∙ (λ i. or_else (get-retain version_key_total version_key_same t.rows (λ v. nat_lt (max t.horizon f.content.horizon) v.born || (((t.horizon == (max t.horizon f.content.horizon)) || nat_lt 0 f.base) && not (ended_by t.ends (max t.horizon f.content.horizon) v))) q i) (get-retain version_key_total version_key_same f.content.rows (λ v. nat_lt (max t.horizon f.content.horizon) v.born || ((f.base == 0) && (f.content.horizon == (max t.horizon f.content.horizon)))) q i)))
 
-      end : (q : VersionKey) → finmap.get (content_after_change t change).ends q ≡ finmap.get (content_after_join t f).ends q
+      end : (q : VersionKey) → finmap.get (content_after_change t change f.content.streams).ends q ≡ finmap.get (content_after_join t f).ends q
       end q =
           listed t.ends change.ends.items q _ _ (drops q ∙ is_gone q) (ends q ∙ (λ i. or_else (end_comes_back q i) (end_arrives q i)))
           ∙ end_joined t.horizon f.content.horizon f.base q.born (finmap.get t.rows q) (finmap.get f.content.rows q) (finmap.get t.ends q) (finmap.get f.content.ends q) (λ x e. lawful.end_above q x e) (end_same q)

@@ -1,12 +1,11 @@
 //! Joining what is sent.
 
-ghost use Rattle.std.specs.Prelude.{◌≡◌, ◌==◌, ◌||◌, ◌&&◌, max, length, map, IfOk, IfErr, OnOk, OnErr, false, [], Err};
+ghost use Rattle.std.specs.Prelude.{◌≡◌, ◌==◌, ◌||◌, ◌&&◌, max, length, map, IfOk, IfErr, OnOk, OnErr, false, Err};
 ghost use Rattle.std.specs.FinMap.{find};
 ghost use Rattle.hk_types.specs.declared.faults.Refusal.TheVariants.{Memory};
 ghost use Rattle.hk_types.specs.declared.version_key.VersionKey.{VersionKey};
 ghost use Rattle.hk_model.specs.History.Rows.{version_key_cmp};
 ghost use Rattle.hk_model.specs.Replica.Maps.{or_else};
-ghost use Rattle.hk_model.specs.Replica.Streams.{all_together};
 ghost use Rattle.hk_model.specs.Replica.Rules.{contents_conflict, content_after_join};
 ghost use Rattle.hk_model.specs.Replica.Lawful.{IsLawful, IsLawfulFragment};
 ghost use Rattle.hk_store.specs.Drops.{is_among};
@@ -118,7 +117,7 @@ pub fn join_agreed(target: &mut ReplicaState, sent: &MergeInput) -> Result<(), R
     ensures kept { OnErr result (target.new ≡ target.old) }
 {
     let change = work_out(target, sent)?;
-    target.apply(change)
+    target.apply(change, sent.got)
 }
 
 /// Adds to a change what becomes of the target's own versions, where the horizon rises.
@@ -128,7 +127,6 @@ fn rise(change: &mut Change, target: &ReplicaState, sent: &MergeInput) -> Result
     ensures rows { OnOk result ((q : VersionKey) → find version_key_cmp q change.new.rows.items ≡ or_else (find version_key_cmp q change.old.rows.items) (row_back_at target.now (fragment_sent sent.now) q)) }
     ensures ends { OnOk result ((q : VersionKey) → find version_key_cmp q change.new.ends.items ≡ or_else (find version_key_cmp q change.old.ends.items) (end_back_at target.now (fragment_sent sent.now) q)) }
     ensures horizon { change.new.horizon ≡ change.old.horizon }
-    ensures got { change.new.got ≡ change.old.got }
     ensures err { IfErr result (λ why. why ≡ Memory) }
 {
     if target.horizon() >= sent.horizon {
@@ -153,14 +151,18 @@ fn work_out(target: &ReplicaState, sent: &MergeInput) -> Result<Change, Refusal>
     requires as_many { length sent.now.got.now ≡ length target.now.streams }
     requires lawful { IsLawfulFragment (fragment_sent sent.now) }
     requires agree { contents_conflict target.now (fragment_sent sent.now).content ≡ false }
-    ensures ok { IfOk result (λ change. content_after_change target.now change ≡ content_after_join target.now (fragment_sent sent.now)) }
-    ensures lawful { IfOk result (λ change. IsLawful (content_after_change target.now change)) }
-    ensures as_many { IfOk result (λ change. length change.got ≡ length target.now.streams) }
+    ensures ok { IfOk result (λ change. content_after_change target.now change sent.now.got.now ≡ content_after_join target.now (fragment_sent sent.now)) }
+    ensures lawful { IfOk result (λ change. IsLawful (content_after_change target.now change sent.now.got.now)) }
     ensures err { IfErr result (λ why. why ≡ Memory) }
 {
     let alloc = target.allocator();
     let horizon = later(target.horizon(), sent.horizon);
-    let mut change = begin(target, sent, horizon)?;
+    let mut change = Change {
+        horizon,
+        drops: Vec::new(alloc),
+        rows: Vec::new(alloc),
+        ends: Vec::new(alloc),
+    };
     rise(&mut change, target, sent)?;
     let coming = coming(sent, horizon);
     take(alloc, &mut change, &coming, target.facts(), sent.facts)?;
@@ -176,26 +178,4 @@ fn coming(sent: &MergeInput, horizon: Time) -> Coming
         old: sent.base == Time::zero() && sent.horizon == horizon,
         horizon,
     }
-}
-
-/// A change that only joins the numbers and marks, and has this horizon.
-fn begin(target: &ReplicaState, sent: &MergeInput, horizon: Time) -> Result<Change, Refusal>
-    requires { length sent.now.got.now ≡ length target.now.streams }
-    ensures horizon { IfOk result (λ change. change.horizon ≡ horizon) }
-    ensures got { IfOk result (λ change. change.got ≡ all_together target.now.streams sent.now.got.now) }
-    ensures drops { IfOk result (λ change. change.drops.items ≡ []) }
-    ensures rows { IfOk result (λ change. change.rows.items ≡ []) }
-    ensures ends { IfOk result (λ change. change.ends.items ≡ []) }
-    ensures err { IfErr result (λ why. why ≡ Memory) }
-{
-    let alloc = target.allocator();
-    let mut got = target.got().copy(alloc)?;
-    got.join(sent.got)?;
-    Ok(Change {
-        horizon,
-        drops: Vec::new(alloc),
-        rows: Vec::new(alloc),
-        ends: Vec::new(alloc),
-        got,
-    })
 }

@@ -73,7 +73,6 @@ fn leave_version(
     ensures rows { OnOk result (change.new.rows.items ≡ change.old.rows.items ++ entry_if version.now (row_back leaving.now.whole leaving.now.horizon (set.contains leaving.now.sent) version.now own.now)) }
     ensures ends { OnOk result (change.new.ends.items ≡ change.old.ends.items ++ entry_if version.now (end_back leaving.now.whole leaving.now.horizon (set.contains leaving.now.sent) version.now own.now)) }
     ensures horizon { change.new.horizon ≡ change.old.horizon }
-    ensures got { change.new.got ≡ change.old.got }
 {
     if !leaving.goes(version, own) {
         return Ok(());
@@ -128,7 +127,6 @@ pub(crate) fn leave(
     ensures rows { OnOk result (change.new.rows.items ≡ change.old.rows.items ++ rows_back leaving.now.whole leaving.now.horizon (set.contains leaving.now.sent) (map borrowed own.now)) }
     ensures ends { OnOk result (change.new.ends.items ≡ change.old.ends.items ++ ends_back leaving.now.whole leaving.now.horizon (set.contains leaving.now.sent) (map borrowed own.now)) }
     ensures horizon { change.new.horizon ≡ change.old.horizon }
-    ensures got { change.new.got ≡ change.old.got }
 {
     for (version, known) in own {
         leave_version(alloc, change, leaving, version, known)?;
@@ -149,7 +147,6 @@ fn take_version(
     ensures ends { OnOk result (change.new.ends.items ≡ change.old.ends.items ++ entry_if version.now (end_comes own.now coming.now.old coming.now.horizon version.now sent.now)) }
     ensures drops { change.new.drops.items ≡ change.old.drops.items }
     ensures horizon { change.new.horizon ≡ change.old.horizon }
-    ensures got { change.new.got ≡ change.old.got }
 {
     let held = own.version(version);
     if (coming.horizon < version.born || coming.old) && !has_row(held) {
@@ -193,7 +190,6 @@ pub(crate) fn take(
     ensures ends { OnOk result (change.new.ends.items ≡ change.old.ends.items ++ ends_come own.now coming.now.old coming.now.horizon (map borrowed sent.now)) }
     ensures drops { change.new.drops.items ≡ change.old.drops.items }
     ensures horizon { change.new.horizon ≡ change.old.horizon }
-    ensures got { change.new.got ≡ change.old.got }
 {
     for (version, known) in sent {
         take_version(alloc, change, coming, own, version, known)?;

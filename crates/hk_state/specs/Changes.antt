@@ -1,12 +1,14 @@
--- A change of a state: facts that go, and facts that come.
+-- A change of a state: facts that go, facts that come, and numbers and marks that are joined.
+use Rattle.std.specs.Prelude.{List}
 use Rattle.hk_model.specs.Replica.Content.{Content}
+use Rattle.hk_model.specs.Replica.Streams.{StreamContent, all_together}
 use Rattle.hk_store.specs.Changes.{facts_after_replace}
 use Rattle.hk_store.specs.Reads.{facts_of_content}
 use Rattle.hk_state.specs.declared.apply.Change.{Change}
 
--- the content after a change: the drops go first, then the rows and ends come, and horizon and streams are
--- replaced
-abbrev pub content_after_change : Content → Change → Content
-content_after_change c change =
+-- the content after a change: the drops go first, then the rows and ends come, the horizon is replaced, and the
+-- streams that are given are joined
+abbrev pub content_after_change : Content → Change → List StreamContent → Content
+content_after_change c change given =
     let f = facts_after_replace (facts_of_content c) change.drops.items change.rows.items change.ends.items in
-    record { log = c.log; horizon = change.horizon; rows = f.rows; ends = f.ends; streams = change.got }
+    record { log = c.log; horizon = change.horizon; rows = f.rows; ends = f.ends; streams = all_together c.streams given }

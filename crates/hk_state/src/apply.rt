@@ -3,15 +3,20 @@
 ghost use Rattle.std.specs.Prelude.{◌≡◌, length, OnOk, OnErr, IfErr};
 ghost use Rattle.hk_types.specs.declared.faults.Refusal.TheVariants.{Memory};
 ghost use Rattle.hk_model.specs.Replica.Lawful.{IsLawful};
+ghost use Rattle.hk_model.specs.Replica.Streams.{all_together};
 ghost use Rattle.hk_state.specs.Changes.{content_after_change};
+ghost use Rattle.hk_store.specs.Changes.{with_listed, facts_after_replace};
+ghost use Rattle.hk_store.specs.Journal.{without_journal};
 
 use crate::replica::ReplicaState;
+use hk_facts::Part;
 use hk_marks::Got;
+use hk_store::{Facts, meets};
 use hk_types::{Refusal, Row, Time, VersionKey};
 use std::alloc::Global;
 
-/// What becomes of a state: the versions of which all goes first, the rows and ends that come then where none
-/// are known, and the horizon and the numbers and marks that it has after.
+/// What becomes of a state's facts and its horizon: the versions of which all goes first, the rows and ends that
+/// come then where none are known, and the horizon that it has after.
 #[derive(Drop)]
 pub struct Change {
     /// The new horizon.
@@ -22,8 +27,100 @@ pub struct Change {
     pub rows: Vec<(VersionKey, Row)>,
     /// The ends that come.
     pub ends: Vec<(VersionKey, Time)>,
-    /// The new numbers and marks of the streams.
-    pub got: Got,
+}
+
+/// Adds rows and ends where none are known, each named in the journal first, and then joins the given numbers
+/// and marks.
+fn grow_noted(
+    facts: &mut Facts,
+    got: &mut Got,
+    journal: &mut Vec<(VersionKey, Part)>,
+    rows: Vec<(VersionKey, Row)>,
+    ends: &[(VersionKey, Time)],
+    given: &Got,
+) -> Result<(), Refusal>
+    requires { length got.old ≡ length given.now }
+    ensures facts { OnOk result (facts.new ≡ with_listed facts.old rows.items ends.now) }
+    ensures got { OnOk result (got.new ≡ all_together got.old given.now) }
+    ensures err { IfErr result (λ why. why ≡ Memory) }
+    ensures kept { OnErr result (got.new ≡ got.old) }
+    ensures back { without_journal journal.new.items facts.new ≡ without_journal journal.old.items facts.old }
+{
+    facts.add_listed(journal, rows, ends)?;
+    got.join(given)
+}
+
+/// Adds rows and ends where none are known, and joins the given numbers and marks: all of it or nothing.
+fn grow(
+    alloc: Global,
+    facts: &mut Facts,
+    got: &mut Got,
+    rows: Vec<(VersionKey, Row)>,
+    ends: &[(VersionKey, Time)],
+    given: &Got,
+) -> Result<(), Refusal>
+    requires { length got.old ≡ length given.now }
+    ensures facts { OnOk result (facts.new ≡ with_listed facts.old rows.items ends.now) }
+    ensures got { OnOk result (got.new ≡ all_together got.old given.now) }
+    ensures err { IfErr result (λ why. why ≡ Memory) }
+    ensures same_facts { OnErr result (facts.new ≡ facts.old) }
+    ensures same_got { OnErr result (got.new ≡ got.old) }
+{
+    let mut journal = Vec::new(alloc);
+    if let Err(why) = grow_noted(facts, got, &mut journal, rows, ends, given) {
+        facts.take_back(journal);
+        return Err(why);
+    }
+    Ok(())
+}
+
+/// Makes a change of the facts on a copy of them, and joins the given numbers and marks: all of it or nothing.
+fn grow_on_a_copy(
+    facts: &mut Facts,
+    got: &mut Got,
+    change: Change,
+    given: &Got,
+) -> Result<(), Refusal>
+    requires { length got.old ≡ length given.now }
+    ensures facts { OnOk result (facts.new ≡ facts_after_replace facts.old change.drops.items change.rows.items change.ends.items) }
+    ensures got { OnOk result (got.new ≡ all_together got.old given.now) }
+    ensures err { IfErr result (λ why. why ≡ Memory) }
+    ensures same_facts { OnErr result (facts.new ≡ facts.old) }
+    ensures same_got { OnErr result (got.new ≡ got.old) }
+{
+    let Change {
+        drops, rows, ends, ..
+    } = change;
+    let replaced = facts.replaced(&drops, rows, &ends)?;
+    got.join(given)?;
+    *facts = replaced;
+    Ok(())
+}
+
+/// Makes a change of the facts, and joins the given numbers and marks: all of it or nothing.
+fn take_change(
+    alloc: Global,
+    facts: &mut Facts,
+    got: &mut Got,
+    change: Change,
+    given: &Got,
+) -> Result<(), Refusal>
+    requires { length got.old ≡ length given.now }
+    ensures facts { OnOk result (facts.new ≡ facts_after_replace facts.old change.drops.items change.rows.items change.ends.items) }
+    ensures got { OnOk result (got.new ≡ all_together got.old given.now) }
+    ensures err { IfErr result (λ why. why ≡ Memory) }
+    ensures same_facts { OnErr result (facts.new ≡ facts.old) }
+    ensures same_got { OnErr result (got.new ≡ got.old) }
+{
+    if meets(alloc, &change.drops, &change.rows, &change.ends)? {
+        return grow_on_a_copy(facts, got, change, given);
+    }
+    let Change {
+        drops, rows, ends, ..
+    } = change;
+    grow(alloc, facts, got, rows, &ends, given)?;
+    facts.drop_all(&drops);
+    Ok(())
 }
 
 impl ReplicaState {
@@ -32,29 +129,23 @@ impl ReplicaState {
         self.alloc
     }
 
-    /// Applies a change, all of it or nothing.
+    /// Applies a change, and joins the numbers and marks that are given: all of it or nothing.
     ///
-    /// The only refusal is `Memory`, and it changes nothing. Cost: O(c · log (n + c)), c drops, rows and
-    /// ends, n facts held. Where a version that is dropped has a row or an end added, as no log brings
-    /// about that does not conflict with itself, the facts are copied: O((n + c) · log (n + c) + b),
-    /// b bytes of bodies.
-    pub fn apply(&mut self, change: Change) -> Result<(), Refusal>
-        requires lawful { IsLawful (content_after_change self.old change) }
-        requires as_many { length change.got ≡ length self.old.streams }
-        ensures ok { OnOk result (self.new ≡ content_after_change self.old change) }
+    /// The only refusal is `Memory`, and it changes nothing. Cost: O((s + c + g) · log (n + c)), s streams,
+    /// c drops, rows and ends, g numbers and marks given and those held that they free, n facts, extra numbers
+    /// and waiting marks held. Where a version that is dropped has a row or an end added, as no log brings
+    /// about that does not conflict with itself, the facts are copied: O((n + c) · log (n + c) + b), b bytes of
+    /// bodies.
+    pub fn apply(&mut self, change: Change, given: &Got) -> Result<(), Refusal>
+        requires lawful { IsLawful (content_after_change self.old change given.now) }
+        requires as_many { length given.now ≡ length self.old.streams }
+        ensures ok { OnOk result (self.new ≡ content_after_change self.old change given.now) }
         ensures err { IfErr result (λ why. why ≡ Memory) }
         ensures kept { OnErr result (self.new ≡ self.old) }
     {
-        let Change {
-            horizon,
-            drops,
-            rows,
-            ends,
-            got,
-        } = change;
-        self.facts.replace(&drops, rows, &ends)?;
+        let horizon = change.horizon;
+        take_change(self.alloc, &mut self.facts, &mut self.got, change, given)?;
         self.horizon = horizon;
-        self.got = got;
         Ok(())
     }
 }

@@ -13,4 +13,5 @@ mod tables;
 mod versions;
 
 pub use facts::Facts;
+pub use replace::meets;
 pub use versions::push_borrowed;

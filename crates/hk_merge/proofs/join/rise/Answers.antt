@@ -18,7 +18,6 @@ returns-then-ge c =
       rows = λ q. level_rows t f level _ q;
       ends = λ q. level_ends t f level _ q;
       horizon = refl;
-      got = refl;
       err = tt;
     }
 
@@ -43,6 +42,5 @@ returns c =
       rows = risen_rows t f up own some are c.eq.result whole rows sent may old.rows.items new.rows.items (e.rows ∙ ap (λ l. old.rows.items ++ rows_back c.eq.result f.content.horizon (set.contains rows) (map borrowed l)) c.deref.ensures.value);
       ends = risen_ends t f up own some are c.eq.result whole rows sent may old.ends.items new.ends.items (e.ends ∙ ap (λ l. old.ends.items ++ ends_back c.eq.result f.content.horizon (set.contains rows) (map borrowed l)) c.deref.ensures.value);
       horizon = c.leave.ensures.horizon;
-      got = c.leave.ensures.got;
       err = tt;
     }

@@ -1,11 +1,10 @@
-use Rattle.std.proofs.Common.{◌≡◌, sym, ap, ◌∙◌, subst, map, max, length, ◌==◌, ◌&&◌, ◌||◌}
+use Rattle.std.proofs.Common.{◌≡◌, sym, ap, ◌∙◌, subst, map, max, ◌==◌, ◌&&◌, ◌||◌}
 use Rattle.hk_model.specs.Replica.Lawful.{IsLawful}
 use Rattle.hk_model.proofs.Lawful.{joined_lawful}
 use Rattle.hk_store.specs.Versions.{borrowed}
 use Rattle.hk_store.specs.Drops.{is_among}
 use Rattle.hk_merge.specs.Listed.{fragment_sent}
 use Rattle.hk_merge.specs.Plans.{old_come, gone_at}
-use Rattle.hk_model.proofs.Streams.{as_many_together}
 use Rattle.hk_merge.proofs.RisingHorizon.{facts_are, come_rows, come_ends}
 use Rattle.hk_merge.proofs.WorkedOutChange.{change_joins}
 use Rattle.hk_merge.proofs.join.work_out.Goals as goal
@@ -15,7 +14,6 @@ returns c =
     let t = c.args.target.now in
     let f = fragment_sent c.args.sent.now in
     let sent = map borrowed c.args.sent.now.facts.now in
-    let b = c.in_ok-change.ensures in
     let r = c.in_ok-rise.ensures in
     let k = c.in_ok-take.ensures in
     let owns = facts_are c.facts.result.now t c.facts.ensures.rows c.facts.ensures.ends in
@@ -23,13 +21,12 @@ returns c =
     let high : c.coming-coming.result.horizon ≡ max t.horizon f.content.horizon = c.coming-coming.ensures.horizon ∙ at in
     let old : c.coming-coming.result.old ≡ old_come t f = c.coming-coming.ensures.old ∙ ap (λ h. (f.base == 0) && (f.content.horizon == h)) at in
     let same =
-    change_joins t f c.horizon.ensures.lawful c.requires.agree c.take.new.change (c.take.ensures.horizon ∙ c.rise.ensures.horizon ∙ b.horizon ∙ at) (c.take.ensures.got ∙ c.rise.ensures.got ∙ b.got)
-    (λ q. ap (λ l. is_among l q) c.take.ensures.drops ∙ r.drops q ∙ ap (λ l. is_among l q || gone_at t f q) b.drops)
-    (come_rows t f c.facts.result.now owns c.coming-coming.result.old old c.coming-coming.result.horizon high sent c.requires.listed c.in_ok-change.change.rows.items c.rise.new.change.rows.items c.take.new.change.rows.items b.rows r.rows k.rows)
-    (come_ends t f c.facts.result.now owns c.coming-coming.result.old old c.coming-coming.result.horizon high sent c.requires.listed c.in_ok-change.change.ends.items c.rise.new.change.ends.items c.take.new.change.ends.items b.ends r.ends k.ends) in
+    change_joins t f c.horizon.ensures.lawful c.requires.agree c.take.new.change (c.take.ensures.horizon ∙ c.rise.ensures.horizon ∙ at)
+    (λ q. ap (λ l. is_among l q) c.take.ensures.drops ∙ r.drops q ∙ ap (λ l. is_among l q || gone_at t f q) c.new.ensures.items)
+    (come_rows t f c.facts.result.now owns c.coming-coming.result.old old c.coming-coming.result.horizon high sent c.requires.listed c.new-2.result.items c.rise.new.change.rows.items c.take.new.change.rows.items c.new-2.ensures.items r.rows k.rows)
+    (come_ends t f c.facts.result.now owns c.coming-coming.result.old old c.coming-coming.result.horizon high sent c.requires.listed c.new-3.result.items c.rise.new.change.ends.items c.take.new.change.ends.items c.new-3.ensures.items r.ends k.ends) in
     record {
       ok = same;
       lawful = subst IsLawful (sym same) (joined_lawful t f c.horizon.ensures.lawful c.requires.lawful (sym c.requires.as_many));
-      as_many = ap length (c.take.ensures.got ∙ c.rise.ensures.got ∙ b.got) ∙ as_many_together t.streams f.content.streams c.requires.as_many;
       err = tt;
     }

@@ -12,7 +12,6 @@ loop-version-init c = record {
   rows = grown_none c.args.change.now.rows.items;
   ends = grown_none c.args.change.now.ends.items;
   horizon = refl;
-  got = refl;
 }
 
 pub loop-version-preserved : goal.loop-version-preserved
@@ -25,5 +24,4 @@ loop-version-preserved c =
       rows = grown_more borrowed (λ e. entry_if e.0 (row_back l.whole l.horizon (set.contains l.sent) e.0 e.1)) c.args.change.now.rows.items o.change.rows.items c.leave_version.new.change.rows.items c.args.own.now o.version-index c.loop-version-item.result c.loop-version-item.is (omega arith) o.invariant.rows e.rows;
       ends = grown_more borrowed (λ e. entry_if e.0 (end_back l.whole l.horizon (set.contains l.sent) e.0 e.1)) c.args.change.now.ends.items o.change.ends.items c.leave_version.new.change.ends.items c.args.own.now o.version-index c.loop-version-item.result c.loop-version-item.is (omega arith) o.invariant.ends e.ends;
       horizon = c.leave_version.ensures.horizon ∙ o.invariant.horizon;
-      got = c.leave_version.ensures.got ∙ o.invariant.got;
     }

@@ -10,5 +10,4 @@ invariant-loop-version l = record {
   rows : l.change.rows.items ≡ l.initial.change.rows.items ++ rows_back l.leaving.whole l.leaving.horizon (set.contains l.leaving.sent) (map borrowed (take l.version-index l.own));
   ends : l.change.ends.items ≡ l.initial.change.ends.items ++ ends_back l.leaving.whole l.leaving.horizon (set.contains l.leaving.sent) (map borrowed (take l.version-index l.own));
   horizon : l.change.horizon ≡ l.initial.change.horizon;
-  got : l.change.got ≡ l.initial.change.got;
 }

@@ -11,7 +11,6 @@ loop-version-init c = record {
   ends = grown_none c.args.change.now.ends.items;
   drops = refl;
   horizon = refl;
-  got = refl;
 }
 
 pub loop-version-preserved : goal.loop-version-preserved
@@ -24,5 +23,4 @@ loop-version-preserved c =
       ends = grown_more borrowed (λ e. entry_if e.0 (end_comes c.args.own.now l.old l.horizon e.0 e.1)) c.args.change.now.ends.items o.change.ends.items c.take_version.new.change.ends.items c.args.sent.now o.version-index c.loop-version-item.result c.loop-version-item.is (omega arith) o.invariant.ends e.ends;
       drops = c.take_version.ensures.drops ∙ o.invariant.drops;
       horizon = c.take_version.ensures.horizon ∙ o.invariant.horizon;
-      got = c.take_version.ensures.got ∙ o.invariant.got;
     }

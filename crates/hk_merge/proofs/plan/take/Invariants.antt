@@ -9,5 +9,4 @@ invariant-loop-version l = record {
   ends : l.change.ends.items ≡ l.initial.change.ends.items ++ ends_come l.own l.coming.old l.coming.horizon (map borrowed (take l.version-index l.sent));
   drops : l.change.drops.items ≡ l.initial.change.drops.items;
   horizon : l.change.horizon ≡ l.initial.change.horizon;
-  got : l.change.got ≡ l.initial.change.got;
 }
