@@ -5,15 +5,13 @@ ghost use Rattle.std.specs.List.{list_any};
 ghost use Rattle.std.specs.FinMap as finmap;
 ghost use Rattle.std.specs.FinSet as set;
 ghost use Rattle.hk_types.specs.declared.faults.Refusal.TheVariants.{Memory};
-ghost use Rattle.hk_facts.specs.declared.fact.Fact.TheVariants.{Row as RowFact};
 ghost use Rattle.hk_model.specs.Replica.Maps.{union};
 ghost use Rattle.hk_store.specs.Changes.{with_listed, facts_after_replace, meets};
-ghost use Rattle.hk_store.specs.Facts.{FactsValue, with_fact_at};
+ghost use Rattle.hk_store.specs.Facts.{FactsValue};
 ghost use Rattle.hk_store.specs.Journal.{without_journal};
 
 use crate::facts::Facts;
-use crate::journal::note;
-use hk_facts::{Fact, Part};
+use hk_facts::Part;
 use hk_index::KeyIndex;
 use hk_types::{Refusal, Row, Time, VersionKey};
 use std::alloc::Global;
@@ -98,7 +96,7 @@ impl Facts {
         ensures back { without_journal journal.new.items self.new ≡ without_journal journal.old.items self.old }
     {
         for (version, row) in rows {
-            self.add_own_row(journal, &version, row)?;
+            self.add_row(journal, &version, row)?;
         }
         Ok(())
     }
@@ -116,23 +114,5 @@ impl Facts {
             self.add_end(journal, version, *died)?;
         }
         Ok(())
-    }
-
-    /// Adds a row where none is known, and names it in the journal first. The only refusal is `Memory`.
-    fn add_own_row(
-        &mut self,
-        journal: &mut Vec<(VersionKey, Part)>,
-        version: &VersionKey,
-        row: Row,
-    ) -> Result<(), Refusal>
-        ensures ok { OnOk result (self.new ≡ with_fact_at self.old version.now (RowFact row)) }
-        ensures err { IfErr result (λ why. why ≡ Memory) }
-        ensures back { without_journal journal.new.items self.new ≡ without_journal journal.old.items self.old }
-    {
-        if self.row_at(version).is_some() {
-            return Ok(());
-        }
-        note(journal, version, Part::Row)?;
-        self.put(version, Fact::Row(row))
     }
 }
