@@ -50,7 +50,7 @@ map_key e (f ∷ fs) (inr i) = inr (map_key e fs i)
 
 module _ (t : ℕ) where
   -- the row of a chain at t, with its key
-  abbrev row_of_chain : RowKey × ChainValue → Option (RowKey × RowValue)
+  abbrev pub row_of_chain : RowKey × ChainValue → Option (RowKey × RowValue)
   row_of_chain e = option_map (λ r. (e.0, r)) (row_at e.1 t)
 
   pair_is : (x y : RowKey × RowValue) → Some x ≡ Some y → x ≡ y
@@ -89,7 +89,7 @@ module _ (t : ℕ) where
     row_nowhere : (k : RowKey) → finmap.get m k ≡ None → None ≡ finmap.get (visible c t) k
     row_nowhere k e = row_missed c k t (λ born. known k born ∙ ap (option_and_then (λ d. finmap.get d born)) e)
 
-    same_rows : filter_map row_of_chain (finmap.entries m) ≡ finmap.entries (visible c t)
+    pub same_rows : filter_map row_of_chain (finmap.entries m) ≡ finmap.entries (visible c t)
     same_rows =
         same_sorted row_key_cmp row_key_total row_key_same (filter_map row_of_chain (finmap.entries m)) (finmap.entries (visible c t))
         (sorted_from row_key_cmp (filter_map row_of_chain (finmap.entries m)) (rows_rise (finmap.entries m) (rises_sorted (finmap.entries m) (finmap.entries_sorted m))))

@@ -1,3 +1,4 @@
+pub mod RowsBetween
 pub mod StoredFacts
 pub mod ChangedChains
 pub mod FactsByRow

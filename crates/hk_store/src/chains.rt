@@ -1,6 +1,6 @@
 //! The facts of a replica, as chains of versions by row.
 
-ghost use Rattle.std.specs.Prelude.{◌≡◌, ◌==◌, filter, length, is_some, ◌⊎◌, ◌↔◌, ◌<◌, IsTrue, OnOk, OnErr, IfErr, IfOk, IfSome, IfNone, Ok, Err, Some, None, ℕ};
+ghost use Rattle.std.specs.Prelude.{◌≡◌, ◌==◌, ◌&&◌, nat_le, filter, length, is_some, ◌⊎◌, ◌↔◌, ◌<◌, IsTrue, OnOk, OnErr, IfErr, IfOk, IfSome, IfNone, Ok, Err, Some, None, ℕ};
 ghost use Rattle.std.specs.Option.{option_copied};
 ghost use Rattle.std.specs.BTreeMap.{IsOrdered, Updates};
 ghost use Rattle.std.specs.FinMap as finmap;
@@ -14,6 +14,7 @@ ghost use Rattle.hk_facts.specs.Chains.{row_at};
 ghost use Rattle.hk_store.specs.Reads.{with_facts};
 ghost use Rattle.hk_store.specs.Facts.{no_facts, known_at, facts_put, facts_without};
 
+use crate::ranges::rows_in_range;
 use crate::row_key::RowKey;
 use hk_facts::{Chain, Fact, Part};
 use hk_types::{Key, Refusal, Row, Table, Time, VersionKey};
@@ -137,6 +138,30 @@ impl Chains {
             (λ k row. k.table == table) (visible (with_facts self.now) time)) }
     {
         count_from(&self.chains, RowKey::new(table, Key::new(0)), time)
+    }
+
+    /// Copies of the rows of a table with keys from `low` to `high`, both inside, that show at a time, by rising
+    /// key. Where `low` is above `high` there are none. The only error is out of memory.
+    /// Cost: O(log n + k · log n + b), n facts, k keys from low to high of which anything is known, b bytes of the
+    /// bodies that are copied.
+    pub fn rows_between(
+        &self,
+        alloc: Global,
+        table: Table,
+        low: Key,
+        high: Key,
+        time: Time,
+    ) -> Result<Vec<(Key, Row)>, AllocError>
+        ensures { IfOk result (λ rows. rows.items ≡ rows_where
+            (λ k row. (k.table == table) && nat_le low k.key && nat_le k.key high)
+            (visible (with_facts self.now) time)) }
+    {
+        if high < low {
+            return Ok(Vec::new(alloc));
+        }
+        let first = RowKey::new(table, low);
+        let last = RowKey::new(table, high);
+        rows_in_range(alloc, &self.chains, first, last, time)
     }
 
     /// The same facts again. The only error is out of memory. Cost: O(n · log n + b), n facts, b bytes of

@@ -7,6 +7,7 @@ mod copy;
 mod drops;
 mod facts;
 mod journal;
+mod ranges;
 mod replace;
 mod row_key;
 mod shown;
