@@ -25,8 +25,7 @@ impl Model for More {
     ghost use Rattle.std.specs.Option.{option_map};
     ghost use Rattle.std.specs.FinMap as finmap;
     ghost use Rattle.hk_log.specs.Versions.{version_code};
-    ghost use Rattle.hk_facts.specs.Chains.{ChainValue};
-    ghost use Rattle.hk_facts.specs.TableChains.{or_empty};
+    ghost use Rattle.hk_facts.specs.Chains.{ChainValue, or_empty};
 
     ghost Value = { ChainValue };
 
