@@ -1,16 +1,20 @@
 -- The version born next of a chain that stands in two parts, or in a tree.
-use Rattle.std.proofs.Common.{◌≡◌, refl, sym, ap, ◌∙◌, subst, ℕ, ◌<◌, ◌≤◌, Bool, true, false, cond, true≢false, ◌==◌, nat_lt, nat_le, nat_cmp, Option, Some, None, List, [], ◌∷◌, arith, Less}
+use Rattle.std.proofs.Common.{◌≡◌, refl, sym, ap, ◌∙◌, subst, ℕ, ◌<◌, ◌≤◌, Bool, true, false, cond, true≢false, ◌==◌, nat_lt, nat_le, nat_cmp, Option, Some, None, List, [], ◌∷◌, arith, Less, length, IsSome}
 use Rattle.std.proofs.lemmas.Bool.Decides.{nat_tests}
 use Rattle.std.specs.Option.{is_some}
+use Rattle.std.specs.Bool.{OnTrue, OnFalse}
 use Rattle.std.specs.BTreeMap.{BTreeMap}
 use Rattle.std.specs.BTreeMap as tree
+use Rattle.std.specs.BTreeMap.Range.{IsRangeOf}
+use Rattle.std.specs.declared.ops.Bound.TheVariants.{Excluded, Unbounded}
+use Rattle.std.specs.Ordering.{is_gt}
 use Rattle.std.specs.FinMap as finmap
 use Rattle.hk_log.specs.Versions.{VersionValue}
 use Rattle.hk_model.specs.Replica.Maps.{or_else}
 use Rattle.hk_facts.specs.Chains.{ChainValue, FirstBorn, IsEarliest, is_after}
-use Rattle.hk_facts.specs.FirstOfChain.{FirstValue, with_first, IsApart, first_at, first_next}
+use Rattle.hk_facts.specs.FirstOfChain.{FirstValue, with_first, first_at, first_next}
 use Rattle.hk_facts.specs.Parted.{both}
-use Rattle.hk_facts.proofs.StoredTrees.{seen, get_seen}
+use Rattle.hk_facts.proofs.StoredTrees.{seen, get_seen, seen_none}
 use Rattle.hk_facts.proofs.FirstOfChains.{get_first}
 use Rattle.hk_facts.proofs.PartedChains.{get_both}
 
@@ -101,11 +105,71 @@ module _ (test : ℕ → Bool) (a b look : ℕ → Option VersionValue) (joined 
   a_alone e None l r n = absurd (none_but e.1 (sym (n e.0 l.passes) ∙ l.known))
   a_alone e (Some g) l r n = no_b g n r
 
+-- one of two, by a comparison
+pub on_true : (P : Type 0) (r : Bool) (a b : ℕ) → r ≡ nat_le a b → (nat_le a b ≡ true → P) → OnTrue r P
+on_true P true a b is f = f (sym is)
+on_true P false a b is f = tt
+
+pub on_false : (P : Type 0) (r : Bool) (a b : ℕ) → r ≡ nat_le a b → (nat_le a b ≡ false → P) → OnFalse r P
+on_false P false a b is f = f (sym is)
+on_false P true a b is f = tt
+
 at_most : (a b : ℕ) → nat_le a b ≡ true → a ≤ b
 at_most a b e = grind (arith, nat_tests)
 
 under : (a b : ℕ) → nat_le a b ≡ false → b < a
 under a b e = grind (arith, nat_tests)
+
+-- ---- in a tree
+
+no_length : (n : ℕ) → (0 < n → false ≡ true) → n ≡ 0
+no_length n never = by (nat_lt 0 n) refl
+  where
+    some : nat_lt 0 n ≡ true → 0 < n
+    some e = grind (arith, nat_tests)
+
+    none : nat_lt 0 n ≡ false → n ≡ 0
+    none e = grind (arith, nat_tests)
+
+    by : (b : Bool) → nat_lt 0 n ≡ b → n ≡ 0
+    by true e = absurd (true≢false (sym (never (some e))))
+    by false e = none e
+
+module _ (m : BTreeMap ℕ VersionValue) where
+  there : (q : ℕ) → is_some (finmap.get (seen m) q) ≡ true → IsSome (tree.get nat_cmp m q)
+  there q some = sym (ap is_some (get_seen m q)) ∙ some
+
+  not_above : (a b : ℕ) → is_gt (nat_cmp a b) ≡ false → a ≤ b
+  not_above a b e = grind (arith, nat_tests)
+
+  pub first_none : (0 < length m.entries → false ≡ true) → FirstBorn (seen m) (is_after None) None
+  first_none never = λ born t. ap (λ c. finmap.get c born) (seen_none m (no_length (length m.entries) never)) ∙ finmap.get-empty nat_cmp born
+
+  pub first_some : (e : Found) → tree.get nat_cmp m e.0 ≡ Some e.1 → tree.IsLowerBound nat_cmp m e.0 → IsEarliest (seen m) (is_after None) e
+  first_some e has least = record {
+    known = get_seen m e.0 ∙ has;
+    passes = refl;
+    earliest = λ born t some. not_above e.0 born (least born (there born some));
+  }
+
+  module _ (time : ℕ) (range : List Found) (is : IsRangeOf nat_cmp (Excluded time) Unbounded m range) where
+    later : (born : ℕ) → nat_lt time born ≡ true → nat_cmp time born ≡ Less
+    later born e = grind (arith, nat_tests)
+
+    sooner : (born : ℕ) → nat_cmp time born ≡ Less → nat_lt time born ≡ true
+    sooner born e = grind (arith, nat_tests)
+
+    pub after_none : range ≡ [] → FirstBorn (seen m) (is_after (Some time)) None
+    after_none none = λ born t. get_seen m born ∙ is.5 none born (later born t, tt)
+
+    pub after_some : (e : Found) (rest : List Found) → range ≡ e ∷ rest → IsEarliest (seen m) (is_after (Some time)) e
+    after_some e rest same =
+        let here = subst (λ r. IsRangeOf nat_cmp (Excluded time) Unbounded m r) same is in
+        record {
+          known = get_seen m e.0 ∙ here.1.1;
+          passes = sooner e.0 here.1.0.0;
+          earliest = λ born t some. not_above e.0 born (here.2 born (later born t, tt) (there born some));
+        }
 
 -- ---- rows and ends apart
 

@@ -123,16 +123,20 @@ impl Versions {
     fn first(&self) -> Option<(Time, &Version)>
         ensures { FirstBorn self.now (is_after None) (option_map (λ p. (p.0, p.1.now)) result) }
     {
-        let (born, version) = self.versions.first_key_value()?;
-        Some((*born, version))
+        match self.versions.first_key_value() {
+            Some((born, version)) => Some((*born, version)),
+            None => None,
+        }
     }
 
     fn after(&self, time: Time) -> Option<(Time, &Version)>
         ensures { FirstBorn self.now (is_after (Some time)) (option_map (λ p. (p.0, p.1.now)) result) }
     {
         let mut later = self.versions.range((Excluded(time), Unbounded));
-        let (born, version) = later.next()?;
-        Some((*born, version))
+        match later.next() {
+            Some((born, version)) => Some((*born, version)),
+            None => None,
+        }
     }
 
     pub(crate) fn is_empty(&self) -> bool
