@@ -1,6 +1,6 @@
 pub mod StoredFacts
 pub mod ChangedChains
-pub mod FactsByTable
+pub mod FactsByRow
 pub mod JournalUndone
 pub mod Conflicts
 pub mod EntryConflicts

@@ -24,7 +24,7 @@ use Rattle.hk_store.specs.Drops.{is_among}
 use Rattle.hk_store.specs.Reads.{with_facts}
 use Rattle.hk_store.specs.Versions.{AreVersions, AreVersionsOf, conflict_at, value_conflicts_at}
 use Rattle.hk_facts.specs.Facts.{row_of, died_of}
-use Rattle.hk_store.proofs.FactsByTable.{known_row, known_end}
+use Rattle.hk_store.proofs.StoredFacts.{known_row, known_end}
 use Rattle.hk_store.proofs.Indexed.{known_fact}
 use Rattle.hk_store.proofs.Conflicts.{maps_conflict_wide}
 

@@ -2,7 +2,6 @@
 use Rattle.std.proofs.Common.{◌≡◌, refl, sym, ap, ◌∙◌, subst, ℕ, Bool, true, false, cond, not, ◌||◌, ◌&&◌, ◌==◌, Option, Some, None, Result, Ok, Err, IfOk, OnOk, OnErr, option_map, nat_le, arith, List, ◌++◌}
 use Rattle.std.proofs.lemmas.Bool.Decides.{nat_tests}
 use Rattle.std.proofs.lemmas.List.Folds.{list_any-append}
-use Rattle.std.specs.Option.{is_some}
 use Rattle.std.specs.Ordering.{eq_by_cmp}
 use Rattle.std.specs.FinMap as finmap
 use Rattle.std.specs.FinSet as set
@@ -17,11 +16,10 @@ use Rattle.hk_index.specs.Tagged.{tagged_cmp}
 use Rattle.hk_index.specs.declared.timed.TimedVersion.{TimedVersion}
 use Rattle.hk_index.specs.Timed.{timed_cmp, is_at, AreTimed, passes_at, versions_where}
 use Rattle.hk_index.proofs.StoredTimes.{timed_total, timed_same, tied_parts, tied_timed, timed_where}
-use Rattle.hk_facts.specs.declared.fact.Fact.{Fact}
 use Rattle.hk_facts.specs.declared.fact.Fact.TheVariants.{Row, End}
 use Rattle.hk_facts.specs.declared.fact.Part.{Part}
 use Rattle.hk_facts.specs.declared.fact.Part.TheVariants.{Row as RowPart, End as EndPart, Whole}
-use Rattle.hk_store.specs.Facts.{FactsValue, no_facts, with_fact_at, facts_put, facts_without}
+use Rattle.hk_store.specs.Facts.{FactsValue, with_fact_at, facts_put, facts_without}
 use Rattle.hk_store.specs.Drops.{is_among}
 use Rattle.hk_store.specs.Indexed.{AreTagged, AreKeyed, AreIndexed, born_at, died_at, is_stated, tag_lost, end_lost, tags_without, times_without}
 use Rattle.hk_store.proofs.StoredFacts.{tied, key_tied}

@@ -1,16 +1,18 @@
 //! The facts that are held: the rows and the ends of versions.
 #![tactic(auto)]
 
+mod chains;
 mod conflicts_with_entry;
 mod copy;
 mod drops;
 mod facts;
 mod journal;
 mod replace;
+mod row_key;
 mod shown;
 mod stated;
-mod tables;
 mod versions;
 
 pub use facts::Facts;
+pub use row_key::RowKey;
 pub use versions::push_borrowed;

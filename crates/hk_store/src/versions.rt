@@ -23,7 +23,7 @@ impl Facts {
     pub fn version(&self, version: &VersionKey) -> Option<&Version>
         ensures { option_copied result ≡ known_at self.now version.now }
     {
-        let chain = self.tables.chain(version.table, version.key)?;
+        let chain = self.chains.chain(version.table, version.key)?;
         chain.version(version.born)
     }
 

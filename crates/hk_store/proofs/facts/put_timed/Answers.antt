@@ -1,5 +1,3 @@
-use Rattle.std.proofs.Common.{◌∙◌, ap}
-use Rattle.std.specs.FinSet as set
 use Rattle.hk_store.proofs.TimedFacts.{time_back}
 use Rattle.hk_store.proofs.facts.put_timed.Goals as goal
 

@@ -2,9 +2,10 @@
 
 ghost use Rattle.std.specs.Prelude.{◌≡◌};
 ghost use Rattle.hk_model.specs.History.Histories.{written_key};
+ghost use Rattle.hk_model.specs.History.Rows.{row_key_of};
 
 use hk_model::WriteOp;
-use hk_types::{Key, Table};
+use hk_types::{Key, Table, VersionKey};
 use std::marker::Model;
 
 /// A table and a key in it. Row keys are ordered by these fields.
@@ -39,5 +40,12 @@ impl RowKey {
         ensures { result ≡ written_key write.now }
     {
         RowKey::new(write.table(), write.key())
+    }
+
+    /// The row that a version is of.
+    pub fn of_version(version: &VersionKey) -> RowKey
+        ensures { result ≡ row_key_of version.now }
+    {
+        RowKey::new(version.table, version.key)
     }
 }

@@ -1,55 +1,54 @@
-//! The facts of a replica, as chains of versions by table and key.
+//! The facts of a replica, as chains of versions by row.
 
-ghost use Rattle.std.specs.Prelude.{◌≡◌, ◌==◌, length, is_some, ◌⊎◌, ◌↔◌, ◌<◌, IsTrue, OnOk, OnErr, IfErr, IfOk, IfSome, IfNone, Ok, Err, Some, None, ℕ};
+ghost use Rattle.std.specs.Prelude.{◌≡◌, ◌==◌, filter, length, is_some, ◌⊎◌, ◌↔◌, ◌<◌, IsTrue, OnOk, OnErr, IfErr, IfOk, IfSome, IfNone, Ok, Err, Some, None, ℕ};
 ghost use Rattle.std.specs.Option.{option_copied};
-ghost use Rattle.std.specs.Ordering.{nat_cmp};
-ghost use Rattle.std.specs.BTreeMap.{Updates};
+ghost use Rattle.std.specs.BTreeMap.{IsOrdered, Updates};
 ghost use Rattle.std.specs.FinMap as finmap;
+ghost use Rattle.std.specs.List.{take_while};
+ghost use Rattle.std.specs.Ordering.{is_le};
 ghost use Rattle.hk_types.specs.declared.faults.Refusal.TheVariants.{Memory};
 ghost use Rattle.hk_types.specs.declared.version_key.VersionKey.{VersionKey};
+ghost use Rattle.hk_model.specs.History.Rows.{row_key_cmp};
 ghost use Rattle.hk_model.specs.Replica.Answers.{visible, rows_where};
-ghost use Rattle.hk_store.specs.Reads.{chains_at, with_facts};
+ghost use Rattle.hk_facts.specs.Chains.{row_at};
+ghost use Rattle.hk_store.specs.Reads.{with_facts};
 ghost use Rattle.hk_store.specs.Facts.{no_facts, known_at, facts_put, facts_without};
 
-use hk_facts::{Chain, Fact, Part, TableChains};
+use crate::row_key::RowKey;
+use hk_facts::{Chain, Fact, Part};
 use hk_types::{Key, Refusal, Row, Table, Time, VersionKey};
 use std::alloc::{AllocError, Global};
 use std::collections::BTreeMap;
 use std::marker::Model;
 
-/// The rows and the ends of all versions: for each table the chains of its keys. No table is empty, no
-/// chain is empty, and of each version something is known.
+/// The rows and the ends of all versions: for each row the chain of its versions. No chain is empty, and of
+/// each version something is known.
 #[derive(Drop)]
-pub struct Tables {
-    tables: BTreeMap<Table, TableChains>,
+pub struct Chains {
+    chains: BTreeMap<RowKey, Chain>,
     alloc: Global,
 }
 
-impl Model for Tables {
-    ghost use Rattle.std.specs.Ordering.{nat_cmp};
+impl Model for Chains {
     ghost use Rattle.std.specs.FinMap as finmap;
-    ghost use Rattle.hk_facts.specs.TableChains.{AllFilled};
-    ghost use Rattle.hk_store.specs.Facts.{FactsValue, facts_code, facts_of, AllKnown};
+    ghost use Rattle.hk_store.specs.Facts.{FactsValue, facts_code, facts_of, AreStored};
 
     ghost Value = { FactsValue };
 
     ghost coded = { facts_code };
 
-    ghost view = { λ a. facts_of (finmap.from_entries a.tables.entries) };
+    ghost view = { λ a. facts_of (finmap.from_entries a.chains.entries) };
 
-    ghost invariant = { λ a. record {
-      filled : AllFilled (finmap.from_entries {R = nat_cmp} a.tables.entries);
-      known : AllKnown (finmap.from_entries a.tables.entries);
-    } };
+    ghost invariant = { λ a. AreStored (finmap.from_entries a.chains.entries) };
 }
 
-impl Tables {
+impl Chains {
     /// No facts. It takes no memory.
-    pub fn new(alloc: Global) -> Tables
+    pub fn new(alloc: Global) -> Chains
         ensures { result ≡ no_facts }
     {
-        Tables {
-            tables: BTreeMap::new(alloc),
+        Chains {
+            chains: BTreeMap::new(alloc),
             alloc,
         }
     }
@@ -59,7 +58,7 @@ impl Tables {
         self.alloc
     }
 
-    /// The chain of a key of a table. Cost: O(log t + log k), t tables, k keys of this table.
+    /// The chain of a key of a table. Cost: O(log k), k keys of all tables.
     pub fn chain(&self, table: Table, key: Key) -> Option<&Chain>
         ensures some { IfSome result (λ chain. (born : ℕ) → finmap.get chain.now born
             ≡ known_at self.now (record { table = table; key = key; born = born })) }
@@ -67,10 +66,7 @@ impl Tables {
             known_at self.now (record { table = table; key = key; born = born }) ≡ None) }
         ensures filled { IfSome result (λ chain. 0 < finmap.len chain.now) }
     {
-        match self.tables.get(&table) {
-            Some(keyed) => keyed.chain(key),
-            None => None,
-        }
+        self.chains.get(&RowKey::new(table, key))
     }
 
     /// The row of a version, where it is known. Cost: O(log n), n facts.
@@ -110,11 +106,12 @@ impl Tables {
             ⊎ ((why ≡ Memory) × (known_at self.old version.now ≡ None))) }
         ensures kept { OnErr result (self.new ≡ self.old) }
     {
-        if let Some(keyed) = self.tables.get_mut(&version.table) {
-            return keyed.put(version.key, version.born, fact);
+        let row = RowKey::of_version(version);
+        if let Some(chain) = self.chains.get_mut(&row) {
+            return chain.put(version.born, fact);
         }
-        let keyed = TableChains::of_fact(self.alloc, version.key, version.born, fact)?;
-        insert(&mut self.tables, version.table, keyed)?;
+        let chain = Chain::of_fact(self.alloc, version.born, fact)?;
+        insert(&mut self.chains, row, chain)?;
         Ok(())
     }
 
@@ -122,14 +119,15 @@ impl Tables {
     pub fn forget(&mut self, version: &VersionKey, part: Part)
         ensures { self.new ≡ facts_without self.old version.now part }
     {
-        let Some(keyed) = self.tables.get_mut(&version.table) else {
+        let row = RowKey::of_version(version);
+        let Some(chain) = self.chains.get_mut(&row) else {
             return;
         };
-        keyed.forget(version.key, version.born, part);
-        if !keyed.is_empty() {
+        chain.forget(version.born, part);
+        if !chain.is_empty() {
             return;
         }
-        self.tables.remove(&version.table);
+        self.chains.remove(&row);
     }
 
     /// How many rows of a table show at a time. It takes no memory. Cost: O(log n + k · log n),
@@ -138,43 +136,39 @@ impl Tables {
         ensures { result ≡ length (rows_where
             (λ k row. k.table == table) (visible (with_facts self.now) time)) }
     {
-        match self.tables.get(&table) {
-            Some(keyed) => count_chains(keyed, time),
-            None => 0,
-        }
+        count_from(&self.chains, RowKey::new(table, Key::new(0)), time)
     }
 
     /// The same facts again. The only error is out of memory. Cost: O(n · log n + b), n facts, b bytes of
     /// bodies, all copied.
-    pub fn copy(&self, alloc: Global) -> Result<Tables, AllocError>
+    pub fn copy(&self, alloc: Global) -> Result<Chains, AllocError>
         ensures { IfOk result (λ facts. facts ≡ self.now) }
     {
-        let mut tables = BTreeMap::new(alloc);
-        for (table, keyed) in &self.tables {
-            insert(&mut tables, *table, keyed.copy(alloc)?)?;
+        let mut chains = BTreeMap::new(alloc);
+        for (row, chain) in &self.chains {
+            insert(&mut chains, *row, chain.copy(alloc)?)?;
         }
-        Ok(Tables { tables, alloc })
+        Ok(Chains { chains, alloc })
     }
 }
 
-/// How many chains have a row at a time.
-fn count_chains(keyed: &TableChains, time: Time) -> usize
-    ensures { result ≡ chains_at keyed.now time }
+/// How many chains of a table have a row at a time, of those from a row on.
+fn count_from(chains: &BTreeMap<RowKey, Chain>, first: RowKey, time: Time) -> usize
+    ensures value { result ≡ length (filter (λ e. is_some (row_at e.1 time)) (take_while (λ e. e.0.table == first.table)
+        (filter (λ e. is_le (row_key_cmp first e.0)) chains.now.entries))) }
+    ensures ordered { IsOrdered row_key_cmp chains.now }
 {
-    keyed
-        .iter()
-        .filter(|(_key, chain)| chain.at(time).is_some())
+    chains
+        .range(first..)
+        .take_while(|(row, _chain)| row.table == first.table)
+        .filter(|(_row, chain)| chain.at(time).is_some())
         .count()
 }
 
-fn insert(
-    tables: &mut BTreeMap<Table, TableChains>,
-    table: Table,
-    keyed: TableChains,
-) -> Result<(), AllocError>
-    ensures ok { OnOk result (Updates nat_cmp tables.old tables.new table (Some keyed)) }
-    ensures err { OnErr result (tables.new.entries ≡ tables.old.entries) }
+fn insert(chains: &mut BTreeMap<RowKey, Chain>, row: RowKey, chain: Chain) -> Result<(), AllocError>
+    ensures ok { OnOk result (Updates row_key_cmp chains.old chains.new row (Some chain)) }
+    ensures err { OnErr result (chains.new.entries ≡ chains.old.entries) }
 {
-    tables.insert(table, keyed)?;
+    chains.insert(row, chain)?;
     Ok(())
 }
