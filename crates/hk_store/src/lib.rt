@@ -7,12 +7,15 @@ mod copy;
 mod drops;
 mod facts;
 mod journal;
+mod keys;
 mod replace;
 mod row_key;
 mod shown;
 mod stated;
 mod versions;
+mod walk;
 
 pub use facts::Facts;
+pub use keys::Keys;
 pub use row_key::RowKey;
 pub use versions::push_borrowed;
