@@ -7,3 +7,4 @@ pub mod LatestVersion
 pub mod ShownRow
 pub mod FirstOfChains
 pub mod PartedChains
+mod NextBorn

@@ -41,9 +41,7 @@ fn range(
     ensures ok { IfOk result (λ rows. answer (visible (with_facts facts.now) time) (Range table low high) ≡ Rows rows.items) }
     ensures err { IfErr result (λ why. why ≡ Memory) }
 {
-    let versions = facts.keys().list(alloc, table, low, high)?;
-    let rows = shown_rows(alloc, facts, time, &versions)?;
-    Ok(rows)
+    facts.rows_between(alloc, table, low, high, time)
 }
 
 /// The rows with a tag.
@@ -64,9 +62,9 @@ fn by_tag(
 
 /// The answer to a query on the rows that facts show at a time.
 ///
-/// The only refusal is `Memory`, and a `Count` takes no memory. Cost: `Get` O(log n + b), `Range` and
-/// `ByTag` O(log n + v · log n + b), `Count` O(log n + k · log n), n facts, v versions that the index lists,
-/// k keys of the table, b bytes of the bodies that are copied.
+/// The only refusal is `Memory`, and a `Count` takes no memory. Cost: `Get` O(log n + b), `Range`
+/// O(log n + k · log n + b), `ByTag` O(log n + v · log n + b), `Count` O(log n + k · log n), n facts, k keys of the
+/// range or of the table, v versions with the tag, b bytes of the bodies that are copied.
 pub fn answer_at(alloc: Global, facts: &Facts, time: Time, query: &Query) -> Result<Answer, Refusal>
     ensures ok { IfOk result (λ a. answer_seen a ≡ answer (visible (with_facts facts.now) time) query.now) }
     ensures err { IfErr result (λ why. why ≡ Memory) }

@@ -14,3 +14,5 @@ pub mod ReplacedFacts
 pub mod ListedVersions
 pub mod PickedVersions
 pub mod SameRows
+mod WalkedVersions
+mod RowsInOrder

@@ -26,7 +26,7 @@ use std::marker::Model;
 /// each version something is known.
 #[derive(Drop)]
 pub struct Chains {
-    chains: BTreeMap<RowKey, Chain>,
+    pub(crate) chains: BTreeMap<RowKey, Chain>,
     alloc: Global,
 }
 

@@ -18,13 +18,11 @@ impl Facts {
         let tags = self.tags.copy(alloc)?;
         let births = self.births.copy(alloc)?;
         let deaths = self.deaths.copy(alloc)?;
-        let keys = self.keys.copy(alloc)?;
         Ok(Facts {
             chains,
             tags,
             births,
             deaths,
-            keys,
         })
     }
 }

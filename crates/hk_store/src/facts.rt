@@ -13,21 +13,21 @@ ghost use Rattle.hk_store.specs.Facts.{no_facts, known_at, facts_put, facts_with
 ghost use Rattle.hk_store.specs.Indexed.{AreTagged, AreKeyed, IsNew, end_lost, tag_lost, tags_without, times_without};
 
 use crate::chains::Chains;
+use crate::keys::Keys;
 use hk_facts::{Chain, Fact, Part};
-use hk_index::{KeyIndex, TagIndex, TimeIndex};
+use hk_index::{TagIndex, TimeIndex};
 use hk_types::{Key, Refusal, Row, Table, Tag, Time, VersionKey};
 use std::alloc::Global;
 use std::marker::Model;
 
-/// The rows and the ends of all versions, with four indexes: by tag and by the time of birth those whose row is
-/// known, by the time of death those whose end is known, and by table and key those of which either is known.
+/// The rows and the ends of all versions, with three indexes: by tag and by the time of birth those whose row is
+/// known, and by the time of death those whose end is known.
 #[derive(Drop)]
 pub struct Facts {
     pub(crate) chains: Chains,
     pub(crate) tags: TagIndex,
     pub(crate) births: TimeIndex,
     pub(crate) deaths: TimeIndex,
-    pub(crate) keys: KeyIndex,
 }
 
 impl Model for Facts {
@@ -40,7 +40,7 @@ impl Model for Facts {
 
     ghost view = { λ a. a.chains };
 
-    ghost invariant = { λ a. AreIndexed a.chains a.tags a.births a.deaths a.keys };
+    ghost invariant = { λ a. AreIndexed a.chains a.tags a.births a.deaths };
 }
 
 impl Facts {
@@ -53,7 +53,6 @@ impl Facts {
             tags: TagIndex::new(alloc),
             births: TimeIndex::new(alloc),
             deaths: TimeIndex::new(alloc),
-            keys: KeyIndex::new(alloc),
         }
     }
 
@@ -70,10 +69,10 @@ impl Facts {
     }
 
     /// The versions of which a row or an end is known, by table and key.
-    pub fn keys(&self) -> &KeyIndex
-        ensures { AreKeyed self.now result.now }
+    pub fn keys(&self) -> Keys<'_>
+        ensures { AreKeyed self.now result }
     {
-        &self.keys
+        Keys::of(&self.chains)
     }
 
     /// The chain of a key of a table. Cost: O(log k), k keys of all tables.
@@ -144,7 +143,6 @@ impl Facts {
         self.tags.add(tag, *version)?;
         let put = put_timed(
             &mut self.chains,
-            &mut self.keys,
             &mut self.births,
             version,
             version.born,
@@ -167,7 +165,6 @@ impl Facts {
         }
         put_timed(
             &mut self.chains,
-            &mut self.keys,
             &mut self.deaths,
             version,
             died,
@@ -181,7 +178,7 @@ impl Facts {
     {
         let tag = self.tag_of(version, part);
         let died = self.end_of(version, part);
-        forget_listed(&mut self.chains, &mut self.keys, version, part);
+        self.chains.forget(version, part);
         forget_birth(&mut self.tags, &mut self.births, version, tag);
         forget_death(&mut self.deaths, version, died);
     }
@@ -210,64 +207,25 @@ impl Facts {
 
 /// Adds a fact that has a time, and its version to the index by this time, which has it not.
 fn put_timed(
-    tables: &mut Chains,
-    keys: &mut KeyIndex,
+    chains: &mut Chains,
     index: &mut TimeIndex,
     version: &VersionKey,
     time: Time,
     fact: Fact,
 ) -> Result<(), Refusal>
-    requires keyed { AreKeyed tables.old keys.old }
     requires new { set.contains index.old (record { time = time; version = version.now }) ≡ false }
-    ensures ok { OnOk result (facts_put tables.old version.now fact ≡ Ok tables.new) }
+    ensures ok { OnOk result (facts_put chains.old version.now fact ≡ Ok chains.new) }
     ensures timed { OnOk result (index.new ≡ set.insert index.old (record { time = time; version = version.now })) }
-    ensures err { IfErr result (λ why. (facts_put tables.old version.now fact ≡ Err why) ⊎ (why ≡ Memory)) }
-    ensures kept { OnErr result (tables.new ≡ tables.old) }
+    ensures err { IfErr result (λ why. (facts_put chains.old version.now fact ≡ Err why) ⊎ (why ≡ Memory)) }
+    ensures kept { OnErr result (chains.new ≡ chains.old) }
     ensures untimed { OnErr result (index.new ≡ index.old) }
-    ensures keyed { AreKeyed tables.new keys.new }
 {
     index.add(time, *version)?;
-    if let Err(why) = put_listed(tables, keys, version, fact) {
+    if let Err(why) = chains.put(version, fact) {
         index.remove(time, *version);
         return Err(why);
     }
     Ok(())
-}
-
-/// Adds a fact, and its version to the index by key.
-fn put_listed(
-    tables: &mut Chains,
-    keys: &mut KeyIndex,
-    version: &VersionKey,
-    fact: Fact,
-) -> Result<(), Refusal>
-    requires { AreKeyed tables.old keys.old }
-    ensures ok { OnOk result (facts_put tables.old version.now fact ≡ Ok tables.new) }
-    ensures err { IfErr result (λ why. (facts_put tables.old version.now fact ≡ Err why) ⊎ ((why ≡ Memory) × (known_at tables.old version.now ≡ None))) }
-    ensures kept { OnErr result (tables.new ≡ tables.old) }
-    ensures keyed { AreKeyed tables.new keys.new }
-{
-    if tables.knows(version) {
-        return tables.put(version, fact);
-    }
-    keys.add(*version)?;
-    if let Err(why) = tables.put(version, fact) {
-        keys.remove(*version);
-        return Err(why);
-    }
-    Ok(())
-}
-
-/// Takes a part of a version back, and the version out of the index by key where nothing else is known of it.
-fn forget_listed(tables: &mut Chains, keys: &mut KeyIndex, version: &VersionKey, part: Part)
-    requires { AreKeyed tables.old keys.old }
-    ensures value { tables.new ≡ facts_without tables.old version.now part }
-    ensures keyed { AreKeyed tables.new keys.new }
-{
-    tables.forget(version, part);
-    if !tables.knows(version) {
-        keys.remove(*version);
-    }
 }
 
 /// Takes a version out of the indexes of those whose row is known, where a row goes that has this tag.

@@ -8,13 +8,16 @@ mod drops;
 mod facts;
 mod journal;
 mod ranges;
+mod keys;
 mod replace;
 mod row_key;
 mod shown;
 mod stated;
 mod versions;
+mod walk;
 
 pub use facts::Facts;
 pub use replace::meets;
+pub use keys::Keys;
 pub use row_key::RowKey;
 pub use versions::push_borrowed;

@@ -13,4 +13,4 @@ pub invariant_of-self-2 : goal.invariant_of-self-2
 invariant_of-self-2 c =
     let a = c.self.inside in
     let e = c.put_timed.ensures in
-    end_put a.chains c.put_timed.new.tables c.args.version.now c.put_timed.result e.kept c.args.died e.ok (none_here c.end_at.result _ c.end_at.ensures (sym c.if-is_some.ensures)) a.tags a.births a.deaths a.keys c.self.invariant c.put_timed.new.index c.put_timed.new.keys e.timed e.untimed e.keyed
+    end_put a.chains c.put_timed.new.chains c.args.version.now c.put_timed.result e.kept c.args.died e.ok (none_here c.end_at.result _ c.end_at.ensures (sym c.if-is_some.ensures)) a.tags a.births a.deaths c.self.invariant c.put_timed.new.index e.timed e.untimed

@@ -22,7 +22,6 @@ invariant_of-self-in-Err c =
       tagged = rw (c.remove.ensures, c.in_ok-add.ensures.ok, c.in-Err.ensures.kept) (tag_back a.chains a.tags c.self.invariant.tagged v c.tag-tag.result none);
       born = rw (c.in-Err.ensures.kept, c.in-Err.ensures.untimed) c.self.invariant.born;
       dead = rw c.in-Err.ensures.kept c.self.invariant.dead;
-      keyed = c.put_timed-put.ensures.keyed;
     }
 
 pub invariant_of-self-in_default : goal.invariant_of-self-in_default
@@ -30,10 +29,9 @@ invariant_of-self-in_default c =
     let a = c.self.inside in
     let v = c.args.version.now in
     let none = none_there (λ x. x.now) c.row_at.result _ c.row_at.ensures (sym c.if-is_some.ensures) in
-    let is = put_is a.chains c.put_timed-put.new.tables v (Row c.args.row) c.in_default.ensures.ok in
+    let is = put_is a.chains c.put_timed-put.new.chains v (Row c.args.row) c.in_default.ensures.ok in
     record {
       tagged = rw (c.in_ok-add.ensures.ok, is, c.tag-tag.ensures) (row_tagged a.chains a.tags c.self.invariant.tagged v c.args.row none);
       born = rw (is, c.in_default.ensures.timed) (births_added a.chains v a.births c.self.invariant.born c.args.row none);
       dead = rw is c.self.invariant.dead;
-      keyed = c.put_timed-put.ensures.keyed;
     }
