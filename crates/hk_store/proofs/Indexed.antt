@@ -11,7 +11,6 @@ use Rattle.hk_types.specs.declared.faults.Refusal.{Refusal}
 use Rattle.hk_types.specs.declared.faults.Refusal.TheVariants.{Conflict}
 use Rattle.hk_model.specs.History.Rows.{version_key_cmp}
 use Rattle.hk_model.specs.Replica.Maps.{or_else}
-use Rattle.hk_model.proofs.Maps.{version_key_total}
 use Rattle.hk_index.specs.declared.tagged.TaggedVersion.{TaggedVersion}
 use Rattle.hk_index.specs.Tagged.{tagged_cmp}
 use Rattle.hk_index.specs.Timed.{timed_cmp, is_at}
@@ -22,7 +21,7 @@ use Rattle.hk_facts.specs.declared.fact.Part.{Part}
 use Rattle.hk_facts.specs.declared.fact.Part.TheVariants.{Row as RowPart, End as EndPart, Whole}
 use Rattle.hk_facts.specs.Facts.{if_known}
 use Rattle.hk_store.specs.Facts.{FactsValue, no_facts, known_at, with_fact_at, facts_put, facts_without, conflicts_at}
-use Rattle.hk_store.specs.Indexed.{is_tagged, has_fact, AreTagged, AreKeyed, AreIndexed, tag_lost}
+use Rattle.hk_store.specs.Indexed.{is_tagged, has_fact, AreTagged, AreIndexed, tag_lost}
 use Rattle.hk_store.proofs.StoredFacts.{tied, key_tied}
 use Rattle.hk_store.proofs.ChangedChains.{get-added, get-without, tied_is}
 

@@ -1,5 +1,5 @@
 -- The list of the versions of which anything is known.
-use Rattle.std.proofs.Common.{◌≡◌, refl, sym, ap, ◌∙◌, subst, Bool, true, false, cond, ◌&&◌, ◌||◌, ◌==◌, Some, None, Result, Ok, Err, IfOk, List, [], ◌∷◌, ◌++◌, map, filter, All}
+use Rattle.std.proofs.Common.{◌≡◌, refl, sym, ap, ◌∙◌, subst, Bool, true, false, cond, ◌&&◌, ◌||◌, ◌==◌, Some, None, List, [], ◌∷◌, ◌++◌, map, filter, All}
 use Rattle.std.proofs.lemmas.List.{map_push, append-nil}
 use Rattle.std.proofs.lemmas.List.Elements.{All-push, All-head, All-tail, filter-append}
 use Rattle.std.proofs.lemmas.List.Kept.{IsStrictlySortedBy-filter}
@@ -19,7 +19,7 @@ use Rattle.hk_model.proofs.Maps.{version_key_total, version_key_same}
 use Rattle.hk_index.specs.Listed.{Lists}
 use Rattle.hk_index.proofs.StoredKeys.{any-filter}
 use Rattle.hk_store.specs.Facts.{FactsValue, known_at}
-use Rattle.hk_store.specs.Indexed.{AreKeyed, has_fact}
+use Rattle.hk_store.specs.Indexed.{has_fact}
 use Rattle.hk_store.specs.Drops.{is_among}
 use Rattle.hk_store.specs.Reads.{with_facts}
 use Rattle.hk_store.specs.Versions.{AreVersions, AreVersionsOf, conflict_at, value_conflicts_at}
@@ -83,13 +83,14 @@ conflict_over f g ks among =
     ∙ (λ i. sym (maps_conflict_wide version_key_total version_key_same same_row f.rows g.rows ks (λ k e. among k ∙ or_left (is_some (finmap.get g.rows k)) (is_some (finmap.get g.ends k)) e)) i
     || sym (maps_conflict_wide version_key_total version_key_same (λ a b. a == b) f.ends g.ends ks (λ k e. among k ∙ or_right (is_some (finmap.get g.rows k)) (is_some (finmap.get g.ends k)) e)) i)
 
+-- a version conflicts by what is known of it
+pub conflict_known : (f g : FactsValue) (e : VersionKey × VersionValue) → known_at g e.0 ≡ Some e.1 → value_conflicts_at f e.0 e.1 ≡ conflict_at f g e.0
+conflict_known f g e known = λ i. values_conflict same_row (finmap.get f.rows e.0) ((sym (ap row_of known) ∙ known_row g e.0) i) || values_conflict (λ a b. a == b) (finmap.get f.ends e.0) ((sym (ap died_of known) ∙ known_end g e.0) i)
+
 -- or over a list of all versions
 pub conflict_listed : (f g : FactsValue) (es : List (VersionKey × VersionValue)) → AreVersions g es → list_any (λ e. value_conflicts_at f e.0 e.1) es ≡ contents_conflict (with_facts f) (with_facts g)
 conflict_listed f g es are = each es are.known ∙ conflict_over f g (map (λ e. e.0) es) (λ k. sym (are.all k) ∙ known_fact g k)
   where
-    one : (e : VersionKey × VersionValue) → known_at g e.0 ≡ Some e.1 → value_conflicts_at f e.0 e.1 ≡ conflict_at f g e.0
-    one e known = λ i. values_conflict same_row (finmap.get f.rows e.0) ((sym (ap row_of known) ∙ known_row g e.0) i) || values_conflict (λ a b. a == b) (finmap.get f.ends e.0) ((sym (ap died_of known) ∙ known_end g e.0) i)
-
     each : (xs : List (VersionKey × VersionValue)) → All (IsKnown g) xs → list_any (λ e. value_conflicts_at f e.0 e.1) xs ≡ list_any (conflict_at f g) (map (λ e. e.0) xs)
     each [] known = refl
-    each (x ∷ xs) known = λ i. one x (All-head (IsKnown g) x xs known) i || each xs (All-tail (IsKnown g) x xs known) i
+    each (x ∷ xs) known = λ i. conflict_known f g x (All-head (IsKnown g) x xs known) i || each xs (All-tail (IsKnown g) x xs known) i

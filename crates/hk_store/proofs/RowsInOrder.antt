@@ -1,5 +1,5 @@
 -- The first version of the rows from a bound on, and the next version of a row.
-use Rattle.std.proofs.Common.{◌≡◌, refl, sym, ap, ◌∙◌, subst, ℕ, ◌<◌, ◌≤◌, Bool, true, false, true≢false, Option, Some, None, List, [], ◌∷◌, nat_cmp, nat_lt, is_le, is_lt, is_gt, Less, Equal, Greater, IsSome, arith}
+use Rattle.std.proofs.Common.{◌≡◌, refl, sym, ap, ◌∙◌, subst, ℕ, ◌<◌, ◌≤◌, Bool, true, false, true≢false, Option, Some, None, List, [], ◌∷◌, nat_cmp, nat_lt, is_le, is_lt, is_gt, Less, Equal, Greater, arith}
 use Rattle.std.proofs.lemmas.Bool.Decides.{nat_tests}
 use Rattle.std.specs.Option.{is_some, option_and_then}
 use Rattle.std.specs.Ordering.{ordering_then}
@@ -15,10 +15,10 @@ use Rattle.hk_types.specs.declared.version_key.VersionKey.{VersionKey}
 use Rattle.hk_log.specs.Versions.{VersionValue}
 use Rattle.hk_model.specs.History.Rows.{RowKey, row_key_cmp, row_key_of, version_key_cmp, version_of}
 use Rattle.hk_model.proofs.Maps.{row_key_total, row_key_same}
-use Rattle.hk_facts.specs.Chains.{ChainValue, is_after}
+use Rattle.hk_facts.specs.Chains.{ChainValue}
 use Rattle.hk_facts.proofs.StoredTrees.{get_tree, same_at_all}
-use Rattle.hk_store.specs.Facts.{FactsValue, ChainsValue, stored_version, facts_of, known_at, AreStored}
-use Rattle.hk_store.specs.Versions.{FirstWhere, IsLeast, NextOf}
+use Rattle.hk_store.specs.Facts.{FactsValue, facts_of, known_at, AreStored}
+use Rattle.hk_store.specs.Versions.{FirstWhere, NextOf}
 use Rattle.hk_store.proofs.StoredFacts.{known_stored}
 use Rattle.hk_store.proofs.FactsByRow.{seen}
 
@@ -128,7 +128,7 @@ module _ (m : BTreeMap RowKey ChainValue) (stored : AreStored (seen m)) (start :
       there q some (Some d) e = refl
 
       by : (o : Option Found) → NextOf k c None o → FirstWhere facts (λ q. is_from_start row_key_cmp start (row_key_of q)) o
-      by None next = let zero_len = empty (same_at_all c finmap.empty (λ born. next born refl ∙ sym (finmap.get-empty nat_cmp born))) in absurd (omega arith)
+      by None next = let some = filled in let zero_len = empty (same_at_all c finmap.empty (λ born. next born refl ∙ sym (finmap.get-empty nat_cmp born))) in absurd (omega arith)
       by (Some e) next = record {
         known = known_in e.0 (Some c) (ap (tree.get row_key_cmp m) next.0 ∙ has) ∙ next.1.known;
         passes = ap (is_from_start row_key_cmp start) next.0 ∙ from_is start k here.1.0.0;
@@ -177,17 +177,17 @@ module _ (f : FactsValue) (v : VersionKey) where
     pub next_in_row : (e : Found) → NextOf (row_key_of v) c (Some v.born) (Some e) → FirstWhere f above (Some e)
     next_in_row e next = record {
       known = ap (known_at f) (same_row e.0 (sym next.0)) ∙ sym (chain e.0.born) ∙ next.1.known;
-      passes = ap is_lt (by_row v e.0) ∙ at (row_key_cmp (row_key_of v) (row_key_of e.0)) (tied next.0) (born_lt v.born e.0.born next.1.passes);
+      passes = ap is_lt (by_row v e.0) ∙ at (row_key_cmp (row_key_of v) (row_key_of e.0)) (tied (row_key_of e.0) next.0) (born_lt v.born e.0.born next.1.passes);
       least = λ q t some. split (is_le (version_key_cmp e.0 q) ≡ true) q t
           (λ far. ap is_le (by_row e.0 q) ∙ ap (λ r. is_le (ordering_then (row_key_cmp r (row_key_of q)) (nat_cmp e.0.born q.born))) next.0 ∙ less (row_key_cmp (row_key_of v) (row_key_of q)) (nat_cmp e.0.born q.born) far)
-          (λ row later. ap is_le (by_row e.0 q) ∙ ap (λ r. is_le (ordering_then (row_key_cmp r (row_key_of q)) (nat_cmp e.0.born q.born))) next.0 ∙ near (row_key_cmp (row_key_of v) (row_key_of q)) (tied (sym row)) (born_le e.0.born q.born (next.1.earliest q.born later (ap is_some (chain q.born ∙ sym (ap (known_at f) (same_row q row))) ∙ some))));
+          (λ row later. ap is_le (by_row e.0 q) ∙ ap (λ r. is_le (ordering_then (row_key_cmp r (row_key_of q)) (nat_cmp e.0.born q.born))) next.0 ∙ near (nat_cmp e.0.born q.born) (row_key_cmp (row_key_of v) (row_key_of q)) (tied (row_key_of q) (sym row)) (born_le e.0.born q.born (next.1.earliest q.born later (ap is_some (chain q.born ∙ sym (ap (known_at f) (same_row q row))) ∙ some))));
     }
       where
         itself : (r : RowKey) → row_key_cmp r r ≡ Equal
         itself r = tied_itself row_key_total r
 
-        tied : {r : RowKey} → r ≡ row_key_of v → row_key_cmp (row_key_of v) r ≡ Equal
-        tied {r} e = ap (row_key_cmp (row_key_of v)) e ∙ itself (row_key_of v)
+        tied : (r : RowKey) → r ≡ row_key_of v → row_key_cmp (row_key_of v) r ≡ Equal
+        tied r e = ap (row_key_cmp (row_key_of v)) e ∙ itself (row_key_of v)
 
         at : (o : Ordering) → o ≡ Equal → is_lt (nat_cmp v.born e.0.born) ≡ true → is_lt (ordering_then o (nat_cmp v.born e.0.born)) ≡ true
         at o same t = ap (λ x. is_lt (ordering_then x (nat_cmp v.born e.0.born))) same ∙ t
@@ -197,8 +197,8 @@ module _ (f : FactsValue) (v : VersionKey) where
         less Equal x t = absurd (true≢false (sym t))
         less Greater x t = absurd (true≢false (sym t))
 
-        near : {x : Ordering} (o : Ordering) → o ≡ Equal → is_le x ≡ true → is_le (ordering_then o x) ≡ true
-        near {x} o same t = ap (λ z. is_le (ordering_then z x)) same ∙ t
+        near : (x o : Ordering) → o ≡ Equal → is_le x ≡ true → is_le (ordering_then o x) ≡ true
+        near x o same t = ap (λ z. is_le (ordering_then z x)) same ∙ t
 
     pub none_later : NextOf (row_key_of v) c (Some v.born) None → (born : ℕ) → nat_lt v.born born ≡ true → known_at f (version_of (row_key_of v) born) ≡ None
     none_later none born t = sym (chain born) ∙ none born t

@@ -1,11 +1,13 @@
 -- A walk from each version to the next goes over all versions of which anything is known, in rising order.
-use Rattle.std.proofs.Common.{◌≡◌, refl, sym, ap, ◌∙◌, subst, ℕ, Bool, true, false, cond, ◌||◌, ◌&&◌, T, true≢false, Option, Some, None, List, [], ◌∷◌, ◌++◌, map, filter, nat_cmp, nat_le, is_le, is_lt, is_eq, is_gt, Less, Equal, Greater, IfSome, arith}
+use Rattle.std.proofs.Common.{◌≡◌, refl, sym, ap, ◌∙◌, subst, ℕ, Bool, true, false, cond, ◌||◌, T, true≢false, Option, Some, None, List, [], ◌∷◌, ◌++◌, map, filter, nat_cmp, nat_le, is_le, is_lt, is_eq, is_gt, Less, Equal, Greater, IfSome, All, length, ◌<◌, arith}
 use Rattle.std.proofs.lemmas.Bool.Decides.{nat_tests}
 use Rattle.std.proofs.lemmas.Bool.{or_right}
+use Rattle.std.proofs.lemmas.List.{append-nil}
 use Rattle.std.proofs.lemmas.List.Folds.{list_any-append}
+use Rattle.std.proofs.lemmas.List.Sums.{take_while-cons}
 use Rattle.std.proofs.lemmas.Map.Keys.{sorted_head, sorted_tail}
 use Rattle.std.specs.Option.{is_some}
-use Rattle.std.specs.List.{list_any, AllByRecursion}
+use Rattle.std.specs.List.{list_any, take_while, AllByRecursion}
 use Rattle.std.specs.List.Sorted.{IsStrictlySortedBy}
 use Rattle.std.specs.Ordering.{eq_by_cmp}
 use Rattle.std.specs.declared.cmp.Ordering.{Ordering}
@@ -18,11 +20,13 @@ use Rattle.hk_log.specs.Versions.{VersionValue}
 use Rattle.hk_model.specs.History.Rows.{version_key_cmp}
 use Rattle.hk_model.proofs.Maps.{version_key_total, version_key_same}
 use Rattle.hk_model.proofs.Visible.{T_both}
-use Rattle.hk_index.proofs.StoredKeys.{from_low}
+use Rattle.hk_index.proofs.StoredKeys.{from_low, Lists-from}
 use Rattle.hk_store.specs.Facts.{FactsValue, known_at}
 use Rattle.hk_store.specs.Drops.{is_among}
 use Rattle.hk_store.specs.Indexed.{has_fact, keys_of}
-use Rattle.hk_store.specs.Versions.{FirstWhere, IsLeast}
+use Rattle.hk_index.specs.Listed.{Lists, is_up_to, with_keys}
+use Rattle.hk_store.specs.Versions.{FirstWhere, AreVersions}
+use Rattle.hk_store.proofs.Conflicts.{any_at}
 use Rattle.hk_store.proofs.Indexed.{known_fact}
 
 abbrev Found : Type 0
@@ -66,9 +70,6 @@ le_le v a b first le = by (version_key_cmp v a) refl first
     by Greater e t = absurd (true≢false (sym t))
 
 -- ---- the list of all versions
-
-key_list : FactsValue → List VersionKey
-key_list f = finmap.keys f.rows ++ finmap.keys f.ends
 
 abbrev marked : FactsValue → finmap.FinMap version_key_cmp Bool
 marked f = finmap.from_entries (map (λ k. (k, true)) (finmap.keys f.rows ++ finmap.keys f.ends))
@@ -152,17 +153,21 @@ still_above v x e (y ∷ ys) h = (version_key_total.trans v x y e h.0, still_abo
 -- a version of a rising list is the first of those from it on
 head : (v : VersionKey) (xs : List VersionKey) → IsStrictlySortedBy version_key_cmp xs → is_among xs v ≡ true → filter (at_or_above v) xs ≡ v ∷ filter (above v) xs
 head v [] s a = absurd (true≢false (sym a))
-head v (x ∷ xs) s a = by (version_key_cmp v x) refl a
+head v (x ∷ xs) s a = by (head v xs (sorted_tail version_key_cmp x xs s)) (version_key_cmp v x) refl a
   where
     tail : AllByRecursion (λ y. version_key_cmp x y ≡ Less) xs
     tail = sorted_head version_key_cmp x xs s
 
-    by : (o : Ordering) → version_key_cmp v x ≡ o → (is_eq o || is_among xs v) ≡ true → cond (is_le o) (x ∷ filter (at_or_above v) xs) (filter (at_or_above v) xs) ≡ v ∷ cond (is_lt o) (x ∷ filter (above v) xs) (filter (above v) xs)
-    by Less e t = absurd (true≢false (sym t ∙ none_above v xs (still_above v x e xs tail)))
-    by Equal e t =
+    by : (is_among xs v ≡ true → filter (at_or_above v) xs ≡ v ∷ filter (above v) xs) → (o : Ordering) → version_key_cmp v x ≡ o → (is_eq o || is_among xs v) ≡ true → cond (is_le o) (x ∷ filter (at_or_above v) xs) (filter (at_or_above v) xs) ≡ v ∷ cond (is_lt o) (x ∷ filter (above v) xs) (filter (above v) xs)
+    by later Less e t = absurd (true≢false (sym t ∙ none_above v xs (still_above v x e xs tail)))
+    by later Equal e t =
         let same = version_key_same v x e in
         (λ i. sym same i ∷ filter (at_or_above v) xs) ∙ ap (λ l. v ∷ l) (all_above v xs (subst (λ (y : VersionKey). AllByRecursion (λ z. version_key_cmp y z ≡ Less) xs) (sym same) tail))
-    by Greater e t = head v xs (sorted_tail version_key_cmp x xs s) t
+    by later Greater e t = later t
+
+append_one : (xs ys : List VersionKey) (x : VersionKey) → (xs ++ x ∷ []) ++ ys ≡ xs ++ x ∷ ys
+append_one [] ys x = refl
+append_one (y ∷ xs) ys x = ap (λ l. y ∷ l) (append_one xs ys x)
 
 -- ---- the walk
 
@@ -187,8 +192,8 @@ module _ (f : FactsValue) where
   started first o is = reached (at_or_above first) (λ a b t le. le_le first a b t le) o is
 
   -- from the least version that there can be, all are left
-  pub started_all : (o : Option Found) → FirstWhere f (λ q. is_le (version_key_cmp (record { table = 0; key = 0; born = 0 }) q)) o → left o ≡ all f
-  started_all o is =
+  from_least : (o : Option Found) → FirstWhere f (λ q. is_le (version_key_cmp (record { table = 0; key = 0; born = 0 }) q)) o → left o ≡ all f
+  from_least o is =
       sym (started (record { table = 0; key = 0; born = 0 }) o is)
       ∙ filter_alike (at_or_above (record { table = 0; key = 0; born = 0 })) (λ v. true) (all f) (λ v a. least v)
       ∙ filter_yes (all f)
@@ -207,6 +212,9 @@ module _ (f : FactsValue) where
           by Equal e = rw e (from_low 0 v.key v.born ∙ zero_le v.key)
           by Greater e = absurd (true≢false (sym (ap is_gt e) ∙ above_zero v.table))
 
+  pub started_all : (table key : ℕ) → table ≡ 0 → key ≡ 0 → (o : Option Found) → FirstWhere f (λ q. is_le (version_key_cmp (record { table = table; key = key; born = 0 }) q)) o → left o ≡ all f
+  started_all table key no_table no_key o is = from_least o (subst (λ (k : ℕ × ℕ). FirstWhere f (λ q. is_le (version_key_cmp (record { table = k.0; key = k.1; born = 0 }) q)) o) (λ i. (no_table i, no_key i)) is)
+
   -- one version on
   pub stepped : (e : Found) (o : Option Found) → known_at f e.0 ≡ Some e.1 → FirstWhere f (λ q. is_lt (version_key_cmp e.0 q)) o → left (Some e) ≡ e.0 ∷ left o
   stepped e o known is =
@@ -217,3 +225,72 @@ module _ (f : FactsValue) where
   pub next_known : (p : VersionKey → Bool) (o : Option Found) → FirstWhere f p o → IfSome o (λ e. known_at f e.0 ≡ Some e.1)
   next_known p None is = tt
   next_known p (Some e) is = is.known
+
+  module _ (n : Option Found) (e : Found) (here : n ≡ Some e) (known : IfSome n (λ x. known_at f x.0 ≡ Some x.1)) where
+    pub here_known : known_at f e.0 ≡ Some e.1
+    here_known = subst (λ x. IfSome x (λ y. known_at f y.0 ≡ Some y.1)) here known
+
+    pub none_more : (p : VersionKey → Bool) (items whole : List VersionKey) → p e.0 ≡ false → items ++ take_while p (left n) ≡ whole → items ≡ whole
+    none_more p items whole fails before =
+        sym (append-nil items)
+        ∙ ap (λ l. items ++ l) (sym (ap (λ x. take_while p (left x)) here ∙ ap (take_while p) (head e.0 (all f) (rises f) (among_all f e.0 ∙ sym (known_fact f e.0) ∙ ap is_some here_known)) ∙ take_while-cons p e.0 (filter (above e.0) (all f)) ∙ ap (λ b. cond b (e.0 ∷ take_while p (filter (above e.0) (all f))) []) fails))
+        ∙ before
+
+    module _ (o : Option Found) (is : FirstWhere f (λ q. is_lt (version_key_cmp e.0 q)) o) where
+      step : left n ≡ e.0 ∷ left o
+      step = ap left here ∙ stepped e o here_known is
+
+      pub shorter : length (left o) < length (left n)
+      shorter = let one = ap length step in omega arith
+
+      pub one_more : (items new whole : List VersionKey) → new ≡ items ++ e.0 ∷ [] → items ++ left n ≡ whole → new ++ left o ≡ whole
+      one_more items new whole more before = ap (λ l. l ++ left o) more ∙ append_one items (left o) e.0 ∙ ap (λ l. items ++ l) (sym step) ∙ before
+
+      -- up to a greatest key
+      pub one_more_up_to : (p : VersionKey → Bool) (items new whole : List VersionKey) → p e.0 ≡ true → new ≡ items ++ e.0 ∷ [] → items ++ take_while p (left n) ≡ whole → new ++ take_while p (left o) ≡ whole
+      one_more_up_to p items new whole passes more before =
+          ap (λ l. l ++ take_while p (left o)) more
+          ∙ append_one items (take_while p (left o)) e.0
+          ∙ ap (λ l. items ++ l) (sym (ap (take_while p) step ∙ take_while-cons p e.0 (left o) ∙ ap (λ b. cond b (e.0 ∷ take_while p (left o)) []) passes))
+          ∙ before
+
+      pub one_tested : (p : VersionKey → Bool) (b : Bool) → p e.0 ≡ false → list_any p (left n) ≡ b → list_any p (left o) ≡ b
+      one_tested p b fails before = sym (ap (list_any p) step ∙ ap (λ t. t || list_any p (left o)) fails) ∙ before
+
+  pub none_tested : (p : VersionKey → Bool) (b : Bool) (n : Option Found) → n ≡ None → list_any p (left n) ≡ b → false ≡ b
+  none_tested p b n none before = sym (ap (λ x. list_any p (left x)) none) ∙ before
+
+  pub no_more : (items whole : List VersionKey) (n : Option Found) → n ≡ None → items ++ left n ≡ whole → items ++ [] ≡ whole
+  no_more items whole n none before = ap (λ x. items ++ left x) (sym none) ∙ before
+
+  pub no_more_up_to : (p : VersionKey → Bool) (items whole : List VersionKey) (n : Option Found) → n ≡ None → items ++ take_while p (left n) ≡ whole → items ≡ whole
+  no_more_up_to p items whole n none before = sym (append-nil items) ∙ ap (λ x. items ++ take_while p (left x)) (sym none) ∙ before
+
+  pub all_listed : (items : List VersionKey) → items ++ [] ≡ all f → Lists items (keys_of f)
+  all_listed items is =
+      let same = sym (append-nil items) ∙ is in
+      record {
+        same = ap (λ l. set.from_list l) same ∙ keys_all f;
+        rising = subst (IsStrictlySortedBy version_key_cmp) (sym same) (rises f);
+      }
+
+  pub up_to_listed : (table low high : ℕ) (items : List VersionKey) → items ≡ take_while (is_up_to table high) (filter (λ q. is_le (version_key_cmp (record { table = table; key = low; born = 0 }) q)) (all f)) → Lists items (with_keys (keys_of f) table low high)
+  up_to_listed table low high items is = subst (λ s. Lists items (with_keys s table low high)) (keys_all f) (Lists-from (all f) table low high items (rises f) is)
+
+  pub all_versions : (es : List Found) → All (λ e. known_at f e.0 ≡ Some e.1) es → map (λ e. e.0) es ++ [] ≡ all f → AreVersions f es
+  all_versions es known is =
+      let same = sym (append-nil (map (λ (e : Found). e.0) es)) ∙ is in
+      record {
+        known = known;
+        all = λ v. known_fact f v ∙ sym (among_all f v) ∙ ap (λ l. is_among l v) (sym same);
+        rising = subst (IsStrictlySortedBy version_key_cmp) (sym same) (rises f);
+      }
+
+  -- a version that passes is found among all
+  pub one_found : (p : VersionKey → Bool) (e : Found) → known_at f e.0 ≡ Some e.1 → p e.0 ≡ true → list_any p (all f) ≡ true
+  one_found p e known passes = any_at (eq_by_cmp version_key_cmp) (λ a. itself a) (λ a b t. version_key_same a b (is_equal (version_key_cmp a b) t)) p (all f) e.0 passes (among_all f e.0 ∙ sym (known_fact f e.0) ∙ ap is_some known)
+    where
+      is_equal : (o : Ordering) → is_eq o ≡ true → o ≡ Equal
+      is_equal Less t = absurd (true≢false (sym t))
+      is_equal Equal t = refl
+      is_equal Greater t = absurd (true≢false (sym t))

@@ -213,7 +213,7 @@ fn put_timed(
     time: Time,
     fact: Fact,
 ) -> Result<(), Refusal>
-    requires new { set.contains index.old (record { time = time; version = version.now }) ≡ false }
+    requires { set.contains index.old (record { time = time; version = version.now }) ≡ false }
     ensures ok { OnOk result (facts_put chains.old version.now fact ≡ Ok chains.new) }
     ensures timed { OnOk result (index.new ≡ set.insert index.old (record { time = time; version = version.now })) }
     ensures err { IfErr result (λ why. (facts_put chains.old version.now fact ≡ Err why) ⊎ (why ≡ Memory)) }

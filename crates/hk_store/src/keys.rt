@@ -1,6 +1,6 @@
 //! The keys of the versions of which anything is known.
 
-ghost use Rattle.std.specs.Prelude.{◌≡◌, ◌↔◌, IsTrue, IfOk, IfErr};
+ghost use Rattle.std.specs.Prelude.{◌≡◌, IfOk, IfErr};
 ghost use Rattle.std.specs.FinSet as set;
 ghost use Rattle.hk_types.specs.declared.faults.Refusal.TheVariants.{Memory};
 ghost use Rattle.hk_index.specs.Listed.{Lists, is_up_to, with_keys};
@@ -43,13 +43,6 @@ impl<'a> Keys<'a> {
         ensures { result ≡ set.contains self.now version }
     {
         self.chains.knows(&version)
-    }
-
-    /// Whether there is no version. Cost: O(log n), n versions in the set.
-    pub fn is_empty(&self) -> bool
-        ensures { IsTrue result ↔ (self.now ≡ set.empty) }
-    {
-        self.chains.first_from(Table::new(0), Key::new(0)).is_none()
     }
 
     /// The versions of a table with keys from `low` to `high`, both inside, in rising order. Where

@@ -31,12 +31,13 @@ impl Chains {
             (option_map borrowed result) }
     {
         let row = RowKey::of_version(version);
-        if let Some(chain) = self.chain(version.table, version.key)
-            && let Some(found) = next_of(&row, chain, Some(version.born))
-        {
-            return Some(found);
+        let Some(chain) = self.chain(version.table, version.key) else {
+            return self.first_of_rows(Bound::Excluded(row));
+        };
+        match next_of(&row, chain, Some(version.born)) {
+            Some(found) => Some(found),
+            None => self.first_of_rows(Bound::Excluded(row)),
         }
-        self.first_of_rows(Bound::Excluded(row))
     }
 
     /// The first version of the rows from a bound on.

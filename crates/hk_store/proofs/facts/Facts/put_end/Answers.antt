@@ -4,8 +4,8 @@ use Rattle.hk_store.proofs.TimedFacts.{none_at, end_put}
 use Rattle.hk_store.specs.Indexed.{died_at}
 use Rattle.hk_store.proofs.facts.Facts.put_end.Goals as goal
 
-pub put_timed-requires-clause-new : goal.put_timed-requires-clause-new
-put_timed-requires-clause-new c =
+pub put_timed-requires : goal.put_timed-requires
+put_timed-requires c =
     let a = c.self.inside in
     none_at (died_at a.chains) a.deaths c.self.invariant.dead c.args.version.now c.args.died (none_here c.end_at.result _ c.end_at.ensures (sym c.if-is_some.ensures))
 

@@ -6,8 +6,8 @@ use Rattle.hk_store.proofs.Indexed.{row_tagged, tag_back, put_is}
 use Rattle.hk_store.proofs.TimedFacts.{none_at, none_born, births_added}
 use Rattle.hk_store.proofs.facts.Facts.put_row.Goals as goal
 
-pub put_timed-put-requires-clause-new : goal.put_timed-put-requires-clause-new
-put_timed-put-requires-clause-new c =
+pub put_timed-put-requires : goal.put_timed-put-requires
+put_timed-put-requires c =
     let a = c.self.inside in
     let v = c.args.version.now in
     let none = none_there (λ x. x.now) c.row_at.result _ c.row_at.ensures (sym c.if-is_some.ensures) in
