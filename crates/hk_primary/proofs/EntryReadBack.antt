@@ -1,20 +1,21 @@
 -- A transaction is read back from its entry.
-use Rattle.std.proofs.Common.{◌≡◌, refl, sym, ap, ◌∙◌, subst, ℕ, Bool, false, Option, Some, None, List, [], ◌∷◌, ◌++◌, map, filter, filter_map, inl, inr, All, T, is_lt, Less, true≢false}
+use Rattle.std.proofs.Common.{◌≡◌, refl, sym, ap, ◌∙◌, subst, ℕ, Bool, true, false, cond, Option, Some, None, List, [], ◌∷◌, ◌++◌, map, filter, filter_map, inl, inr, All, T, ◌&&◌, is_lt, Less, is_some, true≢false}
 use Rattle.std.proofs.lemmas.List.Elements.{All-head, All-tail}
 use Rattle.std.specs.Ordering.{eq_by_cmp}
 use Rattle.std.specs.FinMap as finmap
 use Rattle.std.specs.FinMap.Entries.{find, is_sorted, same_entries, below_all}
 use Rattle.hk_types.specs.Values.{RowValue, ConfigValue}
+use Rattle.hk_types.specs.declared.version_key.VersionKey.{VersionKey}
 use Rattle.hk_model.specs.Replica.Maps.{or_else}
 use Rattle.hk_model.specs.History.Rows.{RowKey, row_key_cmp, version_of}
-use Rattle.hk_model.specs.History.Histories.{Transaction, written_key, put_row, tables_of, last_put, entry_of, KeysRise, RemovesPresent, Follows}
+use Rattle.hk_model.specs.History.Histories.{Transaction, Tables, written_key, put_row, tables_of, last_put, entry_of, KeysRise, RemovesPresent, Follows}
 use Rattle.hk_model.specs.declared.write_op.WriteOp.{WriteOp}
 use Rattle.hk_model.specs.declared.write_op.WriteOp.TheVariants.{Put, Remove}
 use Rattle.hk_model.proofs.Maps.{row_key_total, row_key_same, find-append}
 use Rattle.hk_model.proofs.Members.{In, In-map, map-In, In-find, find-In}
 use Rattle.hk_model.proofs.Writes.{All_In, In_filter, filter_In, In_puts, puts_In, is_written, key_tied}
 use Rattle.hk_model.proofs.Visible.{find_sorted}
-use Rattle.hk_primary.specs.Log.{put_of, removal_of, by_key, transaction_of}
+use Rattle.hk_primary.specs.Log.{put_of, removal_of, by_key, writes_of, transaction_of}
 use Rattle.hk_facts.proofs.StoredTrees.{and_T}
 
 -- a write with its key

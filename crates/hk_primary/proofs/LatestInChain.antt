@@ -1,5 +1,5 @@
 -- What a chain tells of the latest version of its row.
-use Rattle.std.proofs.Common.{◌≡◌, refl, sym, ap, ◌∙◌, ℕ, Option, Some, None, is_some, true, true≢false, le-leb}
+use Rattle.std.proofs.Common.{◌≡◌, refl, sym, ap, ◌∙◌, ℕ, ◌≤◌, Option, Some, None, is_some, true, true≢false, le-leb}
 use Rattle.std.specs.FinMap as finmap
 use Rattle.hk_types.specs.Values.{RowValue}
 use Rattle.hk_log.specs.Versions.{VersionValue}

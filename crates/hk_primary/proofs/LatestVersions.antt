@@ -1,5 +1,5 @@
 -- What the latest versions of rows tell of a history.
-use Rattle.std.proofs.Common.{◌≡◌, refl, sym, ap, ◌∙◌, subst, ℕ, zero, suc, ◌<◌, arith, Bool, true, false, cond, Option, Some, None, List, [], ◌∷◌, inl, inr, is_some, true≢false, ◌||◌}
+use Rattle.std.proofs.Common.{◌≡◌, refl, sym, ap, ◌∙◌, subst, ℕ, zero, suc, ◌<◌, ◌≤◌, arith, Bool, true, false, cond, Option, Some, None, List, [], ◌∷◌, inl, inr, is_some, true≢false, ◌||◌}
 use Rattle.std.specs.List.{list_any}
 use Rattle.std.specs.Ordering.{eq_by_cmp}
 use Rattle.std.specs.FinMap as finmap
@@ -8,14 +8,14 @@ use Rattle.hk_types.specs.declared.version_key.VersionKey.{VersionKey}
 use Rattle.hk_log.specs.Items.{EntryValue}
 use Rattle.hk_log.specs.declared.item.Item.{Item}
 use Rattle.hk_log.specs.declared.item.Item.TheVariants.{Commit}
-use Rattle.hk_model.specs.History.Rows.{RowKey, row_key_cmp, version_of}
+use Rattle.hk_model.specs.History.Rows.{RowKey, row_key_cmp, row_key_of, version_of}
 use Rattle.hk_model.specs.History.Facts.{entry_rows, entry_ends, rows_of, ends_of}
 use Rattle.hk_model.specs.History.Histories.{Transaction, written_key, tables_of, last, last_put, entries_of, entry_of, tables_after_writes, RemovesPresent}
 use Rattle.hk_model.specs.History.Commits.{last_written}
 use Rattle.hk_model.specs.declared.write_op.WriteOp.{WriteOp}
 use Rattle.hk_model.specs.declared.write_op.WriteOp.TheVariants.{Put, Remove}
 use Rattle.hk_model.proofs.Members.{In, In-map}
-use Rattle.hk_model.proofs.Writes.{All_In, puts, puts-true, put-puts, is_written, key_tied, get-unwritten, get-all_written, unwritten-unput}
+use Rattle.hk_model.proofs.Writes.{All_In, put_at, puts, puts-true, put-puts, is_written, key_tied, tied_key, get-unwritten, get-all_written, unwritten-unput}
 use Rattle.hk_model.proofs.Histories.{AreCommits, put_entry, entry_end, put_last, unput_last, last_put_last, entry_time, end_after, row_put, is_valid_row, table_unended}
 use Rattle.hk_model.proofs.Formed.{put_time}
 use Rattle.hk_model.proofs.Logs.{IsPart, fact_row, row_fact, fact_end, end_fact, row_born, row_found, end_found, find_row, find_end}

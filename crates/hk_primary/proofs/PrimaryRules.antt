@@ -1,5 +1,5 @@
 -- What a primary's parts tell of its history.
-use Rattle.std.proofs.Common.{◌≡◌, refl, sym, ap, ◌∙◌, subst, ℕ, ◌+◌, ◌-◌, ◌<◌, ◌≤◌, ◌^◌, ◌==◌, ◌||◌, ◌⊎◌, arith, Bool, true, false, cond, true≢false, eq-eqb, eqb-true, Option, List, [], ◌∷◌, ◌++◌, map, length, get_or, set as set_at, get_or-set_other}
+use Rattle.std.proofs.Common.{◌≡◌, refl, sym, ap, ◌∙◌, subst, ℕ, ◌+◌, ◌-◌, ◌<◌, ◌≤◌, ◌^◌, ◌==◌, ◌||◌, ◌⊎◌, arith, Bool, true, false, cond, true≢false, eq-eqb, eqb-true, Option, Some, None, List, [], ◌∷◌, ◌++◌, map, length, get_or, set as set_at, get_or-set_other}
 use Rattle.std.proofs.lemmas.List.FromFn.{length-map-range_with_len, get_or-map-range_with_len}
 use Rattle.std.proofs.lemmas.Grind.{same_number_lists, get_or-set_at}
 use Rattle.std.proofs.lemmas.List.{length-set, append-nil, same_lists, get_or-set_same}

@@ -1,5 +1,5 @@
 -- What a primary's tables show at a time is what its history left then.
-use Rattle.std.proofs.Common.{◌≡◌, refl, sym, ap, ◌∙◌, ℕ, ◌<◌, arith, Bool, false, cond, not, Option, Some, None, List}
+use Rattle.std.proofs.Common.{◌≡◌, refl, sym, ap, ◌∙◌, ℕ, ◌<◌, ◌≤◌, arith, Bool, true, false, cond, not, Option, Some, None, List}
 use Rattle.std.proofs.lemmas.Bool.Decides.{nat_tests}
 use Rattle.std.specs.FinMap as finmap
 use Rattle.hk_types.specs.Values.{ConfigValue}

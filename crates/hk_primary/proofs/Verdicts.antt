@@ -1,5 +1,5 @@
 -- What a verdict says of an accepted transaction, and when it accepts one.
-use Rattle.std.proofs.Common.{◌≡◌, refl, sym, ap, ◌∙◌, subst, ℕ, ◌+◌, ◌^◌, ◌<◌, ◌≤◌, arith, true, false, cond, ◌||◌, ◌==◌, Option, Some, None, List, [], ◌∷◌, map, length, Ok, Err, Result, nat_lt, nat_le, ltb-false, leb-false, eqb-true, eq-eqb, true≢false, le-ltb}
+use Rattle.std.proofs.Common.{◌≡◌, refl, sym, ap, ◌∙◌, subst, ℕ, ◌+◌, ◌^◌, ◌<◌, ◌≤◌, max, arith, Bool, true, false, cond, ◌||◌, ◌==◌, Option, Some, None, List, [], ◌∷◌, map, length, Ok, Err, Result, nat_lt, nat_le, ltb-false, leb-false, eqb-true, eq-eqb, true≢false, le-ltb}
 use Rattle.std.proofs.lemmas.Bool.{or_parts}
 use Rattle.std.proofs.lemmas.Bool.Decides.{nat_tests}
 use Rattle.std.proofs.lemmas.List.{length-map}
@@ -12,16 +12,16 @@ use Rattle.hk_types.specs.declared.faults.FormFault.TheVariants.{BadNumber}
 use Rattle.hk_types.specs.declared.faults.Refusal.{Refusal}
 use Rattle.hk_types.specs.declared.faults.Refusal.TheVariants.{NotYet, NoStream, ClockFull, Retired}
 use Rattle.hk_model.specs.History.Rows.{RowKey, row_key_cmp}
-use Rattle.hk_model.specs.History.Histories.{Transaction, MayCommit, commits, is_retired, written_key, tables_of, last, Follows, KeysRise}
+use Rattle.hk_model.specs.History.Histories.{Transaction, History, MayCommit, commits, is_retired, written_key, tables_of, last, Follows, KeysRise}
 use Rattle.hk_model.specs.History.Commits.{last_written, first_conflict, first_absent}
 use Rattle.hk_model.specs.declared.write_op.WriteOp.{WriteOp}
 use Rattle.hk_model.proofs.Commits.{rises, present}
 use Rattle.hk_model.proofs.Maps.{row_key_total}
 use Rattle.hk_model.proofs.Visible.{get_entry}
-use Rattle.hk_primary.specs.Calls.{verdict_of, verdict_time}
+use Rattle.hk_primary.specs.Calls.{verdict_of, verdict_time, time_of, Tells, primary_after}
 use Rattle.hk_primary.specs.Log.{PrimaryValue}
 use Rattle.hk_primary.specs.Txns.{TxnValue, AreWrites}
-use Rattle.hk_primary.specs.Verdicts.{clock, accepted_after, AcceptedLaw}
+use Rattle.hk_primary.specs.Verdicts.{clock, accepted_after, committed_after, AcceptedLaw}
 
 abbrev Writes : Type 0
 Writes = finmap.FinMap row_key_cmp WriteOp

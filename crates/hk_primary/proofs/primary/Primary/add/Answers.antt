@@ -1,7 +1,10 @@
-use Rattle.std.proofs.Common.{◌≡◌, ◌-◌, sym, ap, ◌∙◌, subst, arith, ◌++◌, ◌∷◌, [], get_or, cond}
+use Rattle.std.proofs.Common.{◌≡◌, ◌≤◌, ◌<◌, ◌-◌, ◌+◌, sym, ap, ◌∙◌, subst, arith, ◌++◌, ◌∷◌, [], List, ℕ, get_or, cond}
+use Rattle.hk_log.specs.Items.{EntryValue}
+use Rattle.hk_log.specs.declared.item.Item.{Item}
 use Rattle.hk_log.specs.declared.item.Item.TheVariants.{Commit}
-use Rattle.hk_model.specs.History.Histories.{commits, entries_in}
-use Rattle.hk_primary.specs.Log.{PrimaryValue, IsNext, history_of}
+use Rattle.hk_model.specs.History.Histories.{commits, entries_in, last}
+use Rattle.hk_store.specs.Facts.{with_entry}
+use Rattle.hk_primary.specs.Log.{PrimaryValue, IsNext, IsPrimary, with_item, history_of, transaction_of}
 use Rattle.hk_primary.proofs.PrimaryRules.{counts_length, count_is, count_few, last_bound, with_next}
 use Rattle.hk_primary.proofs.HistoryOfLog.{read_on-push}
 use Rattle.hk_primary.proofs.primary.Primary.add.Goals as goal

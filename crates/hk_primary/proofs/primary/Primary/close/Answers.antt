@@ -1,6 +1,8 @@
 use Rattle.std.proofs.Common.{◌≡◌, ◌≤◌, ◌⊎◌, inl, inr, ◌^◌, sym, ap, ◌∙◌, subst, arith, ℕ, false}
+use Rattle.hk_types.specs.Values.{ConfigValue}
+use Rattle.hk_log.specs.declared.item.Item.{Item}
 use Rattle.hk_model.specs.History.Histories.{commits, is_retired, last}
-use Rattle.hk_primary.specs.Log.{PrimaryValue, history_of}
+use Rattle.hk_primary.specs.Log.{PrimaryValue, IsNextMark, history_of}
 use Rattle.hk_primary.proofs.HistoryOfLog.{honest}
 use Rattle.hk_primary.proofs.PrimaryRules.{last_bound, next_mark}
 use Rattle.hk_primary.proofs.primary.Primary.close.Goals as goal

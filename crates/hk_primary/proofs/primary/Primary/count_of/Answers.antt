@@ -1,4 +1,4 @@
-use Rattle.std.proofs.Common.{◌≡◌, ◌≤◌, ◌-◌, sym, ap, ◌∙◌, subst, arith, get_or, ℕ}
+use Rattle.std.proofs.Common.{◌≡◌, ◌≤◌, ◌<◌, ◌-◌, sym, ap, ◌∙◌, subst, arith, length, get_or, ℕ}
 use Rattle.hk_model.specs.History.Histories.{commits, entries_in, last}
 use Rattle.hk_primary.specs.Log.{PrimaryValue, history_of}
 use Rattle.hk_primary.proofs.PrimaryRules.{counts_length, count_is, count_few, last_bound}

@@ -1,4 +1,4 @@
-use Rattle.std.proofs.Common.{◌≡◌, ◌-◌, sym, ap, ◌∙◌, subst, arith, ◌++◌, ◌∷◌, []}
+use Rattle.std.proofs.Common.{◌≡◌, ◌≤◌, ◌-◌, sym, ap, ◌∙◌, subst, arith, ◌++◌, ◌∷◌, []}
 use Rattle.hk_log.specs.declared.item.Item.TheVariants.{Closed}
 use Rattle.hk_primary.specs.Log.{PrimaryValue, IsNextMark, history_of}
 use Rattle.hk_primary.proofs.PrimaryRules.{retired_length, with_mark}

@@ -1,6 +1,6 @@
-use Rattle.std.proofs.Common.{◌≡◌, ◌<◌, ◌^◌, ◌+◌, sym, ap, ◌∙◌, subst, arith}
+use Rattle.std.proofs.Common.{◌≡◌, ◌≤◌, ◌<◌, ◌^◌, ◌+◌, sym, ap, ◌∙◌, subst, arith}
 use Rattle.std.specs.FinMap as finmap
-use Rattle.hk_log.specs.Items.{IsEntry}
+use Rattle.hk_log.specs.Items.{EntryValue, IsEntry}
 use Rattle.hk_model.specs.History.Histories.{Transaction, Follows, commits, entry_of}
 use Rattle.hk_model.proofs.Histories.{are_commits}
 use Rattle.hk_model.proofs.Formed.{entry_formed}

@@ -1,4 +1,4 @@
-use Rattle.std.proofs.Common.{ap, ◌∙◌, Bool}
+use Rattle.std.proofs.Common.{◌≡◌, ap, ◌∙◌, Bool}
 use Rattle.std.proofs.lemmas.List.Folds.{list_all-map}
 use Rattle.std.specs.List.{list_all, range_with_len}
 use Rattle.hk_model.specs.History.Histories.{is_retired}

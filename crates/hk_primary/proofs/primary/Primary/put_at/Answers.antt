@@ -1,4 +1,4 @@
-use Rattle.std.proofs.Common.{◌≡◌, ℕ, sym, ◌∙◌, refl, true, false, true≢false, Option, Some, None, is_some}
+use Rattle.std.proofs.Common.{◌≡◌, ℕ, sym, ap, ◌∙◌, refl, true, false, true≢false, Option, Some, None, is_some}
 use Rattle.hk_primary.proofs.PrimaryRules.{standing_is}
 use Rattle.hk_primary.proofs.LatestVersions.{put_by}
 use Rattle.hk_primary.proofs.primary.Primary.put_at.Goals as goal

@@ -1,4 +1,4 @@
-use Rattle.std.proofs.Common.{◌≡◌, ◌≤◌, ◌-◌, sym, ap, ◌∙◌, subst, arith, get_or}
+use Rattle.std.proofs.Common.{◌≡◌, ◌≤◌, ◌-◌, sym, ap, ◌∙◌, subst, arith, length, get_or, Bool}
 use Rattle.hk_primary.specs.Log.{PrimaryValue}
 use Rattle.hk_primary.proofs.PrimaryRules.{retired_length, retired_is}
 use Rattle.hk_primary.proofs.primary.Primary.retired.Goals as goal

@@ -1,8 +1,9 @@
-use Rattle.std.proofs.Common.{◌≡◌, refl, ap, ◌∙◌, ℕ, ◌+◌, zero, suc, ◌≤◌, arith, map, replicate, [], ◌∷◌, false}
+use Rattle.std.proofs.Common.{◌≡◌, refl, sym, ap, ◌∙◌, subst, ℕ, ◌+◌, zero, suc, ◌≤◌, arith, map, replicate, [], List, ◌∷◌, false}
 use Rattle.std.specs.List.{range_with_len}
 use Rattle.hk_types.specs.Values.{ConfigValue}
+use Rattle.hk_log.specs.declared.item.Item.{Item}
 use Rattle.hk_model.specs.History.Histories.{entries_in, is_retired}
-use Rattle.hk_store.specs.Facts.{no_facts}
+use Rattle.hk_store.specs.Facts.{FactsValue, no_facts}
 use Rattle.hk_primary.specs.Log.{IsPrimary}
 use Rattle.hk_primary.proofs.primary.Primary.starting_after.Goals as goal
 

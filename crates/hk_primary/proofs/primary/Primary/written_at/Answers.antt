@@ -1,4 +1,4 @@
-use Rattle.std.proofs.Common.{◌≡◌, ℕ, ◌∙◌, refl, Option, Some, None, unwrap_or}
+use Rattle.std.proofs.Common.{◌≡◌, ℕ, sym, ap, ◌∙◌, refl, Option, Some, None, unwrap_or}
 use Rattle.hk_primary.proofs.PrimaryRules.{last_written_is}
 use Rattle.hk_primary.proofs.LatestVersions.{written_by}
 use Rattle.hk_primary.proofs.primary.Primary.written_at.Goals as goal

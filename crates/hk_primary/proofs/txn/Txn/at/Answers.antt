@@ -1,4 +1,4 @@
-use Rattle.std.proofs.Common.{sym, subst}
+use Rattle.std.proofs.Common.{sym, ap, subst}
 use Rattle.std.specs.FinMap as finmap
 use Rattle.hk_model.specs.History.Rows.{row_key_cmp}
 use Rattle.hk_primary.specs.Txns.{AreWrites}

@@ -1,4 +1,4 @@
-use Rattle.std.proofs.Common.{◌≡◌, ◌∙◌, arith}
+use Rattle.std.proofs.Common.{◌≡◌, sym, ap, ◌∙◌, arith}
 use Rattle.std.specs.FinMap as finmap
 use Rattle.hk_primary.proofs.StoredWrites.{len_seen, seen}
 use Rattle.hk_primary.proofs.txn.Txn.len.Goals as goal

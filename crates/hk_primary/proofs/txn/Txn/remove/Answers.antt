@@ -1,7 +1,7 @@
-use Rattle.std.proofs.Common.{◌≡◌, sym, ap, ◌∙◌, None}
+use Rattle.std.proofs.Common.{◌≡◌, sym, ap, ◌∙◌, subst, Some, None}
 use Rattle.std.specs.FinMap as finmap
 use Rattle.hk_model.specs.declared.write_op.WriteOp.TheVariants.{Remove}
-use Rattle.hk_primary.specs.Txns.{TxnValue, write_refused}
+use Rattle.hk_primary.specs.Txns.{AreWrites, TxnValue, write_refused}
 use Rattle.hk_primary.proofs.StoredWrites.{seen, seen_insert}
 use Rattle.hk_primary.proofs.OneMoreWrite.{one_more}
 use Rattle.hk_primary.proofs.txn.Txn.remove.Goals as goal

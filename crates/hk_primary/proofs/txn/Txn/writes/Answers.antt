@@ -1,4 +1,4 @@
-use Rattle.std.proofs.Common.{◌∙◌}
+use Rattle.std.proofs.Common.{sym, ap, ◌∙◌}
 use Rattle.hk_primary.proofs.StoredWrites.{values_seen}
 use Rattle.hk_primary.proofs.txn.Txn.writes.Goals as goal
 
