@@ -27,7 +27,7 @@ OLD = [
     (r"spell\w*|spelt", "encoding"),
     (r"lent|push_lent", "borrowed"),
     (r"takers?|givers?", "target, source"),
-    (r"Keyed|KeyedValue", "TableChains"),
+    (r"Keyed|KeyedValue", "Chains"),
     (r"Label\w*|labels?|labelled", "TagKey"),
     (r"starved", "refusal_without_memory"),
     (r"misfits?", "wrong_log"),

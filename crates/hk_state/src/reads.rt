@@ -25,8 +25,8 @@ impl ReplicaState {
     }
 
     /// The chain of a key of a table: what is known of each of its versions, of which there is at least one.
-    /// `None` where nothing is known of the key. It takes no memory. Cost: O(log t + log k), t tables,
-    /// k keys of this table.
+    /// `None` where nothing is known of the key. It takes no memory. Cost: O(log k), k keys
+    /// of all tables.
     pub fn chain(&self, table: Table, key: Key) -> Option<&Chain>
         ensures some { IfSome result (λ chain. (born : ℕ) → finmap.get chain.now born
             ≡ known_at (facts_of_content self.now) (record { table = table; key = key; born = born })) }

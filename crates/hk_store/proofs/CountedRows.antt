@@ -1,123 +1,83 @@
 -- The chains of a table that have a row at a time are the visible rows of the table.
-use Rattle.std.proofs.Common.{◌≡◌, refl, sym, ap, ◌∙◌, ℕ, suc, ◌≤◌, Bool, true, false, cond, ◌&&◌, ◌==◌, Option, Some, None, List, [], ◌∷◌, map, filter, filter_map, length, T, nat_cmp, inl, inr, eqb-true, eq-eqb, true≢false, Ordering, Less, Equal, Greater, is_le, is_gt, arith}
+use Rattle.std.proofs.Common.{◌≡◌, refl, sym, ap, ◌∙◌, ℕ, suc, ◌≤◌, Bool, true, false, cond, ◌&&◌, ◌==◌, Option, Some, None, List, [], ◌∷◌, ◌++◌, filter, length, T, nat_cmp, inl, inr, eqb-true, eq-eqb, true≢false, Ordering, Less, Equal, Greater, is_le, is_gt, arith}
 use Rattle.std.proofs.lemmas.Bool.Decides.{nat_tests}
 use Rattle.std.proofs.lemmas.List.{length-map}
 use Rattle.std.proofs.lemmas.List.Sums.{take_while-cons}
 use Rattle.std.proofs.lemmas.Map.Keys.{sorted_head, sorted_tail}
-use Rattle.std.specs.List.{AllByRecursion, cons_option, take_while}
+use Rattle.std.specs.List.{AllByRecursion, flat_map, take_while}
 use Rattle.std.specs.List.Sorted.{IsStrictlySortedBy}
 use Rattle.std.specs.Map.{keys_of}
-use Rattle.std.specs.Option.{option_and_then, option_map, is_some}
-use Rattle.std.specs.Ordering.{is_lt, ordering_then}
+use Rattle.std.specs.Option.{option_and_then, is_some}
+use Rattle.std.specs.Ordering.{eq_by_cmp, is_lt, ordering_then}
 use Rattle.std.specs.Cmp.{nat_cmp_total, tied_itself}
 use Rattle.std.specs.BTreeMap.{BTreeMap}
 use Rattle.std.specs.BTreeMap as tree
 use Rattle.std.specs.FinMap as finmap
-use Rattle.std.specs.FinMap.Entries.{is_sorted, below_all}
+use Rattle.std.specs.FinMap.Entries.{find, is_sorted, below_all, same_entries}
 use Rattle.hk_types.specs.Values.{RowValue}
 use Rattle.hk_model.specs.History.Rows.{RowKey, row_key_cmp, version_of}
 use Rattle.hk_model.specs.Replica.Content.{Content}
 use Rattle.hk_model.specs.Replica.Answers.{visible, rows_where}
 use Rattle.hk_model.proofs.Maps.{row_key_total, row_key_same}
-use Rattle.hk_model.proofs.Members.{In, In-find}
-use Rattle.hk_model.proofs.Visible.{T_both, get_entry, less}
-use Rattle.hk_model.proofs.Listed.{Rises, sorted_from, same_sorted, In-filter_map, filter_map-In, map_In_pair}
+use Rattle.hk_model.proofs.Visible.{T_both}
 use Rattle.hk_index.proofs.StoredKeys.{no_greater}
 use Rattle.hk_facts.specs.Chains.{ChainValue, row_at}
-use Rattle.hk_facts.proofs.StoredTrees.{entries_tree}
+use Rattle.hk_facts.proofs.StoredTrees.{and_T, entries_tree}
 use Rattle.hk_store.specs.Facts.{ChainsValue, stored_version, known_at, facts_of, AllKnown}
 use Rattle.hk_store.specs.Reads.{with_facts}
-use Rattle.hk_store.proofs.StoredFacts.{known_stored}
+use Rattle.hk_store.proofs.StoredFacts.{find_flat, known_stored}
 use Rattle.hk_store.proofs.ChainsAtTime.{facts_in, row_found, row_missed}
 
--- ---- sorted entries rise
+-- ---- the rows that chains have
 
-each_below : {X : Type 0} (x : RowKey) (es : List (RowKey × X)) → T (below_all row_key_cmp x es) → (y : RowKey) → In y (map (λ e. e.0) es) → row_key_cmp x y ≡ Less
-each_below x [] b y i = elim i [ ]
-each_below x (e ∷ es) b y (inl s) = let both = T_both (is_lt (row_key_cmp x e.0)) (below_all row_key_cmp x es) b in ap (row_key_cmp x) s ∙ less (row_key_cmp x e.0) both.0
-each_below x (e ∷ es) b y (inr i) = let both = T_both (is_lt (row_key_cmp x e.0)) (below_all row_key_cmp x es) b in each_below x es both.1 y i
+-- a row with its key, where there is one
+abbrev pub row_if : RowKey → Option RowValue → List (RowKey × RowValue)
+row_if k None = []
+row_if k (Some r) = (k, r) ∷ []
 
-rises_sorted : {X : Type 0} (es : List (RowKey × X)) → T (is_sorted row_key_cmp es) → Rises row_key_cmp (map (λ e. e.0) es)
-rises_sorted [] s = tt
-rises_sorted (e ∷ es) s = let both = T_both (below_all row_key_cmp e.0 es) (is_sorted row_key_cmp es) s in (each_below e.0 es both.0, rises_sorted es both.1)
-
-map_key : {X : Type 0} (e : RowKey × X) (es : List (RowKey × X)) → In e es → In e.0 (map (λ z. z.0) es)
-map_key e [] i = elim i [ ]
-map_key e (f ∷ fs) (inl s) = inl (ap (λ z. z.0) s)
-map_key e (f ∷ fs) (inr i) = inr (map_key e fs i)
-
--- ---- the rows that the chains have
+find_row : (q k : RowKey) (o : Option RowValue) → find row_key_cmp q (row_if k o) ≡ cond (eq_by_cmp row_key_cmp q k) o None
+find_row q k None = elim (eq_by_cmp row_key_cmp q k) as (λ b. None ≡ cond {A = Option RowValue} b None None) [ true ↦ refl | false ↦ refl ]
+find_row q k (Some r) = refl
 
 module _ (t : ℕ) where
-  -- the row of a chain at t, with its key
-  abbrev pub row_of_chain : RowKey × ChainValue → Option (RowKey × RowValue)
-  row_of_chain e = option_map (λ r. (e.0, r)) (row_at e.1 t)
+  -- the rows that chains have at t, with their keys
+  abbrev pub rows_of : List (RowKey × ChainValue) → List (RowKey × RowValue)
+  rows_of es = flat_map (λ e. row_if e.0 (row_at e.1 t)) es
 
-  pair_is : (x y : RowKey × RowValue) → Some x ≡ Some y → x ≡ y
-  pair_is x y e = cc
-
-  is_row : (e : RowKey × ChainValue) (k : RowKey) (r : RowValue) → row_of_chain e ≡ Some (k, r) → (k ≡ e.0) × (row_at e.1 t ≡ Some r)
-  is_row e k r h = by (row_at e.1 t) refl h
+  below_rows : (k : RowKey) (es : List (RowKey × ChainValue)) → T (below_all row_key_cmp k es) → T (below_all row_key_cmp k (rows_of es))
+  below_rows k [] b = tt
+  below_rows k (e ∷ es) b = let both = T_both (is_lt (row_key_cmp k e.0)) (below_all row_key_cmp k es) b in by both.0 (below_rows k es both.1) (row_at e.1 t)
     where
-      by : (o : Option RowValue) → row_at e.1 t ≡ o → option_map {U = RowKey × RowValue} (λ r. (e.0, r)) o ≡ Some (k, r) → (k ≡ e.0) × (row_at e.1 t ≡ Some r)
-      by None g f = absurd cc
-      by (Some s) g f =
-          let p = pair_is (e.0, s) (k, r) f in
-          (sym (ap (λ (z : RowKey × RowValue). z.0) p), g ∙ ap (λ (z : RowKey × RowValue). Some z.1) p)
+      by : T (is_lt (row_key_cmp k e.0)) → T (below_all row_key_cmp k (rows_of es)) → (o : Option RowValue) → T (below_all row_key_cmp k (row_if e.0 o ++ rows_of es))
+      by first rest None = rest
+      by first rest (Some r) = and_T _ _ first rest
 
-  rows_rise : (es : List (RowKey × ChainValue)) → Rises row_key_cmp (map (λ e. e.0) es) → Rises row_key_cmp (map (λ e. e.0) (filter_map row_of_chain es))
-  rows_rise [] r = tt
-  rows_rise (e ∷ es) r = by (rows_rise es r.1) (row_of_chain e) refl
+  rows_sorted : (es : List (RowKey × ChainValue)) → T (is_sorted row_key_cmp es) → T (is_sorted row_key_cmp (rows_of es))
+  rows_sorted [] s = tt
+  rows_sorted (e ∷ es) s = let both = T_both (below_all row_key_cmp e.0 es) (is_sorted row_key_cmp es) s in by (below_rows e.0 es both.0) (rows_sorted es both.1) (row_at e.1 t)
     where
-      by : Rises row_key_cmp (map (λ e. e.0) (filter_map row_of_chain es)) → (o : Option (RowKey × RowValue)) → row_of_chain e ≡ o → Rises row_key_cmp (map (λ e. e.0) (cons_option o (filter_map row_of_chain es)))
-      by rest None h = rest
-      by rest (Some x) h = (
-        λ k i.
-            let p = map_In_pair k (filter_map row_of_chain es) i in
-            let w = In-filter_map row_of_chain (k, p.0) es p.1 in
-            let q = is_row w.0 k p.0 w.2 in
-            let s = is_row e x.0 x.1 h in
-            let less = r.0 w.0.0 (map_key w.0 es w.1) in
-            (λ j. row_key_cmp (s.0 j) (q.0 j)) ∙ less,
-        rest,
-      )
+      by : T (below_all row_key_cmp e.0 (rows_of es)) → T (is_sorted row_key_cmp (rows_of es)) → (o : Option RowValue) → T (is_sorted row_key_cmp (row_if e.0 o ++ rows_of es))
+      by first rest None = rest
+      by first rest (Some r) = and_T _ _ first rest
+
+  find_rows : (m : ChainsValue) (k : RowKey) → find row_key_cmp k (rows_of (finmap.entries m)) ≡ option_and_then (λ c. row_at c t) (finmap.get m k)
+  find_rows m k =
+      find_flat row_key_cmp row_key_same row_key_cmp k k _ (λ c. row_at c t) true (λ e. find_row k e.0 (row_at e.1 t)) (finmap.entries m) (finmap.entries_sorted m)
+      ∙ ap (option_and_then (λ c. row_at c t)) (sym (finmap.get-entries m k))
 
   module _ (c : Content) (m : ChainsValue) (known : (k : RowKey) (born : ℕ) → known_at (facts_in c) (version_of k born) ≡ stored_version m (version_of k born)) where
-    row_here : (k : RowKey) (chain : ChainValue) → finmap.get m k ≡ Some chain → row_at chain t ≡ finmap.get (visible c t) k
-    row_here k chain e = row_found c k chain t (row_at chain t) (λ born. ap (option_and_then (λ d. finmap.get d born)) (sym e) ∙ sym (known k born)) refl
+    row_is : (k : RowKey) (x : Option ChainValue) → finmap.get m k ≡ x → option_and_then (λ d. row_at d t) x ≡ finmap.get (visible c t) k
+    row_is k None none = row_missed c k t (λ born. known k born ∙ ap (option_and_then (λ d. finmap.get d born)) none)
+    row_is k (Some d) has = row_found c k d t (row_at d t) (λ born. ap (option_and_then (λ d. finmap.get d born)) (sym has) ∙ sym (known k born)) refl
 
-    row_nowhere : (k : RowKey) → finmap.get m k ≡ None → None ≡ finmap.get (visible c t) k
-    row_nowhere k e = row_missed c k t (λ born. known k born ∙ ap (option_and_then (λ d. finmap.get d born)) e)
-
-    pub same_rows : filter_map row_of_chain (finmap.entries m) ≡ finmap.entries (visible c t)
+    pub same_rows : rows_of (finmap.entries m) ≡ finmap.entries (visible c t)
     same_rows =
-        same_sorted row_key_cmp row_key_total row_key_same (filter_map row_of_chain (finmap.entries m)) (finmap.entries (visible c t))
-        (sorted_from row_key_cmp (filter_map row_of_chain (finmap.entries m)) (rows_rise (finmap.entries m) (rises_sorted (finmap.entries m) (finmap.entries_sorted m))))
-        (finmap.entries_sorted (visible c t))
-        there back
-      where
-        there : (k : RowKey) (r : RowValue) → In (k, r) (filter_map row_of_chain (finmap.entries m)) → In (k, r) (finmap.entries (visible c t))
-        there k r i =
-            let w = In-filter_map row_of_chain (k, r) (finmap.entries m) i in
-            let p = is_row w.0 k r w.2 in
-            let got = get_entry row_key_cmp row_key_total m w.0.0 w.0.1 w.1 in
-            let seen : finmap.get (visible c t) k ≡ Some r = ap (finmap.get (visible c t)) p.0 ∙ sym (row_here w.0.0 w.0.1 got) ∙ p.1 in
-            In-find row_key_cmp row_key_total row_key_same k r (finmap.entries (visible c t)) (sym (finmap.get-entries (visible c t) k) ∙ seen)
-
-        has_conflict_with : (r : RowValue) → ◌≡◌ {A = Option RowValue} None (Some r) → ⊥
-        has_conflict_with r e = cc
-
-        by : (k : RowKey) (r : RowValue) → finmap.get (visible c t) k ≡ Some r → (o : Option ChainValue) → finmap.get m k ≡ o → In (k, r) (filter_map row_of_chain (finmap.entries m))
-        by k r got (Some chain) h =
-            filter_map-In row_of_chain (k, chain) (k, r) (finmap.entries m) (In-find row_key_cmp row_key_total row_key_same k chain (finmap.entries m) (sym (finmap.get-entries m k) ∙ h))
-            (ap (option_map {U = RowKey × RowValue} (λ r. (k, r))) (row_here k chain h ∙ got))
-        by k r got None h = absurd (has_conflict_with r (row_nowhere k h ∙ got))
-
-        back : (k : RowKey) (r : RowValue) → In (k, r) (finmap.entries (visible c t)) → In (k, r) (filter_map row_of_chain (finmap.entries m))
-        back k r i = by k r (get_entry row_key_cmp row_key_total (visible c t) k r i) (finmap.get m k) refl
+        same_entries row_key_cmp row_key_total row_key_same (rows_of (finmap.entries m)) (finmap.entries (visible c t))
+        (rows_sorted (finmap.entries m) (finmap.entries_sorted m)) (finmap.entries_sorted (visible c t))
+        (λ k. find_rows m k ∙ row_is k (finmap.get m k) refl ∙ finmap.get-entries (visible c t) k)
 
     module _ (table : ℕ) where
-      same_length : (es : List (RowKey × ChainValue)) → length (filter (λ e. (e.0.table == table) && is_some (row_at e.1 t)) es) ≡ length (filter (λ e. e.0.table == table) (filter_map row_of_chain es))
+      same_length : (es : List (RowKey × ChainValue)) → length (filter (λ e. (e.0.table == table) && is_some (row_at e.1 t)) es) ≡ length (filter (λ e. e.0.table == table) (rows_of es))
       same_length [] = refl
       same_length (e ∷ es) = by (same_length es) (e.0.table == table) refl (row_at e.1 t)
         where
@@ -125,12 +85,12 @@ module _ (t : ℕ) where
           some = filter (λ e. (e.0.table == table) && is_some (row_at e.1 t)) es
 
           rows : List (RowKey × RowValue)
-          rows = filter (λ e. e.0.table == table) (filter_map row_of_chain es)
+          rows = filter (λ e. e.0.table == table) (rows_of es)
 
-          by : length some ≡ length rows → (b : Bool) → (e.0.table == table) ≡ b → (o : Option RowValue) → length (cond (b && is_some o) (e ∷ some) some) ≡ length (filter (λ e. e.0.table == table) (cons_option (option_map {U = RowKey × RowValue} (λ r. (e.0, r)) o) (filter_map row_of_chain es)))
+          by : length some ≡ length rows → (b : Bool) → (e.0.table == table) ≡ b → (o : Option RowValue) → length (cond (b && is_some o) (e ∷ some) some) ≡ length (filter (λ e. e.0.table == table) (row_if e.0 o ++ rows_of es))
           by less true h None = less
           by less false h None = less
-          by less true h (Some r) = ap suc (less) ∙ ap (λ b. length (cond b ((e.0, r) ∷ rows) rows)) (sym h)
+          by less true h (Some r) = ap suc less ∙ ap (λ b. length (cond b ((e.0, r) ∷ rows) rows)) (sym h)
           by less false h (Some r) = less ∙ ap (λ b. length (cond b ((e.0, r) ∷ rows) rows)) (sym h)
 
       chains_counted : length (filter (λ e. (e.0.table == table) && is_some (row_at e.1 t)) (finmap.entries m)) ≡ length (rows_where (λ k row. k.table == table) (visible c t))

@@ -1,7 +1,5 @@
 -- The rows that chains have between two keys of a table are the visible rows there.
-use Rattle.std.proofs.Common.{◌≡◌, refl, sym, ap, ◌∙◌, ℕ, ◌<◌, Bool, true, false, cond, ◌&&◌, ◌==◌, Option, Some, None, List, [], ◌∷◌, ◌++◌, map, filter, filter_map, not, nat_le, nat_cmp, eqb-true, eq-eqb, true≢false, Ordering, Less, Equal, Greater, is_le, is_gt, arith}
-use Rattle.std.specs.List.{cons_option, flat_map}
-use Rattle.std.specs.Option.{option_map}
+use Rattle.std.proofs.Common.{◌≡◌, refl, sym, ap, ◌∙◌, ℕ, ◌<◌, Bool, true, false, cond, ◌&&◌, ◌==◌, Option, Some, None, List, [], ◌∷◌, ◌++◌, map, filter, not, nat_le, nat_cmp, eqb-true, eq-eqb, true≢false, Ordering, Less, Equal, Greater, is_le, is_gt, arith}
 use Rattle.std.specs.Ordering.{is_lt, ordering_then}
 use Rattle.std.proofs.lemmas.Bool.Decides.{nat_tests}
 use Rattle.std.specs.BTreeMap.{BTreeMap}
@@ -18,11 +16,11 @@ use Rattle.hk_facts.proofs.StoredTrees.{entries_tree}
 use Rattle.hk_store.specs.Facts.{ChainsValue, known_at, facts_of, AllKnown}
 use Rattle.hk_store.specs.Reads.{keyed_if, rows_at, with_facts}
 use Rattle.hk_store.proofs.StoredFacts.{known_stored}
-use Rattle.hk_store.proofs.CountedRows.{row_of_chain, same_rows}
+use Rattle.hk_store.proofs.CountedRows.{row_if, rows_of, same_rows}
 
 -- the rows at t of the chains whose keys pass a test are those of the shown rows whose keys do
 picked_rows : (t : ℕ) (inside wanted : RowKey → Bool) → ((k : RowKey) → inside k ≡ wanted k) → (es : List (RowKey × ChainValue))
-    → rows_at t (filter (λ e. inside e.0) es) ≡ map (λ e. (e.0.key, e.1)) (filter (λ e. wanted e.0) (filter_map (row_of_chain t) es))
+    → rows_at t (filter (λ e. inside e.0) es) ≡ map (λ e. (e.0.key, e.1)) (filter (λ e. wanted e.0) (rows_of t es))
 picked_rows t inside wanted same [] = refl
 picked_rows t inside wanted same (e ∷ es) = by (picked_rows t inside wanted same es) (inside e.0) refl (row_at e.1 t) refl
   where
@@ -30,10 +28,10 @@ picked_rows t inside wanted same (e ∷ es) = by (picked_rows t inside wanted sa
     rest = rows_at t (filter (λ e. inside e.0) es)
 
     shown : List (RowKey × RowValue)
-    shown = filter_map (row_of_chain t) es
+    shown = rows_of t es
 
     by : rest ≡ map (λ e. (e.0.key, e.1)) (filter (λ e. wanted e.0) shown) → (b : Bool) → inside e.0 ≡ b → (o : Option RowValue) → row_at e.1 t ≡ o
-        → rows_at t (cond b (e ∷ filter (λ e. inside e.0) es) (filter (λ e. inside e.0) es)) ≡ map (λ e. (e.0.key, e.1)) (filter (λ e. wanted e.0) (cons_option (option_map {U = RowKey × RowValue} (λ r. (e.0, r)) o) shown))
+        → rows_at t (cond b (e ∷ filter (λ e. inside e.0) es) (filter (λ e. inside e.0) es)) ≡ map (λ e. (e.0.key, e.1)) (filter (λ e. wanted e.0) (row_if e.0 o ++ shown))
     by less false h None g = less
     by less false h (Some r) g = less ∙ ap (λ b. map {B = ℕ × RowValue} (λ e. (e.0.key, e.1)) (cond b ((e.0, r) ∷ filter (λ e. wanted e.0) shown) (filter (λ e. wanted e.0) shown))) (sym (sym (same e.0) ∙ h))
     by less true h None g = ap (λ o. keyed_if e.0.key o ++ rest) g ∙ less
@@ -86,7 +84,7 @@ module _ (table low high : ℕ) where
       ≡ rows_where (λ k row. (k.table == table) && nat_le low k.key && nat_le k.key high) (visible (with_facts (facts_of (finmap.from_entries m.entries))) t)
   shown_between m known ordered t =
       picked_rows t (range_contains row_key_cmp (Included lowest) (Included highest)) is_between between m.entries
-      ∙ ap (λ (es : List (RowKey × ChainValue)). map {B = ℕ × RowValue} (λ e. (e.0.key, e.1)) (filter (λ e. is_between e.0) (filter_map (row_of_chain t) es))) (sym (entries_tree row_key_total row_key_same m ordered))
+      ∙ ap (λ (es : List (RowKey × ChainValue)). map {B = ℕ × RowValue} (λ e. (e.0.key, e.1)) (filter (λ e. is_between e.0) (rows_of t es))) (sym (entries_tree row_key_total row_key_same m ordered))
       ∙ ap (λ (rows : List (RowKey × RowValue)). map {B = ℕ × RowValue} (λ e. (e.0.key, e.1)) (filter (λ e. is_between e.0) rows)) (same_rows t (with_facts (facts_of (finmap.from_entries m.entries))) (finmap.from_entries m.entries) (λ k born. known_stored (finmap.from_entries m.entries) known (version_of k born)))
 
   -- none where it is
