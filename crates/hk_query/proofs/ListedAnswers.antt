@@ -1,7 +1,7 @@
 -- The rows that an index lists, and that show, are the rows of the answer.
-use Rattle.std.proofs.Common.{◌≡◌, refl, sym, ap, ◌∙◌, ℕ, Bool, true, false, cond, ◌||◌, ◌&&◌, ◌==◌, Option, Some, None, List, [], ◌∷◌, map, filter_map, nat_le}
+use Rattle.std.proofs.Common.{◌≡◌, refl, sym, ap, ◌∙◌, ℕ, Bool, true, false, cond, ◌&&◌, ◌==◌, Option, Some, None, List, [], ◌∷◌, map, filter_map}
 use Rattle.std.specs.List.{cons_option}
-use Rattle.std.specs.Option.{option_map, is_some}
+use Rattle.std.specs.Option.{option_map}
 use Rattle.std.specs.FinMap as finmap
 use Rattle.std.specs.FinSet as set
 use Rattle.hk_types.specs.Values.{RowValue}
@@ -11,7 +11,7 @@ use Rattle.hk_model.specs.Replica.Content.{Content}
 use Rattle.hk_model.specs.Replica.Answers.{shows, visible, rows_where}
 use Rattle.hk_model.proofs.Maps.{version_key_same}
 use Rattle.hk_model.proofs.Listed.{shown_of, listed, rises_from, set_In, In_set}
-use Rattle.hk_index.specs.Listed.{Lists, with_keys}
+use Rattle.hk_index.specs.Listed.{Lists}
 use Rattle.hk_index.specs.Tagged.{tagged_cmp, with_tag}
 use Rattle.hk_index.proofs.StoredTags.{contains-with_tag}
 use Rattle.hk_store.specs.Indexed.{is_tagged}
@@ -34,22 +34,6 @@ module _ (c : Content) (t : ℕ) where
       keyed_map vs ∙ ap (map (λ e. (e.0.key, e.1))) (listed c t test vs (rises_from version_key_cmp vs lists.rising)
       (λ v r here shown passes. In_set vs v (ap (λ s. set.contains s v) lists.same ∙ same v r here ∙ passes))
       (λ v r i here shown. sym (same v r here) ∙ ap (λ s. set.contains s v) (sym lists.same) ∙ set_In vs v i))
-
-  pub range_answered : (keys : set.FinSet version_key_cmp) → ((v : VersionKey) → set.contains keys v ≡ (is_some (finmap.get c.rows v) || is_some (finmap.get c.ends v))) → (table low high : ℕ) (vs : List VersionKey) → Lists vs (with_keys keys table low high)
-      → rows_shown c t vs ≡ rows_where (λ k row. (k.table == table) && nat_le low k.key && nat_le k.key high) (visible c t)
-  range_answered keys exact table low high vs lists =
-      rows_are (λ k row. (k.table == table) && nat_le low k.key && nat_le k.key high) (with_keys keys table low high) vs lists
-      (λ v r here.
-      set.contains-retain keys (between table low high) v (λ x e. ap (between table low high) (sym (version_key_same v x e)))
-      ∙ ap (λ b. b && between table low high v) (exact v ∙ ap (λ o. is_some o || is_some (finmap.get c.ends v)) here)
-      ∙ regroup (v.table == table) (nat_le low v.key) (nat_le v.key high))
-    where
-      between : ℕ → ℕ → ℕ → VersionKey → Bool
-      between table low high w = (w.table == table) && (nat_le low w.key && nat_le w.key high)
-
-      regroup : (a b d : Bool) → (a && (b && d)) ≡ ((a && b) && d)
-      regroup true b d = refl
-      regroup false b d = refl
 
   pub tag_answered : (tags : set.FinSet tagged_cmp) → ((tag : ℕ) (v : VersionKey) → set.contains tags (record { tag = tag; version = v }) ≡ is_tagged tag (finmap.get c.rows v)) → (table tag : ℕ) (vs : List VersionKey) → Lists vs (with_tag tags table tag)
       → rows_shown c t vs ≡ rows_where (λ k row. (k.table == table) && (row.tag == tag)) (visible c t)
