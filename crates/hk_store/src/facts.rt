@@ -139,6 +139,16 @@ impl Facts {
         if self.chains.row_at(version).is_some() {
             return self.chains.put(version, Fact::Row(row));
         }
+        self.put_new_row(version, row)
+    }
+
+    /// Adds a row of a version of which none is known.
+    pub(crate) fn put_new_row(&mut self, version: &VersionKey, row: Row) -> Result<(), Refusal>
+        requires { IsNew self.old version.now (RowFact row) }
+        ensures ok { OnOk result (facts_put self.old version.now (RowFact row) ≡ Ok self.new) }
+        ensures err { IfErr result (λ why. (facts_put self.old version.now (RowFact row) ≡ Err why) ⊎ ((why ≡ Memory) × IsNew self.old version.now (RowFact row))) }
+        ensures kept { OnErr result (self.new ≡ self.old) }
+    {
         let tag = row.tag();
         self.tags.add(tag, *version)?;
         let put = put_timed(
@@ -163,6 +173,16 @@ impl Facts {
         if self.chains.end_at(version).is_some() {
             return self.chains.put(version, Fact::End(died));
         }
+        self.put_new_end(version, died)
+    }
+
+    /// Adds an end of a version of which none is known.
+    pub(crate) fn put_new_end(&mut self, version: &VersionKey, died: Time) -> Result<(), Refusal>
+        requires { IsNew self.old version.now (EndFact died) }
+        ensures ok { OnOk result (facts_put self.old version.now (EndFact died) ≡ Ok self.new) }
+        ensures err { IfErr result (λ why. (facts_put self.old version.now (EndFact died) ≡ Err why) ⊎ ((why ≡ Memory) × IsNew self.old version.now (EndFact died))) }
+        ensures kept { OnErr result (self.new ≡ self.old) }
+    {
         put_timed(
             &mut self.chains,
             &mut self.deaths,

@@ -10,7 +10,7 @@ ghost use Rattle.hk_store.specs.Facts.{FactsValue, with_fact_at, with_entry};
 ghost use Rattle.hk_store.specs.Journal.{without_journal};
 
 use crate::facts::Facts;
-use hk_facts::{Fact, Part};
+use hk_facts::Part;
 use hk_log::Entry;
 use hk_types::{Key, Refusal, Row, Table, Time, VersionKey};
 use std::alloc::AllocError;
@@ -116,7 +116,7 @@ impl Facts {
             return Ok(());
         }
         note(journal, version, Part::Row)?;
-        self.put(version, Fact::Row(row))
+        self.put_new_row(version, row)
     }
 
     /// Adds an end where none is known, and names it in the journal first. The only refusal is
@@ -136,7 +136,7 @@ impl Facts {
             return Ok(());
         }
         note(journal, version, Part::End)?;
-        self.put(version, Fact::End(died))
+        self.put_new_end(version, died)
     }
 
     /// Takes back what a journal names, the last first. It cannot fail. Cost: O(j · log n), j places of

@@ -1,16 +1,8 @@
-use Rattle.std.proofs.Common.{sym}
+use Rattle.std.proofs.Common.{sym, ap, ◌∙◌}
+use Rattle.std.specs.FinMap as finmap
+use Rattle.hk_store.specs.Facts.{FactsValue}
 use Rattle.hk_store.proofs.JournalUndone.{none_here}
-use Rattle.hk_store.proofs.TimedFacts.{none_at, end_put}
-use Rattle.hk_store.specs.Indexed.{died_at}
 use Rattle.hk_store.proofs.facts.Facts.put_end.Goals as goal
 
-pub put_timed-requires : goal.put_timed-requires
-put_timed-requires c =
-    let a = c.self.inside in
-    none_at (died_at a.chains) a.deaths c.self.invariant.dead c.args.version.now c.args.died (none_here c.end_at.result _ c.end_at.ensures (sym c.if-is_some.ensures))
-
-pub invariant_of-self-2 : goal.invariant_of-self-2
-invariant_of-self-2 c =
-    let a = c.self.inside in
-    let e = c.put_timed.ensures in
-    end_put a.chains c.put_timed.new.chains c.args.version.now c.put_timed.result e.kept c.args.died e.ok (none_here c.end_at.result _ c.end_at.ensures (sym c.if-is_some.ensures)) a.tags a.births a.deaths c.self.invariant c.put_timed.new.index e.timed e.untimed
+pub put_new_end-requires : goal.put_new_end-requires
+put_new_end-requires c = ap (λ (f : FactsValue). finmap.get f.ends c.args.version.now) (sym c.self.view_is) ∙ none_here c.end_at.result _ c.end_at.ensures (sym c.if-is_some.ensures)
