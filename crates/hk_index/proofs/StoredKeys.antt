@@ -1,5 +1,5 @@
 -- What a stored set of versions answers is what the set that is seen answers.
-use Rattle.std.proofs.Common.{◌≡◌, refl, sym, ap, ◌∙◌, ℕ, ◌≤◌, Bool, true, false, cond, not, List, [], ◌∷◌, filter, length, ◌||◌, ◌&&◌, ◌==◌, nat_le, nat_cmp, is_le, is_eq, is_gt, eqb-true, eq-eqb, leb-true, le-leb, subst, Less, Equal, Greater, arith, true≢false}
+use Rattle.std.proofs.Common.{◌≡◌, refl, sym, ap, ◌∙◌, ℕ, ◌≤◌, Bool, true, false, cond, List, [], ◌∷◌, filter, ◌||◌, ◌&&◌, ◌==◌, nat_le, nat_cmp, is_le, is_eq, is_gt, eqb-true, eq-eqb, leb-true, le-leb, subst, Less, Equal, Greater, arith, true≢false}
 use Rattle.std.proofs.lemmas.Bool.Decides.{nat_tests}
 use Rattle.std.proofs.lemmas.List.Kept.{IsStrictlySortedBy-filter}
 use Rattle.std.proofs.lemmas.Bool.{and_parts, and_from}
@@ -8,7 +8,7 @@ use Rattle.std.proofs.lemmas.Map.Keys.{sorted_head, sorted_tail}
 use Rattle.std.specs.List.{list_any, take_while, AllByRecursion}
 use Rattle.std.specs.List.Sorted.{IsStrictlySortedBy}
 use Rattle.std.specs.Ordering.{eq_by_cmp, ordering_then}
-use Rattle.std.specs.Cmp.{eq_by_cmp_equiv, tied_itself, Equal-is}
+use Rattle.std.specs.Cmp.{Equal-is}
 use Rattle.std.specs.BTreeSet.{BTreeSet}
 use Rattle.std.specs.BTreeSet as sorted
 use Rattle.std.specs.FinSet as set
@@ -24,54 +24,11 @@ seen s = set.from_list s.keys
 pub contains-seen : (s : BTreeSet VersionKey) (v : VersionKey) → set.contains (seen s) v ≡ sorted.contains version_key_cmp s v
 contains-seen s v = set.contains-from_list version_key_total s.keys v
 
-tied_swap : (v q : VersionKey) → eq_by_cmp version_key_cmp v q ≡ eq_by_cmp version_key_cmp q v
-tied_swap = (eq_by_cmp_equiv version_key_total).symm
-
 pub tied_versions : (v q : VersionKey) → eq_by_cmp version_key_cmp v q ≡ true → v ≡ q
 tied_versions v q e = version_key_same v q ((Equal-is (version_key_cmp v q)).0 e)
 
 pub seen-listed : (vs : List VersionKey) (t : BTreeSet VersionKey) → sorted.IsFromIterResult version_key_cmp vs t → seen t ≡ set.from_list vs
 seen-listed vs t is = set.same_set version_key_total version_key_same _ _ (λ q. contains-seen t q ∙ is.0 q ∙ sym (set.contains-from_list version_key_total vs q))
-
-pub same-copied : (s t : BTreeSet VersionKey) → sorted.IsFromIterResult version_key_cmp s.keys t → seen t ≡ seen s
-same-copied s t is = set.same_set version_key_total version_key_same _ _ (λ q. contains-seen t q ∙ is.0 q ∙ sym (contains-seen s q))
-
-pub seen-insert : (s t : BTreeSet VersionKey) (v : VersionKey) → sorted.Updates version_key_cmp s t v true → seen t ≡ set.insert (seen s) v
-seen-insert s t v u = set.same_set version_key_total version_key_same _ _ (λ q.
-    contains-seen t q ∙ u.0 q ∙ either (eq_by_cmp version_key_cmp v q) (sorted.contains version_key_cmp s q)
-    ∙ (λ i. tied_swap v q i || sym (contains-seen s q) i)
-    ∙ sym (set.contains-insert version_key_total (seen s) v q))
-  where
-    either : (a b : Bool) → cond a true b ≡ (a || b)
-    either true b = refl
-    either false b = refl
-
-pub seen-remove : (s t : BTreeSet VersionKey) (v : VersionKey) → sorted.Updates version_key_cmp s t v false → seen t ≡ set.remove (seen s) v
-seen-remove s t v u = set.same_set version_key_total version_key_same _ _ (λ q.
-    contains-seen t q ∙ u.0 q ∙ without (eq_by_cmp version_key_cmp v q) (sorted.contains version_key_cmp s q)
-    ∙ (λ i. not (tied_swap v q i) && sym (contains-seen s q) i)
-    ∙ sym (set.contains-remove version_key_total (seen s) v q))
-  where
-    without : (a b : Bool) → cond a false b ≡ (not a && b)
-    without true b = refl
-    without false b = refl
-
--- ---- whether there is none
-
-pub none-empty : (vs : List VersionKey) → length vs ≡ 0 → set.from_list {R = version_key_cmp} vs ≡ set.empty
-none-empty [] e = refl
-none-empty (v ∷ vs) e = absurd (omega arith)
-
-pub empty-none : (vs : List VersionKey) → set.from_list {R = version_key_cmp} vs ≡ set.empty → length vs ≡ 0
-empty-none [] e = refl
-empty-none (v ∷ vs) e =
-    absurd (true≢false (
-    sym (set.contains-insert version_key_total (set.from_list vs) v v ∙ ap (λ b. b || set.contains (set.from_list {R = version_key_cmp} vs) v) (itself v))
-    ∙ ap (λ (s : set.FinSet version_key_cmp). set.contains s v) e
-    ∙ set.contains-empty version_key_cmp v))
-  where
-    itself : (v : VersionKey) → eq_by_cmp version_key_cmp v v ≡ true
-    itself v = ap is_eq (tied_itself version_key_total v)
 
 -- ---- a range of keys
 

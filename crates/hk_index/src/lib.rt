@@ -1,12 +1,12 @@
-//! The indexes of a replica's versions: by tag, by key, and by time.
+//! The indexes of a replica's versions, by tag and by time, and sets of versions.
 #![tactic(auto)]
 
-mod key_index;
 mod tag_index;
 mod tagged;
 mod time_index;
 mod timed;
+mod version_set;
 
-pub use key_index::KeyIndex;
 pub use tag_index::TagIndex;
 pub use time_index::TimeIndex;
+pub use version_set::VersionSet;

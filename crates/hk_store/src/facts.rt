@@ -13,7 +13,7 @@ ghost use Rattle.hk_store.specs.Facts.{no_facts, known_at, facts_put, facts_with
 ghost use Rattle.hk_store.specs.Indexed.{AreTagged, AreKeyed, IsNew, end_lost, tag_lost, tags_without, times_without};
 
 use crate::chains::Chains;
-use crate::keys::Keys;
+use crate::key_index::KeyIndex;
 use hk_facts::{Chain, Fact, Part};
 use hk_index::{TagIndex, TimeIndex};
 use hk_types::{Key, Refusal, Row, Table, Tag, Time, VersionKey};
@@ -69,10 +69,10 @@ impl Facts {
     }
 
     /// The versions of which a row or an end is known, by table and key.
-    pub fn keys(&self) -> Keys<'_>
+    pub fn keys(&self) -> KeyIndex<'_>
         ensures { AreKeyed self.now result }
     {
-        Keys::of(&self.chains)
+        KeyIndex::of(&self.chains)
     }
 
     /// The chain of a key of a table. Cost: O(log k), k keys of all tables.

@@ -7,8 +7,8 @@ mod copy;
 mod drops;
 mod facts;
 mod journal;
+mod key_index;
 mod ranges;
-mod keys;
 mod replace;
 mod row_key;
 mod shown;
@@ -17,7 +17,7 @@ mod versions;
 mod walk;
 
 pub use facts::Facts;
+pub use key_index::KeyIndex;
 pub use replace::meets;
-pub use keys::Keys;
 pub use row_key::RowKey;
 pub use versions::push_borrowed;

@@ -12,7 +12,7 @@ ghost use Rattle.hk_store.specs.Journal.{without_journal};
 
 use crate::facts::Facts;
 use hk_facts::Part;
-use hk_index::KeyIndex;
+use hk_index::VersionSet;
 use hk_types::{Refusal, Row, Time, VersionKey};
 use std::alloc::Global;
 
@@ -27,23 +27,23 @@ pub fn meets(
     ensures ok { IfOk result (λ met. met ≡ meets versions.now rows.now ends.now) }
     ensures err { IfErr result (λ why. why ≡ Memory) }
 {
-    let among = KeyIndex::of(alloc, versions)?;
+    let among = VersionSet::of(alloc, versions)?;
     Ok(has_any_of(&among, rows, ends))
 }
 
-fn has_any_of(among: &KeyIndex, rows: &[(VersionKey, Row)], ends: &[(VersionKey, Time)]) -> bool
+fn has_any_of(among: &VersionSet, rows: &[(VersionKey, Row)], ends: &[(VersionKey, Time)]) -> bool
     ensures { result ≡ (list_any (λ r. set.contains among.now r.0) rows.now || list_any (λ e. set.contains among.now e.0) ends.now) }
 {
     has_row_of(among, rows) || has_end_of(among, ends)
 }
 
-fn has_row_of(among: &KeyIndex, rows: &[(VersionKey, Row)]) -> bool
+fn has_row_of(among: &VersionSet, rows: &[(VersionKey, Row)]) -> bool
     ensures { result ≡ list_any (λ r. set.contains among.now r.0) rows.now }
 {
     rows.iter().any(|(version, _row)| among.has(*version))
 }
 
-fn has_end_of(among: &KeyIndex, ends: &[(VersionKey, Time)]) -> bool
+fn has_end_of(among: &VersionSet, ends: &[(VersionKey, Time)]) -> bool
     ensures { result ≡ list_any (λ e. set.contains among.now e.0) ends.now }
 {
     ends.iter().any(|(version, _died)| among.has(*version))

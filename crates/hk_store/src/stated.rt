@@ -9,7 +9,7 @@ ghost use Rattle.hk_store.specs.Drops.{is_among};
 ghost use Rattle.hk_store.specs.Indexed.{is_stated};
 
 use crate::facts::Facts;
-use hk_index::KeyIndex;
+use hk_index::VersionSet;
 use hk_types::{Refusal, Time, VersionKey};
 use std::alloc::Global;
 
@@ -26,7 +26,7 @@ impl Facts {
 
     /// The versions that have a row born up to a time, or an end up to it. The only refusal is `Memory`.
     /// Cost: O(log n + k · log k), n facts, k versions given.
-    pub fn stated_until(&self, alloc: Global, until: Time) -> Result<KeyIndex, Refusal>
+    pub fn stated_until(&self, alloc: Global, until: Time) -> Result<VersionSet, Refusal>
         ensures ok { IfOk result (λ versions. (q : VersionKey) → set.contains versions q
             ≡ is_stated self.now (λ t. nat_le t until) q) }
         ensures err { IfErr result (λ why. why ≡ Memory) }
@@ -38,7 +38,7 @@ impl Facts {
 
     /// The versions that have a row born above a time, or an end above it. The only refusal is `Memory`.
     /// Cost: O(log n + k · log k), n facts, k versions given.
-    pub fn stated_above(&self, alloc: Global, base: Time) -> Result<KeyIndex, Refusal>
+    pub fn stated_above(&self, alloc: Global, base: Time) -> Result<VersionSet, Refusal>
         ensures ok { IfOk result (λ versions. (q : VersionKey) → set.contains versions q
             ≡ is_stated self.now (λ t. nat_lt base t) q) }
         ensures err { IfErr result (λ why. why ≡ Memory) }
@@ -54,10 +54,10 @@ fn either(
     alloc: Global,
     mut versions: Vec<VersionKey>,
     more: &[VersionKey],
-) -> Result<KeyIndex, Refusal>
+) -> Result<VersionSet, Refusal>
     ensures ok { IfOk result (λ index. index ≡ set.from_list (versions.items ++ more.now)) }
     ensures err { IfErr result (λ why. why ≡ Memory) }
 {
     versions.extend_from_slice(more)?;
-    KeyIndex::of(alloc, &versions)
+    VersionSet::of(alloc, &versions)
 }

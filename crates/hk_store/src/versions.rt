@@ -12,7 +12,7 @@ ghost use Rattle.hk_store.specs.Reads.{with_facts};
 ghost use Rattle.hk_store.specs.Versions.{AreVersions, AreVersionsOf, borrowed, value_conflicts_at, FirstWhere};
 
 use crate::facts::Facts;
-use hk_index::KeyIndex;
+use hk_index::VersionSet;
 use hk_log::Version;
 use hk_types::{Key, Table, VersionKey};
 use std::alloc::{AllocError, Global};
@@ -64,7 +64,7 @@ impl Facts {
     pub fn versions_of(
         &self,
         alloc: Global,
-        some: &KeyIndex,
+        some: &VersionSet,
     ) -> Result<Vec<(VersionKey, &Version)>, AllocError>
         ensures { IfOk result (λ versions.
             AreVersionsOf self.now (set.contains some.now) (map borrowed versions.items)) }

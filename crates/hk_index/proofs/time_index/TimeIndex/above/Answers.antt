@@ -1,4 +1,4 @@
-use Rattle.std.proofs.Common.{◌∙◌, ap, filter, is_le, map, nat_lt, ℕ}
+use Rattle.std.proofs.Common.{◌∙◌, ap, filter, is_le, map, nat_lt}
 use Rattle.hk_index.specs.declared.timed.TimedVersion.{TimedVersion}
 use Rattle.hk_index.specs.Timed.{timed_cmp, first_after}
 use Rattle.hk_index.proofs.StoredTimes.{kept_where, from_after}

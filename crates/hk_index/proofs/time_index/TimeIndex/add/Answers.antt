@@ -1,5 +1,3 @@
-use Rattle.std.proofs.Common.{◌∙◌, ap}
-use Rattle.std.specs.FinSet as set
 use Rattle.hk_index.proofs.StoredTimes.{seen-insert}
 use Rattle.hk_index.proofs.time_index.TimeIndex.add.Goals as goal
 

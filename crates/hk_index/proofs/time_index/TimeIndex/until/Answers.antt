@@ -1,4 +1,4 @@
-use Rattle.std.proofs.Common.{◌∙◌, ap, filter, is_le, not, map, nat_le, ℕ}
+use Rattle.std.proofs.Common.{◌∙◌, ap, filter, is_le, not, map, nat_le}
 use Rattle.hk_index.specs.declared.timed.TimedVersion.{TimedVersion}
 use Rattle.hk_index.specs.Timed.{timed_cmp, first_after}
 use Rattle.hk_index.proofs.StoredTimes.{kept_where, before_after}

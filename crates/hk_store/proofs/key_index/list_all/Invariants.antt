@@ -3,7 +3,7 @@ use Rattle.std.specs.Option.{option_map}
 use Rattle.hk_store.specs.Facts.{known_at}
 use Rattle.hk_store.specs.Versions.{borrowed}
 use Rattle.hk_store.proofs.WalkedVersions.{all, left}
-use Rattle.hk_store.proofs.keys.list_all.Given as goal
+use Rattle.hk_store.proofs.key_index.list_all.Given as goal
 
 abbrev pub invariant-loop-next : goal.invariant-loop-next
 invariant-loop-next l = record {

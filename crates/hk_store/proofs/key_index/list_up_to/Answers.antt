@@ -4,7 +4,7 @@ use Rattle.hk_index.specs.Listed.{is_up_to}
 use Rattle.hk_store.specs.Versions.{borrowed}
 use Rattle.std.specs.List.{take_while}
 use Rattle.hk_store.proofs.WalkedVersions.{started, next_known, shorter, one_more_up_to, none_more, no_more_up_to, up_to_listed}
-use Rattle.hk_store.proofs.keys.list_up_to.Goals as goal
+use Rattle.hk_store.proofs.key_index.list_up_to.Goals as goal
 
 pub loop-next-init : goal.loop-next-init
 loop-next-init c = record {

@@ -2,7 +2,7 @@ use Rattle.std.proofs.Common.{ap}
 use Rattle.std.specs.Option.{option_map}
 use Rattle.hk_store.specs.Versions.{borrowed}
 use Rattle.hk_store.proofs.WalkedVersions.{started_all, next_known, shorter, one_more, no_more, all_listed}
-use Rattle.hk_store.proofs.keys.list_all.Goals as goal
+use Rattle.hk_store.proofs.key_index.list_all.Goals as goal
 
 pub loop-next-init : goal.loop-next-init
 loop-next-init c = record {

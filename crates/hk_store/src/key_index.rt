@@ -14,11 +14,11 @@ use std::marker::Model;
 /// The set of the versions of which a row or an end is known, in the order of table, key and born: a view of
 /// what is held, which takes no memory.
 #[derive(Drop)]
-pub struct Keys<'a> {
+pub struct KeyIndex<'a> {
     chains: &'a Chains,
 }
 
-impl<'a> Model for Keys<'a> {
+impl<'a> Model for KeyIndex<'a> {
     ghost use Rattle.std.specs.FinSet as set;
     ghost use Rattle.hk_model.specs.Replica.Codes.{version_key_code};
     ghost use Rattle.hk_model.specs.History.Rows.{version_key_cmp};
@@ -31,11 +31,11 @@ impl<'a> Model for Keys<'a> {
     ghost view = { λ a. keys_of a.chains.now };
 }
 
-impl<'a> Keys<'a> {
-    pub(crate) fn of(chains: &'a Chains) -> Keys<'a>
+impl<'a> KeyIndex<'a> {
+    pub(crate) fn of(chains: &'a Chains) -> KeyIndex<'a>
         ensures { result ≡ keys_of chains.now }
     {
-        Keys { chains }
+        KeyIndex { chains }
     }
 
     /// Whether a version is there. Cost: O(log n), n versions in the set.

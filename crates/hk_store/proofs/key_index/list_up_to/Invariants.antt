@@ -7,7 +7,7 @@ use Rattle.hk_index.specs.Listed.{is_up_to}
 use Rattle.hk_store.specs.Facts.{known_at}
 use Rattle.hk_store.specs.Versions.{borrowed}
 use Rattle.hk_store.proofs.WalkedVersions.{all, left}
-use Rattle.hk_store.proofs.keys.list_up_to.Given as goal
+use Rattle.hk_store.proofs.key_index.list_up_to.Given as goal
 
 abbrev pub invariant-loop-next : goal.invariant-loop-next
 invariant-loop-next l = record {
