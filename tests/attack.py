@@ -255,6 +255,13 @@ def lone_ends():
     compare("gets of a key whose versions have no rows", serve_seconds, dear, honest, 1_000)
 
 
+def small_joins():
+    def dear(count):
+        return say.items(*(say.mark(1, n, n) for n in range(2, count))) + say.items() * count
+
+    compare("small joins behind many waiting marks", serve_seconds, dear, lambda count: rows_and_mark(count) + say.items() * count, 1_000)
+
+
 # ---------------------------------------------------------------- known to grow
 
 def open_counts():
@@ -262,16 +269,9 @@ def open_counts():
             fronts, 1_000)
 
 
-def open_waiting():
-    def dear(count):
-        return say.items(*(say.mark(1, n, n) for n in range(2, count))) + say.items() * count
-
-    compare("small joins behind many waiting marks", serve_seconds, dear, lambda count: rows_and_mark(count) + say.items() * count, 1_000)
-
-
 GATE = (tags, marks, covered_marks, numbers_, numbers_with_gaps, streams, chains, contradictions, all_contradict, endless_line, empty_lines,
-        endless_frame, prunes, deltas, rising_joins, lone_ends)
-OPEN = (open_counts, open_waiting)
+        endless_frame, prunes, deltas, rising_joins, lone_ends, small_joins)
+OPEN = (open_counts,)
 
 
 def main(words):

@@ -43,9 +43,9 @@ fn lend(
 /// end of a version than the state `Conflict`; so far no memory is taken. `Memory` comes last, where a growth was
 /// refused. A refusal changes nothing.
 ///
-/// Cost: O(c · log n + b), c versions of the fragment and numbers and marks of both that wait for others, n these
-/// and the state's versions together, b bytes of bodies compared or copied. Where the horizon rises, something of
-/// the state's own may have to go: O(n · log n + b).
+/// Cost: O((s + c + d) · log n + b), s streams, c versions of the fragment, its numbers and marks that wait for
+/// others and those of the state's that they free, d versions of the state's own that go since the horizon rises,
+/// n all these and all that the state holds, b bytes of bodies compared or copied.
 pub fn join(target: &mut ReplicaState, fragment: &Fragment) -> Result<(), Refusal>
     ensures gives { Joins target.old target.new fragment.now result }
     ensures represents { JoinsOf target.old target.new fragment.now result }

@@ -35,9 +35,9 @@ fn later(a: Time, b: Time) -> Time
 /// version another row or another end than the target has is refused `Conflict`; so far no memory is taken.
 /// `Memory` comes last, where a growth was refused. A refusal changes nothing.
 ///
-/// Cost: O((1 + c + d) · log n + b), c versions sent and numbers and marks of both that wait for others, d versions
-/// of the target's own that go since the horizon rises, n all these and the target's versions together, b bytes of
-/// bodies compared or copied.
+/// Cost: O((s + c + d) · log n + b), s streams, c versions sent, numbers and marks sent that wait for others and
+/// those of the target's that they free, d versions of the target's own that go since the horizon rises, n all
+/// these and all that the target holds, b bytes of bodies compared or copied.
 pub fn join_sent(target: &mut ReplicaState, sent: &MergeInput) -> Result<(), Refusal>
     requires listed { AreVersions (facts_listed (map borrowed sent.now.facts.now))
         (map borrowed sent.now.facts.now) }
@@ -67,9 +67,9 @@ pub fn join_sent(target: &mut ReplicaState, sent: &MergeInput) -> Result<(), Ref
 /// another row or another end of a version is refused `Conflict`; so far no memory is taken. `Memory` comes last,
 /// where a growth was refused. A refusal changes nothing.
 ///
-/// Cost: O((1 + c + d) · log n + b), c versions of the peer and numbers and marks of both that wait for others,
-/// d versions of the target's own that go since the horizon rises, n all these and the target's versions together,
-/// b bytes of bodies compared or copied. The target is not copied.
+/// Cost: O((s + c + d) · log n + b), s streams, c versions of the peer, its numbers and marks that wait for others
+/// and those of the target's that they free, d versions of the target's own that go since the horizon rises, n all
+/// these and all that the target holds, b bytes of bodies compared or copied. The target is not copied.
 pub fn merge(target: &mut ReplicaState, peer: &ReplicaState) -> Result<(), Refusal>
     ensures gives { Merges target.old target.new peer.now result }
     ensures represents { MergesOf target.old target.new peer.now result }
