@@ -11,7 +11,7 @@ ghost use Rattle.hk_store.specs.Versions.{borrowed};
 ghost use Rattle.hk_merge.specs.Plans.{stays, goes, row_back, end_back, all_gone, rows_back, ends_back, row_comes, end_comes, rows_come, ends_come, keys_of_rows, may_go};
 
 use hk_facts::ended_by;
-use hk_index::KeyIndex;
+use hk_index::VersionSet;
 use hk_log::Version;
 use hk_state::Change;
 use hk_store::Facts;
@@ -26,7 +26,7 @@ pub(crate) struct Leaving {
     /// The horizon to which it rises.
     pub(crate) horizon: Time,
     /// The versions whose rows are sent, where the whole is.
-    pub(crate) sent: KeyIndex,
+    pub(crate) sent: VersionSet,
 }
 
 /// How what is sent fares.
@@ -201,7 +201,7 @@ pub(crate) fn take(
 pub(crate) fn with_rows(
     alloc: Global,
     versions: &[(VersionKey, &Version)],
-) -> Result<KeyIndex, Refusal>
+) -> Result<VersionSet, Refusal>
     ensures ok { IfOk result (λ index. index ≡ set.from_list (keys_of_rows (map borrowed versions.now))) }
     ensures err { IfErr result (λ why. why ≡ Memory) }
 {
@@ -211,7 +211,7 @@ pub(crate) fn with_rows(
             found.push(*version)?;
         }
     }
-    KeyIndex::of(alloc, &found)
+    VersionSet::of(alloc, &found)
 }
 
 /// The versions of the target's own that may go where the horizon rises. The only refusal is `Memory`.
@@ -221,7 +221,7 @@ pub(crate) fn may_go(
     own: &Facts,
     whole: bool,
     horizon: Time,
-) -> Result<KeyIndex, Refusal>
+) -> Result<VersionSet, Refusal>
     ensures ok { IfOk result (λ versions. (q : VersionKey) → set.contains versions q ≡ may_go whole horizon own.now q) }
     ensures err { IfErr result (λ why. why ≡ Memory) }
 {
@@ -229,5 +229,5 @@ pub(crate) fn may_go(
         return own.stated_until(alloc, horizon);
     }
     let ended = own.ended(alloc, horizon)?;
-    KeyIndex::of(alloc, &ended)
+    VersionSet::of(alloc, &ended)
 }
