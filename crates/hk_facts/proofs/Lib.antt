@@ -3,8 +3,8 @@ pub mod LastOfList
 pub mod DroppedEnds
 pub mod ForgottenParts
 pub mod CopiedTrees
-pub mod NestedMaps
 pub mod LatestVersion
 pub mod ShownRow
 pub mod FirstOfChains
 pub mod PartedChains
+mod NextBorn

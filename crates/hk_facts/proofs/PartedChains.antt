@@ -18,9 +18,8 @@ use Rattle.hk_facts.specs.declared.fact.Fact.TheVariants.{End as EndFact}
 use Rattle.hk_facts.specs.declared.fact.Part.{Part}
 use Rattle.hk_facts.specs.declared.fact.Part.TheVariants.{Row as RowPart, End as EndPart, Whole}
 use Rattle.hk_facts.specs.Facts.{put_result, without, row_of, died_of, fact_conflicts, with_fact}
-use Rattle.hk_facts.specs.Chains.{ChainValue, set_at, put_at, chain_put, chain_forget, chain_until, latest_at}
+use Rattle.hk_facts.specs.Chains.{ChainValue, set_at, put_at, chain_put, chain_forget, chain_until, latest_at, or_empty}
 use Rattle.hk_facts.specs.FirstOfChain.{later_of, is_later}
-use Rattle.hk_facts.specs.TableChains.{or_empty}
 use Rattle.hk_facts.proofs.ForgottenParts.{nothing_left}
 use Rattle.hk_facts.specs.Parted.{both, AreApart, NoRows, IsParted, lone_end}
 use Rattle.hk_facts.proofs.StoredTrees.{tied_same, get-set_at, same_at_all, set_at_same}

@@ -1,7 +1,7 @@
--- A write to a stored tree, whose keys are numbers, is a write to the map that it is seen as.
-use Rattle.std.proofs.Common.{◌≡◌, refl, sym, ap, ◌∙◌, subst, ℕ, Bool, true, false, cond, Option, Some, None, List, [], ◌∷◌, ◌&&◌, T, nat_cmp, is_eq, is_lt, length, Result, Ok, Err, IfErr, IsSome, ◌⊎◌, inr, Less, arith}
+-- A write to a stored tree is a write to the map that it is seen as.
+use Rattle.std.proofs.Common.{◌≡◌, refl, sym, ap, ◌∙◌, subst, ℕ, Bool, true, false, cond, Option, Some, None, List, [], ◌∷◌, ◌&&◌, T, nat_cmp, is_eq, is_lt, length, Result, Ok, Err, IfErr, IsSome, ◌⊎◌, inr, Ordering, Less, arith}
 use Rattle.std.proofs.lemmas.Bool.Decides.{nat_tests}
-use Rattle.std.specs.Cmp.{nat_cmp_total, tied_itself, eq_by_cmp_equiv}
+use Rattle.std.specs.Cmp.{IsTotalOrder, nat_cmp_total, tied_itself, eq_by_cmp_equiv}
 use Rattle.std.specs.Ordering.{eq_by_cmp}
 use Rattle.std.specs.List.{AllByRecursion}
 use Rattle.std.specs.List.Sorted.{IsStrictlySortedBy}
@@ -25,9 +25,6 @@ tied_same q k e = grind (arith, nat_tests)
 pub tied_self : (k : ℕ) → eq_by_cmp nat_cmp k k ≡ true
 tied_self k = ap is_eq (tied_itself nat_cmp_total k)
 
-pub tied_turn : (q k : ℕ) → eq_by_cmp nat_cmp q k ≡ eq_by_cmp nat_cmp k q
-tied_turn q k = (eq_by_cmp_equiv nat_cmp_total).symm q k
-
 -- ---- outcomes
 
 pub IfErr_map : {A E : Type 0} {P Q : E → Type 0} (r : Result A E) → ((e : E) → P e → Q e) → IfErr r P → IfErr r Q
@@ -48,17 +45,31 @@ pub and_T : (a b : Bool) → T a → T b → T (a && b)
 and_T true b p q = q
 and_T false b p q = p
 
-below_from_sorted : {X : Type 0} (k : ℕ) (es : List (ℕ × X)) → AllByRecursion (λ y. nat_cmp k y ≡ Less) (keys_of es) → T (below_all nat_cmp k es)
-below_from_sorted k [] h = tt
-below_from_sorted k (e ∷ es) h = and_T _ _ (subst (λ r. T (is_lt r)) (sym h.0) tt) (below_from_sorted k es h.1)
+module _ {K X : Type 0} (R : K → K → Ordering) where
+  below_from_sorted : (k : K) (es : List (K × X)) → AllByRecursion (λ y. R k y ≡ Less) (keys_of es) → T (below_all R k es)
+  below_from_sorted k [] h = tt
+  below_from_sorted k (e ∷ es) h = and_T _ _ (subst (λ r. T (is_lt r)) (sym h.0) tt) (below_from_sorted k es h.1)
 
-pub sorted_entries : {X : Type 0} (es : List (ℕ × X)) → IsStrictlySortedBy nat_cmp (keys_of es) → T (is_sorted nat_cmp es)
-sorted_entries [] h = tt
-sorted_entries (e ∷ es) h = and_T _ _ (below_from_sorted e.0 es (sorted_head nat_cmp e.0 (keys_of es) h)) (sorted_entries es (sorted_tail nat_cmp e.0 (keys_of es) h))
+  sorted_entries : (es : List (K × X)) → IsStrictlySortedBy R (keys_of es) → T (is_sorted R es)
+  sorted_entries [] h = tt
+  sorted_entries (e ∷ es) h = and_T _ _ (below_from_sorted e.0 es (sorted_head R e.0 (keys_of es) h)) (sorted_entries es (sorted_tail R e.0 (keys_of es) h))
 
-find_lookup : {X : Type 0} (q : ℕ) (es : List (ℕ × X)) → find nat_cmp q es ≡ lookup (tree.is_at (nat_cmp q)) es
-find_lookup q [] = refl
-find_lookup q (e ∷ es) = ap (cond (eq_by_cmp nat_cmp q e.0) (Some e.1)) (find_lookup q es)
+  find_lookup : (q : K) (es : List (K × X)) → find R q es ≡ lookup (tree.is_at (R q)) es
+  find_lookup q [] = refl
+  find_lookup q (e ∷ es) = ap (cond (eq_by_cmp R q e.0) (Some e.1)) (find_lookup q es)
+
+-- ---- the map that a tree is seen as, whatever its keys are
+
+module _ {K X : Type 0} {R : K → K → Ordering} (total : IsTotalOrder R) where
+  pub get_tree : (m : BTreeMap K X) (q : K) → finmap.get (finmap.from_entries {R = R} m.entries) q ≡ tree.get R m q
+  get_tree m q = finmap.get-from_entries total m.entries q ∙ find_lookup R q m.entries
+
+  pub get_updated : (m n : BTreeMap K X) (k : K) (w : Option X) → tree.Updates R m n k w → (q : K) → finmap.get (finmap.from_entries {R = R} n.entries) q ≡ cond (eq_by_cmp R q k) w (finmap.get (finmap.from_entries {R = R} m.entries) q)
+  get_updated m n k w u q = get_tree n q ∙ u.0 q ∙ (λ i. cond ((eq_by_cmp_equiv total).symm k q i) w (sym (get_tree m q) i))
+
+  pub entries_tree : finmap.IsAntisymmetric R → (m : BTreeMap K X) → tree.IsOrdered R m → finmap.entries (finmap.from_entries {R = R} m.entries) ≡ m.entries
+  entries_tree same m h = same_entries R total same (finmap.entries (finmap.from_entries {R = R} m.entries)) m.entries (finmap.entries_sorted (finmap.from_entries {R = R} m.entries)) (sorted_entries R m.entries h)
+      (λ q. sym (finmap.get-entries (finmap.from_entries {R = R} m.entries) q) ∙ finmap.get-from_entries total m.entries q)
 
 module _ {X : Type 0} where
   -- ---- what is changed at one key
@@ -85,14 +96,10 @@ module _ {X : Type 0} where
   seen m = finmap.from_entries m.entries
 
   pub get_seen : (m : BTreeMap ℕ X) (q : ℕ) → finmap.get (seen m) q ≡ tree.get nat_cmp m q
-  get_seen m q = finmap.get-from_entries nat_cmp_total m.entries q ∙ find_lookup q m.entries
+  get_seen m q = get_tree nat_cmp_total m q
 
   pub entries_seen : (m : BTreeMap ℕ X) → tree.IsOrdered nat_cmp m → finmap.entries (seen m) ≡ m.entries
-  entries_seen m h = same_entries nat_cmp nat_cmp_total finmap.nat_cmp-IsAntisymmetric (finmap.entries (seen m)) m.entries (finmap.entries_sorted (seen m)) (sorted_entries m.entries h)
-      (λ q. sym (finmap.get-entries (seen m) q) ∙ finmap.get-from_entries nat_cmp_total m.entries q)
-
-  pub len_seen : (m : BTreeMap ℕ X) → tree.IsOrdered nat_cmp m → length m.entries ≡ finmap.len (seen m)
-  len_seen m h = sym (finmap.len-entries (seen m) ∙ ap length (entries_seen m h))
+  entries_seen m h = entries_tree nat_cmp_total finmap.nat_cmp-IsAntisymmetric m h
 
   pub seen_none : (m : BTreeMap ℕ X) → length m.entries ≡ 0 → seen m ≡ finmap.empty
   seen_none m h = none m.entries h
@@ -109,13 +116,7 @@ module _ {X : Type 0} where
       none (e ∷ es) h = cc (sym (finmap.get-empty nat_cmp e.0) ∙ sym (ap (λ n. finmap.get n e.0) h) ∙ finmap.get-from_entries nat_cmp_total (e ∷ es) e.0 ∙ ap (λ b. cond b (Some e.1) (find nat_cmp e.0 es)) (tied_self e.0))
 
   pub seen_set : (m n : BTreeMap ℕ X) (k : ℕ) (w : Option X) → tree.Updates nat_cmp m n k w → seen n ≡ set_at (seen m) k w
-  seen_set m n k w u = same_at_all _ _ (λ q.
-      get_seen n q ∙ u.0 q
-      ∙ (λ i. cond (tied_turn k q i) w (sym (get_seen m q) i))
-      ∙ sym (get-set_at (seen m) k w q))
-
-  pub seen_remove : (m n : BTreeMap ℕ X) (k : ℕ) → tree.Updates nat_cmp m n k None → seen n ≡ finmap.remove (seen m) k
-  seen_remove m n k u = seen_set m n k None u
+  seen_set m n k w u = same_at_all _ _ (λ q. get_updated nat_cmp_total m n k w u q ∙ sym (get-set_at (seen m) k w q))
 
   pub found_seen : (m : BTreeMap ℕ X) (k : ℕ) (x : Option X) → x ≡ tree.get nat_cmp m k → x ≡ finmap.get (seen m) k
   found_seen m k x is = is ∙ sym (get_seen m k)
@@ -163,7 +164,3 @@ module _ {X : Type 0} where
 
   pub put_refused : (m : BTreeMap ℕ X) (k : ℕ) (v : X) (f : Option X → Result X Refusal) (why : Refusal) → Some v ≡ tree.get nat_cmp m k → f (Some v) ≡ Err why → put_by f (seen m) k ≡ Err why
   put_refused m k v f why has is = ap (λ x. put_at (seen m) k (f x)) (sym (found_seen m k (Some v) has)) ∙ ap (put_at (seen m) k) is
-
-  -- a new tree with one entry
-  pub put_first : (e m : BTreeMap ℕ X) (k : ℕ) (w : X) (f : Option X → Result X Refusal) → e.entries ≡ [] → f None ≡ Ok w → tree.Updates nat_cmp e m k (Some w) → put_by f finmap.empty k ≡ Ok (seen m)
-  put_first e m k w f is ok u = subst (λ (s : finmap.FinMap nat_cmp X). put_by f s k ≡ Ok (seen m)) (ap (λ es. finmap.from_entries {R = nat_cmp} es) is) (put_new e m k w f (sym (ap (lookup (tree.is_at (nat_cmp k))) is)) ok u)

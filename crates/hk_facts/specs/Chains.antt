@@ -1,5 +1,5 @@
 -- The chain of a key: its versions, by the time at which they were born.
-use Rattle.std.specs.Prelude.{ℕ, Bool, not, ◌&&◌, ◌==◌, nat_le, List, [], ◌∷◌, Option, Some, None, Result, Ok, Err, if◌then◌else◌, is_some, ◌≡◌, true, ◌≤◌}
+use Rattle.std.specs.Prelude.{ℕ, Bool, not, ◌&&◌, ◌==◌, nat_le, nat_lt, List, [], ◌∷◌, Option, Some, None, Result, Ok, Err, if◌then◌else◌, is_some, ◌≡◌, true, ◌≤◌}
 use Rattle.std.specs.Ordering.{nat_cmp}
 use Rattle.std.specs.FinMap as finmap
 use Rattle.hk_types.specs.Values.{RowValue}
@@ -16,6 +16,11 @@ abbrev pub ChainValue : Type 0
 ChainValue = finmap.FinMap nat_cmp VersionValue
 
 module _ {X : Type 0} where
+  -- the map that there is, or an empty one
+  abbrev pub or_empty : Option (finmap.FinMap nat_cmp X) → finmap.FinMap nat_cmp X
+  or_empty None = finmap.empty
+  or_empty (Some m) = m
+
   -- the map with this at the key, or with nothing there
   abbrev pub set_at : finmap.FinMap nat_cmp X → ℕ → Option X → finmap.FinMap nat_cmp X
   set_at m k None = finmap.remove m k
@@ -68,6 +73,11 @@ row_at c t = shown t (latest_at c t)
 abbrev pub picked : ℕ → ℕ → Option (ℕ × VersionValue) → Option RowValue
 picked t born None = None
 picked t born (Some e) = if (e.0 == born) && not (at_most t e.1.died) then e.1.row else None
+
+-- whether a birth is after a time, if there is a time
+abbrev pub is_after : Option ℕ → ℕ → Bool
+is_after None born = true
+is_after (Some time) born = nat_lt time born
 
 -- of the versions whose birth passes a test the one born first
 pub record IsEarliest (c : ChainValue) (test : ℕ → Bool) (found : ℕ × VersionValue) : Type 0 where

@@ -8,7 +8,7 @@ use Rattle.hk_model.specs.Replica.Content.{at_most}
 use Rattle.hk_facts.specs.declared.fact.Fact.{Fact}
 use Rattle.hk_facts.specs.declared.fact.Part.{Part}
 use Rattle.hk_facts.specs.Facts.{put_result, without}
-use Rattle.hk_facts.specs.Chains.{ChainValue}
+use Rattle.hk_facts.specs.Chains.{ChainValue, is_after}
 
 abbrev pub FirstValue : Type 0
 FirstValue = Option (ℕ × VersionValue)
@@ -52,6 +52,11 @@ first_until h (Some e) = if at_most h e.1.died then None else Some e
 abbrev pub first_latest : ℕ → FirstValue → Option (ℕ × VersionValue)
 first_latest t None = None
 first_latest t (Some e) = if nat_le e.0 t && is_some e.1.row then Some e else None
+
+-- the first one, where it was born after a time, if there is a time
+abbrev pub first_next : Option ℕ → FirstValue → Option (ℕ × VersionValue)
+first_next after None = None
+first_next after (Some e) = if is_after after e.0 then Some e else None
 
 -- of two versions the one born later
 abbrev pub later_of : Option (ℕ × VersionValue) → Option (ℕ × VersionValue) → Option (ℕ × VersionValue)

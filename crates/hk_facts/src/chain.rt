@@ -1,12 +1,14 @@
 //! Chains.
 
-ghost use Rattle.std.specs.Prelude.{◌≡◌, ◌⊎◌, ◌↔◌, IsTrue, OnOk, OnErr, IfErr, IfOk, Ok, Err, Some, None};
+ghost use Rattle.std.specs.Prelude.{◌≡◌, ◌⊎◌, ◌↔◌, IsTrue, OnOk, OnErr, IfErr, IfOk, Ok, Err, Some, None, ℕ, Option};
+ghost use Rattle.std.specs.Bool.{OnTrue, OnFalse};
 ghost use Rattle.std.specs.Option.{option_copied, option_map};
 ghost use Rattle.std.specs.FinMap as finmap;
+ghost use Rattle.hk_log.specs.Versions.{VersionValue};
 ghost use Rattle.hk_types.specs.declared.faults.Refusal.TheVariants.{Memory};
 ghost use Rattle.hk_facts.specs.declared.fact.Fact.TheVariants.{Row as RowFact, End as EndFact};
-ghost use Rattle.hk_facts.specs.Chains.{chain_put, chain_forget, chain_until, latest_at, row_at};
-ghost use Rattle.hk_facts.specs.FirstOfChain.{first_at, first_put, first_without, first_until, first_latest, is_later};
+ghost use Rattle.hk_facts.specs.Chains.{chain_put, chain_forget, chain_until, latest_at, row_at, is_after, FirstBorn};
+ghost use Rattle.hk_facts.specs.FirstOfChain.{first_at, first_put, first_without, first_until, first_latest, first_next, is_later, with_first};
 
 use crate::fact::{Fact, Part, join, take_back, version_of};
 use crate::more::More;
@@ -164,6 +166,17 @@ impl Chain {
         self.more.version(born)
     }
 
+    /// The version born first, or the one born next after a time, with the time of its birth. It takes no
+    /// memory. Cost: O(log n), n versions.
+    pub fn next(&self, after: Option<Time>) -> Option<(Time, &Version)>
+        ensures { FirstBorn self.now (is_after after) (option_map (λ p. (p.0, p.1.now)) result) }
+    {
+        if is_first_next(&self.first, &self.more, &after) {
+            return next_first(&self.first, &after);
+        }
+        self.more.next(&after)
+    }
+
     pub fn is_empty(&self) -> bool
         ensures { IsTrue result ↔ (self.now ≡ finmap.empty) }
     {
@@ -242,6 +255,29 @@ fn latest_first(first: &Option<(Time, Version)>, time: Time) -> Option<(Time, &V
     }
 }
 
+/// The first version, where it was born after a time, if there is a time.
+fn next_first<'a>(
+    first: &'a Option<(Time, Version)>,
+    after: &Option<Time>,
+) -> Option<(Time, &'a Version)>
+    ensures { option_map (λ p. (p.0, p.1.now)) result ≡ first_next after.now first.now }
+{
+    match first {
+        Some((born, version)) if is_after(*after, *born) => Some((*born, version)),
+        _ => None,
+    }
+}
+
+/// Whether a version was born after a time, if there is a time.
+fn is_after(after: Option<Time>, born: Time) -> bool
+    ensures { result ≡ is_after after born }
+{
+    match after {
+        Some(time) => time < born,
+        None => true,
+    }
+}
+
 /// Whether the first version has a row and was born by then, and none of the others that has one was born later.
 fn is_first_latest(first: &Option<(Time, Version)>, more: &More, time: Time) -> bool
     ensures { result ≡ is_later (first_latest time first.now) (latest_at more.now time) }
@@ -251,6 +287,22 @@ fn is_first_latest(first: &Option<(Time, Version)>, more: &More, time: Time) -> 
     };
     match more.latest(time) {
         Some((other, _version)) => other <= born,
+        None => true,
+    }
+}
+
+/// Whether the first version is the one born next after a time, if there is a time.
+fn is_first_next(first: &Option<(Time, Version)>, more: &More, after: &Option<Time>) -> bool
+    ensures first { OnTrue result
+        (FirstBorn (with_first first.now more.now) (is_after after.now) (first_next after.now first.now)) }
+    ensures more { OnFalse result ((next : Option (ℕ × VersionValue)) → FirstBorn more.now (is_after after.now) next
+        → FirstBorn (with_first first.now more.now) (is_after after.now) next) }
+{
+    let Some((born, _first)) = next_first(first, after) else {
+        return false;
+    };
+    match more.next(after) {
+        Some((other, _version)) => born <= other,
         None => true,
     }
 }

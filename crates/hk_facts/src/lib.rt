@@ -5,10 +5,8 @@ mod chain;
 mod fact;
 mod more;
 mod others;
-mod table_chains;
 mod versions;
 
 pub use chain::Chain;
 pub use fact::{Fact, Part};
-pub use table_chains::TableChains;
 pub use versions::ended_by;

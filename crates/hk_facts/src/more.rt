@@ -4,7 +4,7 @@ ghost use Rattle.std.specs.Prelude.{◌≡◌, ◌⊎◌, ◌↔◌, IsTrue, OnO
 ghost use Rattle.std.specs.Option.{option_copied, option_map};
 ghost use Rattle.std.specs.FinMap as finmap;
 ghost use Rattle.hk_types.specs.declared.faults.Refusal.TheVariants.{Memory};
-ghost use Rattle.hk_facts.specs.Chains.{chain_put, chain_forget, chain_until, latest_at};
+ghost use Rattle.hk_facts.specs.Chains.{chain_put, chain_forget, chain_until, latest_at, is_after, FirstBorn};
 
 use crate::fact::{Fact, Part};
 use crate::others::Others;
@@ -25,8 +25,7 @@ impl Model for More {
     ghost use Rattle.std.specs.Option.{option_map};
     ghost use Rattle.std.specs.FinMap as finmap;
     ghost use Rattle.hk_log.specs.Versions.{version_code};
-    ghost use Rattle.hk_facts.specs.Chains.{ChainValue};
-    ghost use Rattle.hk_facts.specs.TableChains.{or_empty};
+    ghost use Rattle.hk_facts.specs.Chains.{ChainValue, or_empty};
 
     ghost Value = { ChainValue };
 
@@ -104,6 +103,17 @@ impl More {
     {
         match &self.others {
             Some(others) => others.version(born),
+            None => None,
+        }
+    }
+
+    /// The version born first, or the one born next after a time, with the time of its birth. It takes no
+    /// memory. Cost: O(log n), n versions.
+    pub(crate) fn next(&self, after: &Option<Time>) -> Option<(Time, &Version)>
+        ensures { FirstBorn self.now (is_after after.now) (option_map (λ p. (p.0, p.1.now)) result) }
+    {
+        match &self.others {
+            Some(others) => others.next(after),
             None => None,
         }
     }

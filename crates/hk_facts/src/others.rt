@@ -1,11 +1,13 @@
 //! The versions of a chain beside its first one.
 
-ghost use Rattle.std.specs.Prelude.{◌≡◌, ◌⊎◌, ◌↔◌, IsTrue, OnOk, OnErr, IfErr, IfOk, Ok, Err, Some, None};
+ghost use Rattle.std.specs.Prelude.{◌≡◌, ◌⊎◌, ◌↔◌, IsTrue, OnOk, OnErr, IfErr, IfOk, Ok, Err, Some, None, ℕ, Option};
+ghost use Rattle.std.specs.Bool.{OnTrue, OnFalse};
 ghost use Rattle.std.specs.Option.{option_copied, option_map};
 ghost use Rattle.std.specs.FinMap as finmap;
+ghost use Rattle.hk_log.specs.Versions.{VersionValue};
 ghost use Rattle.hk_types.specs.declared.faults.Refusal.TheVariants.{Memory};
 ghost use Rattle.hk_facts.specs.declared.fact.Fact.TheVariants.{Row as RowFact, End as EndFact};
-ghost use Rattle.hk_facts.specs.Chains.{chain_put, chain_forget, chain_until, latest_at};
+ghost use Rattle.hk_facts.specs.Chains.{chain_put, chain_forget, chain_until, latest_at, is_after, FirstBorn};
 ghost use Rattle.hk_facts.specs.FirstOfChain.{is_later};
 ghost use Rattle.hk_facts.specs.Parted.{both, AreApart, NoRows, lone_end};
 
@@ -142,6 +144,17 @@ impl Others {
         }
     }
 
+    /// The version born first, or the one born next after a time, with the time of its birth. It takes no
+    /// memory. Cost: O(log n), n versions.
+    pub(crate) fn next(&self, after: &Option<Time>) -> Option<(Time, &Version)>
+        ensures { FirstBorn self.now (is_after after.now) (option_map (λ p. (p.0, p.1.now)) result) }
+    {
+        if is_next_in(&self.rows, &self.ends, after) {
+            return self.rows.next(after);
+        }
+        self.ends.next(after)
+    }
+
     pub(crate) fn is_empty(&self) -> bool
         ensures { IsTrue result ↔ (self.now ≡ finmap.empty) }
     {
@@ -197,6 +210,22 @@ fn is_later_in(rows: &Versions, ends: &Versions, time: Time) -> bool
     };
     match ends.latest(time) {
         Some((other, _version)) => other <= born,
+        None => true,
+    }
+}
+
+/// Whether the next version is among the first, and not among the second.
+fn is_next_in(rows: &Versions, ends: &Versions, after: &Option<Time>) -> bool
+    ensures rows { OnTrue result ((next : Option (ℕ × VersionValue)) →
+        FirstBorn rows.now (is_after after.now) next → FirstBorn (both rows.now ends.now) (is_after after.now) next) }
+    ensures ends { OnFalse result ((next : Option (ℕ × VersionValue)) →
+        FirstBorn ends.now (is_after after.now) next → FirstBorn (both rows.now ends.now) (is_after after.now) next) }
+{
+    let Some((born, _version)) = rows.next(after) else {
+        return false;
+    };
+    match ends.next(after) {
+        Some((other, _version)) => born <= other,
         None => true,
     }
 }

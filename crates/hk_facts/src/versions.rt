@@ -7,7 +7,7 @@ ghost use Rattle.std.specs.BTreeMap.{Updates};
 ghost use Rattle.std.specs.FinMap as finmap;
 ghost use Rattle.hk_types.specs.declared.faults.Refusal.TheVariants.{Memory};
 ghost use Rattle.hk_model.specs.Replica.Content.{at_most};
-ghost use Rattle.hk_facts.specs.Chains.{chain_put, chain_forget, chain_until, latest_at};
+ghost use Rattle.hk_facts.specs.Chains.{chain_put, chain_forget, chain_until, latest_at, is_after, FirstBorn};
 
 use crate::fact::{Fact, Part, join, take_back, version_of};
 use hk_log::Version;
@@ -15,6 +15,7 @@ use hk_types::{Refusal, Time};
 use std::alloc::{AllocError, Global};
 use std::collections::BTreeMap;
 use std::marker::Model;
+use std::ops::Bound::{Excluded, Unbounded};
 
 /// What is known of versions, by the time at which each was born, in an ordered map.
 #[derive(Drop)]
@@ -106,6 +107,36 @@ impl Versions {
         ensures { option_copied result ≡ finmap.get self.now born }
     {
         self.versions.get(&born)
+    }
+
+    /// The version born first, or the one born next after a time, with the time of its birth. It takes no
+    /// memory. Cost: O(log n), n versions.
+    pub(crate) fn next(&self, after: &Option<Time>) -> Option<(Time, &Version)>
+        ensures { FirstBorn self.now (is_after after.now) (option_map (λ p. (p.0, p.1.now)) result) }
+    {
+        match after {
+            Some(time) => self.after(*time),
+            None => self.first(),
+        }
+    }
+
+    fn first(&self) -> Option<(Time, &Version)>
+        ensures { FirstBorn self.now (is_after None) (option_map (λ p. (p.0, p.1.now)) result) }
+    {
+        match self.versions.first_key_value() {
+            Some((born, version)) => Some((*born, version)),
+            None => None,
+        }
+    }
+
+    fn after(&self, time: Time) -> Option<(Time, &Version)>
+        ensures { FirstBorn self.now (is_after (Some time)) (option_map (λ p. (p.0, p.1.now)) result) }
+    {
+        let mut later = self.versions.range((Excluded(time), Unbounded));
+        match later.next() {
+            Some((born, version)) => Some((*born, version)),
+            None => None,
+        }
     }
 
     pub(crate) fn is_empty(&self) -> bool

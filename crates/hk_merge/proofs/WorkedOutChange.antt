@@ -23,7 +23,7 @@ use Rattle.hk_state.specs.declared.apply.Change.{Change}
 use Rattle.hk_store.specs.Drops.{is_among}
 use Rattle.hk_store.specs.Reads.{facts_of_content}
 use Rattle.hk_state.specs.Changes.{content_after_change}
-use Rattle.hk_store.proofs.FactsByTable.{known_row, known_end}
+use Rattle.hk_store.proofs.StoredFacts.{known_row, known_end}
 use Rattle.hk_store.proofs.Conflicts.{any_at, equal, differ_left}
 use Rattle.hk_store.proofs.SameRows.{same_value}
 use Rattle.hk_merge.specs.Plans.{stays, goes, row_back, end_back, passes, known_in, is_sent, old_come, gone_at, row_back_at, end_back_at, row_comes, end_comes, row_comes_at, end_comes_at}

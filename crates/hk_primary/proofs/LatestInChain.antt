@@ -10,7 +10,7 @@ use Rattle.hk_facts.proofs.LatestVersion.{newest, no_newest}
 use Rattle.hk_facts.proofs.ShownRow.{IsChainOf}
 use Rattle.hk_store.specs.Facts.{FactsValue, known_at}
 use Rattle.hk_store.specs.Reads.{with_facts}
-use Rattle.hk_store.proofs.FactsByTable.{known_row}
+use Rattle.hk_store.proofs.StoredFacts.{known_row}
 use Rattle.hk_store.proofs.ChainsAtTime.{chain_of}
 use Rattle.hk_primary.specs.Looks.{IsLatest}
 

@@ -7,10 +7,10 @@ ghost use Rattle.hk_model.specs.History.Histories.{Follows, commits, entry_of, p
 ghost use Rattle.hk_primary.specs.Looks.{ended_by_all, version_born};
 
 use crate::primary::Primary;
-use crate::row_key::RowKey;
 use crate::txn::Txn;
 use hk_log::Entry;
 use hk_model::WriteOp;
+use hk_store::RowKey;
 use hk_types::{Key, Row, StreamNo, Table, Time, VersionKey};
 use std::alloc::{AllocError, Global};
 

@@ -8,13 +8,12 @@ mod commit;
 mod entries;
 mod looks;
 mod primary;
-mod row_key;
 mod shared;
 mod txn;
 
 pub use hk_query::{Answer, Query};
+pub use hk_store::RowKey;
 pub use primary::Primary;
-pub use row_key::RowKey;
 pub use shared::{Naming, SharedPrimary};
 pub use txn::Txn;
 

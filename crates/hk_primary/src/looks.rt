@@ -8,11 +8,10 @@ ghost use Rattle.hk_model.specs.History.Histories.{commits, tables_of};
 ghost use Rattle.hk_primary.specs.Looks.{IsLatest, removes_none, put_time_of_row};
 
 use crate::primary::Primary;
-use crate::row_key::RowKey;
 use crate::txn::Txn;
 use hk_log::Version;
 use hk_model::WriteOp;
-use hk_store::Facts;
+use hk_store::{Facts, RowKey};
 use hk_types::Time;
 
 /// Of the versions of a row that were born up to a time, the one born last: its birth, and its end if it has

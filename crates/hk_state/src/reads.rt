@@ -11,8 +11,8 @@ ghost use Rattle.hk_store.specs.Reads.{facts_of_content};
 
 use crate::replica::ReplicaState;
 use hk_facts::Chain;
-use hk_index::{KeyIndex, TagIndex};
-use hk_store::Facts;
+use hk_index::TagIndex;
+use hk_store::{Facts, Keys};
 use hk_types::{Key, Table, Time};
 
 impl ReplicaState {
@@ -46,8 +46,8 @@ impl ReplicaState {
     }
 
     /// The versions of which a row or an end is known, by table and key.
-    pub fn keys(&self) -> &KeyIndex
-        ensures { (v : VersionKey) → set.contains result.now v
+    pub fn keys(&self) -> Keys<'_>
+        ensures { (v : VersionKey) → set.contains result v
             ≡ (is_some (finmap.get self.now.rows v) || is_some (finmap.get self.now.ends v)) }
     {
         self.facts.keys()

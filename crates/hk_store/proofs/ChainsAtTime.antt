@@ -11,7 +11,7 @@ use Rattle.hk_facts.specs.Facts.{row_of, died_of}
 use Rattle.hk_facts.proofs.ShownRow.{IsChainOf, chain_visible, shown_by}
 use Rattle.hk_store.specs.Facts.{FactsValue, known_at}
 use Rattle.hk_store.specs.Reads.{row_shown}
-use Rattle.hk_store.proofs.FactsByTable.{known_row, known_end}
+use Rattle.hk_store.proofs.StoredFacts.{known_row, known_end}
 
 abbrev pub facts_in : Content → FactsValue
 facts_in c = record { rows = c.rows; ends = c.ends }

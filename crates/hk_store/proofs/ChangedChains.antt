@@ -1,67 +1,55 @@
 -- A change of stored chains is a change of their facts.
-use Rattle.std.proofs.Common.{◌≡◌, refl, sym, ap, ◌∙◌, ℕ, zero, suc, Bool, true, false, cond, ◌&&◌, ◌==◌, Option, Some, None, Result, Ok, Err, nat_cmp, is_eq, Ordering, Less, Equal, Greater, ◌||◌, arith}
-use Rattle.std.proofs.lemmas.Bool.Decides.{nat_tests}
-use Rattle.std.specs.Cmp.{nat_cmp_total}
+use Rattle.std.proofs.Common.{◌≡◌, refl, sym, ap, ◌∙◌, ℕ, Bool, true, false, cond, ◌&&◌, ◌==◌, Option, Some, None, Result, Ok, Err, nat_cmp, ◌||◌}
+use Rattle.std.specs.Cmp.{nat_cmp_total, Equal-is}
 use Rattle.std.specs.Option.{option_and_then, is_some}
 use Rattle.std.specs.Ordering.{eq_by_cmp}
 use Rattle.std.specs.FinMap as finmap
-use Rattle.hk_types.specs.Values.{RowValue, same_row}
+use Rattle.hk_types.specs.Values.{same_row}
 use Rattle.hk_types.specs.declared.version_key.VersionKey.{VersionKey}
 use Rattle.hk_types.specs.declared.faults.Refusal.{Refusal}
 use Rattle.hk_types.specs.declared.faults.Refusal.TheVariants.{Conflict}
 use Rattle.hk_log.specs.Versions.{VersionValue, is_known}
-use Rattle.hk_model.specs.History.Rows.{version_key_cmp}
+use Rattle.hk_model.specs.History.Rows.{RowKey, row_key_cmp, row_key_of, version_key_cmp, version_of}
 use Rattle.hk_model.specs.Replica.Maps.{or_else, values_conflict}
-use Rattle.hk_model.proofs.Maps.{version_key_total, version_key_same}
+use Rattle.hk_model.proofs.Maps.{row_key_same, version_key_total, version_key_same}
 use Rattle.hk_facts.specs.declared.fact.Fact.{Fact}
 use Rattle.hk_facts.specs.declared.fact.Fact.TheVariants.{Row, End}
 use Rattle.hk_facts.specs.declared.fact.Part.{Part}
 use Rattle.hk_facts.specs.declared.fact.Part.TheVariants.{Row as RowPart, End as EndPart, Whole}
 use Rattle.hk_facts.specs.Facts.{row_of, died_of, fact_conflicts, with_fact, put_result, without, if_known}
-use Rattle.hk_facts.specs.Chains.{ChainValue, alter, put_at, put_by, chain_put, chain_forget}
-use Rattle.hk_facts.specs.TableChains.{TableChainsValue, or_empty, if_filled, version_in, keyed_put, keyed_forget}
-use Rattle.hk_facts.proofs.StoredTrees.{get-set_at, tied_same}
-use Rattle.hk_store.specs.Facts.{FactsValue, TablesValue, stored_version, facts_of, AllKnown, with_added, conflicts_at, with_fact_at, facts_put, facts_without}
-use Rattle.hk_store.proofs.StoredFacts.{tied, key_tied, get_row, get_end}
+use Rattle.hk_facts.specs.Chains.{ChainValue, put_at, chain_put, chain_forget}
+use Rattle.hk_facts.proofs.StoredTrees.{get-set_at, tied_self}
+use Rattle.hk_store.specs.Facts.{FactsValue, ChainsValue, stored_version, facts_of, AllKnown, with_added, conflicts_at, with_fact_at, facts_put, facts_without}
+use Rattle.hk_store.proofs.StoredFacts.{tied, key_tied, get_row, get_end, row_known, died_known}
 
--- ---- one level down
+-- ---- one chain that changes
 
-module _ {A Y : Type 0} where
-  -- a map that is changed at one key, seen through what is looked up below
-  deeper : (m n : finmap.FinMap nat_cmp A) (k q : ℕ) (w : Option A) (g : A → Option Y) (t : Bool) (new : Option Y) → finmap.get n q ≡ cond (eq_by_cmp nat_cmp q k) w (finmap.get m q) → option_and_then g w ≡ cond t new (option_and_then g (finmap.get m k))
-      → option_and_then g (finmap.get n q) ≡ cond (eq_by_cmp nat_cmp q k && t) new (option_and_then g (finmap.get m q))
-  deeper m n k q w g t new is below =
-      ap (option_and_then g) is
-      ∙ cases (eq_by_cmp nat_cmp q k) refl
-    where
-      cases : (b : Bool) → eq_by_cmp nat_cmp q k ≡ b → option_and_then g (cond b w (finmap.get m q)) ≡ cond (b && t) new (option_and_then g (finmap.get m q))
-      cases true e = below ∙ ap (λ x. cond t new (option_and_then g (finmap.get m x))) (sym (tied_same q k e))
-      cases false e = refl
+-- the chain has what is stored of a row
+abbrev pub IsChainOf : ChainsValue → RowKey → ChainValue → Type 0
+IsChainOf m k c = (born : ℕ) → finmap.get c born ≡ stored_version m (version_of k born)
 
-module _ {B Y : Type 0} where
-  through_empty : (g : finmap.FinMap nat_cmp B → Option Y) (o : Option (finmap.FinMap nat_cmp B)) → g finmap.empty ≡ None → g (or_empty o) ≡ option_and_then g o
-  through_empty g None none = none
-  through_empty g (Some c) none = refl
+-- the chains with this one in the place of a row's chain, or with none there
+abbrev pub IsChanged : ChainsValue → ChainsValue → RowKey → Option ChainValue → Type 0
+IsChanged m n k w = (q : RowKey) → finmap.get n q ≡ cond (eq_by_cmp row_key_cmp q k) w (finmap.get m q)
 
-  through_filled : (g : finmap.FinMap nat_cmp B → Option Y) (c : finmap.FinMap nat_cmp B) → g finmap.empty ≡ None → option_and_then g (if_filled c) ≡ g c
-  through_filled g c none = size (finmap.len c) refl
-    where
-      size : (n : ℕ) → finmap.len c ≡ n → option_and_then g (cond (finmap.len c == 0) None (Some c)) ≡ g c
-      size zero e = ap (λ n. option_and_then g (cond (n == 0) None (Some c))) e ∙ sym none ∙ ap g (sym (finmap.empty_of_len c e))
-      size (suc n) e = let other : (finmap.len c == 0) ≡ false = grind (arith, nat_tests) in ap (λ b. option_and_then g (cond b None (Some c))) other
+pub row_is : (q k : RowKey) → eq_by_cmp row_key_cmp q k ≡ true → q ≡ k
+row_is q k e = row_key_same q k ((Equal-is (row_key_cmp q k)).0 e)
+
+-- where one version alone differs in what stands in the place of the chain
+stored_changed : (m n : ChainsValue) (v : VersionKey) (w : Option ChainValue) (new : Option VersionValue) → IsChanged m n (row_key_of v) w
+    → ((born : ℕ) → option_and_then (λ c. finmap.get c born) w ≡ cond (eq_by_cmp nat_cmp born v.born) new (stored_version m (version_of (row_key_of v) born)))
+    → (q : VersionKey) → stored_version n q ≡ cond (tied q v) new (stored_version m q)
+unfolding tied
+stored_changed m n v w new is below q =
+    ap (option_and_then (λ c. finmap.get c q.born)) (is (row_key_of q))
+    ∙ cases (eq_by_cmp row_key_cmp (row_key_of q) (row_key_of v)) refl
+  where
+    cases : (b : Bool) → eq_by_cmp row_key_cmp (row_key_of q) (row_key_of v) ≡ b
+        → option_and_then (λ c. finmap.get c q.born) (cond b w (finmap.get m (row_key_of q))) ≡ cond (b && eq_by_cmp nat_cmp q.born v.born) new (stored_version m q)
+    cases true e = below q.born ∙ ap (λ k. cond (eq_by_cmp nat_cmp q.born v.born) new (stored_version m (version_of k q.born))) (sym (row_is (row_key_of q) (row_key_of v) e))
+    cases false e = refl
 
 -- ---- a fact that is put in
-
-module _ {X : Type 0} where
-  put_ok : (m n : finmap.FinMap nat_cmp X) (k : ℕ) (r : Result X Refusal) → put_at m k r ≡ Ok n → (x : X) × ((r ≡ Ok x) × ((q : ℕ) → finmap.get n q ≡ cond (eq_by_cmp nat_cmp q k) (Some x) (finmap.get m q)))
-  put_ok m n k (Ok x) is =
-      let inside : n ≡ finmap.insert m k x = cc in
-      (x, (refl, λ q. ap (λ c. finmap.get c q) inside ∙ finmap.get-insert nat_cmp_total m k x q))
-  put_ok m n k (Err why) is = cc
-
-  put_err : (m : finmap.FinMap nat_cmp X) (k : ℕ) (r : Result X Refusal) (why : Refusal) → put_at m k r ≡ Err why → r ≡ Err why
-  put_err m k (Ok x) why is = cc
-  put_err m k (Err w) why is = cc
 
 joined_ok : (fact : Fact) (x : Option VersionValue) (y : VersionValue) → put_result fact x ≡ Ok y → (fact_conflicts fact x ≡ false) × (y ≡ with_fact fact x)
 joined_ok fact x y = cases (fact_conflicts fact x)
@@ -77,81 +65,48 @@ joined_err fact x why = cases (fact_conflicts fact x)
     cases true e = (refl, cc)
     cases false e = cc
 
-module _ (fact : Fact) where
-  chain_put_ok : (c d : ChainValue) (born : ℕ) → chain_put c born fact ≡ Ok d → (fact_conflicts fact (finmap.get c born) ≡ false) × ((q : ℕ) → finmap.get d q ≡ cond (eq_by_cmp nat_cmp q born) (Some (with_fact fact (finmap.get c born))) (finmap.get c q))
-  chain_put_ok c d born is =
-      let put = put_ok c d born (put_result fact (finmap.get c born)) is in
-      let new = joined_ok fact (finmap.get c born) put.0 put.1.0 in
-      (new.0, λ q. put.1.1 q ∙ ap (λ v. cond (eq_by_cmp nat_cmp q born) (Some v) (finmap.get c q)) new.1)
+put_ok : (c d : ChainValue) (born : ℕ) (r : Result VersionValue Refusal) → put_at c born r ≡ Ok d → (x : VersionValue) × ((r ≡ Ok x) × (d ≡ finmap.insert c born x))
+put_ok c d born (Ok x) is = (x, (refl, cc))
+put_ok c d born (Err why) is = cc
 
-  keyed_put_ok : (m n : TableChainsValue) (key born : ℕ) → keyed_put m key born fact ≡ Ok n
-      → (fact_conflicts fact (version_in m key born) ≡ false) × ((k b : ℕ) → version_in n k b ≡ cond (eq_by_cmp nat_cmp k key && eq_by_cmp nat_cmp b born) (Some (with_fact fact (version_in m key born))) (version_in m k b))
-  keyed_put_ok m n key born is =
-      let put = put_ok m n key (chain_put (or_empty (finmap.get m key)) born fact) is in
-      let below = chain_put_ok (or_empty (finmap.get m key)) put.0 born put.1.0 in
-      let look : (b : ℕ) → finmap.get (or_empty (finmap.get m key)) b ≡ version_in m key b = λ b. through_empty (λ c. finmap.get c b) (finmap.get m key) (finmap.get-empty nat_cmp b) in (
-        ap (fact_conflicts fact) (sym (look born)) ∙ below.0,
-        λ k b. deeper m n key k (Some put.0) (λ c. finmap.get c b) (eq_by_cmp nat_cmp b born) (Some (with_fact fact (version_in m key born))) (put.1.1 k)
-            (below.1 b ∙ (λ i. cond (eq_by_cmp nat_cmp b born) (Some (with_fact fact (look born i))) (look b i))),
+put_err : (c : ChainValue) (born : ℕ) (r : Result VersionValue Refusal) (why : Refusal) → put_at c born r ≡ Err why → r ≡ Err why
+put_err c born (Ok x) why is = cc
+put_err c born (Err w) why is = cc
+
+module _ (fact : Fact) (m : ChainsValue) (v : VersionKey) (c : ChainValue) (of : IsChainOf m (row_key_of v) c) where
+  chain_put_ok : (d : ChainValue) → chain_put c v.born fact ≡ Ok d
+      → (fact_conflicts fact (stored_version m v) ≡ false) × ((born : ℕ) → finmap.get d born ≡ cond (eq_by_cmp nat_cmp born v.born) (Some (with_fact fact (stored_version m v))) (stored_version m (version_of (row_key_of v) born)))
+  chain_put_ok d is =
+      let put = put_ok c d v.born (put_result fact (finmap.get c v.born)) is in
+      let new = joined_ok fact (finmap.get c v.born) put.0 put.1.0 in (
+        ap (fact_conflicts fact) (sym (of v.born)) ∙ new.0,
+        λ born. ap (λ x. finmap.get x born) put.1.1 ∙ finmap.get-insert nat_cmp_total c v.born put.0 born
+            ∙ (λ i. cond (eq_by_cmp nat_cmp born v.born) (Some ((new.1 ∙ ap (with_fact fact) (of v.born)) i)) (of born i)),
       )
 
-  tables_put_ok : (m n : TablesValue) (v : VersionKey) → put_by (λ k. keyed_put (or_empty k) v.key v.born fact) m v.table ≡ Ok n
-      → (fact_conflicts fact (stored_version m v) ≡ false) × ((q : VersionKey) → stored_version n q ≡ cond (tied q v) (Some (with_fact fact (stored_version m v))) (stored_version m q))
-  unfolding tied
-  tables_put_ok m n v is =
-      let put = put_ok m n v.table (keyed_put (or_empty (finmap.get m v.table)) v.key v.born fact) is in
-      let below = keyed_put_ok (or_empty (finmap.get m v.table)) put.0 v.key v.born put.1.0 in
-      let look : (k b : ℕ) → version_in (or_empty (finmap.get m v.table)) k b ≡ option_and_then (λ m. version_in m k b) (finmap.get m v.table) = λ k b. through_empty (λ m. version_in m k b) (finmap.get m v.table) (ap (option_and_then (λ c. finmap.get c b)) (finmap.get-empty nat_cmp k)) in (
-        ap (fact_conflicts fact) (sym (look v.key v.born)) ∙ below.0,
-        λ q. deeper m n v.table q.table (Some put.0) (λ m. version_in m q.key q.born) (eq_by_cmp nat_cmp q.key v.key && eq_by_cmp nat_cmp q.born v.born) (Some (with_fact fact (stored_version m v))) (put.1.1 q.table)
-            (below.1 q.key q.born ∙ (λ i. cond (eq_by_cmp nat_cmp q.key v.key && eq_by_cmp nat_cmp q.born v.born) (Some (with_fact fact (look v.key v.born i))) (look q.key q.born i))),
-      )
+  put_stored : (n : ChainsValue) (d : ChainValue) → chain_put c v.born fact ≡ Ok d → IsChanged m n (row_key_of v) (Some d) → (q : VersionKey) → stored_version n q ≡ cond (tied q v) (Some (with_fact fact (stored_version m v))) (stored_version m q)
+  put_stored n d put is = stored_changed m n v (Some d) (Some (with_fact fact (stored_version m v))) is (chain_put_ok d put).1
 
-  tables_put_err : (m : TablesValue) (v : VersionKey) (why : Refusal) → put_by (λ k. keyed_put (or_empty k) v.key v.born fact) m v.table ≡ Err why → (fact_conflicts fact (stored_version m v) ≡ true) × (why ≡ Conflict)
-  tables_put_err m v why is =
-      let k = or_empty (finmap.get m v.table) in
-      let c = or_empty (finmap.get k v.key) in
-      let in_keyed = put_err m v.table (keyed_put k v.key v.born fact) why is in
-      let in_chain = put_err k v.key (chain_put c v.born fact) why in_keyed in
-      let at = joined_err fact (finmap.get c v.born) why (put_err c v.born (put_result fact (finmap.get c v.born)) why in_chain) in
-      let look = through_empty (λ d. finmap.get d v.born) (finmap.get k v.key) (finmap.get-empty nat_cmp v.born) ∙ through_empty (λ m. version_in m v.key v.born) (finmap.get m v.table) (ap (option_and_then (λ d. finmap.get d v.born)) (finmap.get-empty nat_cmp v.key)) in
-      (ap (fact_conflicts fact) (sym look) ∙ at.0, at.1)
+  chain_put_err : (why : Refusal) → chain_put c v.born fact ≡ Err why → (fact_conflicts fact (stored_version m v) ≡ true) × (why ≡ Conflict)
+  chain_put_err why is =
+      let at = joined_err fact (finmap.get c v.born) why (put_err c v.born (put_result fact (finmap.get c v.born)) why is) in
+      (ap (fact_conflicts fact) (sym (of v.born)) ∙ at.0, at.1)
 
 -- ---- a part that is taken back
 
-module _ (part : Part) where
-  chain_forgotten : (c : ChainValue) (born q : ℕ) → finmap.get (chain_forget c born part) q ≡ cond (eq_by_cmp nat_cmp q born) (without part (finmap.get c born)) (finmap.get c q)
-  chain_forgotten c born q = get-set_at c born (without part (finmap.get c born)) q
-
-  keyed_forgotten : (m : TableChainsValue) (key born k b : ℕ) → version_in (keyed_forget m key born part) k b ≡ cond (eq_by_cmp nat_cmp k key && eq_by_cmp nat_cmp b born) (without part (version_in m key born)) (version_in m k b)
-  keyed_forgotten m key born k b =
-      let c = or_empty (finmap.get m key) in
-      let look : (b : ℕ) → finmap.get c b ≡ version_in m key b = λ b. through_empty (λ c. finmap.get c b) (finmap.get m key) (finmap.get-empty nat_cmp b) in
-      deeper m (keyed_forget m key born part) key k (if_filled (chain_forget c born part)) (λ c. finmap.get c b) (eq_by_cmp nat_cmp b born) (without part (version_in m key born)) (get-set_at m key (if_filled (chain_forget c born part)) k)
-      (through_filled (λ c. finmap.get c b) (chain_forget c born part) (finmap.get-empty nat_cmp b)
-      ∙ chain_forgotten c born b
-      ∙ (λ i. cond (eq_by_cmp nat_cmp b born) (without part (look born i)) (look b i)))
-
-  tables_forgotten : (m : TablesValue) (v q : VersionKey) → stored_version (alter (λ k. if_filled (keyed_forget (or_empty k) v.key v.born part)) m v.table) q ≡ cond (tied q v) (without part (stored_version m v)) (stored_version m q)
-  unfolding tied
-  tables_forgotten m v q =
-      let k = or_empty (finmap.get m v.table) in
-      let nothing : (a b : ℕ) → version_in finmap.empty a b ≡ None = λ a b. ap (option_and_then (λ c. finmap.get c b)) (finmap.get-empty nat_cmp a) in
-      let look : (a b : ℕ) → version_in k a b ≡ option_and_then (λ m. version_in m a b) (finmap.get m v.table) = λ a b. through_empty (λ m. version_in m a b) (finmap.get m v.table) (nothing a b) in
-      deeper m (alter (λ k. if_filled (keyed_forget (or_empty k) v.key v.born part)) m v.table) v.table q.table (if_filled (keyed_forget k v.key v.born part)) (λ m. version_in m q.key q.born) (eq_by_cmp nat_cmp q.key v.key && eq_by_cmp nat_cmp q.born v.born) (without part (stored_version m v)) (get-set_at m v.table (if_filled (keyed_forget k v.key v.born part)) q.table)
-      (through_filled (λ m. version_in m q.key q.born) (keyed_forget k v.key v.born part) (nothing q.key q.born)
-      ∙ keyed_forgotten k v.key v.born q.key q.born
-      ∙ (λ i. cond (eq_by_cmp nat_cmp q.key v.key && eq_by_cmp nat_cmp q.born v.born) (without part (look v.key v.born i)) (look q.key q.born i)))
+-- what is left of the chain stands in its place, or nothing where nothing is left
+forgotten_stored : (part : Part) (m n : ChainsValue) (v : VersionKey) (c : ChainValue) (w : Option ChainValue) → IsChainOf m (row_key_of v) c → IsChanged m n (row_key_of v) w
+    → ((born : ℕ) → option_and_then (λ d. finmap.get d born) w ≡ finmap.get (chain_forget c v.born part) born)
+    → (q : VersionKey) → stored_version n q ≡ cond (tied q v) (without part (stored_version m v)) (stored_version m q)
+forgotten_stored part m n v c w of is left = stored_changed m n v w (without part (stored_version m v)) is (λ born.
+    left born
+    ∙ get-set_at c v.born (without part (finmap.get c v.born)) born
+    ∙ (λ i. cond (eq_by_cmp nat_cmp born v.born) (without part (of v.born i)) (of born i)))
 
 -- ---- in the words of facts
 
 pub tied_is : (q v : VersionKey) → tied q v ≡ true → q ≡ v
-tied_is q v e = version_key_same q v (equal _ (key_tied q v ∙ e))
-  where
-    equal : (r : Ordering) → is_eq r ≡ true → r ≡ Equal
-    equal Less e = cc
-    equal Equal e = refl
-    equal Greater e = cc
+tied_is q v e = version_key_same q v ((Equal-is (version_key_cmp q v)).0 (key_tied q v ∙ e))
 
 pub same_facts : (f g : FactsValue) → ((q : VersionKey) → finmap.get f.rows q ≡ finmap.get g.rows q) → ((q : VersionKey) → finmap.get f.ends q ≡ finmap.get g.ends q) → f ≡ g
 same_facts f g rows ends = λ i. record { rows = finmap.same_map version_key_total version_key_same f.rows g.rows rows i; ends = finmap.same_map version_key_total version_key_same f.ends g.ends ends i }
@@ -171,24 +126,8 @@ module _ {X : Type 0} where
   pub get-without : (m : finmap.FinMap version_key_cmp X) (v q : VersionKey) → finmap.get (finmap.remove m v) q ≡ cond (tied q v) None (finmap.get m q)
   get-without m v q = finmap.get-remove version_key_total m v q ∙ ap (λ b. cond b None (finmap.get m q)) (key_tied q v)
 
-pub row_known : (w : VersionValue) → row_of (if_known w) ≡ w.row
-row_known w = cases w.row w.died
-  where
-    cases : (r : Option RowValue) (d : Option ℕ) → row_of (if_known (record { row = r; died = d })) ≡ r
-    cases None None = refl
-    cases None (Some d) = refl
-    cases (Some r) d = refl
-
-pub died_known : (w : VersionValue) → died_of (if_known w) ≡ w.died
-died_known w = cases w.row w.died
-  where
-    cases : (r : Option RowValue) (d : Option ℕ) → died_of (if_known (record { row = r; died = d })) ≡ d
-    cases None None = refl
-    cases None (Some d) = refl
-    cases (Some r) d = refl
-
--- tables that differ in one version alone
-module _ (m n : TablesValue) (v : VersionKey) (new : Option VersionValue) (is : (q : VersionKey) → stored_version n q ≡ cond (tied q v) new (stored_version m q)) where
+-- chains that differ in one version alone
+module _ (m n : ChainsValue) (v : VersionKey) (new : Option VersionValue) (is : (q : VersionKey) → stored_version n q ≡ cond (tied q v) new (stored_version m q)) where
   row_changed : (q : VersionKey) → finmap.get (facts_of n).rows q ≡ cond (tied q v) (row_of new) (finmap.get (facts_of m).rows q)
   row_changed q = get_row n q ∙ ap row_of (is q) ∙ each (tied q v) new (stored_version m q) ∙ ap (cond (tied q v) (row_of new)) (sym (get_row m q))
     where
@@ -224,7 +163,7 @@ module _ (m n : TablesValue) (v : VersionKey) (new : Option VersionValue) (is : 
       cases true f = fresh w f
       cases false f = known q w f
 
-with_fact_is : (m n : TablesValue) (v : VersionKey) (fact : Fact) → ((q : VersionKey) → stored_version n q ≡ cond (tied q v) (Some (with_fact fact (stored_version m v))) (stored_version m q)) → with_fact_at (facts_of m) v fact ≡ facts_of n
+with_fact_is : (m n : ChainsValue) (v : VersionKey) (fact : Fact) → ((q : VersionKey) → stored_version n q ≡ cond (tied q v) (Some (with_fact fact (stored_version m v))) (stored_version m q)) → with_fact_at (facts_of m) v fact ≡ facts_of n
 with_fact_is m n v (Row row) is =
     same_facts (with_fact_at (facts_of m) v (Row row)) (facts_of n)
     (λ q. get-added (facts_of m).rows v row q ∙ ap (λ x. cond (tied q v) (or_else x (Some row)) (finmap.get (facts_of m).rows q)) (get_row m v) ∙ sym (row_changed m n v (Some (with_fact (Row row) (stored_version m v))) is q))
@@ -234,36 +173,40 @@ with_fact_is m n v (End died) is =
     (λ q. sym (row_stays m n v (Some (with_fact (End died) (stored_version m v))) is refl q))
     (λ q. get-added (facts_of m).ends v died q ∙ ap (λ x. cond (tied q v) (or_else x (Some died)) (finmap.get (facts_of m).ends q)) (get_end m v) ∙ sym (end_changed m n v (Some (with_fact (End died) (stored_version m v))) is q))
 
-conflicts_is : (m : TablesValue) (v : VersionKey) (fact : Fact) → conflicts_at (facts_of m) v fact ≡ fact_conflicts fact (stored_version m v)
+conflicts_is : (m : ChainsValue) (v : VersionKey) (fact : Fact) → conflicts_at (facts_of m) v fact ≡ fact_conflicts fact (stored_version m v)
 conflicts_is m v (Row row) = ap (λ x. values_conflict same_row x (Some row)) (get_row m v)
 conflicts_is m v (End died) = ap (λ x. values_conflict (λ a b. a == b) x (Some died)) (get_end m v)
 
-pub facts_put_ok : (fact : Fact) (m n : TablesValue) (v : VersionKey) → put_by (λ k. keyed_put (or_empty k) v.key v.born fact) m v.table ≡ Ok n → facts_put (facts_of m) v fact ≡ Ok (facts_of n)
-facts_put_ok fact m n v is =
-    let put = tables_put_ok fact m n v is in
-    ap (λ b. cond b (Err Conflict) (Ok (with_fact_at (facts_of m) v fact))) (conflicts_is m v fact ∙ put.0) ∙ ap Ok (with_fact_is m n v fact put.1)
+module _ (fact : Fact) (m : ChainsValue) (v : VersionKey) (c : ChainValue) (of : IsChainOf m (row_key_of v) c) where
+  pub facts_put_ok : (n : ChainsValue) (d : ChainValue) → chain_put c v.born fact ≡ Ok d → IsChanged m n (row_key_of v) (Some d) → facts_put (facts_of m) v fact ≡ Ok (facts_of n)
+  facts_put_ok n d put is =
+      ap (λ b. cond b (Err Conflict) (Ok (with_fact_at (facts_of m) v fact))) (conflicts_is m v fact ∙ (chain_put_ok fact m v c of d put).0) ∙ ap Ok (with_fact_is m n v fact (put_stored fact m v c of n d put is))
 
-pub facts_put_err : (fact : Fact) (m : TablesValue) (v : VersionKey) (why : Refusal) → put_by (λ k. keyed_put (or_empty k) v.key v.born fact) m v.table ≡ Err why → facts_put (facts_of m) v fact ≡ Err why
-facts_put_err fact m v why is =
-    let put = tables_put_err fact m v why is in
-    ap (λ b. cond b (Err Conflict) (Ok (with_fact_at (facts_of m) v fact))) (conflicts_is m v fact ∙ put.0) ∙ ap Err (sym put.1)
+  -- the chain has something
+  pub put_some : (d : ChainValue) → chain_put c v.born fact ≡ Ok d → d ≡ finmap.empty → ⊥
+  put_some d put none = cc (sym (finmap.get-empty nat_cmp v.born) ∙ ap (λ x. finmap.get x v.born) (sym none) ∙ (chain_put_ok fact m v c of d put).1 v.born ∙ ap (λ b. cond b (Some (with_fact fact (stored_version m v))) (stored_version m v)) (tied_self v.born))
 
-pub known_put : (fact : Fact) (m n : TablesValue) (v : VersionKey) → AllKnown m → put_by (λ k. keyed_put (or_empty k) v.key v.born fact) m v.table ≡ Ok n → AllKnown n
-known_put fact m n v known is = known_changed m n v (Some (with_fact fact (stored_version m v))) (tables_put_ok fact m n v is).1 (λ w e. let same : with_fact fact (stored_version m v) ≡ w = cc in ap is_known (sym same) ∙ fresh fact (stored_version m v)) known
-  where
-    some : {X : Type 0} (o : Option X) (x : X) → is_some (or_else o (Some x)) ≡ true
-    some None x = refl
-    some (Some y) x = refl
+  pub facts_put_err : (why : Refusal) → chain_put c v.born fact ≡ Err why → facts_put (facts_of m) v fact ≡ Err why
+  facts_put_err why is =
+      let put = chain_put_err fact m v c of why is in
+      ap (λ b. cond b (Err Conflict) (Ok (with_fact_at (facts_of m) v fact))) (conflicts_is m v fact ∙ put.0) ∙ ap Err (sym put.1)
 
-    either : (b : Bool) → (b || true) ≡ true
-    either true = refl
-    either false = refl
+  pub known_put : (n : ChainsValue) (d : ChainValue) → chain_put c v.born fact ≡ Ok d → IsChanged m n (row_key_of v) (Some d) → AllKnown m → AllKnown n
+  known_put n d put is known = known_changed m n v (Some (with_fact fact (stored_version m v))) (put_stored fact m v c of n d put is) (λ w e. let same : with_fact fact (stored_version m v) ≡ w = cc in ap is_known (sym same) ∙ fresh fact (stored_version m v)) known
+    where
+      some : {X : Type 0} (o : Option X) (x : X) → is_some (or_else o (Some x)) ≡ true
+      some None x = refl
+      some (Some y) x = refl
 
-    fresh : (fact : Fact) (x : Option VersionValue) → is_known (with_fact fact x) ≡ true
-    fresh (Row row) x = ap (λ b. b || is_some (died_of x)) (some (row_of x) row)
-    fresh (End died) x = ap (λ b. is_some (row_of x) || b) (some (died_of x) died) ∙ either (is_some (row_of x))
+      either : (b : Bool) → (b || true) ≡ true
+      either true = refl
+      either false = refl
 
-without_is : (part : Part) (m n : TablesValue) (v : VersionKey) → ((q : VersionKey) → stored_version n q ≡ cond (tied q v) (without part (stored_version m v)) (stored_version m q)) → facts_of n ≡ facts_without (facts_of m) v part
+      fresh : (fact : Fact) (x : Option VersionValue) → is_known (with_fact fact x) ≡ true
+      fresh (Row row) x = ap (λ b. b || is_some (died_of x)) (some (row_of x) row)
+      fresh (End died) x = ap (λ b. is_some (row_of x) || b) (some (died_of x) died) ∙ either (is_some (row_of x))
+
+without_is : (part : Part) (m n : ChainsValue) (v : VersionKey) → ((q : VersionKey) → stored_version n q ≡ cond (tied q v) (without part (stored_version m v)) (stored_version m q)) → facts_of n ≡ facts_without (facts_of m) v part
 without_is RowPart m n v is =
     same_facts (facts_of n) (facts_without (facts_of m) v RowPart)
     (λ q. row_changed m n v (without RowPart (stored_version m v)) is q ∙ ap (λ x. cond (tied q v) x (finmap.get (facts_of m).rows q)) (row_known (record { row = None; died = died_of (stored_version m v) })) ∙ sym (get-without (facts_of m).rows v q))
@@ -277,20 +220,22 @@ without_is Whole m n v is =
     (λ q. row_changed m n v None is q ∙ sym (get-without (facts_of m).rows v q))
     (λ q. end_changed m n v None is q ∙ sym (get-without (facts_of m).ends v q))
 
-pub facts_forgotten : (part : Part) (m : TablesValue) (v : VersionKey) → facts_of (alter (λ k. if_filled (keyed_forget (or_empty k) v.key v.born part)) m v.table) ≡ facts_without (facts_of m) v part
-facts_forgotten part m v = without_is part m (alter (λ k. if_filled (keyed_forget (or_empty k) v.key v.born part)) m v.table) v (tables_forgotten part m v)
+module _ (part : Part) (m n : ChainsValue) (v : VersionKey) (c : ChainValue) (w : Option ChainValue) (of : IsChainOf m (row_key_of v) c) (is : IsChanged m n (row_key_of v) w)
+    (left : (born : ℕ) → option_and_then (λ d. finmap.get d born) w ≡ finmap.get (chain_forget c v.born part) born) where
+  pub facts_forgotten : facts_of n ≡ facts_without (facts_of m) v part
+  facts_forgotten = without_is part m n v (forgotten_stored part m n v c w of is left)
 
-pub known_forgotten : (part : Part) (m : TablesValue) (v : VersionKey) → AllKnown m → AllKnown (alter (λ k. if_filled (keyed_forget (or_empty k) v.key v.born part)) m v.table)
-known_forgotten part m v known = known_changed m (alter (λ k. if_filled (keyed_forget (or_empty k) v.key v.born part)) m v.table) v (without part (stored_version m v)) (tables_forgotten part m v) (left part) known
-  where
-    known_if : (w x : VersionValue) → if_known w ≡ Some x → is_known x ≡ true
-    known_if w x = cases (is_known w) refl
-      where
-        cases : (b : Bool) → is_known w ≡ b → cond b (Some w) None ≡ Some x → is_known x ≡ true
-        cases true k e = let same : w ≡ x = cc in ap is_known (sym same) ∙ k
-        cases false k e = cc
+  pub known_forgotten : AllKnown m → AllKnown n
+  known_forgotten known = known_changed m n v (without part (stored_version m v)) (forgotten_stored part m n v c w of is left) (rest part) known
+    where
+      known_if : (w x : VersionValue) → if_known w ≡ Some x → is_known x ≡ true
+      known_if w x = cases (is_known w) refl
+        where
+          cases : (b : Bool) → is_known w ≡ b → cond b (Some w) None ≡ Some x → is_known x ≡ true
+          cases true k e = let same : w ≡ x = cc in ap is_known (sym same) ∙ k
+          cases false k e = cc
 
-    left : (part : Part) (w : VersionValue) → without part (stored_version m v) ≡ Some w → is_known w ≡ true
-    left RowPart w e = known_if (record { row = None; died = died_of (stored_version m v) }) w e
-    left EndPart w e = known_if (record { row = row_of (stored_version m v); died = None }) w e
-    left Whole w e = cc
+      rest : (part : Part) (w : VersionValue) → without part (stored_version m v) ≡ Some w → is_known w ≡ true
+      rest RowPart w e = known_if (record { row = None; died = died_of (stored_version m v) }) w e
+      rest EndPart w e = known_if (record { row = row_of (stored_version m v); died = None }) w e
+      rest Whole w e = cc

@@ -11,7 +11,6 @@ use Rattle.hk_types.specs.declared.faults.Refusal.{Refusal}
 use Rattle.hk_types.specs.declared.faults.Refusal.TheVariants.{Conflict}
 use Rattle.hk_model.specs.History.Rows.{version_key_cmp}
 use Rattle.hk_model.specs.Replica.Maps.{or_else}
-use Rattle.hk_model.proofs.Maps.{version_key_total}
 use Rattle.hk_index.specs.declared.tagged.TaggedVersion.{TaggedVersion}
 use Rattle.hk_index.specs.Tagged.{tagged_cmp}
 use Rattle.hk_index.specs.Timed.{timed_cmp, is_at}
@@ -22,25 +21,21 @@ use Rattle.hk_facts.specs.declared.fact.Part.{Part}
 use Rattle.hk_facts.specs.declared.fact.Part.TheVariants.{Row as RowPart, End as EndPart, Whole}
 use Rattle.hk_facts.specs.Facts.{if_known}
 use Rattle.hk_store.specs.Facts.{FactsValue, no_facts, known_at, with_fact_at, facts_put, facts_without, conflicts_at}
-use Rattle.hk_store.specs.Indexed.{is_tagged, has_fact, AreTagged, AreKeyed, AreIndexed, tag_lost}
+use Rattle.hk_store.specs.Indexed.{is_tagged, has_fact, AreTagged, AreIndexed, tag_lost}
 use Rattle.hk_store.proofs.StoredFacts.{tied, key_tied}
 use Rattle.hk_store.proofs.ChangedChains.{get-added, get-without, tied_is}
 
 abbrev Tags : Type 0
 Tags = set.FinSet tagged_cmp
 
-abbrev Keys : Type 0
-Keys = set.FinSet version_key_cmp
-
 abbrev at_tag : ℕ → VersionKey → TaggedVersion
 at_tag tag v = record { tag = tag; version = v }
 
-pub none_indexed : AreIndexed no_facts set.empty set.empty set.empty set.empty
+pub none_indexed : AreIndexed no_facts set.empty set.empty set.empty
 none_indexed = record {
   born = λ t v. set.contains-empty timed_cmp (record { time = t; version = v }) ∙ ap (λ (o : Option RowValue). is_at t (option_map (λ (r : RowValue). v.born) o)) (sym (finmap.get-empty version_key_cmp v));
   dead = λ t v. set.contains-empty timed_cmp (record { time = t; version = v }) ∙ ap (is_at t) (sym (finmap.get-empty version_key_cmp v));
   tagged = λ t v. set.contains-empty tagged_cmp (at_tag t v) ∙ ap (is_tagged t) (sym (finmap.get-empty version_key_cmp v));
-  keyed = λ v. set.contains-empty version_key_cmp v ∙ (λ i. is_some (sym (finmap.get-empty {X = RowValue} version_key_cmp v) i) || is_some (sym (finmap.get-empty {X = ℕ} version_key_cmp v) i));
 }
 
 tag_tied : (t tag : ℕ) (q v : VersionKey) → eq_by_cmp tagged_cmp (at_tag t q) (at_tag tag v) ≡ ((t == tag) && tied q v)
@@ -54,12 +49,6 @@ with_tag tags t tag q v = set.contains-insert tagged_total tags (at_tag tag v) (
 
 without_tag : (tags : Tags) (t tag : ℕ) (q v : VersionKey) → set.contains (set.remove tags (at_tag tag v)) (at_tag t q) ≡ (not ((t == tag) && tied q v) && set.contains tags (at_tag t q))
 without_tag tags t tag q v = set.contains-remove tagged_total tags (at_tag tag v) (at_tag t q) ∙ ap (λ b. not b && set.contains tags (at_tag t q)) (tag_tied t tag q v)
-
-with_key : (keys : Keys) (q v : VersionKey) → set.contains (set.insert keys v) q ≡ (tied q v || set.contains keys q)
-with_key keys q v = set.contains-insert version_key_total keys v q ∙ ap (λ b. b || set.contains keys q) (key_tied q v)
-
-without_key : (keys : Keys) (q v : VersionKey) → set.contains (set.remove keys v) q ≡ (not (tied q v) && set.contains keys q)
-without_key keys q v = set.contains-remove version_key_total keys v q ∙ ap (λ b. not b && set.contains keys q) (key_tied q v)
 
 had : (tag : ℕ) (o : Option RowValue) → option_map (λ r. r.tag) o ≡ Some tag → (t : ℕ) → is_tagged t o ≡ (tag == t)
 had tag None e t = cc
@@ -164,9 +153,8 @@ module _ (f : FactsValue) (tags : Tags) (is : AreTagged f tags) (v : VersionKey)
   pub end_tagged : (died : ℕ) → AreTagged (with_fact_at f v (End died)) tags
   end_tagged died t q = is t q
 
--- ---- the index by key
+-- ---- what is known
 
--- a version of which something is known has a row or an end
 pub known_fact : (f : FactsValue) (v : VersionKey) → is_some (known_at f v) ≡ has_fact f v
 known_fact f v = cases (finmap.get f.rows v) (finmap.get f.ends v)
   where
@@ -174,119 +162,6 @@ known_fact f v = cases (finmap.get f.rows v) (finmap.get f.ends v)
     cases None None = refl
     cases None (Some d) = refl
     cases (Some r) d = refl
-
-module _ (f : FactsValue) (keys : Keys) (is : AreKeyed f keys) (v : VersionKey) where
-  fact_at : (q : VersionKey) → tied q v ≡ true → has_fact f q ≡ has_fact f v
-  fact_at q e = ap (has_fact f) (tied_is q v e)
-
-  -- a key that was added where nothing is known is taken back
-  pub key_back : has_fact f v ≡ false → AreKeyed f (set.remove (set.insert keys v) v)
-  key_back none q =
-      without_key (set.insert keys v) q v
-      ∙ ap (λ b. not (tied q v) && b) (with_key keys q v ∙ ap (λ b. tied q v || b) (is q))
-      ∙ there (tied q v) refl
-    where
-      there : (b : Bool) → tied q v ≡ b → (not b && (b || has_fact f q)) ≡ has_fact f q
-      there true e = sym (fact_at q e ∙ none)
-      there false e = refl
-
-  -- a fact on a version of which nothing was known
-  pub fact_keyed : (fact : Fact) → has_fact f v ≡ false → AreKeyed (with_fact_at f v fact) (set.insert keys v)
-  fact_keyed (Row row) none q =
-      with_key keys q v ∙ ap (λ b. tied q v || b) (is q)
-      ∙ there (tied q v) refl
-      ∙ sym (ap (λ o. is_some o || is_some (finmap.get f.ends q)) (get-added f.rows v row q))
-    where
-      some : (o : Option RowValue) → is_some (or_else o (Some row)) ≡ true
-      some None = refl
-      some (Some r) = refl
-
-      there : (b : Bool) → tied q v ≡ b → (b || has_fact f q) ≡ (is_some (cond b (or_else (finmap.get f.rows v) (Some row)) (finmap.get f.rows q)) || is_some (finmap.get f.ends q))
-      there true e = sym (ap (λ b. b || is_some (finmap.get f.ends q)) (some (finmap.get f.rows v)))
-      there false e = refl
-  fact_keyed (End died) none q =
-      with_key keys q v ∙ ap (λ b. tied q v || b) (is q)
-      ∙ there (tied q v) refl
-      ∙ sym (ap (λ o. is_some (finmap.get f.rows q) || is_some o) (get-added f.ends v died q))
-    where
-      some : (o : Option ℕ) → is_some (or_else o (Some died)) ≡ true
-      some None = refl
-      some (Some r) = refl
-
-      right : (b : Bool) → true ≡ (b || true)
-      right true = refl
-      right false = refl
-
-      there : (b : Bool) → tied q v ≡ b → (b || has_fact f q) ≡ (is_some (finmap.get f.rows q) || is_some (cond b (or_else (finmap.get f.ends v) (Some died)) (finmap.get f.ends q)))
-      there true e = right (is_some (finmap.get f.rows q)) ∙ ap (λ b. is_some (finmap.get f.rows q) || b) (sym (some (finmap.get f.ends v)))
-      there false e = refl
-
-  -- a fact on a version of which something is known
-  pub more_keyed : (fact : Fact) → has_fact f v ≡ true → AreKeyed (with_fact_at f v fact) keys
-  more_keyed (Row row) had q = is q ∙ there (tied q v) refl ∙ sym (ap (λ o. is_some o || is_some (finmap.get f.ends q)) (get-added f.rows v row q))
-    where
-      some : (o : Option RowValue) → is_some (or_else o (Some row)) ≡ true
-      some None = refl
-      some (Some r) = refl
-
-      there : (b : Bool) → tied q v ≡ b → has_fact f q ≡ (is_some (cond b (or_else (finmap.get f.rows v) (Some row)) (finmap.get f.rows q)) || is_some (finmap.get f.ends q))
-      there true e = fact_at q e ∙ had ∙ sym (ap (λ b. b || is_some (finmap.get f.ends q)) (some (finmap.get f.rows v)))
-      there false e = refl
-  more_keyed (End died) had q = is q ∙ there (tied q v) refl ∙ sym (ap (λ o. is_some (finmap.get f.rows q) || is_some o) (get-added f.ends v died q))
-    where
-      some : (o : Option ℕ) → is_some (or_else o (Some died)) ≡ true
-      some None = refl
-      some (Some r) = refl
-
-      right : (b : Bool) → true ≡ (b || true)
-      right true = refl
-      right false = refl
-
-      there : (b : Bool) → tied q v ≡ b → has_fact f q ≡ (is_some (finmap.get f.rows q) || is_some (cond b (or_else (finmap.get f.ends v) (Some died)) (finmap.get f.ends q)))
-      there true e = fact_at q e ∙ had ∙ right (is_some (finmap.get f.rows q)) ∙ ap (λ b. is_some (finmap.get f.rows q) || b) (sym (some (finmap.get f.ends v)))
-      there false e = refl
-
-  -- other versions keep what is known of them
-  others : (part : Part) (q : VersionKey) → tied q v ≡ false → has_fact (facts_without f v part) q ≡ has_fact f q
-  others RowPart q e = ap (λ o. is_some o || is_some (finmap.get f.ends q)) (get-without f.rows v q ∙ ap (λ b. cond b None (finmap.get f.rows q)) e)
-  others EndPart q e = ap (λ o. is_some (finmap.get f.rows q) || is_some o) (get-without f.ends v q ∙ ap (λ b. cond b None (finmap.get f.ends q)) e)
-  others Whole q e = (λ i. is_some ((get-without f.rows v q ∙ ap (λ b. cond b None (finmap.get f.rows q)) e) i) || is_some ((get-without f.ends v q ∙ ap (λ b. cond b None (finmap.get f.ends q)) e) i))
-
-  -- no part that is taken back makes more known
-  less : {X : Type 0} (m : finmap.FinMap version_key_cmp X) → is_some (finmap.get (finmap.remove m v) v) ≡ true → is_some (finmap.get m v) ≡ true
-  less m e = by (tied v v) (ap is_some (sym (get-without m v v)) ∙ e)
-    where
-      by : (b : Bool) → is_some (cond b None (finmap.get m v)) ≡ true → is_some (finmap.get m v) ≡ true
-      by true h = cc
-      by false h = h
-
-  either_true : (a b a' b' : Bool) → (a' ≡ true → a ≡ true) → (b' ≡ true → b ≡ true) → (a' || b') ≡ true → (a || b) ≡ true
-  either_true true b a' b' f g e = refl
-  either_true false true a' b' f g e = refl
-  either_true false false true b' f g e = f refl
-  either_true false false false true f g e = g refl
-  either_true false false false false f g e = e
-
-  still_known : (part : Part) → has_fact (facts_without f v part) v ≡ true → has_fact f v ≡ true
-  still_known RowPart e = either_true _ _ (is_some (finmap.get (finmap.remove f.rows v) v)) (is_some (finmap.get f.ends v)) (less f.rows) (λ h. h) e
-  still_known EndPart e = either_true _ _ (is_some (finmap.get f.rows v)) (is_some (finmap.get (finmap.remove f.ends v) v)) (λ h. h) (less f.ends) e
-  still_known Whole e = either_true _ _ (is_some (finmap.get (finmap.remove f.rows v) v)) (is_some (finmap.get (finmap.remove f.ends v) v)) (less f.rows) (less f.ends) e
-
-  -- a part is taken back, and something stays known
-  pub part_stays : (part : Part) → has_fact (facts_without f v part) v ≡ true → AreKeyed (facts_without f v part) keys
-  part_stays part left q = is q ∙ there (tied q v) refl
-    where
-      there : (b : Bool) → tied q v ≡ b → has_fact f q ≡ has_fact (facts_without f v part) q
-      there true e = fact_at q e ∙ still_known part left ∙ sym (ap (has_fact (facts_without f v part)) (tied_is q v e) ∙ left)
-      there false e = sym (others part q e)
-
-  -- a part is taken back, and nothing stays known
-  pub part_last : (part : Part) → has_fact (facts_without f v part) v ≡ false → AreKeyed (facts_without f v part) (set.remove keys v)
-  part_last part left q = without_key keys q v ∙ ap (λ b. not (tied q v) && b) (is q) ∙ there (tied q v) refl
-    where
-      there : (b : Bool) → tied q v ≡ b → (not b && has_fact f q) ≡ has_fact (facts_without f v part) q
-      there true e = sym (ap (has_fact (facts_without f v part)) (tied_is q v e) ∙ left)
-      there false e = sym (others part q e)
 
 -- what a put leaves
 pub put_is : (f g : FactsValue) (v : VersionKey) (fact : Fact) → facts_put f v fact ≡ Ok g → g ≡ with_fact_at f v fact
@@ -311,10 +186,3 @@ module _ (f g : FactsValue) (v : VersionKey) {A : Type 0} (r : Result A Refusal)
       by : (r : Result A Refusal) → OnErr r (g ≡ f) → OnOk r (facts_put f v (End died) ≡ Ok g) → AreTagged g tags
       by (Ok a) e o = subst (λ h. AreTagged h tags) (sym (put_is f g v (End died) o)) (end_tagged f tags is v died)
       by (Err w) e o = subst (λ h. AreTagged h tags) (sym e) is
-
-  pub put_keyed : (fact : Fact) (keys : Keys) → AreKeyed f keys → OnOk r (facts_put f v fact ≡ Ok g) → has_fact f v ≡ true → AreKeyed g keys
-  put_keyed fact keys is ok had = by r same ok
-    where
-      by : (r : Result A Refusal) → OnErr r (g ≡ f) → OnOk r (facts_put f v fact ≡ Ok g) → AreKeyed g keys
-      by (Ok a) e o = subst (λ h. AreKeyed h keys) (sym (put_is f g v fact o)) (more_keyed f keys is v fact had)
-      by (Err w) e o = subst (λ h. AreKeyed h keys) (sym e) is

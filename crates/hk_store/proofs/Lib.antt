@@ -1,6 +1,6 @@
 pub mod StoredFacts
 pub mod ChangedChains
-pub mod FactsByTable
+pub mod FactsByRow
 pub mod JournalUndone
 pub mod Conflicts
 pub mod EntryConflicts
@@ -13,3 +13,5 @@ pub mod ReplacedFacts
 pub mod ListedVersions
 pub mod PickedVersions
 pub mod SameRows
+mod WalkedVersions
+mod RowsInOrder

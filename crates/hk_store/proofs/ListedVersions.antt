@@ -1,5 +1,5 @@
 -- The list of the versions of which anything is known.
-use Rattle.std.proofs.Common.{◌≡◌, refl, sym, ap, ◌∙◌, subst, Bool, true, false, cond, ◌&&◌, ◌||◌, ◌==◌, Some, None, Result, Ok, Err, IfOk, List, [], ◌∷◌, ◌++◌, map, filter, All}
+use Rattle.std.proofs.Common.{◌≡◌, refl, sym, ap, ◌∙◌, subst, Bool, true, false, cond, ◌&&◌, ◌||◌, ◌==◌, Some, None, List, [], ◌∷◌, ◌++◌, map, filter, All}
 use Rattle.std.proofs.lemmas.List.{map_push, append-nil}
 use Rattle.std.proofs.lemmas.List.Elements.{All-push, All-head, All-tail, filter-append}
 use Rattle.std.proofs.lemmas.List.Kept.{IsStrictlySortedBy-filter}
@@ -19,12 +19,12 @@ use Rattle.hk_model.proofs.Maps.{version_key_total, version_key_same}
 use Rattle.hk_index.specs.Listed.{Lists}
 use Rattle.hk_index.proofs.StoredKeys.{any-filter}
 use Rattle.hk_store.specs.Facts.{FactsValue, known_at}
-use Rattle.hk_store.specs.Indexed.{AreKeyed, has_fact}
+use Rattle.hk_store.specs.Indexed.{has_fact}
 use Rattle.hk_store.specs.Drops.{is_among}
 use Rattle.hk_store.specs.Reads.{with_facts}
 use Rattle.hk_store.specs.Versions.{AreVersions, AreVersionsOf, conflict_at, value_conflicts_at}
 use Rattle.hk_facts.specs.Facts.{row_of, died_of}
-use Rattle.hk_store.proofs.FactsByTable.{known_row, known_end}
+use Rattle.hk_store.proofs.StoredFacts.{known_row, known_end}
 use Rattle.hk_store.proofs.Indexed.{known_fact}
 use Rattle.hk_store.proofs.Conflicts.{maps_conflict_wide}
 
@@ -58,9 +58,6 @@ module _ (f : FactsValue) where
       ∙ ap (λ u. filter knows (map shows xs ++ u ∷ [])) at
       ∙ ap (filter knows) (sym (map_push shows xs x))
 
-  among_keys : (keys : set.FinSet version_key_cmp) (ks : List VersionKey) → AreKeyed f keys → Lists ks keys → (v : VersionKey) → is_among ks v ≡ knows v
-  among_keys keys ks keyed lists v = sym (set.contains-from_list version_key_total ks v) ∙ ap (λ s. set.contains s v) lists.same ∙ keyed v ∙ sym (known_fact f v)
-
   -- those of a set
   pub walked : (some : set.FinSet version_key_cmp) (ks : List VersionKey) (es : List (VersionKey × VersionValue)) → Lists ks some → All IsKnown es → map (λ e. e.0) es ≡ filter knows ks → AreVersionsOf f (set.contains some) es
   walked some ks es lists known kept = record {
@@ -68,19 +65,6 @@ module _ (f : FactsValue) where
     all = λ v. sym (ap (λ l. is_among l v) kept ∙ any-filter knows ks v ∙ ap (λ b. b && knows v) (sym (set.contains-from_list version_key_total ks v) ∙ ap (λ s. set.contains s v) lists.same));
     rising = subst (IsStrictlySortedBy version_key_cmp) (sym kept) (IsStrictlySortedBy-filter version_key_cmp knows ks lists.rising);
   }
-
-  -- all of them
-  pub all_walked : (keys : set.FinSet version_key_cmp) → AreKeyed f keys → {A E : Type 0} (r : Result A E) (versions : A → List (VersionKey × VersionValue)) → IfOk r (λ w. AreVersionsOf f (set.contains keys) (versions w)) → IfOk r (λ w. AreVersions f (versions w))
-  all_walked keys keyed (Ok w) versions are = record {
-    known = are.known;
-    all = λ v. sym (ap (λ b. b && knows v) (keyed v ∙ sym (known_fact f v)) ∙ twice (knows v)) ∙ are.all v;
-    rising = are.rising;
-  }
-    where
-      twice : (b : Bool) → (b && b) ≡ b
-      twice true = refl
-      twice false = refl
-  all_walked keys keyed (Err why) versions are = tt
 
 any_either : {A : Type 0} (p q : A → Bool) (xs : List A) → list_any (λ x. p x || q x) xs ≡ (list_any p xs || list_any q xs)
 any_either p q [] = refl
@@ -99,17 +83,14 @@ conflict_over f g ks among =
     ∙ (λ i. sym (maps_conflict_wide version_key_total version_key_same same_row f.rows g.rows ks (λ k e. among k ∙ or_left (is_some (finmap.get g.rows k)) (is_some (finmap.get g.ends k)) e)) i
     || sym (maps_conflict_wide version_key_total version_key_same (λ a b. a == b) f.ends g.ends ks (λ k e. among k ∙ or_right (is_some (finmap.get g.rows k)) (is_some (finmap.get g.ends k)) e)) i)
 
--- and so by a walk over the second's index by key
-pub conflict_walked : (f g : FactsValue) (keys : set.FinSet version_key_cmp) (ks : List VersionKey) → AreKeyed g keys → Lists ks keys → list_any (conflict_at f g) ks ≡ contents_conflict (with_facts f) (with_facts g)
-conflict_walked f g keys ks keyed lists = conflict_over f g ks (λ k. among_keys g keys ks keyed lists k ∙ known_fact g k)
+-- a version conflicts by what is known of it
+pub conflict_known : (f g : FactsValue) (e : VersionKey × VersionValue) → known_at g e.0 ≡ Some e.1 → value_conflicts_at f e.0 e.1 ≡ conflict_at f g e.0
+conflict_known f g e known = λ i. values_conflict same_row (finmap.get f.rows e.0) ((sym (ap row_of known) ∙ known_row g e.0) i) || values_conflict (λ a b. a == b) (finmap.get f.ends e.0) ((sym (ap died_of known) ∙ known_end g e.0) i)
 
 -- or over a list of all versions
 pub conflict_listed : (f g : FactsValue) (es : List (VersionKey × VersionValue)) → AreVersions g es → list_any (λ e. value_conflicts_at f e.0 e.1) es ≡ contents_conflict (with_facts f) (with_facts g)
 conflict_listed f g es are = each es are.known ∙ conflict_over f g (map (λ e. e.0) es) (λ k. sym (are.all k) ∙ known_fact g k)
   where
-    one : (e : VersionKey × VersionValue) → known_at g e.0 ≡ Some e.1 → value_conflicts_at f e.0 e.1 ≡ conflict_at f g e.0
-    one e known = λ i. values_conflict same_row (finmap.get f.rows e.0) ((sym (ap row_of known) ∙ known_row g e.0) i) || values_conflict (λ a b. a == b) (finmap.get f.ends e.0) ((sym (ap died_of known) ∙ known_end g e.0) i)
-
     each : (xs : List (VersionKey × VersionValue)) → All (IsKnown g) xs → list_any (λ e. value_conflicts_at f e.0 e.1) xs ≡ list_any (conflict_at f g) (map (λ e. e.0) xs)
     each [] known = refl
-    each (x ∷ xs) known = λ i. one x (All-head (IsKnown g) x xs known) i || each xs (All-tail (IsKnown g) x xs known) i
+    each (x ∷ xs) known = λ i. conflict_known f g x (All-head (IsKnown g) x xs known) i || each xs (All-tail (IsKnown g) x xs known) i

@@ -2,7 +2,6 @@
 use Rattle.std.proofs.Common.{◌≡◌, refl, sym, ap, ◌∙◌, subst, ℕ, Bool, true, false, cond, not, ◌||◌, ◌&&◌, ◌==◌, Option, Some, None, Result, Ok, Err, IfOk, OnOk, OnErr, option_map, nat_le, arith, List, ◌++◌}
 use Rattle.std.proofs.lemmas.Bool.Decides.{nat_tests}
 use Rattle.std.proofs.lemmas.List.Folds.{list_any-append}
-use Rattle.std.specs.Option.{is_some}
 use Rattle.std.specs.Ordering.{eq_by_cmp}
 use Rattle.std.specs.FinMap as finmap
 use Rattle.std.specs.FinSet as set
@@ -17,13 +16,12 @@ use Rattle.hk_index.specs.Tagged.{tagged_cmp}
 use Rattle.hk_index.specs.declared.timed.TimedVersion.{TimedVersion}
 use Rattle.hk_index.specs.Timed.{timed_cmp, is_at, AreTimed, passes_at, versions_where}
 use Rattle.hk_index.proofs.StoredTimes.{timed_total, timed_same, tied_parts, tied_timed, timed_where}
-use Rattle.hk_facts.specs.declared.fact.Fact.{Fact}
 use Rattle.hk_facts.specs.declared.fact.Fact.TheVariants.{Row, End}
 use Rattle.hk_facts.specs.declared.fact.Part.{Part}
 use Rattle.hk_facts.specs.declared.fact.Part.TheVariants.{Row as RowPart, End as EndPart, Whole}
-use Rattle.hk_store.specs.Facts.{FactsValue, no_facts, with_fact_at, facts_put, facts_without}
+use Rattle.hk_store.specs.Facts.{FactsValue, with_fact_at, facts_put, facts_without}
 use Rattle.hk_store.specs.Drops.{is_among}
-use Rattle.hk_store.specs.Indexed.{AreTagged, AreKeyed, AreIndexed, born_at, died_at, is_stated, tag_lost, end_lost, tags_without, times_without}
+use Rattle.hk_store.specs.Indexed.{AreTagged, AreIndexed, born_at, died_at, is_stated, tag_lost, end_lost, tags_without, times_without}
 use Rattle.hk_store.proofs.StoredFacts.{tied, key_tied}
 use Rattle.hk_store.proofs.ChangedChains.{get-added, get-without, tied_is}
 use Rattle.hk_store.proofs.Indexed.{part_gone, part_rowless, put_is}
@@ -158,21 +156,19 @@ none_born f v none = ap (option_map (λ (r : RowValue). v.born)) none
 
 -- what a put of an end leaves, told or refused
 pub end_put : (f g : FactsValue) (v : VersionKey) {A : Type 0} (r : Result A Refusal) → OnErr r (g ≡ f) → (died : ℕ) → OnOk r (facts_put f v (End died) ≡ Ok g) → finmap.get f.ends v ≡ None
-    → (tags : set.FinSet tagged_cmp) (births deaths : Times) (keys : set.FinSet version_key_cmp) → AreIndexed f tags births deaths keys
-    → (now : Times) (known : set.FinSet version_key_cmp) → OnOk r (now ≡ set.insert deaths (at_time died v)) → OnErr r (now ≡ deaths) → AreKeyed g known → AreIndexed g tags births now known
-end_put f g v (Ok done) kept died ok none tags births deaths keys are now known timed untimed keyed =
+    → (tags : set.FinSet tagged_cmp) (births deaths : Times) → AreIndexed f tags births deaths
+    → (now : Times) → OnOk r (now ≡ set.insert deaths (at_time died v)) → OnErr r (now ≡ deaths) → AreIndexed g tags births now
+end_put f g v (Ok done) kept died ok none tags births deaths are now timed untimed =
     let is = put_is f g v (End died) ok in
     record {
       tagged = subst (λ h. AreTagged h tags) (sym is) are.tagged;
       born = subst (λ h. AreTimed (born_at h) births) (sym is) are.born;
       dead = subst (λ h. AreTimed (died_at h) now) (sym is) (subst (λ s. AreTimed (died_at (with_fact_at f v (End died))) s) (sym timed) (deaths_added f v deaths are.dead died none));
-      keyed = keyed;
     }
-end_put f g v (Err why) kept died ok none tags births deaths keys are now known timed untimed keyed = record {
+end_put f g v (Err why) kept died ok none tags births deaths are now timed untimed = record {
   tagged = subst (λ h. AreTagged h tags) (sym kept) are.tagged;
   born = subst (λ h. AreTimed (born_at h) births) (sym kept) are.born;
   dead = subst (λ h. AreTimed (died_at h) now) (sym kept) (subst (λ s. AreTimed (died_at f) s) (sym untimed) are.dead);
-  keyed = keyed;
 }
 
 -- ---- what the indexes by time list

@@ -1,9 +1,8 @@
 -- The facts of a replica: its rows and its ends, by version key.
-use Rattle.std.specs.Prelude.{◌≡◌, ℕ, Bool, true, ◌||◌, ◌==◌, List, [], ◌∷◌, Option, Some, None, Result, Ok, Err, if◌then◌else◌, refl}
+use Rattle.std.specs.Prelude.{◌≡◌, ℕ, Bool, true, ◌||◌, ◌==◌, ◌<◌, List, [], ◌∷◌, Option, Some, None, Result, Ok, Err, if◌then◌else◌, refl}
 use Rattle.std.specs.Option.{option_and_then}
 use Rattle.std.specs.List.{flat_map}
 use Rattle.std.specs.Coded.{Coded, code_by, coded×, coded_ℕ}
-use Rattle.std.specs.Ordering.{nat_cmp}
 use Rattle.std.specs.FinMap as finmap
 use Rattle.hk_types.specs.Values.{RowValue, same_row}
 use Rattle.hk_types.specs.declared.version_key.VersionKey.{VersionKey}
@@ -12,7 +11,7 @@ use Rattle.hk_types.specs.declared.faults.Refusal.TheVariants.{Conflict}
 use Rattle.hk_log.specs.Items.{EntryValue}
 use Rattle.hk_log.specs.Versions.{VersionValue, is_known}
 use Rattle.hk_log.specs.declared.item.Item.TheVariants.{Commit}
-use Rattle.hk_model.specs.History.Rows.{version_key_cmp}
+use Rattle.hk_model.specs.History.Rows.{RowKey, row_key_cmp, row_key_of, version_key_cmp, version_of}
 use Rattle.hk_model.specs.Replica.Maps.{values_conflict, union, maps_conflict}
 use Rattle.hk_model.specs.History.Facts.{rows_of, ends_of}
 use Rattle.hk_model.specs.Replica.Codes.{version_key_code, row_code}
@@ -20,7 +19,7 @@ use Rattle.hk_facts.specs.declared.fact.Fact.{Fact}
 use Rattle.hk_facts.specs.declared.fact.Fact.TheVariants.{Row, End}
 use Rattle.hk_facts.specs.declared.fact.Part.{Part}
 use Rattle.hk_facts.specs.declared.fact.Part.TheVariants.{Row as RowPart, End as EndPart, Whole}
-use Rattle.hk_facts.specs.TableChains.{TableChainsValue, version_in}
+use Rattle.hk_facts.specs.Chains.{ChainValue}
 use Rattle.hk_facts.specs.Facts.{if_known}
 
 -- the value of a `Facts`
@@ -37,14 +36,14 @@ facts_code =
 abbrev pub no_facts : FactsValue
 no_facts = record { rows = finmap.empty; ends = finmap.empty }
 
--- ---- as they are stored: the chains of each table
+-- ---- as they are stored: for each row the chain of its versions
 
-abbrev pub TablesValue : Type 0
-TablesValue = finmap.FinMap nat_cmp TableChainsValue
+abbrev pub ChainsValue : Type 0
+ChainsValue = finmap.FinMap row_key_cmp ChainValue
 
 -- what is known of a version
-abbrev pub stored_version : TablesValue → VersionKey → Option VersionValue
-stored_version tables v = option_and_then (λ k. version_in k v.key v.born) (finmap.get tables v.table)
+abbrev pub stored_version : ChainsValue → VersionKey → Option VersionValue
+stored_version chains v = option_and_then (λ c. finmap.get c v.born) (finmap.get chains (row_key_of v))
 
 -- an entry, where there is a value
 abbrev pub entry_if : {Y : Type 0} → VersionKey → Option Y → List (VersionKey × Y)
@@ -52,17 +51,22 @@ entry_if v None = []
 entry_if v (Some y) = (v, y) ∷ []
 
 -- what is read of each stored version
-abbrev pub read_all : {Y : Type 0} → (VersionValue → Option Y) → TablesValue → List (VersionKey × Y)
-read_all read tables =
-    flat_map (λ t. flat_map (λ k. flat_map (λ v. entry_if (record { table = t.0; key = k.0; born = v.0 }) (read v.1)) (finmap.entries k.1)) (finmap.entries t.1)) (finmap.entries tables)
+abbrev pub read_all : {Y : Type 0} → (VersionValue → Option Y) → ChainsValue → List (VersionKey × Y)
+read_all read chains =
+    flat_map (λ k. flat_map (λ v. entry_if (version_of k.0 v.0) (read v.1)) (finmap.entries k.1)) (finmap.entries chains)
 
 -- the rows and the ends of all stored versions
-abbrev pub facts_of : TablesValue → FactsValue
-facts_of tables = record { rows = finmap.from_entries (read_all (λ v. v.row) tables); ends = finmap.from_entries (read_all (λ v. v.died) tables) }
+abbrev pub facts_of : ChainsValue → FactsValue
+facts_of chains = record { rows = finmap.from_entries (read_all (λ v. v.row) chains); ends = finmap.from_entries (read_all (λ v. v.died) chains) }
 
 -- of each stored version something is known
-abbrev pub AllKnown : TablesValue → Type 0
-AllKnown tables = (q : VersionKey) (v : VersionValue) → stored_version tables q ≡ Some v → is_known v ≡ true
+abbrev pub AllKnown : ChainsValue → Type 0
+AllKnown chains = (q : VersionKey) (v : VersionValue) → stored_version chains q ≡ Some v → is_known v ≡ true
+
+-- no chain is empty, and of each stored version something is known
+pub record AreStored (chains : ChainsValue) : Type 0 where
+  pub filled : (k : RowKey) (c : ChainValue) → finmap.get chains k ≡ Some c → 0 < finmap.len c
+  pub known : AllKnown chains
 
 -- ---- what calls do
 

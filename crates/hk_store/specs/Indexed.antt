@@ -1,5 +1,5 @@
 -- What the indexes of facts hold.
-use Rattle.std.specs.Prelude.{◌≡◌, ℕ, Bool, false, ◌==◌, ◌||◌, is_some, Option, Some, None}
+use Rattle.std.specs.Prelude.{◌≡◌, ℕ, Bool, false, ◌==◌, ◌||◌, ◌++◌, is_some, Option, Some, None}
 use Rattle.std.specs.Option.{option_map}
 use Rattle.std.specs.FinMap as finmap
 use Rattle.std.specs.FinSet as set
@@ -31,9 +31,13 @@ AreTagged f tags = (tag : ℕ) (v : VersionKey) → set.contains tags (record { 
 abbrev pub has_fact : FactsValue → VersionKey → Bool
 has_fact f v = is_some (finmap.get f.rows v) || is_some (finmap.get f.ends v)
 
--- the index by key has each version of which a row or an end is known, and no other
+-- the set has each version of which a row or an end is known, and no other
 abbrev pub AreKeyed : FactsValue → set.FinSet version_key_cmp → Type 0
 AreKeyed f keys = (v : VersionKey) → set.contains keys v ≡ has_fact f v
+
+-- the versions of which a row or an end is known
+abbrev pub keys_of : FactsValue → set.FinSet version_key_cmp
+keys_of f = set.from_list (finmap.keys f.rows ++ finmap.keys f.ends)
 
 -- the time at which a version was born, where its row is known
 abbrev pub born_at : FactsValue → VersionKey → Option ℕ
@@ -43,11 +47,10 @@ born_at f v = option_map (λ row. v.born) (finmap.get f.rows v)
 abbrev pub died_at : FactsValue → VersionKey → Option ℕ
 died_at f v = finmap.get f.ends v
 
-pub record AreIndexed (f : FactsValue) (tags : set.FinSet tagged_cmp) (births deaths : set.FinSet timed_cmp) (keys : set.FinSet version_key_cmp) : Type 0 where
+pub record AreIndexed (f : FactsValue) (tags : set.FinSet tagged_cmp) (births deaths : set.FinSet timed_cmp) : Type 0 where
   pub tagged : AreTagged f tags
   pub born : AreTimed (born_at f) births
   pub dead : AreTimed (died_at f) deaths
-  pub keyed : AreKeyed f keys
 
 -- whether a version has a row that was born at a time that passes a test, or an end at such a time
 abbrev pub is_stated : FactsValue → (ℕ → Bool) → VersionKey → Bool

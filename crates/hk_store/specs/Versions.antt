@@ -1,14 +1,15 @@
 -- Facts as a list of versions.
-use Rattle.std.specs.Prelude.{◌≡◌, Bool, true, ◌||◌, ◌&&◌, ◌==◌, All, List, map, Option, Some, None, is_some}
+use Rattle.std.specs.Prelude.{◌≡◌, ℕ, Bool, true, ◌||◌, ◌&&◌, ◌==◌, All, List, map, Option, Some, None, is_some}
 use Rattle.std.specs.Ordering.{is_le}
 use Rattle.std.specs.Borrow.{Bor}
 use Rattle.std.specs.List.Sorted.{IsStrictlySortedBy}
 use Rattle.hk_types.specs.Values.{same_row}
 use Rattle.hk_types.specs.declared.version_key.VersionKey.{VersionKey}
 use Rattle.hk_log.specs.Versions.{VersionValue}
-use Rattle.hk_model.specs.History.Rows.{version_key_cmp}
+use Rattle.hk_model.specs.History.Rows.{RowKey, row_key_of, version_key_cmp}
 use Rattle.hk_model.specs.Replica.Maps.{values_conflict}
 use Rattle.std.specs.FinMap as finmap
+use Rattle.hk_facts.specs.Chains.{ChainValue, IsEarliest, FirstBorn, is_after}
 use Rattle.hk_store.specs.Facts.{FactsValue, known_at}
 use Rattle.hk_store.specs.Drops.{is_among}
 
@@ -46,3 +47,8 @@ pub record IsLeast (f : FactsValue) (test : VersionKey → Bool) (found : Versio
 abbrev pub FirstWhere : FactsValue → (VersionKey → Bool) → Option (VersionKey × VersionValue) → Type 0
 FirstWhere f test (Some found) = IsLeast f test found
 FirstWhere f test None = (q : VersionKey) → test q ≡ true → known_at f q ≡ None
+
+-- the version of a row's chain that was born first, or next after a time
+abbrev pub NextOf : RowKey → ChainValue → Option ℕ → Option (VersionKey × VersionValue) → Type 0
+NextOf row c after (Some found) = (row_key_of found.0 ≡ row) × IsEarliest c (is_after after) (found.0.born, found.1)
+NextOf row c after None = FirstBorn c (is_after after) None

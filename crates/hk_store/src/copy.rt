@@ -14,17 +14,15 @@ impl Facts {
         ensures ok { IfOk result (λ facts. facts ≡ self.now) }
         ensures err { IfErr result (λ why. why ≡ Memory) }
     {
-        let tables = self.tables.copy(alloc)?;
+        let chains = self.chains.copy(alloc)?;
         let tags = self.tags.copy(alloc)?;
         let births = self.births.copy(alloc)?;
         let deaths = self.deaths.copy(alloc)?;
-        let keys = self.keys.copy(alloc)?;
         Ok(Facts {
-            tables,
+            chains,
             tags,
             births,
             deaths,
-            keys,
         })
     }
 }

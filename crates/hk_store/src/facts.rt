@@ -12,22 +12,22 @@ ghost use Rattle.hk_store.specs.Reads.{with_facts};
 ghost use Rattle.hk_store.specs.Facts.{no_facts, known_at, facts_put, facts_without};
 ghost use Rattle.hk_store.specs.Indexed.{AreTagged, AreKeyed, IsNew, end_lost, tag_lost, tags_without, times_without};
 
-use crate::tables::Tables;
+use crate::chains::Chains;
+use crate::keys::Keys;
 use hk_facts::{Chain, Fact, Part};
-use hk_index::{KeyIndex, TagIndex, TimeIndex};
+use hk_index::{TagIndex, TimeIndex};
 use hk_types::{Key, Refusal, Row, Table, Tag, Time, VersionKey};
 use std::alloc::Global;
 use std::marker::Model;
 
-/// The rows and the ends of all versions, with four indexes: by tag and by the time of birth those whose row is
-/// known, by the time of death those whose end is known, and by table and key those of which either is known.
+/// The rows and the ends of all versions, with three indexes: by tag and by the time of birth those whose row is
+/// known, and by the time of death those whose end is known.
 #[derive(Drop)]
 pub struct Facts {
-    pub(crate) tables: Tables,
+    pub(crate) chains: Chains,
     pub(crate) tags: TagIndex,
     pub(crate) births: TimeIndex,
     pub(crate) deaths: TimeIndex,
-    pub(crate) keys: KeyIndex,
 }
 
 impl Model for Facts {
@@ -38,9 +38,9 @@ impl Model for Facts {
 
     ghost coded = { facts_code };
 
-    ghost view = { λ a. a.tables };
+    ghost view = { λ a. a.chains };
 
-    ghost invariant = { λ a. AreIndexed a.tables a.tags a.births a.deaths a.keys };
+    ghost invariant = { λ a. AreIndexed a.chains a.tags a.births a.deaths };
 }
 
 impl Facts {
@@ -49,17 +49,16 @@ impl Facts {
         ensures { result ≡ no_facts }
     {
         Facts {
-            tables: Tables::new(alloc),
+            chains: Chains::new(alloc),
             tags: TagIndex::new(alloc),
             births: TimeIndex::new(alloc),
             deaths: TimeIndex::new(alloc),
-            keys: KeyIndex::new(alloc),
         }
     }
 
     /// The allocator that the facts grow by.
     pub(crate) fn allocator(&self) -> Global {
-        self.tables.allocator()
+        self.chains.allocator()
     }
 
     /// The versions whose row is known, by tag.
@@ -70,13 +69,13 @@ impl Facts {
     }
 
     /// The versions of which a row or an end is known, by table and key.
-    pub fn keys(&self) -> &KeyIndex
-        ensures { AreKeyed self.now result.now }
+    pub fn keys(&self) -> Keys<'_>
+        ensures { AreKeyed self.now result }
     {
-        &self.keys
+        Keys::of(&self.chains)
     }
 
-    /// The chain of a key of a table. Cost: O(log t + log k), t tables, k keys of this table.
+    /// The chain of a key of a table. Cost: O(log k), k keys of all tables.
     pub fn chain(&self, table: Table, key: Key) -> Option<&Chain>
         ensures some { IfSome result (λ chain. (born : ℕ) → finmap.get chain.now born
             ≡ known_at self.now (record { table = table; key = key; born = born })) }
@@ -84,28 +83,28 @@ impl Facts {
             known_at self.now (record { table = table; key = key; born = born }) ≡ None) }
         ensures filled { IfSome result (λ chain. 0 < finmap.len chain.now) }
     {
-        self.tables.chain(table, key)
+        self.chains.chain(table, key)
     }
 
     /// The row of a version, where it is known. Cost: O(log n), n facts.
     pub fn row_at(&self, version: &VersionKey) -> Option<&Row>
         ensures { option_copied result ≡ finmap.get self.now.rows version.now }
     {
-        self.tables.row_at(version)
+        self.chains.row_at(version)
     }
 
     /// The end of a version, where it is known. Cost: O(log n), n facts.
     pub fn end_at(&self, version: &VersionKey) -> Option<Time>
         ensures { result ≡ finmap.get self.now.ends version.now }
     {
-        self.tables.end_at(version)
+        self.chains.end_at(version)
     }
 
     /// Whether anything is known of a version. Cost: O(log n), n facts.
     pub fn knows(&self, version: &VersionKey) -> bool
         ensures { result ≡ is_some (known_at self.now version.now) }
     {
-        self.tables.knows(version)
+        self.chains.knows(version)
     }
 
     /// How many rows of a table show at a time. It takes no memory. Cost: O(log n + k · log n),
@@ -114,7 +113,7 @@ impl Facts {
         ensures { result ≡ length (rows_where
             (λ k row. k.table == table) (visible (with_facts self.now) time)) }
     {
-        self.tables.count_at(table, time) as u64
+        self.chains.count_at(table, time) as u64
     }
 
     /// Adds a fact on a version. One that is known already changes nothing, and one that differs from what
@@ -137,14 +136,13 @@ impl Facts {
         ensures err { IfErr result (λ why. (facts_put self.old version.now (RowFact row) ≡ Err why) ⊎ ((why ≡ Memory) × IsNew self.old version.now (RowFact row))) }
         ensures kept { OnErr result (self.new ≡ self.old) }
     {
-        if self.tables.row_at(version).is_some() {
-            return self.tables.put(version, Fact::Row(row));
+        if self.chains.row_at(version).is_some() {
+            return self.chains.put(version, Fact::Row(row));
         }
         let tag = row.tag();
         self.tags.add(tag, *version)?;
         let put = put_timed(
-            &mut self.tables,
-            &mut self.keys,
+            &mut self.chains,
             &mut self.births,
             version,
             version.born,
@@ -162,12 +160,11 @@ impl Facts {
         ensures err { IfErr result (λ why. (facts_put self.old version.now (EndFact died) ≡ Err why) ⊎ ((why ≡ Memory) × IsNew self.old version.now (EndFact died))) }
         ensures kept { OnErr result (self.new ≡ self.old) }
     {
-        if self.tables.end_at(version).is_some() {
-            return self.tables.put(version, Fact::End(died));
+        if self.chains.end_at(version).is_some() {
+            return self.chains.put(version, Fact::End(died));
         }
         put_timed(
-            &mut self.tables,
-            &mut self.keys,
+            &mut self.chains,
             &mut self.deaths,
             version,
             died,
@@ -181,7 +178,7 @@ impl Facts {
     {
         let tag = self.tag_of(version, part);
         let died = self.end_of(version, part);
-        forget_listed(&mut self.tables, &mut self.keys, version, part);
+        self.chains.forget(version, part);
         forget_birth(&mut self.tags, &mut self.births, version, tag);
         forget_death(&mut self.deaths, version, died);
     }
@@ -193,7 +190,7 @@ impl Facts {
         if part == Part::End {
             return None;
         }
-        let row = self.tables.row_at(version)?;
+        let row = self.chains.row_at(version)?;
         Some(row.tag())
     }
 
@@ -204,70 +201,31 @@ impl Facts {
         if part == Part::Row {
             return None;
         }
-        self.tables.end_at(version)
+        self.chains.end_at(version)
     }
 }
 
 /// Adds a fact that has a time, and its version to the index by this time, which has it not.
 fn put_timed(
-    tables: &mut Tables,
-    keys: &mut KeyIndex,
+    chains: &mut Chains,
     index: &mut TimeIndex,
     version: &VersionKey,
     time: Time,
     fact: Fact,
 ) -> Result<(), Refusal>
-    requires keyed { AreKeyed tables.old keys.old }
-    requires new { set.contains index.old (record { time = time; version = version.now }) ≡ false }
-    ensures ok { OnOk result (facts_put tables.old version.now fact ≡ Ok tables.new) }
+    requires { set.contains index.old (record { time = time; version = version.now }) ≡ false }
+    ensures ok { OnOk result (facts_put chains.old version.now fact ≡ Ok chains.new) }
     ensures timed { OnOk result (index.new ≡ set.insert index.old (record { time = time; version = version.now })) }
-    ensures err { IfErr result (λ why. (facts_put tables.old version.now fact ≡ Err why) ⊎ (why ≡ Memory)) }
-    ensures kept { OnErr result (tables.new ≡ tables.old) }
+    ensures err { IfErr result (λ why. (facts_put chains.old version.now fact ≡ Err why) ⊎ (why ≡ Memory)) }
+    ensures kept { OnErr result (chains.new ≡ chains.old) }
     ensures untimed { OnErr result (index.new ≡ index.old) }
-    ensures keyed { AreKeyed tables.new keys.new }
 {
     index.add(time, *version)?;
-    if let Err(why) = put_listed(tables, keys, version, fact) {
+    if let Err(why) = chains.put(version, fact) {
         index.remove(time, *version);
         return Err(why);
     }
     Ok(())
-}
-
-/// Adds a fact, and its version to the index by key.
-fn put_listed(
-    tables: &mut Tables,
-    keys: &mut KeyIndex,
-    version: &VersionKey,
-    fact: Fact,
-) -> Result<(), Refusal>
-    requires { AreKeyed tables.old keys.old }
-    ensures ok { OnOk result (facts_put tables.old version.now fact ≡ Ok tables.new) }
-    ensures err { IfErr result (λ why. (facts_put tables.old version.now fact ≡ Err why) ⊎ ((why ≡ Memory) × (known_at tables.old version.now ≡ None))) }
-    ensures kept { OnErr result (tables.new ≡ tables.old) }
-    ensures keyed { AreKeyed tables.new keys.new }
-{
-    if tables.knows(version) {
-        return tables.put(version, fact);
-    }
-    keys.add(*version)?;
-    if let Err(why) = tables.put(version, fact) {
-        keys.remove(*version);
-        return Err(why);
-    }
-    Ok(())
-}
-
-/// Takes a part of a version back, and the version out of the index by key where nothing else is known of it.
-fn forget_listed(tables: &mut Tables, keys: &mut KeyIndex, version: &VersionKey, part: Part)
-    requires { AreKeyed tables.old keys.old }
-    ensures value { tables.new ≡ facts_without tables.old version.now part }
-    ensures keyed { AreKeyed tables.new keys.new }
-{
-    tables.forget(version, part);
-    if !tables.knows(version) {
-        keys.remove(*version);
-    }
 }
 
 /// Takes a version out of the indexes of those whose row is known, where a row goes that has this tag.

@@ -1,17 +1,22 @@
 //! The facts that are held: the rows and the ends of versions.
 #![tactic(auto)]
 
+mod chains;
 mod conflicts_with_entry;
 mod copy;
 mod drops;
 mod facts;
 mod journal;
+mod keys;
 mod replace;
+mod row_key;
 mod shown;
 mod stated;
-mod tables;
 mod versions;
+mod walk;
 
 pub use facts::Facts;
+pub use keys::Keys;
 pub use replace::meets;
+pub use row_key::RowKey;
 pub use versions::push_borrowed;

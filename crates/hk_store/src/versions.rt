@@ -1,30 +1,48 @@
 //! The versions of a state's facts, one by one.
 
 ghost use Rattle.std.specs.Prelude.{◌≡◌, ◌++◌, ◌∷◌, [], IfOk, OnOk, map};
-ghost use Rattle.std.specs.Option.{option_copied};
-ghost use Rattle.std.specs.List.{list_any};
+ghost use Rattle.std.specs.Option.{option_copied, option_map};
+ghost use Rattle.std.specs.Ordering.{is_le, is_lt};
 ghost use Rattle.std.specs.FinSet as set;
-ghost use Rattle.std.specs.Map.Iter.{ShowsInOrder, deref};
 ghost use Rattle.hk_types.specs.declared.version_key.VersionKey.{VersionKey};
+ghost use Rattle.hk_model.specs.History.Rows.{version_key_cmp};
 ghost use Rattle.hk_model.specs.Replica.Rules.{contents_conflict};
 ghost use Rattle.hk_store.specs.Facts.{known_at};
 ghost use Rattle.hk_store.specs.Reads.{with_facts};
-ghost use Rattle.hk_store.specs.Versions.{AreVersions, AreVersionsOf, borrowed, value_conflicts_at, conflict_at};
+ghost use Rattle.hk_store.specs.Versions.{AreVersions, AreVersionsOf, borrowed, value_conflicts_at, FirstWhere};
 
 use crate::facts::Facts;
 use hk_index::KeyIndex;
 use hk_log::Version;
-use hk_types::VersionKey;
+use hk_types::{Key, Table, VersionKey};
 use std::alloc::{AllocError, Global};
-use std::collections::btree_set::Iter;
 
 impl Facts {
     /// What is known of a version. Cost: O(log n), n facts.
     pub fn version(&self, version: &VersionKey) -> Option<&Version>
         ensures { option_copied result ≡ known_at self.now version.now }
     {
-        let chain = self.tables.chain(version.table, version.key)?;
+        let chain = self.chains.chain(version.table, version.key)?;
         chain.version(version.born)
+    }
+
+    /// The first version of which anything is known from a key of a table on, in the order of table, key and
+    /// born. It takes no memory. Cost: O(log n), n facts.
+    pub fn first_from(&self, table: Table, key: Key) -> Option<(VersionKey, &Version)>
+        ensures { FirstWhere self.now
+            (λ q. is_le (version_key_cmp (record { table = table; key = key; born = 0 }) q))
+            (option_map borrowed result) }
+    {
+        self.chains.first_from(table, key)
+    }
+
+    /// The first version after this one of which anything is known. It takes no memory.
+    /// Cost: O(log n), n facts.
+    pub fn after(&self, version: &VersionKey) -> Option<(VersionKey, &Version)>
+        ensures { FirstWhere self.now (λ q. is_lt (version_key_cmp version.now q))
+            (option_map borrowed result) }
+    {
+        self.chains.after(version)
     }
 
     /// All versions of which anything is known, in rising order. The only error is out of memory.
@@ -32,7 +50,13 @@ impl Facts {
     pub fn versions(&self, alloc: Global) -> Result<Vec<(VersionKey, &Version)>, AllocError>
         ensures { IfOk result (λ versions. AreVersions self.now (map borrowed versions.items)) }
     {
-        self.versions_of(alloc, &self.keys)
+        let mut found = Vec::new(alloc);
+        let mut next = self.first_from(Table::new(0), Key::new(0));
+        while let Some((version, known)) = next {
+            push_borrowed(&mut found, version, known)?;
+            next = self.after(&version);
+        }
+        Ok(found)
     }
 
     /// Those of a set's versions of which anything is known, in rising order. The only error is out of
@@ -75,26 +99,14 @@ impl Facts {
     pub fn conflicts_with(&self, other: &Facts) -> bool
         ensures { result ≡ contents_conflict (with_facts self.now) (with_facts other.now) }
     {
-        self.conflicts_on(other, other.keys.iter())
-    }
-
-    /// Whether one of these versions has another row, or another end, here than there.
-    fn conflicts_on(&self, other: &Facts, versions: Iter<'_, VersionKey>) -> bool
-        requires { ShowsInOrder (deref {X = VersionKey}) }
-        ensures { result ≡ list_any (conflict_at self.now other.now) versions.entry }
-    {
-        let mut versions = versions;
-        versions.any(|version| self.content_conflicts_at(other, version))
-    }
-
-    /// Whether a version has another row, or another end, here than there.
-    fn content_conflicts_at(&self, other: &Facts, version: &VersionKey) -> bool
-        ensures { result ≡ conflict_at self.now other.now version.now }
-    {
-        match other.version(version) {
-            Some(known) => self.value_conflicts_at(version, known),
-            None => false,
+        let mut next = other.first_from(Table::new(0), Key::new(0));
+        while let Some((version, known)) = next {
+            if self.value_conflicts_at(&version, known) {
+                return true;
+            }
+            next = other.after(&version);
         }
+        false
     }
 }
 

@@ -9,4 +9,4 @@ pub returns-clause-ok : goal.returns-clause-ok
 returns-clause-ok c =
     let state = with_facts c.args.facts.now in
     let vs = c.in_ok-versions.versions.items in
-    ap Rows (sym (range_answered state c.args.time c.keys.result.now c.keys.ensures c.args.table c.args.low c.args.high vs c.in_ok-versions.ensures.ok) ∙ ap (rows_shown state c.args.time) (sym c.deref.ensures.value) ∙ sym c.in_ok-rows.ensures)
+    ap Rows (sym (range_answered state c.args.time c.keys.result c.keys.ensures c.args.table c.args.low c.args.high vs c.in_ok-versions.ensures.ok) ∙ ap (rows_shown state c.args.time) (sym c.deref.ensures.value) ∙ sym c.in_ok-rows.ensures)

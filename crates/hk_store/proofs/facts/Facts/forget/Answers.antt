@@ -11,8 +11,7 @@ invariant_of-self c =
     let tag = c.tag_of-tag.ensures ∙ ap (λ f. tag_lost f v part) (sym c.self.view_is) in
     let died = c.end_of-died.ensures ∙ ap (λ f. end_lost f v part) (sym c.self.view_is) in
     record {
-      tagged = rw (c.forget_birth.ensures.tags, c.forget_listed.ensures.value, tag) (tags_left a.tables v a.tags c.self.invariant.tagged part);
-      born = rw (c.forget_birth.ensures.births, c.forget_listed.ensures.value, tag) (births_left a.tables v a.births c.self.invariant.born part);
-      dead = rw (c.forget_death.ensures, c.forget_listed.ensures.value, died) (deaths_left a.tables v a.deaths c.self.invariant.dead part);
-      keyed = c.forget_listed.ensures.keyed;
+      tagged = rw (c.forget_birth.ensures.tags, c.forget.ensures, tag) (tags_left a.chains v a.tags c.self.invariant.tagged part);
+      born = rw (c.forget_birth.ensures.births, c.forget.ensures, tag) (births_left a.chains v a.births c.self.invariant.born part);
+      dead = rw (c.forget_death.ensures, c.forget.ensures, died) (deaths_left a.chains v a.deaths c.self.invariant.dead part);
     }

@@ -1,0 +1,187 @@
+-- The facts of a stored tree of chains, and what becomes of them.
+use Rattle.std.proofs.Common.{◌≡◌, refl, sym, ap, ◌∙◌, subst, ℕ, zero, suc, ◌<◌, Bool, true, false, cond, Option, Some, None, Result, Ok, Err, OnOk, OnErr, IfErr, IfSome, IsSome, ◌⊎◌, inl, inr, nat_cmp, Bor, [], arith}
+use Rattle.std.specs.Option.{option_copied, option_and_then, IfNone}
+use Rattle.std.specs.Ordering.{eq_by_cmp}
+use Rattle.std.specs.BTreeMap.{BTreeMap}
+use Rattle.std.specs.BTreeMap as tree
+use Rattle.std.specs.FinMap as finmap
+use Rattle.hk_types.specs.declared.version_key.VersionKey.{VersionKey}
+use Rattle.hk_types.specs.declared.faults.Refusal.{Refusal}
+use Rattle.hk_types.specs.declared.faults.Refusal.TheVariants.{Memory}
+use Rattle.hk_model.specs.History.Rows.{RowKey, row_key_cmp, row_key_of, version_key_cmp, version_of}
+use Rattle.hk_model.proofs.Maps.{row_key_total, row_key_same}
+use Rattle.hk_facts.specs.declared.fact.Fact.{Fact}
+use Rattle.hk_facts.specs.declared.fact.Part.{Part}
+use Rattle.hk_facts.specs.Facts.{row_of, died_of, without}
+use Rattle.hk_facts.specs.Chains.{ChainValue, chain_put, chain_forget}
+use Rattle.hk_facts.proofs.ForgottenParts.{nothing_left}
+use Rattle.hk_facts.proofs.StoredTrees.{get_tree, get_updated, is_there, set_at_same, IfErr_map}
+use Rattle.hk_store.specs.Facts.{ChainsValue, stored_version, facts_of, no_facts, known_at, AreStored, facts_put, facts_without}
+use Rattle.hk_store.proofs.StoredFacts.{get_row, get_end, known_stored, nothing_known}
+use Rattle.hk_store.proofs.ChangedChains.{IsChainOf, IsChanged, row_is, same_facts, put_some, facts_put_ok, facts_put_err, known_put, facts_forgotten, known_forgotten}
+
+abbrev pub seen : BTreeMap RowKey ChainValue → ChainsValue
+seen m = finmap.from_entries m.entries
+
+-- ---- no chains
+
+stored_nothing : (q : VersionKey) → stored_version finmap.empty q ≡ None
+stored_nothing q = ap (option_and_then (λ c. finmap.get c q.born)) (finmap.get-empty row_key_cmp (row_key_of q))
+
+pub nothing_seen : (m : BTreeMap RowKey ChainValue) → m.entries ≡ [] → finmap.empty ≡ seen m
+nothing_seen m is = sym (ap (λ es. finmap.from_entries {R = row_key_cmp} es) is)
+
+pub nothing_stored : AreStored finmap.empty
+nothing_stored = record {
+  filled = λ k c has. cc (sym (finmap.get-empty row_key_cmp k) ∙ has);
+  known = λ q v e. cc (sym (stored_nothing q) ∙ e);
+}
+
+pub empty_facts : facts_of finmap.empty ≡ no_facts
+empty_facts = same_facts (facts_of finmap.empty) no_facts
+    (λ q. get_row finmap.empty q ∙ ap row_of (stored_nothing q) ∙ sym (finmap.get-empty version_key_cmp q))
+    (λ q. get_end finmap.empty q ∙ ap died_of (stored_nothing q) ∙ sym (finmap.get-empty version_key_cmp q))
+
+-- ---- what is looked up
+
+found : (m : BTreeMap RowKey ChainValue) (k : RowKey) (x : Option ChainValue) → x ≡ tree.get row_key_cmp m k → x ≡ finmap.get (seen m) k
+found m k x has = has ∙ sym (get_tree row_key_total m k)
+
+module _ (m : BTreeMap RowKey ChainValue) (stored : AreStored (seen m)) (k : RowKey) where
+  pub chain_some : (r : Option (Bor ChainValue)) → option_copied r ≡ tree.get row_key_cmp m k → IfSome r (λ c. (born : ℕ) → finmap.get c.now born ≡ known_at (facts_of (seen m)) (version_of k born))
+  chain_some None has = tt
+  chain_some (Some c) has = λ born. ap (option_and_then (λ d. finmap.get d born)) (found m k (Some c.now) has) ∙ sym (known_stored (seen m) stored.known (version_of k born))
+
+  pub chain_none : (r : Option (Bor ChainValue)) → option_copied r ≡ tree.get row_key_cmp m k → IfNone r ((born : ℕ) → known_at (facts_of (seen m)) (version_of k born) ≡ None)
+  chain_none None has = λ born. nothing_known (seen m) (version_of k born) (ap (option_and_then (λ d. finmap.get d born)) (sym (found m k None has)))
+  chain_none (Some c) has = tt
+
+  pub chain_filled : (r : Option (Bor ChainValue)) → option_copied r ≡ tree.get row_key_cmp m k → IfSome r (λ c. 0 < finmap.len c.now)
+  chain_filled None has = tt
+  chain_filled (Some c) has = stored.filled k c.now (sym (found m k (Some c.now) has))
+
+-- ---- chains that are not empty
+
+filled_by : (c : ChainValue) → (c ≡ finmap.empty → ⊥) → 0 < finmap.len c
+filled_by c some = size (finmap.len c) refl
+  where
+    size : (n : ℕ) → finmap.len c ≡ n → 0 < finmap.len c
+    size zero e = absurd (some (finmap.empty_of_len c e))
+    size (suc n) e = omega arith
+
+filled_changed : (m n : ChainsValue) (k : RowKey) (w : Option ChainValue) → IsChanged m n k w → ((c : ChainValue) → w ≡ Some c → 0 < finmap.len c) → AreStored m → (q : RowKey) (c : ChainValue) → finmap.get n q ≡ Some c → 0 < finmap.len c
+filled_changed m n k w is new stored q c has = cases (eq_by_cmp row_key_cmp q k) (sym (is q) ∙ has)
+  where
+    cases : (b : Bool) → cond b w (finmap.get m q) ≡ Some c → 0 < finmap.len c
+    cases true e = new c e
+    cases false e = stored.filled q c e
+
+some_filled : (d : ChainValue) → 0 < finmap.len d → (c : ChainValue) → Some d ≡ Some c → 0 < finmap.len c
+some_filled d above c e = let same : d ≡ c = cc in subst (λ (x : ChainValue). 0 < finmap.len x) same above
+
+none_filled : (c : ChainValue) → None ≡ Some c → 0 < finmap.len c
+none_filled c e = cc
+
+module _ (m : BTreeMap RowKey ChainValue) (k : RowKey) (v : VersionKey) (at : k ≡ row_key_of v) where
+  chain_there : (c : ChainValue) → Some c ≡ tree.get row_key_cmp m k → IsChainOf (seen m) (row_key_of v) c
+  chain_there c has born = ap (option_and_then (λ d. finmap.get d born)) (found m k (Some c) has ∙ ap (finmap.get (seen m)) at)
+
+  chain_absent : None ≡ tree.get row_key_cmp m k → IsChainOf (seen m) (row_key_of v) finmap.empty
+  chain_absent none born = finmap.get-empty nat_cmp born ∙ ap (option_and_then (λ d. finmap.get d born)) (found m k None none ∙ ap (finmap.get (seen m)) at)
+
+  changed : (n : BTreeMap RowKey ChainValue) (w : Option ChainValue) → tree.Updates row_key_cmp m n k w → IsChanged (seen m) (seen n) (row_key_of v) w
+  changed n w u = subst (λ (r : RowKey). IsChanged (seen m) (seen n) r w) at (get_updated row_key_total m n k w u)
+
+  pub absent_known : None ≡ tree.get row_key_cmp m k → known_at (facts_of (seen m)) v ≡ None
+  absent_known none = nothing_known (seen m) v (sym (chain_absent none v.born) ∙ finmap.get-empty nat_cmp v.born)
+
+  -- ---- a fact that is put in
+
+  module _ (fact : Fact) where
+    put_stored : (n : BTreeMap RowKey ChainValue) (c d : ChainValue) → IsChainOf (seen m) (row_key_of v) c → chain_put c v.born fact ≡ Ok d → tree.Updates row_key_cmp m n k (Some d) → AreStored (seen m) → AreStored (seen n)
+    put_stored n c d of put u stored = record {
+      filled = filled_changed (seen m) (seen n) (row_key_of v) (Some d) (changed n (Some d) u) (some_filled d (filled_by d (put_some fact (seen m) v c of d put))) stored;
+      known = known_put fact (seen m) v c of (seen n) d put (changed n (Some d) u) stored.known;
+    }
+
+    pub put_new : (n : BTreeMap RowKey ChainValue) (d : ChainValue) → None ≡ tree.get row_key_cmp m k → chain_put finmap.empty v.born fact ≡ Ok d → tree.Updates row_key_cmp m n k (Some d) → facts_put (facts_of (seen m)) v fact ≡ Ok (facts_of (seen n))
+    put_new n d none put u = facts_put_ok fact (seen m) v finmap.empty (chain_absent none) (seen n) d put (changed n (Some d) u)
+
+    pub new_stored : (n : BTreeMap RowKey ChainValue) (d : ChainValue) → None ≡ tree.get row_key_cmp m k → chain_put finmap.empty v.born fact ≡ Ok d → tree.Updates row_key_cmp m n k (Some d) → AreStored (seen m) → AreStored (seen n)
+    new_stored n d none put u stored = put_stored n finmap.empty d (chain_absent none) put u stored
+
+  -- ---- a chain that is there
+
+  module _ (c : ChainValue) (has : Some c ≡ tree.get row_key_cmp m k) where
+    module _ (n : BTreeMap RowKey ChainValue) (d : ChainValue) (u : IsSome (tree.get row_key_cmp m k) → tree.Updates row_key_cmp m n k (Some d)) where
+      changed_there : IsChanged (seen m) (seen n) (row_key_of v) (Some d)
+      changed_there = changed n (Some d) (u (is_there _ c has))
+
+      pub write_back : d ≡ c → seen n ≡ seen m
+      write_back same = finmap.same_map row_key_total row_key_same (seen n) (seen m) (λ q. changed_there q ∙ here q (eq_by_cmp row_key_cmp q (row_key_of v)) refl)
+        where
+          here : (q : RowKey) (b : Bool) → eq_by_cmp row_key_cmp q (row_key_of v) ≡ b → cond b (Some d) (finmap.get (seen m) q) ≡ finmap.get (seen m) q
+          here q true e = ap Some same ∙ found m k (Some c) has ∙ ap (finmap.get (seen m)) (at ∙ sym (row_is q (row_key_of v) e))
+          here q false e = refl
+
+      pub put_there : (fact : Fact) → chain_put c v.born fact ≡ Ok d → facts_put (facts_of (seen m)) v fact ≡ Ok (facts_of (seen n))
+      put_there fact put = facts_put_ok fact (seen m) v c (chain_there c has) (seen n) d put changed_there
+
+      pub there_stored : {A : Type 0} (fact : Fact) (r : Result A Refusal) → OnOk r (chain_put c v.born fact ≡ Ok d) → OnErr r (d ≡ c) → AreStored (seen m) → AreStored (seen n)
+      there_stored fact (Ok a) ok err stored = put_stored fact n c d (chain_there c has) ok (u (is_there _ c has)) stored
+      there_stored fact (Err why) ok err stored = subst (λ (s : ChainsValue). AreStored s) (sym (write_back err)) stored
+
+      module _ (part : Part) (is : d ≡ chain_forget c v.born part) where
+        -- what is left stays
+        pub forgot_there : facts_of (seen n) ≡ facts_without (facts_of (seen m)) v part
+        forgot_there = facts_forgotten part (seen m) (seen n) v c (Some d) (chain_there c has) changed_there (λ born. ap (λ x. finmap.get x born) is)
+
+        pub left_stored : (d ≡ finmap.empty → ⊥) → AreStored (seen m) → AreStored (seen n)
+        left_stored some stored = record {
+          filled = filled_changed (seen m) (seen n) (row_key_of v) (Some d) changed_there (some_filled d (filled_by d some)) stored;
+          known = known_forgotten part (seen m) (seen n) v c (Some d) (chain_there c has) changed_there (λ born. ap (λ x. finmap.get x born) is) stored.known;
+        }
+
+        -- an empty chain goes
+        module _ (r : BTreeMap RowKey ChainValue) (gone : tree.Updates row_key_cmp n r k None) (none : d ≡ finmap.empty) where
+          changed_gone : IsChanged (seen m) (seen r) (row_key_of v) None
+          changed_gone q =
+              subst (λ (s : RowKey). IsChanged (seen n) (seen r) s None) at (get_updated row_key_total n r k None gone) q
+              ∙ ap (cond (eq_by_cmp row_key_cmp q (row_key_of v)) None) (changed_there q)
+              ∙ twice (eq_by_cmp row_key_cmp q (row_key_of v)) (finmap.get (seen m) q)
+            where
+              twice : (b : Bool) (z : Option ChainValue) → cond b None (cond b (Some d) z) ≡ cond b None z
+              twice true z = refl
+              twice false z = refl
+
+          nothing_there : (born : ℕ) → None ≡ finmap.get (chain_forget c v.born part) born
+          nothing_there born = sym (ap (λ x. finmap.get x born) (sym is ∙ none) ∙ finmap.get-empty nat_cmp born)
+
+          pub forgot_gone : facts_of (seen r) ≡ facts_without (facts_of (seen m)) v part
+          forgot_gone = facts_forgotten part (seen m) (seen r) v c None (chain_there c has) changed_gone nothing_there
+
+          pub gone_stored : AreStored (seen m) → AreStored (seen r)
+          gone_stored stored = record {
+            filled = filled_changed (seen m) (seen r) (row_key_of v) None changed_gone none_filled stored;
+            known = known_forgotten part (seen m) (seen r) v c None (chain_there c has) changed_gone nothing_there stored.known;
+          }
+
+    -- a refusal from the chain
+    pub put_refused : {A : Type 0} (fact : Fact) (r : Result A Refusal) → IfErr r (λ why. (chain_put c v.born fact ≡ Err why) ⊎ ((why ≡ Memory) × (finmap.get c v.born ≡ None)))
+        → IfErr r (λ why. (facts_put (facts_of (seen m)) v fact ≡ Err why) ⊎ ((why ≡ Memory) × (known_at (facts_of (seen m)) v ≡ None)))
+    put_refused fact r e = IfErr_map r (λ why. either) e
+      where
+        either : {why : Refusal} → (chain_put c v.born fact ≡ Err why) ⊎ ((why ≡ Memory) × (finmap.get c v.born ≡ None)) → (facts_put (facts_of (seen m)) v fact ≡ Err why) ⊎ ((why ≡ Memory) × (known_at (facts_of (seen m)) v ≡ None))
+        either {why} (inl is) = inl (facts_put_err fact (seen m) v c (chain_there c has) why is)
+        either {why} (inr is) = inr (is.0, nothing_known (seen m) v (sym (chain_there c has v.born) ∙ is.1))
+
+  -- nothing is taken back of what is not there
+  pub forgot_absent : (part : Part) → None ≡ tree.get row_key_cmp m k → facts_of (seen m) ≡ facts_without (facts_of (seen m)) v part
+  forgot_absent part none =
+      facts_forgotten part (seen m) (seen m) v finmap.empty None (chain_absent none)
+      (λ q. here q (eq_by_cmp row_key_cmp q (row_key_of v)) refl)
+      (λ born. sym (ap (λ x. finmap.get x born) (set_at_same finmap.empty v.born _ (finmap.get-empty nat_cmp v.born ∙ sym (ap (without part) (finmap.get-empty nat_cmp v.born) ∙ nothing_left part))) ∙ finmap.get-empty nat_cmp born))
+    where
+      here : (q : RowKey) (b : Bool) → eq_by_cmp row_key_cmp q (row_key_of v) ≡ b → finmap.get (seen m) q ≡ cond b None (finmap.get (seen m) q)
+      here q true e = ap (finmap.get (seen m)) (row_is q (row_key_of v) e ∙ sym at) ∙ sym (found m k None none)
+      here q false e = refl

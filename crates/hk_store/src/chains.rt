@@ -1,0 +1,174 @@
+//! The facts of a replica, as chains of versions by row.
+
+ghost use Rattle.std.specs.Prelude.{◌≡◌, ◌==◌, filter, length, is_some, ◌⊎◌, ◌↔◌, ◌<◌, IsTrue, OnOk, OnErr, IfErr, IfOk, IfSome, IfNone, Ok, Err, Some, None, ℕ};
+ghost use Rattle.std.specs.Option.{option_copied};
+ghost use Rattle.std.specs.BTreeMap.{IsOrdered, Updates};
+ghost use Rattle.std.specs.FinMap as finmap;
+ghost use Rattle.std.specs.List.{take_while};
+ghost use Rattle.std.specs.Ordering.{is_le};
+ghost use Rattle.hk_types.specs.declared.faults.Refusal.TheVariants.{Memory};
+ghost use Rattle.hk_types.specs.declared.version_key.VersionKey.{VersionKey};
+ghost use Rattle.hk_model.specs.History.Rows.{row_key_cmp};
+ghost use Rattle.hk_model.specs.Replica.Answers.{visible, rows_where};
+ghost use Rattle.hk_facts.specs.Chains.{row_at};
+ghost use Rattle.hk_store.specs.Reads.{with_facts};
+ghost use Rattle.hk_store.specs.Facts.{no_facts, known_at, facts_put, facts_without};
+
+use crate::row_key::RowKey;
+use hk_facts::{Chain, Fact, Part};
+use hk_types::{Key, Refusal, Row, Table, Time, VersionKey};
+use std::alloc::{AllocError, Global};
+use std::collections::BTreeMap;
+use std::marker::Model;
+
+/// The rows and the ends of all versions: for each row the chain of its versions. No chain is empty, and of
+/// each version something is known.
+#[derive(Drop)]
+pub struct Chains {
+    pub(crate) chains: BTreeMap<RowKey, Chain>,
+    alloc: Global,
+}
+
+impl Model for Chains {
+    ghost use Rattle.std.specs.FinMap as finmap;
+    ghost use Rattle.hk_store.specs.Facts.{FactsValue, facts_code, facts_of, AreStored};
+
+    ghost Value = { FactsValue };
+
+    ghost coded = { facts_code };
+
+    ghost view = { λ a. facts_of (finmap.from_entries a.chains.entries) };
+
+    ghost invariant = { λ a. AreStored (finmap.from_entries a.chains.entries) };
+}
+
+impl Chains {
+    /// No facts. It takes no memory.
+    pub fn new(alloc: Global) -> Chains
+        ensures { result ≡ no_facts }
+    {
+        Chains {
+            chains: BTreeMap::new(alloc),
+            alloc,
+        }
+    }
+
+    /// The allocator that the facts grow by.
+    pub(crate) fn allocator(&self) -> Global {
+        self.alloc
+    }
+
+    /// The chain of a key of a table. Cost: O(log k), k keys of all tables.
+    pub fn chain(&self, table: Table, key: Key) -> Option<&Chain>
+        ensures some { IfSome result (λ chain. (born : ℕ) → finmap.get chain.now born
+            ≡ known_at self.now (record { table = table; key = key; born = born })) }
+        ensures none { IfNone result ((born : ℕ) →
+            known_at self.now (record { table = table; key = key; born = born }) ≡ None) }
+        ensures filled { IfSome result (λ chain. 0 < finmap.len chain.now) }
+    {
+        self.chains.get(&RowKey::new(table, key))
+    }
+
+    /// The row of a version, where it is known. Cost: O(log n), n facts.
+    pub fn row_at(&self, version: &VersionKey) -> Option<&Row>
+        ensures { option_copied result ≡ finmap.get self.now.rows version.now }
+    {
+        let chain = self.chain(version.table, version.key)?;
+        let known = chain.version(version.born)?;
+        known.row()
+    }
+
+    /// The end of a version, where it is known. Cost: O(log n), n facts.
+    pub fn end_at(&self, version: &VersionKey) -> Option<Time>
+        ensures { result ≡ finmap.get self.now.ends version.now }
+    {
+        let chain = self.chain(version.table, version.key)?;
+        let known = chain.version(version.born)?;
+        known.died()
+    }
+
+    /// Whether anything is known of a version. Cost: O(log n), n facts.
+    pub fn knows(&self, version: &VersionKey) -> bool
+        ensures { result ≡ is_some (known_at self.now version.now) }
+    {
+        match self.chain(version.table, version.key) {
+            Some(chain) => chain.version(version.born).is_some(),
+            None => false,
+        }
+    }
+
+    /// Adds a fact on a version. One that is known already changes nothing, and one that differs from what
+    /// is known is a conflict. `Memory` comes only where nothing is known of the version. A refusal
+    /// changes nothing. Cost: O(log n + b), n facts, b bytes of a body that is compared.
+    pub fn put(&mut self, version: &VersionKey, fact: Fact) -> Result<(), Refusal>
+        ensures ok { OnOk result (facts_put self.old version.now fact ≡ Ok self.new) }
+        ensures err { IfErr result (λ why. (facts_put self.old version.now fact ≡ Err why)
+            ⊎ ((why ≡ Memory) × (known_at self.old version.now ≡ None))) }
+        ensures kept { OnErr result (self.new ≡ self.old) }
+    {
+        let row = RowKey::of_version(version);
+        if let Some(chain) = self.chains.get_mut(&row) {
+            return chain.put(version.born, fact);
+        }
+        let chain = Chain::of_fact(self.alloc, version.born, fact)?;
+        insert(&mut self.chains, row, chain)?;
+        Ok(())
+    }
+
+    /// Takes a part of a version back, where it is known. Cost: O(log n), n facts.
+    pub fn forget(&mut self, version: &VersionKey, part: Part)
+        ensures { self.new ≡ facts_without self.old version.now part }
+    {
+        let row = RowKey::of_version(version);
+        let Some(chain) = self.chains.get_mut(&row) else {
+            return;
+        };
+        chain.forget(version.born, part);
+        if !chain.is_empty() {
+            return;
+        }
+        self.chains.remove(&row);
+    }
+
+    /// How many rows of a table show at a time. It takes no memory. Cost: O(log n + k · log n),
+    /// n facts, k keys of the table.
+    pub fn count_at(&self, table: Table, time: Time) -> usize
+        ensures { result ≡ length (rows_where
+            (λ k row. k.table == table) (visible (with_facts self.now) time)) }
+    {
+        count_from(&self.chains, RowKey::new(table, Key::new(0)), time)
+    }
+
+    /// The same facts again. The only error is out of memory. Cost: O(n · log n + b), n facts, b bytes of
+    /// bodies, all copied.
+    pub fn copy(&self, alloc: Global) -> Result<Chains, AllocError>
+        ensures { IfOk result (λ facts. facts ≡ self.now) }
+    {
+        let mut chains = BTreeMap::new(alloc);
+        for (row, chain) in &self.chains {
+            insert(&mut chains, *row, chain.copy(alloc)?)?;
+        }
+        Ok(Chains { chains, alloc })
+    }
+}
+
+/// How many chains of a table have a row at a time, of those from a row on.
+fn count_from(chains: &BTreeMap<RowKey, Chain>, first: RowKey, time: Time) -> usize
+    ensures value { result ≡ length (filter (λ e. is_some (row_at e.1 time)) (take_while (λ e. e.0.table == first.table)
+        (filter (λ e. is_le (row_key_cmp first e.0)) chains.now.entries))) }
+    ensures ordered { IsOrdered row_key_cmp chains.now }
+{
+    chains
+        .range(first..)
+        .take_while(|(row, _chain)| row.table == first.table)
+        .filter(|(_row, chain)| chain.at(time).is_some())
+        .count()
+}
+
+fn insert(chains: &mut BTreeMap<RowKey, Chain>, row: RowKey, chain: Chain) -> Result<(), AllocError>
+    ensures ok { OnOk result (Updates row_key_cmp chains.old chains.new row (Some chain)) }
+    ensures err { OnErr result (chains.new.entries ≡ chains.old.entries) }
+{
+    chains.insert(row, chain)?;
+    Ok(())
+}
