@@ -104,5 +104,7 @@ pub(crate) fn has_row(held: Option<&Version>) -> bool
 fn has_conflict(own: &Facts, facts: &[(VersionKey, Version)]) -> bool
     ensures { result ≡ list_any (λ e. value_conflicts_at own.now e.0 e.1) facts.now }
 {
-    facts.iter().any(|(version, known)| own.value_conflicts_at(version, known))
+    facts
+        .iter()
+        .any(|(version, known)| own.value_conflicts_at(version, known))
 }

@@ -50,9 +50,9 @@ loop-next-preserved c =
     record {
       known = next_known facts _ c.after-next.result c.after-next.ensures;
       rows = one_passed (row_comes own k.old k.horizon) facts e next known c.after-next.ensures before.rows.items o.change.rows.items new.rows.items
-      (λ q. o.invariant.rows q ∙ ap (λ n. or_else (find version_key_cmp q before.rows.items) (picked_before (row_comes own k.old k.horizon) facts (option_map borrowed n) q)) c.in-Some.is) took.rows;
+          (λ q. o.invariant.rows q ∙ ap (λ n. or_else (find version_key_cmp q before.rows.items) (picked_before (row_comes own k.old k.horizon) facts (option_map borrowed n) q)) c.in-Some.is) took.rows;
       ends = one_passed (end_comes own k.old k.horizon) facts e next known c.after-next.ensures before.ends.items o.change.ends.items new.ends.items
-      (λ q. o.invariant.ends q ∙ ap (λ n. or_else (find version_key_cmp q before.ends.items) (picked_before (end_comes own k.old k.horizon) facts (option_map borrowed n) q)) c.in-Some.is) took.ends;
+          (λ q. o.invariant.ends q ∙ ap (λ n. or_else (find version_key_cmp q before.ends.items) (picked_before (end_comes own k.old k.horizon) facts (option_map borrowed n) q)) c.in-Some.is) took.ends;
       drops = c.take_version.ensures.drops ∙ o.invariant.drops;
       horizon = c.take_version.ensures.horizon ∙ o.invariant.horizon;
     }
