@@ -28,9 +28,7 @@ use Rattle.hk_model.specs.Replica.Fragments.{FragmentValue}
 use Rattle.hk_model.specs.Replica.Rules.{contents_conflict, join_result}
 use Rattle.hk_store.specs.Versions.{value_conflicts_at}
 use Rattle.hk_store.proofs.ListedVersions.{conflict_listed}
-use Rattle.hk_merge.specs.Listed.{facts_listed, fragment_listed}
 use Rattle.hk_merge.specs.Calls.{Joins}
-use Rattle.hk_merge.proofs.JoinRefusals.{wrong_log_by, listed_itself, listed_whole}
 use Rattle.hk_log.specs.declared.item.Item.{Item}
 use Rattle.hk_model.specs.Replica.ContentOf.{content_of}
 use Rattle.hk_model.specs.Replica.Fragments.{part}
@@ -46,32 +44,9 @@ use Rattle.hk_fragment.proofs.ListedVersions.{listed_of, pairs}
 use Rattle.hk_state.proofs.Represented.{inside, has_conflict_with}
 use Rattle.hk_fragment.proofs.FoundVersions.{find_listed, versions_are, each_found, below_In, all_from}
 
--- what is borrowed of a content's list makes the content's facts
-pub listed_are : (c : Content) (xs : List Known) → xs ≡ versions_listed c → AreVersions (facts_listed xs) xs
-listed_are c xs is = listed_itself (facts_of_content c) (versions_listed c) xs (versions_are c) is
-
--- what is sent of a fragment is the fragment
-pub sent_is : (f : FragmentValue) (config : ConfigValue) (base horizon : ℕ) (streams : List StreamContent) (xs : List Known) → config.log ≡ f.content.log → base ≡ f.base → horizon ≡ f.content.horizon → streams ≡ f.content.streams → xs ≡ versions_listed f.content
-    → fragment_listed config base horizon streams xs ≡ f
-sent_is f config base horizon streams xs log at same got is = λ i. record {
-  base = at i;
-  content = record {
-    log = log i;
-    horizon = same i;
-    rows = ((λ j. (facts_listed (is j)).rows) ∙ (λ j. (listed_whole (facts_of_content f.content) (versions_listed f.content) (versions_are f.content) j).rows)) i;
-    ends = ((λ j. (facts_listed (is j)).ends) ∙ (λ j. (listed_whole (facts_of_content f.content) (versions_listed f.content) (versions_are f.content) j).ends)) i;
-    streams = got i;
-  };
-}
-
 -- the list conflicts where the content does
 pub listed_conflicts : (t c : Content) (xs : List Known) → xs ≡ versions_listed c → list_any (λ e. value_conflicts_at (facts_of_content t) e.0 e.1) xs ≡ contents_conflict t c
 listed_conflicts t c xs is = ap (list_any (λ (e : Known). value_conflicts_at (facts_of_content t) e.0 e.1)) is ∙ conflict_listed (facts_of_content t) (facts_of_content c) (versions_listed c) (versions_are c)
-
--- a fragment's log fits as its configuration does
-pub fits_by : (t : Content) (f : FragmentValue) (config : ConfigValue) (log : config.log ≡ f.content.log) (streams : length f.content.streams ≡ config.streams) {r : Option Refusal}
-    → cond (not (config.log == t.log)) (Some ForeignLog) (cond (not (config.streams == length t.streams)) (Some WrongStreams) None) ≡ r → wrong_log_by t f config.streams streams ≡ r
-fits_by t f config log streams fits = ap (λ n. cond (not (n == t.log)) (Some ForeignLog) (cond (not (config.streams == length t.streams)) (Some WrongStreams) None)) (sym log) ∙ fits
 
 -- ---- parts of one history
 

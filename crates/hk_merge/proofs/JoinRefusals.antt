@@ -1,16 +1,11 @@
 -- What joining gives, refusal by refusal.
 use Rattle.std.proofs.Common.{◌≡◌, refl, sym, ap, ◌∙◌, subst, ℕ, ◌<◌, Bool, true, false, cond, not, ◌||◌, ◌==◌, ◌++◌, max, Option, Some, None, List, [], ◌∷◌, map, length, Result, Ok, Err, OnOk, OnErr, IfErr, IsErr, IsErrAnd, inl, inr, nat_lt, arith, true≢false}
 use Rattle.std.proofs.lemmas.Bool.Decides.{nat_tests}
-use Rattle.std.specs.Borrow.{Bor}
-use Rattle.std.specs.List.{list_any}
 use Rattle.std.specs.FinMap as finmap
 use Rattle.hk_types.specs.Values.{RowValue, ConfigValue, same_row}
 use Rattle.hk_types.specs.declared.version_key.VersionKey.{VersionKey}
 use Rattle.hk_types.specs.declared.faults.Refusal.{Refusal}
 use Rattle.hk_types.specs.declared.faults.Refusal.TheVariants.{ForeignLog, WrongStreams, Gap, Conflict, Memory}
-use Rattle.hk_log.specs.Versions.{VersionValue}
-use Rattle.hk_model.specs.Replica.Maps.{maps_conflict}
-use Rattle.hk_model.specs.Replica.Streams.{StreamContent}
 use Rattle.hk_model.specs.Replica.Content.{Content, readable, at_most}
 use Rattle.hk_model.specs.Replica.Fragments.{FragmentValue, cut}
 use Rattle.hk_model.specs.Replica.Lawful.{IsLawful}
@@ -18,15 +13,7 @@ use Rattle.hk_model.specs.Replica.Replicas.{Represents}
 use Rattle.hk_model.specs.Replica.Rules.{contents_conflict, join_result, content_after_join}
 use Rattle.hk_model.proofs.Maps.{version_key_total, version_key_same, get-retain, get-without_ended}
 use Rattle.hk_model.proofs.Laws.{merge_law_proof}
-use Rattle.hk_store.specs.Facts.{FactsValue}
-use Rattle.hk_store.specs.Reads.{facts_of_content, with_facts}
-use Rattle.hk_store.specs.Versions.{AreVersions, borrowed, value_conflicts_at}
-use Rattle.hk_store.proofs.ListedVersions.{conflict_listed}
-use Rattle.hk_merge.specs.Listed.{facts_listed, rows_listed, ends_listed, fragment_listed}
 use Rattle.hk_merge.specs.Calls.{Joins, Merges, MergesOf}
-use Rattle.hk_store.proofs.PickedVersions.{find_picked}
-use Rattle.hk_store.proofs.EntryConflicts.{any_map}
-use Rattle.hk_merge.proofs.WorkedOutChange.{known_by}
 use Rattle.hk_state.proofs.Represented.{inside, has_conflict_with}
 
 -- ---- where the log fits
@@ -80,22 +67,10 @@ module _ (t : Content) (f : FragmentValue) (streams : ℕ) (as_many : length f.c
       join_gives (Ok done) new ok err kept = join_done ∙ ap Ok (sym ok)
       join_gives (Err why) new ok err kept = (kept, inr (err, (content_after_join t f, join_done)))
 
-      pub join_refusal_without_memory : (r : Result (Unit {0}) Refusal) → IsErr r → IsErrAnd r (λ why. why ≡ Memory) → Joins t t f r
-      join_refusal_without_memory (Ok done) err memory = absurd (true≢false (sym err))
-      join_refusal_without_memory (Err why) err memory = (refl, inr (memory, (content_after_join t f, join_done)))
-
--- ---- a list of versions
-
--- what is sent conflicts where one of its versions differs
-pub listed_conflict : (t : Content) (c : Content) (xs : List (VersionKey × Bor VersionValue)) → AreVersions (facts_of_content c) (map borrowed xs) → list_any (λ e. value_conflicts_at (facts_of_content t) e.0 e.1.now) xs ≡ contents_conflict t c
-listed_conflict t c xs are = sym (any_map (λ (e : VersionKey × VersionValue). value_conflicts_at (facts_of_content t) e.0 e.1) borrowed xs) ∙ conflict_listed (facts_of_content t) (facts_of_content c) (map borrowed xs) are
-
--- the facts that all versions of facts make are these facts
-pub listed_whole : (f : FactsValue) (es : List (VersionKey × VersionValue)) → AreVersions f es → facts_listed es ≡ f
-listed_whole f es are = λ i. record {
-  rows = finmap.same_map version_key_total version_key_same (finmap.from_entries (rows_listed es)) f.rows (λ q. finmap.get-from_entries version_key_total (rows_listed es) q ∙ find_picked f (λ v x. x.row) q es are ∙ known_by (λ x. x.row) (finmap.get f.rows q) (finmap.get f.ends q) refl) i;
-  ends = finmap.same_map version_key_total version_key_same (finmap.from_entries (ends_listed es)) f.ends (λ q. finmap.get-from_entries version_key_total (ends_listed es) q ∙ find_picked f (λ v x. x.died) q es are ∙ known_by (λ x. x.died) (finmap.get f.rows q) (finmap.get f.ends q) refl) i;
-}
+-- what is of a log fits as its configuration does
+pub fits_by : (t : Content) (f : FragmentValue) (config : ConfigValue) (log : config.log ≡ f.content.log) (streams : length f.content.streams ≡ config.streams) {r : Option Refusal}
+    → cond (not (config.log == t.log)) (Some ForeignLog) (cond (not (config.streams == length t.streams)) (Some WrongStreams) None) ≡ r → wrong_log_by t f config.streams streams ≡ r
+fits_by t f config log streams fits = ap (λ n. cond (not (n == t.log)) (Some ForeignLog) (cond (not (config.streams == length t.streams)) (Some WrongStreams) None)) (sym log) ∙ fits
 
 -- ---- the whole of a content
 
@@ -126,45 +101,6 @@ module _ (c : Content) (lawful : IsLawful c) where
 
   pub whole_is : record { base = 0; content = c } ≡ cut c 0
   whole_is = λ i. record { base = 0; content = record { log = c.log; horizon = c.horizon; rows = sym whole_rows i; ends = sym whole_ends i; streams = c.streams } }
-
-  pub whole_conflicts : (t : Content) → contents_conflict t c ≡ contents_conflict t (cut c 0).content
-  whole_conflicts t = ap (λ (f : FragmentValue). contents_conflict t f.content) whole_is
-
--- ---- a peer's whole
-
-module _ (t c : Content) (lawful : IsLawful c) where
-  -- a peer's facts conflict with the target's where its whole does
-  pub peer_conflicts : (f g : FactsValue) → f.rows ≡ t.rows → f.ends ≡ t.ends → g.rows ≡ c.rows → g.ends ≡ c.ends → contents_conflict (with_facts f) (with_facts g) ≡ contents_conflict t (cut c 0).content
-  peer_conflicts f g a b x y = (λ i. maps_conflict same_row (a i) (x i) || maps_conflict (λ a b. a == b) (b i) (y i)) ∙ whole_conflicts c lawful t
-
-  -- what is sent of a peer is its whole
-  pub sent_whole : (config : ConfigValue) (base horizon : ℕ) (streams : List StreamContent) (xs es : List (VersionKey × VersionValue)) (f : FactsValue) → AreVersions f es → f.rows ≡ c.rows → f.ends ≡ c.ends
-      → config.log ≡ c.log → base ≡ 0 → horizon ≡ c.horizon → streams ≡ c.streams → xs ≡ es → fragment_listed config base horizon streams xs ≡ cut c 0
-  sent_whole config base horizon streams xs es f are a b log at_0 same got listed =
-      (λ i. record {
-        base = at_0 i;
-        content = record {
-          log = log i;
-          horizon = same i;
-          rows = ((λ j. (facts_listed (listed j)).rows) ∙ (λ j. (listed_whole f es are j).rows) ∙ a) i;
-          ends = ((λ j. (facts_listed (listed j)).ends) ∙ (λ j. (listed_whole f es are j).ends) ∙ b) i;
-          streams = got i;
-        };
-      })
-      ∙ whole_is c lawful
-
-  -- a peer's log fits as its configuration does
-  pub peer_fits : (config : ConfigValue) (log : config.log ≡ c.log) (streams : length (cut c 0).content.streams ≡ config.streams)
-      → None ≡ cond (not (config.log == t.log)) (Some ForeignLog) (cond (not (config.streams == length t.streams)) (Some WrongStreams) None) → wrong_log_by t (cut c 0) config.streams streams ≡ None
-  peer_fits config log streams fits = ap (λ n. cond (not (n == t.log)) (Some ForeignLog) (cond (not (config.streams == length t.streams)) (Some WrongStreams) None)) (sym log) ∙ sym fits
-
--- all versions of facts are those of the facts that they make
-pub listed_itself : (f : FactsValue) (es xs : List (VersionKey × VersionValue)) → AreVersions f es → xs ≡ es → AreVersions (facts_listed xs) xs
-listed_itself f es xs are is = subst (λ l. AreVersions (facts_listed l) l) (sym is) (subst (λ g. AreVersions g es) (sym (listed_whole f es are)) are)
-
-pub ok_along : {X Y : Type 0} (r : Result (Unit {0}) Refusal) (new : Y) (g : X → Y) {a b : X} → a ≡ b → OnOk r (new ≡ g a) → OnOk r (new ≡ g b)
-ok_along (Ok done) new g same is = is ∙ ap g same
-ok_along (Err why) new g same is = is
 
 -- ---- merges of what represents items
 

@@ -1,5 +1,6 @@
 pub mod GrowingLists
 pub mod ListedChange
 pub mod WorkedOutChange
+pub mod WalkedFacts
 pub mod RisingHorizon
 pub mod JoinRefusals

@@ -22,25 +22,15 @@ use Rattle.hk_store.specs.Facts.{FactsValue, known_at}
 use Rattle.hk_store.specs.Drops.{is_among}
 use Rattle.hk_store.specs.Indexed.{is_stated}
 use Rattle.hk_store.specs.Reads.{facts_of_content}
-use Rattle.hk_store.specs.Versions.{AreVersions, AreVersionsOf}
-use Rattle.hk_merge.specs.Listed.{facts_listed}
-use Rattle.hk_merge.specs.Plans.{goes, stays, may_go, row_back, end_back, all_gone, rows_back, ends_back, passes, known_in, rises, is_sent, gone_at, row_back_at, end_back_at, keys_of_rows, old_come, row_comes, end_comes, rows_come, ends_come, row_comes_at, end_comes_at}
-use Rattle.hk_store.proofs.PickedVersions.{find_picked, find_known, unlisted}
+use Rattle.hk_store.specs.Versions.{AreVersionsOf}
+use Rattle.hk_merge.specs.Plans.{goes, stays, may_go, row_back, end_back, all_gone, rows_back, ends_back, passes, known_in, rises, is_sent, gone_at, row_back_at, end_back_at, old_come, row_coming, end_coming, row_comes_at, end_comes_at}
+use Rattle.hk_store.proofs.PickedVersions.{find_known, unlisted}
 use Rattle.hk_store.proofs.StoredFacts.{or_none}
-use Rattle.hk_merge.proofs.ListedChange.{among_picked, among_known}
-use Rattle.hk_merge.proofs.WorkedOutChange.{pass_by}
+use Rattle.hk_merge.proofs.ListedChange.{among_known}
 
 -- the facts of a state's content, by their parts
 pub facts_are : (f : FactsValue) (c : Content) → f.rows ≡ c.rows → f.ends ≡ c.ends → f ≡ facts_of_content c
 facts_are f c rows ends = λ i. record { rows = rows i; ends = ends i }
-
--- the set of the versions whose rows are sent
-pub row_sent : (sent : List (VersionKey × VersionValue)) → AreVersions (facts_listed sent) sent → (rows : set.FinSet version_key_cmp) → rows ≡ set.from_list (keys_of_rows sent) → (q : VersionKey) → set.contains rows q ≡ is_some (finmap.get (facts_listed sent).rows q)
-row_sent sent are rows is q =
-    ap (λ s. set.contains s q) is
-    ∙ set.contains-from_list version_key_total (keys_of_rows sent) q
-    ∙ among_picked (facts_listed sent) (λ v x. is_some x.row) q sent are
-    ∙ pass_by (λ x. is_some x.row) (finmap.get (facts_listed sent).rows q) (finmap.get (facts_listed sent).ends q) refl
 
 known_is : (x y : VersionValue) → if_known x ≡ Some y → x ≡ y
 known_is x y e = by (is_known x) e
@@ -77,40 +67,37 @@ untouched false h sent q r d e = by (at_most h d) e (is_some r) (nat_lt h q.born
     by false e true false = refl
     by false e false b = refl
 
-module _ (t : Content) (f : FragmentValue) (up : rises t f ≡ true) (own : List (VersionKey × VersionValue)) (some : VersionKey → Bool) (are : AreVersionsOf (facts_of_content t) some own) (whole : Bool) (by : whole ≡ (f.base == 0)) (rows : set.FinSet version_key_cmp) (sent : (q : VersionKey) → set.contains rows q ≡ is_sent t f q) (may : (q : VersionKey) → some q ≡ may_go whole f.content.horizon (facts_of_content t) q) where
+module _ (t : Content) (f : FragmentValue) (up : rises t f ≡ true) (own : List (VersionKey × VersionValue)) (some : VersionKey → Bool) (are : AreVersionsOf (facts_of_content t) some own) (whole : Bool) (by : whole ≡ (f.base == 0)) (may : (q : VersionKey) → some q ≡ may_go whole f.content.horizon (facts_of_content t) q) where
   -- a version that is not listed stays
   stays_whole : (q : VersionKey) (x : VersionValue) → known_at (facts_of_content t) q ≡ Some x → is_among (map (λ e. e.0) own) q ≡ false → goes (f.base == 0) f.content.horizon (is_sent t f) q x ≡ false
   stays_whole q x k e =
       subst (λ y. goes (f.base == 0) f.content.horizon (is_sent t f) q y ≡ false) (known_is _ x k)
       (untouched (f.base == 0) f.content.horizon (is_sent t f) q (finmap.get t.rows q) (finmap.get t.ends q) (ap (λ b. may_go b f.content.horizon (facts_of_content t) q) (sym by) ∙ sym (may q) ∙ unlisted (facts_of_content t) some own are q x k e))
 
-  has : set.contains rows ≡ is_sent t f
-  has = λ i q. sent q i
-
-  pub risen_drops : (old new : List VersionKey) → new ≡ old ++ all_gone whole f.content.horizon (set.contains rows) own → (q : VersionKey) → is_among new q ≡ (is_among old q || gone_at t f q)
+  pub risen_drops : (old new : List VersionKey) → new ≡ old ++ all_gone whole f.content.horizon (is_sent t f) own → (q : VersionKey) → is_among new q ≡ (is_among old q || gone_at t f q)
   risen_drops old new is q =
       ap (λ l. is_among l q) is
-      ∙ list_any-append (eq_by_cmp version_key_cmp q) old (all_gone whole f.content.horizon (set.contains rows) own)
+      ∙ list_any-append (eq_by_cmp version_key_cmp q) old (all_gone whole f.content.horizon (is_sent t f) own)
       ∙ ap (λ b. is_among old q || b) (
-      (λ i. is_among (all_gone (by i) f.content.horizon (has i) own) q)
+      (λ i. is_among (all_gone (by i) f.content.horizon (is_sent t f) own) q)
       ∙ among_known (facts_of_content t) (goes (f.base == 0) f.content.horizon (is_sent t f)) q own are.known (λ x k e. stays_whole q x k e)
       ∙ ap (λ b. b && passes (goes (f.base == 0) f.content.horizon (is_sent t f) q) (known_in t q)) (sym up))
 
-  pub risen_rows : (old new : List (VersionKey × RowValue)) → new ≡ old ++ rows_back whole f.content.horizon (set.contains rows) own → (q : VersionKey) → find version_key_cmp q new ≡ or_else (find version_key_cmp q old) (row_back_at t f q)
+  pub risen_rows : (old new : List (VersionKey × RowValue)) → new ≡ old ++ rows_back whole f.content.horizon (is_sent t f) own → (q : VersionKey) → find version_key_cmp q new ≡ or_else (find version_key_cmp q old) (row_back_at t f q)
   risen_rows old new is q =
       ap (find version_key_cmp q) is
-      ∙ find-append version_key_cmp q old (rows_back whole f.content.horizon (set.contains rows) own)
+      ∙ find-append version_key_cmp q old (rows_back whole f.content.horizon (is_sent t f) own)
       ∙ ap (λ x. or_else (find version_key_cmp q old) x) (
-      (λ i. find version_key_cmp q (rows_back (by i) f.content.horizon (has i) own))
+      (λ i. find version_key_cmp q (rows_back (by i) f.content.horizon (is_sent t f) own))
       ∙ find_known (facts_of_content t) (row_back (f.base == 0) f.content.horizon (is_sent t f)) q own are.known (λ x k e. ap (λ b. cond (b && stays (f.base == 0) f.content.horizon (is_sent t f) q x) x.row None) (stays_whole q x k e))
       ∙ ap (λ b. cond b (option_and_then (row_back (f.base == 0) f.content.horizon (is_sent t f) q) (known_in t q)) None) (sym up))
 
-  pub risen_ends : (old new : List (VersionKey × ℕ)) → new ≡ old ++ ends_back whole f.content.horizon (set.contains rows) own → (q : VersionKey) → find version_key_cmp q new ≡ or_else (find version_key_cmp q old) (end_back_at t f q)
+  pub risen_ends : (old new : List (VersionKey × ℕ)) → new ≡ old ++ ends_back whole f.content.horizon (is_sent t f) own → (q : VersionKey) → find version_key_cmp q new ≡ or_else (find version_key_cmp q old) (end_back_at t f q)
   risen_ends old new is q =
       ap (find version_key_cmp q) is
-      ∙ find-append version_key_cmp q old (ends_back whole f.content.horizon (set.contains rows) own)
+      ∙ find-append version_key_cmp q old (ends_back whole f.content.horizon (is_sent t f) own)
       ∙ ap (λ x. or_else (find version_key_cmp q old) x) (
-      (λ i. find version_key_cmp q (ends_back (by i) f.content.horizon (has i) own))
+      (λ i. find version_key_cmp q (ends_back (by i) f.content.horizon (is_sent t f) own))
       ∙ find_known (facts_of_content t) (end_back (f.base == 0) f.content.horizon (is_sent t f)) q own are.known (λ x k e. ap (λ b. cond (b && not (at_most f.content.horizon x.died)) x.died None) (stays_whole q x k e))
       ∙ ap (λ b. cond b (option_and_then (end_back (f.base == 0) f.content.horizon (is_sent t f) q) (known_in t q)) None) (sym up))
 
@@ -148,17 +135,11 @@ some_rise a b e = grind (arith, nat_tests)
 
 -- ---- what is sent
 
-module _ (t : Content) (f : FragmentValue) (own : FactsValue) (owns : own ≡ facts_of_content t) (old : Bool) (by : old ≡ old_come t f) (h : ℕ) (at : h ≡ max t.horizon f.content.horizon) (sent : List (VersionKey × VersionValue)) (are : AreVersions (facts_of_content f.content) sent) where
-  pub come_rows : (before now new : List (VersionKey × RowValue)) → before ≡ [] → ((q : VersionKey) → find version_key_cmp q now ≡ or_else (find version_key_cmp q before) (row_back_at t f q)) → new ≡ now ++ rows_come own old h sent → (q : VersionKey) → find version_key_cmp q new ≡ or_else (row_back_at t f q) (row_comes_at t f q)
-  come_rows before now new none back is q =
-      ap (find version_key_cmp q) is
-      ∙ find-append version_key_cmp q now (rows_come own old h sent)
-      ∙ (λ i. or_else ((back q ∙ ap (λ es. or_else (find version_key_cmp q es) (row_back_at t f q)) none) i) (find version_key_cmp q (rows_come (owns i) (by i) (at i) sent)))
-      ∙ ap (or_else (row_back_at t f q)) (find_picked (facts_of_content f.content) (row_comes (facts_of_content t) (old_come t f) (max t.horizon f.content.horizon)) q sent are)
+module _ (t : Content) (f : FragmentValue) (own : FactsValue) (owns : own ≡ facts_of_content t) (old : Bool) (by : old ≡ old_come t f) (h : ℕ) (at : h ≡ max t.horizon f.content.horizon) where
+  pub come_rows : (before now new : List (VersionKey × RowValue)) → before ≡ [] → ((q : VersionKey) → find version_key_cmp q now ≡ or_else (find version_key_cmp q before) (row_back_at t f q))
+      → ((q : VersionKey) → find version_key_cmp q new ≡ or_else (find version_key_cmp q now) (row_coming own old h f.content q)) → (q : VersionKey) → find version_key_cmp q new ≡ or_else (row_back_at t f q) (row_comes_at t f q)
+  come_rows before now new none back is q = is q ∙ (λ i. or_else ((back q ∙ ap (λ es. or_else (find version_key_cmp q es) (row_back_at t f q)) none) i) (row_coming (owns i) (by i) (at i) f.content q))
 
-  pub come_ends : (before now new : List (VersionKey × ℕ)) → before ≡ [] → ((q : VersionKey) → find version_key_cmp q now ≡ or_else (find version_key_cmp q before) (end_back_at t f q)) → new ≡ now ++ ends_come own old h sent → (q : VersionKey) → find version_key_cmp q new ≡ or_else (end_back_at t f q) (end_comes_at t f q)
-  come_ends before now new none back is q =
-      ap (find version_key_cmp q) is
-      ∙ find-append version_key_cmp q now (ends_come own old h sent)
-      ∙ (λ i. or_else ((back q ∙ ap (λ es. or_else (find version_key_cmp q es) (end_back_at t f q)) none) i) (find version_key_cmp q (ends_come (owns i) (by i) (at i) sent)))
-      ∙ ap (or_else (end_back_at t f q)) (find_picked (facts_of_content f.content) (end_comes (facts_of_content t) (old_come t f) (max t.horizon f.content.horizon)) q sent are)
+  pub come_ends : (before now new : List (VersionKey × ℕ)) → before ≡ [] → ((q : VersionKey) → find version_key_cmp q now ≡ or_else (find version_key_cmp q before) (end_back_at t f q))
+      → ((q : VersionKey) → find version_key_cmp q new ≡ or_else (find version_key_cmp q now) (end_coming own old h f.content q)) → (q : VersionKey) → find version_key_cmp q new ≡ or_else (end_back_at t f q) (end_comes_at t f q)
+  come_ends before now new none back is q = is q ∙ (λ i. or_else ((back q ∙ ap (λ es. or_else (find version_key_cmp q es) (end_back_at t f q)) none) i) (end_coming (owns i) (by i) (at i) f.content q))

@@ -1,3 +1,3 @@
 pub mod Calls
-pub mod Listed
+pub mod Sent
 pub mod Plans

@@ -66,10 +66,6 @@ module _ (own : FactsValue) (old : Bool) (h : ℕ) where
   abbrev pub ends_come : List (VersionKey × VersionValue) → List (VersionKey × ℕ)
   ends_come sent = flat_map (λ e. entry_if e.0 (end_comes e.0 e.1)) sent
 
--- the versions of a list whose rows are known
-abbrev pub keys_of_rows : List (VersionKey × VersionValue) → List VersionKey
-keys_of_rows versions = flat_map (λ e. if is_some e.1.row then e.0 ∷ [] else []) versions
-
 -- ---- of a target and what is sent to it, at a version
 
 -- whether a test passes of what is known, where anything is
@@ -80,6 +76,15 @@ passes test (Some x) = test x
 -- what is known of a version in a content
 abbrev pub known_in : Content → VersionKey → Option VersionValue
 known_in c v = known_at (facts_of_content c) v
+
+module _ (own : FactsValue) (old : Bool) (h : ℕ) (sent : Content) where
+  -- the row that comes of a content that is sent, where the target has none
+  abbrev pub row_coming : VersionKey → Option RowValue
+  row_coming v = option_and_then (row_comes own old h v) (known_in sent v)
+
+  -- the end that comes so
+  abbrev pub end_coming : VersionKey → Option ℕ
+  end_coming v = option_and_then (end_comes own old h v) (known_in sent v)
 
 module _ (t : Content) (f : FragmentValue) where
   -- whether the horizon rises
@@ -104,7 +109,7 @@ module _ (t : Content) (f : FragmentValue) where
   end_back_at v = if rises then option_and_then (end_back (f.base == 0) f.content.horizon is_sent v) (known_in t v) else None
 
   abbrev pub row_comes_at : VersionKey → Option RowValue
-  row_comes_at v = option_and_then (row_comes (facts_of_content t) old_come (max t.horizon f.content.horizon) v) (known_in f.content v)
+  row_comes_at v = row_coming (facts_of_content t) old_come (max t.horizon f.content.horizon) f.content v
 
   abbrev pub end_comes_at : VersionKey → Option ℕ
-  end_comes_at v = option_and_then (end_comes (facts_of_content t) old_come (max t.horizon f.content.horizon) v) (known_in f.content v)
+  end_comes_at v = end_coming (facts_of_content t) old_come (max t.horizon f.content.horizon) f.content v

@@ -2,10 +2,10 @@
 #![tactic(auto)]
 
 mod join;
-mod merge_input;
 mod plan;
 mod refusals;
+mod sent;
 
-pub use join::{join_agreed, join_sent, merge};
-pub use merge_input::MergeInput;
+pub use join::{join_sent, merge};
 pub use refusals::wrong_log;
+pub use sent::Sent;

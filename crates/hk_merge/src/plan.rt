@@ -2,31 +2,37 @@
 
 ghost use Rattle.std.specs.Prelude.{◌≡◌, ◌++◌, ◌∷◌, [], map, is_some, OnOk, IfOk, IfErr, if◌then◌else◌};
 ghost use Rattle.std.specs.Option.{option_copied};
+ghost use Rattle.std.specs.FinMap.{find};
 ghost use Rattle.std.specs.FinSet as set;
 ghost use Rattle.hk_types.specs.declared.faults.Refusal.TheVariants.{Memory};
 ghost use Rattle.hk_types.specs.declared.version_key.VersionKey.{VersionKey};
-ghost use Rattle.hk_facts.specs.Facts.{row_of, died_of};
+ghost use Rattle.hk_model.specs.History.Rows.{version_key_cmp};
+ghost use Rattle.hk_model.specs.Replica.Maps.{or_else};
+ghost use Rattle.hk_facts.specs.Facts.{died_of};
 ghost use Rattle.hk_store.specs.Facts.{entry_if};
 ghost use Rattle.hk_store.specs.Versions.{borrowed};
-ghost use Rattle.hk_merge.specs.Plans.{stays, goes, row_back, end_back, all_gone, rows_back, ends_back, row_comes, end_comes, rows_come, ends_come, keys_of_rows, may_go};
+ghost use Rattle.hk_merge.specs.Plans.{stays, goes, row_back, end_back, all_gone, rows_back, ends_back, row_comes, end_comes, row_coming, end_coming, may_go};
+ghost use Rattle.hk_merge.specs.Sent.{fragment_sent, sends_row};
 
+use crate::sent::{Sent, has_row};
 use hk_facts::ended_by;
+use hk_fragment::Fragment;
 use hk_index::VersionSet;
 use hk_log::Version;
-use hk_state::Change;
+use hk_state::{Change, ReplicaState};
 use hk_store::Facts;
-use hk_types::{Refusal, Row, Time, VersionKey};
+use hk_types::{Key, Refusal, Row, Table, Time, VersionKey};
 use std::alloc::{AllocError, Global};
 
 /// How the target's own facts fare where the horizon rises.
-#[derive(Drop)]
-pub(crate) struct Leaving {
+#[derive(Clone, Copy)]
+pub(crate) struct Leaving<'a> {
     /// Whether the whole is sent.
     pub(crate) whole: bool,
     /// The horizon to which it rises.
     pub(crate) horizon: Time,
-    /// The versions whose rows are sent, where the whole is.
-    pub(crate) sent: VersionSet,
+    /// What is sent.
+    pub(crate) sent: &'a Sent<'a>,
 }
 
 /// How what is sent fares.
@@ -38,16 +44,16 @@ pub(crate) struct Coming {
     pub(crate) horizon: Time,
 }
 
-impl Leaving {
+impl Leaving<'_> {
     /// Whether a row of the target's own stays.
     fn keeps_row(&self, version: &VersionKey, own: &Version) -> bool
-        ensures { result ≡ stays self.now.whole self.now.horizon (set.contains self.now.sent) version.now own.now }
+        ensures { result ≡ stays self.now.whole self.now.horizon (sends_row self.now.sent.now) version.now own.now }
     {
         if self.horizon < version.born {
             return true;
         }
         if self.whole {
-            self.sent.has(*version)
+            self.sent.has_row(version)
         } else {
             !ended_by(own, self.horizon)
         }
@@ -55,7 +61,7 @@ impl Leaving {
 
     /// Whether a row or an end of the target's own goes.
     fn goes(&self, version: &VersionKey, own: &Version) -> bool
-        ensures { result ≡ goes self.now.whole self.now.horizon (set.contains self.now.sent) version.now own.now }
+        ensures { result ≡ goes self.now.whole self.now.horizon (sends_row self.now.sent.now) version.now own.now }
     {
         ended_by(own, self.horizon) || (own.row().is_some() && !self.keeps_row(version, own))
     }
@@ -69,9 +75,9 @@ fn leave_version(
     version: &VersionKey,
     own: &Version,
 ) -> Result<(), AllocError>
-    ensures drops { OnOk result (change.new.drops.items ≡ change.old.drops.items ++ (if goes leaving.now.whole leaving.now.horizon (set.contains leaving.now.sent) version.now own.now then version.now ∷ [] else [])) }
-    ensures rows { OnOk result (change.new.rows.items ≡ change.old.rows.items ++ entry_if version.now (row_back leaving.now.whole leaving.now.horizon (set.contains leaving.now.sent) version.now own.now)) }
-    ensures ends { OnOk result (change.new.ends.items ≡ change.old.ends.items ++ entry_if version.now (end_back leaving.now.whole leaving.now.horizon (set.contains leaving.now.sent) version.now own.now)) }
+    ensures drops { OnOk result (change.new.drops.items ≡ change.old.drops.items ++ (if goes leaving.now.whole leaving.now.horizon (sends_row leaving.now.sent.now) version.now own.now then version.now ∷ [] else [])) }
+    ensures rows { OnOk result (change.new.rows.items ≡ change.old.rows.items ++ entry_if version.now (row_back leaving.now.whole leaving.now.horizon (sends_row leaving.now.sent.now) version.now own.now)) }
+    ensures ends { OnOk result (change.new.ends.items ≡ change.old.ends.items ++ entry_if version.now (end_back leaving.now.whole leaving.now.horizon (sends_row leaving.now.sent.now) version.now own.now)) }
     ensures horizon { change.new.horizon ≡ change.old.horizon }
 {
     if !leaving.goes(version, own) {
@@ -123,9 +129,9 @@ pub(crate) fn leave(
     leaving: &Leaving,
     own: &[(VersionKey, &Version)],
 ) -> Result<(), AllocError>
-    ensures drops { OnOk result (change.new.drops.items ≡ change.old.drops.items ++ all_gone leaving.now.whole leaving.now.horizon (set.contains leaving.now.sent) (map borrowed own.now)) }
-    ensures rows { OnOk result (change.new.rows.items ≡ change.old.rows.items ++ rows_back leaving.now.whole leaving.now.horizon (set.contains leaving.now.sent) (map borrowed own.now)) }
-    ensures ends { OnOk result (change.new.ends.items ≡ change.old.ends.items ++ ends_back leaving.now.whole leaving.now.horizon (set.contains leaving.now.sent) (map borrowed own.now)) }
+    ensures drops { OnOk result (change.new.drops.items ≡ change.old.drops.items ++ all_gone leaving.now.whole leaving.now.horizon (sends_row leaving.now.sent.now) (map borrowed own.now)) }
+    ensures rows { OnOk result (change.new.rows.items ≡ change.old.rows.items ++ rows_back leaving.now.whole leaving.now.horizon (sends_row leaving.now.sent.now) (map borrowed own.now)) }
+    ensures ends { OnOk result (change.new.ends.items ≡ change.old.ends.items ++ ends_back leaving.now.whole leaving.now.horizon (sends_row leaving.now.sent.now) (map borrowed own.now)) }
     ensures horizon { change.new.horizon ≡ change.old.horizon }
 {
     for (version, known) in own {
@@ -158,16 +164,6 @@ fn take_version(
     Ok(())
 }
 
-/// Whether a row is known.
-fn has_row(held: Option<&Version>) -> bool
-    ensures { result ≡ is_some (row_of (option_copied held.entry)) }
-{
-    match held {
-        Some(known) => known.row().is_some(),
-        None => false,
-    }
-}
-
 /// Whether an end is known.
 fn has_end(held: Option<&Version>) -> bool
     ensures { result ≡ is_some (died_of (option_copied held.entry)) }
@@ -178,40 +174,65 @@ fn has_end(held: Option<&Version>) -> bool
     }
 }
 
-/// Adds to a change what comes of the versions that are sent.
-pub(crate) fn take(
+/// Adds to a change what comes of a fragment that is sent.
+fn take_part(
     alloc: Global,
     change: &mut Change,
     coming: &Coming,
     own: &Facts,
-    sent: &[(VersionKey, &Version)],
+    fragment: &Fragment,
 ) -> Result<(), AllocError>
-    ensures rows { OnOk result (change.new.rows.items ≡ change.old.rows.items ++ rows_come own.now coming.now.old coming.now.horizon (map borrowed sent.now)) }
-    ensures ends { OnOk result (change.new.ends.items ≡ change.old.ends.items ++ ends_come own.now coming.now.old coming.now.horizon (map borrowed sent.now)) }
+    ensures rows { OnOk result ((q : VersionKey) → find version_key_cmp q change.new.rows.items ≡ or_else (find version_key_cmp q change.old.rows.items) (row_coming own.now coming.now.old coming.now.horizon fragment.now.content q)) }
+    ensures ends { OnOk result ((q : VersionKey) → find version_key_cmp q change.new.ends.items ≡ or_else (find version_key_cmp q change.old.ends.items) (end_coming own.now coming.now.old coming.now.horizon fragment.now.content q)) }
     ensures drops { change.new.drops.items ≡ change.old.drops.items }
     ensures horizon { change.new.horizon ≡ change.old.horizon }
 {
-    for (version, known) in sent {
+    let facts = fragment.facts();
+    for (version, known) in facts {
         take_version(alloc, change, coming, own, version, known)?;
     }
     Ok(())
 }
 
-/// The versions of a list whose rows are known.
-pub(crate) fn with_rows(
+/// Adds to a change what comes of a state that is sent.
+fn take_whole(
     alloc: Global,
-    versions: &[(VersionKey, &Version)],
-) -> Result<VersionSet, Refusal>
-    ensures ok { IfOk result (λ index. index ≡ set.from_list (keys_of_rows (map borrowed versions.now))) }
-    ensures err { IfErr result (λ why. why ≡ Memory) }
+    change: &mut Change,
+    coming: &Coming,
+    own: &Facts,
+    state: &ReplicaState,
+) -> Result<(), AllocError>
+    ensures rows { OnOk result ((q : VersionKey) → find version_key_cmp q change.new.rows.items ≡ or_else (find version_key_cmp q change.old.rows.items) (row_coming own.now coming.now.old coming.now.horizon state.now q)) }
+    ensures ends { OnOk result ((q : VersionKey) → find version_key_cmp q change.new.ends.items ≡ or_else (find version_key_cmp q change.old.ends.items) (end_coming own.now coming.now.old coming.now.horizon state.now q)) }
+    ensures drops { change.new.drops.items ≡ change.old.drops.items }
+    ensures horizon { change.new.horizon ≡ change.old.horizon }
 {
-    let mut found = Vec::new(alloc);
-    for (version, known) in versions {
-        if known.row().is_some() {
-            found.push(*version)?;
-        }
+    let facts = state.facts();
+    let mut next = facts.first_from(Table::new(0), Key::new(0));
+    while let Some((version, known)) = next {
+        take_version(alloc, change, coming, own, &version, known)?;
+        next = facts.after(&version);
     }
-    VersionSet::of(alloc, &found)
+    Ok(())
+}
+
+/// Adds to a change what comes of what is sent.
+pub(crate) fn take(
+    alloc: Global,
+    change: &mut Change,
+    coming: &Coming,
+    own: &Facts,
+    sent: &Sent,
+) -> Result<(), AllocError>
+    ensures rows { OnOk result ((q : VersionKey) → find version_key_cmp q change.new.rows.items ≡ or_else (find version_key_cmp q change.old.rows.items) (row_coming own.now coming.now.old coming.now.horizon (fragment_sent sent.now).content q)) }
+    ensures ends { OnOk result ((q : VersionKey) → find version_key_cmp q change.new.ends.items ≡ or_else (find version_key_cmp q change.old.ends.items) (end_coming own.now coming.now.old coming.now.horizon (fragment_sent sent.now).content q)) }
+    ensures drops { change.new.drops.items ≡ change.old.drops.items }
+    ensures horizon { change.new.horizon ≡ change.old.horizon }
+{
+    match sent {
+        Sent::Part(fragment) => take_part(alloc, change, coming, own, fragment),
+        Sent::Whole(state) => take_whole(alloc, change, coming, own, state),
+    }
 }
 
 /// The versions of the target's own that may go where the horizon rises. The only refusal is `Memory`.
