@@ -89,7 +89,10 @@ fn grow_on_a_copy(
     ensures same_got { OnErr result (got.new ≡ got.old) }
 {
     let Change {
-        drops, rows, ends, ..
+        drops,
+        rows,
+        ends,
+        ..
     } = change;
     let replaced = facts.replaced(&drops, rows, &ends)?;
     got.join(given)?;
@@ -116,7 +119,10 @@ fn take_change(
         return grow_on_a_copy(facts, got, change, given);
     }
     let Change {
-        drops, rows, ends, ..
+        drops,
+        rows,
+        ends,
+        ..
     } = change;
     grow(alloc, facts, got, rows, &ends, given)?;
     facts.drop_all(&drops);

@@ -59,7 +59,8 @@ impl Facts {
         rows: Vec<(VersionKey, Row)>,
         ends: &[(VersionKey, Time)],
     ) -> Result<Facts, Refusal>
-        ensures ok { IfOk result (λ facts. facts ≡ facts_after_replace self.now drops.now rows.items ends.now) }
+        ensures ok { IfOk result (λ facts.
+            facts ≡ facts_after_replace self.now drops.now rows.items ends.now) }
         ensures err { IfErr result (λ why. why ≡ Memory) }
     {
         let mut facts = self.copy(self.allocator())?;
