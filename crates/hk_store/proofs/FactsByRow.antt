@@ -1,10 +1,11 @@
 -- The facts of a stored tree of chains, and what becomes of them.
 use Rattle.std.proofs.Common.{◌≡◌, refl, sym, ap, ◌∙◌, subst, ℕ, zero, suc, ◌<◌, Bool, true, false, cond, Option, Some, None, Result, Ok, Err, OnOk, OnErr, IfErr, IfSome, IsSome, ◌⊎◌, inl, inr, nat_cmp, Bor, [], arith}
-use Rattle.std.specs.Option.{option_copied, option_and_then, IfNone}
+use Rattle.std.specs.Option.{option_copied, option_and_then, option_map, IfNone}
 use Rattle.std.specs.Ordering.{eq_by_cmp}
 use Rattle.std.specs.BTreeMap.{BTreeMap}
 use Rattle.std.specs.BTreeMap as tree
 use Rattle.std.specs.FinMap as finmap
+use Rattle.hk_types.specs.Values.{RowValue}
 use Rattle.hk_types.specs.declared.version_key.VersionKey.{VersionKey}
 use Rattle.hk_types.specs.declared.faults.Refusal.{Refusal}
 use Rattle.hk_types.specs.declared.faults.Refusal.TheVariants.{Memory}
@@ -12,11 +13,13 @@ use Rattle.hk_model.specs.History.Rows.{RowKey, row_key_cmp, row_key_of, version
 use Rattle.hk_model.proofs.Maps.{row_key_total, row_key_same}
 use Rattle.hk_facts.specs.declared.fact.Fact.{Fact}
 use Rattle.hk_facts.specs.declared.fact.Part.{Part}
+use Rattle.hk_facts.specs.declared.fact.Part.TheVariants.{Row as RowPart, End as EndPart, Whole}
 use Rattle.hk_facts.specs.Facts.{row_of, died_of, without}
 use Rattle.hk_facts.specs.Chains.{ChainValue, chain_put, chain_forget}
 use Rattle.hk_facts.proofs.ForgottenParts.{nothing_left}
 use Rattle.hk_facts.proofs.StoredTrees.{get_tree, get_updated, is_there, set_at_same, IfErr_map}
 use Rattle.hk_store.specs.Facts.{ChainsValue, stored_version, facts_of, no_facts, known_at, AreStored, facts_put, facts_without}
+use Rattle.hk_store.specs.Indexed.{tag_lost, end_lost, tag_of_part, end_of_part}
 use Rattle.hk_store.proofs.StoredFacts.{get_row, get_end, known_stored, nothing_known}
 use Rattle.hk_store.proofs.ChangedChains.{IsChainOf, IsChanged, row_is, same_facts, put_some, facts_put_ok, facts_put_err, known_put, facts_forgotten, known_forgotten}
 
@@ -60,6 +63,28 @@ module _ (m : BTreeMap RowKey ChainValue) (stored : AreStored (seen m)) (k : Row
   chain_filled None has = tt
   chain_filled (Some c) has = stored.filled k c.now (sym (found m k (Some c.now) has))
 
+-- ---- what goes with a part
+
+tag_stored : (m : ChainsValue) (v : VersionKey) (part : Part) → tag_of_part (stored_version m v) part ≡ tag_lost (facts_of m) v part
+tag_stored m v RowPart = ap (option_map (λ (r : RowValue). r.tag)) (sym (get_row m v))
+tag_stored m v EndPart = refl
+tag_stored m v Whole = ap (option_map (λ (r : RowValue). r.tag)) (sym (get_row m v))
+
+end_stored : (m : ChainsValue) (v : VersionKey) (part : Part) → end_of_part (stored_version m v) part ≡ end_lost (facts_of m) v part
+end_stored m v RowPart = refl
+end_stored m v EndPart = sym (get_end m v)
+end_stored m v Whole = sym (get_end m v)
+
+no_tag : (part : Part) → None ≡ tag_of_part None part
+no_tag RowPart = refl
+no_tag EndPart = refl
+no_tag Whole = refl
+
+no_end : (part : Part) → None ≡ end_of_part None part
+no_end RowPart = refl
+no_end EndPart = refl
+no_end Whole = refl
+
 -- ---- chains that are not empty
 
 filled_by : (c : ChainValue) → (c ≡ finmap.empty → ⊥) → 0 < finmap.len c
@@ -92,8 +117,11 @@ module _ (m : BTreeMap RowKey ChainValue) (k : RowKey) (v : VersionKey) (at : k 
   changed : (n : BTreeMap RowKey ChainValue) (w : Option ChainValue) → tree.Updates row_key_cmp m n k w → IsChanged (seen m) (seen n) (row_key_of v) w
   changed n w u = subst (λ (r : RowKey). IsChanged (seen m) (seen n) r w) at (get_updated row_key_total m n k w u)
 
+  nothing_at : None ≡ tree.get row_key_cmp m k → None ≡ stored_version (seen m) v
+  nothing_at none = sym (finmap.get-empty nat_cmp v.born) ∙ chain_absent none v.born
+
   pub absent_known : None ≡ tree.get row_key_cmp m k → known_at (facts_of (seen m)) v ≡ None
-  absent_known none = nothing_known (seen m) v (sym (chain_absent none v.born) ∙ finmap.get-empty nat_cmp v.born)
+  absent_known none = nothing_known (seen m) v (sym (nothing_at none))
 
   -- ---- a fact that is put in
 
@@ -166,6 +194,13 @@ module _ (m : BTreeMap RowKey ChainValue) (k : RowKey) (v : VersionKey) (at : k 
             known = known_forgotten part (seen m) (seen r) v c None (chain_there c has) changed_gone nothing_there stored.known;
           }
 
+    -- the chain has the tag and the end that go
+    pub tag_there : (part : Part) → tag_of_part (finmap.get c v.born) part ≡ tag_lost (facts_of (seen m)) v part
+    tag_there part = ap (λ o. tag_of_part o part) (chain_there c has v.born) ∙ tag_stored (seen m) v part
+
+    pub end_there : (part : Part) → end_of_part (finmap.get c v.born) part ≡ end_lost (facts_of (seen m)) v part
+    end_there part = ap (λ o. end_of_part o part) (chain_there c has v.born) ∙ end_stored (seen m) v part
+
     -- a refusal from the chain
     pub put_refused : {A : Type 0} (fact : Fact) (r : Result A Refusal) → IfErr r (λ why. (chain_put c v.born fact ≡ Err why) ⊎ ((why ≡ Memory) × (finmap.get c v.born ≡ None)))
         → IfErr r (λ why. (facts_put (facts_of (seen m)) v fact ≡ Err why) ⊎ ((why ≡ Memory) × (known_at (facts_of (seen m)) v ≡ None)))
@@ -185,3 +220,9 @@ module _ (m : BTreeMap RowKey ChainValue) (k : RowKey) (v : VersionKey) (at : k 
       here : (q : RowKey) (b : Bool) → eq_by_cmp row_key_cmp q (row_key_of v) ≡ b → finmap.get (seen m) q ≡ cond b None (finmap.get (seen m) q)
       here q true e = ap (finmap.get (seen m)) (row_is q (row_key_of v) e ∙ sym at) ∙ sym (found m k None none)
       here q false e = refl
+
+  pub tag_absent : (part : Part) → None ≡ tree.get row_key_cmp m k → None ≡ tag_lost (facts_of (seen m)) v part
+  tag_absent part none = no_tag part ∙ ap (λ o. tag_of_part o part) (nothing_at none) ∙ tag_stored (seen m) v part
+
+  pub end_absent : (part : Part) → None ≡ tree.get row_key_cmp m k → None ≡ end_lost (facts_of (seen m)) v part
+  end_absent part none = no_end part ∙ ap (λ o. end_of_part o part) (nothing_at none) ∙ end_stored (seen m) v part

@@ -5,6 +5,7 @@ use Rattle.std.specs.FinMap as finmap
 use Rattle.std.specs.FinSet as set
 use Rattle.hk_types.specs.Values.{RowValue}
 use Rattle.hk_types.specs.declared.version_key.VersionKey.{VersionKey}
+use Rattle.hk_log.specs.Versions.{VersionValue}
 use Rattle.hk_model.specs.History.Rows.{version_key_cmp}
 use Rattle.hk_index.specs.Tagged.{tagged_cmp}
 use Rattle.hk_index.specs.Timed.{timed_cmp, AreTimed, passes_at}
@@ -12,6 +13,7 @@ use Rattle.hk_facts.specs.declared.fact.Fact.{Fact}
 use Rattle.hk_facts.specs.declared.fact.Fact.TheVariants.{Row, End}
 use Rattle.hk_facts.specs.declared.fact.Part.{Part}
 use Rattle.hk_facts.specs.declared.fact.Part.TheVariants.{Row as RowPart, End as EndPart, Whole}
+use Rattle.hk_facts.specs.Facts.{row_of, died_of}
 use Rattle.hk_store.specs.Facts.{FactsValue}
 
 -- whether there is a row, and it has this tag
@@ -72,6 +74,18 @@ abbrev pub end_lost : FactsValue → VersionKey → Part → Option ℕ
 end_lost f v EndPart = finmap.get f.ends v
 end_lost f v RowPart = None
 end_lost f v Whole = finmap.get f.ends v
+
+-- the tag of the row that goes with a part of what is known of a version
+abbrev pub tag_of_part : Option VersionValue → Part → Option ℕ
+tag_of_part known EndPart = None
+tag_of_part known RowPart = option_map (λ r. r.tag) (row_of known)
+tag_of_part known Whole = option_map (λ r. r.tag) (row_of known)
+
+-- the end that goes with a part of what is known of a version
+abbrev pub end_of_part : Option VersionValue → Part → Option ℕ
+end_of_part known EndPart = died_of known
+end_of_part known RowPart = None
+end_of_part known Whole = died_of known
 
 -- the index by tag without a version that has this tag
 abbrev pub tags_without : set.FinSet tagged_cmp → VersionKey → Option ℕ → set.FinSet tagged_cmp

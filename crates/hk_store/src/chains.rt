@@ -13,11 +13,13 @@ ghost use Rattle.hk_model.specs.Replica.Answers.{visible, rows_where};
 ghost use Rattle.hk_facts.specs.Chains.{row_at};
 ghost use Rattle.hk_store.specs.Reads.{with_facts};
 ghost use Rattle.hk_store.specs.Facts.{no_facts, known_at, facts_put, facts_without};
+ghost use Rattle.hk_store.specs.Indexed.{tag_lost, end_lost, tag_of_part, end_of_part};
 
 use crate::ranges::rows_in_range;
 use crate::row_key::RowKey;
 use hk_facts::{Chain, Fact, Part};
-use hk_types::{Key, Refusal, Row, Table, Time, VersionKey};
+use hk_log::Version;
+use hk_types::{Key, Refusal, Row, Table, Tag, Time, VersionKey};
 use std::alloc::{AllocError, Global};
 use std::collections::BTreeMap;
 use std::marker::Model;
@@ -41,6 +43,13 @@ impl Model for Chains {
     ghost view = { λ a. facts_of (finmap.from_entries a.chains.entries) };
 
     ghost invariant = { λ a. AreStored (finmap.from_entries a.chains.entries) };
+}
+
+/// What goes with a part of a version, where it was known: the tag of the row, and the end.
+#[derive(Drop)]
+pub(crate) struct Lost {
+    pub(crate) tag: Option<Tag>,
+    pub(crate) died: Option<Time>,
 }
 
 impl Chains {
@@ -116,19 +125,26 @@ impl Chains {
         Ok(())
     }
 
-    /// Takes a part of a version back, where it is known. Cost: O(log n), n facts.
-    pub fn forget(&mut self, version: &VersionKey, part: Part)
-        ensures { self.new ≡ facts_without self.old version.now part }
+    /// Takes a part of a version back, where it is known, and says what went. Cost: O(log n), n facts.
+    pub fn forget(&mut self, version: &VersionKey, part: Part) -> Lost
+        ensures left { self.new ≡ facts_without self.old version.now part }
+        ensures tag { result.tag ≡ tag_lost self.old version.now part }
+        ensures died { result.died ≡ end_lost self.old version.now part }
     {
         let row = RowKey::of_version(version);
         let Some(chain) = self.chains.get_mut(&row) else {
-            return;
+            return Lost {
+                tag: None,
+                died: None,
+            };
         };
+        let lost = lost_of(chain, version.born, part);
         chain.forget(version.born, part);
         if !chain.is_empty() {
-            return;
+            return lost;
         }
         self.chains.remove(&row);
+        lost
     }
 
     /// How many rows of a table show at a time. It takes no memory. Cost: O(log n + k · log n),
@@ -175,6 +191,39 @@ impl Chains {
         }
         Ok(Chains { chains, alloc })
     }
+}
+
+/// What goes with a part of the version that was born then.
+fn lost_of(chain: &Chain, born: Time, part: Part) -> Lost
+    ensures tag { result.tag ≡ tag_of_part (finmap.get chain.now born) part }
+    ensures died { result.died ≡ end_of_part (finmap.get chain.now born) part }
+{
+    let known = chain.version(born);
+    Lost {
+        tag: known.and_then(|version| tag_in(version, part)),
+        died: known.and_then(|version| end_in(version, part)),
+    }
+}
+
+/// The tag of the row that goes with a part of a version.
+fn tag_in(version: &Version, part: Part) -> Option<Tag>
+    ensures { result ≡ tag_of_part (Some version.now) part }
+{
+    if part == Part::End {
+        return None;
+    }
+    let row = version.row()?;
+    Some(row.tag())
+}
+
+/// The end that goes with a part of a version.
+fn end_in(version: &Version, part: Part) -> Option<Time>
+    ensures { result ≡ end_of_part (Some version.now) part }
+{
+    if part == Part::Row {
+        return None;
+    }
+    version.died()
 }
 
 /// How many chains of a table have a row at a time, of those from a row on.

@@ -10,7 +10,7 @@ ghost use Rattle.hk_facts.specs.declared.fact.Fact.TheVariants.{Row as RowFact, 
 ghost use Rattle.hk_model.specs.Replica.Answers.{visible, rows_where};
 ghost use Rattle.hk_store.specs.Reads.{with_facts};
 ghost use Rattle.hk_store.specs.Facts.{no_facts, known_at, facts_put, facts_without};
-ghost use Rattle.hk_store.specs.Indexed.{AreTagged, AreKeyed, IsNew, end_lost, tag_lost, tags_without, times_without};
+ghost use Rattle.hk_store.specs.Indexed.{AreTagged, AreKeyed, IsNew, tags_without, times_without};
 
 use crate::chains::Chains;
 use crate::key_index::KeyIndex;
@@ -196,32 +196,9 @@ impl Facts {
     pub fn forget(&mut self, version: &VersionKey, part: Part)
         ensures { self.new ≡ facts_without self.old version.now part }
     {
-        let tag = self.tag_of(version, part);
-        let died = self.end_of(version, part);
-        self.chains.forget(version, part);
-        forget_birth(&mut self.tags, &mut self.births, version, tag);
-        forget_death(&mut self.deaths, version, died);
-    }
-
-    /// The tag of the row that goes with a part of a version.
-    fn tag_of(&self, version: &VersionKey, part: Part) -> Option<Tag>
-        ensures { result ≡ tag_lost self.now version.now part }
-    {
-        if part == Part::End {
-            return None;
-        }
-        let row = self.chains.row_at(version)?;
-        Some(row.tag())
-    }
-
-    /// The end that goes with a part of a version.
-    fn end_of(&self, version: &VersionKey, part: Part) -> Option<Time>
-        ensures { result ≡ end_lost self.now version.now part }
-    {
-        if part == Part::Row {
-            return None;
-        }
-        self.chains.end_at(version)
+        let lost = self.chains.forget(version, part);
+        forget_birth(&mut self.tags, &mut self.births, version, lost.tag);
+        forget_death(&mut self.deaths, version, lost.died);
     }
 }
 
