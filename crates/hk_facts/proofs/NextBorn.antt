@@ -2,7 +2,6 @@
 use Rattle.std.proofs.Common.{◌≡◌, refl, sym, ap, ◌∙◌, subst, ℕ, ◌<◌, ◌≤◌, Bool, true, false, cond, true≢false, ◌==◌, nat_lt, nat_le, nat_cmp, Option, Some, None, List, [], ◌∷◌, arith, Less, length, IsSome}
 use Rattle.std.proofs.lemmas.Bool.Decides.{nat_tests}
 use Rattle.std.specs.Option.{is_some}
-use Rattle.std.specs.Bool.{OnTrue, OnFalse}
 use Rattle.std.specs.BTreeMap.{BTreeMap}
 use Rattle.std.specs.BTreeMap as tree
 use Rattle.std.specs.BTreeMap.Range.{IsRangeOf}
@@ -12,7 +11,7 @@ use Rattle.std.specs.FinMap as finmap
 use Rattle.hk_log.specs.Versions.{VersionValue}
 use Rattle.hk_model.specs.Replica.Maps.{or_else}
 use Rattle.hk_facts.specs.Chains.{ChainValue, FirstBorn, IsEarliest, is_after}
-use Rattle.hk_facts.specs.FirstOfChain.{FirstValue, with_first, first_at, first_next}
+use Rattle.hk_facts.specs.FirstOfChain.{FirstValue, with_first, first_at, first_next, is_earlier}
 use Rattle.hk_facts.specs.Parted.{both}
 use Rattle.hk_facts.proofs.StoredTrees.{seen, get_seen, seen_none}
 use Rattle.hk_facts.proofs.FirstOfChains.{get_first}
@@ -105,15 +104,6 @@ module _ (test : ℕ → Bool) (a b look : ℕ → Option VersionValue) (joined 
   a_alone e None l r n = absurd (none_but e.1 (sym (n e.0 l.passes) ∙ l.known))
   a_alone e (Some g) l r n = no_b g n r
 
--- one of two, by a comparison
-pub on_true : (P : Type 0) (r : Bool) (a b : ℕ) → r ≡ nat_le a b → (nat_le a b ≡ true → P) → OnTrue r P
-on_true P true a b is f = f (sym is)
-on_true P false a b is f = tt
-
-pub on_false : (P : Type 0) (r : Bool) (a b : ℕ) → r ≡ nat_le a b → (nat_le a b ≡ false → P) → OnFalse r P
-on_false P false a b is f = f (sym is)
-on_false P true a b is f = tt
-
 at_most : (a b : ℕ) → nat_le a b ≡ true → a ≤ b
 at_most a b e = grind (arith, nat_tests)
 
@@ -177,17 +167,30 @@ module _ (test : ℕ → Bool) (rows ends : ChainValue) where
   abbrev Whole : Option Found → Type 0
   Whole o = FirstBorn (both rows ends) test o
 
-  pub ends_alone : FirstBorn rows test None → (o : Option Found) → FirstBorn ends test o → Whole o
+  ends_alone : FirstBorn rows test None → (o : Option Found) → FirstBorn ends test o → Whole o
   ends_alone l o n = to_chain _ test o (no_a test (finmap.get rows) (finmap.get ends) (finmap.get (both rows ends)) (get_both rows ends) o l (of_chain ends test o n))
 
-  pub rows_alone : (e : Found) → IsEarliest rows test e → FirstBorn ends test None → (o : Option Found) → FirstBorn rows test o → Whole o
+  rows_alone : (e : Found) → IsEarliest rows test e → FirstBorn ends test None → (o : Option Found) → FirstBorn rows test o → Whole o
   rows_alone e l r o n = to_chain _ test o (a_alone test (finmap.get rows) (finmap.get ends) (finmap.get (both rows ends)) (get_both rows ends) e o (of_chain rows test (Some e) l) r (of_chain rows test o n))
 
-  pub rows_before : (e f : Found) → IsEarliest rows test e → IsEarliest ends test f → nat_le e.0 f.0 ≡ true → (o : Option Found) → FirstBorn rows test o → Whole o
+  rows_before : (e f : Found) → IsEarliest rows test e → IsEarliest ends test f → nat_le e.0 f.0 ≡ true → (o : Option Found) → FirstBorn rows test o → Whole o
   rows_before e f l r below o n = to_chain _ test o (a_wins test (finmap.get rows) (finmap.get ends) (finmap.get (both rows ends)) (get_both rows ends) e f o (of_chain rows test (Some e) l) (of_chain ends test (Some f) r) (at_most e.0 f.0 below) (of_chain rows test o n))
 
-  pub ends_before : (e f : Found) → IsEarliest rows test e → IsEarliest ends test f → nat_le e.0 f.0 ≡ false → (o : Option Found) → FirstBorn ends test o → Whole o
+  ends_before : (e f : Found) → IsEarliest rows test e → IsEarliest ends test f → nat_le e.0 f.0 ≡ false → (o : Option Found) → FirstBorn ends test o → Whole o
   ends_before e f l r below o n = to_chain _ test o (b_wins test (finmap.get rows) (finmap.get ends) (finmap.get (both rows ends)) (get_both rows ends) e f o (of_chain rows test (Some e) l) (of_chain ends test (Some f) r) (under e.0 f.0 below) (of_chain ends test o n))
+
+  next_both : (x y : Option Found) → FirstBorn rows test x → FirstBorn ends test y → Whole (cond (is_earlier x y) x y)
+  next_both None y l r = ends_alone l y r
+  next_both (Some e) None l r = rows_alone e l r (Some e) l
+  next_both (Some e) (Some f) l r = by (nat_le e.0 f.0) refl
+    where
+      by : (b : Bool) → nat_le e.0 f.0 ≡ b → Whole (cond b (Some e) (Some f))
+      by true is = rows_before e f l r is (Some e) l
+      by false is = ends_before e f l r is (Some f) r
+
+  -- as it is chosen
+  pub both_chosen : (x y : Option Found) → FirstBorn rows test x → FirstBorn ends test y → (chosen : Bool) → chosen ≡ is_earlier x y → (chosen ≡ true → Whole x) × (chosen ≡ false → Whole y)
+  both_chosen x y l r chosen is = (λ e. subst (λ b. Whole (cond b x y)) (sym is ∙ e) (next_both x y l r), λ e. subst (λ b. Whole (cond b x y)) (sym is ∙ e) (next_both x y l r))
 
 -- ---- the first one apart
 
@@ -221,14 +224,32 @@ module _ (after : Option ℕ) (first : FirstValue) (more : ChainValue) where
       by true is = record { known = ap (λ b. cond b (Some e.1) None) (itself e.0); passes = is; least = λ q t s. there q (e.0 == q) refl s }
       by false is = λ q t. gone q (e.0 == q) refl is t
 
-  pub more_alone : first_next after first ≡ None → (o : Option Found) → FirstBorn more test o → All o
+  more_alone : first_next after first ≡ None → (o : Option Found) → FirstBorn more test o → All o
   more_alone none o n = to_chain _ test o (no_a test (first_at first) (finmap.get more) (finmap.get (with_first first more)) (get_first first more) o (subst (λ x. IsNext (first_at first) test x) none (next_is first)) (of_chain more test o n))
 
-  pub first_alone : (e : Found) → first_next after first ≡ Some e → FirstBorn more test None → All (first_next after first)
+  first_alone : (e : Found) → first_next after first ≡ Some e → FirstBorn more test None → All (first_next after first)
   first_alone e is r = subst All (sym is) (to_chain _ test (Some e) (no_b test (first_at first) (finmap.get more) (finmap.get (with_first first more)) (get_first first more) e (subst (λ x. IsNext (first_at first) test x) is (next_is first)) r))
 
-  pub first_before : (e f : Found) → first_next after first ≡ Some e → IsEarliest more test f → nat_le e.0 f.0 ≡ true → All (first_next after first)
+  first_before : (e f : Found) → first_next after first ≡ Some e → IsEarliest more test f → nat_le e.0 f.0 ≡ true → All (first_next after first)
   first_before e f is r below = subst All (sym is) (to_chain _ test (Some e) (a_first test (first_at first) (finmap.get more) (finmap.get (with_first first more)) (get_first first more) e f (subst (λ x. IsNext (first_at first) test x) is (next_is first)) (of_chain more test (Some f) r) (at_most e.0 f.0 below)))
 
-  pub more_before : (e f : Found) → first_next after first ≡ Some e → IsEarliest more test f → nat_le e.0 f.0 ≡ false → (o : Option Found) → FirstBorn more test o → All o
+  more_before : (e f : Found) → first_next after first ≡ Some e → IsEarliest more test f → nat_le e.0 f.0 ≡ false → (o : Option Found) → FirstBorn more test o → All o
   more_before e f is r below o n = to_chain _ test o (b_wins test (first_at first) (finmap.get more) (finmap.get (with_first first more)) (get_first first more) e f o (subst (λ x. IsNext (first_at first) test x) is (next_is first)) (of_chain more test (Some f) r) (under e.0 f.0 below) (of_chain more test o n))
+
+  next_with : (o : Option Found) → FirstBorn more test o → All (cond (is_earlier (first_next after first) o) (first_next after first) o)
+  next_with = by (first_next after first) refl
+    where
+      two : (e f : Found) → first_next after first ≡ Some e → IsEarliest more test f → (b : Bool) → nat_le e.0 f.0 ≡ b → All (cond b (Some e) (Some f))
+      two e f x n true is = subst All x (first_before e f x n is)
+      two e f x n false is = more_before e f x n is (Some f) n
+
+      by : (x : Option Found) → first_next after first ≡ x → (o : Option Found) → FirstBorn more test o → All (cond (is_earlier x o) x o)
+      by None x o n = more_alone x o n
+      by (Some e) x None n = subst All x (first_alone e x n)
+      by (Some e) x (Some f) n = two e f x n (nat_le e.0 f.0) refl
+
+  -- as it is chosen
+  pub next_chosen : (x o : Option Found) → x ≡ first_next after first → FirstBorn more test o → (chosen : Bool) → chosen ≡ is_earlier x o → (chosen ≡ true → All x) × (chosen ≡ false → All o)
+  next_chosen x o same n chosen is =
+      let whole = subst (λ y. All (cond (is_earlier y o) y o)) (sym same) (next_with o n) in
+      (λ e. subst (λ b. All (cond b x o)) (sym is ∙ e) whole, λ e. subst (λ b. All (cond b x o)) (sym is ∙ e) whole)

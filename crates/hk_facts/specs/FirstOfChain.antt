@@ -69,3 +69,9 @@ abbrev pub is_later : Option (ℕ × VersionValue) → Option (ℕ × VersionVal
 is_later None y = false
 is_later (Some e) None = true
 is_later (Some e) (Some f) = nat_le f.0 e.0
+
+-- whether there is a first one, and the other was not born earlier
+abbrev pub is_earlier : Option (ℕ × VersionValue) → Option (ℕ × VersionValue) → Bool
+is_earlier None y = false
+is_earlier (Some e) None = true
+is_earlier (Some e) (Some f) = nat_le e.0 f.0

@@ -1,17 +1,16 @@
 //! Chains.
 
-ghost use Rattle.std.specs.Prelude.{◌≡◌, ◌⊎◌, ◌↔◌, IsTrue, OnOk, OnErr, IfErr, IfOk, Ok, Err, Some, None, ℕ, Option};
-ghost use Rattle.std.specs.Bool.{OnTrue, OnFalse};
+ghost use Rattle.std.specs.Prelude.{◌≡◌, ◌⊎◌, ◌↔◌, IsTrue, OnOk, OnErr, IfErr, IfOk, Ok, Err, Some, None};
 ghost use Rattle.std.specs.Option.{option_copied, option_map};
 ghost use Rattle.std.specs.FinMap as finmap;
-ghost use Rattle.hk_log.specs.Versions.{VersionValue};
 ghost use Rattle.hk_types.specs.declared.faults.Refusal.TheVariants.{Memory};
 ghost use Rattle.hk_facts.specs.declared.fact.Fact.TheVariants.{Row as RowFact, End as EndFact};
 ghost use Rattle.hk_facts.specs.Chains.{chain_put, chain_forget, chain_until, latest_at, row_at, is_after, FirstBorn};
-ghost use Rattle.hk_facts.specs.FirstOfChain.{first_at, first_put, first_without, first_until, first_latest, first_next, is_later, with_first};
+ghost use Rattle.hk_facts.specs.FirstOfChain.{first_at, first_put, first_without, first_until, first_latest, first_next};
 
 use crate::fact::{Fact, Part, join, take_back, version_of};
 use crate::more::More;
+use crate::order::{is_earlier, is_later};
 use crate::versions::ended_by;
 use hk_log::Version;
 use hk_types::{Refusal, Row, Time};
@@ -139,10 +138,13 @@ impl Chain {
     pub fn latest(&self, time: Time) -> Option<(Time, &Version)>
         ensures { option_map (λ p. (p.0, p.1.now)) result ≡ latest_at self.now time }
     {
-        if is_first_latest(&self.first, &self.more, time) {
-            return latest_first(&self.first, time);
+        let first = latest_first(&self.first, time);
+        let other = self.more.latest(time);
+        if is_later(&first, &other) {
+            first
+        } else {
+            other
         }
-        self.more.latest(time)
     }
 
     /// The row at a time: that of the latest version with a row, unless its end is known and at most that
@@ -171,10 +173,13 @@ impl Chain {
     pub fn next(&self, after: Option<Time>) -> Option<(Time, &Version)>
         ensures { FirstBorn self.now (is_after after) (option_map (λ p. (p.0, p.1.now)) result) }
     {
-        if is_first_next(&self.first, &self.more, &after) {
-            return next_first(&self.first, &after);
+        let first = next_first(&self.first, &after);
+        let other = self.more.next(&after);
+        if is_earlier(&first, &other) {
+            first
+        } else {
+            other
         }
-        self.more.next(&after)
     }
 
     pub fn is_empty(&self) -> bool
@@ -274,35 +279,6 @@ fn is_after(after: Option<Time>, born: Time) -> bool
 {
     match after {
         Some(time) => time < born,
-        None => true,
-    }
-}
-
-/// Whether the first version has a row and was born by then, and none of the others that has one was born later.
-fn is_first_latest(first: &Option<(Time, Version)>, more: &More, time: Time) -> bool
-    ensures { result ≡ is_later (first_latest time first.now) (latest_at more.now time) }
-{
-    let Some((born, _first)) = latest_first(first, time) else {
-        return false;
-    };
-    match more.latest(time) {
-        Some((other, _version)) => other <= born,
-        None => true,
-    }
-}
-
-/// Whether the first version is the one born next after a time, if there is a time.
-fn is_first_next(first: &Option<(Time, Version)>, more: &More, after: &Option<Time>) -> bool
-    ensures first { OnTrue result
-        (FirstBorn (with_first first.now more.now) (is_after after.now) (first_next after.now first.now)) }
-    ensures more { OnFalse result ((next : Option (ℕ × VersionValue)) → FirstBorn more.now (is_after after.now) next
-        → FirstBorn (with_first first.now more.now) (is_after after.now) next) }
-{
-    let Some((born, _first)) = next_first(first, after) else {
-        return false;
-    };
-    match more.next(after) {
-        Some((other, _version)) => born <= other,
         None => true,
     }
 }

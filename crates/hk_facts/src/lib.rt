@@ -4,6 +4,7 @@
 mod chain;
 mod fact;
 mod more;
+mod order;
 mod others;
 mod versions;
 

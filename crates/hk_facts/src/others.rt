@@ -1,17 +1,15 @@
 //! The versions of a chain beside its first one.
 
-ghost use Rattle.std.specs.Prelude.{◌≡◌, ◌⊎◌, ◌↔◌, IsTrue, OnOk, OnErr, IfErr, IfOk, Ok, Err, Some, None, ℕ, Option};
-ghost use Rattle.std.specs.Bool.{OnTrue, OnFalse};
+ghost use Rattle.std.specs.Prelude.{◌≡◌, ◌⊎◌, ◌↔◌, IsTrue, OnOk, OnErr, IfErr, IfOk, Ok, Err, Some, None};
 ghost use Rattle.std.specs.Option.{option_copied, option_map};
 ghost use Rattle.std.specs.FinMap as finmap;
-ghost use Rattle.hk_log.specs.Versions.{VersionValue};
 ghost use Rattle.hk_types.specs.declared.faults.Refusal.TheVariants.{Memory};
 ghost use Rattle.hk_facts.specs.declared.fact.Fact.TheVariants.{Row as RowFact, End as EndFact};
 ghost use Rattle.hk_facts.specs.Chains.{chain_put, chain_forget, chain_until, latest_at, is_after, FirstBorn};
-ghost use Rattle.hk_facts.specs.FirstOfChain.{is_later};
 ghost use Rattle.hk_facts.specs.Parted.{both, AreApart, NoRows, lone_end};
 
 use crate::fact::{Fact, Part};
+use crate::order::{is_earlier, is_later};
 use crate::versions::Versions;
 use hk_log::Version;
 use hk_types::{Refusal, Row, Time};
@@ -128,10 +126,9 @@ impl Others {
         if !self.mixed {
             return self.rows.latest(time);
         }
-        if is_later_in(&self.rows, &self.ends, time) {
-            return self.rows.latest(time);
-        }
-        self.ends.latest(time)
+        let row = self.rows.latest(time);
+        let end = self.ends.latest(time);
+        if is_later(&row, &end) { row } else { end }
     }
 
     /// What is known of the version that was born then. Cost: O(log n), n versions.
@@ -149,10 +146,9 @@ impl Others {
     pub(crate) fn next(&self, after: &Option<Time>) -> Option<(Time, &Version)>
         ensures { FirstBorn self.now (is_after after.now) (option_map (λ p. (p.0, p.1.now)) result) }
     {
-        if is_next_in(&self.rows, &self.ends, after) {
-            return self.rows.next(after);
-        }
-        self.ends.next(after)
+        let row = self.rows.next(after);
+        let end = self.ends.next(after);
+        if is_earlier(&row, &end) { row } else { end }
     }
 
     pub(crate) fn is_empty(&self) -> bool
@@ -198,34 +194,5 @@ fn end_alone(ends: &Versions, born: Time) -> Option<Time>
     match ends.version(born) {
         Some(version) if version.row().is_none() => version.died(),
         _ => None,
-    }
-}
-
-/// Whether there is a latest with a row among the first, and none of the second that has one was born later.
-fn is_later_in(rows: &Versions, ends: &Versions, time: Time) -> bool
-    ensures { result ≡ is_later (latest_at rows.now time) (latest_at ends.now time) }
-{
-    let Some((born, _version)) = rows.latest(time) else {
-        return false;
-    };
-    match ends.latest(time) {
-        Some((other, _version)) => other <= born,
-        None => true,
-    }
-}
-
-/// Whether the next version is among the first, and not among the second.
-fn is_next_in(rows: &Versions, ends: &Versions, after: &Option<Time>) -> bool
-    ensures rows { OnTrue result ((next : Option (ℕ × VersionValue)) →
-        FirstBorn rows.now (is_after after.now) next → FirstBorn (both rows.now ends.now) (is_after after.now) next) }
-    ensures ends { OnFalse result ((next : Option (ℕ × VersionValue)) →
-        FirstBorn ends.now (is_after after.now) next → FirstBorn (both rows.now ends.now) (is_after after.now) next) }
-{
-    let Some((born, _version)) = rows.next(after) else {
-        return false;
-    };
-    match ends.next(after) {
-        Some((other, _version)) => born <= other,
-        None => true,
     }
 }

@@ -108,10 +108,10 @@ none_filled : (c : ChainValue) → None ≡ Some c → 0 < finmap.len c
 none_filled c e = cc
 
 module _ (m : BTreeMap RowKey ChainValue) (k : RowKey) (v : VersionKey) (at : k ≡ row_key_of v) where
-  chain_there : (c : ChainValue) → Some c ≡ tree.get row_key_cmp m k → IsChainOf (seen m) (row_key_of v) c
+  pub chain_there : (c : ChainValue) → Some c ≡ tree.get row_key_cmp m k → IsChainOf (seen m) (row_key_of v) c
   chain_there c has born = ap (option_and_then (λ d. finmap.get d born)) (found m k (Some c) has ∙ ap (finmap.get (seen m)) at)
 
-  chain_absent : None ≡ tree.get row_key_cmp m k → IsChainOf (seen m) (row_key_of v) finmap.empty
+  pub chain_absent : None ≡ tree.get row_key_cmp m k → IsChainOf (seen m) (row_key_of v) finmap.empty
   chain_absent none born = finmap.get-empty nat_cmp born ∙ ap (option_and_then (λ d. finmap.get d born)) (found m k None none ∙ ap (finmap.get (seen m)) at)
 
   changed : (n : BTreeMap RowKey ChainValue) (w : Option ChainValue) → tree.Updates row_key_cmp m n k w → IsChanged (seen m) (seen n) (row_key_of v) w

@@ -1,22 +1,22 @@
 -- Indexes follow the facts.
-use Rattle.std.proofs.Common.{◌≡◌, refl, sym, ap, ◌∙◌, subst, ℕ, Bool, true, false, cond, not, ◌||◌, ◌&&◌, ◌==◌, Option, Some, None, Result, Ok, Err, OnOk, OnErr, option_map, arith}
+use Rattle.std.proofs.Common.{◌≡◌, refl, sym, ap, ◌∙◌, ℕ, Bool, true, false, cond, not, ◌||◌, ◌&&◌, ◌==◌, Option, Some, None, Ok, Err, option_map, arith}
 use Rattle.std.proofs.lemmas.Bool.Decides.{nat_tests}
+use Rattle.std.specs.Cmp.{Equal-is}
 use Rattle.std.specs.Option.{is_some}
 use Rattle.std.specs.Ordering.{eq_by_cmp}
 use Rattle.std.specs.FinMap as finmap
 use Rattle.std.specs.FinSet as set
 use Rattle.hk_types.specs.Values.{RowValue}
 use Rattle.hk_types.specs.declared.version_key.VersionKey.{VersionKey}
-use Rattle.hk_types.specs.declared.faults.Refusal.{Refusal}
 use Rattle.hk_types.specs.declared.faults.Refusal.TheVariants.{Conflict}
 use Rattle.hk_model.specs.History.Rows.{version_key_cmp}
 use Rattle.hk_model.specs.Replica.Maps.{or_else}
 use Rattle.hk_index.specs.declared.tagged.TaggedVersion.{TaggedVersion}
 use Rattle.hk_index.specs.Tagged.{tagged_cmp}
 use Rattle.hk_index.specs.Timed.{timed_cmp, is_at}
-use Rattle.hk_index.proofs.StoredTags.{tagged_total, tied_parts}
+use Rattle.hk_index.proofs.StoredTags.{tagged_total, tagged_same, tied_parts}
 use Rattle.hk_facts.specs.declared.fact.Fact.{Fact}
-use Rattle.hk_facts.specs.declared.fact.Fact.TheVariants.{Row, End}
+use Rattle.hk_facts.specs.declared.fact.Fact.TheVariants.{Row}
 use Rattle.hk_facts.specs.declared.fact.Part.{Part}
 use Rattle.hk_facts.specs.declared.fact.Part.TheVariants.{Row as RowPart, End as EndPart, Whole}
 use Rattle.hk_facts.specs.Facts.{if_known}
@@ -49,6 +49,21 @@ with_tag tags t tag q v = set.contains-insert tagged_total tags (at_tag tag v) (
 
 without_tag : (tags : Tags) (t tag : ℕ) (q v : VersionKey) → set.contains (set.remove tags (at_tag tag v)) (at_tag t q) ≡ (not ((t == tag) && tied q v) && set.contains tags (at_tag t q))
 without_tag tags t tag q v = set.contains-remove tagged_total tags (at_tag tag v) (at_tag t q) ∙ ap (λ b. not b && set.contains tags (at_tag t q)) (tag_tied t tag q v)
+
+-- a member that was not there is added and taken back
+pub tag_back : (tags : Tags) (x : TaggedVersion) → set.contains tags x ≡ false → set.remove (set.insert tags x) x ≡ tags
+tag_back tags x none = set.same_set tagged_total tagged_same _ _ (λ q.
+    set.contains-remove tagged_total (set.insert tags x) x q
+    ∙ ap (λ b. not (eq_by_cmp tagged_cmp q x) && b) (set.contains-insert tagged_total tags x q)
+    ∙ cases q (eq_by_cmp tagged_cmp q x) refl)
+  where
+    cases : (q : TaggedVersion) (b : Bool) → eq_by_cmp tagged_cmp q x ≡ b → (not b && (b || set.contains tags q)) ≡ set.contains tags q
+    cases q true e = sym (ap (set.contains tags) (tagged_same q x ((Equal-is (tagged_cmp q x)).0 e)) ∙ none)
+    cases q false e = refl
+
+-- where no row is known there is no tag
+pub no_tag : (f : FactsValue) (tags : Tags) → AreTagged f tags → (v : VersionKey) (tag : ℕ) → finmap.get f.rows v ≡ None → set.contains tags (at_tag tag v) ≡ false
+no_tag f tags are v tag none = are tag v ∙ ap (is_tagged tag) none
 
 had : (tag : ℕ) (o : Option RowValue) → option_map (λ r. r.tag) o ≡ Some tag → (t : ℕ) → is_tagged t o ≡ (tag == t)
 had tag None e t = cc
@@ -84,25 +99,6 @@ module _ (f : FactsValue) (tags : Tags) (is : AreTagged f tags) (v : VersionKey)
       there : (q : VersionKey) (b : Bool) → tied q v ≡ b → (((t == row.tag) && b) || is_tagged t (finmap.get f.rows q)) ≡ is_tagged t (cond b (Some row) (finmap.get f.rows q))
       there q true e = ap (λ o. ((t == row.tag) && true) || is_tagged t o) (same_at q e ∙ none) ∙ clean (t == row.tag) ∙ same_number t row.tag
       there q false e = old_tag (t == row.tag) (is_tagged t (finmap.get f.rows q))
-
-  -- a tag that was added where no row is known is taken back
-  pub tag_back : (tag : ℕ) → finmap.get f.rows v ≡ None → AreTagged f (set.remove (set.insert tags (at_tag tag v)) (at_tag tag v))
-  tag_back tag none t q =
-      without_tag (set.insert tags (at_tag tag v)) t tag q v
-      ∙ ap (λ b. not ((t == tag) && tied q v) && b) (with_tag tags t tag q v ∙ ap (λ b. ((t == tag) && tied q v) || b) (is t q))
-      ∙ there q (tied q v) refl
-    where
-      gone : (a : Bool) → (not (a && true) && ((a && true) || false)) ≡ false
-      gone true = refl
-      gone false = refl
-
-      still : (a b : Bool) → (not (a && false) && ((a && false) || b)) ≡ b
-      still true b = refl
-      still false b = refl
-
-      there : (q : VersionKey) (b : Bool) → tied q v ≡ b → (not ((t == tag) && b) && (((t == tag) && b) || is_tagged t (finmap.get f.rows q))) ≡ is_tagged t (finmap.get f.rows q)
-      there q true e = ap (λ o. not ((t == tag) && true) && (((t == tag) && true) || is_tagged t o)) (same_at q e ∙ none) ∙ gone (t == tag) ∙ sym (ap (is_tagged t) (same_at q e ∙ none))
-      there q false e = still (t == tag) (is_tagged t (finmap.get f.rows q))
 
   -- a row that is taken away
   row_gone : (tag : ℕ) → ((t : ℕ) → is_tagged t (finmap.get f.rows v) ≡ (tag == t)) → (g : FactsValue) → ((q : VersionKey) → finmap.get g.rows q ≡ cond (tied q v) None (finmap.get f.rows q))
@@ -146,13 +142,6 @@ module _ (f : FactsValue) (tags : Tags) (is : AreTagged f tags) (v : VersionKey)
   part_rowless Whole e = none_gone (no_row (finmap.get f.rows v) e) (facts_without f v Whole) (λ q. get-without f.rows v q)
   part_rowless EndPart e = λ t q. is t q
 
-  -- a put where the row is known, or of an end, leaves the rows as they were
-  pub known_tagged : (row : RowValue) → is_some (finmap.get f.rows v) ≡ true → AreTagged (with_fact_at f v (Row row)) tags
-  known_tagged row there t q = is t q ∙ ap (λ b. is_tagged t (finmap.get (cond b f.rows (finmap.insert f.rows v row)) q)) (sym there)
-
-  pub end_tagged : (died : ℕ) → AreTagged (with_fact_at f v (End died)) tags
-  end_tagged died t q = is t q
-
 -- ---- what is known
 
 pub known_fact : (f : FactsValue) (v : VersionKey) → is_some (known_at f v) ≡ has_fact f v
@@ -170,19 +159,3 @@ put_is f g v fact e = go (conflicts_at f v fact) (with_fact_at f v fact) e
     go : (b : Bool) (w : FactsValue) → cond b (Err Conflict) (Ok w) ≡ Ok g → g ≡ w
     go true w e = cc
     go false w e = cc
-
--- what a put leaves, told or refused
-module _ (f g : FactsValue) (v : VersionKey) {A : Type 0} (r : Result A Refusal) (same : OnErr r (g ≡ f)) where
-  pub put_row_tagged : (row : RowValue) (tags : Tags) → AreTagged f tags → OnOk r (facts_put f v (Row row) ≡ Ok g) → is_some (finmap.get f.rows v) ≡ true → AreTagged g tags
-  put_row_tagged row tags is ok there = by r same ok
-    where
-      by : (r : Result A Refusal) → OnErr r (g ≡ f) → OnOk r (facts_put f v (Row row) ≡ Ok g) → AreTagged g tags
-      by (Ok a) e o = subst (λ h. AreTagged h tags) (sym (put_is f g v (Row row) o)) (known_tagged f tags is v row there)
-      by (Err w) e o = subst (λ h. AreTagged h tags) (sym e) is
-
-  pub put_end_tagged : (died : ℕ) (tags : Tags) → AreTagged f tags → OnOk r (facts_put f v (End died) ≡ Ok g) → AreTagged g tags
-  put_end_tagged died tags is ok = by r same ok
-    where
-      by : (r : Result A Refusal) → OnErr r (g ≡ f) → OnOk r (facts_put f v (End died) ≡ Ok g) → AreTagged g tags
-      by (Ok a) e o = subst (λ h. AreTagged h tags) (sym (put_is f g v (End died) o)) (end_tagged f tags is v died)
-      by (Err w) e o = subst (λ h. AreTagged h tags) (sym e) is

@@ -1,21 +1,19 @@
 -- Facts that are added under a journal, and taken back.
-use Rattle.std.proofs.Common.{◌≡◌, refl, sym, ap, ◌∙◌, ◌==◌, ℕ, Bool, true, false, cond, Option, Some, None, List, [], ◌∷◌, ◌++◌, map, Result, Ok, Err, OnOk, OnErr, option_map, ◌+◌, ◌<◌, take, length, get_or}
+use Rattle.std.proofs.Common.{◌≡◌, refl, sym, ap, ◌∙◌, ℕ, Bool, true, false, cond, Option, Some, None, List, [], ◌∷◌, ◌++◌, map, ◌+◌, ◌<◌, take, length, get_or}
 use Rattle.std.proofs.lemmas.List.{take_more, map_push}
 use Rattle.std.specs.Option.{is_some}
 use Rattle.std.specs.FinMap as finmap
 use Rattle.std.specs.FinMap.{find}
-use Rattle.hk_types.specs.Values.{RowValue, same_row}
+use Rattle.hk_types.specs.Values.{RowValue}
 use Rattle.hk_types.specs.declared.version_key.VersionKey.{VersionKey}
-use Rattle.hk_types.specs.declared.faults.Refusal.{Refusal}
-use Rattle.hk_types.specs.declared.faults.Refusal.TheVariants.{Conflict}
 use Rattle.hk_model.specs.History.Rows.{version_key_cmp}
-use Rattle.hk_model.specs.Replica.Maps.{or_else, union, values_conflict}
+use Rattle.hk_model.specs.Replica.Maps.{or_else, union}
 use Rattle.hk_model.proofs.Maps.{version_key_total, version_key_same, find-append, get-union}
 use Rattle.hk_facts.specs.declared.fact.Fact.{Fact}
 use Rattle.hk_facts.specs.declared.fact.Fact.TheVariants.{Row, End}
 use Rattle.hk_facts.specs.declared.fact.Part.{Part}
 use Rattle.hk_facts.specs.declared.fact.Part.TheVariants.{Row as RowPart, End as EndPart}
-use Rattle.hk_store.specs.Facts.{FactsValue, with_added, with_fact_at, facts_put, facts_without}
+use Rattle.hk_store.specs.Facts.{FactsValue, with_added, with_fact_at, facts_without}
 use Rattle.hk_store.specs.Indexed.{IsNew}
 use Rattle.hk_store.specs.Journal.{without_journal}
 use Rattle.hk_store.proofs.StoredFacts.{tied, key_tied, or_none}
@@ -27,16 +25,9 @@ pub undone_push : (js : List (VersionKey × Part)) (v : VersionKey) (part : Part
 undone_push [] v part f = refl
 undone_push (j ∷ js) v part f = ap (λ g. facts_without g j.0 j.1) (undone_push js v part f)
 
--- ---- a part that is not there
+-- ---- a part that was not there
 
 module _ {X : Type 0} (m : finmap.FinMap version_key_cmp X) (v : VersionKey) (none : finmap.get m v ≡ None) where
-  remove_none : finmap.remove m v ≡ m
-  remove_none = finmap.same_map version_key_total version_key_same _ _ (λ q. get-without m v q ∙ here q (tied q v) refl)
-    where
-      here : (q : VersionKey) (b : Bool) → tied q v ≡ b → cond b None (finmap.get m q) ≡ finmap.get m q
-      here q true t = sym (ap (finmap.get m) (tied_is q v t) ∙ none)
-      here q false t = refl
-
   remove_added : (x : X) → finmap.remove (with_added m v x) v ≡ m
   remove_added x = finmap.same_map version_key_total version_key_same _ _ (λ q. get-without (with_added m v x) v q ∙ ap (cond (tied q v) None) (get-added m v x q) ∙ here q (tied q v) refl)
     where
@@ -48,45 +39,18 @@ abbrev pub part_of : Fact → Part
 part_of (Row row) = RowPart
 part_of (End died) = EndPart
 
-without_open : (f : FactsValue) (v : VersionKey) (fact : Fact) → IsNew f v fact → facts_without f v (part_of fact) ≡ f
-without_open f v (Row row) none = ap (λ m. record { rows = m; ends = f.ends }) (remove_none f.rows v none)
-without_open f v (End died) none = ap (λ m. record { rows = f.rows; ends = m }) (remove_none f.ends v none)
-
 without_new : (f : FactsValue) (v : VersionKey) (fact : Fact) → IsNew f v fact → facts_without (with_fact_at f v fact) v (part_of fact) ≡ f
 without_new f v (Row row) none = ap (λ m. record { rows = m; ends = f.ends }) (remove_added f.rows v none row)
 without_new f v (End died) none = ap (λ m. record { rows = f.rows; ends = m }) (remove_added f.ends v none died)
 
-open_put : (f : FactsValue) (v : VersionKey) (fact : Fact) → IsNew f v fact → facts_put f v fact ≡ Ok (with_fact_at f v fact)
-open_put f v (Row row) none = ap (λ o. cond (values_conflict same_row o (Some row)) (Err Conflict) (Ok (with_fact_at f v (Row row)))) none
-open_put f v (End died) none = ap (λ o. cond (values_conflict (λ a b. a == b) o (Some died)) (Err Conflict) (Ok (with_fact_at f v (End died)))) none
+-- ---- one fact more, and its name
 
-inside : (x y : FactsValue) → ◌≡◌ {A = Result FactsValue Refusal} (Ok x) (Ok y) → y ≡ x
-inside x y e = cc
+module _ (f g : FactsValue) (v : VersionKey) (fact : Fact) (free : IsNew f v fact) (added : g ≡ with_fact_at f v fact) where
+  pub taken_back : (h : FactsValue) → h ≡ facts_without g v (part_of fact) → h ≡ f
+  taken_back h is = is ∙ ap (λ x. facts_without x v (part_of fact)) added ∙ without_new f v fact free
 
--- ---- one fact more, named first
-
-module _ {A : Type 0} (r : Result A Refusal) (f g : FactsValue) (v : VersionKey) (fact : Fact) (free : IsNew f v fact) where
-  put_open : OnOk r (facts_put f v fact ≡ Ok g) → OnOk r (g ≡ with_fact_at f v fact)
-  put_open = cases r
-    where
-      cases : (r : Result A Refusal) → OnOk r (facts_put f v fact ≡ Ok g) → OnOk r (g ≡ with_fact_at f v fact)
-      cases (Ok a) is = inside (with_fact_at f v fact) g (sym (open_put f v fact free) ∙ is)
-      cases (Err why) is = is
-
-  pub put_back : (js ks : List (VersionKey × Part)) → ks ≡ js ++ (v, part_of fact) ∷ [] → OnOk r (facts_put f v fact ≡ Ok g) → OnErr r (g ≡ f) → without_journal ks g ≡ without_journal js f
-  put_back js ks noted is = cases r (put_open is)
-    where
-      cases : (r : Result A Refusal) → OnOk r (g ≡ with_fact_at f v fact) → OnErr r (g ≡ f) → without_journal ks g ≡ without_journal js f
-      cases (Ok a) ok err = ap (λ l. without_journal l g) noted ∙ undone_push js v (part_of fact) g ∙ ap (λ h. without_journal js (facts_without h v (part_of fact))) ok ∙ ap (without_journal js) (without_new f v fact free)
-      cases (Err why) ok err = ap (λ l. without_journal l g) noted ∙ undone_push js v (part_of fact) g ∙ ap (λ h. without_journal js (facts_without h v (part_of fact))) err ∙ ap (without_journal js) (without_open f v fact free)
-
-pub none_there : {X Y : Type 0} (now : Y → X) (r : Option Y) (o : Option X) → option_map now r ≡ o → is_some r ≡ false → o ≡ None
-none_there now None o is e = sym is
-none_there now (Some y) o is e = cc
-
-pub none_here : {X : Type 0} (r o : Option X) → r ≡ o → is_some r ≡ false → o ≡ None
-none_here None o is e = sym is
-none_here (Some y) o is e = cc
+  pub noted_back : (js ks : List (VersionKey × Part)) → ks ≡ js ++ (v, part_of fact) ∷ [] → without_journal ks g ≡ without_journal js f
+  noted_back js ks noted = ap (λ l. without_journal l g) noted ∙ undone_push js v (part_of fact) g ∙ ap (without_journal js) (taken_back _ refl)
 
 -- what is known already is not added again
 pub added_again : (f : FactsValue) (v : VersionKey) (row : RowValue) → is_some (finmap.get f.rows v) ≡ true → f ≡ with_fact_at f v (Row row)

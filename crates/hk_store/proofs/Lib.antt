@@ -3,6 +3,7 @@ pub mod StoredFacts
 pub mod ChangedChains
 pub mod FactsByRow
 pub mod JournalUndone
+mod NewFacts
 pub mod Conflicts
 pub mod EntryConflicts
 pub mod TimedFacts

@@ -1,5 +1,5 @@
 -- Indexes by time follow the facts.
-use Rattle.std.proofs.Common.{◌≡◌, refl, sym, ap, ◌∙◌, subst, ℕ, Bool, true, false, cond, not, ◌||◌, ◌&&◌, ◌==◌, Option, Some, None, Result, Ok, Err, IfOk, OnOk, OnErr, option_map, nat_le, arith, List, ◌++◌}
+use Rattle.std.proofs.Common.{◌≡◌, refl, sym, ap, ◌∙◌, ℕ, Bool, true, false, cond, not, ◌||◌, ◌&&◌, ◌==◌, Option, Some, None, Result, Ok, Err, IfOk, option_map, nat_le, arith, List, ◌++◌}
 use Rattle.std.proofs.lemmas.Bool.Decides.{nat_tests}
 use Rattle.std.proofs.lemmas.List.Folds.{list_any-append}
 use Rattle.std.specs.Ordering.{eq_by_cmp}
@@ -7,7 +7,6 @@ use Rattle.std.specs.FinMap as finmap
 use Rattle.std.specs.FinSet as set
 use Rattle.hk_types.specs.Values.{RowValue}
 use Rattle.hk_types.specs.declared.version_key.VersionKey.{VersionKey}
-use Rattle.hk_types.specs.declared.faults.Refusal.{Refusal}
 use Rattle.hk_model.specs.History.Rows.{version_key_cmp}
 use Rattle.hk_model.specs.Replica.Content.{at_most, ended_by}
 use Rattle.hk_model.specs.Replica.Maps.{or_else}
@@ -15,16 +14,16 @@ use Rattle.hk_model.proofs.Maps.{version_key_total}
 use Rattle.hk_index.specs.Tagged.{tagged_cmp}
 use Rattle.hk_index.specs.declared.timed.TimedVersion.{TimedVersion}
 use Rattle.hk_index.specs.Timed.{timed_cmp, is_at, AreTimed, passes_at, versions_where}
-use Rattle.hk_index.proofs.StoredTimes.{timed_total, timed_same, tied_parts, tied_timed, timed_where}
+use Rattle.hk_index.proofs.StoredTimes.{timed_total, tied_parts, timed_where}
 use Rattle.hk_facts.specs.declared.fact.Fact.TheVariants.{Row, End}
 use Rattle.hk_facts.specs.declared.fact.Part.{Part}
 use Rattle.hk_facts.specs.declared.fact.Part.TheVariants.{Row as RowPart, End as EndPart, Whole}
-use Rattle.hk_store.specs.Facts.{FactsValue, with_fact_at, facts_put, facts_without}
+use Rattle.hk_store.specs.Facts.{FactsValue, with_fact_at, facts_without}
 use Rattle.hk_store.specs.Drops.{is_among}
-use Rattle.hk_store.specs.Indexed.{AreTagged, AreIndexed, born_at, died_at, is_stated, tag_lost, end_lost, tags_without, times_without}
+use Rattle.hk_store.specs.Indexed.{AreTagged, born_at, died_at, is_stated, tag_lost, end_lost, tags_without, times_without}
 use Rattle.hk_store.proofs.StoredFacts.{tied, key_tied}
 use Rattle.hk_store.proofs.ChangedChains.{get-added, get-without, tied_is}
-use Rattle.hk_store.proofs.Indexed.{part_gone, part_rowless, put_is}
+use Rattle.hk_store.proofs.Indexed.{part_gone, part_rowless}
 
 abbrev Times : Type 0
 Times = set.FinSet timed_cmp
@@ -44,22 +43,7 @@ with_time index t n q v = set.contains-insert timed_total index (at_time n v) (a
 without_time : (index : Times) (t n : ℕ) (q v : VersionKey) → set.contains (set.remove index (at_time n v)) (at_time t q) ≡ (not ((t == n) && tied q v) && set.contains index (at_time t q))
 without_time index t n q v = set.contains-remove timed_total index (at_time n v) (at_time t q) ∙ ap (λ b. not b && set.contains index (at_time t q)) (tied_at t n q v)
 
--- a member that was not there is added and taken back
-pub time_back : (index : Times) (x : TimedVersion) → set.contains index x ≡ false → set.remove (set.insert index x) x ≡ index
-time_back index x none = set.same_set timed_total timed_same _ _ (λ q.
-    set.contains-remove timed_total (set.insert index x) x q
-    ∙ ap (λ b. not (eq_by_cmp timed_cmp q x) && b) (set.contains-insert timed_total index x q)
-    ∙ cases q (eq_by_cmp timed_cmp q x) refl)
-  where
-    cases : (q : TimedVersion) (b : Bool) → eq_by_cmp timed_cmp q x ≡ b → (not b && (b || set.contains index q)) ≡ set.contains index q
-    cases q true e = sym (ap (set.contains index) (tied_timed q x e) ∙ none)
-    cases q false e = refl
-
 module _ (at : VersionKey → Option ℕ) (index : Times) (are : AreTimed at index) (v : VersionKey) where
-  -- a version without a time is not in the index
-  pub none_at : (n : ℕ) → at v ≡ None → set.contains index (at_time n v) ≡ false
-  none_at n none = are n v ∙ ap (is_at n) none
-
   -- a time where there was none
   time_added : (n : ℕ) → at v ≡ None → (now : VersionKey → Option ℕ) → ((q : VersionKey) → now q ≡ cond (tied q v) (Some n) (at q)) → AreTimed now (set.insert index (at_time n v))
   time_added n none now is t q =
@@ -150,26 +134,6 @@ module _ (f : FactsValue) (v : VersionKey) where
       by : (o : Option ℕ) → tag_lost f v part ≡ o → AreTagged (facts_without f v part) (tags_without tags v o)
       by None e = part_rowless f tags are v part e
       by (Some tag) e = part_gone f tags are v part tag e
-
-pub none_born : (f : FactsValue) (v : VersionKey) → finmap.get f.rows v ≡ None → born_at f v ≡ None
-none_born f v none = ap (option_map (λ (r : RowValue). v.born)) none
-
--- what a put of an end leaves, told or refused
-pub end_put : (f g : FactsValue) (v : VersionKey) {A : Type 0} (r : Result A Refusal) → OnErr r (g ≡ f) → (died : ℕ) → OnOk r (facts_put f v (End died) ≡ Ok g) → finmap.get f.ends v ≡ None
-    → (tags : set.FinSet tagged_cmp) (births deaths : Times) → AreIndexed f tags births deaths
-    → (now : Times) → OnOk r (now ≡ set.insert deaths (at_time died v)) → OnErr r (now ≡ deaths) → AreIndexed g tags births now
-end_put f g v (Ok done) kept died ok none tags births deaths are now timed untimed =
-    let is = put_is f g v (End died) ok in
-    record {
-      tagged = subst (λ h. AreTagged h tags) (sym is) are.tagged;
-      born = subst (λ h. AreTimed (born_at h) births) (sym is) are.born;
-      dead = subst (λ h. AreTimed (died_at h) now) (sym is) (subst (λ s. AreTimed (died_at (with_fact_at f v (End died))) s) (sym timed) (deaths_added f v deaths are.dead died none));
-    }
-end_put f g v (Err why) kept died ok none tags births deaths are now timed untimed = record {
-  tagged = subst (λ h. AreTagged h tags) (sym kept) are.tagged;
-  born = subst (λ h. AreTimed (born_at h) births) (sym kept) are.born;
-  dead = subst (λ h. AreTimed (died_at h) now) (sym kept) (subst (λ s. AreTimed (died_at f) s) (sym untimed) are.dead);
-}
 
 -- ---- what the indexes by time list
 

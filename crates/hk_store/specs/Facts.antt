@@ -1,5 +1,5 @@
 -- The facts of a replica: its rows and its ends, by version key.
-use Rattle.std.specs.Prelude.{◌≡◌, ℕ, Bool, true, ◌||◌, ◌==◌, ◌<◌, List, [], ◌∷◌, Option, Some, None, Result, Ok, Err, if◌then◌else◌, refl}
+use Rattle.std.specs.Prelude.{◌≡◌, ℕ, Bool, true, ◌||◌, ◌==◌, ◌<◌, List, [], ◌∷◌, Option, Some, None, is_some, Result, Ok, Err, if◌then◌else◌, refl}
 use Rattle.std.specs.Option.{option_and_then}
 use Rattle.std.specs.List.{flat_map}
 use Rattle.std.specs.Coded.{Coded, code_by, coded×, coded_ℕ}
@@ -20,7 +20,7 @@ use Rattle.hk_facts.specs.declared.fact.Fact.TheVariants.{Row, End}
 use Rattle.hk_facts.specs.declared.fact.Part.{Part}
 use Rattle.hk_facts.specs.declared.fact.Part.TheVariants.{Row as RowPart, End as EndPart, Whole}
 use Rattle.hk_facts.specs.Chains.{ChainValue}
-use Rattle.hk_facts.specs.Facts.{if_known}
+use Rattle.hk_facts.specs.Facts.{row_of, died_of, if_known}
 
 -- the value of a `Facts`
 pub record FactsValue : Type 0 where
@@ -73,6 +73,11 @@ pub record AreStored (chains : ChainsValue) : Type 0 where
 -- what is known of a version
 abbrev pub known_at : FactsValue → VersionKey → Option VersionValue
 known_at f v = if_known (record { row = finmap.get f.rows v; died = finmap.get f.ends v })
+
+-- whether a row is known of a version, where the fact is one, or an end, where it is one
+abbrev pub has_like : Option VersionValue → Fact → Bool
+has_like v (Row row) = is_some (row_of v)
+has_like v (End died) = is_some (died_of v)
 
 -- the map with this at the key, unless something stands there
 abbrev pub with_added : {X : Type 0} → finmap.FinMap version_key_cmp X → VersionKey → X → finmap.FinMap version_key_cmp X

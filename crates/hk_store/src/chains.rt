@@ -1,6 +1,7 @@
 //! The facts of a replica, as chains of versions by row.
 
-ghost use Rattle.std.specs.Prelude.{◌≡◌, ◌==◌, ◌&&◌, nat_le, filter, length, is_some, ◌⊎◌, ◌↔◌, ◌<◌, IsTrue, OnOk, OnErr, IfErr, IfOk, IfSome, IfNone, Ok, Err, Some, None, ℕ};
+ghost use Rattle.std.specs.Prelude.{◌≡◌, ◌==◌, ◌&&◌, nat_le, filter, length, is_some, not, ◌⊎◌, ◌↔◌, ◌<◌, IsTrue, OnOk, OnErr, IfErr, IfOk, IfSome, IfNone, Ok, Err, Some, None, ℕ};
+ghost use Rattle.std.specs.Bool.{OnTrue, OnFalse};
 ghost use Rattle.std.specs.Option.{option_copied};
 ghost use Rattle.std.specs.BTreeMap.{IsOrdered, Updates};
 ghost use Rattle.std.specs.FinMap as finmap;
@@ -10,10 +11,10 @@ ghost use Rattle.hk_types.specs.declared.faults.Refusal.TheVariants.{Memory};
 ghost use Rattle.hk_types.specs.declared.version_key.VersionKey.{VersionKey};
 ghost use Rattle.hk_model.specs.History.Rows.{row_key_cmp};
 ghost use Rattle.hk_model.specs.Replica.Answers.{visible, rows_where};
-ghost use Rattle.hk_facts.specs.Chains.{row_at};
+ghost use Rattle.hk_facts.specs.Chains.{row_at, chain_put};
 ghost use Rattle.hk_store.specs.Reads.{with_facts};
-ghost use Rattle.hk_store.specs.Facts.{no_facts, known_at, facts_put, facts_without};
-ghost use Rattle.hk_store.specs.Indexed.{tag_lost, end_lost, tag_of_part, end_of_part};
+ghost use Rattle.hk_store.specs.Facts.{no_facts, known_at, has_like, with_fact_at, facts_put, facts_without};
+ghost use Rattle.hk_store.specs.Indexed.{IsNew, tag_lost, end_lost, tag_of_part, end_of_part};
 
 use crate::ranges::rows_in_range;
 use crate::row_key::RowKey;
@@ -123,6 +124,24 @@ impl Chains {
         let chain = Chain::of_fact(self.alloc, version.born, fact)?;
         insert(&mut self.chains, row, chain)?;
         Ok(())
+    }
+
+    /// Adds a fact where nothing like it is known of the version, and says whether it did. The only refusal
+    /// is `Memory`, and it changes nothing. Cost: O(log n), n facts: a body is moved.
+    pub(crate) fn put_new(&mut self, version: &VersionKey, fact: Fact) -> Result<bool, Refusal>
+        ensures ok { OnOk result (self.new ≡ with_fact_at self.old version.now fact) }
+        ensures new { IfOk result (λ is. OnTrue is (IsNew self.old version.now fact)) }
+        ensures known { IfOk result (λ is. OnFalse is (self.new ≡ self.old)) }
+        ensures err { IfErr result (λ why. why ≡ Memory) }
+        ensures kept { OnErr result (self.new ≡ self.old) }
+    {
+        let row = RowKey::of_version(version);
+        if let Some(chain) = self.chains.get_mut(&row) {
+            return put_where_new(chain, version.born, fact);
+        }
+        let chain = Chain::of_fact(self.alloc, version.born, fact)?;
+        insert(&mut self.chains, row, chain)?;
+        Ok(true)
     }
 
     /// Takes a part of a version back, where it is known, and says what went. Cost: O(log n), n facts.
@@ -245,4 +264,32 @@ fn insert(chains: &mut BTreeMap<RowKey, Chain>, row: RowKey, chain: Chain) -> Re
 {
     chains.insert(row, chain)?;
     Ok(())
+}
+
+/// Adds a fact where nothing like it is known of the version that was born then, and says whether it did.
+fn put_where_new(chain: &mut Chain, born: Time, fact: Fact) -> Result<bool, Refusal>
+    ensures told { IfOk result (λ is. is ≡ not (has_like (finmap.get chain.old born) fact)) }
+    ensures new { IfOk result (λ is. OnTrue is (chain_put chain.old born fact ≡ Ok chain.new)) }
+    ensures known { IfOk result (λ is. OnFalse is (chain.new ≡ chain.old)) }
+    ensures err { IfErr result (λ why. why ≡ Memory) }
+    ensures kept { OnErr result (chain.new ≡ chain.old) }
+{
+    if has_like(chain.version(born), &fact) {
+        return Ok(false);
+    }
+    chain.put(born, fact)?;
+    Ok(true)
+}
+
+/// Whether a row is known of a version, where the fact is one, or an end, where it is one.
+fn has_like(version: Option<&Version>, fact: &Fact) -> bool
+    ensures { result ≡ has_like (option_copied version.entry) fact.now }
+{
+    match version {
+        Some(version) => match fact {
+            Fact::Row(_row) => version.row().is_some(),
+            Fact::End(_died) => version.died().is_some(),
+        },
+        None => false,
+    }
 }

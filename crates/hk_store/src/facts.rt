@@ -1,6 +1,7 @@
 //! The facts of a replica, with the indexes of their versions.
 
 ghost use Rattle.std.specs.Prelude.{◌≡◌, ◌==◌, length, false, is_some, ◌⊎◌, ◌<◌, OnOk, OnErr, IfErr, IfOk, IfSome, IfNone, Ok, Err, Some, None, ℕ};
+ghost use Rattle.std.specs.Bool.{OnTrue, OnFalse};
 ghost use Rattle.std.specs.Option.{option_copied, option_map};
 ghost use Rattle.std.specs.FinMap as finmap;
 ghost use Rattle.std.specs.FinSet as set;
@@ -9,7 +10,7 @@ ghost use Rattle.hk_types.specs.declared.version_key.VersionKey.{VersionKey};
 ghost use Rattle.hk_facts.specs.declared.fact.Fact.TheVariants.{Row as RowFact, End as EndFact};
 ghost use Rattle.hk_model.specs.Replica.Answers.{visible, rows_where};
 ghost use Rattle.hk_store.specs.Reads.{with_facts};
-ghost use Rattle.hk_store.specs.Facts.{no_facts, known_at, facts_put, facts_without};
+ghost use Rattle.hk_store.specs.Facts.{no_facts, known_at, with_fact_at, facts_put, facts_without};
 ghost use Rattle.hk_store.specs.Indexed.{AreTagged, AreKeyed, IsNew, tags_without, times_without};
 
 use crate::chains::Chains;
@@ -139,30 +140,28 @@ impl Facts {
         if self.chains.row_at(version).is_some() {
             return self.chains.put(version, Fact::Row(row));
         }
-        self.put_new_row(version, row)
+        self.put_new_row(version, row)?;
+        Ok(())
     }
 
-    /// Adds a row of a version of which none is known.
-    pub(crate) fn put_new_row(&mut self, version: &VersionKey, row: Row) -> Result<(), Refusal>
-        requires { IsNew self.old version.now (RowFact row) }
-        ensures ok { OnOk result (facts_put self.old version.now (RowFact row) ≡ Ok self.new) }
-        ensures err { IfErr result (λ why. (facts_put self.old version.now (RowFact row) ≡ Err why) ⊎ ((why ≡ Memory) × IsNew self.old version.now (RowFact row))) }
+    /// Adds a row where none is known of the version, and says whether it did. The only refusal is
+    /// `Memory`, and it changes nothing. Cost: O(log n), n facts: the body is moved.
+    pub(crate) fn put_new_row(&mut self, version: &VersionKey, row: Row) -> Result<bool, Refusal>
+        ensures ok { OnOk result (self.new ≡ with_fact_at self.old version.now (RowFact row)) }
+        ensures new { IfOk result (λ is. OnTrue is (IsNew self.old version.now (RowFact row))) }
+        ensures known { IfOk result (λ is. OnFalse is (self.new ≡ self.old)) }
+        ensures err { IfErr result (λ why. why ≡ Memory) }
         ensures kept { OnErr result (self.new ≡ self.old) }
     {
         let tag = row.tag();
-        self.tags.add(tag, *version)?;
-        let put = put_timed(
-            &mut self.chains,
-            &mut self.births,
-            version,
-            version.born,
-            Fact::Row(row),
-        );
-        if let Err(why) = put {
-            self.tags.remove(tag, *version);
+        if !self.chains.put_new(version, Fact::Row(row))? {
+            return Ok(false);
+        }
+        if let Err(why) = add_birth(&mut self.tags, &mut self.births, version, tag) {
+            self.chains.forget(version, Part::Row);
             return Err(why);
         }
-        Ok(())
+        Ok(true)
     }
 
     fn put_end(&mut self, version: &VersionKey, died: Time) -> Result<(), Refusal>
@@ -173,23 +172,27 @@ impl Facts {
         if self.chains.end_at(version).is_some() {
             return self.chains.put(version, Fact::End(died));
         }
-        self.put_new_end(version, died)
+        self.put_new_end(version, died)?;
+        Ok(())
     }
 
-    /// Adds an end of a version of which none is known.
-    pub(crate) fn put_new_end(&mut self, version: &VersionKey, died: Time) -> Result<(), Refusal>
-        requires { IsNew self.old version.now (EndFact died) }
-        ensures ok { OnOk result (facts_put self.old version.now (EndFact died) ≡ Ok self.new) }
-        ensures err { IfErr result (λ why. (facts_put self.old version.now (EndFact died) ≡ Err why) ⊎ ((why ≡ Memory) × IsNew self.old version.now (EndFact died))) }
+    /// Adds an end where none is known of the version, and says whether it did. The only refusal is
+    /// `Memory`, and it changes nothing. Cost: O(log n), n facts.
+    pub(crate) fn put_new_end(&mut self, version: &VersionKey, died: Time) -> Result<bool, Refusal>
+        ensures ok { OnOk result (self.new ≡ with_fact_at self.old version.now (EndFact died)) }
+        ensures new { IfOk result (λ is. OnTrue is (IsNew self.old version.now (EndFact died))) }
+        ensures known { IfOk result (λ is. OnFalse is (self.new ≡ self.old)) }
+        ensures err { IfErr result (λ why. why ≡ Memory) }
         ensures kept { OnErr result (self.new ≡ self.old) }
     {
-        put_timed(
-            &mut self.chains,
-            &mut self.deaths,
-            version,
-            died,
-            Fact::End(died),
-        )
+        if !self.chains.put_new(version, Fact::End(died))? {
+            return Ok(false);
+        }
+        if let Err(why) = self.deaths.add(died, *version) {
+            self.chains.forget(version, Part::End);
+            return Err(why);
+        }
+        Ok(true)
     }
 
     /// Takes a part of a version back, where it is known. Cost: O(log n), n facts.
@@ -202,24 +205,25 @@ impl Facts {
     }
 }
 
-/// Adds a fact that has a time, and its version to the index by this time, which has it not.
-fn put_timed(
-    chains: &mut Chains,
-    index: &mut TimeIndex,
+/// Adds a version to the indexes of those whose row is known, which have it not.
+fn add_birth(
+    tags: &mut TagIndex,
+    births: &mut TimeIndex,
     version: &VersionKey,
-    time: Time,
-    fact: Fact,
+    tag: Tag,
 ) -> Result<(), Refusal>
-    requires { set.contains index.old (record { time = time; version = version.now }) ≡ false }
-    ensures ok { OnOk result (facts_put chains.old version.now fact ≡ Ok chains.new) }
-    ensures timed { OnOk result (index.new ≡ set.insert index.old (record { time = time; version = version.now })) }
-    ensures err { IfErr result (λ why. (facts_put chains.old version.now fact ≡ Err why) ⊎ (why ≡ Memory)) }
-    ensures kept { OnErr result (chains.new ≡ chains.old) }
-    ensures untimed { OnErr result (index.new ≡ index.old) }
+    requires { set.contains tags.old (record { tag = tag; version = version.now }) ≡ false }
+    ensures tagged { OnOk result (tags.new
+        ≡ set.insert tags.old (record { tag = tag; version = version.now })) }
+    ensures timed { OnOk result (births.new
+        ≡ set.insert births.old (record { time = version.now.born; version = version.now })) }
+    ensures err { IfErr result (λ why. why ≡ Memory) }
+    ensures untagged { OnErr result (tags.new ≡ tags.old) }
+    ensures untimed { OnErr result (births.new ≡ births.old) }
 {
-    index.add(time, *version)?;
-    if let Err(why) = chains.put(version, fact) {
-        index.remove(time, *version);
+    tags.add(tag, *version)?;
+    if let Err(why) = births.add(version.born, *version) {
+        tags.remove(tag, *version);
         return Err(why);
     }
     Ok(())

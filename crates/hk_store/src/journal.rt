@@ -44,7 +44,7 @@ impl Facts {
         Ok(())
     }
 
-    /// Adds the rows and ends of an entry, where none are known, each named in the journal first. The only
+    /// Adds the rows and ends of an entry, where none are known, each named in the journal. The only
     /// refusal is `Memory`. Cost: O(w · log n), w writes, n facts: bodies are moved.
     pub fn add_writes(
         &mut self,
@@ -99,7 +99,7 @@ impl Facts {
         Ok(())
     }
 
-    /// Adds a row where none is known, and names it in the journal first. The only refusal is
+    /// Adds a row where none is known, and names it in the journal. The only refusal is
     /// `Memory`. Cost: O(log n), n facts: the body is moved.
     pub fn add_row(
         &mut self,
@@ -112,14 +112,17 @@ impl Facts {
         ensures back { without_journal journal.new.items self.new
             ≡ without_journal journal.old.items self.old }
     {
-        if self.row_at(version).is_some() {
+        if !self.put_new_row(version, row)? {
             return Ok(());
         }
-        note(journal, version, Part::Row)?;
-        self.put_new_row(version, row)
+        if let Err(why) = note(journal, version, Part::Row) {
+            self.forget(version, Part::Row);
+            return Err(why.into());
+        }
+        Ok(())
     }
 
-    /// Adds an end where none is known, and names it in the journal first. The only refusal is
+    /// Adds an end where none is known, and names it in the journal. The only refusal is
     /// `Memory`. Cost: O(log n), n facts.
     pub fn add_end(
         &mut self,
@@ -132,11 +135,14 @@ impl Facts {
         ensures back { without_journal journal.new.items self.new
             ≡ without_journal journal.old.items self.old }
     {
-        if self.end_at(version).is_some() {
+        if !self.put_new_end(version, died)? {
             return Ok(());
         }
-        note(journal, version, Part::End)?;
-        self.put_new_end(version, died)
+        if let Err(why) = note(journal, version, Part::End) {
+            self.forget(version, Part::End);
+            return Err(why.into());
+        }
+        Ok(())
     }
 
     /// Takes back what a journal names, the last first. It cannot fail. Cost: O(j · log n), j places of

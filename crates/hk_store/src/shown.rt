@@ -47,10 +47,13 @@ impl Facts {
     }
 
     /// The row of a version, where the version shows at a time. It takes no memory. Cost: O(log n),
-    /// n facts.
+    /// n facts, and no look at them where the version was born later.
     pub fn row_shown(&self, version: &VersionKey, time: Time) -> Option<&Row>
         ensures { option_copied result ≡ row_shown (with_facts self.now) time version.now }
     {
+        if time < version.born {
+            return None;
+        }
         match self.chain(version.table, version.key) {
             Some(chain) => picked(chain, time, version.born),
             None => None,

@@ -1,11 +1,13 @@
 //! The versions of a state's facts, one by one.
 
-ghost use Rattle.std.specs.Prelude.{◌≡◌, ◌++◌, ◌∷◌, [], IfOk, OnOk, map};
+ghost use Rattle.std.specs.Prelude.{◌≡◌, ◌==◌, ◌||◌, ◌++◌, ◌∷◌, [], IfOk, OnOk, map};
 ghost use Rattle.std.specs.Option.{option_copied, option_map};
 ghost use Rattle.std.specs.Ordering.{is_le, is_lt};
 ghost use Rattle.std.specs.FinSet as set;
+ghost use Rattle.hk_types.specs.Values.{same_row};
 ghost use Rattle.hk_types.specs.declared.version_key.VersionKey.{VersionKey};
 ghost use Rattle.hk_model.specs.History.Rows.{version_key_cmp};
+ghost use Rattle.hk_model.specs.Replica.Maps.{values_conflict};
 ghost use Rattle.hk_model.specs.Replica.Rules.{contents_conflict};
 ghost use Rattle.hk_store.specs.Facts.{known_at};
 ghost use Rattle.hk_store.specs.Reads.{with_facts};
@@ -83,13 +85,8 @@ impl Facts {
     pub fn value_conflicts_at(&self, version: &VersionKey, known: &Version) -> bool
         ensures { result ≡ value_conflicts_at self.now version.now known.now }
     {
-        if let Some(died) = known.died()
-            && self.has_conflicting_end(version, died)
-        {
-            return true;
-        }
-        match known.row() {
-            Some(row) => self.has_conflicting_row(version, row),
+        match self.version(version) {
+            Some(own) => differs(own, known),
             None => false,
         }
     }
@@ -122,5 +119,30 @@ pub fn push_borrowed<'a>(
     match found.push((version, known)) {
         Ok(()) => Ok(()),
         Err(_refused) => Err(AllocError),
+    }
+}
+
+/// Whether two versions have different rows, or different ends.
+fn differs(own: &Version, other: &Version) -> bool
+    ensures { result ≡ (values_conflict same_row own.now.row other.now.row || values_conflict (λ a b. a == b) own.now.died other.now.died) }
+{
+    rows_differ(own, other) || ends_differ(own, other)
+}
+
+fn rows_differ(own: &Version, other: &Version) -> bool
+    ensures { result ≡ values_conflict same_row own.now.row other.now.row }
+{
+    match (own.row(), other.row()) {
+        (Some(row), Some(another)) => *row != *another,
+        _ => false,
+    }
+}
+
+fn ends_differ(own: &Version, other: &Version) -> bool
+    ensures { result ≡ values_conflict (λ a b. a == b) own.now.died other.now.died }
+{
+    match (own.died(), other.died()) {
+        (Some(died), Some(another)) => died != another,
+        _ => false,
     }
 }

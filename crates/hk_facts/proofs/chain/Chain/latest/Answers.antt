@@ -1,9 +1,16 @@
 use Rattle.std.proofs.Common.{sym, ◌∙◌}
+use Rattle.hk_facts.specs.FirstOfChain.{is_later}
 use Rattle.hk_facts.proofs.FirstOfChains.{first_wins, other_wins}
 use Rattle.hk_facts.proofs.chain.Chain.latest.Goals as goal
 
-pub returns-then-is_first_latest : goal.returns-then-is_first_latest
-returns-then-is_first_latest c = rw (← c.self.view_is) (c.latest_first.ensures ∙ first_wins c.args.time c.self.inside.first c.self.inside.more c.self.invariant (sym c.is_first_latest.ensures ∙ c.if-is_first_latest.true))
+pub returns-then-is_later : goal.returns-then-is_later
+returns-then-is_later c =
+    let a = c.self.inside in
+    let first = c.latest_first-first.ensures in
+    rw (← c.self.view_is) (first ∙ first_wins c.args.time a.first a.more c.self.invariant (sym (λ i. is_later (first i) (c.latest-other.ensures i)) ∙ sym c.is_later.ensures ∙ c.if-is_later.true))
 
-pub returns : goal.returns
-returns c = rw (← c.self.view_is) (c.latest.ensures ∙ other_wins c.args.time c.self.inside.first c.self.inside.more c.self.invariant (sym c.is_first_latest.ensures ∙ c.if-is_first_latest.false))
+pub returns-else-is_later : goal.returns-else-is_later
+returns-else-is_later c =
+    let a = c.self.inside in
+    let other = c.latest-other.ensures in
+    rw (← c.self.view_is) (other ∙ other_wins c.args.time a.first a.more c.self.invariant (sym (λ i. is_later (c.latest_first-first.ensures i) (other i)) ∙ sym c.is_later.ensures ∙ c.if-is_later.false))

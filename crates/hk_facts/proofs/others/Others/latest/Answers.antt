@@ -1,4 +1,5 @@
 use Rattle.std.proofs.Common.{sym, ◌∙◌}
+use Rattle.hk_facts.specs.FirstOfChain.{is_later}
 use Rattle.hk_facts.proofs.PartedChains.{latest_rows, rows_win, ends_win}
 use Rattle.hk_facts.proofs.others.Others.latest.Goals as goal
 
@@ -7,12 +8,14 @@ returns-then-not-self c =
     let a = c.self.inside in
     rw (← c.self.view_is) (c.latest.ensures ∙ latest_rows c.args.time a.rows a.ends c.self.invariant.apart (c.self.invariant.bare c.if-not-self.true))
 
-pub returns-then-is_later_in : goal.returns-then-is_later_in
-returns-then-is_later_in c =
+pub returns-then-is_later : goal.returns-then-is_later
+returns-then-is_later c =
     let a = c.self.inside in
-    rw (← c.self.view_is) (c.latest-then-is_later_in.ensures ∙ rows_win c.args.time a.rows a.ends c.self.invariant.apart (sym c.is_later_in.ensures ∙ c.if-is_later_in.true))
+    let row = c.latest-row.ensures in
+    rw (← c.self.view_is) (row ∙ rows_win c.args.time a.rows a.ends c.self.invariant.apart (sym (λ i. is_later (row i) (c.latest-end.ensures i)) ∙ sym c.is_later.ensures ∙ c.if-is_later.true))
 
-pub returns : goal.returns
-returns c =
+pub returns-else-is_later : goal.returns-else-is_later
+returns-else-is_later c =
     let a = c.self.inside in
-    rw (← c.self.view_is) (c.latest-2.ensures ∙ ends_win c.args.time a.rows a.ends c.self.invariant.apart (sym c.is_later_in.ensures ∙ c.if-is_later_in.false))
+    let end = c.latest-end.ensures in
+    rw (← c.self.view_is) (end ∙ ends_win c.args.time a.rows a.ends c.self.invariant.apart (sym (λ i. is_later (c.latest-row.ensures i) (end i)) ∙ sym c.is_later.ensures ∙ c.if-is_later.false))

@@ -1,17 +1,29 @@
-use Rattle.std.proofs.Common.{ap, ◌∙◌}
-use Rattle.std.specs.FinMap as finmap
-use Rattle.hk_store.proofs.TimedFacts.{none_at, end_put}
-use Rattle.hk_store.specs.Facts.{FactsValue}
-use Rattle.hk_store.specs.Indexed.{died_at}
+use Rattle.std.proofs.lemmas.Bool.{OnTrue_at}
+use Rattle.hk_facts.specs.declared.fact.Fact.TheVariants.{End}
+use Rattle.hk_store.proofs.JournalUndone.{taken_back}
+use Rattle.hk_store.proofs.TimedFacts.{deaths_added}
 use Rattle.hk_store.proofs.facts.Facts.put_new_end.Goals as goal
 
-pub put_timed-requires : goal.put_timed-requires
-put_timed-requires c =
+pub invariant_of-self-in-Err : goal.invariant_of-self-in-Err
+invariant_of-self-in-Err c =
     let a = c.self.inside in
-    none_at (died_at a.chains) a.deaths c.self.invariant.dead c.args.version.now c.args.died (ap (λ (f : FactsValue). finmap.get f.ends c.args.version.now) c.self.view_is ∙ c.requires)
+    let new = OnTrue_at c.if-not-branch.false c.in_ok-put_new.ensures.new in
+    let back = taken_back a.chains c.put_new.new.self c.args.version.now (End c.args.died) new c.in_ok-put_new.ensures.ok c.forget.new.self c.forget.ensures.left in
+    rw (back, c.in-Err.ensures.kept) c.self.invariant
 
-pub invariant_of-self : goal.invariant_of-self
-invariant_of-self c =
+pub returns-in-Err-clause-kept : goal.returns-in-Err-clause-kept
+returns-in-Err-clause-kept c =
     let a = c.self.inside in
-    let e = c.put_timed.ensures in
-    end_put a.chains c.put_timed.new.chains c.args.version.now c.put_timed.result e.kept c.args.died e.ok (ap (λ (f : FactsValue). finmap.get f.ends c.args.version.now) c.self.view_is ∙ c.requires) a.tags a.births a.deaths c.self.invariant c.put_timed.new.index e.timed e.untimed
+    let new = OnTrue_at c.if-not-branch.false c.in_ok-put_new.ensures.new in
+    rw (← c.self.view_is) (taken_back a.chains c.put_new.new.self c.args.version.now (End c.args.died) new c.in_ok-put_new.ensures.ok c.forget.new.self c.forget.ensures.left)
+
+pub invariant_of-self-in_default : goal.invariant_of-self-in_default
+invariant_of-self-in_default c =
+    let a = c.self.inside in
+    let new = OnTrue_at c.if-not-branch.false c.in_ok-put_new.ensures.new in
+    let is = c.in_ok-put_new.ensures.ok in
+    record {
+      tagged = rw is c.self.invariant.tagged;
+      born = rw is c.self.invariant.born;
+      dead = rw (is, c.in_default.ensures.ok) (deaths_added a.chains c.args.version.now a.deaths c.self.invariant.dead c.args.died new);
+    }

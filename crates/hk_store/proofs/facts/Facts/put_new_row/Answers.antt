@@ -1,38 +1,37 @@
-use Rattle.std.proofs.Common.{ap, ◌∙◌}
-use Rattle.std.specs.FinMap as finmap
+use Rattle.std.proofs.lemmas.Bool.{OnTrue_at}
 use Rattle.hk_facts.specs.declared.fact.Fact.TheVariants.{Row}
-use Rattle.hk_store.specs.Facts.{FactsValue}
-use Rattle.hk_store.specs.Indexed.{born_at}
-use Rattle.hk_store.proofs.Indexed.{row_tagged, tag_back, put_is}
-use Rattle.hk_store.proofs.TimedFacts.{none_at, none_born, births_added}
+use Rattle.hk_store.proofs.Indexed.{row_tagged, no_tag}
+use Rattle.hk_store.proofs.JournalUndone.{taken_back}
+use Rattle.hk_store.proofs.TimedFacts.{births_added}
 use Rattle.hk_store.proofs.facts.Facts.put_new_row.Goals as goal
 
-pub put_timed-put-requires : goal.put_timed-put-requires
-put_timed-put-requires c =
+pub add_birth-requires : goal.add_birth-requires
+add_birth-requires c =
     let a = c.self.inside in
-    let v = c.args.version.now in
-    let none = ap (λ (f : FactsValue). finmap.get f.rows v) c.self.view_is ∙ c.requires in
-    none_at (born_at a.chains) a.births c.self.invariant.born v v.born (none_born a.chains v none)
+    let new = OnTrue_at c.if-not-branch.false c.in_ok-put_new.ensures.new in
+    no_tag a.chains a.tags c.self.invariant.tagged c.args.version.now c.tag-tag.result new
 
 pub invariant_of-self-in-Err : goal.invariant_of-self-in-Err
 invariant_of-self-in-Err c =
     let a = c.self.inside in
-    let v = c.args.version.now in
-    let none = ap (λ (f : FactsValue). finmap.get f.rows v) c.self.view_is ∙ c.requires in
-    record {
-      tagged = rw (c.remove.ensures, c.in_ok-add.ensures.ok, c.in-Err.ensures.kept) (tag_back a.chains a.tags c.self.invariant.tagged v c.tag-tag.result none);
-      born = rw (c.in-Err.ensures.kept, c.in-Err.ensures.untimed) c.self.invariant.born;
-      dead = rw c.in-Err.ensures.kept c.self.invariant.dead;
-    }
+    let new = OnTrue_at c.if-not-branch.false c.in_ok-put_new.ensures.new in
+    let back = taken_back a.chains c.put_new.new.self c.args.version.now (Row c.args.row) new c.in_ok-put_new.ensures.ok c.forget.new.self c.forget.ensures.left in
+    rw (back, c.in-Err.ensures.untagged, c.in-Err.ensures.untimed) c.self.invariant
+
+pub returns-in-Err-clause-kept : goal.returns-in-Err-clause-kept
+returns-in-Err-clause-kept c =
+    let a = c.self.inside in
+    let new = OnTrue_at c.if-not-branch.false c.in_ok-put_new.ensures.new in
+    rw (← c.self.view_is) (taken_back a.chains c.put_new.new.self c.args.version.now (Row c.args.row) new c.in_ok-put_new.ensures.ok c.forget.new.self c.forget.ensures.left)
 
 pub invariant_of-self-in_default : goal.invariant_of-self-in_default
 invariant_of-self-in_default c =
     let a = c.self.inside in
     let v = c.args.version.now in
-    let none = ap (λ (f : FactsValue). finmap.get f.rows v) c.self.view_is ∙ c.requires in
-    let is = put_is a.chains c.put_timed-put.new.chains v (Row c.args.row) c.in_default.ensures.ok in
+    let new = OnTrue_at c.if-not-branch.false c.in_ok-put_new.ensures.new in
+    let is = c.in_ok-put_new.ensures.ok in
     record {
-      tagged = rw (c.in_ok-add.ensures.ok, is, c.tag-tag.ensures) (row_tagged a.chains a.tags c.self.invariant.tagged v c.args.row none);
-      born = rw (is, c.in_default.ensures.timed) (births_added a.chains v a.births c.self.invariant.born c.args.row none);
+      tagged = rw (c.in_default.ensures.tagged, is, c.tag-tag.ensures) (row_tagged a.chains a.tags c.self.invariant.tagged v c.args.row new);
+      born = rw (is, c.in_default.ensures.timed) (births_added a.chains v a.births c.self.invariant.born c.args.row new);
       dead = rw is c.self.invariant.dead;
     }
