@@ -40,7 +40,7 @@ pub fn wrong_log(config: Config, item: &Item) -> Option<Refusal>
     None
 }
 
-/// Adds an entry's rows, ends and number, each fact named in the journal first.
+/// Adds an entry's rows, ends and number, each fact named in the journal.
 fn take_noted(
     facts: &mut Facts,
     got: &mut Got,

@@ -29,7 +29,7 @@ pub struct Change {
     pub ends: Vec<(VersionKey, Time)>,
 }
 
-/// Adds rows and ends where none are known, each named in the journal first, and then joins the given numbers
+/// Adds rows and ends where none are known, each named in the journal, and then joins the given numbers
 /// and marks.
 fn grow_noted(
     facts: &mut Facts,

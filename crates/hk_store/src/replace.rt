@@ -70,7 +70,7 @@ impl Facts {
         Ok(facts)
     }
 
-    /// Adds rows and ends where none are known, each named in the journal first. The only refusal is
+    /// Adds rows and ends where none are known, each named in the journal. The only refusal is
     /// `Memory`. Cost: O(c · log n), c rows and ends, n facts and these.
     pub fn add_listed(
         &mut self,
