@@ -1,6 +1,5 @@
 pub mod GrowingLists
 pub mod ListedChange
 pub mod WorkedOutChange
-pub mod WalkedFacts
 pub mod RisingHorizon
 pub mod JoinRefusals

@@ -21,7 +21,7 @@ use hk_index::VersionSet;
 use hk_log::Version;
 use hk_state::{Change, ReplicaState};
 use hk_store::Facts;
-use hk_types::{Key, Refusal, Row, Table, Time, VersionKey};
+use hk_types::{Refusal, Row, Time, VersionKey};
 use std::alloc::{AllocError, Global};
 
 /// How the target's own facts fare where the horizon rises.
@@ -207,11 +207,8 @@ fn take_whole(
     ensures drops { change.new.drops.items ≡ change.old.drops.items }
     ensures horizon { change.new.horizon ≡ change.old.horizon }
 {
-    let facts = state.facts();
-    let mut next = facts.first_from(Table::new(0), Key::new(0));
-    while let Some((version, known)) = next {
+    for (version, known) in state.facts().walk() {
         take_version(alloc, change, coming, own, &version, known)?;
-        next = facts.after(&version);
     }
     Ok(())
 }

@@ -14,6 +14,6 @@ pub mod CountedRows
 pub mod ReplacedFacts
 pub mod ListedVersions
 pub mod PickedVersions
+pub mod WalkedRows
 pub mod SameRows
-mod WalkedVersions
-mod RowsInOrder
+pub mod WalkedChains

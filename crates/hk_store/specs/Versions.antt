@@ -1,12 +1,13 @@
 -- Facts as a list of versions.
-use Rattle.std.specs.Prelude.{◌≡◌, ℕ, Bool, true, ◌||◌, ◌&&◌, ◌==◌, All, List, map, Option, Some, None, is_some}
+use Rattle.std.specs.Prelude.{◌≡◌, ℕ, Bool, true, ◌||◌, ◌&&◌, ◌==◌, All, List, [], ◌++◌, map, filter, Option, Some, None, is_some}
+use Rattle.std.specs.List.{flat_map}
 use Rattle.std.specs.Ordering.{is_le}
 use Rattle.std.specs.Borrow.{Bor}
 use Rattle.std.specs.List.Sorted.{IsStrictlySortedBy}
 use Rattle.hk_types.specs.Values.{same_row}
 use Rattle.hk_types.specs.declared.version_key.VersionKey.{VersionKey}
 use Rattle.hk_log.specs.Versions.{VersionValue}
-use Rattle.hk_model.specs.History.Rows.{RowKey, row_key_of, version_key_cmp}
+use Rattle.hk_model.specs.History.Rows.{RowKey, row_key_of, version_of, version_key_cmp}
 use Rattle.hk_model.specs.Replica.Maps.{values_conflict}
 use Rattle.std.specs.FinMap as finmap
 use Rattle.hk_facts.specs.Chains.{ChainValue, IsEarliest, FirstBorn, is_after}
@@ -37,18 +38,20 @@ value_conflicts_at f v known = values_conflict same_row (finmap.get f.rows v) kn
 abbrev pub conflict_at : FactsValue → FactsValue → VersionKey → Bool
 conflict_at f g v = values_conflict same_row (finmap.get f.rows v) (finmap.get g.rows v) || values_conflict (λ a b. a == b) (finmap.get f.ends v) (finmap.get g.ends v)
 
--- of the versions that pass a test and of which anything is known the least one, with what is known of it
-pub record IsLeast (f : FactsValue) (test : VersionKey → Bool) (found : VersionKey × VersionValue) : Type 0 where
-  pub known : known_at f found.0 ≡ Some found.1
-  pub passes : test found.0 ≡ true
-  pub least : (q : VersionKey) → test q ≡ true → is_some (known_at f q) ≡ true → is_le (version_key_cmp found.0 q) ≡ true
-
--- the least version that passes a test and of which anything is known, or none where there is none
-abbrev pub FirstWhere : FactsValue → (VersionKey → Bool) → Option (VersionKey × VersionValue) → Type 0
-FirstWhere f test (Some found) = IsLeast f test found
-FirstWhere f test None = (q : VersionKey) → test q ≡ true → known_at f q ≡ None
-
 -- the version of a row's chain that was born first, or next after a time
 abbrev pub NextOf : RowKey → ChainValue → Option ℕ → Option (VersionKey × VersionValue) → Type 0
 NextOf row c after (Some found) = (row_key_of found.0 ≡ row) × IsEarliest c (is_after after) (found.0.born, found.1)
 NextOf row c after None = FirstBorn c (is_after after) None
+
+-- the versions of a row's chain
+abbrev pub versions_of_row : RowKey → List (ℕ × VersionValue) → List (VersionKey × VersionValue)
+versions_of_row row es = map (λ e. (version_of row e.0, e.1)) es
+
+-- the versions of the chains of some rows, one row after the other
+abbrev pub versions_of_rows : List (RowKey × ChainValue) → List (VersionKey × VersionValue)
+versions_of_rows rows = flat_map (λ r. versions_of_row r.0 (finmap.entries r.1)) rows
+
+-- what is left of a walk that stands in a row's chain, behind those born up to a time, with some rows to come
+abbrev pub left_of_walk : Option (Bor RowKey × Bor ChainValue) → Option ℕ → List (RowKey × ChainValue) → List (VersionKey × VersionValue)
+left_of_walk None after rows = []
+left_of_walk (Some here) after rows = versions_of_row here.0.now (filter (λ e. is_after after e.0) (finmap.entries here.1.now)) ++ versions_of_rows rows

@@ -85,13 +85,11 @@ fn list_up_to(
     ensures err { IfErr result (λ why. why ≡ Memory) }
 {
     let mut found = Vec::new(alloc);
-    let mut next = chains.first_from(table, low);
-    while let Some((version, _known)) = next {
-        if !is_up_to(version, table, high) {
+    for (version, _known) in chains.walk_from(table, low) {
+        if !is_up_to(&version, table, high) {
             return Ok(found);
         }
         found.push(version)?;
-        next = chains.after(&version);
     }
     Ok(found)
 }
@@ -102,16 +100,14 @@ fn list_all(alloc: Global, chains: &Chains) -> Result<Vec<VersionKey>, Refusal>
     ensures err { IfErr result (λ why. why ≡ Memory) }
 {
     let mut found = Vec::new(alloc);
-    let mut next = chains.first_from(Table::new(0), Key::new(0));
-    while let Some((version, _known)) = next {
+    for (version, _known) in chains.walk() {
         found.push(version)?;
-        next = chains.after(&version);
     }
     Ok(found)
 }
 
-fn is_up_to(version: VersionKey, table: Table, high: Key) -> bool
-    ensures { result ≡ is_up_to table high version }
+fn is_up_to(version: &VersionKey, table: Table, high: Key) -> bool
+    ensures { result ≡ is_up_to table high version.now }
 {
     version.table == table && version.key.number() <= high.number()
 }

@@ -21,3 +21,4 @@ pub use key_index::KeyIndex;
 pub use replace::meets;
 pub use row_key::RowKey;
 pub use versions::push_borrowed;
+pub use walk::Walk;

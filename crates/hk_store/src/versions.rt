@@ -1,8 +1,7 @@
 //! The versions of a state's facts, one by one.
 
 ghost use Rattle.std.specs.Prelude.{◌≡◌, ◌==◌, ◌||◌, ◌++◌, ◌∷◌, [], IfOk, OnOk, map};
-ghost use Rattle.std.specs.Option.{option_copied, option_map};
-ghost use Rattle.std.specs.Ordering.{is_le, is_lt};
+ghost use Rattle.std.specs.Option.{option_copied};
 ghost use Rattle.std.specs.FinSet as set;
 ghost use Rattle.hk_types.specs.Values.{same_row};
 ghost use Rattle.hk_types.specs.declared.version_key.VersionKey.{VersionKey};
@@ -11,12 +10,13 @@ ghost use Rattle.hk_model.specs.Replica.Maps.{values_conflict};
 ghost use Rattle.hk_model.specs.Replica.Rules.{contents_conflict};
 ghost use Rattle.hk_store.specs.Facts.{known_at};
 ghost use Rattle.hk_store.specs.Reads.{with_facts};
-ghost use Rattle.hk_store.specs.Versions.{AreVersions, AreVersionsOf, borrowed, value_conflicts_at, FirstWhere};
+ghost use Rattle.hk_store.specs.Versions.{AreVersions, AreVersionsOf, borrowed, value_conflicts_at};
 
 use crate::facts::Facts;
+use crate::walk::Walk;
 use hk_index::VersionSet;
 use hk_log::Version;
-use hk_types::{Key, Table, VersionKey};
+use hk_types::VersionKey;
 use std::alloc::{AllocError, Global};
 
 impl Facts {
@@ -28,23 +28,12 @@ impl Facts {
         chain.version(version.born)
     }
 
-    /// The first version of which anything is known from a key of a table on, in the order of table, key and
-    /// born. It takes no memory. Cost: O(log n), n facts.
-    pub fn first_from(&self, table: Table, key: Key) -> Option<(VersionKey, &Version)>
-        ensures { FirstWhere self.now
-            (λ q. is_le (version_key_cmp (record { table = table; key = key; born = 0 }) q))
-            (option_map borrowed result) }
-    {
-        self.chains.first_from(table, key)
-    }
-
-    /// The first version after this one of which anything is known. It takes no memory.
+    /// A walk over all versions of which anything is known, in the order of table, key and born. It takes no memory.
     /// Cost: O(log n), n facts.
-    pub fn after(&self, version: &VersionKey) -> Option<(VersionKey, &Version)>
-        ensures { FirstWhere self.now (λ q. is_lt (version_key_cmp version.now q))
-            (option_map borrowed result) }
+    pub fn walk(&self) -> Walk<'_>
+        ensures { AreVersions self.now result }
     {
-        self.chains.after(version)
+        self.chains.walk()
     }
 
     /// All versions of which anything is known, in rising order. The only error is out of memory.
@@ -52,13 +41,7 @@ impl Facts {
     pub fn versions(&self, alloc: Global) -> Result<Vec<(VersionKey, &Version)>, AllocError>
         ensures { IfOk result (λ versions. AreVersions self.now (map borrowed versions.items)) }
     {
-        let mut found = Vec::new(alloc);
-        let mut next = self.first_from(Table::new(0), Key::new(0));
-        while let Some((version, known)) = next {
-            push_borrowed(&mut found, version, known)?;
-            next = self.after(&version);
-        }
-        Ok(found)
+        self.walk().collect(alloc)
     }
 
     /// Those of a set's versions of which anything is known, in rising order. The only error is out of
@@ -96,12 +79,10 @@ impl Facts {
     pub fn conflicts_with(&self, other: &Facts) -> bool
         ensures { result ≡ contents_conflict (with_facts self.now) (with_facts other.now) }
     {
-        let mut next = other.first_from(Table::new(0), Key::new(0));
-        while let Some((version, known)) = next {
+        for (version, known) in other.walk() {
             if self.value_conflicts_at(&version, known) {
                 return true;
             }
-            next = other.after(&version);
         }
         false
     }

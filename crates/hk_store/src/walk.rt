@@ -1,53 +1,83 @@
 //! The versions one after the other, in the order of their keys.
 
+ghost use Rattle.std.specs.Ordering.{is_le};
 ghost use Rattle.std.specs.Option.{option_map};
-ghost use Rattle.std.specs.Ordering.{is_le, is_lt};
-ghost use Rattle.std.specs.BTreeMap.Range.{is_from_start};
-ghost use Rattle.hk_model.specs.History.Rows.{row_key_cmp, row_key_of, version_key_cmp};
-ghost use Rattle.hk_store.specs.Versions.{FirstWhere, NextOf, borrowed};
+ghost use Rattle.hk_store.specs.Versions.{NextOf};
+ghost use Rattle.std.specs.Iterator.{YieldsFirstBy, item_count};
+ghost use Rattle.hk_model.specs.History.Rows.{version_key_cmp};
+ghost use Rattle.hk_store.specs.Versions.{AreVersions, AreVersionsOf, borrowed};
 
 use crate::chains::Chains;
 use crate::row_key::RowKey;
 use hk_facts::Chain;
 use hk_log::Version;
 use hk_types::{Key, Table, Time, VersionKey};
+use std::collections::btree_map::Range;
+use std::marker::Model;
 use std::ops::Bound;
 
-impl Chains {
-    /// The first version of which anything is known from a key of a table on. It takes no memory.
-    /// Cost: O(log n), n facts.
-    pub(crate) fn first_from(&self, table: Table, key: Key) -> Option<(VersionKey, &Version)>
-        ensures { FirstWhere self.now
-            (λ q. is_le (version_key_cmp (record { table = table; key = key; born = 0 }) q))
-            (option_map borrowed result) }
-    {
-        self.first_of_rows(Bound::Included(RowKey::new(table, key)))
-    }
+/// A walk over versions, in the order of table, key and born, which keeps its place. It takes no memory.
+/// Cost: O(1) for each version, taken over the walk, and O(log k) for each version but the first of a row, k versions
+/// of the row.
+#[derive(Drop)]
+pub struct Walk<'a> {
+    here: Option<(&'a RowKey, &'a Chain)>,
+    after: Option<Time>,
+    rows: Range<'a, RowKey, Chain>,
+}
 
-    /// The first version after this one of which anything is known. It takes no memory.
-    /// Cost: O(log n), n facts.
-    pub(crate) fn after(&self, version: &VersionKey) -> Option<(VersionKey, &Version)>
-        ensures { FirstWhere self.now (λ q. is_lt (version_key_cmp version.now q))
-            (option_map borrowed result) }
-    {
-        let row = RowKey::of_version(version);
-        let Some(chain) = self.chain(version.table, version.key) else {
-            return self.first_of_rows(Bound::Excluded(row));
-        };
-        match next_of(&row, chain, Some(version.born)) {
-            Some(found) => Some(found),
-            None => self.first_of_rows(Bound::Excluded(row)),
+impl<'a> Model for Walk<'a> {
+    ghost use Rattle.std.specs.Prelude.{List};
+    ghost use Rattle.hk_types.specs.declared.version_key.VersionKey.{VersionKey};
+    ghost use Rattle.hk_log.specs.Versions.{VersionValue};
+    ghost use Rattle.hk_store.specs.Versions.{left_of_walk};
+
+    ghost Value = { List (VersionKey × VersionValue) };
+
+    ghost view = { λ a. left_of_walk a.here a.after a.rows };
+}
+
+impl<'a> Iterator for Walk<'a> {
+    type Item = (VersionKey, &'a Version);
+
+    ghost next_gives = { YieldsFirstBy borrowed (λ s. s) };
+
+    ghost remaining = { item_count (λ s. s) };
+
+    fn next(&mut self) -> Option<(VersionKey, &'a Version)> {
+        while let Some((row, chain)) = self.here {
+            let found = next_of(row, chain, self.after);
+            if let Some((version, _known)) = &found {
+                self.after = Some(version.born);
+                return found;
+            }
+            self.here = self.rows.next();
+            self.after = None;
         }
+        None
+    }
+}
+
+impl Chains {
+    /// A walk over all versions of which anything is known. It takes no memory. Cost: O(log k), k keys of all tables.
+    pub(crate) fn walk(&self) -> Walk<'_>
+        ensures { AreVersions self.now result }
+    {
+        self.walk_from(Table::new(0), Key::new(0))
     }
 
-    /// The first version of the rows from a bound on.
-    fn first_of_rows(&self, start: Bound<RowKey>) -> Option<(VersionKey, &Version)>
-        ensures { FirstWhere self.now (λ q. is_from_start row_key_cmp start (row_key_of q)) (option_map borrowed result) }
+    /// A walk over the versions of which anything is known from a key of a table on. It takes no memory.
+    /// Cost: O(log k), k keys of all tables.
+    pub(crate) fn walk_from(&self, table: Table, key: Key) -> Walk<'_>
+        ensures { AreVersionsOf self.now
+            (λ q. is_le (version_key_cmp (record { table = table; key = key; born = 0 }) q)) result }
     {
+        let start = Bound::Included(RowKey::new(table, key));
         let mut rows = self.chains.range((start, Bound::Unbounded));
-        match rows.next() {
-            Some((row, chain)) => next_of(row, chain, None),
-            None => None,
+        Walk {
+            here: rows.next(),
+            after: None,
+            rows,
         }
     }
 }

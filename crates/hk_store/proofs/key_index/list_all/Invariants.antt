@@ -1,15 +1,8 @@
-use Rattle.std.proofs.Common.{◌≡◌, ◌++◌, length, Some, IfSome}
-use Rattle.std.specs.Option.{option_map}
-use Rattle.hk_store.specs.Facts.{known_at}
+use Rattle.std.proofs.Common.{◌≡◌, map}
+use Rattle.hk_types.specs.declared.version_key.VersionKey.{VersionKey}
+use Rattle.hk_log.specs.Versions.{VersionValue}
 use Rattle.hk_store.specs.Versions.{borrowed}
-use Rattle.hk_store.proofs.WalkedVersions.{all, left}
 use Rattle.hk_store.proofs.key_index.list_all.Given as goal
 
-abbrev pub invariant-loop-next : goal.invariant-loop-next
-invariant-loop-next l = record {
-  kept : l.found.items ++ left l.chains (option_map borrowed l.next) ≡ all l.chains;
-  next : IfSome (option_map borrowed l.next) (λ e. known_at l.chains e.0 ≡ Some e.1);
-}
-
-abbrev pub decreases-loop-next : goal.decreases-loop-next
-decreases-loop-next l = length (left l.chains (option_map borrowed l.next))
+abbrev pub invariant-loop-version : goal.invariant-loop-version
+invariant-loop-version l = l.found.items ≡ map (λ (e : VersionKey × VersionValue). e.0) (map borrowed l.yielded)

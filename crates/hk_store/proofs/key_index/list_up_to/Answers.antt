@@ -1,28 +1,44 @@
-use Rattle.std.proofs.Common.{ap, sym}
-use Rattle.std.specs.Option.{option_map}
+use Rattle.std.proofs.Common.{◌∷◌, ◌++◌, [], refl, sym, ap, ◌∙◌, Bor, List, map}
+use Rattle.std.proofs.lemmas.List.{map_push}
+use Rattle.hk_types.specs.declared.version_key.VersionKey.{VersionKey}
+use Rattle.hk_log.specs.Versions.{VersionValue}
 use Rattle.hk_index.specs.Listed.{is_up_to}
 use Rattle.hk_store.specs.Versions.{borrowed}
-use Rattle.std.specs.List.{take_while}
-use Rattle.hk_store.proofs.WalkedVersions.{started, next_known, shorter, one_more_up_to, none_more, no_more_up_to, up_to_listed}
+use Rattle.hk_store.proofs.WalkedRows.{listed_up_to}
+use Rattle.hk_store.proofs.WalkedChains.{all_taken, one_more_taken, one_more_passed, all_passed, none_more}
 use Rattle.hk_store.proofs.key_index.list_up_to.Goals as goal
 
-pub loop-next-init : goal.loop-next-init
-loop-next-init c = record {
-  kept = rw c.new-found.ensures.items (ap (take_while (is_up_to c.args.table c.args.high)) (sym (started c.args.chains.now (record { table = c.args.table; key = c.args.low; born = 0 }) (option_map borrowed c.first_from-next.result) c.first_from-next.ensures)));
-  next = next_known c.args.chains.now _ (option_map borrowed c.first_from-next.result) c.first_from-next.ensures;
+pub loop-version-init : goal.loop-version-init
+loop-version-init c = record {
+  all = c.new-found.ensures.items;
+  passed = rw c.new-found.ensures.items (λ rest. refl);
 }
 
 pub returns-then-not-is_up_to-clause-ok : goal.returns-then-not-is_up_to-clause-ok
-returns-then-not-is_up_to-clause-ok c = up_to_listed c.args.chains.now c.args.table c.args.low c.args.high c.loop-next.found.items (none_more c.args.chains.now (option_map borrowed c.loop-next.next) (c.in-Some.version, c.in-Some._known.now) (ap (option_map borrowed) c.in-Some.is) c.loop-next.invariant.next (is_up_to c.args.table c.args.high) c.loop-next.found.items _ (sym c.if-not-is_up_to.ensures) c.loop-next.invariant.kept)
+returns-then-not-is_up_to-clause-ok c =
+    let p = is_up_to c.args.table c.args.high in
+    let l = c.loop-version in
+    let e : VersionKey × Bor VersionValue = (c.in-Some.version, c.in-Some._known) in
+    let whole = sym c.into_iter-version-iterator.ensures.into_iter_gives ∙ one_more_taken c.into_iter-version-iterator.result l.yielded l.version-iterator c.next.new.self c.next.result e l.yielded_by c.in-Some.is c.next.ensures.steps in
+    listed_up_to c.args.chains.now c.args.table c.args.low c.args.high c.walk_from-version-items.result l.found.items c.walk_from-version-items.ensures
+    (none_more p l.found.items c.walk_from-version-items.result (map borrowed l.yielded) c.next.new.self (borrowed e) whole l.invariant.all (sym c.if-not-is_up_to.ensures) l.invariant.passed)
 
-pub loop-next-smaller : goal.loop-next-smaller
-loop-next-smaller c = shorter c.args.chains.now (option_map borrowed c.loop-next.next) (c.in-Some.version, c.in-Some._known.now) (ap (option_map borrowed) c.in-Some.is) c.loop-next.invariant.next (option_map borrowed c.after-next.result) c.after-next.ensures
-
-pub loop-next-preserved : goal.loop-next-preserved
-loop-next-preserved c = record {
-  kept = one_more_up_to c.args.chains.now (option_map borrowed c.loop-next.next) (c.in-Some.version, c.in-Some._known.now) (ap (option_map borrowed) c.in-Some.is) c.loop-next.invariant.next (option_map borrowed c.after-next.result) c.after-next.ensures (is_up_to c.args.table c.args.high) c.loop-next.found.items c.push.new.self.items _ (sym c.if-not-is_up_to.ensures) c.in_ok-push.ensures.items c.loop-next.invariant.kept;
-  next = next_known c.args.chains.now _ (option_map borrowed c.after-next.result) c.after-next.ensures;
-}
+pub loop-version-preserved : goal.loop-version-preserved
+loop-version-preserved c =
+    let p = is_up_to c.args.table c.args.high in
+    let l = c.loop-version in
+    let first : VersionKey × VersionValue → VersionKey = λ e. e.0 in
+    record {
+      all = c.in_ok-push.ensures.items ∙ ap (λ ks. ks ++ c.in-Some.version ∷ []) l.invariant.all
+          ∙ sym (ap (map first) (map_push borrowed l.yielded (c.in-Some.version, c.in-Some._known)) ∙ map_push first (map borrowed l.yielded) (borrowed (c.in-Some.version, c.in-Some._known)));
+      passed = one_more_passed p l.found.items c.push.new.self.items c.in-Some.version c.in_ok-push.ensures.items (sym c.if-not-is_up_to.ensures) l.invariant.passed;
+    }
 
 pub returns-clause-ok : goal.returns-clause-ok
-returns-clause-ok c = up_to_listed c.args.chains.now c.args.table c.args.low c.args.high c.loop-next.found.items (no_more_up_to c.args.chains.now (is_up_to c.args.table c.args.high) c.loop-next.found.items _ (option_map borrowed c.loop-next.next) (ap (option_map borrowed) c.in_default.is) c.loop-next.invariant.kept)
+returns-clause-ok c =
+    let p = is_up_to c.args.table c.args.high in
+    let l = c.loop-version in
+    let first : VersionKey × VersionValue → VersionKey = λ e. e.0 in
+    let whole = sym c.into_iter-version-iterator.ensures.into_iter_gives ∙ all_taken c.into_iter-version-iterator.result l.yielded l.version-iterator c.next.new.self c.next.result l.yielded_by c.in-None.is c.next.ensures.steps in
+    listed_up_to c.args.chains.now c.args.table c.args.low c.args.high c.walk_from-version-items.result l.found.items c.walk_from-version-items.ensures
+    (all_passed p l.found.items c.walk_from-version-items.result (ap (map first) whole ∙ sym l.invariant.all) l.invariant.passed)

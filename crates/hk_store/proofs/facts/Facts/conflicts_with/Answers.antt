@@ -1,33 +1,25 @@
-use Rattle.std.proofs.Common.{ap, sym, ◌∙◌}
-use Rattle.std.specs.Option.{option_map}
-use Rattle.hk_store.specs.Versions.{borrowed, conflict_at}
-use Rattle.hk_store.proofs.ListedVersions.{conflict_over, conflict_known}
-use Rattle.hk_store.proofs.WalkedVersions.{all, among_all, started_all, next_known, here_known, shorter, one_tested, none_tested, one_found}
+use Rattle.std.proofs.Common.{◌≡◌, ◌∷◌, ◌++◌, ◌||◌, sym, ap, ◌∙◌, Bool, map}
+use Rattle.std.proofs.lemmas.List.Folds.{list_any-append}
 use Rattle.std.specs.List.{list_any}
+use Rattle.hk_types.specs.declared.version_key.VersionKey.{VersionKey}
+use Rattle.hk_log.specs.Versions.{VersionValue}
+use Rattle.hk_store.specs.Versions.{borrowed, value_conflicts_at}
+use Rattle.hk_store.proofs.ListedVersions.{conflict_listed}
+use Rattle.hk_store.proofs.WalkedChains.{all_taken, one_more_taken}
 use Rattle.hk_store.proofs.facts.Facts.conflicts_with.Goals as goal
-
-pub loop-next-init : goal.loop-next-init
-loop-next-init c = record {
-  same = ap (list_any (conflict_at c.args.self.now c.args.other.now)) (started_all c.args.other.now _ _ c.new.ensures c.new-2.ensures (option_map borrowed c.first_from-next.result) c.first_from-next.ensures);
-  next = next_known c.args.other.now _ (option_map borrowed c.first_from-next.result) c.first_from-next.ensures;
-}
 
 pub returns-then-value_conflicts_at : goal.returns-then-value_conflicts_at
 returns-then-value_conflicts_at c =
-    let known = here_known c.args.other.now (option_map borrowed c.loop-next.next) (c.in-Some.version, c.in-Some.known.now) (ap (option_map borrowed) c.in-Some.is) c.loop-next.invariant.next in
-    sym (one_found c.args.other.now (conflict_at c.args.self.now c.args.other.now) (c.in-Some.version, c.in-Some.known.now) known (sym (conflict_known c.args.self.now c.args.other.now (c.in-Some.version, c.in-Some.known.now) known) ∙ sym c.value_conflicts_at.ensures ∙ c.if-value_conflicts_at.true))
-    ∙ conflict_over c.args.self.now c.args.other.now (all c.args.other.now) (among_all c.args.other.now)
-
-pub loop-next-smaller : goal.loop-next-smaller
-loop-next-smaller c = shorter c.args.other.now (option_map borrowed c.loop-next.next) (c.in-Some.version, c.in-Some.known.now) (ap (option_map borrowed) c.in-Some.is) c.loop-next.invariant.next (option_map borrowed c.after-next.result) c.after-next.ensures
-
-pub loop-next-preserved : goal.loop-next-preserved
-loop-next-preserved c =
-    let known = here_known c.args.other.now (option_map borrowed c.loop-next.next) (c.in-Some.version, c.in-Some.known.now) (ap (option_map borrowed) c.in-Some.is) c.loop-next.invariant.next in
-    record {
-      same = one_tested c.args.other.now (option_map borrowed c.loop-next.next) (c.in-Some.version, c.in-Some.known.now) (ap (option_map borrowed) c.in-Some.is) c.loop-next.invariant.next (option_map borrowed c.after-next.result) c.after-next.ensures (conflict_at c.args.self.now c.args.other.now) _ (sym (conflict_known c.args.self.now c.args.other.now (c.in-Some.version, c.in-Some.known.now) known) ∙ sym c.value_conflicts_at.ensures ∙ c.if-value_conflicts_at.false) c.loop-next.invariant.same;
-      next = next_known c.args.other.now _ (option_map borrowed c.after-next.result) c.after-next.ensures;
-    }
+    let p : VersionKey × VersionValue → Bool = λ e. value_conflicts_at c.args.self.now e.0 e.1 in
+    let l = c.loop-version in
+    let whole = sym c.into_iter-version-iterator.ensures.into_iter_gives ∙ one_more_taken c.into_iter-version-iterator.result l.yielded l.version-iterator c.next.new.self c.next.result (c.in-Some.version, c.in-Some.known) l.yielded_by c.in-Some.is c.next.ensures.steps in
+    sym (ap (list_any p) whole ∙ list_any-append p (map borrowed l.yielded) (borrowed (c.in-Some.version, c.in-Some.known) ∷ c.next.new.self)
+    ∙ (λ i. l.invariant i || ((sym c.value_conflicts_at.ensures ∙ c.if-value_conflicts_at.true) i || list_any p c.next.new.self)))
+    ∙ conflict_listed c.args.self.now c.args.other.now c.walk-version-items.result c.walk-version-items.ensures
 
 pub returns : goal.returns
-returns c = none_tested c.args.other.now (conflict_at c.args.self.now c.args.other.now) _ (option_map borrowed c.loop-next.next) (ap (option_map borrowed) c.in_default.is) c.loop-next.invariant.same ∙ conflict_over c.args.self.now c.args.other.now (all c.args.other.now) (among_all c.args.other.now)
+returns c =
+    let p : VersionKey × VersionValue → Bool = λ e. value_conflicts_at c.args.self.now e.0 e.1 in
+    let l = c.loop-version in
+    let whole = sym c.into_iter-version-iterator.ensures.into_iter_gives ∙ all_taken c.into_iter-version-iterator.result l.yielded l.version-iterator c.next.new.self c.next.result l.yielded_by c.in-None.is c.next.ensures.steps in
+    sym (ap (list_any p) whole ∙ l.invariant) ∙ conflict_listed c.args.self.now c.args.other.now c.walk-version-items.result c.walk-version-items.ensures

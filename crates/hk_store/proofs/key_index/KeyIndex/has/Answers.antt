@@ -1,6 +1,6 @@
 use Rattle.std.proofs.Common.{sym, ◌∙◌}
 use Rattle.hk_store.proofs.Indexed.{known_fact}
-use Rattle.hk_store.proofs.WalkedVersions.{keys_have}
+use Rattle.hk_store.proofs.WalkedRows.{keys_have}
 use Rattle.hk_store.proofs.key_index.KeyIndex.has.Goals as goal
 
 pub returns : goal.returns
