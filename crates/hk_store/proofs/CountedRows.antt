@@ -1,5 +1,5 @@
 -- The chains of a table that have a row at a time are the visible rows of the table.
-use Rattle.std.proofs.Common.{◌≡◌, refl, sym, ap, ◌∙◌, ℕ, suc, ◌≤◌, Bool, true, false, cond, ◌&&◌, ◌==◌, Option, Some, None, List, [], ◌∷◌, ◌++◌, filter, length, T, nat_cmp, inl, inr, eqb-true, eq-eqb, true≢false, Ordering, Less, Equal, Greater, is_le, is_gt, arith}
+use Rattle.std.proofs.Common.{◌≡◌, refl, sym, ap, ◌∙◌, ℕ, suc, ◌≤◌, Bool, true, false, cond, ◌&&◌, ◌==◌, Option, Some, None, List, [], ◌∷◌, ◌++◌, filter, length, T, nat_cmp, eqb-true, eq-eqb, true≢false, Ordering, Less, Equal, Greater, is_le, is_gt, arith}
 use Rattle.std.proofs.lemmas.Bool.Decides.{nat_tests}
 use Rattle.std.proofs.lemmas.List.{length-map}
 use Rattle.std.proofs.lemmas.List.Sums.{take_while-cons}

@@ -1,5 +1,5 @@
 -- The rows that chains have between two keys of a table are the visible rows there.
-use Rattle.std.proofs.Common.{◌≡◌, refl, sym, ap, ◌∙◌, ℕ, ◌<◌, Bool, true, false, cond, ◌&&◌, ◌==◌, Option, Some, None, List, [], ◌∷◌, ◌++◌, map, filter, not, nat_le, nat_cmp, eqb-true, eq-eqb, true≢false, Ordering, Less, Equal, Greater, is_le, is_gt, arith}
+use Rattle.std.proofs.Common.{◌≡◌, refl, sym, ap, ◌∙◌, ℕ, ◌<◌, Bool, true, false, cond, ◌&&◌, ◌==◌, Option, Some, None, List, [], ◌∷◌, ◌++◌, map, filter, not, nat_le, nat_cmp, Ordering, Less, Equal, Greater, is_le, arith}
 use Rattle.std.specs.Ordering.{is_lt, ordering_then}
 use Rattle.std.proofs.lemmas.Bool.Decides.{nat_tests}
 use Rattle.std.specs.BTreeMap.{BTreeMap}
@@ -13,7 +13,7 @@ use Rattle.hk_model.specs.Replica.Answers.{visible, rows_where}
 use Rattle.hk_model.proofs.Maps.{row_key_total, row_key_same}
 use Rattle.hk_facts.specs.Chains.{ChainValue, row_at}
 use Rattle.hk_facts.proofs.StoredTrees.{entries_tree}
-use Rattle.hk_store.specs.Facts.{ChainsValue, known_at, facts_of, AllKnown}
+use Rattle.hk_store.specs.Facts.{facts_of, AllKnown}
 use Rattle.hk_store.specs.Reads.{keyed_if, rows_at, with_facts}
 use Rattle.hk_store.proofs.StoredFacts.{known_stored}
 use Rattle.hk_store.proofs.CountedRows.{row_if, rows_of, same_rows}

@@ -8,13 +8,12 @@ use Rattle.hk_store.proofs.chains.count_from.Goals as goal
 
 pub returns-clause-value : goal.returns-clause-value
 returns-clause-value c =
-    let es = c.args.chains.now.entries in
     count_from_yields_List c.filter.result _ c.count.ensures.ran
     (YieldsList-from_filter _ (λ (e : RowKey × ChainValue). is_some (row_at e.1 c.args.time))
     (YieldsList-at c.filter.ensures.source
     (YieldsList-from_take_while _ (λ (e : RowKey × ChainValue). e.0.table == c.args.first.table)
     (YieldsList-at c.take_while.ensures.source
-    (YieldsList-from_rest (filter (λ (e : RowKey × ChainValue). is_le (row_key_cmp c.args.first e.0)) es)
-    (c.range.ensures.between tt ∙ ap (λ (p : RowKey × ChainValue → Bool). filter p es) (λ i e. from_start (is_le (row_key_cmp c.args.first e.0)) i))))
+    (YieldsList-from_rest (filter (λ (e : RowKey × ChainValue). is_le (row_key_cmp c.args.first e.0)) c.args.chains.now.entries)
+    (c.range.ensures.between tt ∙ ap (λ (p : RowKey × ChainValue → Bool). filter p c.args.chains.now.entries) (λ i e. from_start (is_le (row_key_cmp c.args.first e.0)) i))))
     c.take_while.ensures.closure c.take_while.ensures.done (λ x b q k. search rules)))
     c.filter.ensures.closure (λ x b q k. search rules))
