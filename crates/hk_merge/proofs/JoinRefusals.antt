@@ -1,8 +1,8 @@
 -- What joining gives, refusal by refusal.
-use Rattle.std.proofs.Common.{◌≡◌, refl, sym, ap, ◌∙◌, subst, ℕ, ◌<◌, Bool, true, false, cond, not, ◌||◌, ◌==◌, ◌++◌, max, Option, Some, None, List, [], ◌∷◌, map, length, Result, Ok, Err, OnOk, OnErr, IfErr, IsErr, IsErrAnd, inl, inr, nat_lt, arith, true≢false}
+use Rattle.std.proofs.Common.{◌≡◌, refl, sym, ap, ◌∙◌, subst, ℕ, ◌<◌, Bool, true, false, cond, not, ◌==◌, ◌++◌, max, Option, Some, None, length, Result, Ok, Err, OnOk, OnErr, IfErr, inl, inr, nat_lt, arith}
 use Rattle.std.proofs.lemmas.Bool.Decides.{nat_tests}
 use Rattle.std.specs.FinMap as finmap
-use Rattle.hk_types.specs.Values.{RowValue, ConfigValue, same_row}
+use Rattle.hk_types.specs.Values.{RowValue, ConfigValue}
 use Rattle.hk_types.specs.declared.version_key.VersionKey.{VersionKey}
 use Rattle.hk_types.specs.declared.faults.Refusal.{Refusal}
 use Rattle.hk_types.specs.declared.faults.Refusal.TheVariants.{ForeignLog, WrongStreams, Gap, Conflict, Memory}

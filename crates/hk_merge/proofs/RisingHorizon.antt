@@ -1,5 +1,5 @@
 -- What becomes of a target's own versions where the horizon rises.
-use Rattle.std.proofs.Common.{◌≡◌, refl, sym, ap, ◌∙◌, ℕ, subst, map, Bool, true, false, cond, not, true≢false, ◌&&◌, ◌||◌, ◌==◌, nat_le, nat_lt, nat_cmp, is_ge, arith, Option, Some, None, Result, Ok, Err, IfOk, List, [], ◌∷◌, ◌++◌, max, length}
+use Rattle.std.proofs.Common.{◌≡◌, refl, sym, ap, ◌∙◌, ℕ, subst, map, Bool, true, false, cond, not, true≢false, ◌&&◌, ◌||◌, ◌==◌, nat_le, nat_lt, nat_cmp, is_ge, arith, Option, Some, None, Result, Ok, Err, IfOk, List, [], ◌++◌, max}
 use Rattle.std.proofs.lemmas.List.Folds.{list_any-append}
 use Rattle.std.proofs.lemmas.Bool.Decides.{nat_tests}
 use Rattle.std.specs.Option.{is_some, option_and_then, option_map}
@@ -13,7 +13,6 @@ use Rattle.hk_log.specs.Versions.{VersionValue, is_known}
 use Rattle.hk_model.specs.History.Rows.{version_key_cmp}
 use Rattle.hk_model.specs.Replica.Maps.{or_else}
 use Rattle.hk_model.specs.Replica.Content.{Content, at_most, ended_by}
-use Rattle.hk_model.specs.Replica.Streams.{StreamContent, all_together}
 use Rattle.hk_model.specs.Replica.Fragments.{FragmentValue}
 use Rattle.hk_model.proofs.Maps.{version_key_total, find-append}
 use Rattle.hk_index.specs.Timed.{passes_at}

@@ -1,7 +1,7 @@
 -- A walk over the versions of a chain, in the order of their births.
-use Rattle.std.proofs.Common.{◌≡◌, refl, sym, ap, ◌∙◌, subst, ℕ, ◌+◌, ◌<◌, ◌≤◌, Bool, true, false, true≢false, cond, T, Option, Some, None, List, [], ◌∷◌, ◌++◌, map, filter, length, nat_cmp, nat_lt, is_lt, is_eq, Bor, arith}
+use Rattle.std.proofs.Common.{◌≡◌, refl, sym, ap, ◌∙◌, subst, ℕ, ◌+◌, ◌<◌, ◌≤◌, Bool, true, false, cond, T, Option, Some, None, List, [], ◌∷◌, ◌++◌, map, filter, length, nat_cmp, nat_lt, is_lt, Bor, arith}
 use Rattle.std.proofs.lemmas.Bool.Decides.{nat_tests}
-use Rattle.std.proofs.lemmas.List.{append-nil, map-append}
+use Rattle.std.proofs.lemmas.List.{append-nil, map-append, map_push}
 use Rattle.std.proofs.lemmas.List.Sums.{take_while-cons}
 use Rattle.std.specs.List.{take_while}
 use Rattle.std.specs.Option.{is_some, option_map}
@@ -18,7 +18,7 @@ use Rattle.hk_log.specs.Versions.{VersionValue}
 use Rattle.hk_types.specs.declared.version_key.VersionKey.{VersionKey}
 use Rattle.hk_model.specs.History.Rows.{RowKey, version_of}
 use Rattle.hk_model.proofs.Visible.{T_both}
-use Rattle.hk_facts.specs.Chains.{ChainValue, IsEarliest, FirstBorn, is_after}
+use Rattle.hk_facts.specs.Chains.{ChainValue, FirstBorn, is_after}
 use Rattle.hk_store.specs.Versions.{NextOf, borrowed, left_of_walk, versions_of_row, versions_of_rows}
 
 abbrev Born : Type 0
@@ -206,6 +206,9 @@ keys es = map (λ (e : VersionKey × VersionValue). e.0) es
 append_one : (xs ys : List VersionKey) (x : VersionKey) → (xs ++ x ∷ []) ++ ys ≡ xs ++ x ∷ ys
 append_one [] ys x = refl
 append_one (y ∷ xs) ys x = ap (λ l. y ∷ l) (append_one xs ys x)
+
+pub one_more_key : (xs : List (VersionKey × Bor VersionValue)) (x : VersionKey × Bor VersionValue) → keys (map borrowed (xs ++ x ∷ [])) ≡ keys (map borrowed xs) ++ x.0 ∷ []
+one_more_key xs x = ap keys (map_push borrowed xs x) ∙ map_push (λ (e : VersionKey × VersionValue). e.0) (map borrowed xs) (borrowed x)
 
 module _ (p : VersionKey → Bool) where
   -- all of these pass it

@@ -1,5 +1,5 @@
 -- The versions of the chains of some rows, one row after the other, are those that are known, in rising order.
-use Rattle.std.proofs.Common.{◌≡◌, refl, sym, ap, ◌∙◌, subst, ℕ, Bool, true, false, true≢false, cond, ◌&&◌, ◌||◌, ◌==◌, nat_le, inl, inr, T, Option, Some, None, List, [], ◌∷◌, ◌++◌, map, filter, All, nat_cmp, is_le, is_lt, is_eq, arith}
+use Rattle.std.proofs.Common.{◌≡◌, refl, sym, ap, ◌∙◌, ℕ, Bool, true, false, true≢false, cond, ◌&&◌, ◌||◌, ◌==◌, nat_le, inl, inr, T, Option, Some, None, List, [], ◌∷◌, ◌++◌, map, filter, All, nat_cmp, is_le, is_lt, is_eq, arith}
 use Rattle.std.proofs.lemmas.List.Elements.{All-nil, All-cons}
 use Rattle.std.specs.Option.{is_some, option_and_then}
 use Rattle.std.specs.Ordering.{eq_by_cmp, ordering_then}
@@ -8,7 +8,7 @@ use Rattle.std.proofs.lemmas.Bool.{or_right}
 use Rattle.std.proofs.lemmas.Bool.Decides.{nat_tests}
 use Rattle.std.proofs.lemmas.List.Folds.{list_any-append}
 use Rattle.std.specs.FinSet as set
-use Rattle.std.specs.List.{AllByRecursion, flat_map, take_while}
+use Rattle.std.specs.List.{AllByRecursion, take_while}
 use Rattle.std.specs.List.Sorted.{IsStrictlySortedBy}
 use Rattle.std.specs.FinMap as finmap
 use Rattle.std.specs.FinMap.{find, is_sorted}
@@ -23,7 +23,7 @@ use Rattle.hk_model.proofs.Members.{In}
 use Rattle.hk_model.proofs.Visible.{T_both, less, find_sorted}
 use Rattle.hk_facts.specs.Chains.{ChainValue}
 use Rattle.hk_facts.proofs.StoredTrees.{and_T}
-use Rattle.hk_store.specs.Facts.{FactsValue, ChainsValue, stored_version, known_at, facts_of, AllKnown}
+use Rattle.hk_store.specs.Facts.{FactsValue, ChainsValue, known_at, facts_of, AllKnown}
 use Rattle.hk_store.specs.Drops.{is_among}
 use Rattle.hk_store.specs.Versions.{AreVersions, AreVersionsOf, versions_of_row, versions_of_rows}
 use Rattle.hk_index.specs.Listed.{Lists, is_up_to, with_keys}

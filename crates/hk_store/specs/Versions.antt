@@ -1,7 +1,6 @@
 -- Facts as a list of versions.
-use Rattle.std.specs.Prelude.{◌≡◌, ℕ, Bool, true, ◌||◌, ◌&&◌, ◌==◌, All, List, [], ◌++◌, map, filter, Option, Some, None, is_some}
+use Rattle.std.specs.Prelude.{◌≡◌, ℕ, Bool, ◌||◌, ◌&&◌, ◌==◌, All, List, [], ◌++◌, map, filter, Option, Some, None, is_some}
 use Rattle.std.specs.List.{flat_map}
-use Rattle.std.specs.Ordering.{is_le}
 use Rattle.std.specs.Borrow.{Bor}
 use Rattle.std.specs.List.Sorted.{IsStrictlySortedBy}
 use Rattle.hk_types.specs.Values.{same_row}

@@ -1,10 +1,10 @@
-use Rattle.std.proofs.Common.{◌≡◌, refl, sym, ap, ◌∙◌, inl, nat_lt, None, false}
+use Rattle.std.proofs.Common.{◌≡◌, refl, sym, ap, ◌∙◌, inl, nat_lt, false}
 use Rattle.hk_model.specs.Replica.Content.{readable}
 use Rattle.hk_model.specs.Replica.Rules.{contents_conflict}
 use Rattle.hk_state.proofs.PrunedState.{not_below}
 use Rattle.hk_store.specs.Reads.{with_facts}
 use Rattle.hk_merge.specs.Sent.{fragment_sent}
-use Rattle.hk_merge.proofs.JoinRefusals.{wrong_log_by, join_conflict, join_gives, fits_by}
+use Rattle.hk_merge.proofs.JoinRefusals.{join_conflict, join_gives, fits_by}
 use Rattle.hk_merge.proofs.RisingHorizon.{facts_are}
 use Rattle.hk_merge.proofs.join.join_sent.Goals as goal
 

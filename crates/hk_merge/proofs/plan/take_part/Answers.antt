@@ -1,4 +1,4 @@
-use Rattle.std.proofs.Common.{◌≡◌, refl, ap, ◌∙◌, arith, map, take, length}
+use Rattle.std.proofs.Common.{◌≡◌, refl, ap, ◌∙◌, arith, map, take}
 use Rattle.std.proofs.lemmas.List.{map-id, take_all}
 use Rattle.std.specs.FinMap.{find}
 use Rattle.hk_model.specs.History.Rows.{version_key_cmp}

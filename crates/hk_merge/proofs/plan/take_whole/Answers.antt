@@ -1,10 +1,10 @@
-use Rattle.std.proofs.Common.{◌≡◌, sym, ap, ◌∙◌, map}
+use Rattle.std.proofs.Common.{sym, ap, ◌∙◌, map}
 use Rattle.std.specs.Option.{option_and_then}
 use Rattle.std.specs.FinMap.{find}
 use Rattle.hk_model.specs.History.Rows.{version_key_cmp}
 use Rattle.hk_model.specs.Replica.Maps.{or_else}
 use Rattle.hk_model.proofs.Maps.{find-append}
-use Rattle.hk_store.specs.Facts.{FactsValue, known_at}
+use Rattle.hk_store.specs.Facts.{known_at}
 use Rattle.hk_store.specs.Versions.{borrowed}
 use Rattle.hk_store.proofs.PickedVersions.{find_picked}
 use Rattle.hk_store.proofs.WalkedChains.{all_taken}

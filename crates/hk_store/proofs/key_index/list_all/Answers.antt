@@ -1,4 +1,4 @@
-use Rattle.std.proofs.Common.{sym, ap, ◌∙◌, List, map, subst}
+use Rattle.std.proofs.Common.{sym, ap, ◌∙◌, map, subst}
 use Rattle.hk_types.specs.declared.version_key.VersionKey.{VersionKey}
 use Rattle.hk_log.specs.Versions.{VersionValue}
 use Rattle.hk_index.specs.Listed.{Lists}

@@ -1,11 +1,10 @@
-use Rattle.std.proofs.Common.{◌∷◌, ◌++◌, [], refl, sym, ap, ◌∙◌, Bor, List, map}
-use Rattle.std.proofs.lemmas.List.{map_push}
+use Rattle.std.proofs.Common.{◌∷◌, ◌++◌, [], refl, sym, ap, ◌∙◌, Bor, map}
 use Rattle.hk_types.specs.declared.version_key.VersionKey.{VersionKey}
 use Rattle.hk_log.specs.Versions.{VersionValue}
 use Rattle.hk_index.specs.Listed.{is_up_to}
 use Rattle.hk_store.specs.Versions.{borrowed}
 use Rattle.hk_store.proofs.WalkedRows.{listed_up_to}
-use Rattle.hk_store.proofs.WalkedChains.{all_taken, one_more_taken, one_more_passed, all_passed, none_more}
+use Rattle.hk_store.proofs.WalkedChains.{all_taken, one_more_taken, one_more_key, one_more_passed, all_passed, none_more}
 use Rattle.hk_store.proofs.key_index.list_up_to.Goals as goal
 
 pub loop-version-init : goal.loop-version-init
@@ -24,15 +23,10 @@ returns-then-not-is_up_to-clause-ok c =
     (none_more p l.found.items c.walk_from-version-items.result (map borrowed l.yielded) c.next.new.self (borrowed e) whole l.invariant.all (sym c.if-not-is_up_to.ensures) l.invariant.passed)
 
 pub loop-version-preserved : goal.loop-version-preserved
-loop-version-preserved c =
-    let p = is_up_to c.args.table c.args.high in
-    let l = c.loop-version in
-    let first : VersionKey × VersionValue → VersionKey = λ e. e.0 in
-    record {
-      all = c.in_ok-push.ensures.items ∙ ap (λ ks. ks ++ c.in-Some.version ∷ []) l.invariant.all
-          ∙ sym (ap (map first) (map_push borrowed l.yielded (c.in-Some.version, c.in-Some._known)) ∙ map_push first (map borrowed l.yielded) (borrowed (c.in-Some.version, c.in-Some._known)));
-      passed = one_more_passed p l.found.items c.push.new.self.items c.in-Some.version c.in_ok-push.ensures.items (sym c.if-not-is_up_to.ensures) l.invariant.passed;
-    }
+loop-version-preserved c = record {
+  all = c.in_ok-push.ensures.items ∙ ap (λ ks. ks ++ c.in-Some.version ∷ []) c.loop-version.invariant.all ∙ sym (one_more_key c.loop-version.yielded (c.in-Some.version, c.in-Some._known));
+  passed = one_more_passed (is_up_to c.args.table c.args.high) c.loop-version.found.items c.push.new.self.items c.in-Some.version c.in_ok-push.ensures.items (sym c.if-not-is_up_to.ensures) c.loop-version.invariant.passed;
+}
 
 pub returns-clause-ok : goal.returns-clause-ok
 returns-clause-ok c =

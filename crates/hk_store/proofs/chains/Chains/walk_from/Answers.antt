@@ -1,8 +1,6 @@
-use Rattle.std.proofs.Common.{sym, ap, ◌∙◌, subst, T, Bool, filter, is_le}
+use Rattle.std.proofs.Common.{sym, ap, ◌∙◌, subst, T, filter, is_le}
 use Rattle.std.specs.FinMap as finmap
 use Rattle.std.specs.FinMap.{is_sorted}
-use Rattle.hk_types.specs.declared.version_key.VersionKey.{VersionKey}
-use Rattle.hk_log.specs.Versions.{VersionValue}
 use Rattle.hk_model.specs.History.Rows.{RowKey, row_key_cmp, version_key_cmp}
 use Rattle.hk_model.proofs.Maps.{row_key_total, row_key_same}
 use Rattle.hk_facts.specs.Chains.{ChainValue}

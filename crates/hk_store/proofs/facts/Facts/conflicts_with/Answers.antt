@@ -1,4 +1,4 @@
-use Rattle.std.proofs.Common.{◌≡◌, ◌∷◌, ◌++◌, ◌||◌, sym, ap, ◌∙◌, Bool, map}
+use Rattle.std.proofs.Common.{◌∷◌, ◌||◌, sym, ap, ◌∙◌, Bool, map}
 use Rattle.std.proofs.lemmas.List.Folds.{list_any-append}
 use Rattle.std.specs.List.{list_any}
 use Rattle.hk_types.specs.declared.version_key.VersionKey.{VersionKey}
