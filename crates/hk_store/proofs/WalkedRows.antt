@@ -230,11 +230,11 @@ rows_are chains known k rows sorted finds =
     found_are (facts_of chains) (λ q. is_le (version_key_cmp (version_of k 0) q)) (versions_of_rows (filter (λ r. is_le (row_key_cmp k r.0)) rows))
     (rows_sorted (filter (λ r. is_le (row_key_cmp k r.0)) rows) (kept_sorted (λ r. is_le (row_key_cmp k r)) rows sorted))
     (λ q.
-        find_in_rows q (filter (λ r. is_le (row_key_cmp k r.0)) rows) (kept_sorted (λ r. is_le (row_key_cmp k r)) rows sorted)
-        ∙ ap (option_and_then (λ (c : ChainValue). finmap.get c q.born)) (find_kept (λ r. is_le (row_key_cmp k r)) (row_key_of q) rows)
-        ∙ in_bounds (is_le (row_key_cmp k (row_key_of q))) (λ (c : ChainValue). finmap.get c q.born) (find row_key_cmp (row_key_of q) rows)
-        ∙ (λ i. cond (least_of_row k q i) (option_and_then (λ (c : ChainValue). finmap.get c q.born) (sym (finds (row_key_of q)) i)) None)
-        ∙ ap (λ x. cond (is_le (version_key_cmp (version_of k 0) q)) x None) (sym (known_stored chains known q)))
+    find_in_rows q (filter (λ r. is_le (row_key_cmp k r.0)) rows) (kept_sorted (λ r. is_le (row_key_cmp k r)) rows sorted)
+    ∙ ap (option_and_then (λ (c : ChainValue). finmap.get c q.born)) (find_kept (λ r. is_le (row_key_cmp k r)) (row_key_of q) rows)
+    ∙ in_bounds (is_le (row_key_cmp k (row_key_of q))) (λ (c : ChainValue). finmap.get c q.born) (find row_key_cmp (row_key_of q) rows)
+    ∙ (λ i. cond (least_of_row k q i) (option_and_then (λ (c : ChainValue). finmap.get c q.born) (sym (finds (row_key_of q)) i)) None)
+    ∙ ap (λ x. cond (is_le (version_key_cmp (version_of k 0) q)) x None) (sym (known_stored chains known q)))
   where
     in_bounds : (b : Bool) (g : ChainValue → Option VersionValue) (x : Option ChainValue) → option_and_then g (cond b x None) ≡ cond b (option_and_then g x) None
     in_bounds true g x = refl

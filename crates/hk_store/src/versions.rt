@@ -37,7 +37,7 @@ impl Facts {
     }
 
     /// All versions of which anything is known, in rising order. The only error is out of memory.
-    /// Cost: O(n · log n), n facts.
+    /// Cost: that of a walk over them.
     pub fn versions(&self, alloc: Global) -> Result<Vec<(VersionKey, &Version)>, AllocError>
         ensures { IfOk result (λ versions. AreVersions self.now (map borrowed versions.items)) }
     {

@@ -1,11 +1,10 @@
 //! The versions one after the other, in the order of their keys.
 
-ghost use Rattle.std.specs.Ordering.{is_le};
 ghost use Rattle.std.specs.Option.{option_map};
-ghost use Rattle.hk_store.specs.Versions.{NextOf};
+ghost use Rattle.std.specs.Ordering.{is_le};
 ghost use Rattle.std.specs.Iterator.{YieldsFirstBy, item_count};
 ghost use Rattle.hk_model.specs.History.Rows.{version_key_cmp};
-ghost use Rattle.hk_store.specs.Versions.{AreVersions, AreVersionsOf, borrowed};
+ghost use Rattle.hk_store.specs.Versions.{AreVersions, AreVersionsOf, NextOf, borrowed};
 
 use crate::chains::Chains;
 use crate::row_key::RowKey;
@@ -16,13 +15,16 @@ use std::collections::btree_map::Range;
 use std::marker::Model;
 use std::ops::Bound;
 
-/// A walk over versions, in the order of table, key and born, which keeps its place. It takes no memory.
-/// Cost: O(1) for each version, taken over the walk, and O(log k) for each version but the first of a row, k versions
-/// of the row.
+/// A walk over versions, in the order of table, key and born, which keeps its place: each comes once, with what is
+/// known of it. It takes no memory. Cost: O(n + m · log k), n versions, m of them not the first of their row, k versions
+/// of a row at most.
 #[derive(Drop)]
 pub struct Walk<'a> {
+    /// The row that it stands in.
     here: Option<(&'a RowKey, &'a Chain)>,
+    /// The birth of the version that the row gave last.
     after: Option<Time>,
+    /// The rows to come.
     rows: Range<'a, RowKey, Chain>,
 }
 
