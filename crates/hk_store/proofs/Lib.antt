@@ -4,7 +4,6 @@ pub mod ChangedChains
 pub mod FactsByRow
 pub mod JournalUndone
 mod NewFacts
-mod PlacedChains
 pub mod Conflicts
 pub mod EntryConflicts
 pub mod TimedFacts

@@ -23,7 +23,6 @@ use hk_log::Version;
 use hk_types::{Key, Refusal, Row, Table, Tag, Time, VersionKey};
 use std::alloc::{AllocError, Global};
 use std::collections::BTreeMap;
-use std::collections::btree_map::Entry;
 use std::marker::Model;
 
 /// The rows and the ends of all versions: for each row the chain of its versions. No chain is empty, and of
@@ -118,14 +117,13 @@ impl Chains {
             ⊎ ((why ≡ Memory) × (known_at self.old version.now ≡ None))) }
         ensures kept { OnErr result (self.new ≡ self.old) }
     {
-        match self.chains.entry(RowKey::of_version(version))? {
-            Entry::Occupied(place) => place.into_mut().put(version.born, fact),
-            Entry::Vacant(place) => {
-                let chain = Chain::of_fact(self.alloc, version.born, fact)?;
-                place.insert(chain);
-                Ok(())
-            }
+        let row = RowKey::of_version(version);
+        if let Some(chain) = self.chains.get_mut(&row) {
+            return chain.put(version.born, fact);
         }
+        let chain = Chain::of_fact(self.alloc, version.born, fact)?;
+        insert(&mut self.chains, row, chain)?;
+        Ok(())
     }
 
     /// Adds a fact where nothing like it is known of the version, and says whether it did. The only refusal
@@ -137,14 +135,13 @@ impl Chains {
         ensures err { IfErr result (λ why. why ≡ Memory) }
         ensures kept { OnErr result (self.new ≡ self.old) }
     {
-        match self.chains.entry(RowKey::of_version(version))? {
-            Entry::Occupied(place) => put_where_new(place.into_mut(), version.born, fact),
-            Entry::Vacant(place) => {
-                let chain = Chain::of_fact(self.alloc, version.born, fact)?;
-                place.insert(chain);
-                Ok(true)
-            }
+        let row = RowKey::of_version(version);
+        if let Some(chain) = self.chains.get_mut(&row) {
+            return put_where_new(chain, version.born, fact);
         }
+        let chain = Chain::of_fact(self.alloc, version.born, fact)?;
+        insert(&mut self.chains, row, chain)?;
+        Ok(true)
     }
 
     /// Takes a part of a version back, where it is known, and says what went. Cost: O(log n), n facts.
