@@ -1,6 +1,8 @@
 """What a script of checks says: a line for each check, and at the end 'N passed, M failed'. Standard library only."""
 
-passed, failed = 0, 0
+import os
+
+passed, failed, skipped = 0, 0, 0
 
 
 def report(name, problems, told=""):
@@ -13,6 +15,16 @@ def report(name, problems, told=""):
     else:
         passed += 1
         print(f"ok {name}", flush=True)
+
+
+def skip(what):
+    """Says that a part was skipped, and why; that is a check that failed where NEED_ALL=1 asks for all of them."""
+    global skipped
+    if os.environ.get("NEED_ALL") == "1":
+        report("all that NEED_ALL=1 asks for", [what])
+    else:
+        skipped += 1
+        print(f"skipped: {what}", flush=True)
 
 
 def differ(pairs):
@@ -29,5 +41,7 @@ def is_built(program):
 
 def ended():
     """Says how many checks passed and failed, and gives the status."""
+    if skipped:
+        print(f"{skipped} skipped")
     print(f"{passed} passed, {failed} failed")
     return 1 if failed else 0

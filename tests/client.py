@@ -1,8 +1,9 @@
 #!/usr/bin/env python3
-"""Checks of links over TCP: a client that speaks docs/FORMATS.md by itself (tests/messages.py) drives `bin/hkrep serve`, and
+"""Checks of links over TCP: a client byte by byte (tests/messages.py, on the package of clients/python) drives `bin/hkrep serve`, and
 scripted peers drive `bin/hkrep push`. Every wait has a limit, and each node that is started is ended.
 
 Prints a line for each check and ends with 'N passed, M failed'. Standard library only."""
+import json
 import os
 import pathlib
 import queue
@@ -174,86 +175,10 @@ def many_links(cases):
     return problems
 
 
-def patched(fields, name, text, which=0):
-    """The frame with the bytes of a named field changed; `which` counts the fields of that name from 0."""
-    places = [place for place, field in enumerate(fields) if field[0] == name]
-    fields = list(fields)
-    fields[places[which]] = (name, text)
-    return say.spelled(fields)
-
-
-def ended_by(fields, name, text):
-    """The frame that ends with a named field, whose bytes are these."""
-    place = next(place for place, field in enumerate(fields) if field[0] == name)
-    return say.spelled(fields[:place] + [(name, text)])
-
-
-LAST = 2 ** 62
-OVER = say.u64(LAST + 1)
-MOST = say.u64(2 ** 64 - 1)
-
-
-def faults_of_requests():
-    lists = say.fields_of_fragment(base=0, horizon=0, streams=[(2, 2, [4, 6], [(4, 4), (6, 7)])], facts=[
-        (1, 5, 1, (9, b"a"), 2), (1, 5, 2, (9, b"b"), None), (2, 1, 1, (9, b"c"), None)])
-    joined, merged = say.message(21, lists), say.message(22, lists)
-    pruned = say.message(21, say.fields_of_fragment(base=3, horizon=3, streams=[(3, 3, [], [])], facts=[(1, 5, 1, None, 4)]))
-    got = say.message(20, [("time", say.u64(1))] + say.get(1, 5))
-    one = say.fields_of_entry(2, 2, [(1, 5, 9, b"a"), (1, 7, 9, b"b")], [(1, 5, 1), (1, 7, 1)])
-    inside = lambda name, text, which=0: say.items(patched(one, name, text, which))
-    two = say.fields_of_new_entry(2, 2, [(1, 5, 9, b"a"), (1, 7, 9, b"b"), (2, 1, 9, b"c")], [(1, 5, 1), (1, 7, 1), (2, 1, 1)])
-    within = lambda name, text, which=0: say.items(E1, patched(two, name, text, which))
-    return [
-        ("length above the limit", say.u32(2 ** 28 + 1), 2), ("length below the least", say.u32(1), 10), ("no length", say.u32(0), 10),
-        ("version", patched(got, "version", b"\2"), 3), ("version before kind", say.framed(b"\2\xff"), 3),
-        ("kind", patched(got, "kind", b"\x0f"), 4), ("kind above the last", patched(got, "kind", b"\x18"), 4),
-        ("kind of a reply", say.done(1), 4),
-        ("front with a byte", say.framed(b"\1\x11\0"), 10), ("whole with a byte", say.framed(b"\1\x13\0"), 10),
-        ("delta without a base", say.framed(b"\1\x12"), 10), ("base of a delta", say.spelled(say.message(18, [("base", OVER)])), 6),
-        ("horizon of a prune", say.spelled(say.message(23, [("horizon", OVER)])), 6),
-        ("time of an ask", patched(got, "time", OVER), 6), ("kind of a query", patched(got, "query", b"\0"), 6),
-        ("kind of a query above the last", patched(got, "query", b"\5"), 6), ("query with a byte", say.spelled(got + [("more", b"\0")]), 10),
-        ("query that is cut", say.spelled(got[:-1] + [("key", b"\0" * 7)]), 10),
-        ("count of items", say.framed(b"\1\x10" + say.u32(65537)), 8), ("items that are not there", say.framed(b"\1\x10" + say.u32(1)), 10),
-        ("items and a byte", say.spelled(say.fields_of_items([E1]) + [("more", b"\0")]), 10),
-        ("item's length above its limit", say.framed(b"\1\x10" + say.u32(1) + say.u32(4233249)), 2),
-        ("item's length below the least", say.framed(b"\1\x10" + say.u32(1) + say.u32(27)), 10),
-        ("item that does not fit", say.framed(b"\1\x10" + say.u32(1) + E1[:-1]), 10),
-        ("item's version", inside("version", b"\3"), 3), ("item's kind", inside("kind", b"\3"), 4),
-        ("item's stream", inside("stream", say.u16(0)), 5), ("item's stream above 64", inside("stream", say.u16(65)), 5),
-        ("item's number", inside("number", say.u64(0)), 6), ("item's number above its time", inside("number", say.u64(3)), 6),
-        ("item's time", inside("time", OVER), 6), ("count of ends", inside("count of ends", say.u16(1025)), 8),
-        ("order of ends", inside("key", say.u64(5), 1), 7), ("born", inside("born", say.u64(0)), 6),
-        ("born at the time", inside("born", say.u64(2)), 6), ("count of rows", inside("count of rows", say.u16(1025)), 8),
-        ("order of rows", inside("key", say.u64(5), 3), 7), ("item's body", inside("body length", say.u16(4097)), 9),
-        ("mark's n above its m", say.items(say.mark(1, 2, 1)), 6),
-        ("groups of ends", within("groups of ends", say.u16(1025)), 8), ("order of tables of ends", within("table of ends", say.u16(1), 1), 7),
-        ("a group without ends", within("count of ends", say.u16(0)), 8), ("order of ends in a group", within("key", say.u64(5), 1), 7),
-        ("born in a group", within("born", say.u64(2)), 6), ("groups of rows", within("groups of rows", say.u16(1025)), 8),
-        ("order of tables of rows", within("table of rows", say.u16(1), 1), 7), ("a group without rows", within("count of rows", say.u16(0), 1), 8),
-        ("order of rows in a group", within("key", say.u64(5), 4), 7), ("a body in a group", within("body length", say.u16(4097)), 9),
-        ("no streams", patched(joined, "streams", say.u16(0)), 5), ("streams", patched(joined, "streams", say.u16(65)), 5),
-        ("base", patched(joined, "base", OVER), 6), ("base below the horizon", patched(pruned, "base", say.u64(2)), 6),
-        ("base of a merge", patched(merged, "base", say.u64(1)), 6), ("horizon above closed", patched(joined, "horizon", say.u64(3)), 6),
-        ("prefix", patched(joined, "prefix", OVER), 6), ("closed", patched(joined, "closed", OVER), 6),
-        ("count of extra numbers", ended_by(joined, "count of extra numbers", b"\xff" * 4), 10),
-        ("extra number at the prefix", patched(joined, "extra number", say.u64(3)), 6), ("extra number", patched(joined, "extra number", OVER, 1), 6),
-        ("order of extra numbers", patched(joined, "extra number", say.u64(4), 1), 7),
-        ("count of waiting marks", ended_by(joined, "count of waiting marks", b"\xff" * 4), 10),
-        ("n at the prefix", patched(joined, "n", say.u64(2)), 6), ("order of waiting marks", patched(joined, "n", say.u64(4), 1), 7),
-        ("m below n", patched(joined, "m", say.u64(3)), 6), ("m", patched(joined, "m", OVER), 6),
-        ("count of facts", ended_by(joined, "count of facts", b"\xff" * 4), 10),
-        ("order of facts", patched(joined, "born", say.u64(1), 1), 7), ("born at 0", patched(joined, "born", say.u64(0)), 6),
-        ("born above the last time", patched(joined, "born", OVER, 1), 6), ("no flag", patched(joined, "flags", b"\0"), 6),
-        ("flags", patched(joined, "flags", b"\4"), 6), ("row at the base", patched(pruned, "flags", b"\1"), 6),
-        ("body of a fact", patched(joined, "body length", say.u16(4097)), 9), ("died at its birth", patched(joined, "died", say.u64(1)), 6),
-        ("died", patched(joined, "died", MOST), 6), ("died at the base", patched(pruned, "died", say.u64(3)), 6),
-        ("fragment and a byte", say.spelled(joined + [("more", b"\0")]), 10),
-    ]
-
-
 def each_fault():
-    cases = [(name, data, say.refused(number), number) for name, data, number in faults_of_requests()]
+    """The faults of tests/vectors/request_faults.json that are no cuts (each_cut has those)."""
+    vectors = json.loads((ROOT / "tests" / "vectors" / "request_faults.json").read_text(encoding="utf-8"))
+    cases = [(it["name"], bytes.fromhex(it["bytes"]), say.refused(it["number"]), it["number"]) for it in vectors if it["number"] != 1]
     report(f"each fault of form, at each field ({len(cases)})", many_links(cases))
 
 

@@ -1,262 +1,143 @@
-"""The messages of docs/FORMATS.md, written from that page alone: their spelling, and the reading of replies.
-
-A frame is a list of fields until it is spelled, each a pair of a name and its bytes, so that a check can change one field
-and say which. Standard library only."""
+"""Requests and replies for the tests, by the package of clients/python. What breaks a rule is spelled field by field (tests/fields.py),
+since the package makes no such value."""
+import pathlib
 import socket
-import struct
+import sys
+
+sys.path.insert(0, str(pathlib.Path(__file__).resolve().parent.parent / "clients" / "python"))
+import fields
+import vadungsil
+from fields import fields_of_body, fields_of_entry, fields_of_fragment, fields_of_items, fields_of_new_entry, framed, message, spelled, u8, u16, u32, u64
 
 FRONT, FULL = b"\x11", b"\x13"
 
 
-def u8(n):
-    return struct.pack(">B", n)
+def either(make, spell, *args, **more):
+    """What the package makes, or, of values that break a rule, what the fields are."""
+    try:
+        return make(*args, **more)
+    except vadungsil.Fault:
+        return spell(*args, **more)
 
 
-def u16(n):
-    return struct.pack(">H", n)
-
-
-def u32(n):
-    return struct.pack(">I", n)
-
-
-def u64(n):
-    return struct.pack(">Q", n)
-
-
-def framed(rest):
-    return u32(len(rest)) + rest
-
-
-def fields_of_body(body):
-    return [("body length", u16(len(body))), ("body", body)]
-
-
-def fields_of_entry(number, time, rows=(), ends=(), stream=1, log=7):
-    """rows: (table, key, tag, body); ends: (table, key, born)"""
-    fields = [("version", u8(1)), ("kind", u8(1)), ("log", u64(log)), ("stream", u16(stream)), ("number", u64(number)),
-              ("time", u64(time)), ("count of ends", u16(len(ends)))]
-    for table, key, born in ends:
-        fields += [("table", u16(table)), ("key", u64(key)), ("born", u64(born))]
-    fields.append(("count of rows", u16(len(rows))))
-    for table, key, tag, body in rows:
-        fields += [("table", u16(table)), ("key", u64(key)), ("tag", u32(tag))] + fields_of_body(body)
-    return fields
-
-
-def groups_of(elements):
-    """Elements, each a table and the fields beside it, in the longest runs of one table."""
-    groups = []
-    for table, fields in elements:
-        if not groups or groups[-1][0] != table:
-            groups.append((table, []))
-        groups[-1][1].append(fields)
-    return groups
-
-
-def fields_of_groups(name, elements):
-    groups = groups_of(elements)
-    fields = [("groups of " + name, u16(len(groups)))]
-    for table, group in groups:
-        fields += [("table of " + name, u16(table)), ("count of " + name, u16(len(group)))] + [field for it in group for field in it]
-    return fields
-
-
-def fields_of_new_entry(number, time, rows=(), ends=(), stream=1, log=7):
-    """The same in version 2."""
-    fields = [("version", u8(2)), ("kind", u8(1)), ("log", u64(log)), ("stream", u16(stream)), ("number", u64(number)), ("time", u64(time))]
-    fields += fields_of_groups("ends", [(table, [("key", u64(key)), ("born", u64(born))]) for table, key, born in ends])
-    return fields + fields_of_groups("rows", [(table, [("key", u64(key)), ("tag", u32(tag))] + fields_of_body(body))
-                                              for table, key, tag, body in rows])
-
-
-def fields_of_mark(stream, n, m, log=7, version=1):
-    return [("version", u8(version)), ("kind", u8(2)), ("log", u64(log)), ("stream", u16(stream)), ("n", u64(n)), ("m", u64(m))]
-
-
-def spelled(fields):
-    return framed(b"".join(text for _, text in fields))
+def made_entry(number, time, rows=(), ends=(), stream=1, log=7, version=1):
+    puts = tuple((table, key, vadungsil.Row(tag, body)) for table, key, tag, body in rows)
+    return vadungsil.encode(vadungsil.Entry(log, stream, number, time, tuple(vadungsil.VersionKey(*it) for it in ends), puts), version)
 
 
 def entry(*args, **more):
-    return spelled(fields_of_entry(*args, **more))
+    """rows: (table, key, tag, body); ends: (table, key, born)"""
+    return either(made_entry, fields.entry, *args, **more)
 
 
 def new_entry(*args, **more):
-    return spelled(fields_of_new_entry(*args, **more))
+    """The same in version 2."""
+    return either(lambda *args, **more: made_entry(*args, **more, version=2), fields.new_entry, *args, **more)
 
 
-def mark(*args, **more):
-    return spelled(fields_of_mark(*args, **more))
+def mark(stream, n, m, log=7, version=1):
+    return either(lambda **it: vadungsil.encode(vadungsil.Mark(log, stream, n, m), version), lambda: fields.mark(stream, n, m, log=log, version=version))
 
 
-def message(kind, fields=()):
-    return [("version", u8(1)), ("kind", u8(kind)), *fields]
-
-
-def fields_of_items(frames):
-    return message(16, [("count", u32(len(frames)))] + [("frame", frame) for frame in frames])
-
-
-def fields_of_fragment(base=0, horizon=0, streams=((0, 0, (), ()),), facts=(), log=7):
-    """streams: (prefix, closed, extra numbers, waiting marks); facts: (table, key, born, row or None, died or None), a row
-    being (tag, body)"""
-    fields = [("log", u64(log)), ("streams", u16(len(streams))), ("base", u64(base)), ("horizon", u64(horizon))]
-    for prefix, closed, extra, waiting in streams:
-        fields += [("prefix", u64(prefix)), ("closed", u64(closed)), ("count of extra numbers", u32(len(extra)))]
-        fields += [("extra number", u64(n)) for n in extra]
-        fields.append(("count of waiting marks", u32(len(waiting))))
-        for n, m in waiting:
-            fields += [("n", u64(n)), ("m", u64(m))]
-    fields.append(("count of facts", u32(len(facts))))
-    for table, key, born, row, died in facts:
-        flags = (1 if row is not None else 0) + (2 if died is not None else 0)
-        fields += [("table", u16(table)), ("key", u64(key)), ("born", u64(born)), ("flags", u8(flags))]
-        if row is not None:
-            fields += [("tag", u32(row[0]))] + fields_of_body(row[1])
-        if died is not None:
-            fields.append(("died", u64(died)))
-    return fields
+def request(it):
+    return vadungsil.encode_request(it)
 
 
 def get(table, key):
-    return [("query", u8(1)), ("table", u16(table)), ("key", u64(key))]
+    return vadungsil.Get(table, key)
 
 
 def scan(table, low, high):
-    return [("query", u8(2)), ("table", u16(table)), ("low", u64(low)), ("high", u64(high))]
+    return vadungsil.Range(table, low, high)
 
 
 def by_tag(table, tag):
-    return [("query", u8(3)), ("table", u16(table)), ("tag", u32(tag))]
+    return vadungsil.ByTag(table, tag)
 
 
 def count(table):
-    return [("query", u8(4)), ("table", u16(table))]
+    return vadungsil.Count(table)
 
 
 def items(*frames):
-    return spelled(fields_of_items(frames))
+    return request(vadungsil.Items(frames))
 
 
 def front():
-    return spelled(message(17))
-
-
-def delta(base):
-    return spelled(message(18, [("base", u64(base))]))
+    return request(vadungsil.AskFront())
 
 
 def full():
-    return spelled(message(19))
+    return request(vadungsil.Full())
+
+
+def delta(base):
+    return request(vadungsil.Delta(base))
 
 
 def ask(time, query):
-    return spelled(message(20, [("time", u64(time))] + query))
-
-
-def join_this(**fragment):
-    return spelled(message(21, fields_of_fragment(**fragment)))
-
-
-def merge_this(**fragment):
-    return spelled(message(22, fields_of_fragment(**fragment)))
+    return request(vadungsil.Ask(time, query))
 
 
 def prune(horizon):
-    return spelled(message(23, [("horizon", u64(horizon))]))
+    return request(vadungsil.Prune(horizon))
+
+
+def made_fragment(base=0, horizon=0, streams=((0, 0, (), ()),), facts=(), log=7):
+    known = [vadungsil.Fact(vadungsil.VersionKey(table, key, born), None if row is None else vadungsil.Row(*row), died) for table, key, born, row, died in facts]
+    return vadungsil.Fragment(log, base, horizon, tuple(vadungsil.Stream(*it) for it in streams), tuple(known))
+
+
+def join_this(**parts):
+    """streams: (prefix, closed, extra numbers, waiting marks); facts: (table, key, born, row or None, died or None), a row being (tag, body)"""
+    return either(lambda **it: request(vadungsil.JoinThis(made_fragment(**it))), fields.join_this, **parts)
+
+
+def merge_this(**parts):
+    return either(lambda **it: request(vadungsil.MergeThis(made_fragment(**it))), fields.merge_this, **parts)
 
 
 def done(ops):
-    return spelled(message(32, [("ops", u64(ops))]))
+    return either(lambda it: vadungsil.encode_reply(vadungsil.Done(it)), fields.done, ops)
 
 
 def refused(number, first=0, second=0):
-    return spelled(message(36, [("number", u8(number)), ("first", u64(first)), ("second", u64(second))]))
+    return fields.refused(number, first, second)
 
 
-class Reading:
-    """Reads the fields of a body one after the other, and in the end wants that none is left."""
-
-    def __init__(self, data):
-        self.data = data
-        self.at = 0
-
-    def number(self, size):
-        if self.at + size > len(self.data):
-            raise ValueError("a field does not fit")
-        value = int.from_bytes(self.data[self.at:self.at + size], "big")
-        self.at += size
-        return value
-
-    def row(self):
-        tag = self.number(4)
-        size = self.number(2)
-        if self.at + size > len(self.data):
-            raise ValueError("a body does not fit")
-        body = self.data[self.at:self.at + size]
-        self.at += size
-        return tag, body
-
-    def end(self):
-        if self.at != len(self.data):
-            raise ValueError("bytes are left")
+def row_of(row):
+    return None if row is None else (row.tag, row.body)
 
 
-def read_answer(body):
-    kind = body.number(1)
-    if kind == 1:
-        return "row", body.row() if body.number(1) == 1 else None
-    if kind == 2:
-        return "rows", [(body.number(8), *body.row()) for _ in range(body.number(4))]
-    if kind == 3:
-        return "number", body.number(8)
-    raise ValueError(f"answer of kind {kind}")
-
-
-def read_fragment(body):
-    told = {"log": body.number(8)}
-    streams = body.number(2)
-    told["base"], told["horizon"] = body.number(8), body.number(8)
-    told["streams"] = []
-    for _ in range(streams):
-        prefix, closed = body.number(8), body.number(8)
-        extra = [body.number(8) for _ in range(body.number(4))]
-        waiting = [(body.number(8), body.number(8)) for _ in range(body.number(4))]
-        told["streams"].append((prefix, closed, extra, waiting))
-    told["facts"] = []
-    for _ in range(body.number(4)):
-        table, key, born, flags = body.number(2), body.number(8), body.number(8), body.number(1)
-        row = body.row() if flags & 1 else None
-        died = body.number(8) if flags & 2 else None
-        told["facts"].append((table, key, born, row, died))
-    return "fragment", told
+def fragment_of(it):
+    return {"log": it.log, "base": it.base, "horizon": it.horizon,
+            "streams": [(of.prefix, of.closed, list(of.extra), list(of.waiting)) for of in it.streams],
+            "facts": [(of.version.table, of.version.key, of.version.born, row_of(of.row), of.died) for of in it.facts]}
 
 
 def read_reply(rest):
     """What the rest of a reply's frame says, as a tuple whose first part names it."""
-    body = Reading(rest)
-    if body.number(1) != 1:
-        raise ValueError("version")
-    kind = body.number(1)
-    if kind == 32:
-        told = ("done", body.number(8))
-    elif kind == 33:
-        told = ("front", body.number(8), body.number(8))
-    elif kind == 34:
-        told = read_fragment(body)
-    elif kind == 35:
-        told = read_answer(body)
-    elif kind == 36:
-        told = ("refused", body.number(1), body.number(8), body.number(8))
-    else:
-        raise ValueError(f"reply of kind {kind}")
-    body.end()
-    return told
+    try:
+        it = vadungsil.decode_reply(framed(rest))
+    except vadungsil.Fault as fault:
+        raise ValueError(str(fault)) from fault
+    if isinstance(it, vadungsil.Done):
+        return "done", it.operations
+    if isinstance(it, vadungsil.Front):
+        return "front", it.horizon, it.readable
+    if isinstance(it, vadungsil.Fragment):
+        return "fragment", fragment_of(it)
+    if isinstance(it, vadungsil.One):
+        return "row", row_of(it.row)
+    if isinstance(it, vadungsil.Rows):
+        return "rows", [(key, *row_of(row)) for key, row in it.rows]
+    if isinstance(it, vadungsil.Number):
+        return "number", it.count
+    return ("refused", it.number, *(*it.values, 0, 0)[:2])
 
 
 class Link:
-    """A link to a node. Each wait for bytes has a limit."""
+    """A link to a node, byte by byte, which no client of the package opens. Each wait for bytes has a limit."""
 
     def __init__(self, port, limit=20):
         self.socket = socket.create_connection(("127.0.0.1", port), timeout=limit)
@@ -295,8 +176,8 @@ class Link:
         length = int.from_bytes(first + self.read(3), "big")
         return read_reply(self.read(length))
 
-    def ask(self, request):
-        self.send(request)
+    def ask(self, it):
+        self.send(it)
         return self.reply()
 
     def __enter__(self):

@@ -20,12 +20,13 @@ STAND_INS = {"FRAMES": "examples/first.bin", "NAME": "half_fed", "47000": None, 
 
 
 def sources():
-    return [*(ROOT / "crates").glob("use_*/src/main.rt"), *(ROOT / "examples").glob("links/*.py")]
+    return [*(ROOT / "crates").glob("use_*/src/*.rt"), *(ROOT / "examples").glob("links/*.py")]
 
 
 def listings():
     texts = [path.read_text() for path in sources()]
-    blocks = re.findall(r"```(?:rust|python)\n(.*?)\n```", README, re.S)
+    # those of the first screen are run by tests/python_client.py
+    blocks = re.findall(r"```(?:rust|python)\n(.*?)\n```", README[README.index("## Three commands"):], re.S)
     problems = [block.splitlines()[0] for block in blocks if not any(block in text for text in texts)]
     report("the README's listings are lines of files", problems or ([] if len(blocks) >= 2 else ["fewer than two listings"]))
 

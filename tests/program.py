@@ -14,6 +14,7 @@ import tempfile
 import time
 
 from checks import ended, is_built, report
+from messages import entry, mark
 
 ROOT = pathlib.Path(__file__).resolve().parent.parent
 PROGRAM = ROOT / "bin" / "hkrep"
@@ -36,26 +37,6 @@ NEW_E1 = frame("00000033 02 01 0000000000000007 0001 0000000000000001 0000000000
                "0001 0001 0001 0000000000000005 00000009 0001 41")
 NEW_E2 = frame("00000047 02 01 0000000000000007 0001 0000000000000002 0000000000000002 0001"
                "0001 0001 0000000000000005 0000000000000001 0001 0001 0001 0000000000000005 00000009 0001 42")
-
-
-def mark(stream, n, m, log=7, version=1):
-    rest = bytes([version, 2]) + log.to_bytes(8, "big") + stream.to_bytes(2, "big")
-    rest += n.to_bytes(8, "big") + m.to_bytes(8, "big")
-    return len(rest).to_bytes(4, "big") + rest
-
-
-def entry(number, time, rows=(), ends=(), stream=1, log=7):
-    """rows: (table, key, tag, body); ends: (table, key, born)"""
-    rest = bytes([1, 1]) + log.to_bytes(8, "big") + stream.to_bytes(2, "big")
-    rest += number.to_bytes(8, "big") + time.to_bytes(8, "big")
-    rest += len(ends).to_bytes(2, "big")
-    for table, key, born in ends:
-        rest += table.to_bytes(2, "big") + key.to_bytes(8, "big") + born.to_bytes(8, "big")
-    rest += len(rows).to_bytes(2, "big")
-    for table, key, tag, body in rows:
-        rest += table.to_bytes(2, "big") + key.to_bytes(8, "big") + tag.to_bytes(4, "big")
-        rest += len(body).to_bytes(2, "big") + body
-    return len(rest).to_bytes(4, "big") + rest
 
 
 def framed(rest):

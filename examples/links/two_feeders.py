@@ -6,48 +6,41 @@ pushes stream 2 in blocks of 10, each from its last entry to its first. The node
 complete up to it.
 A second node took the first half of the log; it joins what the first node learnt since, and then both answer the same.
 
-Run it after `make`: examples/links/two_feeders.py [PORT], which also takes the port above. Standard library only."""
+Run it after `make`: examples/links/two_feeders.py [PORT], which also takes the port above. It uses clients/python."""
 import pathlib
-import socket
-import struct
 import subprocess
 import sys
 import time
+
+sys.dont_write_bytecode = True
+sys.path.insert(0, str(pathlib.Path(__file__).resolve().parent.parent.parent / "clients" / "python"))
+import vadungsil
 
 PROGRAM = str(pathlib.Path(__file__).resolve().parent.parent.parent / "bin" / "hkrep")
 LOG, TABLE, TAG, KEYS, LAST = 7, 1, 9, 10, 200
 LIMIT, BLOCK, DELAY = 20, 10, 30
 
 
-def framed(rest):
-    return struct.pack(">I", len(rest)) + rest
-
-
 def entry(at):
     """The entry of this time puts the key `at % KEYS` anew; odd times are of stream 1, even ones of stream 2."""
     stream, number = (1, (at + 1) // 2) if at % 2 else (2, at // 2)
-    ends = b"" if at <= KEYS else struct.pack(">HQQ", TABLE, at % KEYS, at - KEYS)
-    row = struct.pack(">HQIH", TABLE, at % KEYS, TAG, 2) + struct.pack(">H", at)
-    return framed(struct.pack(">BBQHQQ", 1, 1, LOG, stream, number, at) + struct.pack(">H", len(ends) // 18) + ends + struct.pack(">H", 1) + row)
+    ends = [(TABLE, at % KEYS, at - KEYS)] if at > KEYS else []
+    return vadungsil.Entry.of(LOG, stream, number, at, ends, [(TABLE, at % KEYS, TAG, at.to_bytes(2, "big"))])
 
 
 def mark(stream, number, at):
-    return framed(struct.pack(">BBQHQQ", 1, 2, LOG, stream, number, at))
+    return vadungsil.Mark(LOG, stream, number, at)
 
 
-def items(*frames):
-    return framed(struct.pack(">BBI", 1, 16, len(frames)) + b"".join(frames))
+def items(*found):
+    return vadungsil.encode_request(vadungsil.Items(found))
 
 
-FRONT = framed(b"\x01\x11")
+FRONT = vadungsil.encode_request(vadungsil.AskFront())
 
 
 def rows_at(at):
-    return framed(struct.pack(">BBQBHQQ", 1, 20, at, 2, TABLE, 0, KEYS))
-
-
-def delta(base):
-    return framed(struct.pack(">BBQ", 1, 18, base))
+    return vadungsil.encode_request(vadungsil.Ask(at, vadungsil.Range(TABLE, 0, KEYS)))
 
 
 class Node:
@@ -95,14 +88,6 @@ class Feeder:
         return rest, self.child.wait(LIMIT)
 
 
-def exchange(port, request):
-    """Sends a request over a link of its own, and gives the frame of the reply."""
-    with socket.create_connection(("127.0.0.1", port), timeout=LIMIT) as link, link.makefile("rb") as replies:
-        link.sendall(request)
-        length = replies.read(4)
-        return length + replies.read(int.from_bytes(length, "big"))
-
-
 def blocks():
     """The requests of feeder 2: a block of entries from its last to its first, and then the mark that closes it."""
     for low in range(1, LAST // 2, BLOCK):
@@ -143,8 +128,8 @@ def catch_up(second, first):
     feeder = Feeder(second)
     feeder.send(items(*(entry(at) for at in range(half, 0, -1)), mark(1, half // 2, half), mark(2, half // 2, half)))
     print(f"second node: {feeder.line()}; at {LAST}: {feeder.rows(LAST)[0]}", flush=True)
-    learnt = exchange(first.port, delta(half))
-    joined = learnt[:5] + b"\x15" + learnt[6:]
+    with vadungsil.Node(first.port, LIMIT) as node:
+        joined = vadungsil.encode_request(vadungsil.JoinThis(node.delta(half)))
     feeder.send(joined)
     print(f"second node joins {len(joined)} bytes of what came since {half}: {feeder.line()}", flush=True)
     return feeder

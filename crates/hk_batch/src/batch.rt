@@ -1,6 +1,6 @@
 //! The fragment of a list of items, by several workers.
 
-ghost use Rattle.std.specs.Prelude.{◌≡◌, ℕ, slice_index_or, ◌≤◌, ◌<◌, ◌*◌, length, take, drop, IfOk};
+ghost use Rattle.std.specs.Prelude.{◌≡◌, ⊤, ◌+◌, ℕ, slice_index_or, ◌≤◌, ◌<◌, ◌*◌, length, take, drop, IfOk};
 ghost use Rattle.hk_delta.specs.Gathers.{Gathers, GathersOf};
 ghost use Rattle.hk_delta.specs.Unions.{IsGathered};
 
@@ -13,8 +13,14 @@ use std::thread::Threads;
 
 /// What each worker passes before it begins.
 pub trait Gate {
+    ghost use Rattle.std.specs.Prelude.{ℕ};
+
+    /// Holds of a gate and the number of a worker that it let in; what it is, each gate says for itself.
+    ghost passed: { Self → ℕ → Type 0 };
+
     /// Lets a worker in, the first being 1. A worker begins once its call returns.
-    fn enter(&self, worker: usize);
+    fn enter(&self, worker: usize)
+        ensures { passed self.now worker };
 }
 
 /// A gate that lets each worker in at once.
@@ -22,7 +28,11 @@ pub trait Gate {
 pub struct OpenGate;
 
 impl Gate for OpenGate {
-    fn enter(&self, _worker: usize) {}
+    ghost passed = { λ _ _. ⊤ };
+
+    fn enter(&self, _worker: usize)
+        ensures { ⊤ }
+    {}
 }
 
 /// Piece `n` of the list, from 0, where each piece but the last ones has `size` items.
@@ -44,7 +54,7 @@ fn gather(alloc: Global, config: Config, items: &[Item]) -> Result<Fragment, Ref
     }
 }
 
-/// The fragment of each piece, by a worker each.
+/// The fragment of each piece, by a worker each, which passes the gate before it.
 fn fragments<R: Threads + Sync, G: Gate + Sync>(
     rt: &R,
     alloc: Global,
@@ -58,6 +68,7 @@ fn fragments<R: Threads + Sync, G: Gate + Sync>(
     ensures len { IfOk result (λ v. length v.items ≡ workers) }
     ensures each { IfOk result (λ v. (n : ℕ) (d : _) → n < workers
         → IfOk (slice_index_or v.items n d) (IsGathered config (take size (drop (n * size) items.now)))) }
+    ensures passed { IfOk result (λ _. (n : ℕ) → n < workers → G.passed gate.now (n + 1)) }
 {
     let parts = thread::map_indices(
         rt,
@@ -65,7 +76,8 @@ fn fragments<R: Threads + Sync, G: Gate + Sync>(
         workers,
         &|n: usize| -> Result<Fragment, Refusal>
             requires { n < 16 }
-            ensures { IfOk result (IsGathered config (take size (drop (n * size) items.entry.now))) }
+            ensures gathered { IfOk result (IsGathered config (take size (drop (n * size) items.entry.now))) }
+            ensures passed { G.passed gate.entry.now (n + 1) }
         {
             gate.enter(n + 1);
             gather(alloc, config, piece(items, size, n))

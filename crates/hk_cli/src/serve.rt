@@ -54,7 +54,7 @@ fn serve_list<
     links: Links,
     output: &mut Output<'_, W, E>,
 ) -> Result<u8, Stop>
-    requires { list.0 ≡ J.book }
+    requires { list ≡ (J.book, J.config) }
     ensures { IfOk result (λ status. status ≤ 1) }
 {
     let listener = match TcpListener::bind(rt, (Ipv4Addr::LOCALHOST, port)) {

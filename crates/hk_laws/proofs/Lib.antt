@@ -10,3 +10,4 @@ pub mod OutOfMemory
 pub mod TestedWrites
 pub mod TurnedCommits
 pub mod RefusedCommits
+pub mod EachTold

@@ -1,8 +1,10 @@
 -- What a run answers.
-use Rattle.std.specs.Prelude.{◌≡◌, ℕ, not, List, [], ◌∷◌, filter, length, if◌then◌else◌}
+use Rattle.std.specs.Prelude.{◌≡◌, ◌⊎◌, ℕ, true, not, List, [], ◌∷◌, filter, length, if◌then◌else◌}
 use Rattle.hk_types.specs.Values.{ConfigValue}
-use Rattle.hk_model.specs.World.Worlds.{EventValue, ToldValue, run, by_items, new_items}
-use Rattle.hk_laws.specs.Calls.{is_memory_outcome}
+use Rattle.hk_model.specs.World.Worlds.{World, Replica, EventValue, ToldValue, step, run, by_items, new_items}
+use Rattle.hk_types.specs.declared.faults.Refusal.TheVariants.{Memory}
+use Rattle.hk_model.specs.World.Worlds.ToldValue.{Refused}
+use Rattle.hk_laws.specs.Calls.{is_memory_outcome, may_lack}
 
 -- the events that were not told that memory ran out
 abbrev pub answered_events : List EventValue → List ToldValue → List EventValue
@@ -19,3 +21,13 @@ answers outcome = filter (λ t. not (is_memory_outcome t)) outcome
 pub record Runs (config : ConfigValue) (replicas : ℕ) (events : List EventValue) (outcome : List ToldValue) : Type 0 where
   pub as_many : length outcome ≡ length events
   pub same : answers outcome ≡ run (by_items config) config (new_items replicas) (answered_events events outcome)
+
+-- Each event told what the definition on items gives, and left the world so; or it was told that memory ran out, where
+-- that definition refuses nothing, or a transaction for what it writes, and left the world as it was.
+abbrev pub TellsEach : ConfigValue → World Replica → List EventValue → List ToldValue → Type 0
+TellsEach config items [] [] = Unit {0}
+TellsEach config items (e ∷ events) (t ∷ outcome) =
+    let after = step (by_items config) config items e in
+    ((t ≡ Refused Memory) × (may_lack after.0 ≡ true) × TellsEach config items events outcome) ⊎ ((t ≡ after.0) × TellsEach config after.1 events outcome)
+TellsEach config items [] (t ∷ outcome) = ⊥
+TellsEach config items (e ∷ events) [] = ⊥

@@ -4,7 +4,8 @@ ghost use Rattle.std.specs.Prelude.{◌≡◌, ◌≤◌, ◌<◌, ◌+◌, ◌+
 ghost use Rattle.std.specs.Vec.{vec_capacity, vec_len};
 ghost use Rattle.hk_types.specs.declared.faults.Refusal.TheVariants.{Memory};
 ghost use Rattle.hk_model.specs.World.Events.{event_seen, told_seen};
-ghost use Rattle.hk_laws.specs.Runs.{Runs};
+ghost use Rattle.hk_model.specs.World.Worlds.{new_items};
+ghost use Rattle.hk_laws.specs.Runs.{Runs, TellsEach};
 
 use crate::world::World;
 use hk_model::{Event, Told};
@@ -25,8 +26,9 @@ fn push_outcome(list: &mut Vec<Told>, outcome: Told)
 /// What events tell, one after the other, in a new world with so many replicas, 1 to `MOST_REPLICAS`.
 ///
 /// The only refusal is `Memory`, where the world or the list of answers could not be made. An event that is
-/// told `Memory` changes nothing, and the others tell what they would tell without it. Cost: that of the
-/// events.
+/// told `Memory` changes nothing, and the others tell what they would tell without it; an event is told so as
+/// `World::step` tells it: only where nothing else is refused, or a transaction for what it writes. Cost: that
+/// of the events.
 pub fn run(
     alloc: Global,
     config: Config,
@@ -36,6 +38,8 @@ pub fn run(
     requires some { 1 ≤ replicas }
     requires few { replicas ≤ 16 }
     ensures ok { IfOk result (λ outcome. Runs config replicas (map event_seen events.items)
+        (map told_seen outcome.items)) }
+    ensures each { IfOk result (λ outcome. TellsEach config (new_items replicas) (map event_seen events.items)
         (map told_seen outcome.items)) }
     ensures err { IfErr result (λ why. why ≡ Memory) }
 {

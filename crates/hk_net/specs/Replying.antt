@@ -14,8 +14,9 @@ use Rattle.hk_wire.specs.Replies.{ReplyValue, Done, Front, Fragment, Answer, Ref
 use Rattle.hk_session.specs.Steps.{query_reply, fragment_reply}
 use Rattle.hk_node.specs.declared.op.Op.{Op}
 use Rattle.hk_node.specs.declared.op.Op.TheVariants.{Join, Prune as PruneTo}
+use Rattle.hk_node.specs.Changes.{ChangesSome}
 use Rattle.hk_node.specs.Lists.{last_of}
-use Rattle.hk_node.specs.Replay.{config_of, replay, is_legal}
+use Rattle.hk_node.specs.Replay.{replay, is_legal}
 use Rattle.hk_node.specs.Replies.{node_delta, node_front, node_reply, node_whole}
 
 -- the marks that are told, or why there are none
@@ -27,35 +28,30 @@ front_reply (Err why) = Refused why
 abbrev pub IsOrOutOfMemory : ReplyValue → ReplyValue → Type 0
 IsOrOutOfMemory wanted reply = (reply ≡ wanted) ⊎ (reply ≡ Refused refusals.Memory)
 
-abbrev pub join_of : Result FragmentValue Refusal → Option Op
-join_of (Ok fragment) = Some (Join fragment)
-join_of (Err why) = None
+-- the reply to a change, in a node of this log: the seat's list has so many operations, and this one ends them; or it was
+-- refused as such a node refuses it, and the seat's list is as before
+abbrev pub IsChangeReply : ConfigValue → List Op → List Op → Op → ReplyValue → Type 0
+IsChangeReply config old new op (Done count) = (count ≤ length new) × (last_of (take count new) ≡ Some op)
+IsChangeReply config old new op (Refused why) = ChangesSome config op (Err why) × (new ≡ old)
+IsChangeReply config old new op reply = ⊥
 
--- the operation that a request asks for, if any: items ask for the join of the one fragment that they make
-abbrev pub op_of : ConfigValue → Request → Option Op
-op_of config (asked.Items items) = join_of (gather_result config items.items)
-op_of config (asked.JoinThis fragment) = Some (Join fragment)
-op_of config (asked.MergeThis fragment) = Some (Join fragment)
-op_of config (asked.Prune horizon) = Some (PruneTo horizon)
-op_of config asked.Front = None
-op_of config (asked.Delta base) = None
-op_of config asked.Full = None
-op_of config (asked.Ask t query) = None
+-- the reply to items, by what they are gathered to: that to the join of their fragment, or why there is none, or memory ran
+-- out while they were gathered
+abbrev pub IsItemsReply : ConfigValue → List Op → List Op → Result FragmentValue Refusal → ReplyValue → Type 0
+IsItemsReply config old new (Ok fragment) reply = IsChangeReply config old new (Join fragment) reply ⊎ ((reply ≡ Refused refusals.Memory) × (new ≡ old))
+IsItemsReply config old new (Err why) reply = (reply ≡ Refused why) × (new ≡ old)
 
--- the reply to a change: it was refused, or the list has so many operations, and the operation ends them
-abbrev pub IsChangeReply : List Op → Option Op → ReplyValue → Type 0
-IsChangeReply ops (Some op) (Done count) = (count ≤ length ops) × (last_of (take count ops) ≡ Some op)
-IsChangeReply ops wanted (Refused why) = Unit {0}
-IsChangeReply ops wanted reply = ⊥
+-- what is replied to a request by a host of a node of this log, whose seat had a list and has another after it
+abbrev pub IsReplyTo : ConfigValue → List Op → List Op → Request → ReplyValue → Type 0
+IsReplyTo config old new asked.Front reply = IsOrOutOfMemory (front_reply (node_front (replay new))) reply
+IsReplyTo config old new (asked.Delta base) reply = IsOrOutOfMemory (fragment_reply (node_delta (replay new) base)) reply
+IsReplyTo config old new asked.Full reply = IsOrOutOfMemory (fragment_reply (node_whole (replay new))) reply
+IsReplyTo config old new (asked.Ask t query) reply = IsOrOutOfMemory (query_reply (node_reply (replay new) t query)) reply
+IsReplyTo config old new (asked.Items items) reply = IsItemsReply config old new (gather_result config items.items) reply
+IsReplyTo config old new (asked.JoinThis fragment) reply = IsChangeReply config old new (Join fragment) reply
+IsReplyTo config old new (asked.MergeThis fragment) reply = IsChangeReply config old new (Join fragment) reply
+IsReplyTo config old new (asked.Prune horizon) reply = IsChangeReply config old new (PruneTo horizon) reply
 
--- what is replied to a request by a seat with this list
-abbrev pub IsReplyTo : List Op → Request → ReplyValue → Type 0
-IsReplyTo ops asked.Front reply = IsOrOutOfMemory (front_reply (node_front (replay ops))) reply
-IsReplyTo ops (asked.Delta base) reply = IsOrOutOfMemory (fragment_reply (node_delta (replay ops) base)) reply
-IsReplyTo ops asked.Full reply = IsOrOutOfMemory (fragment_reply (node_whole (replay ops))) reply
-IsReplyTo ops (asked.Ask t query) reply = IsOrOutOfMemory (query_reply (node_reply (replay ops) t query)) reply
-IsReplyTo ops request reply = IsChangeReply ops (op_of (config_of ops) request) reply
-
--- what a host over a node may do: its seat's list is legal and begins with the one before, and the reply is of that list
-abbrev pub MayReply : List Op → Request → Reply → List Op → Type 0
-MayReply old request answer new = (is_legal new ≡ true) × IsPrefix old new × IsReplyTo new request (reply_seen answer)
+-- what a host over a node of this log may do: its seat's list is legal and begins with the one before, and the reply is so
+abbrev pub MayReply : ConfigValue → List Op → Request → Reply → List Op → Type 0
+MayReply config old request answer new = (is_legal new ≡ true) × IsPrefix old new × IsReplyTo config old new request (reply_seen answer)

@@ -27,6 +27,10 @@ impl NetFault {
 }
 
 impl From<AllocError> for NetFault {
+    ghost use Rattle.hk_net.specs.declared.fault.NetFault.TheVariants.{Memory};
+
+    ghost from_gives = { λ _ e. e ≡ Memory };
+
     fn from(_error: AllocError) -> NetFault {
         NetFault::Memory
     }

@@ -1,18 +1,18 @@
 //! A host over a running node and one seat of it.
 
-ghost use Rattle.std.specs.Prelude.{◌≡◌, true, Some, None, Option, IfOk, OnOk};
+ghost use Rattle.std.specs.Prelude.{◌≡◌, true, Some};
 ghost use Rattle.std.specs.Thread.{IsSync};
 ghost use mathlib.Core.List.{IsPrefix};
-ghost use Rattle.hk_types.specs.Values.{ConfigValue};
 ghost use Rattle.hk_model.specs.Replica.Rules.{gather_result};
+ghost use Rattle.hk_delta.specs.Gathers.{Gathers};
 ghost use Rattle.hk_wire.specs.Replies.{reply_seen};
 ghost use Rattle.hk_session.specs.Steps.{query_reply, fragment_reply};
 ghost use Rattle.hk_node.specs.declared.op.Op.{Op};
 ghost use Rattle.hk_node.specs.declared.op.Op.TheVariants.{Join, Prune as PruneTo};
 ghost use Rattle.hk_node.specs.Lists.{last_of};
-ghost use Rattle.hk_node.specs.Replay.{config_of, is_legal, replay};
+ghost use Rattle.hk_node.specs.Replay.{is_legal, replay};
 ghost use Rattle.hk_node.specs.Replies.{node_delta, node_front, node_reply, node_whole};
-ghost use Rattle.hk_net.specs.Replying.{IsChangeReply, IsOrOutOfMemory, MayReply, front_reply, join_of};
+ghost use Rattle.hk_net.specs.Replying.{IsChangeReply, IsItemsReply, IsOrOutOfMemory, MayReply, front_reply};
 
 use hk_batch::{OpenGate, build};
 use hk_delta::{Fragment, fragment_of};
@@ -94,7 +94,7 @@ impl<'a, J: NodeName, N: Wait + Drop, R: Threads + Wait + Sync> NodeHost<'a, J, 
     fn learn(&mut self, receipt: Receipt<J>) -> Reply
         ensures legal { is_legal self.new ≡ true }
         ensures seen { IsPrefix self.old self.new }
-        ensures told { (op : Op) → last_of receipt ≡ Some op → IsChangeReply self.new (Some op) (reply_seen result) }
+        ensures told { (op : Op) → last_of receipt ≡ Some op → IsChangeReply J.config self.old self.new op (reply_seen result) }
     {
         let ops = receipt.ops();
         self.seat.learn(receipt);
@@ -105,7 +105,7 @@ impl<'a, J: NodeName, N: Wait + Drop, R: Threads + Wait + Sync> NodeHost<'a, J, 
     /// The one fragment that items make. A long list is gathered by several workers, which are waited for.
     fn gather(&self, items: &[Item]) -> Result<Fragment, Refusal>
         ensures legal { is_legal self.now ≡ true }
-        ensures gives { OnOk result (gather_result (config_of self.now) items.now ≡ result) }
+        ensures gives { Gathers J.config items.now result }
     {
         let config = self.seat.config();
         if items.len() < LONG_LIST {
@@ -117,7 +117,7 @@ impl<'a, J: NodeName, N: Wait + Drop, R: Threads + Wait + Sync> NodeHost<'a, J, 
     fn take_items(&mut self, items: &[Item]) -> Reply
         ensures legal { is_legal self.new ≡ true }
         ensures seen { IsPrefix self.old self.new }
-        ensures told { IsChangeReply self.new (join_of (gather_result (config_of self.new) items.now)) (reply_seen result) }
+        ensures told { IsItemsReply J.config self.old self.new (gather_result J.config items.now) (reply_seen result) }
     {
         match self.gather(items) {
             Ok(fragment) => self.join(fragment),
@@ -128,7 +128,7 @@ impl<'a, J: NodeName, N: Wait + Drop, R: Threads + Wait + Sync> NodeHost<'a, J, 
     fn join(&mut self, fragment: Fragment) -> Reply
         ensures legal { is_legal self.new ≡ true }
         ensures seen { IsPrefix self.old self.new }
-        ensures told { IsChangeReply self.new (Some (Join fragment)) (reply_seen result) }
+        ensures told { IsChangeReply J.config self.old self.new (Join fragment) (reply_seen result) }
     {
         match self.node.join(self.rt, fragment) {
             Ok(receipt) => self.learn(receipt),
@@ -139,7 +139,7 @@ impl<'a, J: NodeName, N: Wait + Drop, R: Threads + Wait + Sync> NodeHost<'a, J, 
     fn prune(&mut self, horizon: Time) -> Reply
         ensures legal { is_legal self.new ≡ true }
         ensures seen { IsPrefix self.old self.new }
-        ensures told { IsChangeReply self.new (Some (PruneTo horizon)) (reply_seen result) }
+        ensures told { IsChangeReply J.config self.old self.new (PruneTo horizon) (reply_seen result) }
     {
         match self.node.prune(self.rt, horizon) {
             Ok((_, receipt)) => self.learn(receipt),
@@ -193,7 +193,7 @@ impl<'a, J: NodeName, N: Wait + Drop, R: Threads + Wait + Sync> NodeHost<'a, J, 
 }
 
 impl<'a, J: NodeName, N: Wait + Drop, R: Threads + Wait + Sync> Host for NodeHost<'a, J, N, R> {
-    ghost may = { MayReply };
+    ghost may = { MayReply J.config };
 
     ghost ready = { λ _. IsSync R.row };
 

@@ -1,5 +1,6 @@
 -- Legal lists, and one more operation.
-use Rattle.std.proofs.Common.{◌≡◌, ◌≤◌, Bool, true, false, ◌&&◌, List, [], ◌∷◌, ◌++◌, length, Option, Some, None, fold, is_none, refl, ap, arith}
+use Rattle.std.proofs.Common.{◌≡◌, ◌≤◌, Bool, true, false, ◌&&◌, List, [], ◌∷◌, ◌++◌, length, Option, Some, None, fold, is_none, refl, ap, sym, arith}
+use mathlib.Core.List.{IsPrefix}
 use Rattle.hk_node.specs.declared.op.Op.{Op}
 use Rattle.hk_node.specs.declared.op.Op.TheVariants.{Start, Join, Merge, Prune, Hold as HoldAt, Release}
 use Rattle.hk_node.specs.NodeContent.{NodeContent}
@@ -51,6 +52,16 @@ config-snoc (Merge f ∷ xs) op h = absurd (cc)
 config-snoc (Prune t ∷ xs) op h = absurd (cc)
 config-snoc (HoldAt t ∷ xs) op h = absurd (cc)
 config-snoc (Release r t ∷ xs) op h = absurd (cc)
+
+-- a legal list and all that it goes on with is of the same log
+pub config_on : (xs ys : List Op) → IsPrefix xs ys → is_legal xs ≡ true → config_of ys ≡ config_of xs
+config_on [] ys p h = absurd (cc)
+config_on (Start config ∷ xs) ys p h = ap config_of (sym p.1)
+config_on (Join f ∷ xs) ys p h = absurd (cc)
+config_on (Merge f ∷ xs) ys p h = absurd (cc)
+config_on (Prune t ∷ xs) ys p h = absurd (cc)
+config_on (HoldAt t ∷ xs) ys p h = absurd (cc)
+config_on (Release r t ∷ xs) ys p h = absurd (cc)
 
 -- a legal list goes on with an operation that is not refused
 pub legal-snoc : (xs : List Op) (op : Op) → is_legal xs ≡ true → refusal_of (replay xs) op ≡ None → is_legal (xs ++ op ∷ []) ≡ true

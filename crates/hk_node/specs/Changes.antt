@@ -1,12 +1,13 @@
 -- What a change does to the published list and to what waits.
-use Rattle.std.specs.Prelude.{◌≡◌, ◌≢◌, ℕ, ◌+◌, ◌⊎◌, true, false, List, [], ◌∷◌, ◌++◌, length, Option, Some, None, Result, Ok, Err}
+use Rattle.std.specs.Prelude.{◌≡◌, ◌≢◌, ℕ, ◌+◌, ◌<◌, ◌⊎◌, true, false, List, [], ◌∷◌, ◌++◌, length, Option, Some, None, Result, Ok, Err}
+use Rattle.hk_types.specs.Values.{ConfigValue}
 use Rattle.hk_types.specs.declared.faults.Refusal.{Refusal}
 use Rattle.hk_types.specs.declared.faults.Refusal.TheVariants.{Conflict, Unpublished, Memory}
 use Rattle.hk_node.specs.declared.op.Op.{Op}
 use Rattle.hk_node.specs.declared.op.Hold.{Hold}
 use Rattle.hk_node.specs.declared.op.Op.TheVariants.{Hold as HoldAt}
 use Rattle.hk_node.specs.Lists.{hold_times, last_of}
-use Rattle.hk_node.specs.Replay.{replay, refusal_of, is_legal}
+use Rattle.hk_node.specs.Replay.{replay, refusal_of, is_legal, IsListOf}
 
 -- the published list, and what waits: at most one operation
 abbrev pub Lists : Type 0
@@ -28,10 +29,11 @@ IsMade old op new = new ≡ (all_of old ++ op ∷ [], [])
 abbrev pub IsWaiting : Lists → Op → Lists → Type 0
 IsWaiting old op new = new ≡ (all_of old, op ∷ [])
 
--- a refusal of a change: memory ran out, with nothing changed where what waited could not be published; the
--- operation waits, and has the number that is named; a conflict, and the node is damaged; or one of its tests
+-- a refusal of a change: memory ran out, with nothing changed where something waited and could not be published, else
+-- once its tests had passed; the operation waits, and has the number that is named; a conflict, and the node is
+-- damaged; or one of its tests
 abbrev pub Refuses : Lists → Op → Refusal → Lists → Type 0
-Refuses old op Memory new = (new ≡ old) ⊎ ((refusal_of (replay (all_of old)) op ≡ None) × IsCaughtUp old new)
+Refuses old op Memory new = ((0 < length old.1) × (new ≡ old)) ⊎ ((refusal_of (replay (all_of old)) op ≡ None) × IsCaughtUp old new)
 Refuses old op (Unpublished n) new = (refusal_of (replay (all_of old)) op ≡ None) × IsWaiting old op new × (n ≡ length (all_of old) + 1)
 Refuses old op Conflict new = (refusal_of (replay (all_of old)) op ≡ None) × IsMade old op new × ((replay (all_of old ++ op ∷ [])).damaged ≡ true)
 Refuses old op why new = (refusal_of (replay (all_of old)) op ≡ Some why) × IsCaughtUp old new
@@ -41,9 +43,19 @@ abbrev pub Changes : Lists → Op → Result (List Op) Refusal → Lists → Typ
 Changes old op (Ok told) new = (refusal_of (replay (all_of old)) op ≡ None) × IsMade old op new × (told ≡ all_of old ++ op ∷ []) × ((replay (all_of old ++ op ∷ [])).damaged ≡ false)
 Changes old op (Err why) new = Refuses old op why new
 
--- what a change answers at some legal list, whichever it was when the lock was got
-abbrev pub ChangesSome : Op → Result (List Op) Refusal → Type 0
-ChangesSome op result = (old : Lists) × (new : Lists) × (is_legal (all_of old) ≡ true) × Changes old op result new
+-- what a change answers at some legal list of this log, whichever it was when the lock was got
+abbrev pub ChangesSome : ConfigValue → Op → Result (List Op) Refusal → Type 0
+ChangesSome config op result = (old : Lists) × (new : Lists) × IsListOf config (all_of old) × Changes old op result new
+
+-- a publish: what waited was published, and the receipt names the whole list; or memory ran out with nothing changed,
+-- where something waits
+abbrev pub Publishes : Lists → Result (List Op) Refusal → Lists → Type 0
+Publishes old (Ok told) new = IsCaughtUp old new × (told ≡ all_of old)
+Publishes old (Err why) new = (why ≡ Memory) × (0 < length old.1) × (new ≡ old)
+
+-- what a publish answers at some legal list of this log
+abbrev pub PublishesSome : ConfigValue → Result (List Op) Refusal → Type 0
+PublishesSome config result = (old : Lists) × (new : Lists) × IsListOf config (all_of old) × Publishes old result new
 
 -- a hold of this time, with the number of the last hold of a list
 abbrev pub IsGiven : Hold → ℕ → List Op → Type 0
@@ -53,6 +65,10 @@ IsGiven hold time ops = (hold.at ≡ time) × (hold.reader ≡ length (hold_time
 abbrev pub IsHandedOut : List Op → ℕ → Option Hold → Refusal → Type 0
 IsHandedOut ops time (Some hold) why = (is_legal ops ≡ true) × (last_of ops ≡ Some (HoldAt time)) × IsGiven hold time ops × (why ≡ Unpublished (length ops))
 IsHandedOut ops time None why = (n : ℕ) → why ≢ Unpublished n
+
+-- a hold of this time was refused at some legal list of this log, and was handed out where it waits behind that list
+abbrev pub IsRefusedHold : ConfigValue → ℕ → Option Hold → Refusal → Type 0
+IsRefusedHold config time hold why = (old : Lists) × (new : Lists) × IsListOf config (all_of old) × Changes old (HoldAt time) (Err why) new × IsHandedOut (all_of new) time hold why
 
 -- a hold is handed back with each refusal but one that says that its release waits
 abbrev pub IsHandedBack : Hold → Option Hold → Refusal → Type 0

@@ -4,11 +4,12 @@ use mathlib.Core.Option.{some}
 use mathlib.Core.List.{IsPrefix}
 use lib.ListN.{get_elem?}
 use Rattle.logbook.specs.Pages.{Book}
+use Rattle.hk_types.specs.Values.{ConfigValue}
 use Rattle.hk_node.specs.declared.op.Op.{Op}
 use Rattle.hk_node.specs.declared.replica.Replica.{Replica}
 use Rattle.hk_node.specs.declared.replica.Logged.{Logged}
 use Rattle.hk_node.specs.Book.{no_book}
-use Rattle.hk_node.specs.Replay.{content_after_op, replay, is_legal}
+use Rattle.hk_node.specs.Replay.{content_after_op, config_of, replay, is_legal}
 
 -- what a reader or the writer knows: of which node, and which operations
 abbrev pub View : Type 0
@@ -52,8 +53,10 @@ pub record IsReady (shown : Replica) (waiting : List Logged) : Type 0 where
   pub same : shown.prefix.0 ≡ (fold next shown waiting).prefix.0
 
 -- the published copy, and what waits
-pub record IsPublisher (book counter : Book) (shown : Replica) (waiting : List Logged) : Type 0 where
+pub record IsPublisher (book : Book) (config : ConfigValue) (counter : Book) (shown : Replica) (waiting : List Logged) : Type 0 where
   pub name : shown.prefix.0 ≡ book
+  pub config_shown : config_of shown.prefix.1 ≡ config
+  pub config_all : config_of (fold next shown waiting).prefix.1 ≡ config
   pub counted : counter ≡ book
   pub published : IsReplay shown
   pub list : (fold next shown waiting).prefix ≡ (book, shown.prefix.1 ++ ops_of waiting)

@@ -1,5 +1,5 @@
 -- What a list of operations comes to, and which lists are legal.
-use Rattle.std.specs.Prelude.{ℕ, ◌+◌, ◌^◌, Bool, true, false, not, ◌&&◌, ◌||◌, ◌==◌, nat_lt, min, if◌then◌else◌, List, [], ◌∷◌, ◌++◌, length, fold, filter, Option, Some, None, Result, Ok, Err, is_none}
+use Rattle.std.specs.Prelude.{ℕ, ◌≡◌, ◌+◌, ◌^◌, Bool, true, false, not, ◌&&◌, ◌||◌, ◌==◌, nat_lt, min, if◌then◌else◌, List, [], ◌∷◌, ◌++◌, length, fold, filter, Option, Some, None, Result, Ok, Err, is_none}
 use Rattle.std.specs.List.{list_any}
 use Rattle.hk_types.specs.Values.{ConfigValue}
 use Rattle.hk_types.specs.declared.faults.Refusal.{Refusal}
@@ -143,3 +143,7 @@ legal_from c (op ∷ ops) = is_none (refusal_of c op) && legal_from (content_aft
 abbrev pub is_legal : List Op → Bool
 is_legal (Start config ∷ ops) = legal_from (start_content config) ops
 is_legal _ = false
+
+-- a legal list of a node of this log
+abbrev pub IsListOf : ConfigValue → List Op → Type 0
+IsListOf config ops = (is_legal ops ≡ true) × (config_of ops ≡ config)

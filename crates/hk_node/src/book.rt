@@ -68,17 +68,22 @@ impl Plain<Op, Op, u64> for Add {
     ghost state = { λ op. None };
 }
 
-/// Which node it is: a name that exists in the proofs alone.
+/// Which node it is, and of which log: a name that exists in the proofs alone.
 pub trait NodeName {
     ghost use Rattle.logbook.specs.Pages.{Book};
+    ghost use Rattle.hk_types.specs.Values.{ConfigValue};
 
     ghost book: { Book };
+
+    ghost config: { ConfigValue };
 }
 
 impl NodeName for Brand {
-    ghost use Rattle.hk_node.specs.Book.{no_book};
+    ghost use Rattle.hk_node.specs.Book.{no_book, no_config};
 
     ghost book = { no_book };
+
+    ghost config = { no_config };
 }
 
 /// The word that counts a node's operations after the first.

@@ -1,18 +1,17 @@
 //! How a change runs, and what every node obeys.
 
-ghost use Rattle.std.specs.Prelude.{◌≡◌, Some, Ok, Err, true, IfOk, IfErr, MatchResult};
+ghost use Rattle.std.specs.Prelude.{◌≡◌, ◌≤◌, Some, Ok, Err, true, length, IfOk, IfErr, MatchResult};
 ghost use Rattle.hk_model.specs.Replica.Fragments.{cut};
 ghost use Rattle.hk_node.specs.declared.op.Op.TheVariants.{Hold as HoldAt, Merge as MergeOf, Prune as PruneTo, Release};
 ghost use Rattle.hk_node.specs.Carried.{CarryLaw};
-ghost use Rattle.hk_node.specs.Changes.{all_of, Changes, IsGiven, IsHandedBack, IsHandedOut, Refuses};
+ghost use Rattle.hk_node.specs.Changes.{all_of, Changes, IsGiven, IsHandedBack, IsHandedOut, Publishes, Refuses};
 ghost use Rattle.hk_node.specs.Holds.{HoldLaw};
 ghost use Rattle.hk_node.specs.Lists.{last_of};
-ghost use Rattle.hk_node.specs.Replay.{is_legal, replay};
+ghost use Rattle.hk_node.specs.Replay.{is_legal, replay, IsListOf};
 
 use crate::book::NodeName;
-use crate::node::Receipt;
 use crate::op::{Hold, Op};
-use crate::publisher::Publisher;
+use crate::publisher::{Publisher, Receipt};
 use hk_delta::Fragment;
 use hk_state::ReplicaState;
 use hk_types::{Refusal, Time};
@@ -20,7 +19,8 @@ use std::sync::Wait;
 
 /// One change, at what lies under the writer's lock: every change of a node runs by this function.
 ///
-/// What waits is published first; where that is refused, it is `Memory` and nothing changed. Then the operation is
+/// What waits is published first; where that is refused, it is `Memory` and nothing changed: at no other time does
+/// `Memory` come before the tests, and at most one operation waits. Then the operation is
 /// tested after all others, and its refusal answered. Then it is added and published: `Memory` where it could not be
 /// added; `Unpublished` with its number where it could not be published, and then it waits, and the next publish shows
 /// it; `Conflict` where it met a conflict, which damages the node for good. Cost: that of the operation, and of what
@@ -31,7 +31,8 @@ pub fn change<J: NodeName, R: Wait + Drop>(
     op: Op,
 ) -> Result<Receipt<J>, Refusal>
     ensures change { Changes publisher.old op result publisher.new }
-    ensures before { is_legal (all_of publisher.old) ≡ true }
+    ensures few { length publisher.new.1 ≤ 1 }
+    ensures before { IsListOf J.config (all_of publisher.old) }
     ensures legal { IfOk result (λ list. is_legal list ≡ true) }
     ensures last { IfOk result (λ list. last_of list ≡ Some op) }
 {
@@ -55,6 +56,21 @@ pub fn change<J: NodeName, R: Wait + Drop>(
     Ok(publisher.receipt())
 }
 
+/// A publish, at what lies under the writer's lock: what waits is published, and the receipt names the whole list. The
+/// only refusal is `Memory`, where something waits, and it changes nothing. Cost: that of what waits.
+pub fn publish_waiting<J: NodeName, R: Wait + Drop>(
+    publisher: &mut Publisher<J, R>,
+) -> Result<Receipt<J>, Refusal>
+    ensures publish { Publishes publisher.old result publisher.new }
+    ensures before { IsListOf J.config (all_of publisher.old) }
+    ensures legal { IfOk result (λ list. is_legal list ≡ true) }
+{
+    match publisher.publish() {
+        Ok(()) => Ok(publisher.receipt()),
+        Err(_) => Err(Refusal::Memory),
+    }
+}
+
 /// A merge of a state, at what lies under the writer's lock, with the whole of the state or the refusal of memory for
 /// it: it runs as `change`, also where the whole could not be made. Cost: that of `change`.
 pub fn merge_whole<J: NodeName, R: Wait + Drop>(
@@ -64,7 +80,7 @@ pub fn merge_whole<J: NodeName, R: Wait + Drop>(
 ) -> Result<Receipt<J>, Refusal>
     requires whole { IfOk whole (λ fragment. fragment ≡ cut state.now 0) }
     ensures change { Changes publisher.old (MergeOf (cut state.now 0)) result publisher.new }
-    ensures before { is_legal (all_of publisher.old) ≡ true }
+    ensures before { IsListOf J.config (all_of publisher.old) }
     ensures legal { IfOk result (λ list. is_legal list ≡ true) }
     ensures last { IfOk result (λ list. last_of list ≡ Some (MergeOf (cut state.now 0))) }
 {
@@ -80,7 +96,7 @@ fn refusal_of_merge<J: NodeName, R: Wait + Drop>(
     state: &ReplicaState,
 ) -> Refusal
     ensures refuses { Refuses publisher.old (MergeOf (cut state.now 0)) result publisher.new }
-    ensures before { is_legal (all_of publisher.old) ≡ true }
+    ensures before { IsListOf J.config (all_of publisher.old) }
 {
     if publisher.publish().is_err() {
         return Refusal::Memory;
@@ -99,7 +115,7 @@ pub fn prune_to<J: NodeName, R: Wait + Drop>(
 ) -> Result<(Time, Receipt<J>), Refusal>
     ensures change { MatchResult result (λ t. Changes publisher.old (PruneTo time) (Ok t.1) publisher.new)
         (λ why. Changes publisher.old (PruneTo time) (Err why) publisher.new) }
-    ensures before { is_legal (all_of publisher.old) ≡ true }
+    ensures before { IsListOf J.config (all_of publisher.old) }
     ensures legal { IfOk result (λ t. is_legal t.1 ≡ true) }
     ensures last { IfOk result (λ t. last_of t.1 ≡ Some (PruneTo time)) }
     ensures horizon { IfOk result (λ t. t.0 ≡ (replay t.1).content.horizon) }
@@ -117,7 +133,7 @@ pub fn hold_at<J: NodeName, R: Wait + Drop>(
 ) -> Result<(Hold, Receipt<J>), (Option<Hold>, Refusal)>
     ensures change { MatchResult result (λ t. Changes publisher.old (HoldAt time) (Ok t.1) publisher.new)
         (λ e. Changes publisher.old (HoldAt time) (Err e.1) publisher.new) }
-    ensures before { is_legal (all_of publisher.old) ≡ true }
+    ensures before { IsListOf J.config (all_of publisher.old) }
     ensures legal { IfOk result (λ t. is_legal t.1 ≡ true) }
     ensures last { IfOk result (λ t. last_of t.1 ≡ Some (HoldAt time)) }
     ensures hold { IfOk result (λ t. IsGiven t.0 time t.1) }
@@ -148,7 +164,7 @@ pub fn release_hold<J: NodeName, R: Wait + Drop>(
     ensures change { MatchResult result
         (λ list. Changes publisher.old (Release hold.reader hold.at) (Ok list) publisher.new)
         (λ e. Changes publisher.old (Release hold.reader hold.at) (Err e.1) publisher.new) }
-    ensures before { is_legal (all_of publisher.old) ≡ true }
+    ensures before { IsListOf J.config (all_of publisher.old) }
     ensures legal { IfOk result (λ list. is_legal list ≡ true) }
     ensures last { IfOk result (λ list. last_of list ≡ Some (Release hold.reader hold.at)) }
     ensures back { IfErr result (λ e. IsHandedBack hold e.0 e.1) }

@@ -2,86 +2,34 @@
 
 ghost use Rattle.std.specs.Prelude.{◌≡◌, ◌∷◌, [], ◌<◌, ◌≤◌, List, All, Some, true, length, Ok, Err, IfOk, IfErr, MatchResult, vec_len};
 ghost use Rattle.hk_types.specs.declared.faults.Refusal.TheVariants.{Memory};
-ghost use Rattle.hk_node.specs.Changes.{ChangesSome, IsGiven, IsHandedBack, IsHandedOut};
-ghost use Rattle.hk_node.specs.declared.op.Op.{Op as OpValue};
+ghost use Rattle.hk_node.specs.Changes.{ChangesSome, IsGiven, IsHandedBack, IsRefusedHold, PublishesSome};
 ghost use Rattle.hk_model.specs.Replica.Fragments.{cut};
 ghost use Rattle.hk_node.specs.declared.op.Op.TheVariants.{Start as StartOf, Join as JoinOf, Merge as MergeOf, Prune as PruneTo, Hold as HoldAt, Release};
 ghost use Rattle.hk_node.specs.Lists.{last_of};
 ghost use Rattle.hk_node.specs.Replay.{is_legal, replay};
 
-use crate::book::{NewList, NodeName, Prefix};
-use crate::laws::{change, hold_at, merge_whole, prune_to, release_hold};
+use crate::book::{NewList, NodeName};
+use crate::laws::{change, hold_at, merge_whole, prune_to, publish_waiting, release_hold};
 use crate::op::{Hold, Op};
-use crate::publisher::{Publisher, copies_of};
+use crate::publisher::{Publisher, Receipt, copies_of};
 use crate::seat::{ReaderSeat, seats_of};
 use hk_delta::{Fragment, whole_of};
 use hk_state::ReplicaState;
 use hk_types::{Refusal, Time};
 use std::alloc::Global;
-use std::marker::{Model, PhantomData};
 use std::sync::{Mutex, Wait};
-
-/// What a change hands out. Contracts see it as the list of operations that ends with the change.
-#[derive(Drop)]
-pub struct Receipt<J: NodeName> {
-    prefix: Prefix,
-    of: PhantomData<J>,
-}
-
-impl<J: NodeName> Model for Receipt<J> {
-    ghost use Rattle.std.specs.Prelude.{◌≡◌, List};
-    ghost use Rattle.hk_node.specs.declared.op.Op.{Op};
-    ghost use Rattle.std.specs.Coded.{coded_list};
-    ghost use Rattle.hk_node.specs.contracts.op.Op as op;
-
-    ghost Value = { List Op };
-
-    ghost coded = { coded_list op.the_row.coded };
-
-    ghost view = { λ r. r.prefix.1 };
-
-    ghost invariant = { λ r. r.prefix.0 ≡ J.book };
-}
-
-impl<J: NodeName> Receipt<J> {
-    pub(crate) fn of(prefix: Prefix) -> Receipt<J>
-        requires { prefix.0 ≡ J.book }
-        ensures { result ≡ prefix.1 }
-    {
-        Receipt {
-            prefix,
-            of: PhantomData,
-        }
-    }
-
-    pub(crate) fn into_prefix(self) -> Prefix
-        ensures list { result.1 ≡ self }
-        ensures node { result.0 ≡ J.book }
-    {
-        let Receipt { prefix, of: _ } = self;
-        prefix
-    }
-
-    /// The number of its operations. It takes no memory.
-    pub fn ops(&self) -> u64
-        ensures length { result ≡ length self.now }
-        ensures legal { is_legal self.now ≡ true }
-    {
-        self.prefix.len()
-    }
-}
 
 /// Starts a node with so many places for readers, 1 to 64, and gives a seat for each. Its list has the start alone.
 ///
-/// The list is a new one, which names the node: `J` is this name, by which a receipt of another node is none of this
-/// one's. The only refusal is `Memory`. Cost: O(s + p²), s streams, p places.
+/// The list is a new one, which names the node: `J` is this name, with the log that the node is of, by which a receipt of
+/// another node is none of this one's. The only refusal is `Memory`. Cost: O(s + p²), s streams, p places.
 pub fn start<J: NodeName, R: Wait + Drop>(
     rt: R,
     alloc: Global,
     list: NewList,
     places: usize,
 ) -> Result<(Node<J, R>, Vec<ReaderSeat<J>>), Refusal>
-    requires name { list.0 ≡ J.book }
+    requires name { list ≡ (J.book, J.config) }
     requires places { (0 < places) × (places ≤ 64) }
     ensures places { IfOk result (λ t. vec_len t.1 ≡ places) }
     ensures seats { IfOk result (λ t. All (λ seat. seat ≡ StartOf list.1 ∷ []) t.1.items) }
@@ -125,7 +73,7 @@ impl<J: NodeName, R: Wait + Drop> Node<J, R> {
     /// fragment into a state, and O(h), h holds that stand.
     pub fn join<W: Wait>(&self, rt: &W, fragment: Fragment) -> Result<Receipt<J>, Refusal>
         ensures legal { IfOk result (λ list. is_legal list ≡ true) }
-        ensures change { ChangesSome (JoinOf fragment) result }
+        ensures change { ChangesSome J.config (JoinOf fragment) result }
         ensures last { IfOk result (λ list. last_of list ≡ Some (JoinOf fragment)) }
     {
         let mut publisher = self.publisher.lock(rt);
@@ -136,7 +84,7 @@ impl<J: NodeName, R: Wait + Drop> Node<J, R> {
     /// is taken. Cost: that of the whole of the state, and of `join`.
     pub fn merge<W: Wait>(&self, rt: &W, state: &ReplicaState) -> Result<Receipt<J>, Refusal>
         ensures legal { IfOk result (λ list. is_legal list ≡ true) }
-        ensures change { ChangesSome (MergeOf (cut state.now 0)) result }
+        ensures change { ChangesSome J.config (MergeOf (cut state.now 0)) result }
         ensures last { IfOk result (λ list. last_of list ≡ Some (MergeOf (cut state.now 0))) }
     {
         let whole = whole_of(self.alloc, state);
@@ -152,8 +100,8 @@ impl<J: NodeName, R: Wait + Drop> Node<J, R> {
     /// front of a seat that learnt it has the horizon. Cost: that of pruning a state, and O(h), h holds that stand.
     pub fn prune<W: Wait>(&self, rt: &W, time: Time) -> Result<(Time, Receipt<J>), Refusal>
         ensures legal { IfOk result (λ t. is_legal t.1 ≡ true) }
-        ensures change { MatchResult result (λ t. ChangesSome (PruneTo time) (Ok t.1))
-            (λ why. ChangesSome (PruneTo time) (Err why)) }
+        ensures change { MatchResult result (λ t. ChangesSome J.config (PruneTo time) (Ok t.1))
+            (λ why. ChangesSome J.config (PruneTo time) (Err why)) }
         ensures last { IfOk result (λ t. last_of t.1 ≡ Some (PruneTo time)) }
         ensures horizon { IfOk result (λ t. t.0 ≡ (replay t.1).content.horizon) }
     {
@@ -172,11 +120,10 @@ impl<J: NodeName, R: Wait + Drop> Node<J, R> {
         time: Time,
     ) -> Result<(Hold, Receipt<J>), (Option<Hold>, Refusal)>
         ensures legal { IfOk result (λ t. is_legal t.1 ≡ true) }
-        ensures change { MatchResult result (λ t. ChangesSome (HoldAt time) (Ok t.1))
-            (λ e. ChangesSome (HoldAt time) (Err e.1)) }
+        ensures change { MatchResult result (λ t. ChangesSome J.config (HoldAt time) (Ok t.1))
+            (λ e. IsRefusedHold J.config time e.0 e.1) }
         ensures last { IfOk result (λ t. last_of t.1 ≡ Some (HoldAt time)) }
         ensures hold { IfOk result (λ t. IsGiven t.0 time t.1) }
-        ensures waits { IfErr result (λ e. (ops : List OpValue) × IsHandedOut ops time e.0 e.1) }
     {
         let mut publisher = self.publisher.lock(rt);
         hold_at(&mut *publisher, time)
@@ -192,8 +139,9 @@ impl<J: NodeName, R: Wait + Drop> Node<J, R> {
         hold: Hold,
     ) -> Result<Receipt<J>, (Option<Hold>, Refusal)>
         ensures legal { IfOk result (λ list. is_legal list ≡ true) }
-        ensures change { MatchResult result (λ list. ChangesSome (Release hold.reader hold.at) (Ok list))
-            (λ e. ChangesSome (Release hold.reader hold.at) (Err e.1)) }
+        ensures change { MatchResult result
+            (λ list. ChangesSome J.config (Release hold.reader hold.at) (Ok list))
+            (λ e. ChangesSome J.config (Release hold.reader hold.at) (Err e.1)) }
         ensures last { IfOk result (λ list. last_of list ≡ Some (Release hold.reader hold.at)) }
         ensures back { IfErr result (λ e. IsHandedBack hold e.0 e.1) }
     {
@@ -201,16 +149,14 @@ impl<J: NodeName, R: Wait + Drop> Node<J, R> {
         release_hold(&mut *publisher, hold)
     }
 
-    /// Publishes what waits, and gives a receipt of the list. The only refusal is `Memory`, and then what waits still
-    /// waits. It answers in a damaged node too. Cost: that of the operation that waits.
+    /// Publishes what waits, and gives a receipt of the list. The only refusal is `Memory`, which comes only where
+    /// something waits, and then it still waits. It answers in a damaged node too. Cost: that of the operation that waits.
     pub fn publish<W: Wait>(&self, rt: &W) -> Result<Receipt<J>, Refusal>
         ensures legal { IfOk result (λ list. is_legal list ≡ true) }
+        ensures publish { PublishesSome J.config result }
         ensures err { IfErr result (λ why. why ≡ Memory) }
     {
         let mut publisher = self.publisher.lock(rt);
-        if publisher.publish().is_err() {
-            return Err(Refusal::Memory);
-        }
-        Ok(publisher.receipt())
+        publish_waiting(&mut *publisher)
     }
 }

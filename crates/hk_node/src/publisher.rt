@@ -1,14 +1,13 @@
 //! What lies under the writer's lock: the copies, and the operation that waits.
 
-ghost use Rattle.std.specs.Prelude.{◌≡◌, ◌++◌, ◌∷◌, [], drop, fold, None, true, MatchResult, IfOk, IfErr, IfSome, IsTrue, ◌<◌, ◌≤◌, ◌^◌};
+ghost use Rattle.std.specs.Prelude.{◌≡◌, ◌++◌, ◌∷◌, [], drop, fold, length, None, true, MatchResult, IfOk, IfErr, IfSome, IsTrue, OnErr, ◌<◌, ◌≤◌, ◌^◌};
 ghost use Rattle.left_right.specs.Sides.{view as known};
 ghost use Rattle.hk_node.specs.declared.op.Op.TheVariants.{Start as StartOf};
 ghost use Rattle.hk_types.specs.declared.faults.Refusal.TheVariants.{Memory};
-ghost use Rattle.hk_node.specs.Replay.{start_content, is_legal, join_refusal, refusal_of, replay};
+ghost use Rattle.hk_node.specs.Replay.{config_of, start_content, is_legal, join_refusal, refusal_of, replay, IsListOf};
 ghost use Rattle.hk_node.specs.Published.{IsReady, IsReplay, next, queue};
 
 use crate::book::{Counter, NodeName, Prefix};
-use crate::node::Receipt;
 use crate::op::Op;
 use crate::replica::{Logged, Replica};
 use core::mem::replace_with;
@@ -63,6 +62,7 @@ fn publish_all<R: Wait>(
 ) -> Result<(), AllocError>
     requires { IsReady writer.old.desk.shown.value (queue (drop writer.old.behind writer.old.log.items) late.old) }
     ensures shown { MatchResult result (λ _. writer.new.desk.shown.value ≡ fold next writer.old.desk.shown.value (queue (drop writer.old.behind writer.old.log.items) late.old)) (λ _. writer.new.desk.shown.value ≡ writer.old.desk.shown.value) }
+    ensures waits { OnErr result (0 < length (queue (drop writer.old.behind writer.old.log.items) late.old)) }
     ensures queue { MatchResult result (λ _. queue (drop writer.new.behind writer.new.log.items) late.new ≡ []) (λ _. queue (drop writer.new.behind writer.new.log.items) late.new ≡ queue (drop writer.old.behind writer.old.log.items) late.old) }
 {
     if let Some(logged) = late.take() {
@@ -135,6 +135,49 @@ pub(crate) fn copies_of<R: Wait + Drop>(
     Ok(copies)
 }
 
+/// What a change hands out. Contracts see it as the list of operations that ends with the change. It is of a published
+/// list: `Publisher::receipt` alone makes one.
+#[derive(Drop)]
+pub struct Receipt<J: NodeName> {
+    prefix: Prefix,
+    of: PhantomData<J>,
+}
+
+impl<J: NodeName> Model for Receipt<J> {
+    ghost use Rattle.std.specs.Prelude.{◌≡◌, List};
+    ghost use Rattle.hk_node.specs.declared.op.Op.{Op};
+    ghost use Rattle.hk_node.specs.Replay.{config_of};
+    ghost use Rattle.std.specs.Coded.{coded_list};
+    ghost use Rattle.hk_node.specs.contracts.op.Op as op;
+
+    ghost Value = { List Op };
+
+    ghost coded = { coded_list op.the_row.coded };
+
+    ghost view = { λ r. r.prefix.1 };
+
+    ghost invariant = { λ r. (r.prefix.0 ≡ J.book) × (config_of r.prefix.1 ≡ J.config) };
+}
+
+impl<J: NodeName> Receipt<J> {
+    pub(crate) fn into_prefix(self) -> Prefix
+        ensures list { result.1 ≡ self }
+        ensures node { result.0 ≡ J.book }
+        ensures config { config_of result.1 ≡ J.config }
+    {
+        let Receipt { prefix, of: _ } = self;
+        prefix
+    }
+
+    /// The number of its operations. It takes no memory.
+    pub fn ops(&self) -> u64
+        ensures length { result ≡ length self.now }
+        ensures legal { IsListOf J.config self.now }
+    {
+        self.prefix.len()
+    }
+}
+
 /// What lies under the writer's lock. Contracts see it as the published list and what waits.
 #[derive(Drop)]
 pub struct Publisher<J: NodeName, R: Wait + Drop> {
@@ -158,12 +201,13 @@ impl<J: NodeName, R: Wait + Drop> Model for Publisher<J, R> {
 
     ghost view = { λ d. (d.copies.writer.desk.shown.value.prefix.1, ops_of (queue (drop d.copies.writer.behind d.copies.writer.log.items) d.late)) };
 
-    ghost invariant = { λ d. IsPublisher J.book d.counter.word.book d.copies.writer.desk.shown.value (queue (drop d.copies.writer.behind d.copies.writer.log.items) d.late) };
+    ghost invariant = { λ d. IsPublisher J.book J.config d.counter.word.book d.copies.writer.desk.shown.value (queue (drop d.copies.writer.behind d.copies.writer.log.items) d.late) };
 }
 
 impl<J: NodeName, R: Wait + Drop> Publisher<J, R> {
     /// What lies under the lock of a new node.
     pub(crate) fn new(copies: Copies<R>, counter: Counter, config: Config) -> Publisher<J, R>
+        requires config { config ≡ J.config }
         requires list { copies.writer.desk.shown.value.prefix.1 ≡ StartOf config ∷ [] }
         requires body { copies.writer.desk.shown.value.body ≡ start_content config }
         requires book { (copies.writer.desk.shown.value.prefix.0 ≡ J.book) × (counter.word.book ≡ J.book) }
@@ -178,11 +222,13 @@ impl<J: NodeName, R: Wait + Drop> Publisher<J, R> {
         }
     }
 
-    /// Publishes what waits. A refusal changes nothing. Cost: that of what waits.
+    /// Publishes what waits. A refusal changes nothing, and comes only where something waits. Cost: that of what waits.
     pub fn publish(&mut self) -> Result<(), AllocError>
         ensures lists { MatchResult result (λ _. self.new ≡ (self.old.0 ++ self.old.1, []))
             (λ _. self.new ≡ self.old) }
-        ensures legal { is_legal (self.old.0 ++ self.old.1) ≡ true }
+        ensures waits { OnErr result (0 < length self.old.1) }
+        ensures few { length self.old.1 ≤ 1 }
+        ensures legal { IsListOf J.config (self.old.0 ++ self.old.1) }
     {
         publish_all(&mut self.copies.writer, &mut self.late, &self.copies.rt)
     }
@@ -191,7 +237,7 @@ impl<J: NodeName, R: Wait + Drop> Publisher<J, R> {
     fn published(&self) -> &Replica
         ensures body { result.now.body ≡ replay self.now.0 }
         ensures prefix { result.now.prefix ≡ (J.book, self.now.0) }
-        ensures legal { is_legal self.now.0 ≡ true }
+        ensures legal { IsListOf J.config self.now.0 }
     {
         self.copies.writer.published()
     }
@@ -199,9 +245,13 @@ impl<J: NodeName, R: Wait + Drop> Publisher<J, R> {
     /// A receipt of the published list.
     pub fn receipt(&self) -> Receipt<J>
         ensures list { result ≡ self.now.0 }
-        ensures legal { is_legal result ≡ true }
+        ensures legal { IsListOf J.config result }
     {
-        Receipt::of(self.published().prefix.again())
+        let prefix = self.published().prefix.again();
+        Receipt {
+            prefix,
+            of: PhantomData,
+        }
     }
 
     /// How many holds the published list has.

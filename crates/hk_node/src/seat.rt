@@ -7,12 +7,11 @@ ghost use Rattle.left_right.specs.Sides.{view as known};
 ghost use Rattle.hk_node.specs.Carried.{IsOfPrimary};
 ghost use Rattle.hk_node.specs.Holds.{HoldsBack};
 ghost use Rattle.hk_node.specs.Published.{IsOf, IsReplay};
-ghost use Rattle.hk_node.specs.Replay.{config_of, is_legal, replay};
+ghost use Rattle.hk_node.specs.Replay.{config_of, is_legal, replay, IsListOf};
 ghost use Rattle.hk_node.specs.Replies.{Answers, GivesOrMemory, node_delta, node_front, node_reply, node_whole};
 
 use crate::book::{NodeName, Prefix};
-use crate::node::Receipt;
-use crate::publisher::{NodeReader, NodeReading, NodeWriter, Observes};
+use crate::publisher::{NodeReader, NodeReading, NodeWriter, Observes, Receipt};
 use crate::replica::Replica;
 use atomic_table::{Join, Split};
 use hk_delta::Fragment;
@@ -46,6 +45,7 @@ fn seat_of<J: NodeName>(
 ) -> Result<ReaderSeat<J>, AllocError>
     requires prefix { known writer.old.desk.place ≡ prefix.now }
     requires node { IsOf J.book prefix.now }
+    requires config { config_of prefix.now.1 ≡ J.config }
     ensures seat { IfOk result (λ seat. seat ≡ prefix.now.1) }
     ensures kept { (writer.new.desk.shown ≡ writer.old.desk.shown) × (writer.new.log ≡ writer.old.log) × (writer.new.behind ≡ writer.old.behind) × (known writer.new.desk.place ≡ known writer.old.desk.place) }
 {
@@ -63,6 +63,7 @@ pub(crate) fn seats_of<J: NodeName>(
 ) -> Result<Vec<ReaderSeat<J>>, AllocError>
     requires prefix { known writer.old.desk.place ≡ prefix.now }
     requires node { IsOf J.book prefix.now }
+    requires config { config_of prefix.now.1 ≡ J.config }
     ensures seats { IfOk result (λ v. (vec_len v ≡ places) × All (λ seat. seat ≡ prefix.now.1) v.items) }
     ensures kept { (writer.new.desk.shown ≡ writer.old.desk.shown) × (writer.new.log ≡ writer.old.log) × (writer.new.behind ≡ writer.old.behind) × (known writer.new.desk.place ≡ known writer.old.desk.place) }
 {
@@ -98,10 +99,11 @@ impl<J: NodeName> Model for ReaderSeat<J> {
     ghost coded = { coded_list op.the_row.coded };
 
     ghost use Rattle.hk_node.specs.Published.{IsOf};
+    ghost use Rattle.hk_node.specs.Replay.{config_of};
 
     ghost view = { λ s. s.prefix.1 };
 
-    ghost invariant = { λ s. (s.prefix.0 ≡ J.book) × MatchOption s.reader (Unit {0}) (λ r. IsOf J.book (known r.place)) };
+    ghost invariant = { λ s. (s.prefix.0 ≡ J.book) × (config_of s.prefix.1 ≡ J.config) × MatchOption s.reader (Unit {0}) (λ r. IsOf J.book (known r.place)) };
 }
 
 /// Takes in what a copy has seen, where it is no older than what was seen.
@@ -110,6 +112,7 @@ fn look(copy: &Replica, prefix: &mut Prefix) -> bool
     ensures node { prefix.new.0 ≡ prefix.old.0 }
     ensures seen { IsPrefix prefix.old.1 prefix.new.1 }
     ensures legal { is_legal prefix.new.1 ≡ true }
+    ensures config { config_of prefix.new.1 ≡ config_of prefix.old.1 }
     ensures copy { IsTrue result → prefix.new.1 ≡ copy.now.prefix.1 }
 {
     if !prefix.compare(&copy.prefix) {
@@ -122,6 +125,7 @@ fn look(copy: &Replica, prefix: &mut Prefix) -> bool
 impl<J: NodeName> ReaderSeat<J> {
     pub(crate) fn new(reader: NodeReader, prefix: Prefix, alloc: Global) -> ReaderSeat<J>
         requires node { prefix.0 ≡ J.book }
+        requires config { config_of prefix.1 ≡ J.config }
         requires reader { IsOf J.book (known reader.place) }
         ensures { result ≡ prefix.1 }
     {
@@ -261,7 +265,8 @@ impl<J: NodeName> ReaderSeat<J> {
 
     /// The log that the node is of. It takes no memory.
     pub fn config(&self) -> Config
-        ensures { result ≡ config_of self.now }
+        ensures list { result ≡ config_of self.now }
+        ensures node { result ≡ J.config }
     {
         self.prefix.config()
     }
@@ -269,7 +274,7 @@ impl<J: NodeName> ReaderSeat<J> {
     /// How many operations it has seen or was told of. It takes no memory.
     pub fn seen(&self) -> u64
         ensures length { result ≡ length self.now }
-        ensures legal { is_legal self.now ≡ true }
+        ensures legal { IsListOf J.config self.now }
     {
         self.prefix.len()
     }

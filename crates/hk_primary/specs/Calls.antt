@@ -1,5 +1,5 @@
 -- What calls on a primary leave and tell.
-use Rattle.std.specs.Prelude.{◌≡◌, ◌⊎◌, ◌<◌, ◌≤◌, ℕ, List, ◌∷◌, Option, Some, None, Result, Ok, Err, nat_lt, if◌then◌else◌}
+use Rattle.std.specs.Prelude.{◌≡◌, ◌⊎◌, ◌<◌, ◌≤◌, ℕ, List, ◌∷◌, Option, Some, None, Result, Ok, Err, length, nat_lt, if◌then◌else◌}
 use Rattle.std.specs.Option.{option_map}
 use Rattle.hk_types.specs.declared.faults.Refusal.{Refusal}
 use Rattle.hk_types.specs.declared.faults.Refusal.TheVariants.{Memory, NoStream, NotYet, Retired}
@@ -57,10 +57,11 @@ items_of (Some time) = 1
 abbrev pub no_config : ConfigValue
 no_config = record { log = 0; streams = 0 }
 
--- some primary of this configuration meets it, whose clock starts after this time and whose log holds items of its
--- own history alone
-abbrev pub AtSome : ConfigValue → ℕ → (PrimaryValue → Type 0) → Type 0
-AtSome config after P = (p : PrimaryValue) × IsHonest p × (p.config ≡ config) × (p.after ≡ after) × P p
+-- some primary of this configuration meets it, whose clock starts after this time, whose log holds items of its own
+-- history alone, and at least so many of them
+abbrev pub AtSome : ConfigValue → ℕ → ℕ → (PrimaryValue → Type 0) → Type 0
+AtSome config after least P = (p : PrimaryValue) × IsHonest p × (p.config ≡ config) × (p.after ≡ after)
+    × (least ≤ length p.items) × P p
 
 -- why a primary emits no mark of a stream, if it emits none: it has no such stream, or the stream is retired
 abbrev pub mark_refused : PrimaryValue → ℕ → Option Refusal

@@ -1,8 +1,8 @@
 //! Questions to a primary.
 
-ghost use Rattle.std.specs.Prelude.{◌≡◌, ◌≤◌, ◌<◌, ℕ, IfErr, IfOk, IsOk, OnOk};
+ghost use Rattle.std.specs.Prelude.{◌≡◌, ◌≤◌, ◌<◌, ℕ, None, IfErr, IfOk, IsOk, OnOk};
 ghost use Rattle.hk_types.specs.declared.faults.Refusal.TheVariants.{Memory, NotYet as Early};
-ghost use Rattle.hk_model.specs.Replica.Answers.{answer, answer_seen};
+ghost use Rattle.hk_model.specs.Replica.Answers.{One, answer, answer_seen};
 ghost use Rattle.hk_model.specs.History.Histories.{commits, table_at};
 ghost use Rattle.hk_model.specs.declared.query.Query.TheVariants.{Count};
 ghost use Rattle.hk_primary.specs.Calls.{readable_on};
@@ -15,7 +15,7 @@ impl Primary {
     /// What the primary answers to a query on the rows that the commits up to a time left.
     ///
     /// A time above what may be read (see `readable`) is refused `NotYet` with that time, and then `Memory` comes
-    /// where a growth was refused; a `Count` takes no memory. Cost: that of `readable`, and `Get` O(log n + b),
+    /// where a growth was refused; a `Count` and a row that is not there take no memory. Cost: that of `readable`, and `Get` O(log n + b),
     /// `Range` and `ByTag` O((1 + v) · log n + b), `Count` O((1 + k) · log n), n versions, v of them listed by the
     /// index, k keys of the table, b bytes of the bodies that are copied.
     pub fn ask(&self, time: Time, query: &Query) -> Result<Answer, Refusal>
@@ -28,6 +28,10 @@ impl Primary {
 
         // A count takes no memory.
         ensures count { (table : ℕ) → query.now ≡ Count table → time ≤ readable_on self.now → IsOk result }
+
+        // Nor does it to tell that there is no such row.
+        ensures absent { time ≤ readable_on self.now
+            → answer (table_at (commits self.now.history) time) query.now ≡ One None → IsOk result }
     {
         let readable = self.readable();
         if readable < time {

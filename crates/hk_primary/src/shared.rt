@@ -57,7 +57,7 @@ impl<K: Naming> Held<K> {
         stream: StreamNo,
     ) -> Result<Option<Time>, (Txn, Refusal)>
         requires { 0 < share.old.parts }
-        ensures told { AtSome K.config K.after (λ p. Tells (verdict_of p txn stream) result) }
+        ensures told { AtSome K.config K.after share.old.amount (λ p. Tells (verdict_of p txn stream) result) }
         ensures back { IfErr result (λ e. e.0 ≡ txn) }
         ensures parts { share.new.parts ≡ share.old.parts }
         ensures counted { IfOk result (λ time. share.new.amount ≡ share.old.amount + items_of time) }
@@ -65,6 +65,7 @@ impl<K: Naming> Held<K> {
     {
         let Held { primary, emitted } = self;
         let _kept = primary.last();
+        emitted.audit(share);
         let time = primary.commit(txn, stream)?;
         if time.is_some() {
             emitted.add(share, 1);
@@ -75,14 +76,15 @@ impl<K: Naming> Held<K> {
     /// Emits a mark, and counts it.
     fn mark(&mut self, share: &mut Share<K>, stream: StreamNo) -> Result<Mark, Refusal>
         requires { 0 < share.old.parts }
-        ensures told { IfOk result (λ mark. AtSome K.config K.after (λ p. mark ≡ mark_now p.config p.history stream)) }
+        ensures told { IfOk result (λ mark. AtSome K.config K.after share.old.amount (λ p. mark ≡ mark_now p.config p.history stream)) }
         ensures known { OnOk result (stream ≤ K.config.streams) }
-        ensures refused { IfErr result (λ why. AtSome K.config K.after (λ p. IsRefusal (mark_refused p stream) why)) }
+        ensures refused { IfErr result (λ why. AtSome K.config K.after share.old.amount (λ p. IsRefusal (mark_refused p stream) why)) }
         ensures parts { share.new.parts ≡ share.old.parts }
         ensures counted { OnOk result (share.new.amount ≡ share.old.amount + 1) }
         ensures kept { OnErr result (share.new.amount ≡ share.old.amount) }
     {
         let Held { primary, emitted } = self;
+        emitted.audit(share);
         let mark = primary.mark(stream)?;
         emitted.add(share, 1);
         Ok(mark)
@@ -91,14 +93,15 @@ impl<K: Naming> Held<K> {
     /// Retires a stream, and counts its last mark.
     fn retire(&mut self, share: &mut Share<K>, stream: StreamNo) -> Result<Mark, Refusal>
         requires { 0 < share.old.parts }
-        ensures told { IfOk result (λ mark. AtSome K.config K.after (λ p. mark ≡ retirement p.config p.history stream)) }
+        ensures told { IfOk result (λ mark. AtSome K.config K.after share.old.amount (λ p. mark ≡ retirement p.config p.history stream)) }
         ensures known { OnOk result (stream ≤ K.config.streams) }
-        ensures refused { IfErr result (λ why. AtSome K.config K.after (λ p. IsRefusal (mark_refused p stream) why)) }
+        ensures refused { IfErr result (λ why. AtSome K.config K.after share.old.amount (λ p. IsRefusal (mark_refused p stream) why)) }
         ensures parts { share.new.parts ≡ share.old.parts }
         ensures counted { OnOk result (share.new.amount ≡ share.old.amount + 1) }
         ensures kept { OnErr result (share.new.amount ≡ share.old.amount) }
     {
         let Held { primary, emitted } = self;
+        emitted.audit(share);
         let mark = primary.retire(stream)?;
         emitted.add(share, 1);
         Ok(mark)
@@ -106,7 +109,7 @@ impl<K: Naming> Held<K> {
 
     /// How many items were emitted, beside what a share counts.
     fn count(&mut self, share: &mut Share<K>) -> u64
-        ensures told { AtSome K.config K.after (λ p. result ≡ length p.items) }
+        ensures told { AtSome K.config K.after share.old.amount (λ p. result ≡ length p.items) }
         ensures parts { share.new.parts ≡ share.old.parts }
         ensures amount { share.new.amount ≡ share.old.amount }
         ensures bound { share.old.amount ≤ result }
@@ -196,21 +199,21 @@ impl<K: Naming> SharedPrimary<K> {
 
     /// The time of the last commit, else 0.
     pub fn last<R: Wait>(&self, rt: &R) -> Time
-        ensures { AtSome K.config K.after (λ p. result ≡ last (commits p.history)) }
+        ensures { AtSome K.config K.after 0 (λ p. result ≡ last (commits p.history)) }
     {
         self.held.lock(rt).primary.last()
     }
 
     /// The greatest time that may be read, as `Primary::readable` tells it.
     pub fn readable<R: Wait>(&self, rt: &R) -> Time
-        ensures { AtSome K.config K.after (λ p. result ≡ readable_on p) }
+        ensures { AtSome K.config K.after 0 (λ p. result ≡ readable_on p) }
     {
         self.held.lock(rt).primary.readable()
     }
 
     /// A transaction with no writes that reads at the time of the last commit.
     pub fn begin<R: Wait>(&self, rt: &R) -> Txn
-        ensures { AtSome K.config K.after (λ p. result ≡ no_writes (last (commits p.history))) }
+        ensures { AtSome K.config K.after 0 (λ p. result ≡ no_writes (last (commits p.history))) }
     {
         self.held.lock(rt).primary.begin()
     }
@@ -225,7 +228,8 @@ impl<K: Naming> SharedPrimary<K> {
         stream: StreamNo,
     ) -> Result<Option<Time>, (Txn, Refusal)>
         requires { 0 < share.old.parts }
-        ensures told { AtSome K.config K.after (λ p. Tells (verdict_of p txn stream) result) }
+        ensures told { AtSome K.config K.after share.old.amount
+            (λ p. Tells (verdict_of p txn stream) result) }
         ensures back { IfErr result (λ e. e.0 ≡ txn) }
         ensures parts { share.new.parts ≡ share.old.parts }
         ensures counted { IfOk result (λ time. share.new.amount ≡ share.old.amount + items_of time) }
@@ -243,10 +247,11 @@ impl<K: Naming> SharedPrimary<K> {
     ) -> Result<Mark, Refusal>
         requires { 0 < share.old.parts }
         ensures told { IfOk result
-            (λ mark. AtSome K.config K.after (λ p. mark ≡ mark_now p.config p.history stream)) }
+            (λ mark. AtSome K.config K.after share.old.amount
+            (λ p. mark ≡ mark_now p.config p.history stream)) }
         ensures known { OnOk result (stream ≤ K.config.streams) }
         ensures refused { IfErr result
-            (λ why. AtSome K.config K.after (λ p. IsRefusal (mark_refused p stream) why)) }
+            (λ why. AtSome K.config K.after share.old.amount (λ p. IsRefusal (mark_refused p stream) why)) }
         ensures parts { share.new.parts ≡ share.old.parts }
         ensures counted { OnOk result (share.new.amount ≡ share.old.amount + 1) }
         ensures kept { OnErr result (share.new.amount ≡ share.old.amount) }
@@ -263,10 +268,11 @@ impl<K: Naming> SharedPrimary<K> {
     ) -> Result<Mark, Refusal>
         requires { 0 < share.old.parts }
         ensures told { IfOk result
-            (λ mark. AtSome K.config K.after (λ p. mark ≡ retirement p.config p.history stream)) }
+            (λ mark. AtSome K.config K.after share.old.amount
+            (λ p. mark ≡ retirement p.config p.history stream)) }
         ensures known { OnOk result (stream ≤ K.config.streams) }
         ensures refused { IfErr result
-            (λ why. AtSome K.config K.after (λ p. IsRefusal (mark_refused p stream) why)) }
+            (λ why. AtSome K.config K.after share.old.amount (λ p. IsRefusal (mark_refused p stream) why)) }
         ensures parts { share.new.parts ≡ share.old.parts }
         ensures counted { OnOk result (share.new.amount ≡ share.old.amount + 1) }
         ensures kept { OnErr result (share.new.amount ≡ share.old.amount) }
@@ -276,7 +282,7 @@ impl<K: Naming> SharedPrimary<K> {
 
     /// How many items were emitted: no fewer than the share counts, and just as many where it is the whole.
     pub fn item_count<R: Wait>(&self, rt: &R, share: &mut Share<K>) -> u64
-        ensures told { AtSome K.config K.after (λ p. result ≡ length p.items) }
+        ensures told { AtSome K.config K.after share.old.amount (λ p. result ≡ length p.items) }
         ensures parts { share.new.parts ≡ share.old.parts }
         ensures amount { share.new.amount ≡ share.old.amount }
         ensures bound { share.old.amount ≤ result }
@@ -289,7 +295,7 @@ impl<K: Naming> SharedPrimary<K> {
     /// one history. The only refusal is `Memory`. Cost: that of `Primary::items`.
     pub fn items<R: Wait>(&self, rt: &R, from: u64) -> Result<Vec<Item>, Refusal>
         ensures ok { IfOk result
-            (λ items. AtSome K.config K.after (λ p. items.items ≡ drop (from - 1) p.items)) }
+            (λ items. AtSome K.config K.after 0 (λ p. items.items ≡ drop (from - 1) p.items)) }
         ensures err { IfErr result (λ why. why ≡ Memory) }
     {
         self.held.lock(rt).primary.items(from)
@@ -297,10 +303,10 @@ impl<K: Naming> SharedPrimary<K> {
 
     /// Answers a query at a time, as `Primary::ask` does. Cost: that of `Primary::ask`.
     pub fn ask<R: Wait>(&self, rt: &R, time: Time, query: &Query) -> Result<Answer, Refusal>
-        ensures told { IfOk result (λ a. AtSome K.config K.after
+        ensures told { IfOk result (λ a. AtSome K.config K.after 0
             (λ p. (answer_seen a ≡ answer (table_at (commits p.history) time) query.now)
             × (time ≤ readable_on p))) }
-        ensures refused { IfErr result (λ why. AtSome K.config K.after (λ p. NotAnswered p time why)) }
+        ensures refused { IfErr result (λ why. AtSome K.config K.after 0 (λ p. NotAnswered p time why)) }
     {
         let held = self.held.lock(rt);
         let readable = held.primary.readable();

@@ -1,10 +1,10 @@
 //! Answers on facts, at a time.
 
-ghost use Rattle.std.specs.Prelude.{◌≡◌, ℕ, IfOk, IfErr, IsOk};
+ghost use Rattle.std.specs.Prelude.{◌≡◌, ℕ, None, IfOk, IfErr, IsOk};
 ghost use Rattle.std.specs.FinMap as finmap;
 ghost use Rattle.hk_types.specs.declared.faults.Refusal.TheVariants.{Memory};
 ghost use Rattle.hk_model.specs.declared.query.Query.TheVariants.{Range, ByTag, Count};
-ghost use Rattle.hk_model.specs.Replica.Answers.{Rows, answer, answer_seen, visible};
+ghost use Rattle.hk_model.specs.Replica.Answers.{One, Rows, answer, answer_seen, visible};
 ghost use Rattle.hk_store.specs.Reads.{with_facts};
 
 use crate::rows::shown_rows;
@@ -21,7 +21,8 @@ fn get(
     table: Table,
     key: Key,
 ) -> Result<Option<Row>, AllocError>
-    ensures { IfOk result (λ row. row ≡ finmap.get (visible (with_facts facts.now) time) (record { table = table; key = key })) }
+    ensures ok { IfOk result (λ row. row ≡ finmap.get (visible (with_facts facts.now) time) (record { table = table; key = key })) }
+    ensures absent { finmap.get (visible (with_facts facts.now) time) (record { table = table; key = key }) ≡ None → IsOk result }
 {
     match facts.shown_at(table, key, time) {
         Some(row) => Ok(Some(row.copy(alloc)?)),
@@ -62,13 +63,14 @@ fn by_tag(
 
 /// The answer to a query on the rows that facts show at a time.
 ///
-/// The only refusal is `Memory`, and a `Count` takes no memory. Cost: `Get` O(log n + b), `Range`
+/// The only refusal is `Memory`. A `Count` and a row that is not there take no memory. Cost: `Get` O(log n + b), `Range`
 /// O(log n + k · log n + b), `ByTag` O(log n + v · log n + b), `Count` O(log n + k · log n), n facts, k keys of the
 /// range or of the table, v versions with the tag, b bytes of the bodies that are copied.
 pub fn answer_at(alloc: Global, facts: &Facts, time: Time, query: &Query) -> Result<Answer, Refusal>
     ensures ok { IfOk result (λ a. answer_seen a ≡ answer (visible (with_facts facts.now) time) query.now) }
     ensures err { IfErr result (λ why. why ≡ Memory) }
     ensures count { (table : ℕ) → query.now ≡ Count table → IsOk result }
+    ensures absent { answer (visible (with_facts facts.now) time) query.now ≡ One None → IsOk result }
 {
     match query {
         Query::Get { table, key } => Ok(Answer::One(get(alloc, facts, time, *table, *key)?)),

@@ -1,10 +1,10 @@
 //! Asking a state.
 
-ghost use Rattle.std.specs.Prelude.{◌≡◌, ◌⊎◌, ◌≢◌, ℕ, Ok, Err, IfErr, MatchResult};
+ghost use Rattle.std.specs.Prelude.{◌≡◌, ◌⊎◌, ◌≢◌, ℕ, Ok, Err, None, IsOk, IfErr, MatchResult};
 ghost use Rattle.hk_types.specs.declared.faults.Refusal.TheVariants.{Memory};
 ghost use Rattle.hk_model.specs.declared.query.Query.TheVariants.{Count};
 ghost use Rattle.hk_query.specs.Primary.{IsOfPrimary};
-ghost use Rattle.hk_model.specs.Replica.Answers.{answer, answer_seen, reply, visible};
+ghost use Rattle.hk_model.specs.Replica.Answers.{One, answer, answer_seen, reply, visible};
 
 use crate::answers::answer_at;
 use hk_model::{Answer, Query};
@@ -16,9 +16,10 @@ use std::alloc::Global;
 /// of a primary's log.
 ///
 /// A time below the horizon is refused `TooOld` with the horizon, one above the readable mark `NotYet` with
-/// that, and then `Memory` comes where a growth was refused; a `Count` takes no memory. Cost: `Get`
-/// O(log n + b), `Range` and `ByTag` O(log n + v · log n + b), `Count` O(log n + k · log n), n facts,
-/// v versions that the index lists, k keys of the table, b bytes of the bodies that are copied.
+/// that, and then `Memory` comes where a growth was refused; a `Count` and a row that is not there take no
+/// memory. Cost: `Get` O(log n + b), `Range` and `ByTag` O(log n + v · log n + b), `Count`
+/// O(log n + k · log n), n facts, v versions that the index lists, k keys of the table, b bytes of the bodies
+/// that are copied.
 pub fn ask(
     alloc: Global,
     state: &ReplicaState,
@@ -33,6 +34,9 @@ pub fn ask(
 
     // A count takes no memory.
     ensures count { (table : ℕ) → query.now ≡ Count table → IfErr result (λ why. why ≢ Memory) }
+
+    // Nor does it to tell that there is no such row.
+    ensures absent { reply state.now time query.now ≡ Ok (One None) → IsOk result }
 {
     let horizon = state.horizon();
     if time < horizon {

@@ -1,5 +1,5 @@
 -- A change that was settled, beside the host before it.
-use Rattle.std.proofs.Common.{◌≡◌, ◌^◌, ◌<◌, Bool, cond, Result, sym, ap, subst}
+use Rattle.std.proofs.Common.{◌≡◌, ◌^◌, ◌<◌, ◌⊎◌, Bool, ◌&&◌, is_ok, cond, Result, Ok, Err, sym, ap, subst, inl, inr}
 use Rattle.std.proofs.lemmas.Bool.{lt-ltb}
 use Rattle.hk_types.specs.declared.faults.Refusal.{Refusal}
 use Rattle.hk_types.specs.declared.faults.Refusal.TheVariants as refusals
@@ -7,12 +7,27 @@ use Rattle.hk_model.specs.Replica.Content.{Content}
 use Rattle.hk_wire.specs.declared.reply.Reply.{Reply}
 use Rattle.hk_wire.specs.Replies.{Refused}
 use Rattle.hk_session.specs.Values.{HostValue}
-use Rattle.hk_session.specs.Steps.{change_reply, change_step, IsGiven}
+use Rattle.hk_session.specs.Steps.{change_reply, change_step, has_room_for, IsGiven, Changes}
 
 -- the middle one is the host before, with another state
-pub settled_is : (h mid : HostValue) (given : Result Content Refusal) (r : Reply) (new : HostValue) → h.ops < 2 ^ 62 → mid ≡ record h { content = mid.content }
-    → IsGiven (record mid { content = h.content }) (change_reply (record mid { content = h.content }) given) r new → IsGiven h (change_step h given) r new
-settled_is h mid given r new lt same told =
+pub settled_is : {X : Type 0} (made : Result X Refusal) (h mid : HostValue) (given : Result Content Refusal) (r : Reply) (new : HostValue) → h.ops < 2 ^ 62 → mid ≡ record h { content = mid.content }
+    → IsGiven (is_ok made) (record mid { content = h.content }) (change_reply (record mid { content = h.content }) given) r new → IsGiven (has_room_for h made) h (change_step h given) r new
+settled_is made h mid given r new lt same told =
     let back : record mid { content = h.content } ≡ h = ap (λ (m : HostValue). record m { content = h.content }) same in
-    let held : IsGiven h (change_reply h given) r new = subst (λ (m : HostValue). IsGiven m (change_reply m given) r new) back told in
-    subst (λ (b : Bool). IsGiven h (cond b (change_reply h given) (Refused refusals.NodeFull, h)) r new) (sym (lt-ltb h.ops (2 ^ 62) lt)) held
+    let held : IsGiven (is_ok made) h (change_reply h given) r new = subst (λ (m : HostValue). IsGiven (is_ok made) m (change_reply m given) r new) back told in
+    subst (λ (b : Bool). IsGiven (b && is_ok made) h (cond b (change_reply h given) (Refused refusals.NodeFull, h)) r new) (sym (lt-ltb h.ops (2 ^ 62) lt)) held
+
+-- what a join or a prune leaves and answers
+abbrev Leaves : Content → Content → Result Content Refusal → Result (Unit {0}) Refusal → Type 0
+Leaves old new given (Ok done) = given ≡ Ok new
+Leaves old new given (Err why) = (new ≡ old) × ((given ≡ Err why) ⊎ ((why ≡ refusals.Memory) × ((c : Content) × (given ≡ Ok c))))
+
+pub left_so : (old new : Content) (given : Result Content Refusal) (r : Result (Unit {0}) Refusal) → Leaves old new given r → Changes (is_ok given) old new given r
+left_so old new given (Ok done) h = h
+left_so old new given (Err why) h = (
+  h.0,
+  elim h.1 [
+    | inl e ↦ inl e
+    | inr m ↦ inr (m.0, ap is_ok m.1.1)
+  ],
+)

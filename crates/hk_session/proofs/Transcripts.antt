@@ -1,25 +1,27 @@
 -- A session that goes on.
-use Rattle.std.proofs.Common.{◌≡◌, ◌≢◌, ℕ, ◌⊎◌, true, List, [], ◌∷◌, ◌++◌, map, take, Option, Some, None, Result, Ok, Err, refl, sym, ap, subst, ◌∙◌, append_assoc, append-nil, arith, inl, inr}
+use Rattle.std.proofs.Common.{◌≡◌, ◌≢◌, ℕ, ◌⊎◌, ◌<◌, Bool, true, false, cond, length, List, [], ◌∷◌, ◌++◌, map, take, Option, Some, None, Result, Ok, Err, refl, sym, ap, subst, ◌∙◌, append_assoc, append-nil, arith, inl, inr}
 use Rattle.std.specs.List.{flat_map, AllByRecursion}
 use Rattle.std.specs.Io.KnownBytes.{Appends, Consumes}
 use Rattle.std.proofs.KnownBytes.{Appends-nil, Appends-trans, Consumes-trans}
 use Rattle.std.proofs.lemmas.Grind.{flat_map-append}
 use Rattle.hk_types.specs.declared.faults.FormFault.{FormFault}
-use Rattle.hk_types.specs.declared.faults.FormFault.TheVariants.{Truncated}
+use Rattle.hk_types.specs.declared.faults.FormFault.TheVariants.{Truncated, TooLong}
 use Rattle.hk_types.specs.declared.faults.Refusal.{Refusal}
 use Rattle.hk_types.specs.declared.faults.Refusal.TheVariants as refusals
-use Rattle.hk_frames.specs.Framing.{answer, encoded}
+use Rattle.hk_frames.specs.Framing.{answer, encoded, last_answer, Feeds, KeepsFault, KeepsOnMemory}
 use Rattle.hk_wire.specs.declared.request.Request.{Request}
 use Rattle.hk_wire.specs.declared.reply.Reply.{Reply}
 use Rattle.hk_wire.specs.declared.reply.Reply.TheVariants as told
-use Rattle.hk_wire.specs.Replies.{Refused, is_encodable}
+use Rattle.std.proofs.lemmas.List.{length-append}
+use Rattle.hk_codec.proofs.Lengths.{len32}
+use Rattle.hk_wire.specs.Replies.{ReplyValue, Refused, reply_seen, reply_text, is_encodable}
 use Rattle.hk_wire.proofs.Lengths.{refused_len}
 use Rattle.std.proofs.lemmas.Bool.{le-leb}
 use Rattle.hk_wire.specs.Requests.{RequestValue, WrittenRequest, request_seen, request_meant, request_at, request_rest, IsRequest, ReadsRequests, AddsRequests}
 use Rattle.hk_frames.proofs.FrameStream.{pieces_join_as, both_same}
 use Rattle.hk_session.specs.declared.ended.Ended.{Ended}
 use Rattle.hk_session.specs.declared.ended.Ended.TheVariants.{Clean, Fault, Memory, ReadFault, WriteFault}
-use Rattle.hk_session.specs.Transcript.{Answers, refused_text, reply_bytes, replies_bytes, fault_of, fault_met, BeginsWith, IsPrefixOf, GoesOn, Ends, SessionStep, Refuses, Sends, Stops, IsMidway, IsDone, IsStopped, Transcript, PartialTranscript, closing_bytes}
+use Rattle.hk_session.specs.Transcript.{Answers, refused_text, reply_bytes, replies_bytes, fault_of, fault_met, fault_reply, closing, BeginsWith, IsPrefixOf, IsProperPrefixOf, IsCut, IsAllOrCut, GoesOn, Ends, SessionStep, Refuses, Sends, Stops, IsMidway, IsDone, IsStopped, Transcript, PartialTranscript, closing_bytes}
 
 pub Answers-then : {H : Type 0} (may : H → Request → Reply → H → Type 0) (a b c : H) (xs ys : List Request) (rs ss : List Reply) → Answers may a xs rs b → Answers may b ys ss c → Answers may a (xs ++ ys) (rs ++ ss) c
 Answers-then {H} may a b c [] ys [] ss x y = subst (λ (s : H). Answers may s ys ss c) x y
@@ -52,9 +54,6 @@ BeginsWith-then : (text left more : List ℕ) (xs ys : List Request) → ReadsRe
 BeginsWith-then text left more xs ys h k =
     (h.0 ++ k.0, both_same request_seen request_meant xs ys h.0 k.0 h.1 k.1, k.2, joined text left more k.2 h.0 k.0 h.2.0 k.3, each_both h.0 k.0 h.2.1 k.4)
 
-IsPrefixOf-after : (s w t : List ℕ) → IsPrefixOf w t → IsPrefixOf (s ++ w) (s ++ t)
-IsPrefixOf-after s w t h = (h.0, append_assoc s w h.0 ∙ ap (λ (x : List ℕ). s ++ x) h.1)
-
 replies_bytes-both : (rs ss : List Reply) → replies_bytes (rs ++ ss) ≡ replies_bytes rs ++ replies_bytes ss
 replies_bytes-both rs ss = flat_map-append reply_bytes rs ss
 
@@ -68,12 +67,25 @@ said_more rs ss w e = ap (λ (t : List ℕ). replies_bytes rs ++ t) e ∙ sym (r
 said_more_and : (rs ss : List Reply) (w t : List ℕ) → w ≡ replies_bytes ss ++ t → replies_bytes rs ++ w ≡ replies_bytes (rs ++ ss) ++ t
 said_more_and rs ss w t e = ap (λ (x : List ℕ). replies_bytes rs ++ x) e ∙ sym (append_assoc (replies_bytes rs) (replies_bytes ss) t) ∙ ap (λ (x : List ℕ). x ++ t) (sym (replies_bytes-both rs ss))
 
-front_more : (rs ss : List Reply) (w : List ℕ) → IsPrefixOf w (replies_bytes ss) → IsPrefixOf (replies_bytes rs ++ w) (replies_bytes (rs ++ ss))
-front_more rs ss w h = subst (IsPrefixOf (replies_bytes rs ++ w)) (sym (replies_bytes-both rs ss)) (IsPrefixOf-after (replies_bytes rs) w (replies_bytes ss) h)
+cut_more : (rs ss : List Reply) (w : List ℕ) → IsCut w ss → IsCut (replies_bytes rs ++ w) (rs ++ ss)
+cut_more rs ss w h =
+    record {
+      said = rs ++ h.said;
+      held = h.held;
+      last = h.last;
+      order = ap (λ (l : List Reply). rs ++ l) h.order ∙ sym (append_assoc rs h.said (h.held ++ h.last ∷ []));
+      few = h.few;
+      part = h.part;
+      front = h.front;
+      wrote = said_more_and rs h.said w h.part h.wrote;
+    }
 
-front_more_and : (rs ss : List Reply) (w t : List ℕ) → IsPrefixOf w (replies_bytes ss ++ t) → IsPrefixOf (replies_bytes rs ++ w) (replies_bytes (rs ++ ss) ++ t)
-front_more_and rs ss w t h =
-    subst (IsPrefixOf (replies_bytes rs ++ w)) (sym (append_assoc (replies_bytes rs) (replies_bytes ss) t) ∙ ap (λ (x : List ℕ). x ++ t) (sym (replies_bytes-both rs ss))) (IsPrefixOf-after (replies_bytes rs) w (replies_bytes ss ++ t) h)
+all_or_cut_more : (rs ss : List Reply) (w : List ℕ) → IsAllOrCut w ss → IsAllOrCut (replies_bytes rs ++ w) (rs ++ ss)
+all_or_cut_more rs ss w (inl all) = inl (said_more rs ss w all)
+all_or_cut_more rs ss w (inr cut) = inr (cut_more rs ss w cut)
+
+cut_more_and : (rs ss : List Reply) (r : Reply) (w : List ℕ) → IsCut w (ss ++ r ∷ []) → IsCut (replies_bytes rs ++ w) ((rs ++ ss) ++ r ∷ [])
+cut_more_and rs ss r w h = subst (IsCut (replies_bytes rs ++ w)) (sym (append_assoc rs ss (r ∷ []))) (cut_more rs (ss ++ r ∷ []) w h)
 
 pub goes_on_joins : (l : List ℕ) → Joins (GoesOn l)
 goes_on_joins l text left more w xs ys rs ss h k = (ReadsRequests-then text left more xs ys (Ok l) h k.0, said_more rs ss w k.1)
@@ -81,12 +93,12 @@ goes_on_joins l text left more w xs ys rs ss h k = (ReadsRequests-then text left
 pub ends_joins : (e : Ended) → Joins (Ends e)
 ends_joins Clean text left more w xs ys rs ss h k = (ReadsRequests-then text left more xs ys (Ok []) h k.0, said_more rs ss w k.1)
 ends_joins (Fault f) text left more w xs ys rs ss h k = (k.0, ReadsRequests-then text left more xs ys k.0 h k.1, k.2, said_more_and rs ss w (refused_text f) k.3)
-ends_joins Memory text left more w xs ys rs ss h k = (BeginsWith-then text left more xs ys h k.0, front_more rs ss w k.1)
+ends_joins Memory text left more w xs ys rs ss h k = (BeginsWith-then text left more xs ys h k.0, all_or_cut_more rs ss w k.1)
 ends_joins ReadFault text left more w xs ys rs ss h k = (k.0, ReadsRequests-then text left more xs ys (Ok k.0) h k.1, said_more rs ss w k.2)
 ends_joins WriteFault text left more w xs ys rs ss h k =
     elim k [
-      | inl a ↦ inl (BeginsWith-then text left more xs ys h a.0, front_more rs ss w a.1)
-      | inr a ↦ inr (a.0, a.1, ReadsRequests-then text left more xs ys a.0 h a.2, a.3, front_more_and rs ss w (refused_text a.1) a.4)
+      | inl a ↦ inl (BeginsWith-then text left more xs ys h a.0, cut_more rs ss w a.1)
+      | inr a ↦ inr (a.0, a.1, ReadsRequests-then text left more xs ys a.0 h a.2, a.3, cut_more_and rs ss (fault_reply a.1) w a.4)
     ]
 
 pub SessionStep-then : {H : Type 0} (may : H → Request → Reply → H → Type 0) (a b c : H) (o p q : Option (List ℕ)) (text left more : List ℕ) (How : List ℕ → List Request → List Reply → List ℕ → Type 0)
@@ -141,21 +153,49 @@ pub added : (qs : List Request) (text : List ℕ) (r : Result (List ℕ) FormFau
 added qs text r h = subst (λ (xs : List Request). ReadsRequests text xs r) (sym h.1) h.2
 
 pub nothing_said : {H : Type 0} (may : H → Request → Reply → H → Type 0) (a : H) (o : Option (List ℕ)) (text : List ℕ) → SessionStep may a a o o text (Ends Memory)
-nothing_said may a o text = record { requests = []; replies = []; answers = refl; written = []; appended = Appends-nil o; how = (([], refl, text, refl, tt), ([], refl)) }
+nothing_said may a o text = record { requests = []; replies = []; answers = refl; written = []; appended = Appends-nil o; how = (([], refl, text, refl, tt), inl refl) }
 
 pub part_said : {H : Type 0} (may : H → Request → Reply → H → Type 0) (a b : H) (o p : Option (List ℕ)) (text : List ℕ) (qs front back : List Request) (rs : List Reply) (part : List ℕ) (e : Ended)
-    → BeginsWith text qs → qs ≡ front ++ back → Answers may a front rs b → IsPrefixOf part (replies_bytes rs) → Appends o p part → (e ≡ Memory) ⊎ (e ≡ WriteFault) → SessionStep may a b o p text (Ends e)
-part_said may a b o p text qs front back rs part e h split answers is_front appended which =
+    → BeginsWith text qs → qs ≡ front ++ back → Answers may a front rs b → IsCut part rs → Appends o p part → (e ≡ Memory) ⊎ (e ≡ WriteFault) → SessionStep may a b o p text (Ends e)
+part_said may a b o p text qs front back rs part e h split answers cut appended which =
     let begins = begins_front text qs front back h split in
     elim which [
-      | inl m ↦ subst (λ (x : Ended). SessionStep may a b o p text (Ends x)) (sym m) (record { requests = front; replies = rs; answers = answers; written = part; appended = appended; how = (begins, is_front) })
-      | inr w ↦ subst (λ (x : Ended). SessionStep may a b o p text (Ends x)) (sym w) (record { requests = front; replies = rs; answers = answers; written = part; appended = appended; how = inl (begins, is_front) })
+      | inl m ↦ subst (λ (x : Ended). SessionStep may a b o p text (Ends x)) (sym m) (record { requests = front; replies = rs; answers = answers; written = part; appended = appended; how = (begins, inr cut) })
+      | inr w ↦ subst (λ (x : Ended). SessionStep may a b o p text (Ends x)) (sym w) (record { requests = front; replies = rs; answers = answers; written = part; appended = appended; how = inl (begins, cut) })
     ]
 
 pub all_answered : {H : Type 0} (may : H → Request → Reply → H → Type 0) (a b : H) (o p : Option (List ℕ)) (text : List ℕ) (qs : List Request) (rs : List Reply) (r : Result (List ℕ) FormFault)
     → ReadsRequests text qs r → Answers may a qs rs b → Appends o p (replies_bytes rs) → None ≡ fault_met r → (after : List ℕ) × (r ≡ Ok after) × SessionStep may a b o p text (GoesOn after)
 all_answered may a b o p text qs rs (Ok left) h answers appended e = (left, refl, record { requests = qs; replies = rs; answers = answers; written = replies_bytes rs; appended = appended; how = (h, refl) })
 all_answered may a b o p text qs rs (Err f) h answers appended e = absurd cc
+
+-- ---- replies
+
+fault_encoded : (f : FormFault) → is_encodable (Refused (refusals.Form f)) ≡ true
+fault_encoded f = le-leb _ _ (omega (arith, refused_len (refusals.Form f)))
+
+said_fault : (f : FormFault) → reply_bytes (told.Refused (refusals.Form f)) ≡ refused_text f
+said_fault f = rw (fault_encoded f) refl
+
+one_said : (r : Reply) → replies_bytes (r ∷ []) ≡ reply_bytes r
+one_said r = append-nil (reply_bytes r)
+
+-- all replies but the last were written, and of that one a front
+cut_at : (rs : List Reply) (r : Reply) (part : List ℕ) → IsProperPrefixOf part (reply_bytes r) → IsCut (replies_bytes rs ++ part) (rs ++ r ∷ [])
+cut_at rs r part h =
+    record { said = rs; held = []; last = r; order = refl; few = omega arith; part = part; front = subst (IsProperPrefixOf part) (sym (one_said r)) h; wrote = refl }
+
+some_text : (v : ReplyValue) → 0 < length (reply_text v)
+unfolding encoded
+some_text v = simp (length-append, len32) (omega arith)
+
+one_of : (b : Bool) (x y : List ℕ) → 0 < length x → 0 < length y → 0 < length (cond b x y)
+one_of true x y h k = h
+one_of false x y h k = k
+
+-- nothing of a reply is a front of it
+none_of : (r : Reply) → IsProperPrefixOf [] (reply_bytes r)
+none_of r = ((reply_bytes r, refl), one_of (is_encodable (reply_seen r)) (reply_text (reply_seen r)) (refused_text TooLong) (some_text (reply_seen r)) (some_text (Refused (refusals.Form TooLong))))
 
 -- the fault that follows was said, or not
 pub fault_said : {H : Type 0} (may : H → Request → Reply → H → Type 0) (a b : H) (o p q : Option (List ℕ)) (text : List ℕ) (qs : List Request) (rs : List Reply) (r : Result (List ℕ) FormFault) (f : FormFault) (e : Ended)
@@ -166,20 +206,12 @@ fault_said may a b o p q text qs rs r f (Fault g) h of answers appended sent =
     (record { requests = qs; replies = rs; answers = answers; written = replies_bytes rs ++ refused_text f; appended = both; how = (r, h, of, refl) })
 fault_said may a b o p q text qs rs r f Memory h of answers appended sent =
     let both = subst (Appends o q) (append-nil (replies_bytes rs)) (Appends-trans o p q (replies_bytes rs) [] appended sent) in
-    record { requests = qs; replies = rs; answers = answers; written = replies_bytes rs; appended = both; how = (begins_reads text qs r h, ([], append-nil (replies_bytes rs))) }
+    record { requests = qs; replies = rs; answers = answers; written = replies_bytes rs; appended = both; how = (begins_reads text qs r h, inl refl) }
 fault_said may a b o p q text qs rs r f WriteFault h of answers appended sent =
     let both = Appends-trans o p q (replies_bytes rs) sent.0 appended sent.2 in
-    record { requests = qs; replies = rs; answers = answers; written = replies_bytes rs ++ sent.0; appended = both; how = inr (r, f, h, of, IsPrefixOf-after (replies_bytes rs) sent.0 (refused_text f) sent.1) }
+    record { requests = qs; replies = rs; answers = answers; written = replies_bytes rs ++ sent.0; appended = both; how = inr (r, f, h, of, cut_at rs (fault_reply f) sent.0 (subst (IsProperPrefixOf sent.0) (sym (said_fault f)) sent.1)) }
 fault_said may a b o p q text qs rs r f Clean h of answers appended sent = absurd sent
 fault_said may a b o p q text qs rs r f ReadFault h of answers appended sent = absurd sent
-
--- ---- replies
-
-fault_encoded : (f : FormFault) → is_encodable (Refused (refusals.Form f)) ≡ true
-fault_encoded f = le-leb _ _ (omega (arith, refused_len (refusals.Form f)))
-
-said_fault : (f : FormFault) → reply_bytes (told.Refused (refusals.Form f)) ≡ refused_text f
-said_fault f = rw (fault_encoded f) refl
 
 pub refused_all : (f : FormFault) (o p : Option (List ℕ)) → Sends (reply_bytes (told.Refused (refusals.Form f))) o p None → Appends o p (refused_text f)
 refused_all f o p h = subst (Appends o p) (said_fault f) h
@@ -189,7 +221,7 @@ refused_part f o p Clean h = absurd h
 refused_part f o p (Fault g) h = absurd h
 refused_part f o p Memory h = h
 refused_part f o p ReadFault h = absurd h
-refused_part f o p WriteFault h = (h.0, subst (IsPrefixOf h.0) (said_fault f) h.1, h.2)
+refused_part f o p WriteFault h = (h.0, subst (IsProperPrefixOf h.0) (said_fault f) h.1, h.2)
 
 pub midway_of : (f : FormFault) (o p : Option (List ℕ)) (e : Ended) → f ≢ Truncated → Refuses f o p e → IsMidway e
 midway_of f o p Clean never h = absurd h
@@ -204,9 +236,6 @@ split_more qs front rest later x e f = e ∙ ap (λ (t : List Request). front ++
 pub answered_more : {H : Type 0} (may : H → Request → Reply → H → Type 0) (a b c : H) (front : List Request) (rs : List Reply) (x : Request) (r : Reply) → Answers may a front rs b → may b x r c → Answers may a (front ++ x ∷ []) (rs ++ r ∷ []) c
 answered_more may a b c front rs x r h k = Answers-then may a b c front (x ∷ []) rs (r ∷ []) h (c, k, refl)
 
-one_said : (r : Reply) → replies_bytes (r ∷ []) ≡ reply_bytes r
-one_said r = append-nil (reply_bytes r)
-
 pub said_one_more : (o p q : Option (List ℕ)) (rs : List Reply) (r : Reply) → Appends o p (replies_bytes rs) → Appends p q (reply_bytes r) → Appends o q (replies_bytes (rs ++ r ∷ []))
 said_one_more o p q rs r h k =
     subst (Appends o q) (ap (λ (t : List ℕ). replies_bytes rs ++ t) (sym (one_said r)) ∙ sym (replies_bytes-both rs (r ∷ []))) (Appends-trans o p q (replies_bytes rs) (reply_bytes r) h k)
@@ -214,12 +243,11 @@ said_one_more o p q rs r h k =
 pub stops_at : {H : Type 0} (may : H → Request → Reply → H → Type 0) (a b c : H) (o p q : Option (List ℕ)) (qs front rest later : List Request) (x : Request) (rs : List Reply) (r : Reply) (e : Ended)
     → qs ≡ front ++ rest → rest ≡ x ∷ later → Answers may a front rs b → may b x r c → Appends o p (replies_bytes rs) → Sends (reply_bytes r) p q (Some e) → Stops may a c o q qs e
 stops_at may a b c o p q qs front rest later x rs r Memory split next h k sent more =
-    let both = subst (Appends o q) (append-nil (replies_bytes rs)) (Appends-trans o p q (replies_bytes rs) [] sent more) in
-    (front ++ x ∷ [], later, split_more qs front rest later x split next, rs ++ r ∷ [], answered_more may a b c front rs x r h k, replies_bytes rs, (replies_bytes (r ∷ []), sym (replies_bytes-both rs (r ∷ []))), both, inl refl)
+    let both = Appends-trans o p q (replies_bytes rs) [] sent more in
+    (front ++ x ∷ [], later, split_more qs front rest later x split next, rs ++ r ∷ [], answered_more may a b c front rs x r h k, replies_bytes rs ++ [], cut_at rs r [] (none_of r), both, inl refl)
 stops_at may a b c o p q qs front rest later x rs r WriteFault split next h k sent more =
     let both = Appends-trans o p q (replies_bytes rs) more.0 sent more.2 in
-    let is_front = front_more rs (r ∷ []) more.0 (subst (IsPrefixOf more.0) (sym (one_said r)) more.1) in
-    (front ++ x ∷ [], later, split_more qs front rest later x split next, rs ++ r ∷ [], answered_more may a b c front rs x r h k, replies_bytes rs ++ more.0, is_front, both, inr refl)
+    (front ++ x ∷ [], later, split_more qs front rest later x split next, rs ++ r ∷ [], answered_more may a b c front rs x r h k, replies_bytes rs ++ more.0, cut_at rs r more.0 more.1, both, inr refl)
 stops_at may a b c o p q qs front rest later x rs r Clean split next h k sent more = absurd more
 stops_at may a b c o p q qs front rest later x rs r (Fault f) split next h k sent more = absurd more
 stops_at may a b c o p q qs front rest later x rs r ReadFault split next h k sent more = absurd more
@@ -234,6 +262,16 @@ answers_fault f = Err (refusals.Form f)
 no_fault : (f : FormFault) → answers_ok ≡ answers_fault f → ⊥
 no_fault f e = cc
 
+refused_as : (why other : Refusal) (r : Result (Unit {0}) Refusal) → r ≡ Err why → r ≡ Err other → why ≡ other
+refused_as why other r e f = cc
+
+no_answer : (new : Result (List ℕ) FormFault) (why : Refusal) (r : Result (Unit {0}) Refusal) → r ≡ Err why → ((f : FormFault) → why ≡ refusals.Form f → ⊥) → r ≡ answer new → ⊥
+no_answer (Ok left) why r is other e = not_ok why r is e
+  where
+    not_ok : (why : Refusal) (r : Result (Unit {0}) Refusal) → r ≡ Err why → r ≡ answers_ok → ⊥
+    not_ok why r e f = cc
+no_answer (Err f) why r is other e = other f (refused_as why (refusals.Form f) r is e)
+
 pub took : (before qs : List Request) (text : List ℕ) (new : Result (List ℕ) FormFault) → before ≡ []
     → (answers_ok ≡ Err refusals.Memory) ⊎ ((answers_ok ≡ answer new) × AddsRequests before qs text new) → ReadsRequests text qs new × (None ≡ fault_met new)
 took before qs text (Ok left) none h =
@@ -247,17 +285,22 @@ took before qs text (Err f) none h =
       | inr r ↦ absurd (no_fault f r.0)
     ]
 
-pub took_to : (before qs : List Request) (text : List ℕ) (new : Result (List ℕ) FormFault) (f : FormFault) → before ≡ []
-    → (answers_fault f ≡ Err refusals.Memory) ⊎ ((answers_fault f ≡ answer new) × AddsRequests before qs text new) → ReadsRequests text qs new × (Some f ≡ fault_met new)
-took_to before qs text (Ok left) f none h =
-    elim h [
-      | inl m ↦ absurd cc
-      | inr r ↦ absurd (no_fault f (sym r.0))
-    ]
-took_to before qs text (Err g) f none h =
-    elim h [
-      | inl m ↦ absurd cc
-      | inr r ↦ (added qs text (Err g) (subst (λ (xs : List Request). AddsRequests xs qs text (Err g)) none r.1), cc)
+fault_is : (f g : FormFault) → answers_fault f ≡ answers_fault g → f ≡ g
+fault_is f g e = cc
+
+-- what is left at the end is cut off
+pub cut_said : (left : List ℕ) (feeder : Result (List ℕ) FormFault) (f : FormFault) (o p : Option (List ℕ)) (e : Ended) → answers_fault f ≡ last_answer feeder → feeder ≡ Ok left → left ≢ [] → Refuses f o p e → Refuses Truncated o p e
+cut_said [] feeder f o p e told is never h = absurd (never refl)
+cut_said (x ∷ left) feeder f o p e told is never h = subst (λ (g : FormFault). Refuses g o p e) (fault_is f Truncated (told ∙ ap last_answer is)) h
+
+-- what a feeder that was not told of a fault keeps, where it refuses
+pub feeder_kept : (old new : Result (List ℕ) FormFault) (before after : List Request) (piece : List ℕ) (why : Refusal) (r : Result (Unit {0}) Refusal) → r ≡ Err why → ((f : FormFault) → why ≡ refusals.Form f → ⊥)
+    → Feeds AddsRequests old new before after piece r → KeepsFault old new before after r → KeepsOnMemory old new before after r → (new ≡ old) × (after ≡ before)
+feeder_kept (Err f) new before after piece why r is other feeds keeps kept = absurd (other f (refused_as why (refusals.Form f) r is (keeps f refl).0))
+feeder_kept (Ok left) new before after piece why r is other feeds keeps kept =
+    elim (feeds left refl) [
+      | inl memory ↦ kept memory
+      | inr read ↦ absurd (no_answer new why r is other read.0)
     ]
 
 pub met : (new : Result (List ℕ) FormFault) (f : FormFault) → Some f ≡ fault_met new → new ≡ Err f
@@ -304,11 +347,19 @@ transcripts may a b o p bytes ReadFault done s = absurd done
 transcripts may a b o p bytes WriteFault done s = absurd done
 
 -- the requests that the bytes begin with are whole
-prefix_transcript : {H : Type 0} (may : H → Request → Reply → H → Type 0) (a b : H) (bytes part : List ℕ) (qs : List Request) (rs : List Reply) → BeginsWith bytes qs → Answers may a qs rs b → IsPrefixOf part (replies_bytes rs) → PartialTranscript may a b bytes part
-prefix_transcript may a b bytes part qs rs h answers is_front =
+prefix_transcript : {H : Type 0} (may : H → Request → Reply → H → Type 0) (a b : H) (bytes part : List ℕ) (qs : List Request) (rs : List Reply) → BeginsWith bytes qs → Answers may a qs rs b → IsAllOrCut part rs → PartialTranscript may a b bytes part
+prefix_transcript may a b bytes part qs rs h answers cut =
     let front = texts h.0 in
     let reads : ReadsRequests front qs (Ok []) = (h.0, h.1, (sym (append-nil front), h.4, inl (omega arith))) in
-    (front, h.2, h.3, inl (qs, reads), replies_bytes rs, is_front, record { requests = qs; left = Ok []; reads = reads; replies = rs; answers = answers; told = sym (append-nil (replies_bytes rs)) })
+    record {
+      front = front;
+      back = h.2;
+      parted = h.3;
+      whole = inl (qs, reads);
+      text = replies_bytes rs;
+      told = record { requests = qs; left = Ok []; reads = reads; replies = rs; answers = answers; told = sym (append-nil (replies_bytes rs)) };
+      cut = subst (IsAllOrCut part) (sym (append-nil rs)) cut;
+    }
 
 pub partial_transcript : {H : Type 0} (may : H → Request → Reply → H → Type 0) (a b : H) (o p : Option (List ℕ)) (bytes : List ℕ) (e : Ended) → IsStopped e → SessionStep may a b o p bytes (Ends e) → (part : List ℕ) × Appends o p part × PartialTranscript may a b bytes part
 partial_transcript may a b o p bytes Clean done s = absurd done
@@ -317,18 +368,18 @@ partial_transcript may a b o p bytes ReadFault done s = absurd done
 partial_transcript may a b o p bytes Memory done s = (s.written, s.appended, prefix_transcript may a b bytes s.written s.requests s.replies s.how.0 s.answers s.how.1)
 partial_transcript may a b o p bytes WriteFault done s =
     elim s.how [
-      | inl h ↦ (s.written, s.appended, prefix_transcript may a b bytes s.written s.requests s.replies h.0 s.answers h.1)
+      | inl h ↦ (s.written, s.appended, prefix_transcript may a b bytes s.written s.requests s.replies h.0 s.answers (inr h.1))
       | inr h ↦ (
         s.written,
         s.appended,
-        (
-          bytes,
-          [],
-          sym (append-nil bytes),
-          inr refl,
-          replies_bytes s.replies ++ refused_text h.1,
-          h.4,
-          record { requests = s.requests; left = h.0; reads = h.2; replies = s.replies; answers = s.answers; told = ap (λ (t : List ℕ). replies_bytes s.replies ++ t) (sym (closing_bytes_is h.0 h.1 h.3)) },
-        ),
+        record {
+          front = bytes;
+          back = [];
+          parted = sym (append-nil bytes);
+          whole = inr refl;
+          text = replies_bytes s.replies ++ refused_text h.1;
+          told = record { requests = s.requests; left = h.0; reads = h.2; replies = s.replies; answers = s.answers; told = ap (λ (t : List ℕ). replies_bytes s.replies ++ t) (sym (closing_bytes_is h.0 h.1 h.3)) };
+          cut = inr (subst (IsCut s.written) (ap (λ (o : Option FormFault). s.replies ++ closing o) (sym h.3)) h.4);
+        },
       )
     ]

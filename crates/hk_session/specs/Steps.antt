@@ -1,9 +1,9 @@
 -- What a host over a state answers, and what state it is left in.
-use Rattle.std.specs.Prelude.{ℕ, ◌≡◌, ◌⊎◌, ◌+◌, ◌^◌, length, nat_lt, if◌then◌else◌, Result, Ok, Err}
+use Rattle.std.specs.Prelude.{ℕ, ◌≡◌, ◌⊎◌, ◌+◌, ◌^◌, ◌&&◌, Bool, true, false, length, nat_lt, is_ok, if◌then◌else◌, Option, Some, None, Result, Ok, Err}
 use Rattle.hk_types.specs.Values.{ConfigValue}
 use Rattle.hk_types.specs.declared.faults.Refusal.{Refusal}
 use Rattle.hk_types.specs.declared.faults.Refusal.TheVariants as refusals
-use Rattle.hk_model.specs.Replica.Answers.{AnswerValue, reply}
+use Rattle.hk_model.specs.Replica.Answers.{AnswerValue, One, Rows, Number, reply}
 use Rattle.hk_model.specs.Replica.Content.{Content, readable}
 use Rattle.hk_model.specs.Replica.Fragments.{FragmentValue, cut}
 use Rattle.hk_model.specs.Replica.Rules.{gather_result, join_result, prune_result}
@@ -57,15 +57,43 @@ answer_step h (asked.JoinThis fragment) = change_step h (join_result h.content f
 answer_step h (asked.MergeThis fragment) = change_step h (join_result h.content fragment)
 answer_step h (asked.Prune horizon) = change_step h (prune_result h.content horizon)
 
--- a host replied and was left so: as it is told, or it refused because memory ran out and nothing changed
-abbrev pub IsGiven : HostValue → ReplyValue × HostValue → Reply → HostValue → Type 0
-IsGiven old given answer new = ((reply_seen answer, new) ≡ given) ⊎ ((reply_seen answer ≡ Refused refusals.Memory) × (new ≡ old))
+-- whether an answer takes memory: a number takes none, nor does it to say that there is no row
+abbrev pub takes_memory : AnswerValue → Bool
+takes_memory (One None) = false
+takes_memory (One (Some row)) = true
+takes_memory (Rows rows) = true
+takes_memory (Number n) = false
+
+-- whether what is asked takes memory: a refusal takes none
+abbrev pub asking_may_lack : Result AnswerValue Refusal → Bool
+asking_may_lack (Ok a) = takes_memory a
+asking_may_lack (Err why) = false
+
+-- whether a change takes memory: where the host has room, and the change is made
+abbrev pub has_room_for : {X : Type 0} → HostValue → Result X Refusal → Bool
+has_room_for h made = nat_lt h.ops (2 ^ 62) && is_ok made
+
+-- whether memory may run out at a request: at items where they make a fragment and the host has room; else where the
+-- request is not refused, and takes memory
+abbrev pub may_lack : HostValue → Request → Bool
+may_lack h (asked.Items items) = has_room_for h (gather_result (config_of h.content) items.items)
+may_lack h asked.Front = false
+may_lack h (asked.Delta base) = is_ok (since h.content base)
+may_lack h asked.Full = true
+may_lack h (asked.Ask t query) = asking_may_lack (reply h.content t query)
+may_lack h (asked.JoinThis fragment) = has_room_for h (join_result h.content fragment)
+may_lack h (asked.MergeThis fragment) = has_room_for h (join_result h.content fragment)
+may_lack h (asked.Prune horizon) = has_room_for h (prune_result h.content horizon)
+
+-- a host replied and was left so: as it is told; or it refused because memory ran out, where it may, and nothing changed
+abbrev pub IsGiven : Bool → HostValue → ReplyValue × HostValue → Reply → HostValue → Type 0
+IsGiven may old given answer new = ((reply_seen answer, new) ≡ given) ⊎ ((reply_seen answer ≡ Refused refusals.Memory) × (new ≡ old) × (may ≡ true))
 
 -- what a host over a state may do
 abbrev pub Step : HostValue → Request → Reply → HostValue → Type 0
-Step old request answer new = IsGiven old (answer_step old request) answer new
+Step old request answer new = IsGiven (may_lack old request) old (answer_step old request) answer new
 
--- a call on a state left what is told, or it changed nothing: it was refused so, or memory ran out
-abbrev pub Changes : Content → Content → Result Content Refusal → Result (Unit {0}) Refusal → Type 0
-Changes old new given (Ok done) = given ≡ Ok new
-Changes old new given (Err why) = (new ≡ old) × ((given ≡ Err why) ⊎ (why ≡ refusals.Memory))
+-- a call on a state left what is told, or it changed nothing: it was refused so, or memory ran out, where it may
+abbrev pub Changes : Bool → Content → Content → Result Content Refusal → Result (Unit {0}) Refusal → Type 0
+Changes may old new given (Ok done) = given ≡ Ok new
+Changes may old new given (Err why) = (new ≡ old) × ((given ≡ Err why) ⊎ ((why ≡ refusals.Memory) × (may ≡ true)))

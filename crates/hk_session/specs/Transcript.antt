@@ -1,5 +1,5 @@
 -- What a session writes, by what it read.
-use Rattle.std.specs.Prelude.{◌≡◌, ◌≢◌, ◌⊎◌, ℕ, if◌then◌else◌, List, [], ◌∷◌, ◌++◌, map, Option, Some, None, Result, Ok, Err}
+use Rattle.std.specs.Prelude.{◌≡◌, ◌≢◌, ◌⊎◌, ◌<◌, ◌≤◌, ℕ, if◌then◌else◌, List, [], ◌∷◌, ◌++◌, length, map, Option, Some, None, Result, Ok, Err}
 use Rattle.std.specs.List.{flat_map, AllByRecursion}
 use Rattle.std.specs.Io.KnownBytes.{Appends}
 use Rattle.hk_types.specs.declared.faults.FormFault.{FormFault}
@@ -8,6 +8,7 @@ use Rattle.hk_types.specs.declared.faults.Refusal.TheVariants as refusals
 use Rattle.hk_frames.specs.Framing.{encoded}
 use Rattle.hk_wire.specs.declared.request.Request.{Request}
 use Rattle.hk_wire.specs.declared.reply.Reply.{Reply}
+use Rattle.hk_wire.specs.declared.reply.Reply.TheVariants as replied
 use Rattle.hk_wire.specs.Requests.{WrittenRequest, request_seen, request_meant, request_rest, IsRequest, ReadsRequests}
 use Rattle.hk_wire.specs.Replies.{Refused, reply_seen, reply_text, is_encodable}
 use Rattle.hk_session.specs.declared.ended.Ended.{Ended}
@@ -53,19 +54,54 @@ pub record Transcript {H : Type 0} (may : H → Request → Reply → H → Type
 abbrev pub IsPrefixOf : List ℕ → List ℕ → Type 0
 IsPrefixOf front text = (rest : List ℕ) × (front ++ rest ≡ text)
 
+-- and is not all of it
+abbrev pub IsProperPrefixOf : List ℕ → List ℕ → Type 0
+IsProperPrefixOf front text = IsPrefixOf front text × (length front < length text)
+
+-- The text of the replies is cut off. Those before the cut were written whole, and of the text of the others a front that
+-- is not all of it. The others are a last reply, and those that were held back before it: at most 65,536 bytes.
+pub record IsCut (written : List ℕ) (replies : List Reply) : Type 0 where
+  pub said : List Reply
+  pub held : List Reply
+  pub last : Reply
+  pub order : replies ≡ said ++ (held ++ last ∷ [])
+  pub few : length (replies_bytes held) ≤ 65536
+  pub part : List ℕ
+  pub front : IsProperPrefixOf part (replies_bytes (held ++ last ∷ []))
+  pub wrote : written ≡ replies_bytes said ++ part
+
+-- the text of the replies, all of it or cut off
+abbrev pub IsAllOrCut : List ℕ → List Reply → Type 0
+IsAllOrCut written replies = (written ≡ replies_bytes replies) ⊎ IsCut written replies
+
 -- bytes that are whole requests
 abbrev pub AreWhole : List ℕ → Type 0
 AreWhole bytes = (requests : List Request) × ReadsRequests bytes requests (Ok [])
-
--- a front of what a host answers to a front of the bytes, which is whole requests or all of them
-abbrev pub PartialTranscript : {H : Type 0} → (H → Request → Reply → H → Type 0) → H → H → List ℕ → List ℕ → Type 0
-PartialTranscript may old new bytes part = (front back : List ℕ) × (bytes ≡ front ++ back) × (AreWhole front ⊎ (back ≡ [])) × (text : List ℕ) × IsPrefixOf part text × Transcript may old new front text
 
 -- the fault that bytes have after whole requests, by what is left of them
 abbrev pub fault_of : Result (List ℕ) FormFault → Option FormFault
 fault_of (Ok []) = None
 fault_of (Ok (b ∷ left)) = Some Truncated
 fault_of (Err f) = Some f
+
+-- the reply that says which fault ends a session, as the last one
+abbrev pub fault_reply : FormFault → Reply
+fault_reply f = replied.Refused (refusals.Form f)
+
+-- the replies that close a session, by the fault that ends it
+abbrev pub closing : Option FormFault → List Reply
+closing None = []
+closing (Some f) = fault_reply f ∷ []
+
+-- What a host answers to a front of the bytes, which is whole requests or all of them: all of it, or cut off.
+pub record PartialTranscript {H : Type 0} (may : H → Request → Reply → H → Type 0) (old new : H) (bytes part : List ℕ) : Type 0 where
+  pub front : List ℕ
+  pub back : List ℕ
+  pub parted : bytes ≡ front ++ back
+  pub whole : AreWhole front ⊎ (back ≡ [])
+  pub text : List ℕ
+  pub told : Transcript may old new front text
+  pub cut : IsAllOrCut part (told.replies ++ closing (fault_of told.left))
 
 -- the fault that a feeder met
 abbrev pub fault_met : Result (List ℕ) FormFault → Option FormFault
@@ -81,7 +117,7 @@ BeginsWith bytes requests =
 abbrev pub GoesOn : List ℕ → List ℕ → List Request → List Reply → List ℕ → Type 0
 GoesOn left bytes requests replies written = ReadsRequests bytes requests (Ok left) × (written ≡ replies_bytes replies)
 
--- What was read and written where a session ended so. The requests are those that were answered.
+-- What was read and written where a session ended so. The requests are those that were answered: no other was executed.
 abbrev pub Ends : Ended → List ℕ → List Request → List Reply → List ℕ → Type 0
 -- the bytes are whole requests, and the replies to them were written
 Ends Clean bytes requests replies written = ReadsRequests bytes requests (Ok []) × (written ≡ replies_bytes replies)
@@ -90,12 +126,12 @@ Ends (Fault f) bytes requests replies written =
     (left : Result (List ℕ) FormFault) × ReadsRequests bytes requests left × (fault_of left ≡ Some f) × (written ≡ replies_bytes replies ++ refused_text f)
 -- the replies to the whole requests were written and no more
 Ends ReadFault bytes requests replies written = (left : List ℕ) × ReadsRequests bytes requests (Ok left) × (written ≡ replies_bytes replies)
--- a front of the replies to some of the requests
-Ends Memory bytes requests replies written = BeginsWith bytes requests × IsPrefixOf written (replies_bytes replies)
--- a front of the replies to some of the requests, or of all replies and the fault that follows them
+-- the replies to some of the requests, all of them or cut off
+Ends Memory bytes requests replies written = BeginsWith bytes requests × IsAllOrCut written replies
+-- the replies to some of the requests, cut off; or all replies and the fault that follows them, cut off
 Ends WriteFault bytes requests replies written =
-    (BeginsWith bytes requests × IsPrefixOf written (replies_bytes replies))
-    ⊎ ((left : Result (List ℕ) FormFault) × (f : FormFault) × ReadsRequests bytes requests left × (fault_of left ≡ Some f) × IsPrefixOf written (replies_bytes replies ++ refused_text f))
+    (BeginsWith bytes requests × IsCut written replies)
+    ⊎ ((left : Result (List ℕ) FormFault) × (f : FormFault) × ReadsRequests bytes requests left × (fault_of left ≡ Some f) × IsCut written (replies ++ fault_reply f ∷ []))
 
 -- What was said to the bytes: which requests of theirs were answered how, and what was written.
 pub record SessionStep {H : Type 0} (may : H → Request → Reply → H → Type 0) (old new : H) (before after : Option (List ℕ)) (bytes : List ℕ)
@@ -111,7 +147,7 @@ pub record SessionStep {H : Type 0} (may : H → Request → Reply → H → Typ
 abbrev pub Sends : List ℕ → Option (List ℕ) → Option (List ℕ) → Option Ended → Type 0
 Sends text before after None = Appends before after text
 Sends text before after (Some Memory) = Appends before after []
-Sends text before after (Some WriteFault) = (part : List ℕ) × IsPrefixOf part text × Appends before after part
+Sends text before after (Some WriteFault) = (part : List ℕ) × IsProperPrefixOf part text × Appends before after part
 Sends text before after (Some Clean) = ⊥
 Sends text before after (Some (Fault f)) = ⊥
 Sends text before after (Some ReadFault) = ⊥
@@ -128,15 +164,15 @@ IsMidway WriteFault = Unit {0}
 abbrev pub Refuses : FormFault → Option (List ℕ) → Option (List ℕ) → Ended → Type 0
 Refuses f before after (Fault g) = (g ≡ f) × Appends before after (refused_text f)
 Refuses f before after Memory = Appends before after []
-Refuses f before after WriteFault = (part : List ℕ) × IsPrefixOf part (refused_text f) × Appends before after part
+Refuses f before after WriteFault = (part : List ℕ) × IsProperPrefixOf part (refused_text f) × Appends before after part
 Refuses f before after Clean = ⊥
 Refuses f before after ReadFault = ⊥
 
--- what a call that answers these requests did, where it answers so: some of them were answered
+-- what a call that answers these requests did, where it answers so: some of them were answered, and the replies cut off
 abbrev pub Stops : {H : Type 0} → (H → Request → Reply → H → Type 0) → H → H → Option (List ℕ) → Option (List ℕ) → List Request → Ended → Type 0
 Stops {H} may old new before after requests e =
     (front back : List Request) × (requests ≡ front ++ back) × (replies : List Reply) × Answers may old front replies new
-    × (part : List ℕ) × IsPrefixOf part (replies_bytes replies) × Appends before after part × ((e ≡ Memory) ⊎ (e ≡ WriteFault))
+    × (part : List ℕ) × IsCut part replies × Appends before after part × ((e ≡ Memory) ⊎ (e ≡ WriteFault))
 
 -- a session that ended by what it read
 abbrev pub IsDone : Ended → Type 0

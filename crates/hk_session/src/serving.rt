@@ -1,6 +1,6 @@
 //! A whole session.
 
-ghost use Rattle.std.specs.Prelude.{◌≡◌, ◌≢◌, ◌<◌, ◌≤◌, ◌+◌, ◌-◌, ◌^◌, ◌++◌, ◌⊎◌, ℕ, List, [], Result, Ok, Some, None, min, IfSome, IfNone, IfOk};
+ghost use Rattle.std.specs.Prelude.{◌≡◌, ◌≢◌, ◌<◌, ◌≤◌, ◌+◌, ◌-◌, ◌^◌, ◌++◌, ◌⊎◌, ℕ, List, [], Result, Ok, Some, None, min, IfSome, IfNone, IfOk, OnErr};
 ghost use Rattle.std.specs.Io.KnownBytes.{Appends, Consumes, IsAtEnd};
 ghost use Rattle.hk_types.specs.declared.faults.FormFault.TheVariants as faults;
 ghost use Rattle.hk_wire.specs.declared.request.Request.{Request};
@@ -81,6 +81,7 @@ fn refuse<W: Write>(alloc: Global, fault: FormFault, writer: &mut Counted<W>) ->
 }
 
 /// Takes the next piece of the stream into an empty list, and gives the fault that follows the requests, if one does.
+/// Where memory runs out the feeder and the list are as before.
 fn take_in(
     feeder: &mut RequestFeeder,
     piece: &[u8],
@@ -88,11 +89,14 @@ fn take_in(
 ) -> Result<Option<FormFault>, AllocError>
     requires { requests.old.items ≡ [] }
     ensures reads { (left : List ℕ) → feeder.old ≡ Ok left → IfOk result (λ f. ReadsRequests (left ++ piece.now) requests.new.items feeder.new × (f ≡ fault_met feeder.new)) }
+    ensures err { OnErr result ((feeder.new ≡ feeder.old) × (requests.new.items ≡ requests.old.items)) }
 {
     match feeder.feed(piece, requests) {
         Ok(()) => Ok(None),
-        Err(Refusal::Form(fault)) => Ok(Some(fault)),
-        Err(_refusal) => Err(AllocError),
+        Err(why) => match why {
+            Refusal::Form(fault) => Ok(Some(fault)),
+            _ => Err(AllocError),
+        },
     }
 }
 
@@ -206,8 +210,10 @@ fn run<R: Read, W: Write, H: Host>(
 /// `Refused` with its number, after the replies to the requests before it, and ends the session. A reply without
 /// an encoding is told as `Refused` with 2. Where memory for the session's own buffers runs out nothing more is
 /// written, and the last requests may stay unanswered. A failed write, or one that takes 0 bytes, ends it, and so
-/// does a failed read, an interrupted one too; so does the read number 2^32, where it does not end otherwise. The
-/// writer is never flushed: who hands in one that keeps bytes back flushes it after.
+/// does a failed read, an interrupted one too; so does the read number 2^32, where it does not end otherwise. After
+/// a failed write, and where memory ran out, no request is executed any more. Of those that were executed the last
+/// may stay without a reply, and before it others, whose replies have together at most 65,536 bytes. The writer is
+/// never flushed: who hands in one that keeps bytes back flushes it after.
 ///
 /// The host has to be such as can be asked (`Host::ready`), and is left so, as the last request that it answered left
 /// it. Cost: that of the answers, a copy of each reply, and a pass over what is read; 4,096 bytes are read at a time.
@@ -225,7 +231,8 @@ pub fn serve<R: Read, W: Write, H: Host>(
         × Consumes (R.remaining reader.old.device) (R.remaining reader.new.device) bytes
         × Appends (W.contents writer.old.device) (W.contents writer.new.device) text
         × Transcript H.may host.old host.new bytes text }
-    // What was written is a front of the transcript of a front of what was read: of whole requests, or of all bytes.
+    // What was written is the transcript of a front of what was read, of whole requests or of all bytes: all of it, or
+    // cut off in its last replies. Nothing but that front was executed.
     ensures stopped { IsStopped result → (bytes part : List ℕ)
         × Consumes (R.remaining reader.old.device) (R.remaining reader.new.device) bytes
         × Appends (W.contents writer.old.device) (W.contents writer.new.device) part

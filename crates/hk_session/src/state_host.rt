@@ -1,13 +1,13 @@
 //! A host over the state of a replica.
 
-ghost use Rattle.std.specs.Prelude.{◌≡◌, ◌⊎◌, ◌<◌, ◌+◌, ◌^◌, ℕ, Ok, Err, Result, nat_lt, MatchResult};
+ghost use Rattle.std.specs.Prelude.{◌≡◌, ◌⊎◌, ◌<◌, ◌+◌, ◌^◌, ℕ, Ok, Err, Result, Bool, true, is_ok, nat_lt};
 ghost use Rattle.hk_types.specs.declared.faults.Refusal.{Refusal};
 ghost use Rattle.hk_types.specs.declared.faults.Refusal.TheVariants.{Memory};
 ghost use Rattle.hk_model.specs.Replica.Content.{Content};
 ghost use Rattle.hk_model.specs.Replica.Answers.{reply};
 ghost use Rattle.hk_model.specs.Replica.Fragments.{cut};
 ghost use Rattle.hk_model.specs.Replica.Rules.{gather_result, join_result, prune_result};
-ghost use Rattle.hk_session.specs.Steps.{config_of, joined_if, change_reply, change_step, query_reply, since, fragment_reply, IsGiven, Step, Changes};
+ghost use Rattle.hk_session.specs.Steps.{config_of, joined_if, change_reply, change_step, query_reply, since, fragment_reply, has_room_for, asking_may_lack, IsGiven, Step, Changes};
 
 use crate::host::Host;
 use hk_delta::{Fragment, delta_since, fragment_of, join, whole_of};
@@ -25,7 +25,9 @@ use std::marker::Model;
 ///
 /// It takes items all or nothing, as one fragment; joins fragments; prunes; and tells what the state holds. A
 /// change is refused `NodeFull` after operation 2^62, before any other test; else each request is refused as the
-/// call on the state is, and `Memory` comes last. A refused request changes nothing. Cost: that of the calls.
+/// call on the state is, and `Memory` comes last: only where the request is not refused otherwise, or, of items,
+/// where they make a fragment. A front, a count and a row that is not there take no memory. A refused request
+/// changes nothing. Cost: that of the calls.
 #[derive(Drop)]
 pub struct StateHost {
     alloc: Global,
@@ -79,8 +81,8 @@ impl StateHost {
     /// Counts a change that was accepted.
     fn settle(&mut self, outcome: Result<(), Refusal>) -> Reply
         requires { self.old.ops < 2 ^ 62 }
-        ensures { (before : Content) (given : Result Content Refusal) → Changes before self.old.content given outcome
-            → IsGiven (record self.old { content = before }) (change_reply (record self.old { content = before }) given) result self.new }
+        ensures { (may : Bool) (before : Content) (given : Result Content Refusal) → Changes may before self.old.content given outcome
+            → IsGiven may (record self.old { content = before }) (change_reply (record self.old { content = before }) given) result self.new }
     {
         match outcome {
             Ok(()) => {
@@ -93,14 +95,14 @@ impl StateHost {
 
     fn join_items(&mut self, items: &[Item]) -> Result<(), Refusal>
         ensures ops { self.new ≡ record self.old { content = self.new.content } }
-        ensures gives { Changes self.old.content self.new.content (joined_if self.old.content (gather_result (config_of self.old.content) items.now)) result }
+        ensures gives { Changes (is_ok (gather_result (config_of self.old.content) items.now)) self.old.content self.new.content (joined_if self.old.content (gather_result (config_of self.old.content) items.now)) result }
     {
         let fragment = fragment_of(self.alloc, self.state.config(), items)?;
         join(&mut self.state, &fragment)
     }
 
     fn take_items(&mut self, items: &[Item]) -> Reply
-        ensures { IsGiven self.old (change_step self.old (joined_if self.old.content (gather_result (config_of self.old.content) items.now))) result self.new }
+        ensures { IsGiven (has_room_for self.old (gather_result (config_of self.old.content) items.now)) self.old (change_step self.old (joined_if self.old.content (gather_result (config_of self.old.content) items.now))) result self.new }
     {
         if self.is_full() {
             return Reply::Refused(Refusal::NodeFull);
@@ -110,7 +112,7 @@ impl StateHost {
     }
 
     fn join_this(&mut self, fragment: &Fragment) -> Reply
-        ensures { IsGiven self.old (change_step self.old (join_result self.old.content fragment.now)) result self.new }
+        ensures { IsGiven (has_room_for self.old (join_result self.old.content fragment.now)) self.old (change_step self.old (join_result self.old.content fragment.now)) result self.new }
     {
         if self.is_full() {
             return Reply::Refused(Refusal::NodeFull);
@@ -120,7 +122,7 @@ impl StateHost {
     }
 
     fn prune(&mut self, horizon: Time) -> Reply
-        ensures { IsGiven self.old (change_step self.old (prune_result self.old.content horizon)) result self.new }
+        ensures { IsGiven (has_room_for self.old (prune_result self.old.content horizon)) self.old (change_step self.old (prune_result self.old.content horizon)) result self.new }
     {
         if self.is_full() {
             return Reply::Refused(Refusal::NodeFull);
@@ -130,7 +132,7 @@ impl StateHost {
     }
 
     fn whole(&self) -> Reply
-        ensures { IsGiven self.now (fragment_reply (Ok (cut self.now.content 0)), self.now) result self.now }
+        ensures { IsGiven true self.now (fragment_reply (Ok (cut self.now.content 0)), self.now) result self.now }
     {
         match whole_of(self.alloc, &self.state) {
             Ok(fragment) => Reply::Fragment(fragment),
@@ -139,7 +141,7 @@ impl StateHost {
     }
 
     fn delta(&self, base: Time) -> Reply
-        ensures { IsGiven self.now (fragment_reply (since self.now.content base), self.now) result self.now }
+        ensures { IsGiven (is_ok (since self.now.content base)) self.now (fragment_reply (since self.now.content base), self.now) result self.now }
     {
         match delta_since(self.alloc, &self.state, base) {
             Ok(fragment) => Reply::Fragment(fragment),
@@ -148,7 +150,7 @@ impl StateHost {
     }
 
     fn ask(&self, time: Time, query: &Query) -> Reply
-        ensures { IsGiven self.now (query_reply (reply self.now.content time query.now), self.now) result self.now }
+        ensures { IsGiven (asking_may_lack (reply self.now.content time query.now)) self.now (query_reply (reply self.now.content time query.now), self.now) result self.now }
     {
         match ask(self.alloc, &self.state, time, query) {
             Ok(answer) => Reply::Answer(answer),

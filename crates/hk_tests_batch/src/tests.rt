@@ -3,7 +3,7 @@
 mod decoding;
 mod uniting;
 
-ghost use Rattle.std.specs.Prelude.{◌≤◌};
+ghost use Rattle.std.specs.Prelude.{◌≤◌, ⊤};
 
 use hk_batch::{Gate, OpenGate, build};
 use hk_delta::Fragment;
@@ -148,7 +148,11 @@ struct Meeting {
 }
 
 impl Gate for Meeting {
-    fn enter(&self, worker: usize) {
+    ghost passed = { λ _ _. ⊤ };
+
+    fn enter(&self, worker: usize)
+        ensures { ⊤ }
+    {
         if worker == 2 {
             self.entered.store(1, SeqCst);
         }

@@ -87,7 +87,7 @@ fn linked<
     J: NodeName + Send + Sync,
     R: Net<Listener = TcpListener, Stream = TcpStream> + Threads + Wait + Abort + Sync,
 >(rt: &R, alloc: Global, list: NewList) -> Result<(), Fail>
-    requires { list.0 ≡ J.book }
+    requires { list ≡ (J.book, J.config) }
 {
     let listener = TcpListener::bind(rt, "127.0.0.1:47101")?;
     let (node, seats) = start::<J, &R>(rt, alloc, list, 3)?;

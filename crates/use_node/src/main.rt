@@ -32,7 +32,7 @@ fn told<J: NodeName, R: Wait>(
     list: NewList,
     pushed: Fragment,
 ) -> Result<String, Refusal>
-    requires { list.0 ≡ J.book }
+    requires { list ≡ (J.book, J.config) }
 {
     let (node, mut seats) = start::<J, &R>(rt, alloc, list, 2)?;
     let mut lines = String::new(alloc);

@@ -208,7 +208,7 @@ fn forged(reader: u64, at: u64) -> Result<Hold, Fail> {
 
 /// A node of log 7 with one stream and two places.
 fn new_game<J: NodeName, R: Wait>(rt: &R, alloc: Global, list: NewList) -> Result<Game<J, &R>, Fail>
-    requires { list.0 ≡ J.book }
+    requires { list ≡ (J.book, J.config) }
 {
     let (node, mut seats) = start::<J, &R>(rt, alloc, list, 2)?;
     let seat = seats.pop().ok_or("seat")?;
@@ -240,7 +240,7 @@ fn steps<J: NodeName, R: Wait + Abort>(
     list: NewList,
     rows: &[(Does, Tells)],
 ) -> Result<(), Fail>
-    requires { list.0 ≡ J.book }
+    requires { list ≡ (J.book, J.config) }
 {
     let mut game = new_game::<J, R>(rt, alloc, list)?;
     plays(rt, &mut game, rows)
@@ -388,7 +388,7 @@ fn waits<J: NodeName, R: Wait + Abort>(
     list: NewList,
     number: usize,
 ) -> Result<(), Fail>
-    requires { list.0 ≡ J.book }
+    requires { list ≡ (J.book, J.config) }
 {
     let mut game = new_game::<J, R>(rt, alloc, list)?;
     for (ops, does) in (2u64..).zip(CHANGES) {

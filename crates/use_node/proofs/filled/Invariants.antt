@@ -1,4 +1,4 @@
 use Rattle.use_node.proofs.filled.Given as goal
 
 abbrev pub ghosts-told : goal.ghosts-told
-ghosts-told g a = record { book = a.list.0 }
+ghosts-told g a = record { book = a.list.0; config = a.list.1 }

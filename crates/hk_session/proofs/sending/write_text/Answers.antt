@@ -1,4 +1,4 @@
-use Rattle.std.proofs.Common.{arith, rules, ◌+◌, ◌<◌, take}
+use Rattle.std.proofs.Common.{arith, rules, ◌+◌, ◌<◌, length, take}
 use Rattle.std.proofs.KnownBytes.{Appends-kept}
 use Rattle.hk_session.proofs.WrittenPieces.{sent_more, is_front}
 use Rattle.hk_session.proofs.sending.write_text.Goals as goal
@@ -10,7 +10,8 @@ returns-then-count-eq0-clause-part g c _ =
     let count = c.in-Ok.count in
     let sent = sent_more _ _ _ text done count c.loop-done.invariant.sent c.in-Ok.ensures.bytes in
     let faults = c.in-Ok.ensures.none c.if-count-eq0.true in
-    ((take (done + count) text, is_front (done + count) text, sent), omega (arith, faults, c.loop-done.invariant.quiet))
+    let less : done + count < length text = omega arith in
+    ((take (done + count) text, is_front (done + count) text less, sent), omega (arith, faults, c.loop-done.invariant.quiet))
 
 pub loop-done-preserved : goal.loop-done-preserved
 loop-done-preserved g c =
@@ -30,4 +31,5 @@ returns-in-Err-clause-part g c _ =
     let text = c.args.text.now in
     let done = c.loop-done.done in
     let faults = c.in-Err.ensures.err in
-    ((take done text, is_front done text, Appends-kept _ _ _ (take done text) c.loop-done.invariant.sent c.in-Err.ensures.bytes), omega (arith, faults, c.loop-done.invariant.quiet))
+    let less : done < length text = omega arith in
+    ((take done text, is_front done text less, Appends-kept _ _ _ (take done text) c.loop-done.invariant.sent c.in-Err.ensures.bytes), omega (arith, faults, c.loop-done.invariant.quiet))

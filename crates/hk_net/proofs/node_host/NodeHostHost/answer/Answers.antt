@@ -20,4 +20,4 @@ pub returns-in-Prune-clause-may : goal.returns-in-Prune-clause-may
 returns-in-Prune-clause-may g c = (c.prune.ensures.legal, c.prune.ensures.seen, rw c.in-Prune.is c.prune.ensures.told)
 
 pub returns-in-JoinThis-clause-may : goal.returns-in-JoinThis-clause-may
-returns-in-JoinThis-clause-may g c = (c.join.ensures.legal, c.join.ensures.seen, joined_is _ c.args.request _ _ c.in-JoinThis.is c.join.ensures.told)
+returns-in-JoinThis-clause-may g c = (c.join.ensures.legal, c.join.ensures.seen, joined_is _ _ _ c.args.request _ _ c.in-JoinThis.is c.join.ensures.told)

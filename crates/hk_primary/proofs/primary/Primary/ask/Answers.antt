@@ -17,3 +17,9 @@ returns-clause-told c =
     let a = c.self.inside in
     on_same c.answer_at.result _ (table_at (commits c.args.self.now.history) c.args.time) c.args.query.now
     (shown_is a.config a.newest a.log.items a.facts a.counts.items a.retired.items c.self.invariant c.args.time ∙ ap (λ (p : PrimaryValue). table_at (commits p.history) c.args.time) c.self.view_is) c.answer_at.ensures.ok
+
+pub returns-clause-absent : goal.returns-clause-absent
+returns-clause-absent c _ none =
+    let a = c.self.inside in
+    let same = shown_is a.config a.newest a.log.items a.facts a.counts.items a.retired.items c.self.invariant c.args.time ∙ ap (λ (p : PrimaryValue). table_at (commits p.history) c.args.time) c.self.view_is in
+    c.answer_at.ensures.absent (ap (λ (tables : Tables). answer tables c.args.query.now) same ∙ none)

@@ -1,0 +1,94 @@
+"""What is raised. Each error says its number where it has one, the words of `hkrep explain`, and the place."""
+from __future__ import annotations
+
+from typing import Any, Dict, Tuple
+
+from .reasons import REASONS
+
+
+class VadungsilError(Exception):
+    """The base of all errors of this package."""
+
+
+class Refused(VadungsilError):
+    """A refusal, of a node or of a value here. A node that refuses changes nothing, but for 23 and 42 (docs/PROTOCOL.md).
+
+    `number` is that of docs/FORMATS.md, `values` its fields in order (`error.readable` of 26 and so on is one of them by name),
+    `place` where it was met."""
+
+    def __init__(self, number: int, *values: int, place: str = "") -> None:
+        super().__init__(number, *values)
+        self.number, self.values, self.place = number, tuple(values), place
+
+    @property
+    def name(self) -> str:
+        return REASONS[self.number].name
+
+    @property
+    def meaning(self) -> str:
+        return REASONS[self.number].meaning
+
+    @property
+    def advice(self) -> str:
+        return REASONS[self.number].advice
+
+    @property
+    def fields(self) -> Dict[str, int]:
+        """The fields by name, as docs/FORMATS.md has them."""
+        return dict(zip(REASONS[self.number].fields, self.values))
+
+    @property
+    def line(self) -> str:
+        """The line that `hkrep` prints: `refused 26 readable 0`."""
+        return " ".join(["refused", str(self.number), *(f"{name} {value}" for name, value in self.fields.items())])
+
+    def at(self, place: str) -> "Refused":
+        """The same with a place before its own, as `frame 3`."""
+        self.place = f"{place}, {self.place}" if self.place else place
+        return self
+
+    def __getattr__(self, name: str) -> Any:
+        if not name.startswith("_") and "values" in self.__dict__:
+            fields = self.fields
+            if name in fields:
+                return fields[name]
+        raise AttributeError(name)
+
+    def __str__(self) -> str:
+        place = f"{self.place}: " if self.place else ""
+        fields = "".join(f" {name} {value}" for name, value in self.fields.items())
+        return f"{place}refused {self.number}{fields}: {self.meaning}; {self.advice}"
+
+    def __eq__(self, other: object) -> bool:
+        return isinstance(other, Refused) and (self.number, self.values) == (other.number, other.values)
+
+    def __hash__(self) -> int:
+        return hash((self.number, self.values))
+
+    def __reduce__(self) -> Tuple[Any, ...]:
+        return _again, (type(self), self.number, self.values, self.place)
+
+
+def _again(kind: type, number: int, values: Tuple[int, ...], place: str) -> Refused:
+    return kind(number, *values, place=place)
+
+
+class Fault(Refused):
+    """A fault of form, 1 to 10: bytes that are no frame, or a value that has none."""
+
+
+class LinkBroken(VadungsilError):
+    """A link could not be opened, or ended where a reply was awaited; whether the request was made isn't known."""
+
+
+class TimeLimit(LinkBroken):
+    """No reply within the time limit; the link was closed, and whether the request was made isn't known."""
+
+
+class NotResumable(VadungsilError):
+    """A whole from which a log can't be gone on with, and why."""
+
+
+def refusal(number: int, *values: int, place: str = "") -> Refused:
+    """A `Fault` for 1 to 10, else a `Refused`."""
+    return (Fault if number <= 10 else Refused)(number, *values, place=place)

@@ -1,0 +1,196 @@
+"""A node of one log, over a link."""
+from __future__ import annotations
+
+import threading
+from types import TracebackType
+from typing import Any, Generic, List, Optional, Tuple, Type, TypeVar
+
+from .errors import Fault, LinkBroken, TimeLimit
+from .link import Address, Link, address_of
+from .requests import FRONT, Moment, Read, Requests, ask_frame, read_front
+from .values import LAST_TIME, Fragment, Front, KeyRow, Query, Row, Stream, time_of
+
+Result = TypeVar("Result")
+Rows_ = List[KeyRow]
+
+# So much of a pipeline is sent before its replies are looked at.
+WINDOW = 1_024
+
+
+class Later(Generic[Result]):
+    """What a request of a pipeline is replied, once the pipeline has run."""
+
+    __slots__ = ("_rest", "_read", "_error")
+
+    def __init__(self, read: Read) -> None:
+        self._read, self._rest, self._error = read, None, None  # type: Read, Optional[bytes], Optional[Exception]
+
+    def result(self) -> Result:
+        """The value, or what the node refused."""
+        if self._error is not None:
+            raise self._error
+        if self._rest is None:
+            raise RuntimeError("the pipeline has not run yet")
+        value: Result = self._read(self._rest)
+        return value
+
+
+class Node(Requests[Optional[Row], Rows_, int, Front, Fragment]):
+    """A node: `Node(47000)`, `Node("127.0.0.1:47000")`. The link is opened with the first request, kept, and opened anew where it broke;
+    a request whose reply did not come is then made once more, which is safe for all of them: a change made twice is as made once (the
+    number that it tells is another). A time limit is not tried again: `TimeLimit` is raised.
+
+    Threads may share a node; their requests go one after the other. `limit` is the most seconds of each wait, None without one."""
+
+    def __init__(self, address: Address, limit: Optional[float] = 20.0, tries: int = 2) -> None:
+        self.address, self.limit, self.tries = address_of(address), limit, max(tries, 1)
+        self._link: Optional[Link] = None
+        self._lock = threading.RLock()
+
+    @property
+    def name(self) -> str:
+        return f"{self.address[0]}:{self.address[1]}"
+
+    # ------------------------------------------------------------ requests
+
+    def _call(self, request: bytes, read: Read) -> Any:
+        return read(self._exchange([request])[0])
+
+    def _read(self, at: Optional[int], query: Query, read: Read) -> Any:
+        return self._call(ask_frame(self.front().readable if at is None else at, query), read)
+
+    def streams(self) -> Tuple[Stream, ...]:
+        """How far each stream is: for feeders, which go on behind each `prefix`. A delta since the last time of all has no facts."""
+        return self.delta(LAST_TIME).streams
+
+    def at(self, time: Optional[int] = None) -> "NodeMoment":
+        """One moment: all questions at this time, or at the readable mark of now."""
+        return NodeMoment(self, self.front().readable if time is None else time_of(time))
+
+    def pipeline(self) -> "Pipeline":
+        """Requests that are sent together: `with node.pipeline() as pipe:`, and `pipe.get(..).result()` behind the block."""
+        return Pipeline(self)
+
+    # ------------------------------------------------------------ the link
+
+    def _exchange(self, requests: List[bytes]) -> List[bytes]:
+        """The rests of the replies. Where the link breaks, what was not replied is made again over a new one."""
+        found: List[bytes] = []
+        with self._lock:
+            for left in range(self.tries - 1, -1, -1):
+                try:
+                    self._exchange_once(requests, found)
+                    return found
+                except (TimeLimit, Fault):
+                    self._drop()
+                    raise
+                except LinkBroken:
+                    self._drop()
+                    if not left:
+                        raise
+                except BaseException:
+                    self._drop()
+                    raise
+        return found
+
+    def _exchange_once(self, requests: List[bytes], found: List[bytes]) -> None:
+        if self._link is None:
+            self._link = Link(self.address, self.limit)
+        while len(found) < len(requests):
+            part = requests[len(found):len(found) + WINDOW]
+            come: List[bytes] = []
+            try:
+                self._link.exchange(part[0] if len(part) == 1 else b"".join(part), len(part), come)
+            finally:
+                found += come
+            if come and _ends_link(come[-1]):
+                self._drop()
+                if len(found) < len(requests):
+                    raise LinkBroken(f"{self.name}: the node ended the link")
+
+    def _drop(self) -> None:
+        if self._link is not None:
+            self._link.close()
+            self._link = None
+
+    def close(self) -> None:
+        """Closes the link, where one is open. The next request opens another."""
+        with self._lock:
+            self._drop()
+
+    def __enter__(self) -> "Node":
+        return self
+
+    def __exit__(self, kind: Optional[Type[BaseException]], error: Optional[BaseException], trace: Optional[TracebackType]) -> None:
+        self.close()
+
+    def __repr__(self) -> str:
+        return f"Node({self.name!r})"
+
+
+def _ends_link(rest: bytes) -> bool:
+    """Whether a reply is a refusal of form, behind which the node ends the link (2 may be that of a long reply, and then it goes on)."""
+    return rest[1] == 36 and len(rest) > 2 and 1 <= rest[2] <= 10 and rest[2] != 2
+
+
+class NodeMoment(Moment[Optional[Row], Rows_, int]):
+    """Questions to a node at one time."""
+
+    def __init__(self, node: Node, time: int) -> None:
+        self.node, self.time = node, time
+
+    def _read(self, query: Query, read: Read) -> Any:
+        return self.node._read(self.time, query, read)
+
+    def pipeline(self) -> "Pipeline":
+        """Questions at this time that are sent together."""
+        return Pipeline(self.node, self.time)
+
+    def __enter__(self) -> "NodeMoment":
+        return self
+
+    def __exit__(self, *_: object) -> None:
+        pass
+
+
+class Pipeline(Requests["Later[Optional[Row]]", "Later[Rows_]", "Later[int]", "Later[Front]", "Later[Fragment]"]):
+    """Requests that are sent together when the block is left, or by `run`. Each gives a `Later`; what a node refuses is raised by its
+    `result`. Questions without a time are asked at the readable mark of when the first of them was written."""
+
+    def __init__(self, node: Node, time: Optional[int] = None) -> None:
+        self.node, self.time = node, time
+        self._requests: List[bytes] = []
+        self._laters: List[Later[Any]] = []
+
+    def _call(self, request: bytes, read: Read) -> Any:
+        later: Later[Any] = Later(read)
+        self._requests.append(request)
+        self._laters.append(later)
+        return later
+
+    def _read(self, at: Optional[int], query: Query, read: Read) -> Any:
+        if at is None:
+            if self.time is None:
+                self.time = self.node.front().readable
+            at = self.time
+        return self._call(ask_frame(at, query), read)
+
+    def run(self) -> None:
+        """Sends what was written since the last run, and takes the replies."""
+        requests, laters = self._requests, self._laters
+        self._requests, self._laters = [], []
+        if requests:
+            try:
+                for later, rest in zip(laters, self.node._exchange(requests)):
+                    later._rest = rest
+            except Exception as error:
+                for later in laters:
+                    later._error = error
+                raise
+
+    def __enter__(self) -> "Pipeline":
+        return self
+
+    def __exit__(self, kind: Optional[Type[BaseException]], error: Optional[BaseException], trace: Optional[TracebackType]) -> None:
+        if kind is None:
+            self.run()

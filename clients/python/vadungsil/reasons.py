@@ -1,0 +1,64 @@
+"""What each number means and what to do, in the words of `hkrep explain`."""
+from __future__ import annotations
+
+from typing import Dict, NamedTuple, Tuple
+
+
+class Reason(NamedTuple):
+    """A number's name, the names of its fields, what it means, and what to do."""
+
+    name: str
+    fields: Tuple[str, ...]
+    meaning: str
+    advice: str
+
+
+def _of(name: str, meaning: str, advice: str, *fields: str) -> Reason:
+    return Reason(name, fields, meaning, advice)
+
+
+REASONS: Dict[int, Reason] = {
+    1: _of("Truncated", "the input ends inside a frame", "send the frame to its end"),
+    2: _of("TooLong", "the length field is above its limit, or a value has no encoding",
+           "mend the sender: 4233248 bytes are the most of an item, 268435456 of a message"),
+    3: _of("BadVersion", "the version byte is not 1, nor 2 in an item frame", "mend the sender: items have version 1 or 2, messages version 1"),
+    4: _of("BadKind", "the kind byte has no meaning there", "mend the sender: items have kind 1 or 2, requests 16 to 23, replies 32 to 36"),
+    5: _of("BadStream", "a stream number or count outside 1 to 64", "mend the sender: a log has 1 to 64 streams"),
+    6: _of("BadNumber", "a number, time, mark, flag or reserved field outside its range", "mend the sender: docs/FORMATS.md has the range of each field"),
+    7: _of("BadOrder", "a list does not rise strictly", "mend the sender: lists rise by table and key, each at most once"),
+    8: _of("BadCount", "a count above its limit, or both lists of an entry empty", "mend the sender: an entry has 1 to 1024 ends or rows"),
+    9: _of("BadBody", "a body above 4,096 bytes", "split the row: a body has at most 4096 bytes"),
+    10: _of("WrongLength", "a field does not fit in the rest, or bytes are left, or the rest is shorter than its least",
+            "mend the sender: the length field counts the bytes behind it"),
+    20: _of("ForeignLog", "another log id", "feed each log to a replica of its own"),
+    21: _of("WrongStreams", "a stream above the configured number, or another number of streams", "give the replica the number of streams that the log has"),
+    22: _of("Gap", "a delta begins above the target's readable mark", "ask for a delta since the readable mark, or for the whole", "base", "readable"),
+    23: _of("Conflict", "a conflict", "find the wrong feed: the items are not of one log, or the log was begun anew under its id"),
+    24: _of("AheadOfMark", "a prune above the readable mark", "prune to the readable mark at most", "readable"),
+    25: _of("TooOld", "a time below the horizon", "ask at the horizon or later", "horizon"),
+    26: _of("NotYet", "a time above the readable mark", "feed the marks of all streams, or ask at the readable mark", "readable"),
+    30: _of("WriteConflict", "a later commit wrote the key", "begin the transaction again", "table", "key", "at"),
+    31: _of("NoRow", "a removed key is absent", "remove only what is there when the transaction begins", "table", "key"),
+    32: _of("TwiceWritten", "the transaction wrote the key already", "write each key once"),
+    33: _of("TooManyWrites", "a write after 1,024", "commit, and go on in another transaction"),
+    34: _of("NoStream", "the primary has no such stream", "name a stream that the log has"),
+    35: _of("ClockFull", "the last time is 2^62", "begin a new log: this one is full"),
+    36: _of("Retired", "the stream is retired", "commit on another stream", "stream"),
+    40: _of("Held", "the horizon of a join or merge would pass a hold", "wait until the reader releases its hold", "reader", "at"),
+    41: _of("Damaged", "the node met a conflict", "build the node anew from one good source"),
+    42: _of("Unpublished", "appended, not yet published", "publish again, or make the next change: this one stands", "ops"),
+    43: _of("NodeFull", "the list has 2^62 operations", "start a new node: this one is full"),
+    44: _of("NoHold", "no such hold stands", "release each hold once, at its own node"),
+    45: _of("NoSuch", "no such replica or item in a world", "name a replica that the world has, and an item that was emitted"),
+    90: _of("Memory", "a growth was refused", "free memory, and make the same call again"),
+    91: _of("ReadFault", "a read failed, or the bound on reads (2^32) was met", "look at the device or the link that is read"),
+    92: _of("WriteFault", "a write failed or took 0 bytes", "look at the device or the link that is written to"),
+    93: _of("NetFault", "bind, accept or connect failed", "see that a node listens on the port, or that no other program does"),
+}
+
+
+def explain(number: int) -> str:
+    """The line that `hkrep explain NUMBER` prints; a KeyError where no refusal has the number."""
+    reason = REASONS[number]
+    fields = " {" + ", ".join(reason.fields) + "}" if reason.fields else ""
+    return f"{number} {reason.name}{fields}: {reason.meaning}; {reason.advice}"

@@ -1,0 +1,156 @@
+"""What can be asked, for every kind of asker: a node, a pipeline, one moment, and their asyncio twins."""
+from __future__ import annotations
+
+from typing import Any, Callable, Generic, Iterable, List, Optional, TypeVar, Union
+
+from .errors import Fault, Refused
+from .messages import encode_request, framed, items_frame, query_bytes, reply_of
+from .reading import Bytes
+from .values import LAST_KEY, ByTag, Count, Delta, Done, Fragment, Front, Get, Item, JoinThis, KeyRow, MergeThis, Number, One, Prune, Query, Range, Row, Rows, time_of
+
+RowT = TypeVar("RowT")
+RowsT = TypeVar("RowsT")
+NumberT = TypeVar("NumberT")
+FrontT = TypeVar("FrontT")
+FragmentT = TypeVar("FragmentT")
+Read = Callable[[bytes], Any]
+
+FRONT = framed(17, b"")
+FULL = framed(19, b"")
+
+
+def ask_frame(time: int, query: Query) -> bytes:
+    body = query_bytes(query)
+    return (len(body) + 10).to_bytes(4, "big") + b"\1\x14" + time_of(time).to_bytes(8, "big") + body
+
+
+def value_of(rest: bytes, kind: type) -> Any:
+    """The reply of this kind; a refusal is raised, and a reply of another kind is 4."""
+    value = reply_of(rest)
+    if isinstance(value, Refused):
+        raise value
+    if not isinstance(value, kind):
+        raise Fault(4, place=f"a reply of {type(value).__name__}, where {kind.__name__} was asked for")
+    return value
+
+
+def read_row(rest: bytes) -> Optional[Row]:
+    if len(rest) >= 10 and rest[:4] == b"\1\x23\1\1":
+        size = rest[8] << 8 | rest[9]
+        if size == len(rest) - 10 and size <= 4_096:
+            row = object.__new__(Row)
+            fields = row.__dict__
+            fields["tag"], fields["body"] = int.from_bytes(rest[4:8], "big"), rest[10:]
+            return row
+    row_or_none: Optional[Row] = value_of(rest, One).row
+    return row_or_none
+
+
+def read_rows(rest: bytes) -> List[KeyRow]:
+    return list(value_of(rest, Rows).rows)
+
+
+def read_number(rest: bytes) -> int:
+    count: int = value_of(rest, Number).count
+    return count
+
+
+def read_front(rest: bytes) -> Front:
+    front: Front = value_of(rest, Front)
+    return front
+
+
+def read_fragment(rest: bytes) -> Fragment:
+    fragment: Fragment = value_of(rest, Fragment)
+    return fragment
+
+
+def read_done(rest: bytes) -> int:
+    operations: int = value_of(rest, Done).operations
+    return operations
+
+
+class Moment(Generic[RowT, RowsT, NumberT]):
+    """Questions at one time. `time` is it."""
+
+    time: int
+
+    def _read(self, query: Query, read: Read) -> Any:
+        raise NotImplementedError
+
+    def get(self, table: int, key: int) -> RowT:
+        """The row of a key, or None."""
+        return self._read(Get(table, key), read_row)
+
+    def range(self, table: int, low: int = 0, high: int = LAST_KEY) -> RowsT:
+        """The rows of the keys from low to high, both with, by rising key."""
+        return self._read(Range(table, low, high), read_rows)
+
+    def by_tag(self, table: int, tag: int) -> RowsT:
+        """The rows with a tag, by rising key."""
+        return self._read(ByTag(table, tag), read_rows)
+
+    def count(self, table: int) -> NumberT:
+        """How many rows a table has."""
+        return self._read(Count(table), read_number)
+
+
+class Reads(Generic[RowT, RowsT, NumberT]):
+    """Questions, each at a time of its own; without one, at the readable mark, for which the front is asked first.
+
+    Raised: 25 below the horizon (`error.horizon`), 26 above the readable mark (`error.readable`)."""
+
+    def _read(self, at: Optional[int], query: Query, read: Read) -> Any:
+        raise NotImplementedError
+
+    def get(self, table: int, key: int, at: Optional[int] = None) -> RowT:
+        """The row of a key, or None."""
+        return self._read(at, Get(table, key), read_row)
+
+    def range(self, table: int, low: int = 0, high: int = LAST_KEY, at: Optional[int] = None) -> RowsT:
+        """The rows of the keys from low to high, both with, by rising key. More than 2^28 bytes of them are refused 2."""
+        return self._read(at, Range(table, low, high), read_rows)
+
+    def by_tag(self, table: int, tag: int, at: Optional[int] = None) -> RowsT:
+        """The rows with a tag, by rising key."""
+        return self._read(at, ByTag(table, tag), read_rows)
+
+    def count(self, table: int, at: Optional[int] = None) -> NumberT:
+        """How many rows a table has."""
+        return self._read(at, Count(table), read_number)
+
+
+class Requests(Reads[RowT, RowsT, NumberT], Generic[RowT, RowsT, NumberT, FrontT, FragmentT]):
+    """All requests of docs/PROTOCOL.md. A change gives the number of the node's operations that ends with it."""
+
+    def _call(self, request: bytes, read: Read) -> Any:
+        raise NotImplementedError
+
+    def front(self) -> FrontT:
+        """From where to where can be read."""
+        return self._call(FRONT, read_front)
+
+    def items(self, items: Iterable[Union[Item, Bytes]]) -> NumberT:
+        """Takes items, or the bytes of their frames, all or none; at most 65,536. Sent twice is as once. 20 and 21: not of this log;
+        23: they conflict with one another, or with what the node holds, which damages it (41 from then on)."""
+        return self._call(items_frame(items), read_done)
+
+    def delta(self, base: int) -> FragmentT:
+        """What happened since a time from the horizon to the readable mark."""
+        return self._call(encode_request(Delta(base)), read_fragment)
+
+    def whole(self) -> FragmentT:
+        """All that the node holds. More than 2^28 bytes of it are refused 2."""
+        return self._call(FULL, read_fragment)
+
+    def join(self, fragment: Fragment) -> NumberT:
+        """Takes a delta or a whole of another node. 22: it begins above this node's readable mark (`error.readable`)."""
+        return self._call(encode_request(JoinThis(fragment)), read_done)
+
+    def merge(self, fragment: Fragment) -> NumberT:
+        """Takes the whole of another node; its base is 0."""
+        return self._call(encode_request(MergeThis(fragment)), read_done)
+
+    def prune(self, horizon: int) -> NumberT:
+        """Drops the versions that ended up to a time, which becomes the horizon. 24: it is above the readable mark."""
+        return self._call(encode_request(Prune(horizon)), read_done)

@@ -1,0 +1,175 @@
+"""A writer of a log, for who has a primary of his own.
+
+Nothing of it is proved. A replica answers with the primary's rows where its items are those of one history (docs/DEFINITIONS.md); that the
+items that are written here are, is shown by tests alone. And whether what is handed in here is what the primary did, nobody sees but its
+owner."""
+from __future__ import annotations
+
+from typing import Any, Dict, Iterable, List, Optional, Tuple, Union
+
+from .errors import Fault, NotResumable, Refused
+from .values import LAST_TIME, MOST_STREAMS, MOST_WRITES, Entry, Fragment, Mark, Put, Row, VersionKey, key_of, number_in, table_of
+
+Place = Tuple[int, int]
+
+
+class LogWriter:
+    """Hands out numbers, births and, if wanted, times, and gives the entries and marks to send. One thread at a time.
+
+    It keeps for each row that is there the time of its birth: about 150 bytes a row. A transaction that is refused changes nothing."""
+
+    def __init__(self, log: int, streams: int) -> None:
+        self.log = number_in(log, 0, 2 ** 64 - 1, "log")
+        self.streams = number_in(streams, 1, MOST_STREAMS, "number of streams", 5)
+        self.time = 0
+        self._born: Dict[Place, int] = {}
+        self._numbers = [0] * streams
+        self._retired = [False] * streams
+
+    # ------------------------------------------------------------ writing
+
+    def commit(self, puts: Iterable[Any] = (), removes: Iterable[Place] = (), stream: int = 1, time: Optional[int] = None) -> Optional[Entry]:
+        """The entry of a transaction: `puts` are (table, key, tag, body) or (table, key, Row), `removes` (table, key). Without a time it
+        is one above the last. None where nothing is written.
+
+        Refused, in this order: 32 a key that is written twice, 33 a write after 1,024, 34 no such stream, 36 a retired one, 31 a removed
+        row that is not there, 35 no time is left, 6 a time that is not above the last."""
+        writes = self._writes(puts, removes)
+        at = self._open(stream)
+        for (table, key), row in sorted(writes.items(), key=lambda it: it[0]):
+            if row is None and (table, key) not in self._born:
+                raise Refused(31, table, key, place=f"stream {stream}")
+        if not writes:
+            return None
+        entry = self._entry(writes, stream, at, self._next(time))
+        for place, row in writes.items():
+            if row is None:
+                del self._born[place]
+            else:
+                self._born[place] = entry.time
+        self.time, self._numbers[at] = entry.time, entry.number
+        return entry
+
+    def transaction(self, stream: int = 1, time: Optional[int] = None) -> "Transaction":
+        """`with writer.transaction() as it:`, and `it.entry` behind the block."""
+        return Transaction(self, stream, time)
+
+    def mark(self, stream: int) -> Mark:
+        """The mark that closes a stream up to the last commit. 34 and 36 as above."""
+        at = self._open(stream)
+        return Mark(self.log, stream, self._numbers[at], self.time)
+
+    def marks(self) -> List[Mark]:
+        """The marks of all streams that are not retired: what a node needs to be readable up to the last commit."""
+        return [self.mark(stream) for stream in range(1, self.streams + 1) if not self._retired[stream - 1]]
+
+    def retire(self, stream: int) -> Mark:
+        """The last mark of a stream, which takes no commit from then on and holds no replica back."""
+        at = self._open(stream)
+        self._retired[at] = True
+        return Mark(self.log, stream, self._numbers[at], LAST_TIME)
+
+    # ------------------------------------------------------------ what is kept
+
+    def born(self, table: int, key: int) -> Optional[int]:
+        """The time at which the row that is at a key was put, or None where none is."""
+        return self._born.get((table, key))
+
+    def number(self, stream: int) -> int:
+        """How many entries a stream has."""
+        return self._numbers[number_in(stream, 1, self.streams, "stream", 34) - 1]
+
+    def is_retired(self, stream: int) -> bool:
+        return self._retired[number_in(stream, 1, self.streams, "stream", 34) - 1]
+
+    # ------------------------------------------------------------ parts
+
+    @staticmethod
+    def _writes(puts: Iterable[Any], removes: Iterable[Place]) -> Dict[Place, Optional[Row]]:
+        writes: Dict[Place, Optional[Row]] = {}
+        every: List[Tuple[Any, Any, Optional[Row]]] = [(it[0], it[1], it[2] if len(it) == 3 else Row(it[2], it[3])) for it in puts]
+        every += [(table, key, None) for table, key in removes]
+        for table, key, row in every:
+            place = (table_of(table), key_of(key))
+            if place in writes:
+                raise Refused(32, place=f"table {table} key {key}")
+            if len(writes) == MOST_WRITES:
+                raise Refused(33, place=f"table {table} key {key}")
+            writes[place] = row
+        return writes
+
+    def _open(self, stream: int) -> int:
+        if not isinstance(stream, int) or not 1 <= stream <= self.streams:
+            raise Refused(34, place=f"stream {stream}")
+        if self._retired[stream - 1]:
+            raise Refused(36, stream)
+        return stream - 1
+
+    def _next(self, time: Optional[int]) -> int:
+        if self.time == LAST_TIME:
+            raise Refused(35, place=f"time {self.time}")
+        if time is None:
+            return self.time + 1
+        if not self.time < time <= LAST_TIME:
+            raise Fault(6, place=f"time {time} is not above the last, {self.time}, and at most 2^62")
+        return time
+
+    def _entry(self, writes: Dict[Place, Optional[Row]], stream: int, at: int, time: int) -> Entry:
+        ends = [VersionKey(*place, self._born[place]) for place in writes if place in self._born]
+        rows = [Put(*place, row) for place, row in writes.items() if row is not None]
+        return Entry.of(self.log, stream, self._numbers[at] + 1, time, ends, rows)
+
+    # ------------------------------------------------------------ going on
+
+    @classmethod
+    def resume(cls, whole: Fragment) -> "LogWriter":
+        """A writer that goes on where a node's whole ends. The node must have taken **everything** that was written: what it lacks at the
+        end of a stream can't be seen here, and would be written a second time, with other rows (23 at every node that has the first).
+        `NotResumable` where something is seen to be missing: a part of the log, a gap, a mark that waits, an end without its row."""
+        if whole.base != 0:
+            raise NotResumable(f"a delta since {whole.base} is no whole")
+        writer = cls(whole.log, len(whole.streams))
+        for number, stream in enumerate(whole.streams, 1):
+            if stream.extra or stream.waiting:
+                raise NotResumable(f"stream {number} has gaps: {len(stream.extra)} numbers above {stream.prefix}, {len(stream.waiting)} marks that wait")
+            writer._numbers[number - 1] = stream.prefix
+            writer._retired[number - 1] = stream.closed == LAST_TIME
+            if stream.closed < LAST_TIME:
+                writer.time = max(writer.time, stream.closed)
+        writer.time = max(writer.time, whole.horizon)
+        for fact in whole.facts:
+            writer._learn(fact.version, fact.row, fact.died)
+        return writer
+
+    def _learn(self, version: VersionKey, row: Optional[Row], died: Optional[int]) -> None:
+        place = (version.table, version.key)
+        if row is None:
+            raise NotResumable(f"{version} has ended, and its row is missing")
+        if died is None and place in self._born:
+            raise NotResumable(f"{version} and the version of {self._born[place]} both stand: an entry is missing")
+        self.time = max(self.time, version.born, died or 0)
+        if died is None:
+            self._born[place] = version.born
+
+
+class Transaction:
+    """Writes that are committed when the block is left, and dropped where it raises."""
+
+    def __init__(self, writer: LogWriter, stream: int, time: Optional[int]) -> None:
+        self.writer, self.stream, self.time = writer, stream, time
+        self.puts: List[Put] = []
+        self.removes: List[Place] = []
+        self.entry: Optional[Entry] = None
+
+    def put(self, table: int, key: int, tag: int, body: Union[bytes, bytearray] = b"") -> None:
+        self.puts.append(Put(table, key, Row(tag, bytes(body))))
+
+    def remove(self, table: int, key: int) -> None:
+        self.removes.append((table, key))
+
+    def __enter__(self) -> "Transaction":
+        return self
+
+    def __exit__(self, kind: Any, *_: object) -> None:
+        if kind is None:
+            self.entry = self.writer.commit(self.puts, self.removes, self.stream, self.time)

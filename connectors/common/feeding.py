@@ -1,0 +1,185 @@
+"""The node's side of any connector: the frames of an input by their heads, and a link that is fed ahead of its replies. Standard library,
+and the package `vadungsil` of this checkout."""
+from __future__ import annotations
+
+import pathlib
+import socket
+import struct
+import sys
+import time
+from typing import List, NamedTuple, Optional, Sequence, Tuple
+
+_PACKAGE = pathlib.Path(__file__).resolve().parents[2] / "clients" / "python"
+if _PACKAGE.is_dir():
+    sys.path.insert(0, str(_PACKAGE))
+
+from vadungsil.errors import Fault, LinkBroken, Refused, TimeLimit       # noqa: E402
+from vadungsil.items import LEAST_REST, MOST_REST, Head, head_of       # noqa: E402
+from vadungsil.link import Address, Link, address_of      # noqa: E402
+from vadungsil.messages import MOST_ITEMS, MOST_MESSAGE, encode_request, framed, items_frame      # noqa: E402
+from vadungsil.reading import FrameFeeder      # noqa: E402
+from vadungsil.requests import FRONT, FULL, read_done, read_fragment, read_front      # noqa: E402
+from vadungsil.values import LAST_TIME, Delta, Front, Stream      # noqa: E402
+
+# How many bytes of items go into one request: far below what a message can have.
+MOST_BYTES = 4_000_000
+
+_PLACE = struct.Struct(">BBQHQQ").unpack_from
+
+
+class HeadFeeder(FrameFeeder[Head]):
+    """The heads of item frames, in pieces that are cut anyhow; `feed_frames` gives each with its frame. Lists aren't looked at."""
+
+    least, most = LEAST_REST, MOST_REST
+
+    def decode(self, rest: bytes) -> Head:
+        return head_of(b"\0\0\0\0" + rest[:28])
+
+
+class Place(NamedTuple):
+    """What a frame in a broker says of itself. An entry's `first` and `second` are number and time, a mark's n and m."""
+
+    is_entry: bool
+    log: int
+    stream: int
+    first: int
+    second: int
+
+
+def place_of(frame: bytes) -> Place:
+    """The same as `head_of` in a tenth of its time, with no look at the limits; 10 where the frame is too short for it."""
+    if len(frame) < 32:
+        raise Fault(10, place=f"a frame of {len(frame)} bytes")
+    _, kind, log, stream, first, second = _PLACE(frame, 4)
+    return Place(kind == 1, log, stream, first, second)
+
+
+def in_requests(frames: Sequence[bytes]) -> List[Sequence[bytes]]:
+    """The frames in parts that fit into one request each."""
+    parts, start, size = [], 0, 0
+    for at, frame in enumerate(frames):
+        if at > start and (size + len(frame) > MOST_BYTES or at - start == MOST_ITEMS):
+            parts.append(frames[start:at])
+            start, size = at, 0
+        size += len(frame)
+    return [*parts, frames[start:]] if frames else []
+
+
+class Feed(Link):
+    """One link to a node, over which items are sent a few requests ahead of their replies. After `LinkBroken` it is of no more use: who
+    comes again opens another, and asks the node anew how far it is (it may be another node by then)."""
+
+    def __init__(self, address: Address, limit: Optional[float] = 60.0, ahead: int = 4) -> None:
+        super().__init__(address_of(address), limit)
+        self.replies = self.socket.makefile("rb")
+        self.ahead, self.waiting = ahead, []  # type: int, List[str]
+
+    def close(self) -> None:
+        if hasattr(self, "replies"):
+            self.replies.close()
+        super().close()
+
+    # ------------------------------------------------------------ items
+
+    def send_items(self, frames: Sequence[bytes], name: str = "items") -> None:
+        """Sends items; waits for replies only while `ahead` requests have none. What the node refuses is raised with the name of the
+        request, by this call or a later one. 42 isn't raised: the change stands."""
+        while len(self.waiting) >= self.ahead:
+            self.take()
+        self._send(items_frame(frames), name)
+
+    def take(self) -> None:
+        """Takes the reply to the oldest items on their way."""
+        name, rest = self.waiting[0], self._reply()
+        try:
+            read_done(rest)
+        except Refused as refused:
+            if refused.number != 42:
+                raise refused.at(name)
+
+    def drain(self) -> None:
+        """Takes all replies."""
+        while self.waiting:
+            self.take()
+
+    # ------------------------------------------------------------ questions
+
+    def front(self) -> Front:
+        return read_front(self._ask(FRONT))
+
+    def streams(self) -> Tuple[Stream, ...]:
+        """How far each stream is. No request of its own tells it, but each delta does at its head, and one whose base is the last time of
+        all has no facts behind it: 36 bytes and 24 a stream, 8 for each extra number and 16 for each waiting mark."""
+        return read_fragment(self._ask(encode_request(Delta(LAST_TIME)))).streams
+
+    def facts_since(self, base: int) -> bytes:
+        """The body of the fragment since a base, for another node's `join_facts`; of the whole, where the node can't say it since then."""
+        rest = self._ask(encode_request(Delta(base)))
+        if rest[1] == 36:
+            rest = self._ask(FULL)
+        if rest[1] == 36:
+            read_fragment(rest)
+        return rest[2:]
+
+    def join_facts(self, body: bytes) -> None:
+        read_done(self._ask(framed(21, body)))
+
+    # ------------------------------------------------------------ bytes
+
+    def _ask(self, request: bytes) -> bytes:
+        self.drain()
+        self._send(request, "")
+        return self._reply()
+
+    def _send(self, request: bytes, name: str) -> None:
+        try:
+            self.socket.sendall(request)
+        except socket.timeout:
+            raise self._over_time() from None
+        except OSError as error:
+            raise LinkBroken(f"{self.name}: {error}") from error
+        self.waiting.append(name)
+
+    def _reply(self) -> bytes:
+        size = int.from_bytes(self._exactly(4), "big")
+        if not 2 <= size <= MOST_MESSAGE:
+            raise LinkBroken(f"{self.name}: a reply of length {size}")
+        rest = self._exactly(size)
+        del self.waiting[0]
+        return rest
+
+    def _exactly(self, size: int) -> bytes:
+        try:
+            data = self.replies.read(size)
+        except socket.timeout:
+            raise self._over_time() from None
+        except OSError as error:
+            raise LinkBroken(f"{self.name}: {error}") from error
+        if len(data) < size:
+            raise LinkBroken(f"{self.name}: the node ended the link")
+        return data
+
+    def _over_time(self) -> TimeLimit:
+        return TimeLimit(f"{self.name}: no reply within {self.limit} s")
+
+
+class Patience:
+    """Waits after failures, each time twice as long, from 50 ms to 5 s; and says on standard error why, once for each reason in a row."""
+
+    def __init__(self, name: str) -> None:
+        self.name, self.pause, self.said = name, 0.05, ""
+
+    def say(self, text: str) -> None:
+        print(f"{self.name}: {text}", file=sys.stderr, flush=True)
+
+    def wait(self, reason: object) -> None:
+        text = f"{type(reason).__name__}: {reason}"
+        if text != self.said:
+            self.say(f"{text}; trying again")
+        self.said = text
+        time.sleep(self.pause)
+        self.pause = min(2 * self.pause, 5.0)
+
+    def forget(self) -> None:
+        """Something went well."""
+        self.pause, self.said = 0.05, ""

@@ -1,0 +1,210 @@
+"""The frames of docs/FORMATS.md field by field, written from that page alone, for tests/make_vectors.py and for checks that send what no
+client would.
+
+A frame is a list of fields until it is spelled, each a pair of a name and its bytes, so that a check can change one field
+and say which. Standard library only."""
+import struct
+
+
+def u8(n):
+    return struct.pack(">B", n)
+
+
+def u16(n):
+    return struct.pack(">H", n)
+
+
+def u32(n):
+    return struct.pack(">I", n)
+
+
+def u64(n):
+    return struct.pack(">Q", n)
+
+
+def framed(rest):
+    return u32(len(rest)) + rest
+
+
+def fields_of_body(body):
+    return [("body length", u16(len(body))), ("body", body)]
+
+
+def fields_of_entry(number, time, rows=(), ends=(), stream=1, log=7):
+    """rows: (table, key, tag, body); ends: (table, key, born)"""
+    fields = [("version", u8(1)), ("kind", u8(1)), ("log", u64(log)), ("stream", u16(stream)), ("number", u64(number)),
+              ("time", u64(time)), ("count of ends", u16(len(ends)))]
+    for table, key, born in ends:
+        fields += [("table", u16(table)), ("key", u64(key)), ("born", u64(born))]
+    fields.append(("count of rows", u16(len(rows))))
+    for table, key, tag, body in rows:
+        fields += [("table", u16(table)), ("key", u64(key)), ("tag", u32(tag))] + fields_of_body(body)
+    return fields
+
+
+def groups_of(elements):
+    """Elements, each a table and the fields beside it, in the longest runs of one table."""
+    groups = []
+    for table, fields in elements:
+        if not groups or groups[-1][0] != table:
+            groups.append((table, []))
+        groups[-1][1].append(fields)
+    return groups
+
+
+def fields_of_groups(name, elements):
+    groups = groups_of(elements)
+    fields = [("groups of " + name, u16(len(groups)))]
+    for table, group in groups:
+        fields += [("table of " + name, u16(table)), ("count of " + name, u16(len(group)))] + [field for it in group for field in it]
+    return fields
+
+
+def fields_of_new_entry(number, time, rows=(), ends=(), stream=1, log=7):
+    """The same in version 2."""
+    fields = [("version", u8(2)), ("kind", u8(1)), ("log", u64(log)), ("stream", u16(stream)), ("number", u64(number)), ("time", u64(time))]
+    fields += fields_of_groups("ends", [(table, [("key", u64(key)), ("born", u64(born))]) for table, key, born in ends])
+    return fields + fields_of_groups("rows", [(table, [("key", u64(key)), ("tag", u32(tag))] + fields_of_body(body))
+                                              for table, key, tag, body in rows])
+
+
+def fields_of_mark(stream, n, m, log=7, version=1):
+    return [("version", u8(version)), ("kind", u8(2)), ("log", u64(log)), ("stream", u16(stream)), ("n", u64(n)), ("m", u64(m))]
+
+
+def spelled(fields):
+    return framed(b"".join(text for _, text in fields))
+
+
+def entry(*args, **more):
+    return spelled(fields_of_entry(*args, **more))
+
+
+def new_entry(*args, **more):
+    return spelled(fields_of_new_entry(*args, **more))
+
+
+def mark(*args, **more):
+    return spelled(fields_of_mark(*args, **more))
+
+
+def message(kind, fields=()):
+    return [("version", u8(1)), ("kind", u8(kind)), *fields]
+
+
+def fields_of_items(frames):
+    return message(16, [("count", u32(len(frames)))] + [("frame", frame) for frame in frames])
+
+
+def fields_of_fragment(base=0, horizon=0, streams=((0, 0, (), ()),), facts=(), log=7):
+    """streams: (prefix, closed, extra numbers, waiting marks); facts: (table, key, born, row or None, died or None), a row
+    being (tag, body)"""
+    fields = [("log", u64(log)), ("streams", u16(len(streams))), ("base", u64(base)), ("horizon", u64(horizon))]
+    for prefix, closed, extra, waiting in streams:
+        fields += [("prefix", u64(prefix)), ("closed", u64(closed)), ("count of extra numbers", u32(len(extra)))]
+        fields += [("extra number", u64(n)) for n in extra]
+        fields.append(("count of waiting marks", u32(len(waiting))))
+        for n, m in waiting:
+            fields += [("n", u64(n)), ("m", u64(m))]
+    fields.append(("count of facts", u32(len(facts))))
+    for table, key, born, row, died in facts:
+        flags = (1 if row is not None else 0) + (2 if died is not None else 0)
+        fields += [("table", u16(table)), ("key", u64(key)), ("born", u64(born)), ("flags", u8(flags))]
+        if row is not None:
+            fields += [("tag", u32(row[0]))] + fields_of_body(row[1])
+        if died is not None:
+            fields.append(("died", u64(died)))
+    return fields
+
+
+def get(table, key):
+    return [("query", u8(1)), ("table", u16(table)), ("key", u64(key))]
+
+
+def scan(table, low, high):
+    return [("query", u8(2)), ("table", u16(table)), ("low", u64(low)), ("high", u64(high))]
+
+
+def by_tag(table, tag):
+    return [("query", u8(3)), ("table", u16(table)), ("tag", u32(tag))]
+
+
+def count(table):
+    return [("query", u8(4)), ("table", u16(table))]
+
+
+def items(*frames):
+    return spelled(fields_of_items(frames))
+
+
+def front():
+    return spelled(message(17))
+
+
+def delta(base):
+    return spelled(message(18, [("base", u64(base))]))
+
+
+def full():
+    return spelled(message(19))
+
+
+def ask(time, query):
+    return spelled(message(20, [("time", u64(time))] + query))
+
+
+def join_this(**fragment):
+    return spelled(message(21, fields_of_fragment(**fragment)))
+
+
+def merge_this(**fragment):
+    return spelled(message(22, fields_of_fragment(**fragment)))
+
+
+def prune(horizon):
+    return spelled(message(23, [("horizon", u64(horizon))]))
+
+
+def done(ops):
+    return spelled(message(32, [("ops", u64(ops))]))
+
+
+def fields_of_front(horizon, readable):
+    return message(33, [("horizon", u64(horizon)), ("readable", u64(readable))])
+
+
+def fields_of_one(row):
+    return message(35, [("kind of answer", u8(1)), ("presence", u8(row is not None))] + ([] if row is None else [("tag", u32(row[0]))] + fields_of_body(row[1])))
+
+
+def fields_of_rows(rows):
+    fields = [("kind of answer", u8(2)), ("count of rows", u32(len(rows)))]
+    for key, tag, body in rows:
+        fields += [("key", u64(key)), ("tag", u32(tag))] + fields_of_body(body)
+    return message(35, fields)
+
+
+def fields_of_number(number):
+    return message(35, [("kind of answer", u8(3)), ("count", u64(number))])
+
+
+def fields_of_refused(number, first=0, second=0):
+    return message(36, [("number", u8(number)), ("first", u64(first)), ("second", u64(second))])
+
+
+def refused(number, first=0, second=0):
+    return spelled(fields_of_refused(number, first, second))
+
+
+def patched(fields, name, text, which=0):
+    """The frame with the bytes of a named field changed; `which` counts the fields of that name from 0."""
+    places = [place for place, field in enumerate(fields) if field[0] == name]
+    fields = list(fields)
+    fields[places[which]] = (name, text)
+    return spelled(fields)
+
+
+def ended_by(fields, name, text):
+    """The frame that ends with a named field, whose bytes are these."""
+    place = next(place for place, field in enumerate(fields) if field[0] == name)
+    return spelled(fields[:place] + [(name, text)])

@@ -1,0 +1,173 @@
+#!/usr/bin/env python3
+"""Checks of links to `bin/hkrep serve` that run short of something: of open files, of threads, of a peer that reads.
+
+Prints a line for each check and ends with 'N passed, M failed'. Standard library only."""
+import contextlib
+import os
+import pathlib
+import queue
+import resource
+import socket
+import subprocess
+import sys
+import tempfile
+import threading
+import time
+
+from checks import differ, ended, is_built, report
+
+ROOT = pathlib.Path(__file__).resolve().parent.parent
+PROGRAM = ROOT / "bin" / "hkrep"
+LIMIT = 30
+
+# A request for the front, and the reply of a node that took nothing; a frame that is too long, and the reply to it.
+FRONT = bytes.fromhex("00000002 01 11")
+NO_FRONT = bytes.fromhex("00000012 01 21 0000000000000000 0000000000000000")
+TOO_LONG = bytes.fromhex("ffffffff")
+REFUSED_2 = bytes.fromhex("00000013 01 24 02") + bytes(16)
+
+
+def free_port():
+    with socket.socket() as it:
+        it.bind(("127.0.0.1", 0))
+        return it.getsockname()[1]
+
+
+@contextlib.contextmanager
+def node(links, environment=None, **limits):
+    """A node for so many links, which is ended at the latest when the block is left; limits are of `resource`."""
+    def restrict():
+        for name, limit in limits.items():
+            resource.setrlimit(getattr(resource, name), (limit, limit))
+
+    port = free_port()
+    command = [str(PROGRAM), "serve", "--log", "7", "--streams", "1", "--port", str(port), "--links", str(links)]
+    child = subprocess.Popen(command, stdout=subprocess.PIPE, stderr=subprocess.PIPE, text=True, env=environment, preexec_fn=restrict)
+    try:
+        lines = queue.Queue()
+        threading.Thread(target=lambda: lines.put(child.stdout.readline()), daemon=True).start()
+        said = lines.get(timeout=LIMIT)
+        if said != f"listening {port}\n":
+            raise RuntimeError(f"the node said {said!r}")
+        yield child, port
+    finally:
+        if child.poll() is None:
+            child.kill()
+        child.communicate()
+
+
+def opened(port):
+    return socket.create_connection(("127.0.0.1", port), timeout=LIMIT)
+
+
+def read(link, count):
+    """So many bytes, or those that come before the end of the link; one that is cut off has no end, and raises."""
+    told = b""
+    while len(told) < count and (more := link.recv(count - len(told))):
+        told += more
+    return told
+
+
+def asked(link):
+    """The reply to a request for the front."""
+    link.sendall(FRONT)
+    return read(link, len(NO_FRONT))
+
+
+def told(child):
+    """What the node printed since it listened, its status, and how many lines standard error has."""
+    out, err = child.communicate(timeout=LIMIT)
+    return out.splitlines(), child.returncode, len(err.splitlines())
+
+
+def no_more_files():
+    """With room for six files a node accepts two links beside its listener and its standard ones. The third accept fails; the two
+    run to their end, and then 93 is told."""
+    with node(3, RLIMIT_NOFILE=6) as (child, port):
+        with opened(port) as first, opened(port) as second:
+            pairs = [("the first link", asked(first), NO_FRONT), ("the second link", asked(second), NO_FRONT)]
+            with opened(port):
+                time.sleep(0.3)
+                pairs += [("it runs on", child.poll(), None), ("the first link after it", asked(first), NO_FRONT)]
+            pairs += [("the second link after it", asked(second), NO_FRONT)]
+        report("a node that can open no further file", differ(pairs + [("the end", told(child), (["refused 93"], 1, 1))]))
+
+
+def no_thread():
+    """A link whose thread can't be started ends with 90, and the others are served."""
+    with tempfile.TemporaryDirectory() as folder:
+        library = pathlib.Path(folder) / "failing_threads.so"
+        source = ROOT / "tests" / "faults" / "failing_threads.c"
+        subprocess.run(["cc", "-shared", "-fPIC", "-O1", "-o", str(library), str(source), "-ldl"], check=True)
+        faults = {**os.environ, "LD_PRELOAD": str(library), "FAILING_THREAD": "2"}
+        with node(3, faults) as (child, port):
+            with opened(port) as first, opened(port) as second, opened(port) as third:
+                pairs = [("the first link", asked(first), NO_FRONT), ("the second link", read(second, 1), b""),
+                         ("the third link", asked(third), NO_FRONT)]
+            report("a link without a thread", differ(pairs + [("the end", told(child), (["ended 0", "ended 90", "ended 0"], 1, 1))]))
+
+
+def behind_a_fault():
+    """What a peer sent behind a fault does not cut off the last reply, though nobody asks for it."""
+    with node(1) as (child, port), opened(port) as link:
+        link.sendall(TOO_LONG + bytes(2 ** 20))
+        time.sleep(0.3)
+        pairs = [("the last reply", read(link, 99), REFUSED_2)]
+        link.close()
+        report("bytes behind a fault", differ(pairs + [("the end", told(child), (["ended 2"], 1, 1))]))
+
+
+def in_order():
+    """The ends are told in the order of accepting, and not in that of ending."""
+    with node(3) as (child, port):
+        with opened(port) as first, opened(port) as second, opened(port) as third:
+            pairs = [(f"link {number}", asked(link), NO_FRONT) for number, link in enumerate((first, second, third), 1)]
+            third.sendall(FRONT[:5])
+            third.shutdown(socket.SHUT_WR)
+            read(third, 99)
+            second.sendall(TOO_LONG)
+            second.shutdown(socket.SHUT_WR)
+            read(second, 99)
+            pairs += [("the first link at last", asked(first), NO_FRONT)]
+        report("ends in the order of accepting", differ(pairs + [("the end", told(child), (["ended 0", "ended 2", "ended 1"], 1, 2))]))
+
+
+# Items of log 7, stream 1: entry 1 of time 1 at key 5, the mark that closes up to 5 behind it, and entry 2 of time 4 at key 6.
+ENTRY_1 = bytes.fromhex("00000031 01 01 0000000000000007 0001 0000000000000001 0000000000000001 0000 0001 0001 0000000000000005 00000009 0001 41")
+MARK = bytes.fromhex("0000001c 01 02 0000000000000007 0001 0000000000000001 0000000000000005")
+ENTRY_2 = bytes.fromhex("00000031 01 01 0000000000000007 0001 0000000000000002 0000000000000004 0000 0001 0001 0000000000000006 00000009 0001 42")
+
+
+def items(*frames):
+    body = len(frames).to_bytes(4, "big") + b"".join(frames)
+    return (len(body) + 2).to_bytes(4, "big") + bytes([1, 16]) + body
+
+
+# A request for the count of table 1 at time 5.
+COUNT = bytes.fromhex("0000000d 01 14 0000000000000005 04 0001")
+
+
+def late_entry():
+    """An entry for a closed time: a replica that absorbs it refuses it; a node joins it, and does not see it."""
+    command = [str(PROGRAM), "front", "--log", "7", "--streams", "1"]
+    absorbed = subprocess.run(command, input=ENTRY_1 + MARK + ENTRY_2, capture_output=True, timeout=LIMIT, check=False)
+    pairs = [("absorbing it", (absorbed.stdout, absorbed.returncode), (b"refused 23\n", 1))]
+    with node(1) as (child, port):
+        requests = items(ENTRY_1, MARK) + COUNT + items(ENTRY_2) + COUNT
+        pushed = subprocess.run([str(PROGRAM), "push", "--port", str(port)], input=requests, capture_output=True, timeout=LIMIT, check=False)
+        pairs += [("joining it", (pushed.stdout, pushed.returncode), (b"done 2\ncount 1\ndone 3\ncount 2\n", 0)), ("the end", told(child), (["ended 0"], 0, 0))]
+    report("an entry for a closed time", differ(pairs))
+
+
+def main():
+    if is_built(PROGRAM):
+        for check in (no_more_files, no_thread, behind_a_fault, in_order, late_entry):
+            try:
+                check()
+            except Exception as error:  # pylint: disable=broad-except
+                report(check.__name__, [f"{type(error).__name__}: {error}"])
+    return ended()
+
+
+if __name__ == "__main__":
+    sys.exit(main())
