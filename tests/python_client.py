@@ -722,6 +722,10 @@ def exports():
         nodes = va.Nodes([free_port(), served.port])
         problems += differ([("by many nodes", va.export(nodes, str(path / "many.csv"), "csv", 1, [1, 9, 65535]), len(rows)),
                             ("the same", (path / "many.csv").read_text(), (path / "all.csv").read_text())])
+        problems += differ([("of all tables", va.export(node, str(path / "all_tables.csv"), "csv", 1), len(rows)),
+                            ("of all tables, by many nodes", va.export(nodes, str(path / "many_tables.csv"), "csv", 1), len(rows)),
+                            ("as of these", [(path / it).read_text() == (path / "all.csv").read_text() for it in ("all_tables.csv", "many_tables.csv")], [True, True])])
+        problems += differ([("a table that is none", refusal_of(lambda: nodes.at(1).counts([70000])), refusal_of(lambda: node.at(1).count(70000)))])
         nodes.close()
     report("an export of one moment as SQLite, CSV and JSON lines", problems)
 

@@ -7,10 +7,9 @@ import os
 import sqlite3
 import sys
 import time as clock
-from typing import Any, Callable, Dict, Iterable, Iterator, List, Optional, TextIO
+from typing import Any, Dict, Iterable, Iterator, List, Optional, TextIO
 
 from .errors import Refused
-from .node import Node, NodeMoment
 from .values import LAST_KEY, KeyRow
 
 # So many rows a question are aimed at, and so many keys is the first that is asked for.
@@ -21,13 +20,7 @@ LAST_TABLE = 2 ** 16 - 1
 def tables_at(moment: Any, tables: Optional[Iterable[int]] = None) -> Dict[int, int]:
     """How many rows each table has that has any; of all 65,536 tables unless some are named."""
     wanted = list(range(LAST_TABLE + 1) if tables is None else tables)
-    if isinstance(moment, NodeMoment):
-        with moment.pipeline() as pipe:
-            laters = [pipe.count(table) for table in wanted]
-        counts = [it.result() for it in laters]
-    else:
-        counts = [moment.count(table) for table in wanted]
-    return {table: count for table, count in zip(wanted, counts) if count}
+    return {table: count for table, count in zip(wanted, moment.counts(wanted)) if count}
 
 
 def rows_of(moment: Any, table: int) -> Iterator[List[KeyRow]]:

@@ -3,7 +3,7 @@ from __future__ import annotations
 
 import threading
 from types import TracebackType
-from typing import Any, Generic, List, Optional, Tuple, Type, TypeVar
+from typing import Any, Generic, Iterable, List, Optional, Tuple, Type, TypeVar
 
 from .errors import Fault, LinkBroken, TimeLimit
 from .link import Address, Link, address_of
@@ -145,6 +145,12 @@ class NodeMoment(Moment[Optional[Row], Rows_, int]):
     def pipeline(self) -> "Pipeline":
         """Questions at this time that are sent together."""
         return Pipeline(self.node, self.time)
+
+    def counts(self, tables: Iterable[int]) -> List[int]:
+        """How many rows each of these tables has, asked together."""
+        with self.pipeline() as pipe:
+            laters = [pipe.count(table) for table in tables]
+        return [later.result() for later in laters]
 
     def __enter__(self) -> "NodeMoment":
         return self

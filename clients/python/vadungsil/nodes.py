@@ -5,11 +5,11 @@ from __future__ import annotations
 
 import threading
 import time as clock
-from typing import Any, Iterable, List, Optional, Set, Tuple
+from typing import Any, Callable, Iterable, List, Optional, Set, Tuple
 
 from .errors import LinkBroken, Refused
 from .link import Address
-from .node import Node
+from .node import Node, NodeMoment
 from .requests import Moment, Read, Reads, ask_frame
 from .values import KeyRow, Query, Row, time_of
 
@@ -61,10 +61,13 @@ class Nodes(Reads[Optional[Row], List[KeyRow], int]):
     def _ask(self, time: int, query: Query, read: Read, unable: Set[Node]) -> Any:
         """The answer of the first node that gives one; `unable` gets the nodes that can't read the time."""
         request = ask_frame(time, query)
+        return self._first(lambda node: node._call(request, read), unable)
+
+    def _first(self, ask: Callable[[Node], Any], unable: Set[Node]) -> Any:
         told: List[Tuple[str, Exception]] = []
         for node in self._order(unable):
             try:
-                return node._call(request, read)
+                return ask(node)
             except Refused as refused:
                 if refused.number not in ELSEWHERE:
                     raise
@@ -111,6 +114,11 @@ class NodesMoment(Moment[Optional[Row], List[KeyRow], int]):
 
     def _read(self, query: Query, read: Read) -> Any:
         return self.nodes._ask(self.time, query, read, self._unable)
+
+    def counts(self, tables: Iterable[int]) -> List[int]:
+        """How many rows each of these tables has, asked of one node together."""
+        wanted = list(tables)
+        return self.nodes._first(lambda node: NodeMoment(node, self.time).counts(wanted), self._unable)
 
     def __enter__(self) -> "NodesMoment":
         return self
