@@ -1,6 +1,6 @@
 // A node's streams on the axis of time, with the window that can be read: as docs/streams.svg.
 const SVG = "http://www.w3.org/2000/svg";
-const WIDTH = 640, LEFT = 84, RIGHT = 16, TOP = 30;
+const WIDTH = 560, LEFT = 76, RIGHT = 14, TOP = 30;
 const LAST = 2n ** 62n;
 
 function part(name, attributes, text) {
@@ -58,10 +58,7 @@ function drawStream(axis, stream, y, height) {
     found.push(circle);
   }
   if (height >= 14) found.push(part("text", { x: 0, y: y + 4, class: stream.holds ? "name late" : "name" }, `stream ${stream.stream}`));
-  if (height >= 34) {
-    const held = stream.holds ? ` · holds back by ${stream.lag}: lacks ${stream.lacks}` : "";
-    found.push(part("text", { x: LEFT, y: y + 17, class: stream.holds ? "small late" : "small" }, words(stream) + held));
-  }
+  if (height >= 34) found.push(part("text", { x: LEFT + 4, y: y + 18, class: stream.holds ? "small late" : "small" }, words(stream)));
   return found;
 }
 
