@@ -35,7 +35,7 @@ def hosts_of(host: str, port: int, allowed: Iterable[str]) -> List[str]:
 class Server(ThreadingHTTPServer):
     """A web server of some nodes. `start` begins to watch them, `serve_forever` answers, `stop` ends both."""
 
-    daemon_threads, allow_reuse_address, request_queue_size = True, True, 64
+    daemon_threads, allow_reuse_address, request_queue_size = True, True, 256
 
     def __init__(self, nodes: List[Address], http: Tuple[str, int] = ("127.0.0.1", 8080), limit: float = 10.0, every: float = 1.0,
                  allowed: Iterable[str] = (), patience: float = 10.0) -> None:
