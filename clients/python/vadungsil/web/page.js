@@ -75,8 +75,8 @@ function nodeWords(node) {
   const held = node.streams.filter((stream) => stream.holds);
   if (held.length === 0) return "no stream holds it back";
   const named = held.slice(0, 4).map((stream) => `stream ${stream.stream}`).join(", ") + (held.length > 4 ? ` and ${held.length - 4} more` : "");
-  const lacks = held[0].lacks === "entries" ? `entries from ${BigInt(held[0].prefix) + 1n} on` : "marks";
-  return `${named} hold${held.length > 1 ? "" : "s"} it back, by ${held[0].lag}${held.length > 1 ? "" : `: ${lacks} have not come`}`;
+  const lacks = held[0].lacks === "entries" ? `entry ${BigInt(held[0].prefix) + 1n}` : "a mark";
+  return `${named} hold${held.length > 1 ? "" : "s"} it back, by ${held[0].lag}${held.length > 1 ? "" : `: it lacks ${lacks}`}`;
 }
 
 function nodeCard(node, axis) {
