@@ -34,7 +34,8 @@ except ImportError:
     selenium = None
 
 import web_parts
-from checks import differ, ended, is_built, report, skip
+import checks
+from checks import differ, ended, is_built, skip
 from client import PROGRAM, free_port
 from web_parts import (BODIES, FRAMES, ITEMS, KEYS, LAST, LIMIT, PACKAGE, ROOT, STREAMS, Served, Web, breaks, changes_of, fed, log_of, nodes, parsed_metrics,
                        rows_at, va, waited, web_of)
@@ -43,6 +44,15 @@ ENVIRONMENT = {**os.environ, "PYTHONPATH": str(PACKAGE), "PYTHONDONTWRITEBYTECOD
 HEADS = {"Content-Security-Policy": r"default-src 'none'; script-src 'self'; style-src 'self'; connect-src 'self'; img-src 'self'; base-uri 'none'; "
          r"form-action 'none'; frame-ancestors 'none'", "X-Content-Type-Options": "nosniff", "Referrer-Policy": "no-referrer", "X-Frame-Options": "DENY",
          "Cross-Origin-Resource-Policy": "same-origin", "Cache-Control": "no-store"}
+
+
+# Checks wait more than they work: so many are made side by side.
+SIDE_BY_SIDE, REPORTS = 4, threading.Lock()
+
+
+def report(*words):
+    with REPORTS:
+        checks.report(*words)
 
 
 # ---------------------------------------------------------------- answers
@@ -463,7 +473,7 @@ def pictures():
 def look():
     """`make look` runs a node, two feeders with a slow stream and the page, and ends by itself after --seconds."""
     recipe = re.search(r"^look:.*\n\t(.*)$", (ROOT / "Makefile").read_text(), re.M)[1]
-    words = recipe.replace("$(LOOK)", "--seconds 4 --http 127.0.0.1:0").split()
+    words = recipe.replace("$(LOOK)", "--seconds 6 --http 127.0.0.1:0").split()
     child = subprocess.Popen([sys.executable, *words], cwd=ROOT, stdout=subprocess.PIPE, stderr=subprocess.PIPE, text=True)
     problems = []
     try:
@@ -518,8 +528,23 @@ def page():
     report(f"the commands of docs/LOOKING.md ({len(shown)})", problems)
 
 
-CHECKS = (answers, many_rows, refusals, unequal, bad_requests, limits, events, away_and_back, damaged, silent_node, held_back, metrics, interface, command, files, pictures, look,
-          deployed, page)
+# the longest first
+CHECKS = (look, away_and_back, pictures, events, page, command, limits, answers, many_rows, refusals, unequal, bad_requests, damaged, silent_node, held_back, metrics,
+          interface, files, deployed)
+
+
+def guarded(check):
+    """Makes a check; what it raises is a failure of this check alone."""
+    began = time.monotonic()
+    try:
+        check()
+    except Exception as error:  # pylint: disable=broad-except
+        trace = error.__traceback__
+        while trace.tb_next:
+            trace = trace.tb_next
+        report(check.__name__, [f"{type(error).__name__}: {error} (line {trace.tb_lineno} of {trace.tb_frame.f_code.co_filename})"])
+    if sys.argv[1:]:
+        print(f"{check.__name__}: {time.monotonic() - began:.1f} s", flush=True)
 
 
 def browser(words):
@@ -540,18 +565,8 @@ def main(words):
         import web_page
         web_page.write_page(pathlib.Path(words[1]))
         return 0
-    for check in CHECKS:
-        if not words or check.__name__ in words:
-            began = time.monotonic()
-            try:
-                check()
-            except Exception as error:  # pylint: disable=broad-except
-                trace = error.__traceback__
-                while trace.tb_next:
-                    trace = trace.tb_next
-                report(check.__name__, [f"{type(error).__name__}: {error} (line {trace.tb_lineno} of {trace.tb_frame.f_code.co_filename})"])
-            if words:
-                print(f"{check.__name__}: {time.monotonic() - began:.1f} s")
+    with concurrent.futures.ThreadPoolExecutor(1 if words else SIDE_BY_SIDE) as pool:
+        list(pool.map(guarded, [check for check in CHECKS if not words or check.__name__ in words]))
     print(f"web without a browser: {time.monotonic() - start:.1f} s", flush=True)
     if not words or any(word.startswith("browser") for word in words):
         browser([word for word in words if word.startswith("browser_")])
