@@ -340,7 +340,7 @@ def metrics():
             front, streams = node.front(), node.streams()
         problems = differ([("status", (status, heads["Content-Type"]), (200, "text/plain; version=0.0.4; charset=utf-8")),
                            ("front", (of("vadungsil_horizon"), of("vadungsil_readable")), (front.horizon, front.readable)), ("up", of("vadungsil_node_up"), 1.0),
-                           ("ranges", of("vadungsil_answer_seconds_count", kind="range"), 5.0), ("counts", of("vadungsil_answer_seconds_count", kind="count"), 1.0),
+                           ("ranges", of("vadungsil_answer_seconds_count", kind="range"), 5.0), ("counts, one before each wide range", of("vadungsil_answer_seconds_count", kind="count"), 6.0),
                            ("fronts", of("vadungsil_answer_seconds_count", kind="front"), 1.0), ("deltas", of("vadungsil_answer_seconds_count", kind="delta") >= 1, True),
                            ("web", samples.get(("vadungsil_web_answers_total", (("code", "200"),))), 6.0)])
         for number, stream in enumerate(streams, 1):
