@@ -103,6 +103,25 @@ def many_rows():
     report("a long answer comes in parts", problems)
 
 
+def large_bodies():
+    """An answer of a node has at most 4 MiB of bodies and goes on behind the last key; a node that is busy is not told as away."""
+    writer, problems = va.LogWriter(7, 1), []
+    frames = [va.encode(writer.commit([(1, key, 4, bytes(4096)) for key in range(low, low + 400)])) for low in range(0, 1200, 400)]
+    frames += map(va.encode, writer.marks())
+    with nodes(1, frames, 1) as (node,), web_of([node.port], limit=LIMIT) as web:
+        first = web.json("/api/range?table=1&most=10000")[1]["answers"][0]
+        rest = web.json(f"/api/range?table=1&most=10000&low={len(first['rows'])}")[1]["answers"][0]
+        tagged = web.json("/api/tag?table=1&tag=4&most=10000")[1]["answers"][0]
+        problems += differ([("first", (len(first["rows"]), first["more"]), (1024, True)), ("rest", (len(rest["rows"]), rest["more"]), (176, False)),
+                            ("by tag", (len(tagged["rows"]), tagged["more"]), (1024, True))])
+    with nodes(1) as (node,), web_of([node.port], limit=1.0) as web:
+        with web.server.nodes[f"127.0.0.1:{node.port}"]._lock:
+            status, value = web.json("/api/get?table=1&key=0&at=1")
+            problems += differ([("busy", (status, "busy" in value["answers"][0]["away"]), (503, True)), ("not away", web.node()["up"], True)])
+        problems += differ([("asked again", web.json("/api/get?table=1&key=0&at=1")[0], 200)])
+    report("large bodies, and a busy node", problems)
+
+
 def refusals():
     """A refusal has its number, its fields and the words of `hkrep explain`; one node's does not hide what another answers."""
     problems = []
@@ -529,7 +548,7 @@ def page():
 
 
 # the longest first
-CHECKS = (look, away_and_back, pictures, events, page, command, limits, answers, many_rows, refusals, unequal, bad_requests, damaged, silent_node, held_back, metrics,
+CHECKS = (look, away_and_back, pictures, events, page, command, limits, answers, large_bodies, many_rows, refusals, unequal, bad_requests, damaged, silent_node, held_back, metrics,
           interface, files, deployed)
 
 

@@ -211,7 +211,32 @@ def browser_live(driver):
     report("the page is live, stops while it is hidden, and tells of a web server that is gone", problems)
 
 
-CHECKS = (browser_slider, browser_text, browser_away, browser_unequal, browser_changes, browser_live)
+def browser_wide(driver):
+    """Times and keys up to their greatest: the slider goes over a window of 2^62 times, and no number loses a digit."""
+    last, problems = 2 ** 62 - 1, []
+    writer = va.LogWriter(7, 1)
+    entries = [writer.commit([(1, 2 ** 64 - 1, 2 ** 32 - 1, b"%d" % at)], time=at) for at in (1, 2 ** 53 + 1, last)]
+    with nodes(1, [va.encode(it) for it in [*entries, *writer.marks()]], 1) as (node,), web_of([node.port]) as web:
+        page = Page(driver, web, ALL)
+        page.shows(last)
+        row = lambda at: [[["18446744073709551615", "4294967295", (b"%d" % at).hex()]]]
+        problems += differ([("at the last", page.rows(), row(last))])
+        page.it("slider").send_keys(Keys.HOME)
+        page.shows(0)
+        page.write("at", 2 ** 53)
+        page.shows(2 ** 53)
+        problems += differ([("before 2^53 + 1", page.rows(), row(1))])
+        page.it("on").click()
+        page.shows(2 ** 53 + 1)
+        problems += differ([("at 2^53 + 1", page.rows(), row(2 ** 53 + 1))])
+        page.it("slider").send_keys(Keys.END)
+        page.shows(last)
+        page.write("at", "12x")
+        problems += differ([("no number", (page.it("at").get_attribute("aria-invalid"), "12x" in driver.current_url), ("true", False))])
+    report("times and keys up to their greatest", problems)
+
+
+CHECKS = (browser_slider, browser_text, browser_away, browser_unequal, browser_changes, browser_wide, browser_live)
 
 
 def run(words):

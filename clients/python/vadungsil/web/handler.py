@@ -17,6 +17,7 @@ from .watch import Away
 
 # The longest request line, the most bytes of a request, and the most parameters.
 MOST_LINE, MOST_HEAD, MOST_PARAMETERS = 2_048, 16_384, 16
+PIECE = 65_536
 JSON, TEXT = "application/json; charset=utf-8", "text/plain; charset=utf-8"
 POLICY = ("default-src 'none'; script-src 'self'; style-src 'self'; connect-src 'self'; img-src 'self'; base-uri 'none'; "
           "form-action 'none'; frame-ancestors 'none'")
@@ -183,7 +184,8 @@ class Handler(BaseHTTPRequestHandler):
     def send(self, status: int, data: bytes, kind: str, more: Optional[Dict[str, str]] = None) -> None:
         self.head(status, kind, len(data), more)
         if self.command != "HEAD":
-            self.wfile.write(data)
+            for at in range(0, len(data), PIECE):
+                self.wfile.write(data[at:at + PIECE])
 
     def send_json(self, status: int, value: Any) -> None:
         self.send(status, json.dumps(value, separators=(",", ":")).encode() + b"\n", JSON)

@@ -12,6 +12,9 @@ from .watch import Watched
 LAST_TABLE, LAST_TAG = 2 ** 16 - 1, 2 ** 32 - 1
 FEW_ROWS, MOST_ROWS = 1_000, 10_000
 
+# The most bytes of bodies in an answer of one node.
+MOST_BYTES = 2 ** 22
+
 # Of each question: the parameters with their greatest values, and what one that isn't there is.
 NUMBERS: Dict[str, Tuple[int, Optional[int]]] = {
     "table": (LAST_TABLE, None), "key": (LAST_KEY, None), "low": (LAST_KEY, 0), "high": (LAST_KEY, LAST_KEY), "tag": (LAST_TAG, None)}
@@ -98,10 +101,20 @@ def found_by(watched: Watched, question: Question, at: int) -> Found:
         return _range(watched, question, at)
     if kind == "tag":
         rows = watched.ask("tag", lambda node: node.by_tag(table, question.numbers["tag"], at=at))
-        return Found(rows[:question.most], len(rows) > question.most)
+        return cut(rows, question.most)
     key = question.numbers["key"]
     row = watched.ask("get", lambda node: node.get(table, key, at=at))
     return Found([] if row is None else [KeyRow(key, row)])
+
+
+def cut(rows: List[KeyRow], most: int) -> Found:
+    """The first of these rows, within the bounds of rows and bytes."""
+    size = 0
+    for place, (_, row) in enumerate(rows):
+        size += len(row.body)
+        if place == most or (size > MOST_BYTES and place):
+            return Found(rows[:place], True)
+    return Found(rows)
 
 
 def _part(table: int, low: int, last: int, at: int, node: Node) -> List[KeyRow]:
@@ -112,7 +125,7 @@ def _range(watched: Watched, question: Question, at: int) -> Found:
     """The rows of a range. Where the table has more than are wanted it is asked in parts, from the lowest key on, so that no more is
     fetched than about what is shown: a part is as wide as so many rows at first, and wider where the part before had few."""
     table, low, high = question.table, question.numbers["low"], question.numbers["high"]
-    most, width = question.most, question.most
+    most, width = question.most, min(question.most, FEW_ROWS)
     if high - low >= most and watched.ask("count", lambda node: node.count(table, at=at)) <= most:
         width = LAST_KEY + 1
     rows: List[KeyRow] = []
@@ -126,11 +139,11 @@ def _range(watched: Watched, question: Question, at: int) -> Found:
             width = max(min(width, high - low + 1) // 16, 1)
             continue
         rows += part
-        if last >= high or last < low:
+        if last >= high or sum(len(row.body) for _, row in rows) > MOST_BYTES:
             break
         low = last + 1
         width = 16 * width if len(part) < most // 16 + 1 else max(width // 4, 1) if len(part) > most else width
-    return Found(rows[:most], len(rows) > most)
+    return cut(rows, most)
 
 
 # ---------------------------------------------------------------- comparing

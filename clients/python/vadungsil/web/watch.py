@@ -27,6 +27,10 @@ class Away(VadungsilError):
     """A node can't be asked now; the words say why."""
 
 
+class Busy(Away):
+    """A node is asked other questions for longer than the limit."""
+
+
 class StreamState(NamedTuple):
     """How far one stream is. `lag` is how far it is behind the greatest closed time of the streams that aren't retired."""
 
@@ -120,7 +124,7 @@ class Watched:
     def ask(self, kind: str, call: Callable[[Node], Result]) -> Result:
         """What the node replies, with its time in the meters. `Refused` is the node's; `Away` says that it can't be asked."""
         if not self._lock.acquire(timeout=self.limit):
-            raise Away(f"{self.name}: busy with other questions for {self.limit:g} s")
+            raise Busy(f"{self.name}: busy with other questions for {self.limit:g} s")
         try:
             if self._broken and clock.monotonic() < self._again:
                 raise Away(self._broken)
@@ -165,6 +169,8 @@ class Watched:
         except Refused as refused:
             state = State(True, str(refused), refused, refused.number == DAMAGED, before.log)
             self.told_at = clock.monotonic()
+        except Busy:
+            return before
         except Away as away:
             state = State(False, str(away), None, before.damaged, before.log)
         except Exception as error:  # pylint: disable=broad-except
