@@ -63,15 +63,20 @@ class Drawing:
         yield self.text(until, y + 28, closed if line.entries else f"prefix {line.prefix}, {closed}", 12, HERE, "middle" if until < WIDTH - 120 else "end")
 
     def entries(self, line: Line, y: float) -> Iterator[str]:
-        radius = min(11.0, max(self.step * 0.45, 2.0))
+        """A circle for each entry, with its number where there is room; of those that would stand at one place, one."""
+        radius, seen = min(11.0, max(self.step * 0.45, 2.0)), set()
         for number, time, here in line.entries:
+            place = (self.x(time), here)
+            if time < self.scene.first or place in seen:
+                continue
+            seen.add(place)
             color = HERE if here else LATE
             yield f'<circle cx="{self.x(time):g}" cy="{y:g}" r="{radius:g}" fill="{HERE if here else "#fff"}" stroke="{color}" stroke-width="2"/>'
             if radius >= 9:
                 yield self.text(self.x(time), y + 5, number, 13, "#fff" if here else LATE)
 
     def marks(self, line: Line, y: float) -> Iterator[str]:
-        told = [it for it in line.marks if it[1] < LAST_TIME]
+        told = [it for it in line.marks if self.scene.first <= it[1] < LAST_TIME]
         for n, m, holds in told:
             color = HERE if holds else LATE
             if len(told) <= MANY_MARKS and line.entries:
@@ -85,7 +90,8 @@ class Drawing:
         """A bar for each version; what is above the readable mark may still change, and is drawn pale."""
         yield self.text(12, y + 17, f"{place[0]}:{place[1]}", 13, anchor="start")
         edge = self.x(self.scene.readable) + self.step / 2
-        for bar in bars:
+        follows = [self.x(bar.born) - self.step / 2 for bar in bars[1:]] + [float(WIDTH)]
+        for bar, following in zip(bars, follows):
             left = self.x(bar.born) - self.step / 2
             right = WIDTH - RIGHT if bar.died is None else self.x(bar.died) - self.step / 2
             sure = min(max(edge, left), right)
@@ -95,7 +101,7 @@ class Drawing:
             if bar.died is not None:
                 yield self.line(right, y, right, y + 24, HERE, 2)
             words = shown(bar.row)
-            if 8 * len(words) + 6 <= right - left:
+            if 8 * len(words) + 6 <= min(right, following) - left:
                 yield self.text(left + 8, y + 17, words, 13, anchor="start")
 
     # ------------------------------------------------------------ answers
@@ -113,8 +119,9 @@ class Drawing:
                 left, right = self.x(first) - self.step / 2, self.x(last) + self.step / 2
                 gap = 2 if right - left > 8 else 0
                 yield self.box(left + gap, y, right - left - 2 * gap, 34, color)
-                if self.is_few:
-                    yield self.text(self.x(first), y + 22, f"time {first}" if self.step >= 50 else first, 13)
+                words = f"time {first}" if self.step >= 50 else str(first)
+                if self.is_few or 8 * len(f"{low} to {high}") <= right - left:
+                    yield self.text((left + right) / 2, y + 22, words if self.is_few else f"{low} to {high}", 13)
             if self.x(high) - self.x(low) + self.step >= 90:
                 middle = (self.x(low) + self.x(high)) / 2
                 yield from (self.text(middle, y + 54, above, 13), self.text(middle, y + 71, below, 13))
