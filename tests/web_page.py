@@ -188,6 +188,22 @@ def browser_changes(driver):
     report("changes, the other questions, and a refusal", problems)
 
 
+def browser_more(driver):
+    """A table with more rows than are shown: `go on` shows the next, and the address keeps from where."""
+    problems, writer = [], va.LogWriter(7, 1)
+    entries = [writer.commit([(1, key, 0, b"x") for key in range(low, low + 600)]) for low in (0, 600)]
+    with nodes(1, [va.encode(it) for it in [*entries, *writer.marks()]], 1) as (node,), web_of([node.port], limit=LIMIT) as web:
+        page = Page(driver, web, ALL)
+        page.shows(2)
+        rows = page.rows()[0]
+        problems += differ([("the first", (len(rows), rows[0][0], rows[-1][0]), (1000, "0", "999"))])
+        driver.execute_script("document.querySelector('#answers button').click()")
+        waited(lambda: page.rows()[0] and page.rows()[0][0][0] == "1000", 10)
+        problems += differ([("the rest", (len(page.rows()[0]), page.it("low").get_property("value"), "low=1000" in driver.current_url), (200, "1000", True)),
+                            ("no more", driver.execute_script("return document.querySelectorAll('#answers button').length"), 0)])
+    report("more rows than are shown", problems)
+
+
 def browser_live(driver):
     """The page follows the readable mark; its event stream ends while the tab is hidden; a web server that goes away is told."""
     problems = []
@@ -236,7 +252,7 @@ def browser_wide(driver):
     report("times and keys up to their greatest", problems)
 
 
-CHECKS = (browser_slider, browser_text, browser_away, browser_unequal, browser_changes, browser_wide, browser_live)
+CHECKS = (browser_slider, browser_text, browser_away, browser_unequal, browser_changes, browser_wide, browser_more, browser_live)
 
 
 def run(words):

@@ -37,7 +37,7 @@ def free_port():
 
 def node_on(port):
     child = subprocess.Popen([PROGRAM, "serve", "--log", str(LOG), "--streams", str(STREAMS), "--port", str(port), "--links", "16"],
-                             stdout=subprocess.PIPE, text=True)
+                             stdout=subprocess.PIPE, text=True, start_new_session=True)
     if not child.stdout.readline().startswith("listening"):
         raise SystemExit("the node doesn't listen")
     return child

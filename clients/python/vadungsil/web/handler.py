@@ -115,7 +115,11 @@ class Handler(BaseHTTPRequestHandler):
             self.routed()
 
     def routed(self) -> None:
-        parts = urlsplit(self.path)
+        try:
+            parts = urlsplit(self.path)
+        except ValueError:
+            self.say(400, "the address can't be read")
+            return
         if self.path in self.server.assets or (parts.path == "/" and not parts.scheme and not parts.netloc):
             data, kind = self.server.assets[parts.path]
             self.send(200, data, kind)

@@ -114,10 +114,15 @@ class Watched:
         self._thread.start()
 
     def stop(self) -> None:
+        """Ends the watch, and closes the link unless a reply is still waited for on it."""
         self._stop.set()
         if self._thread.is_alive():
-            self._thread.join(self.limit + 1.0)
-        self.node.close()
+            self._thread.join(1.0)
+        if self._lock.acquire(timeout=0.1):
+            try:
+                self.node.close()
+            finally:
+                self._lock.release()
 
     # ------------------------------------------------------------ asking
 
