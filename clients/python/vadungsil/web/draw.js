@@ -51,13 +51,17 @@ export function words(stream) {
 function drawStream(axis, stream, y, height) {
   const until = placeOf(axis, stream.retired ? axis.to : BigInt(stream.closed));
   const found = [part("line", { x1: until, y1: y, x2: WIDTH - RIGHT, y2: y, class: "open" }),
-    part("line", { x1: LEFT, y1: y, x2: until, y2: y, class: "closed" }), part("circle", { cx: until, cy: y, r: 4.5, class: "tip" })];
+    part("line", { x1: LEFT, y1: y, x2: until, y2: y, class: "closed", "stroke-width": Math.min(5, height * 0.35) }),
+    part("circle", { cx: until, cy: y, r: Math.min(4.5, height * 0.42), class: "tip" })];
   for (const mark of stream.first_waiting) {
-    const circle = part("circle", { cx: placeOf(axis, BigInt(mark.m)), cy: y, r: 5, class: "waits" });
+    const circle = part("circle", { cx: placeOf(axis, BigInt(mark.m)), cy: y, r: Math.min(5, height * 0.4), class: "waits" });
     circle.append(part("title", {}, `mark waits: ${mark.n} up to ${mark.m}`));
     found.push(circle);
   }
-  if (height >= 14) found.push(part("text", { x: 0, y: y + 4, class: stream.holds ? "name late" : "name" }, `stream ${stream.stream}`));
+  const size = Math.min(12, height);
+  const name = part("text", { x: 0, y: y + size / 3, "font-size": size, class: stream.holds ? "name late" : "name" }, `stream ${stream.stream}`);
+  name.append(part("title", {}, words(stream)));
+  found.push(name);
   if (height >= 34) found.push(part("text", { x: LEFT + 4, y: y + 18, class: stream.holds ? "small late" : "small" }, words(stream)));
   return found;
 }
@@ -73,7 +77,7 @@ function drawWindow(axis, node, bottom) {
 
 // The picture of a node that is known, with the time that is looked at.
 export function picture(node, axis, time) {
-  const height = Math.max(5, Math.min(40, 360 / node.streams.length));
+  const height = Math.max(8, Math.min(40, 360 / node.streams.length));
   const bottom = TOP + height * node.streams.length + 4;
   const svg = part("svg", { viewBox: `0 0 ${WIDTH} ${bottom + 22}`, role: "img",
     "aria-label": `${node.node}: horizon ${node.horizon}, readable mark ${node.readable}; ${node.streams.map((it) => `stream ${it.stream} ${words(it)}`).join("; ")}` });
