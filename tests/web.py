@@ -172,7 +172,8 @@ def bad_requests():
                 "get?table=1&key=" + "0" * 21)],
             ("/" + "a" * 3000, "GET", {}, 414), ("/api/get?table=" + "1" * 100_000, "GET", {}, 414), ("/", "GET", {"X_Long": "a" * 20_000}, 431),
             ("/", "GET", {"Host": "evil.example"}, 421), ("/api/nodes", "GET", {"Host": f"evil.example:{web.port}"}, 421), ("/", "GET", {"Host": "127.0.0.1:1"}, 421),
-            ("/", "GET", {"Host": f"LOCALHOST:{web.port}"}, 200), ("/", "GET", {"Host": f"looking.example:{web.port}"}, 200), ("/", "GET", {"Host": here}, 200),
+            ("/", "GET", {"Host": f"LOCALHOST:{web.port}"}, 200), ("/", "GET", {"Host": f"looking.example:{web.port}"}, 200), ("/", "GET", {"Host": "looking.example"}, 200), ("/", "GET", {"Host": "looking.example:1"}, 421),
+            ("/", "GET", {"Host": "127.0.0.1"}, 421), ("/", "GET", {"Host": here}, 200),
             ("/api/nodes", "GET", {"Sec_Fetch_Site": "cross-site", "Sec_Fetch_Mode": "cors"}, 403), ("/api/nodes", "GET", {"Sec_Fetch_Site": "same-origin"}, 200),
             ("/", "GET", {"Sec_Fetch_Site": "cross-site", "Sec_Fetch_Mode": "navigate"}, 200)]
         problems = []
@@ -318,7 +319,9 @@ def silent_node():
         port = peer.getsockname()[1]
         with web_of([node.port, port], limit=1.0) as web:
             status, value = web.json("/api/range?table=1&at=9")
-            report("a silent node", differ([("the others", (status, len(value["answers"][0]["rows"])), (200, len(rows_at(9)))), ("away", "away" in value["answers"][1], True),
+            pause = web.server.nodes[f"127.0.0.1:{port}"]._pause
+            report("a silent node", differ([("it is tried again later each time", pause in (2.0, 4.0), True),
+                                            ("the others", (status, len(value["answers"][0]["rows"])), (200, len(rows_at(9)))), ("away", "away" in value["answers"][1], True),
                                             ("told", (web.node(1)["up"], "no reply within" in web.node(1)["error"]), (False, True))]))
 
 

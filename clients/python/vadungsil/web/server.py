@@ -25,11 +25,14 @@ ASSETS = {"/": ("page.html", "text/html; charset=utf-8"), "/page.css": ("page.cs
 
 def hosts_of(host: str, port: int, allowed: Iterable[str]) -> List[str]:
     """What a request may say as its Host: the address that is listened on, the names of this machine where that is its loopback, and
-    what was allowed. A page of another name that resolves to this address is thereby kept out."""
-    names = {host, *allowed}
+    what was allowed, which may be a proxy's and so goes without a port too. A page of another name that resolves to this address is
+    thereby kept out."""
+    names = {host}
     if host.startswith("127.") or host == "localhost":
         names |= {"127.0.0.1", "localhost"}
-    return sorted({it.lower() for name in names for it in ([name] if ":" in name else [f"{name}:{port}", *([name] if port == 80 else [])])})
+    further = [name.lower() for name in allowed]
+    found = {f"{name}:{port}" for name in [*names, *(name for name in further if ":" not in name)]} | set(further)
+    return sorted(found | (names if port == 80 else set()))
 
 
 class Server(ThreadingHTTPServer):
