@@ -36,9 +36,9 @@ except ImportError:
 import web_parts
 import checks
 from checks import differ, ended, is_built, skip
-from client import PROGRAM, free_port
+from client import PROGRAM
 from web_parts import (BODIES, FRAMES, ITEMS, KEYS, LAST, LIMIT, PACKAGE, ROOT, STREAMS, Served, Web, breaks, changes_of, fed, log_of, nodes, parsed_metrics,
-                       rows_at, va, waited, web_of)
+                       quiet_port, rows_at, va, waited, web_of)
 
 ENVIRONMENT = {**os.environ, "PYTHONPATH": str(PACKAGE), "PYTHONDONTWRITEBYTECODE": "1"}
 HEADS = {"Content-Security-Policy": r"default-src 'none'; script-src 'self'; style-src 'self'; connect-src 'self'; img-src 'self'; base-uri 'none'; "
@@ -276,7 +276,7 @@ def told_next(lines):
 
 def away_and_back():
     """A killed node is told, its questions are answered 503, and it is found again; one that was never there too."""
-    problems, port = [], free_port()
+    problems, port = [], quiet_port()
     with web_of([port]) as web:
         problems += differ([("not there", (web.node()["up"], web.node()["horizon"], web.json("/api/nodes")[1]["window"]), (False, None, None)),
                             ("asked", web.json("/api/get?table=1&key=0")[0], 503), ("metric", web.metric("vadungsil_node_up", node=f"127.0.0.1:{port}"), 0.0),
@@ -385,7 +385,7 @@ def metrics():
 def interface():
     """Each path of the OpenAPI file is asked, and each answer, refusals and errors too, has the told fields and no others."""
     problems, count = [], 0
-    with nodes(1) as (node,), web_of([node.port, free_port()]) as web:
+    with nodes(1) as (node,), web_of([node.port, quiet_port()]) as web:
         document = web.json("/api/openapi.json")[1]
         lone = f"&node=127.0.0.1:{node.port}"
         words = {"/api/nodes": [""], "/api/get": ["?table=1&key=5&at=9", "?table=1&key=5&at=99", "?table=1", "?table=1&key=5" + lone, "?table=1&key=5&node=x"],
@@ -485,7 +485,7 @@ def pictures():
     for name, words, data, wanted in (
             ("a prune above the mark", ["--horizon", "9"], story, (1, b"refused 24 readable 4\n")), ("a stream above", ["--streams", "1"], story, (1, b"refused 21\n")),
             ("two logs", [], story + va.encode(va.Mark(8, 1, 0, 0)), (1, b"refused 20\n")), ("cut off", [], story[:-1], (1, b"refused 1\n")),
-            ("no node", ["--node", f"127.0.0.1:{free_port()}"], b"", (1, b"refused 93\n")), ("keys", ["--keys", "1-5"], story, (2, b"")),
+            ("no node", ["--node", f"127.0.0.1:{quiet_port()}"], b"", (1, b"refused 93\n")), ("keys", ["--keys", "1-5"], story, (2, b"")),
             ("no file", ["--missing", "none.bin"], story, (2, b"")), ("streams", ["--streams", "65"], story, (1, b"refused 5\n")), ("nothing", [], b"", (0, None))):
         got = run([*picture, *words], data)
         problems += differ([(name, (got.returncode, got.stdout if wanted[1] is not None else None), wanted)])
@@ -592,8 +592,11 @@ def browser(words):
     if lacks:
         skip(f"the page in a browser: {', '.join(lacks)} not installed")
         return
-    import web_page
-    web_page.run(words)
+    try:
+        import web_page
+        web_page.run(words)
+    except Exception as error:  # pylint: disable=broad-except
+        report("the page in a browser", [f"{type(error).__name__}: {error}"])
 
 
 def main(words):

@@ -11,8 +11,7 @@ from selenium.webdriver.common.keys import Keys
 from selenium.webdriver.support.ui import Select
 
 from checks import differ, report
-from client import free_port
-from web_parts import FRAMES, LAST, LIMIT, STREAMS, Served, changes_of, fed, log_of, nodes, rows_at, va, waited, web_of
+from web_parts import FRAMES, LAST, LIMIT, STREAMS, Served, changes_of, fed, log_of, nodes, quiet_port, rows_at, va, waited, web_of
 
 ALL = "kind=range&table=1&low=0&high=18446744073709551615"
 ROWS = """return [...document.querySelectorAll('#answers article')].map(card => [...card.querySelectorAll('tbody tr')].map(
@@ -130,7 +129,7 @@ def browser_text(driver):
 
 def browser_away(driver):
     """A killed node is told within three seconds, and found again; the other one goes on."""
-    problems, port = [], free_port()
+    problems, port = [], quiet_port()
     with nodes(1) as (node,), Served(8, streams=STREAMS, port=port) as other:
         fed(port)
         name = f"127.0.0.1:{port}"
