@@ -37,7 +37,7 @@ import web_parts
 import checks
 from checks import differ, ended, is_built, skip
 from client import PROGRAM
-from web_parts import (BODIES, FRAMES, ITEMS, KEYS, LAST, LIMIT, PACKAGE, ROOT, STREAMS, Served, Web, breaks, changes_of, fed, log_of, nodes, parsed_metrics,
+from web_parts import (FRAMES, KEYS, LAST, LIMIT, PACKAGE, ROOT, STREAMS, Served, Web, breaks, changes_of, fed, log_of, nodes, parsed_metrics,
                        quiet_port, rows_at, va, waited, web_of)
 
 ENVIRONMENT = {**os.environ, "PYTHONPATH": str(PACKAGE), "PYTHONDONTWRITEBYTECODE": "1"}
@@ -131,11 +131,13 @@ def refusals():
         waited(lambda: web.node()["horizon"] == "10")
         status, early = web.json("/api/get?table=1&key=0&at=99")
         refused = early["answers"][0]["refused"]
-        problems += differ([("26", (status, early["equal"], refused["number"], refused["fields"], refused["line"]), (422, None, 26, {"readable": str(LAST)}, f"refused 26 readable {LAST}")),
+        problems += differ([("26", (status, early["equal"], refused["number"], refused["fields"], refused["line"]),
+                                    (422, None, 26, {"readable": str(LAST)}, f"refused 26 readable {LAST}")),
                             ("words", (refused["meaning"], refused["advice"], refused["name"]), (va.REASONS[26].meaning, va.REASONS[26].advice, "NotYet"))])
         status, old = web.json("/api/range?table=1&at=3")
         refused = old["answers"][0]["refused"]
-        problems += differ([("25", (status, old["equal"], refused["number"], refused["fields"]), (200, None, 25, {"horizon": "10"})), ("the other", len(old["answers"][1]["rows"]), len(rows_at(3))),
+        problems += differ([("25", (status, old["equal"], refused["number"], refused["fields"]), (200, None, 25, {"horizon": "10"})),
+                            ("the other", len(old["answers"][1]["rows"]), len(rows_at(3))),
                             ("the window", web.json("/api/nodes")[1]["window"], {"from": "10", "to": str(LAST)}),
                             ("changes", [("refused" in it) for it in web.json("/api/changes?table=1&from=3&to=20")[1]["answers"]], [True, False]),
                             ("counted", web.metric("vadungsil_refused_total", node=web.node()["node"], number="25") >= 1, True)])
@@ -161,18 +163,23 @@ def bad_requests():
         cases = [
             ("/", "GET", {}, 200), ("/?at=3&kind=get", "GET", {}, 200), ("/page.js", "GET", {}, 200), ("/metrics", "HEAD", {}, 200), ("/api/nodes", "HEAD", {}, 200),
             *[("/api/nodes", method, {}, 405) for method in ("POST", "PUT", "DELETE", "OPTIONS", "PATCH", "TRACE")], ("/", "BREW", {}, 405),
-            ("/none", "GET", {}, 404), ("/../page.js", "GET", {}, 404), ("/%2e%2e/server.py", "GET", {}, 404), ("/server.py", "GET", {}, 404), ("//host/", "GET", {}, 404),
-            ("http://host/", "GET", {}, 421), ("http://[/", "GET", {"Host": here}, 400), ("/api/", "GET", {}, 404), ("/api/none?x=1", "GET", {}, 404), ("/metrics?x", "GET", {}, 404), ("/page.js?x", "GET", {}, 404),
+            ("/none", "GET", {}, 404), ("/../page.js", "GET", {}, 404), ("/%2e%2e/server.py", "GET", {}, 404),
+            ("/server.py", "GET", {}, 404), ("//host/", "GET", {}, 404),
+            ("http://host/", "GET", {}, 421), ("http://[/", "GET", {"Host": here}, 400), ("/api/", "GET", {}, 404), ("/api/none?x=1", "GET", {}, 404),
+            ("/metrics?x", "GET", {}, 404), ("/page.js?x", "GET", {}, 404),
             ("/api/nodes?x=1", "GET", {}, 400), ("/api/get?table=1&key=0&node=127.0.0.1:1", "GET", {}, 404),
             *[(f"/api/{words}", "GET", {}, 400) for words in (
                 "get", "get?table=1", "get?table=1&key=", "get?table=65536&key=0", "get?table=-1&key=0", "get?table=1&key=18446744073709551616", "get?table=1&key=1e3",
                 "get?table=1&key=0x1", "get?table=1&key=+1", "get?table=1&key=%D9%A1", "get?table=1&key=0&key=1", "get?table=1&key=0&low=1", "get?table=1&key=0&at=x",
                 "get?table=1&key=0&at=4611686018427387905", "get?table=1&key=0&at=-1", "tag?table=1&tag=4294967296", "range?table=1&most=0", "range?table=1&most=10001",
-                "changes?table=1", "changes?table=1&from=x&to=1", "changes?kind=count&table=1&from=0&to=1", "count?table=%ff", "count?table", "count?" + "&".join(f"a{it}=1" for it in range(17)),
+                "changes?table=1", "changes?table=1&from=x&to=1", "changes?kind=count&table=1&from=0&to=1",
+                "count?table=%ff", "count?table", "count?" + "&".join(f"a{it}=1" for it in range(17)),
                 "get?table=1&key=" + "0" * 21)],
             ("/" + "a" * 3000, "GET", {}, 414), ("/api/get?table=" + "1" * 100_000, "GET", {}, 414), ("/", "GET", {"X_Long": "a" * 20_000}, 431),
+           
             ("/", "GET", {"Host": "evil.example"}, 421), ("/api/nodes", "GET", {"Host": f"evil.example:{web.port}"}, 421), ("/", "GET", {"Host": "127.0.0.1:1"}, 421),
-            ("/", "GET", {"Host": f"LOCALHOST:{web.port}"}, 200), ("/", "GET", {"Host": f"looking.example:{web.port}"}, 200), ("/", "GET", {"Host": "looking.example"}, 200), ("/", "GET", {"Host": "looking.example:1"}, 421),
+            ("/", "GET", {"Host": f"LOCALHOST:{web.port}"}, 200), ("/", "GET", {"Host": f"looking.example:{web.port}"}, 200),
+            ("/", "GET", {"Host": "looking.example"}, 200), ("/", "GET", {"Host": "looking.example:1"}, 421),
             ("/", "GET", {"Host": "127.0.0.1"}, 421), ("/", "GET", {"Host": here}, 200),
             ("/api/nodes", "GET", {"Sec_Fetch_Site": "cross-site", "Sec_Fetch_Mode": "cors"}, 403), ("/api/nodes", "GET", {"Sec_Fetch_Site": "same-origin"}, 200),
             ("/", "GET", {"Sec_Fetch_Site": "cross-site", "Sec_Fetch_Mode": "navigate"}, 200)]
@@ -362,7 +369,8 @@ def metrics():
             front, streams = node.front(), node.streams()
         problems = differ([("status", (status, heads["Content-Type"]), (200, "text/plain; version=0.0.4; charset=utf-8")),
                            ("front", (of("vadungsil_horizon"), of("vadungsil_readable")), (front.horizon, front.readable)), ("up", of("vadungsil_node_up"), 1.0),
-                           ("ranges", of("vadungsil_answer_seconds_count", kind="range"), 5.0), ("counts, one before each wide range", of("vadungsil_answer_seconds_count", kind="count"), 6.0),
+                           ("ranges", of("vadungsil_answer_seconds_count", kind="range"), 5.0),
+                           ("counts, one before each wide range", of("vadungsil_answer_seconds_count", kind="count"), 6.0),
                            ("fronts", of("vadungsil_answer_seconds_count", kind="front"), 1.0), ("deltas", of("vadungsil_answer_seconds_count", kind="delta") >= 1, True),
                            ("web", samples.get(("vadungsil_web_answers_total", (("code", "200"),))), 6.0)])
         for number, stream in enumerate(streams, 1):
@@ -521,7 +529,8 @@ def deployed():
     from vadungsil.web import metrics as told
     known = {family.name for family, _ in [*told.NODE, *told.STREAM]} | {told.REFUSED.name, told.SECONDS.name, "vadungsil_web_answers_total", "vadungsil_web_event_streams"}
     known |= {f"{told.SECONDS.name}_{part}" for part in ("bucket", "sum", "count")}
-    for name, text in (("alerts.yml", rules), ("grafana-dashboard.json", json.dumps([it.get("targets") for it in dashboard["panels"]])), ("LOOKING.md", looking), ("OPERATING.md", operating)):
+    asked = json.dumps([it.get("targets") for it in dashboard["panels"]])
+    for name, text in (("alerts.yml", rules), ("grafana-dashboard.json", asked), ("LOOKING.md", looking), ("OPERATING.md", operating)):
         problems += [f"{name}: no metric {it}" for it in sorted(set(re.findall(r"vadungsil_[a-z_]+", text)) - known)]
     alerts = re.findall(r"^ +- alert: (\w+)$", rules, re.M)
     problems += [f"{it} is not told in docs/OPERATING.md" for it in alerts if f"`{it}`" not in operating] + ([] if len(alerts) >= 5 else ["fewer than five alerts"])

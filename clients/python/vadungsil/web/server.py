@@ -6,7 +6,7 @@ import pathlib
 import socket
 import threading
 from http.server import ThreadingHTTPServer
-from typing import Any, Dict, Iterable, List, Optional, Tuple
+from typing import Any, Dict, Iterable, List, Tuple
 
 from ..link import Address
 from .api import Api
