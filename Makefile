@@ -3,11 +3,12 @@
 # make demo   the same, and runs the first example
 # make serve-demo   the same, and a node that two feeders fill, with a second node that catches up
 # make redis-demo   the same, and a primary's log through Redis into two nodes, one killed in the middle (apt-get install redis-server python3-redis)
+# make look   the same, and a node that two feeders fill, one of them late, with the page to look at it; until Ctrl-C
 # make test   the one test command: every proof from nothing, the must-fail edits, the tests, then the end-to-end checks
 # make compare CASES=100000 SEED=7   that many random cases beside tests/reference.py, once bin/hkrep is built
 # make bench  times the built program (by hand; never part of the gate's verdict)
 
-.PHONY: all try test demo serve-demo redis-demo compare bench clean
+.PHONY: all try test demo serve-demo redis-demo look compare bench clean
 
 CASES = 10000
 SEED = 1
@@ -33,6 +34,9 @@ serve-demo: bin/hkrep
 
 redis-demo: bin/hkrep
 	connectors/redis/demo
+
+look: bin/hkrep
+	examples/links/look.py $(LOOK)
 
 compare:
 	tests/compare random $(CASES) $(SEED)

@@ -31,8 +31,8 @@ def free_port():
 class Node:
     """A node of `hkrep serve`, which is ended at the latest when the block is left."""
 
-    def __init__(self, links, log=7, streams=1, environment=None):
-        self.port = free_port()
+    def __init__(self, links, log=7, streams=1, environment=None, port=None):
+        self.port = port or free_port()
         self.child = subprocess.Popen(
             [PROGRAM, "serve", "--log", str(log), "--streams", str(streams), "--port", str(self.port), "--links", str(links)],
             stdout=subprocess.PIPE, stderr=subprocess.PIPE, text=True, env=environment)

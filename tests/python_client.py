@@ -743,7 +743,7 @@ def wheel():
         problems += differ([(name, (path / "one" / name).read_bytes() == (path / "two" / name).read_bytes(), True) for name in names])
         problems += differ([("names", names, [f"vadungsil-{va.__version__}-py3-none-any.whl", f"vadungsil-{va.__version__}.tar.gz"])])
         inside = set(zipfile.ZipFile(path / "one" / names[0]).namelist())
-        missing = {f"vadungsil/{it.name}" for it in (PACKAGE / "vadungsil").iterdir() if it.is_file()} - inside
+        missing = {str(it.relative_to(PACKAGE)) for it in (PACKAGE / "vadungsil").rglob("*") if it.is_file() and it.suffix != ".pyc"} - inside
         problems += differ([("missing", missing, set())])
         pip = run([sys.executable, "-m", "pip", "install", "--no-index", "--quiet", "--target", path / "site", path / "one" / names[0]])
         if pip.returncode:
@@ -752,6 +752,8 @@ def wheel():
         problems += differ([("from source", source.returncode, 0)])
         example = "import vadungsil; node = vadungsil.Node(%d); log = vadungsil.LogWriter(7, 1); node.items([log.commit([(1, 5, 9, b'A')]), *log.marks()]); " \
                   "print(vadungsil.__file__, node.get(1, 5).body)" % served.port
+        page = run([sys.executable, "-c", "from vadungsil.web import Server; print(len(Server([1], ('127.0.0.1', 0)).assets))"], cwd=folder, env={"PYTHONPATH": str(path / "site")})
+        problems += differ([("the files of the page", page.stdout.decode(), "7\n")])
         for name in ("site", "from_source"):
             got = run([sys.executable, "-c", example if name == "site" else "import vadungsil; print(vadungsil.__file__, b'A')"], cwd=folder, env={"PYTHONPATH": str(path / name)})
             problems += differ([(name, got.stdout.decode(), f"{path / name / 'vadungsil' / '__init__.py'} b'A'\n")])
@@ -761,7 +763,7 @@ def wheel():
 def syntax():
     """Each file of the package is Python 3.9, and imports only the package and the standard library."""
     problems = []
-    for path in sorted((PACKAGE / "vadungsil").glob("*.py")):
+    for path in sorted((PACKAGE / "vadungsil").rglob("*.py")):
         tree = ast.parse(path.read_text(encoding="utf-8"), feature_version=(3, 9))
         for node in ast.walk(tree):
             names = [it.name for it in node.names] if isinstance(node, ast.Import) else [node.module] if isinstance(node, ast.ImportFrom) and not node.level else []

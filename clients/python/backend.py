@@ -14,6 +14,9 @@ HERE = pathlib.Path(__file__).resolve().parent
 DATE = (2020, 1, 1, 0, 0, 0)
 SECONDS = 1577836800
 
+# What of the package's folder belongs to it: modules, and the files of the page.
+SUFFIXES = (".py", ".typed", ".html", ".css", ".js", ".svg", ".json")
+
 
 def _field(name, text):
     return re.search(rf'^{name} = "(.*)"$', text, re.M)[1]
@@ -32,7 +35,7 @@ INFO = f"{NAME}-{VERSION}.dist-info"
 def _sources():
     """The package's files by their names in an archive."""
     return {f"{NAME}/{path.relative_to(HERE / NAME)}": path.read_bytes()
-            for path in sorted((HERE / NAME).rglob("*")) if path.suffix in (".py", ".typed")}
+            for path in sorted((HERE / NAME).rglob("*")) if path.suffix in SUFFIXES}
 
 
 def _described():

@@ -1,0 +1,5 @@
+"""A page, metrics and an interface over HTTP to look at nodes: docs/LOOKING.md. It only reads."""
+from .server import Server
+from .watch import Away, State, Watched
+
+__all__ = ["Away", "Server", "State", "Watched"]

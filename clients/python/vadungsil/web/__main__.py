@@ -1,0 +1,67 @@
+"""The command: python3 -m vadungsil.web."""
+from __future__ import annotations
+
+import argparse
+import signal
+import sys
+import threading
+from typing import Any, List, Optional
+
+from ..link import address_of
+from .server import Server
+
+
+def parser() -> argparse.ArgumentParser:
+    it = argparse.ArgumentParser(prog="python3 -m vadungsil.web", description="A page to look at nodes of Vadungsil, with /metrics and /api/. It only reads.")
+    it.add_argument("--node", action="append", default=[], metavar="ADDRESS", help="a node: HOST:PORT, or a port of this machine; may be given again")
+    it.add_argument("--http", default="127.0.0.1:8080", metavar="HOST:PORT", help="where to listen (127.0.0.1:8080); port 0 takes a free one")
+    it.add_argument("--allow-host", action="append", default=[], metavar="NAME", help="a further Host that a request may name; may be given again")
+    it.add_argument("--limit", type=float, default=10.0, metavar="SECONDS", help="the most that a node's reply is waited for (10)")
+    it.add_argument("--every", type=float, default=1.0, metavar="SECONDS", help="from one look at the nodes to the next (1)")
+    return it
+
+
+def listened(word: str) -> Any:
+    """Host and port, which may be 0."""
+    if word.endswith(":0"):
+        return word[:-2] or "127.0.0.1", 0
+    return address_of(word)
+
+
+def main(arguments: Optional[List[str]] = None) -> int:
+    words_of = parser()
+    words = words_of.parse_args(arguments)
+    if not words.node:
+        words_of.error("name a node: --node HOST:PORT")
+    if not words.limit > 0 or not words.every >= 0.1:
+        words_of.error("--limit is above 0, --every at least 0.1")
+    try:
+        server = Server([address_of(word) for word in words.node], listened(words.http), words.limit, words.every, words.allow_host)
+    except ValueError as error:
+        words_of.error(str(error))
+    except OSError as error:
+        print(f"can't listen on {words.http}: {error}", file=sys.stderr)
+        return 1
+    return run(server)
+
+
+def run(server: Server) -> int:
+    """Serves until Ctrl-C or SIGTERM."""
+    def end(*_: Any) -> None:
+        threading.Thread(target=server.shutdown, daemon=True).start()
+
+    for number in (signal.SIGINT, signal.SIGTERM):
+        signal.signal(number, end)
+    if not server.server_address[0].startswith("127."):
+        print("others can reach this: it has no passwords and no encryption", file=sys.stderr)
+    print(f"listening {server.address}", flush=True)
+    server.start()
+    try:
+        server.serve_forever(poll_interval=0.1)
+    finally:
+        server.close()
+    return 0
+
+
+if __name__ == "__main__":
+    sys.exit(main())

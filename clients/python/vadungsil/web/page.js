@@ -1,0 +1,228 @@
+// The page: how the nodes stand, live; a time; a question; the rows of that moment, and what changed.
+import { axisOf, picture } from "./draw.js";
+import { answerCard, changesCard, make, refusal } from "./rows.js";
+
+const $ = (id) => document.getElementById(id);
+const FIELDS = { get: ["table", "key"], range: ["table", "low", "high"], tag: ["table", "tag"], count: ["table"] };
+const MOST = { at: 2n ** 62n, with: 2n ** 62n, table: 65535n, key: 2n ** 64n - 1n, low: 2n ** 64n - 1n, high: 2n ** 64n - 1n, tag: 2n ** 32n - 1n };
+const BEGIN = { kind: "range", table: "1", key: "0", low: "0", high: String(2n ** 64n - 1n), tag: "0", view: "hex", with: "" };
+const STEPS = 1000000n;
+const state = { ...BEGIN, at: "", nodes: [], window: null, source: null, heard: 0, asked: "", running: null, retry: null };
+
+function isNumber(name, word) {
+  return /^[0-9]{1,20}$/.test(word) && BigInt(word) <= MOST[name];
+}
+
+// ---------------------------------------------------------------- the address
+
+function readAddress() {
+  const words = new URLSearchParams(location.search);
+  for (const name of [...Object.keys(BEGIN), "at"]) {
+    const word = words.get(name) ?? "";
+    if (name === "kind" ? word in FIELDS : name === "view" ? ["hex", "text", "json"].includes(word) : isNumber(name, word)) state[name] = word;
+  }
+}
+
+function addressOf(at) {
+  const words = new URLSearchParams({ kind: state.kind });
+  for (const name of FIELDS[state.kind]) words.set(name, state[name]);
+  if (at !== "") words.set("at", at);
+  if (state.with !== "") words.set("with", state.with);
+  words.set("view", state.view);
+  return `/?${words}`;
+}
+
+// ---------------------------------------------------------------- the moment
+
+function time() {
+  return state.at !== "" ? BigInt(state.at) : state.window ? BigInt(state.window.to) : null;
+}
+
+function isWide() {
+  return state.window && BigInt(state.window.to) - BigInt(state.window.from) > STEPS;
+}
+
+function sliderTime(value) {
+  const from = BigInt(state.window.from), to = BigInt(state.window.to);
+  return isWide() ? from + ((to - from) * BigInt(value)) / STEPS : from + BigInt(value);
+}
+
+function showMoment() {
+  const slider = $("slider"), at = time();
+  slider.disabled = !state.window;
+  if (state.window) {
+    const from = BigInt(state.window.from), to = BigInt(state.window.to), span = to - from;
+    slider.max = String(isWide() ? STEPS : span);
+    const inside = at < from ? from : at > to ? to : at;
+    slider.value = String(isWide() ? ((inside - from) * STEPS) / span : inside - from);
+    slider.setAttribute("aria-valuetext", `time ${at}`);
+  }
+  $("window").textContent = state.window ? `window ${state.window.from} to ${state.window.to}` : "no time that all nodes can read";
+  $("follow").checked = state.at === "";
+  if (document.activeElement !== $("at")) $("at").value = at === null ? "" : String(at);
+  $("link").href = addressOf(at === null ? "" : String(at));
+  drawNodes();
+}
+
+function setTime(word) {
+  state.at = word;
+  changed();
+}
+
+// ---------------------------------------------------------------- the nodes
+
+function nodeWords(node) {
+  const held = node.streams.filter((stream) => stream.holds);
+  if (held.length === 0) return "no stream holds it back";
+  const named = held.slice(0, 4).map((stream) => `stream ${stream.stream}`).join(", ") + (held.length > 4 ? ` and ${held.length - 4} more` : "");
+  const lacks = held[0].lacks === "entries" ? `entry ${BigInt(held[0].prefix) + 1n}` : "a mark";
+  return `${named} hold${held.length > 1 ? "" : "s"} it back, by ${held[0].lag}${held.length > 1 ? "" : `: it lacks ${lacks}`}`;
+}
+
+function nodeCard(node, axis) {
+  const silent = node.up && node.age !== null && node.age > 3;
+  const said = !node.up ? "away" : node.damaged ? "damaged" : silent ? `silent for ${Math.round(node.age)} s` : "up";
+  const card = make("article", { class: node.up ? "card" : "card away" }, make("div", { class: "title" }, make("h3", {}, node.node),
+    make("span", { class: said === "up" ? "pill" : "pill no" }, said), make("span", { class: "soft" }, node.log === null ? "" : `log ${node.log}`)));
+  card.dataset.node = node.node;
+  if (!node.up) card.append(make("p", { class: "trouble" }, `${node.error}; tried again until it is back`));
+  else if (node.refused) card.append(refusal(node.refused));
+  else card.append(picture(node, axis, time()), make("p", { class: "words" }, nodeWords(node)));
+  return card;
+}
+
+function drawNodes() {
+  const axis = axisOf(state.nodes);
+  $("nodes").replaceChildren(...state.nodes.map((node) => nodeCard(node, axis)));
+}
+
+function heard(event) {
+  const { nodes, window: times } = JSON.parse(event.data);
+  Object.assign(state, { nodes, window: times, heard: Date.now() });
+  live("live, once a second", false);
+  showMoment();
+  ask();
+}
+
+function live(words, broken) {
+  $("live").textContent = words;
+  $("live").classList.toggle("broken", broken);
+}
+
+function listen() {
+  clearTimeout(state.retry);
+  if (state.source || document.hidden) return;
+  state.source = new EventSource("/api/events");
+  state.source.onmessage = heard;
+  state.source.onerror = () => {
+    live("the web server doesn't answer; it is tried again", true);
+    hush();
+    state.retry = setTimeout(listen, 1000);
+  };
+}
+
+function hush() {
+  if (state.source) state.source.close();
+  state.source = null;
+}
+
+// ---------------------------------------------------------------- questions
+
+function parameters(more) {
+  const words = new URLSearchParams(more);
+  for (const name of FIELDS[state.kind]) words.set(name, state[name]);
+  return words;
+}
+
+async function fetched(path, signal) {
+  const got = await fetch(path, { signal });
+  const value = await got.json();
+  if (value.answers === undefined) throw new Error(value.error ?? `status ${got.status}`);
+  return value;
+}
+
+// Asks where the question, the time or the state of a node is another than when it was asked last.
+async function ask() {
+  const at = time();
+  const health = state.nodes.map((node) => [node.node, node.up, node.damaged]);
+  const asked = JSON.stringify([state.kind, FIELDS[state.kind].map((name) => state[name]), String(at), state.with, state.view, health]);
+  if (at === null) { $("told").textContent = "no time can be read"; $("answers").replaceChildren(); state.asked = ""; return; }
+  if (asked === state.asked) return;
+  state.asked = asked;
+  if (state.running) state.running.abort();
+  state.running = new AbortController();
+  const { signal } = state.running;
+  try {
+    showAnswers(await fetched(`/api/${state.kind}?${parameters({ at })}`, signal));
+    const since = state.with !== "" && state.kind !== "count";
+    $("changes-part").hidden = !since;
+    if (since) showChanges(await fetched(`/api/changes?${parameters({ kind: state.kind, from: state.with, to: at })}`, signal));
+  } catch (error) {
+    if (error.name === "AbortError") return;
+    state.asked = "";
+    $("told").textContent = `not answered: ${error.message}`;
+    $("told").className = "bad";
+  }
+}
+
+function sameness(value) {
+  const many = value.answers.filter((it) => it.refused === undefined && it.away === undefined).length;
+  return value.equal === null ? "" : value.equal ? ` The ${many} nodes that answered are equal.` : " THE NODES ARE NOT EQUAL.";
+}
+
+function showAnswers(value) {
+  $("told").textContent = `At time ${value.at}.${sameness(value)}`;
+  $("told").className = value.equal === false ? "bad" : "";
+  $("told").dataset.at = value.at;
+  const next = state.kind === "range" ? (key) => { state.low = key; showForm(); changed(); } : null;
+  $("answers").replaceChildren(...value.answers.map((answer) => answerCard(answer, state.view, next)));
+}
+
+function showChanges(value) {
+  $("changes-told").textContent = `From time ${value.from} to time ${value.to}.${sameness(value)}`;
+  const shown = value.equal ? value.answers.filter((it) => it.changes !== undefined).slice(0, 1) : value.answers;
+  $("changes").replaceChildren(...shown.map((answer) => changesCard(answer, state.view)));
+}
+
+// ---------------------------------------------------------------- the form
+
+function showForm() {
+  for (const name of ["kind", "view", "table", "key", "low", "high", "tag", "with"]) $(name).value = state[name];
+  for (const label of document.querySelectorAll("label[data-of]")) label.hidden = !label.dataset.of.split(" ").includes(state.kind);
+}
+
+function changed() {
+  history.replaceState(null, "", addressOf(state.at));
+  showMoment();
+  ask();
+}
+
+function typed(name) {
+  const word = $(name).value.trim();
+  const good = (word === "" && name === "with") || isNumber(name, word);
+  $(name).setAttribute("aria-invalid", String(!good));
+  if (!good) return;
+  state[name] = word;
+  changed();
+}
+
+function step(by) {
+  const at = time();
+  if (at !== null && at + by >= 0n && at + by <= MOST.at) setTime(String(at + by));
+}
+
+function begin() {
+  readAddress();
+  showForm();
+  for (const name of ["table", "key", "low", "high", "tag", "with", "at"]) $(name).addEventListener("input", () => typed(name));
+  for (const name of ["kind", "view"]) $(name).addEventListener("change", () => { state[name] = $(name).value; showForm(); changed(); });
+  $("slider").addEventListener("input", () => setTime(String(sliderTime($("slider").value))));
+  $("follow").addEventListener("change", () => setTime($("follow").checked ? "" : String(time() ?? "")));
+  $("back").addEventListener("click", () => step(-1n));
+  $("on").addEventListener("click", () => step(1n));
+  $("form").addEventListener("submit", (event) => event.preventDefault());
+  document.addEventListener("visibilitychange", () => { if (document.hidden) { hush(); live("stopped while the tab is hidden", false); } else listen(); });
+  listen();
+}
+
+begin();

@@ -1,0 +1,197 @@
+"""One node as the web server sees it: one link, shared by all who ask, and what the node told last.
+
+A node gives out each of its links once, so the link is kept; where it breaks it is opened anew after a pause."""
+from __future__ import annotations
+
+import threading
+import time as clock
+from typing import Any, Callable, Dict, List, NamedTuple, Optional, Tuple, TypeVar
+
+from ..errors import LinkBroken, Refused, TimeLimit, VadungsilError
+from ..link import Address
+from ..node import Node
+from ..values import LAST_TIME, Fragment, Stream
+from .meters import Meters
+
+Result = TypeVar("Result")
+
+# Seconds from a broken link to the next try; after each further time limit it is twice as long, up to the second number.
+PAUSE, LONGEST_PAUSE = 1.0, 30.0
+
+# Of the numbers above a gap, and of the marks that wait, so many are told; the counts are of all.
+SHOWN = 32
+DAMAGED = 41
+
+
+class Away(VadungsilError):
+    """A node can't be asked now; the words say why."""
+
+
+class Busy(Away):
+    """A node is asked other questions for longer than the limit."""
+
+
+class StreamState(NamedTuple):
+    """How far one stream is. `lag` is how far it is behind the greatest closed time of the streams that aren't retired."""
+
+    number: int
+    prefix: int
+    closed: int
+    extra: int
+    waiting: int
+    first_extra: Tuple[int, ...]
+    first_waiting: Tuple[Tuple[int, int], ...]
+    lag: int
+    holds: bool
+
+    @property
+    def is_retired(self) -> bool:
+        return self.closed == LAST_TIME
+
+    @property
+    def lacks(self) -> str:
+        """What a stream that holds the node back lacks: entries where some came above a gap or marks wait, else marks."""
+        return ("entries" if self.extra or self.waiting else "marks") if self.holds else ""
+
+
+class State(NamedTuple):
+    """What a node told last. `damaged` is None until a node told."""
+
+    up: bool = False
+    error: str = "not asked yet"
+    refused: Optional[Refused] = None
+    damaged: Optional[bool] = None
+    log: Optional[int] = None
+    horizon: int = 0
+    readable: int = 0
+    streams: Tuple[StreamState, ...] = ()
+
+    @property
+    def is_known(self) -> bool:
+        """Whether horizon, readable mark and streams are those of now."""
+        return self.up and self.refused is None
+
+    @property
+    def holders(self) -> List[StreamState]:
+        """The streams that hold the node back: closed only up to the readable mark, where another is closed further."""
+        return [stream for stream in self.streams if stream.holds]
+
+
+def stream_states(streams: Tuple[Stream, ...]) -> Tuple[StreamState, ...]:
+    """The streams of a fragment, with what each is behind."""
+    open_ones = [it.closed for it in streams if it.closed < LAST_TIME]
+    greatest, least = max(open_ones, default=LAST_TIME), min(it.closed for it in streams)
+    return tuple(StreamState(number, it.prefix, it.closed, len(it.extra), len(it.waiting), it.extra[:SHOWN], it.waiting[:SHOWN],
+                             max(greatest - it.closed, 0), it.closed == least < greatest)
+                 for number, it in enumerate(streams, 1))
+
+
+def state_of(head: Fragment) -> State:
+    """The state that a delta without facts tells."""
+    return State(True, "", None, False, head.log, head.horizon, head.readable, stream_states(head.streams))
+
+
+class Watched:
+    """A node that is asked how it stands every so many seconds, by a thread of its own, and questions between. Threads may share it."""
+
+    def __init__(self, address: Address, limit: float = 10.0, every: float = 1.0, changed: Optional[Callable[[], None]] = None) -> None:
+        self.node = Node(address, limit, tries=1)
+        self.name, self.limit, self.every = self.node.name, limit, every
+        self.meters = Meters()
+        self.state = State()
+        self.told_at: Optional[float] = None
+        self._changed = changed or (lambda: None)
+        self._lock, self._stop = threading.Lock(), threading.Event()
+        self._broken, self._again, self._pause = "", 0.0, PAUSE
+        self._thread = threading.Thread(target=self._run, name=f"watch {self.name}", daemon=True)
+
+    @property
+    def age(self) -> Optional[float]:
+        """Seconds since the node's last reply to the watch; None before the first."""
+        return None if self.told_at is None else clock.monotonic() - self.told_at
+
+    def start(self) -> None:
+        self._thread.start()
+
+    def stop(self) -> None:
+        """Ends the watch, and closes the link unless a reply is still waited for on it."""
+        self._stop.set()
+        if self._thread.is_alive():
+            self._thread.join(1.0)
+        if self._lock.acquire(timeout=0.1):
+            try:
+                self.node.close()
+            finally:
+                self._lock.release()
+
+    # ------------------------------------------------------------ asking
+
+    def ask(self, kind: str, call: Callable[[Node], Result]) -> Result:
+        """What the node replies, with its time in the meters. `Refused` is the node's; `Away` says that it can't be asked."""
+        if not self._lock.acquire(timeout=self.limit):
+            raise Busy(f"{self.name}: busy with other questions for {self.limit:g} s")
+        try:
+            if self._broken and clock.monotonic() < self._again:
+                raise Away(self._broken)
+            return self._asked(kind, call)
+        finally:
+            self._lock.release()
+
+    def _asked(self, kind: str, call: Callable[[Node], Result]) -> Result:
+        before, began = self.node._link, clock.monotonic()
+        try:
+            value = call(self.node)
+        except LinkBroken as error:
+            self.meters.broken()
+            self._pause = min(2 * self._pause, LONGEST_PAUSE) if isinstance(error, TimeLimit) else PAUSE
+            self._broken, self._again = str(error), clock.monotonic() + self._pause
+            raise Away(str(error)) from error
+        except Refused as refused:
+            self._answered(kind, began, before, refused.number)
+            raise
+        self._answered(kind, began, before, 0)
+        return value
+
+    def _answered(self, kind: str, began: float, before: Any, number: int) -> None:
+        self.meters.answered(kind, clock.monotonic() - began, number)
+        if self.node._link is not before and self.node._link is not None:
+            self.meters.opened()
+        self._broken, self._pause = "", PAUSE
+
+    # ------------------------------------------------------------ watching
+
+    def _run(self) -> None:
+        while not self._stop.is_set():
+            self.look()
+            self._stop.wait(self.every)
+
+    def look(self) -> State:
+        """Asks the node how it stands: by a delta since the last time of all, which has no facts."""
+        before = self.state
+        try:
+            state = state_of(self.ask("delta", lambda node: node.delta(LAST_TIME)))
+            self.told_at = clock.monotonic()
+        except Refused as refused:
+            state = State(True, str(refused), refused, refused.number == DAMAGED, before.log)
+            self.told_at = clock.monotonic()
+        except Busy:
+            return before
+        except Away as away:
+            state = State(False, str(away), None, before.damaged, before.log)
+        except Exception as error:  # pylint: disable=broad-except
+            state = State(False, f"{self.name}: {type(error).__name__}: {error}", None, before.damaged, before.log)
+        self.state = state
+        if (state.up, state.damaged) != (before.up, before.damaged):
+            self._changed()
+        return state
+
+
+def watched_by_name(addresses: List[Address], **more: Any) -> Dict[str, Watched]:
+    """The nodes by their names, in order; each once."""
+    found: Dict[str, Watched] = {}
+    for address in addresses:
+        one = Watched(address, **more)
+        if one.name in found:
+            raise ValueError(f"{one.name} is named twice")
+        found[one.name] = one
+    return found
