@@ -512,12 +512,12 @@ def look():
         at = int(web.node()["readable"])
         problems += differ([("rows", bool(web.json(f"/api/range?table=1&at={at}")[1]["answers"][0]["rows"]), True)])
         child.send_signal(signal.SIGINT)
-        _, err = child.communicate(timeout=LIMIT)
+        _, err = child.communicate(timeout=4 * LIMIT)
         problems += differ([("ends by Ctrl-C", (child.returncode, err), (0, ""))])
     finally:
         if child.poll() is None:
             child.send_signal(signal.SIGINT)        # so that it ends its node too
-            child.communicate(timeout=LIMIT)
+            child.communicate(timeout=4 * LIMIT)
     report("make look", problems)
 
 

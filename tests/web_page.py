@@ -123,7 +123,9 @@ def browser_text(driver):
                             ("not JSON", any(row[2].endswith("not JSON") for row in page.rows()[0]), True)])
         page.choose("view", "hex")
         waited(lambda: page.rows()[0] == as_texts(rows_at(20)), 10)
-        problems += differ([("what the browser says", [it["message"] for it in driver.get_log("browser")], [])])
+        # a page of the check before may still tell that its own server has gone
+        said = [it["message"] for it in driver.get_log("browser") if it["message"].startswith(web.address) or "/api/events" not in it["message"]]
+        problems += differ([("what the browser says", said, [])])
     report("a row with <script> is text; bodies as text, JSON and hexadecimal", problems)
 
 
