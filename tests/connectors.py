@@ -556,7 +556,7 @@ def main(words):
         return ended()
     if not is_built(HKREP):
         return ended()
-    entries = int(words.pop(0)) if words and words[0].isdigit() else 3000
+    entries = int(words.pop(0)) if words and words[0].isdigit() else 2000
     frames = log_of(entries, 5)
     log = (entries, frames, tables_of(frames, entries))
     chosen = [story for story in STORIES if not words or story.__name__ in words]
