@@ -117,6 +117,30 @@ def behind_a_fault():
         report("bytes behind a fault", differ(pairs + [("the end", told(child), (["ended 2"], 1, 1))]))
 
 
+# The node writes what stands once it has more bytes than this.
+MOST_HELD = 65_536
+
+
+def replies_together():
+    """The replies to what is read at once are written at once: no second sending is needed. Where they have more than so many
+    bytes the first block ends with the reply that went beyond; where the second sending fails, that block is all that comes."""
+    block = (MOST_HELD // len(NO_FRONT) + 1) * NO_FRONT
+    with tempfile.TemporaryDirectory() as folder:
+        library = pathlib.Path(folder) / "failing_io.so"
+        source = ROOT / "tests" / "faults" / "failing_io.c"
+        subprocess.run(["cc", "-shared", "-fPIC", "-O1", "-o", str(library), str(source), "-ldl"], check=True)
+        faults = {**os.environ, "LD_PRELOAD": str(library), "FAILING_SEND": "2"}
+        pairs = []
+        for name, count, wanted in (("1,000 replies", 1000, 1000 * NO_FRONT), ("3,000 replies", 3000, block)):
+            with node(1, faults) as (child, port), opened(port) as link:
+                link.sendall(count * FRONT)
+                pairs += [(name, read(link, len(wanted)), wanted)]
+                if count == 1000:
+                    link.sendall(FRONT)
+                pairs += [(f"{name}, and no more", read(link, 1), b""), ("the end", told(child), (["ended 92"], 1, 1))]
+    report("the replies to one read go out together", differ(pairs))
+
+
 def in_order():
     """The ends are told in the order of accepting, and not in that of ending."""
     with node(3) as (child, port):
@@ -161,7 +185,7 @@ def late_entry():
 
 def main():
     if is_built(PROGRAM):
-        for check in (no_more_files, no_thread, behind_a_fault, in_order, late_entry):
+        for check in (no_more_files, no_thread, behind_a_fault, replies_together, in_order, late_entry):
             try:
                 check()
             except Exception as error:  # pylint: disable=broad-except

@@ -54,7 +54,7 @@ BeginsWith-then : (text left more : List ℕ) (xs ys : List Request) → ReadsRe
 BeginsWith-then text left more xs ys h k =
     (h.0 ++ k.0, both_same request_seen request_meant xs ys h.0 k.0 h.1 k.1, k.2, joined text left more k.2 h.0 k.0 h.2.0 k.3, each_both h.0 k.0 h.2.1 k.4)
 
-replies_bytes-both : (rs ss : List Reply) → replies_bytes (rs ++ ss) ≡ replies_bytes rs ++ replies_bytes ss
+pub replies_bytes-both : (rs ss : List Reply) → replies_bytes (rs ++ ss) ≡ replies_bytes rs ++ replies_bytes ss
 replies_bytes-both rs ss = flat_map-append reply_bytes rs ss
 
 -- what was said of what was left holds of the whole
@@ -177,7 +177,7 @@ fault_encoded f = le-leb _ _ (omega (arith, refused_len (refusals.Form f)))
 said_fault : (f : FormFault) → reply_bytes (told.Refused (refusals.Form f)) ≡ refused_text f
 said_fault f = rw (fault_encoded f) refl
 
-one_said : (r : Reply) → replies_bytes (r ∷ []) ≡ reply_bytes r
+pub one_said : (r : Reply) → replies_bytes (r ∷ []) ≡ reply_bytes r
 one_said r = append-nil (reply_bytes r)
 
 -- all replies but the last were written, and of that one a front
@@ -194,7 +194,7 @@ one_of true x y h k = h
 one_of false x y h k = k
 
 -- nothing of a reply is a front of it
-none_of : (r : Reply) → IsProperPrefixOf [] (reply_bytes r)
+pub none_of : (r : Reply) → IsProperPrefixOf [] (reply_bytes r)
 none_of r = ((reply_bytes r, refl), one_of (is_encodable (reply_seen r)) (reply_text (reply_seen r)) (refused_text TooLong) (some_text (reply_seen r)) (some_text (Refused (refusals.Form TooLong))))
 
 -- the fault that follows was said, or not
@@ -213,15 +213,22 @@ fault_said may a b o p q text qs rs r f WriteFault h of answers appended sent =
 fault_said may a b o p q text qs rs r f Clean h of answers appended sent = absurd sent
 fault_said may a b o p q text qs rs r f ReadFault h of answers appended sent = absurd sent
 
-pub refused_all : (f : FormFault) (o p : Option (List ℕ)) → Sends (reply_bytes (told.Refused (refusals.Form f))) o p None → Appends o p (refused_text f)
-refused_all f o p h = subst (Appends o p) (said_fault f) h
+refused_all_of : (f : FormFault) (o p : Option (List ℕ)) (left : List ℕ) → Sends [] (reply_bytes (told.Refused (refusals.Form f))) 0 o p left None → Appends o p (refused_text f)
+refused_all_of f o p left (inl k) = absurd (omega (arith, k.2, (none_of (told.Refused (refusals.Form f))).1))
+refused_all_of f o p left (inr k) = subst (Appends o p) (said_fault f) k.0
 
-pub refused_part : (f : FormFault) (o p : Option (List ℕ)) (e : Ended) → Sends (reply_bytes (told.Refused (refusals.Form f))) o p (Some e) → Refuses f o p e
-refused_part f o p Clean h = absurd h
-refused_part f o p (Fault g) h = absurd h
-refused_part f o p Memory h = h
-refused_part f o p ReadFault h = absurd h
-refused_part f o p WriteFault h = (h.0, subst (IsProperPrefixOf h.0) (said_fault f) h.1, h.2)
+pub refused_all : (f : FormFault) (held left : List ℕ) (o p : Option (List ℕ)) → held ≡ [] → Sends held (reply_bytes (told.Refused (refusals.Form f))) 0 o p left None → Appends o p (refused_text f)
+refused_all f held left o p none h = refused_all_of f o p left (subst (λ (t : List ℕ). Sends t (reply_bytes (told.Refused (refusals.Form f))) 0 o p left None) none h)
+
+refused_part_of : (f : FormFault) (o p : Option (List ℕ)) (left : List ℕ) (e : Ended) → Sends [] (reply_bytes (told.Refused (refusals.Form f))) 0 o p left (Some e) → Refuses f o p e
+refused_part_of f o p left Clean h = absurd h
+refused_part_of f o p left (Fault g) h = absurd h
+refused_part_of f o p left Memory h = h
+refused_part_of f o p left ReadFault h = absurd h
+refused_part_of f o p left WriteFault h = (h.0, subst (IsProperPrefixOf h.0) (said_fault f) h.1, h.2)
+
+pub refused_part : (f : FormFault) (held left : List ℕ) (o p : Option (List ℕ)) (e : Ended) → held ≡ [] → Sends held (reply_bytes (told.Refused (refusals.Form f))) 0 o p left (Some e) → Refuses f o p e
+refused_part f held left o p e none h = refused_part_of f o p left e (subst (λ (t : List ℕ). Sends t (reply_bytes (told.Refused (refusals.Form f))) 0 o p left (Some e)) none h)
 
 pub midway_of : (f : FormFault) (o p : Option (List ℕ)) (e : Ended) → f ≢ Truncated → Refuses f o p e → IsMidway e
 midway_of f o p Clean never h = absurd h
@@ -235,22 +242,6 @@ split_more qs front rest later x e f = e ∙ ap (λ (t : List Request). front ++
 
 pub answered_more : {H : Type 0} (may : H → Request → Reply → H → Type 0) (a b c : H) (front : List Request) (rs : List Reply) (x : Request) (r : Reply) → Answers may a front rs b → may b x r c → Answers may a (front ++ x ∷ []) (rs ++ r ∷ []) c
 answered_more may a b c front rs x r h k = Answers-then may a b c front (x ∷ []) rs (r ∷ []) h (c, k, refl)
-
-pub said_one_more : (o p q : Option (List ℕ)) (rs : List Reply) (r : Reply) → Appends o p (replies_bytes rs) → Appends p q (reply_bytes r) → Appends o q (replies_bytes (rs ++ r ∷ []))
-said_one_more o p q rs r h k =
-    subst (Appends o q) (ap (λ (t : List ℕ). replies_bytes rs ++ t) (sym (one_said r)) ∙ sym (replies_bytes-both rs (r ∷ []))) (Appends-trans o p q (replies_bytes rs) (reply_bytes r) h k)
-
-pub stops_at : {H : Type 0} (may : H → Request → Reply → H → Type 0) (a b c : H) (o p q : Option (List ℕ)) (qs front rest later : List Request) (x : Request) (rs : List Reply) (r : Reply) (e : Ended)
-    → qs ≡ front ++ rest → rest ≡ x ∷ later → Answers may a front rs b → may b x r c → Appends o p (replies_bytes rs) → Sends (reply_bytes r) p q (Some e) → Stops may a c o q qs e
-stops_at may a b c o p q qs front rest later x rs r Memory split next h k sent more =
-    let both = Appends-trans o p q (replies_bytes rs) [] sent more in
-    (front ++ x ∷ [], later, split_more qs front rest later x split next, rs ++ r ∷ [], answered_more may a b c front rs x r h k, replies_bytes rs ++ [], cut_at rs r [] (none_of r), both, inl refl)
-stops_at may a b c o p q qs front rest later x rs r WriteFault split next h k sent more =
-    let both = Appends-trans o p q (replies_bytes rs) more.0 sent more.2 in
-    (front ++ x ∷ [], later, split_more qs front rest later x split next, rs ++ r ∷ [], answered_more may a b c front rs x r h k, replies_bytes rs ++ more.0, cut_at rs r more.0 more.1, both, inr refl)
-stops_at may a b c o p q qs front rest later x rs r Clean split next h k sent more = absurd more
-stops_at may a b c o p q qs front rest later x rs r (Fault f) split next h k sent more = absurd more
-stops_at may a b c o p q qs front rest later x rs r ReadFault split next h k sent more = absurd more
 
 -- what a feeder answers tells what it holds
 abbrev answers_ok : Result (Unit {0}) Refusal

@@ -143,14 +143,27 @@ pub record SessionStep {H : Type 0} (may : H → Request → Reply → H → Typ
   pub appended : Appends before after written
   pub how : How bytes requests replies written
 
--- what a call that writes this text did, where it answers so
-abbrev pub Sends : List ℕ → Option (List ℕ) → Option (List ℕ) → Option Ended → Type 0
-Sends text before after None = Appends before after text
-Sends text before after (Some Memory) = Appends before after []
-Sends text before after (Some WriteFault) = (part : List ℕ) × IsProperPrefixOf part text × Appends before after part
-Sends text before after (Some Clean) = ⊥
-Sends text before after (Some (Fault f)) = ⊥
-Sends text before after (Some ReadFault) = ⊥
+-- what a call that writes a text and then holds none did, where it answers so
+abbrev pub Writes : List ℕ → Option (List ℕ) → Option (List ℕ) → List ℕ → Option Ended → Type 0
+Writes text before after left None = Appends before after text × (left ≡ [])
+Writes text before after left (Some WriteFault) = (part : List ℕ) × IsProperPrefixOf part text × Appends before after part
+Writes text before after left (Some Memory) = ⊥
+Writes text before after left (Some Clean) = ⊥
+Writes text before after left (Some (Fault f)) = ⊥
+Writes text before after left (Some ReadFault) = ⊥
+
+-- Both texts are held, at most so many bytes, and nothing was written; or both were written.
+abbrev pub Holds : List ℕ → ℕ → Option (List ℕ) → Option (List ℕ) → List ℕ → Type 0
+Holds both most before after left = (Appends before after [] × (left ≡ both) × (length both ≤ most)) ⊎ (Appends before after both × (left ≡ []))
+
+-- what a call that adds a text behind what is held did, where it answers so
+abbrev pub Sends : List ℕ → List ℕ → ℕ → Option (List ℕ) → Option (List ℕ) → List ℕ → Option Ended → Type 0
+Sends held text most before after left None = Holds (held ++ text) most before after left
+Sends held text most before after left (Some Memory) = Appends before after held
+Sends held text most before after left (Some WriteFault) = (part : List ℕ) × IsProperPrefixOf part (held ++ text) × Appends before after part
+Sends held text most before after left (Some Clean) = ⊥
+Sends held text most before after left (Some (Fault f)) = ⊥
+Sends held text most before after left (Some ReadFault) = ⊥
 
 -- how a session can end before its reader does
 abbrev pub IsMidway : Ended → Type 0

@@ -18,25 +18,30 @@ use hk_wire::{Reply, Request, RequestFeeder};
 use std::alloc::{AllocError, Global};
 use std::io::{Read, Write};
 
-/// Answers one request, and writes the reply. The buffer is for its text.
+/// So many bytes of replies are held back at most.
+const MOST_HELD: usize = 65_536;
+
+/// Answers one request. Its reply is held, where all that are held have at most `most` bytes, or written with them.
 fn answer_one<W: Write, H: Host>(
     request: Request,
-    text: &mut Vec<u8>,
+    most: usize,
+    held: &mut Vec<u8>,
     writer: &mut Counted<W>,
     host: &mut H,
 ) -> Option<Ended>
     requires quiet { writer.old.faults ≡ 0 }
     requires ready { H.ready host.old }
-    ensures says { (reply : Reply) × H.may host.old request reply host.new × Sends (reply_bytes reply) (W.contents writer.old.device) (W.contents writer.new.device) result }
+    ensures says { (reply : Reply) × H.may host.old request reply host.new
+        × Sends held.old.items (reply_bytes reply) most (W.contents writer.old.device) (W.contents writer.new.device) held.new.items result }
     ensures ready { H.ready host.new }
     ensures quiet { result ≢ Some ends.WriteFault → writer.new.faults ≡ 0 }
     ensures fault { result ≡ Some ends.WriteFault → 0 < writer.new.faults }
 {
     let reply = host.answer(request);
-    send(&reply, text, writer)
+    send(&reply, most, held, writer)
 }
 
-/// Answers the requests in order, and writes the replies.
+/// Answers the requests in order, and writes the replies: in one piece, or as soon as so many bytes stand.
 fn answer_all<W: Write, H: Host>(
     alloc: Global,
     requests: Vec<Request>,
@@ -52,13 +57,14 @@ fn answer_all<W: Write, H: Host>(
     ensures quiet { result ≢ Some ends.WriteFault → writer.new.faults ≡ 0 }
     ensures fault { result ≡ Some ends.WriteFault → 0 < writer.new.faults }
 {
-    let mut text = Vec::new(alloc);
+    let mut held = Vec::new(alloc);
     let mut rest = requests.into_iter();
     'requests: loop {
         match rest.next() {
             None => return None,
             Some(request) => {
-                if let Some(ended) = answer_one(request, &mut text, writer, host) {
+                let most = if rest.len() == 0 { 0 } else { MOST_HELD };
+                if let Some(ended) = answer_one(request, most, &mut held, writer, host) {
                     return Some(ended);
                 }
             }
@@ -73,8 +79,9 @@ fn refuse<W: Write>(alloc: Global, fault: FormFault, writer: &mut Counted<W>) ->
     ensures quiet { result ≢ ends.WriteFault → writer.new.faults ≡ 0 }
     ensures fault { result ≡ ends.WriteFault → 0 < writer.new.faults }
 {
-    let mut text = Vec::new(alloc);
-    match send(&Reply::Refused(Refusal::Form(fault)), &mut text, writer) {
+    let mut held = Vec::new(alloc);
+    let reply = Reply::Refused(Refusal::Form(fault));
+    match send(&reply, 0, &mut held, writer) {
         None => Ended::Fault(fault),
         Some(ended) => ended,
     }
@@ -181,7 +188,7 @@ fn run<R: Read, W: Write, H: Host>(
 {
     let _bounded = reader.calls();
     let mut feeder = RequestFeeder::new(alloc);
-    let mut buffer = [0; 4096];
+    let mut buffer = [0; 65_536];
     for _ in 0..MOST_READS {
         match reader.read(&mut buffer) {
             Err(_e) => return Ended::ReadFault,
@@ -208,15 +215,16 @@ fn run<R: Read, W: Write, H: Host>(
 ///
 /// `Clean` is an end of the input between requests. A form fault, an end inside a frame included, is told by
 /// `Refused` with its number, after the replies to the requests before it, and ends the session. A reply without
-/// an encoding is told as `Refused` with 2. Where memory for the session's own buffers runs out nothing more is
-/// written, and the last requests may stay unanswered. A failed write, or one that takes 0 bytes, ends it, and so
+/// an encoding is told as `Refused` with 2. The replies to the requests of one read are written together, or as soon as
+/// they have more than 65,536 bytes. Where memory for the session's own buffers runs out, what stands is written and
+/// nothing more, and the last requests may stay unanswered. A failed write, or one that takes 0 bytes, ends it, and so
 /// does a failed read, an interrupted one too; so does the read number 2^32, where it does not end otherwise. After
 /// a failed write, and where memory ran out, no request is executed any more. Of those that were executed the last
 /// may stay without a reply, and before it others, whose replies have together at most 65,536 bytes. The writer is
 /// never flushed: who hands in one that keeps bytes back flushes it after.
 ///
 /// The host has to be such as can be asked (`Host::ready`), and is left so, as the last request that it answered left
-/// it. Cost: that of the answers, a copy of each reply, and a pass over what is read; 4,096 bytes are read at a time.
+/// it. Cost: that of the answers, a copy of each reply, and a pass over what is read; up to 65,536 bytes are read at a time.
 pub fn serve<R: Read, W: Write, H: Host>(
     alloc: Global,
     reader: &mut Counted<R>,
