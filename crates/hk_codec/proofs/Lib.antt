@@ -6,5 +6,4 @@ pub mod ReadItems
 pub mod Lengths
 pub mod ReadAgain
 pub mod ItemFrames
-pub mod PartsRead
 pub mod RewrittenFrames

@@ -16,7 +16,7 @@ use Rattle.hk_frames.proofs.FrameStream.{SoFar, OneMore, at_start, from_place, v
 use Rattle.hk_codec.specs.Encoding.{WrittenItem, rest_text, IsWritten}
 use Rattle.hk_codec.specs.Reading.{item_at}
 use Rattle.hk_codec.specs.Frames.{encoding_of, Reads, IsRefused}
-use Rattle.hk_codec.specs.Parts.{HasRewritten}
+use Rattle.hk_codec.specs.Rewriting.{HasRewritten}
 use Rattle.hk_codec.proofs.ItemFrames.{item_format, items_added}
 
 abbrev plain : Item → Item

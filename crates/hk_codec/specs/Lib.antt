@@ -2,4 +2,4 @@ pub mod Encoding
 pub mod Lists
 pub mod Reading
 pub mod Frames
-pub mod Parts
+pub mod Rewriting

@@ -61,8 +61,10 @@ impl Feeder {
     }
 }
 
-/// Adds the items of the whole frames that the bytes begin with. The only error is out of memory.
-pub(crate) fn take_items(
+/// Adds the items of the whole frames that the bytes begin with, and tells how many bytes those frames have and
+/// the fault of what follows them, where it has one. The only error is out of memory; what is in the list is then
+/// not said. Cost: O(n), n bytes of the frames.
+pub fn take_items(
     alloc: Global,
     bytes: &[u8],
     out: &mut Vec<Item>,

@@ -2,10 +2,9 @@
 //!
 //! A frame is a length of four bytes, the high one first, and then as many bytes. Each item has one
 //! encoding in version 2, which `encode` adds at the end of bytes, and one in version 1, which `encode_old`
-//! adds. A `Feeder` reads the items of a stream that comes in any pieces, and `decode_all` those of bytes
-//! that are all there, each frame in its version. Both give exactly the items whose encodings the bytes
-//! begin with, and the first fault of what follows them. `rewrite` writes frames of either version in
-//! version 2.
+//! adds. A `Feeder` reads the items of a stream that comes in any pieces, each frame in its version. It gives
+//! exactly the items whose encodings the bytes begin with, and the first fault of what follows them.
+//! `rewrite` writes frames of either version in version 2.
 #![tactic(auto)]
 
 mod elements;
@@ -15,13 +14,11 @@ mod groups;
 mod laws;
 mod list_encoding;
 mod lists;
-mod parallel;
 mod reading;
 mod rewriting;
 
 pub use encoding::{encode, encode_old, frame_len, put_frame};
-pub use feeder::Feeder;
+pub use feeder::{Feeder, take_items};
 pub use laws::{one_encoding, one_reading, pieces_join};
-pub use parallel::decode_all;
 pub use reading::ItemFormat;
 pub use rewriting::rewrite;

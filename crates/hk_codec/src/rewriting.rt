@@ -1,7 +1,7 @@
 //! Frames of either version written in version 2.
 
 ghost use Rattle.hk_codec.specs.Frames.{Rewrites};
-ghost use Rattle.hk_codec.specs.Parts.{HasRewritten};
+ghost use Rattle.hk_codec.specs.Rewriting.{HasRewritten};
 
 use crate::encoding::put_frame;
 use crate::reading::ItemFormat;

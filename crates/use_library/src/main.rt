@@ -5,7 +5,7 @@ mod merge;
 mod primary;
 mod replica;
 
-use hk_codec::decode_all;
+use hk_decode::decode_all;
 use hk_lines::line_of;
 use hk_query::Answer;
 use hk_types::Refusal;

@@ -3,7 +3,7 @@
 
 ghost use Rattle.std.specs.Prelude.{◌≡◌};
 
-use hk_codec::decode_all;
+use hk_decode::decode_all;
 use hk_delta::{Fragment, fragment_of};
 use hk_lines::line_of;
 use hk_node::{NewList, NodeName, ReaderSeat, start};

@@ -1,7 +1,8 @@
 //! Many frames, read by several threads.
 
 use super::item;
-use hk_codec::{Feeder, decode_all, encode, encode_old};
+use hk_codec::{Feeder, encode, encode_old};
+use hk_decode::decode_all;
 use hk_log::Item;
 use hk_types::Refusal;
 use std::alloc::Global;

@@ -1,6 +1,7 @@
 //! The worked frames, in version 1 where nothing else is said.
 
-use hk_codec::{decode_all, encode, encode_old};
+use hk_codec::{encode, encode_old};
+use hk_decode::decode_all;
 use hk_log::Item;
 use hk_tests_values::{entry, mark};
 use std::alloc::Global;

@@ -11,7 +11,7 @@ use Rattle.hk_frames.specs.Framing.{Begins}
 use Rattle.hk_codec.specs.Encoding.{WrittenItem, rest_text, IsWritten}
 use Rattle.hk_codec.specs.Reading.{item_at}
 use Rattle.hk_codec.specs.Frames.{frame_text, Adds, Decodes, rest_of}
-use Rattle.hk_codec.specs.Parts.{HasRead, IsPart}
+use Rattle.hk_decode.specs.Parts.{HasRead, IsPart}
 
 pub all_right : {A B : Type 0} (Q : B → Type 0) (xs : List A) (ys : List B) → AllZip (λ x y. Q y) xs ys → All Q ys
 all_right Q [] [] h k d lt = absurd (omega arith)

@@ -3,10 +3,9 @@
 ghost use Rattle.std.specs.Prelude.{◌≡◌, ◌≤◌, Ok, length, drop, All, IfOk, IfErr, IfSome};
 ghost use Rattle.hk_types.specs.declared.faults.Refusal.TheVariants as refusals;
 ghost use Rattle.hk_codec.specs.Frames.{Adds, Decodes, rest_of};
-ghost use Rattle.hk_codec.specs.Parts.{HasRead, IsPart};
+ghost use Rattle.hk_decode.specs.Parts.{HasRead, IsPart};
 
-use crate::feeder::take_items;
-use crate::reading::ItemFormat;
+use hk_codec::{ItemFormat, take_items};
 use hk_frames::{Format, LENGTH_BYTES, Progress, length_of};
 use hk_log::Item;
 use hk_types::{FormFault, Refusal};

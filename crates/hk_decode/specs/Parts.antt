@@ -1,11 +1,9 @@
 -- Frames of items that were read from the front of a text, and parts of it that are whole frames.
-use Rattle.std.specs.Prelude.{◌≡◌, ℕ, ◌≤◌, ◌⊎◌, List, [], ◌++◌, length, map, take, drop, Result, Ok, Err}
+use Rattle.std.specs.Prelude.{◌≡◌, ℕ, ◌≤◌, List, ◌++◌, length, map, drop}
 use Rattle.std.specs.List.{flat_map, AllByRecursion}
 use Rattle.hk_log.specs.declared.item.Item.{Item}
 use Rattle.hk_codec.specs.Encoding.{WrittenItem, IsWritten}
-use Rattle.hk_types.specs.declared.faults.Refusal.{Refusal}
-use Rattle.hk_types.specs.declared.faults.Refusal.TheVariants as refusals
-use Rattle.hk_codec.specs.Frames.{frame_text, encoding_of, Reads, IsRefused}
+use Rattle.hk_codec.specs.Frames.{frame_text}
 
 -- the frames of so many bytes from the front were read, and their items added
 pub record HasRead (text : List ℕ) (before after : List Item) (used : ℕ) : Type 0 where
@@ -22,8 +20,3 @@ pub record IsPart (text : List ℕ) (start end : ℕ) (items : List Item) : Type
   pub same : items ≡ map (λ w. w.item) written
   pub whole : drop start text ≡ flat_map frame_text written ++ drop end text
   pub each : AllByRecursion IsWritten written
-
--- the items of the text were added in version 2, or the text is refused and what was there is still the front
-abbrev pub HasRewritten : List ℕ → List ℕ → List ℕ → Result (Unit {0}) Refusal → Type 0
-HasRewritten text before after (Ok done) = (items : List Item) × Reads text items (Ok []) × (after ≡ before ++ flat_map (encoding_of 2) items)
-HasRewritten text before after (Err r) = (take (length before) after ≡ before) × ((r ≡ refusals.Memory) ⊎ IsRefused text r)

@@ -1,7 +1,7 @@
 use Rattle.std.proofs.Common.{All, IfSome}
 use Rattle.std.specs.Vec.Iter.{into_iter_items}
-use Rattle.hk_codec.specs.Parts.{HasRead, IsPart}
-use Rattle.hk_codec.proofs.parallel.take_parts.Given as goal
+use Rattle.hk_decode.specs.Parts.{HasRead, IsPart}
+use Rattle.hk_decode.proofs.parallel.take_parts.Given as goal
 
 abbrev pub invariant-loop-span : goal.invariant-loop-span
 invariant-loop-span l =

@@ -1,8 +1,8 @@
 use Rattle.std.proofs.Common.{◌++◌, subst, IfSome}
 use Rattle.std.specs.Vec.Iter.{into_iter_items}
-use Rattle.hk_codec.specs.Parts.{HasRead, IsPart}
-use Rattle.hk_codec.proofs.PartsRead.{part_more, first_of_all, others_of_all}
-use Rattle.hk_codec.proofs.parallel.take_parts.Goals as goal
+use Rattle.hk_decode.specs.Parts.{HasRead, IsPart}
+use Rattle.hk_decode.proofs.PartsRead.{part_more, first_of_all, others_of_all}
+use Rattle.hk_decode.proofs.parallel.take_parts.Goals as goal
 
 pub loop-span-preserved : goal.loop-span-preserved
 loop-span-preserved c =

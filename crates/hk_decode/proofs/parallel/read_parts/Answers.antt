@@ -1,8 +1,8 @@
 use Rattle.std.proofs.Common.{IfSome}
 use Rattle.rayon.proofs.ListFacts.{IfOk-then}
-use Rattle.hk_codec.specs.Parts.{IsPart}
-use Rattle.hk_codec.proofs.PartsRead.{all_right}
-use Rattle.hk_codec.proofs.parallel.read_parts.Goals as goal
+use Rattle.hk_decode.specs.Parts.{IsPart}
+use Rattle.hk_decode.proofs.PartsRead.{all_right}
+use Rattle.hk_decode.proofs.parallel.read_parts.Goals as goal
 
 pub returns : goal.returns
 returns g c =
