@@ -64,11 +64,7 @@ impl Feeder {
 /// Adds the items of the whole frames that the bytes begin with, and tells how many bytes those frames have and
 /// the fault of what follows them, where it has one. The only error is out of memory; what is in the list is then
 /// not said. Cost: O(n), n bytes of the frames.
-pub fn take_items(
-    alloc: Global,
-    bytes: &[u8],
-    out: &mut Vec<Item>,
-) -> Result<Progress, AllocError>
+pub fn take_items(alloc: Global, bytes: &[u8], out: &mut Vec<Item>) -> Result<Progress, AllocError>
     ensures used { IfOk result (λ p. p.used ≤ length bytes.now) }
     ensures read { IfOk result (λ p. Adds out.old.items out.new.items bytes.now (rest_of (drop p.used bytes.now) p.fault)) }
 {
