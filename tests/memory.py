@@ -494,7 +494,7 @@ def every_push():
 
 # Tests that arm the library themselves, by crate, and the least number of requests that they let fail: a node's changes, holds,
 # releases and publishes; and the fragment that several workers build.
-TESTS = (("hk_tests_node", "tests::rows::one_day", 50), ("hk_tests_batch", "tests::each_request_refused", 300))
+TESTS = (("hk_tests_node", "tests::rows::one_day", 50), ("hk_tests_library", "tests::batch::each_request_refused", 300))
 
 
 def refused_in_tests():

@@ -1,4 +1,4 @@
-//! Tests of the running node.
+//! Tests of the running node, and of links to it over TCP.
 #![tactic(auto)]
 
 #[cfg(test)]

@@ -17,6 +17,7 @@ use std::test::Fail;
 use std::thread;
 use std::thread::Threads;
 
+mod links;
 mod rows;
 mod threads;
 

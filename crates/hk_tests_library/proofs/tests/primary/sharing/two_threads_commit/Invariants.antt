@@ -1,4 +1,4 @@
-use Rattle.hk_tests_primary.proofs.tests.sharing.two_threads_commit.Given as goal
+use Rattle.hk_tests_library.proofs.tests.primary.sharing.two_threads_commit.Given as goal
 
 abbrev pub ghosts-both_commit-K-Naming : goal.ghosts-both_commit-K-Naming
 ghosts-both_commit-K-Naming g a = record { config = a.config; after = 0 }

@@ -1,4 +1,4 @@
-use Rattle.hk_tests_primary.proofs.tests.sharing.its_calls_are_those_of_the_primary.Given as goal
+use Rattle.hk_tests_library.proofs.tests.primary.sharing.its_calls_are_those_of_the_primary.Given as goal
 
 abbrev pub ghosts-told-K-Naming : goal.ghosts-told-K-Naming
 ghosts-told-K-Naming g a = record { config = a.config; after = a.after }

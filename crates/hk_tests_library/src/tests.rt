@@ -1,0 +1,6 @@
+//! Worked examples, and what no command shows.
+
+mod batch;
+mod parts;
+mod primary;
+mod session;

@@ -1,0 +1,4 @@
+//! Printed words, and items as bytes.
+
+mod frames;
+mod words;

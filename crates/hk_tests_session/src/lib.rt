@@ -1,5 +1,0 @@
-//! Tests of messages and sessions.
-#![tactic(auto)]
-
-#[cfg(test)]
-mod tests;
