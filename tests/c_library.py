@@ -1,6 +1,7 @@
 #!/usr/bin/env python3
-"""The library for C, end to end: tests/c_library.py. Looks at what is in lib/, which `make lib` makes (tests/library), and runs programs in C, C++, Rust, Go and Python against it: each function, the first example, the sessions of tests/vectors, and bad
-input. What a language needs and isn't installed is said as skipped. Ends with 'N passed, M failed'."""
+"""The library for C, end to end: tests/c_library.py. Looks at what is in lib/, which `make lib` makes (tests/library), and runs programs in C,
+C++, Rust, Go and Python against it: each function, the first example, the sessions of tests/vectors, and bad input. What a language needs and
+isn't installed is said as skipped. Ends with 'N passed, M failed'."""
 import json
 import os
 import pathlib
@@ -96,6 +97,10 @@ def in_c():
     if not (compiled("the header in C89", ["gcc", "-std=c89", "-pedantic", "-Wall", "-Wextra", "-Werror", *LINKED, strict, LIB / "libhekaton.a", "-o", WORK / "strict"])
             and compiled("C", ["gcc", *flags, "-o", program]) and compiled("C, starved", ["gcc", *flags, *wraps, "-o", starved])):
         return
+    page = WORK / "page.c"
+    page.write_text(re.search(r"```c\n(.*?)```", (ROOT / "docs" / "EMBEDDING.md").read_text(encoding="utf-8"), re.DOTALL)[1], encoding="utf-8")
+    said, status = run(["gcc", "-std=c99", "-Wall", "-Wextra", "-Werror", *LINKED, "-c", page, "-o", WORK / "page.o"])
+    report("docs/EMBEDDING.md: the listing in C compiles", [said] if status else [])
     said, status = run([program])
     report("C: each function", [said] if status else [], said.strip().splitlines()[-1])
     shared = WORK / "shared"
@@ -117,7 +122,7 @@ def in_c():
 def in_cpp():
     """The C++ example."""
     if not shutil.which("g++"):
-        skip("g++ is not installed")
+        skip("g++ is not installed", needed=False)
         return
     program = WORK / "first_cpp"
     if compiled("C++", ["g++", "-std=c++11", "-Wall", "-Wextra", "-Werror", *LINKED, ROOT / "examples" / "embedding" / "first.cpp", LIB / "libhekaton.a", "-o", program]):
@@ -128,7 +133,7 @@ def in_cpp():
 def in_rust():
     """The Rust crate and its examples, with no registry."""
     if not shutil.which("cargo"):
-        skip("cargo is not installed")
+        skip("cargo is not installed", needed=False)
         return
     crate = WORK / "rust"
     shutil.copytree(ROOT / "clients" / "rust", crate, ignore=shutil.ignore_patterns("target", "Cargo.lock"))
@@ -146,7 +151,7 @@ def in_rust():
 def in_go():
     """The Go example."""
     if not shutil.which("go"):
-        skip("go is not installed")
+        skip("go is not installed", needed=False)
         return
     program, env = WORK / "first_go", {**os.environ, "CGO_ENABLED": "1", "CGO_CFLAGS": f"-I{ROOT / 'include'}", "CGO_LDFLAGS": f"-L{LIB} -l:libhekaton.a",
                                        "GOFLAGS": "-mod=mod", "GO111MODULE": "off", "GOPROXY": "off", "GOCACHE": str(WORK / "go"), "GOTOOLCHAIN": "local"}

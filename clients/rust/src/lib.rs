@@ -13,6 +13,9 @@ use std::fmt;
 
 const ROOM: usize = 4_096;
 
+/// A key, a tag and the length of a body.
+const HEAD: usize = 14;
+
 /// Why a call was refused, by its number.
 #[derive(Clone, Copy, PartialEq, Eq, Debug)]
 pub struct Refused {
@@ -158,7 +161,8 @@ impl Drop for Replica {
 /// The rows of the library's text: key, tag, length and body of each, the high byte first.
 fn rows_of(mut text: &[u8]) -> Vec<(u64, Row)> {
     let mut rows = Vec::new();
-    while let Some((head, rest)) = text.split_first_chunk::<14>() {
+    while text.len() >= HEAD {
+        let (head, rest) = text.split_at(HEAD);
         let (key, tag) = (u64::from_be_bytes(head[..8].try_into().unwrap()), u32::from_be_bytes(head[8..12].try_into().unwrap()));
         let (body, after) = rest.split_at(u16::from_be_bytes([head[12], head[13]]) as usize);
         rows.push((key, Row { tag, body: body.to_vec() }));
