@@ -6,9 +6,13 @@
 # make look   the same, and a node that two feeders fill, one of them late, with the page to look at it; until Ctrl-C
 # make test   the one test command: every proof from nothing, the must-fail edits, the tests, then the end-to-end checks
 # make compare CASES=100000 SEED=7   that many random cases beside tests/reference.py, once bin/hkrep is built
+# make lib    proves and builds the library for programs in C and other languages: lib/libhekaton.a and .so (docs/EMBEDDING.md)
+# make install PREFIX=/usr/local   puts the program, the library, its header and hekaton.pc there; they have to be built
 # make bench  times the built program (by hand; never part of the gate's verdict)
 
-.PHONY: all try test demo serve-demo redis-demo look compare bench clean
+PREFIX = /usr/local
+
+.PHONY: all try test lib install demo serve-demo redis-demo look compare bench clean
 
 CASES = 10000
 SEED = 1
@@ -19,6 +23,18 @@ all: bin/hkrep
 bin/hkrep: $(shell find crates -name out -prune -o -name must-fail -prune -o -name 'hk_tests_*' -prune -o -type f -print) crates.txt HANDLES tests/build
 	tests/build
 	touch bin/hkrep
+
+lib:
+	tests/library
+
+install:
+	install -d $(DESTDIR)$(PREFIX)/bin $(DESTDIR)$(PREFIX)/lib/pkgconfig $(DESTDIR)$(PREFIX)/include
+	install -m 755 bin/hkrep $(DESTDIR)$(PREFIX)/bin/hkrep
+	install -m 644 include/hekaton.h $(DESTDIR)$(PREFIX)/include/hekaton.h
+	install -m 644 lib/libhekaton.a $(DESTDIR)$(PREFIX)/lib/libhekaton.a
+	install -m 755 lib/libhekaton.so $(DESTDIR)$(PREFIX)/lib/libhekaton.so.0
+	ln -sf libhekaton.so.0 $(DESTDIR)$(PREFIX)/lib/libhekaton.so
+	sed 's,^prefix=.*,prefix=$(PREFIX),' lib/hekaton.pc > $(DESTDIR)$(PREFIX)/lib/pkgconfig/hekaton.pc
 
 try:
 	cd crates/hkrep && rt try -- at --log 7 --streams 1 1 1 5 < ../../examples/first.bin
@@ -45,4 +61,4 @@ bench: bin/hkrep
 	bench/run
 
 clean:
-	rm -rf bin crates/*/out
+	rm -rf bin lib crates/*/out

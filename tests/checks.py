@@ -17,10 +17,11 @@ def report(name, problems, told=""):
         print(f"ok {name}", flush=True)
 
 
-def skip(what):
-    """Says that a part was skipped, and why; that is a check that failed where NEED_ALL=1 asks for all of them."""
+def skip(what, needed=True):
+    """Says that a part was skipped, and why; that is a check that failed where NEED_ALL=1 asks for all of them, but for what isn't needed
+    even then: a toolchain that tests/packages doesn't list."""
     global skipped
-    if os.environ.get("NEED_ALL") == "1":
+    if needed and os.environ.get("NEED_ALL") == "1":
         report("all that NEED_ALL=1 asks for", [what])
     else:
         skipped += 1

@@ -1,0 +1,211 @@
+-- What a call from outside does to a replica.
+use Rattle.std.specs.Prelude.{◌≡◌, ◌≢◌, ◌≤◌, ◌<◌, ℕ, ◌++◌, ◌⊎◌, ◌^◌, ◌==◌, if◌then◌else◌, List, [], Option, Some, None, Result, Ok, Err, true, false, length, min, take, drop, nat_le, nat_lt}
+use Rattle.std.specs.List.{flat_map}
+use Rattle.hk_types.specs.Values.{RowValue}
+use Rattle.hk_types.specs.FaultNumbers.{fault_number, refusal_number}
+use Rattle.hk_types.specs.declared.faults.FormFault.{FormFault}
+use Rattle.hk_types.specs.declared.faults.FormFault.TheVariants.{BadNumber}
+use Rattle.hk_types.specs.declared.faults.Refusal.{Refusal}
+use Rattle.hk_types.specs.declared.faults.Refusal.TheVariants.{Form, Memory}
+use Rattle.hk_log.specs.declared.item.Item.{Item}
+use Rattle.hk_model.specs.declared.query.Query.{Query}
+use Rattle.hk_model.specs.declared.query.Query.TheVariants.{Get, Range, ByTag, Count}
+use Rattle.hk_model.specs.Replica.Answers.{AnswerValue, reply, One, Rows, Number}
+use Rattle.hk_model.specs.Replica.Content.{Content, readable}
+use Rattle.hk_model.specs.Replica.Fragments.{cut}
+use Rattle.hk_codec.specs.Frames.{Adds, Feeds, KeepsFault, KeepsOnMemory, last_answer}
+use Rattle.hk_wire.specs.Answers.{keyed_text}
+use Rattle.hk_wire.specs.declared.reply.Reply.{Reply}
+use Rattle.hk_wire.specs.declared.reply.Reply.TheVariants as replied
+use Rattle.hk_wire.specs.declared.request.Request.{Request}
+use Rattle.hk_wire.specs.declared.request.Request.TheVariants as requests
+use Rattle.hk_c.specs.declared.found.Found.{Found}
+use Rattle.hk_c.specs.declared.found.Bounds.{Bounds}
+use Rattle.hk_types.specs.Values.{ConfigValue}
+use Rattle.hk_types.specs.Numbers.{checked_config}
+use Rattle.hk_model.specs.Replica.Replicas.{empty_content}
+use Rattle.hk_session.specs.Values.{HostValue}
+use Rattle.hk_session.specs.Steps.{Step}
+use Rattle.hk_session.specs.Transcript.{Transcript, PartialTranscript, IsDone, IsStopped}
+use Rattle.hk_session.specs.Endings.{ended_number}
+use Rattle.hk_session.specs.declared.ended.Ended.{Ended}
+use Rattle.hk_session.specs.declared.ended.Ended.TheVariants.{Clean}
+use Rattle.hk_c.specs.declared.replica.Replica.{Replica}
+
+-- the handle holds a replica of this log that took nothing, where the number is 0, and nothing where it is another
+abbrev pub Opened : Option Replica → ℕ → ℕ → ℕ → Type 0
+Opened None log streams number = number ≢ 0
+Opened (Some r) log streams number = (number ≡ 0) × (config : ConfigValue) × (checked_config log streams ≡ Ok config) × (r.host.content ≡ empty_content config) × (r.host.ops ≡ 1) × (r.feeder ≡ Ok [])
+
+-- What a session on these bytes did to the replica, where it ended so: its reply is the transcript of a front of them,
+-- which is all of them where no fault was met; and a front of that, where memory ran out.
+abbrev pub Answered : Replica → Replica → List ℕ → Ended → Type 0
+Answered old new bytes ended =
+    (IsDone ended → (front back : List ℕ) × (bytes ≡ front ++ back) × (ended ≡ Clean → back ≡ []) × Transcript Step old.host new.host front new.reply.items)
+    × (IsStopped ended → (front back : List ℕ) × (bytes ≡ front ++ back) × PartialTranscript Step old.host new.host front new.reply.items)
+
+-- the same by the number, at what a handle holds
+abbrev pub Called : Option Replica → Option Replica → List ℕ → ℕ → Type 0
+Called None None bytes number = number ≡ 255
+Called None (Some new) bytes number = ⊥
+Called (Some old) None bytes number = ⊥
+Called (Some old) (Some new) bytes number = (ended : Ended) × (number ≡ ended_number ended) × Answered old new bytes ended × (new.feeder ≡ old.feeder)
+
+-- the reply that a handle keeps
+abbrev pub kept_reply : Option Replica → List ℕ
+kept_reply None = []
+kept_reply (Some r) = r.reply.items
+
+-- ---- reads
+
+-- the reply to a query at a number, which is refused where it is no time
+abbrev pub asked_reply : Content → ℕ → Query → Result AnswerValue Refusal
+asked_reply c time query = if nat_lt (2 ^ 62) time then Err (Form BadNumber) else reply c time query
+
+-- why a query was refused: so is its reply, or memory ran out
+abbrev pub WhyNot : Content → ℕ → Query → Refusal → Type 0
+WhyNot c time query why = (asked_reply c time query ≡ Err why) ⊎ (why ≡ Memory)
+
+-- the same by the number of the refusal
+abbrev pub IsRefusedBy : Content → ℕ → Query → ℕ → Type 0
+IsRefusedBy c time query number = (why : Refusal) × (number ≡ refusal_number why) × WhyNot c time query why
+
+-- what is told of the row at a key at a time, where the number is 0: the one that the replica answers
+abbrev pub Told : Option RowValue → Found → List ℕ → List ℕ → Type 0
+Told None found before after = (found.row ≡ false) × (after ≡ before)
+Told (Some row) found before after =
+    (found.row ≡ true) × (found.tag ≡ row.tag) × (found.len ≡ length row.body)
+    × (after ≡ take (min found.len (length before)) row.body ++ drop (min found.len (length before)) before)
+
+-- a row was asked for: it is told, or it is refused, and then nothing was written
+abbrev pub Got : Option Replica → ℕ → ℕ → ℕ → Found → List ℕ → List ℕ → ℕ → Type 0
+Got None time table key found before after number = number ≡ 255
+Got (Some r) time table key found before after number =
+    ((number ≡ 0) × (row : Option RowValue) × (asked_reply r.host.content time (Get table key) ≡ Ok (One row)) × Told row found before after)
+    ⊎ (IsRefusedBy r.host.content time (Get table key) number × (after ≡ before))
+
+-- the rows of a table were counted, or it is refused
+abbrev pub Counts : Option Replica → ℕ → ℕ → ℕ → ℕ → Type 0
+Counts None time table count number = number ≡ 255
+Counts (Some r) time table count number =
+    ((number ≡ 0) × (asked_reply r.host.content time (Count table) ≡ Ok (Number count)))
+    ⊎ IsRefusedBy r.host.content time (Count table) number
+
+-- from where to where the replica can be read, and its operations
+abbrev pub Bounded : Option Replica → Bounds → ℕ → Type 0
+Bounded None bounds number = number ≡ 255
+Bounded (Some r) bounds number =
+    (number ≡ 0) × (bounds.horizon ≡ r.host.content.horizon) × (bounds.readable ≡ readable r.host.content) × (bounds.ops ≡ r.host.ops)
+
+-- the bytes of a row with its key, where the key is not below another
+abbrev pub text_from : ℕ → ℕ × RowValue → List ℕ
+text_from low e = if nat_lt e.0 low then [] else keyed_text e
+
+-- the bytes of the rows from a key on
+abbrev pub rows_text : ℕ → List (ℕ × RowValue) → List ℕ
+rows_text low rows = flat_map (text_from low) rows
+
+-- the rows that the replica answers were written, and are kept in the place of the last reply
+abbrev pub Lists : Replica → Replica → ℕ → Query → ℕ → Type 0
+Lists old new time query low =
+    (rows : List (ℕ × RowValue)) × (asked_reply old.host.content time query ≡ Ok (Rows rows)) × (new.reply.items ≡ rows_text low rows)
+    × (new.host ≡ old.host) × (new.feeder ≡ old.feeder)
+
+-- the same at what a handle holds; where it is refused nothing is written
+abbrev pub Listed : Option Replica → Option Replica → ℕ → Query → ℕ → ℕ → List ℕ → List ℕ → ℕ → Type 0
+Listed None None time query low needed before after number = number ≡ 255
+Listed None (Some new) time query low needed before after number = ⊥
+Listed (Some old) None time query low needed before after number = ⊥
+Listed (Some old) (Some new) time query low needed before after number =
+    ((number ≡ 0) × Lists old new time query low × (needed ≡ length new.reply.items)
+    × (after ≡ take (min needed (length before)) new.reply.items ++ drop (min needed (length before)) before))
+    ⊎ (IsRefusedBy old.host.content time query number × (new ≡ old) × (after ≡ before))
+
+-- ---- changes
+
+-- 0 where a host did not refuse, else the number of the refusal
+abbrev pub reply_number : Reply → ℕ
+reply_number (replied.Done ops) = 0
+reply_number (replied.Front front) = 0
+reply_number (replied.Fragment fragment) = 0
+reply_number (replied.Answer answer) = 0
+reply_number (replied.Refused why) = refusal_number why
+
+abbrev pub done_number : Result (Unit {0}) Refusal → ℕ
+done_number (Ok done) = 0
+done_number (Err why) = refusal_number why
+
+-- the host was asked this, the number is that of its reply, and nothing but the host may have changed
+abbrev pub Asked : Replica → Replica → Request → ℕ → Type 0
+Asked old new request number =
+    (answer : Reply) × Step old.host request answer new.host × (number ≡ reply_number answer) × (new ≡ record old { host = new.host })
+
+-- a request to take these items
+abbrev pub IsItems : Request → List Item → Type 0
+IsItems (requests.Items sent) items = sent.items ≡ items
+IsItems requests.Front items = ⊥
+IsItems (requests.Delta base) items = ⊥
+IsItems requests.Full items = ⊥
+IsItems (requests.Ask t query) items = ⊥
+IsItems (requests.JoinThis fragment) items = ⊥
+IsItems (requests.MergeThis fragment) items = ⊥
+IsItems (requests.Prune horizon) items = ⊥
+
+-- the items were taken, where there are some, as the host takes them
+abbrev pub Taken : Replica → Replica → List Item → ℕ → Type 0
+Taken old new items number = ((items ≡ []) × (new ≡ old) × (number ≡ 0)) ⊎ ((request : Request) × Asked old new request number × IsItems request items)
+
+-- A piece of a stream of item frames came in. What was cut off before and the piece are read as items and what is cut
+-- off now, which is kept, or as a fault; where memory ran out in reading nothing changed. The items were taken, or
+-- refused together; the number is that of their refusal, else that of the fault.
+pub record Absorbed (old new : Replica) (piece : List ℕ) (number : ℕ) : Type 0 where
+  pub mid : Replica
+  pub items : List Item
+  pub fed : Result (Unit {0}) Refusal
+  pub feeds : Feeds Adds old.feeder mid.feeder [] items piece fed
+  pub fault : KeepsFault old.feeder mid.feeder [] items fed
+  pub memory : KeepsOnMemory old.feeder mid.feeder [] items fed
+  pub only : mid ≡ record old { feeder = mid.feeder }
+  pub refused : ℕ
+  pub taken : Taken mid new items refused
+  pub told : number ≡ (if refused == 0 then done_number fed else refused)
+
+-- the horizon was raised as the host raises it, or it is no time
+abbrev pub Pruned : Replica → Replica → ℕ → ℕ → Type 0
+Pruned old new horizon number =
+    ((horizon ≤ 2 ^ 62) × Asked old new (requests.Prune horizon) number) ⊎ ((2 ^ 62 < horizon) × (number ≡ 6) × (new ≡ old))
+
+-- all that a peer holds was joined as the host joins it, or memory ran out in copying it
+abbrev pub Merged : Replica → Replica → Replica → ℕ → Type 0
+Merged old new peer number = Asked old new (requests.MergeThis (cut peer.host.content 0)) number ⊎ ((number ≡ 90) × (new ≡ old))
+
+-- ---- at what handles hold
+
+-- a call left the handle so: a closed one is told by 255 and stays closed, a live one stays live
+abbrev pub AtLive : (Replica → Replica → ℕ → Type 0) → Option Replica → Option Replica → ℕ → Type 0
+AtLive Done None None number = number ≡ 255
+AtLive Done None (Some new) number = ⊥
+AtLive Done (Some old) None number = ⊥
+AtLive Done (Some old) (Some new) number = Done old new number
+
+-- the stream of items was ended, and another begun
+abbrev pub Finished : Replica → Replica → ℕ → Type 0
+Finished old new number = (new ≡ record old { feeder = Ok [] }) × (number ≡ done_number (last_answer old.feeder))
+
+-- two handles: where one is closed nothing changes
+abbrev pub MergedAt : Option Replica → Option Replica → Option Replica → ℕ → Type 0
+MergedAt None new peer number = (new ≡ None) × (number ≡ 255)
+MergedAt (Some old) new None number = (new ≡ Some old) × (number ≡ 255)
+MergedAt (Some old) None (Some peer) number = ⊥
+MergedAt (Some old) (Some new) (Some peer) number = Merged old new peer number
+
+-- as much of a text as there is room was written, and the number is its length
+abbrev pub Worded : List ℕ → List ℕ → ℕ → Type 0
+Worded before after number =
+    (text : List ℕ) × (number ≡ length text) × (after ≡ take (min (length text) (length before)) text ++ drop (min (length text) (length before)) before)
+
+-- a list that is kept was written, or why there is none
+abbrev pub Wrote : Result (Unit {0}) Refusal → List ℕ → ℕ → List ℕ → List ℕ → ℕ → Type 0
+Wrote (Ok done) text needed before after number =
+    (number ≡ 0) × (needed ≡ length text) × (after ≡ take (min needed (length before)) text ++ drop (min needed (length before)) before)
+Wrote (Err why) text needed before after number = (number ≡ refusal_number why) × (needed ≡ 0) × (after ≡ before)

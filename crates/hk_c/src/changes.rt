@@ -1,0 +1,102 @@
+//! Changes of a replica, and the numbers of what they come to.
+
+ghost use Rattle.std.specs.Prelude.{◌≡◌, ◌==◌, if◌then◌else◌, [], Ok};
+ghost use Rattle.hk_codec.specs.Frames.{last_answer};
+ghost use Rattle.hk_c.specs.Calls.{Absorbed, Asked, Merged, Pruned, Taken, done_number, reply_number};
+
+use crate::replica::Replica;
+use hk_codec::Feeder;
+use hk_delta::whole_of;
+use hk_log::Item;
+use hk_session::Host;
+use hk_types::{Refusal, Time};
+use hk_wire::{Reply, Request};
+use std::alloc::Global;
+use std::mem::replace;
+
+/// 0, or the number of the refusal.
+fn number_of(reply: &Reply) -> u8
+    ensures { result ≡ reply_number reply.now }
+{
+    match reply {
+        Reply::Refused(why) => why.number(),
+        _done => 0,
+    }
+}
+
+/// 0, or the number of the refusal.
+fn number_done(outcome: Result<(), Refusal>) -> u8
+    ensures { result ≡ done_number outcome }
+{
+    match outcome {
+        Ok(()) => 0,
+        Err(why) => why.number(),
+    }
+}
+
+/// The first number, where it is one of a refusal, else the second.
+fn first_of(refused: u8, fault: u8) -> u8
+    ensures { result ≡ (if refused == 0 then fault else refused) }
+{
+    if refused == 0 { fault } else { refused }
+}
+
+impl Replica {
+    /// Asks the host for a change. 0, or the number of the refusal.
+    fn change(&mut self, request: Request) -> u8
+        ensures { Asked self.old self.new request result }
+    {
+        let reply = self.host.answer(request);
+        number_of(&reply)
+    }
+
+    /// Takes items, where there are some. 0, or the number of the refusal.
+    fn take(&mut self, items: Vec<Item>) -> u8
+        ensures { Taken self.old self.new items.items result }
+    {
+        if items.is_empty() {
+            return 0;
+        }
+        self.change(Request::Items(items))
+    }
+
+    /// Takes the items of the frames that are whole now. 0, or the number of the refusal.
+    pub(crate) fn absorb(&mut self, alloc: Global, piece: &[u8]) -> u8
+        ensures { Absorbed self.old self.new piece.now result }
+    {
+        let mut items = Vec::new(alloc);
+        let fed = self.feeder.feed(piece, &mut items);
+        let refused = self.take(items);
+        let fault = number_done(fed);
+        first_of(refused, fault)
+    }
+
+    /// Ends the stream of items, and begins another.
+    pub(crate) fn finish(&mut self, alloc: Global) -> u8
+        ensures fed { self.new ≡ record self.old { feeder = Ok [] } }
+        ensures number { result ≡ done_number (last_answer self.old.feeder) }
+    {
+        let ended = replace(&mut self.feeder, Feeder::new(alloc));
+        number_done(ended.finish())
+    }
+
+    /// Drops what ended at a horizon or before. 0, or the number of the refusal.
+    pub(crate) fn prune(&mut self, horizon: u64) -> u8
+        ensures { Pruned self.old self.new horizon result }
+    {
+        match Time::new(horizon) {
+            Ok(horizon) => self.change(Request::Prune { horizon }),
+            Err(fault) => fault.number(),
+        }
+    }
+
+    /// Joins what another replica holds. 0, or the number of the refusal.
+    pub(crate) fn merge(&mut self, alloc: Global, peer: &Replica) -> u8
+        ensures { Merged self.old self.new peer.now result }
+    {
+        match whole_of(alloc, peer.host.state()) {
+            Ok(fragment) => self.change(Request::MergeThis(fragment)),
+            Err(_memory) => Refusal::Memory.number(),
+        }
+    }
+}

@@ -1,0 +1,409 @@
+//! Replicas for programs in other languages: bytes of requests in, bytes of replies out.
+#![tactic(auto)]
+
+ghost use Rattle.std.specs.Prelude.{◌≡◌, ◌++◌, None, Some, length, min, take, drop};
+ghost use Rattle.hk_model.specs.declared.query.Query.TheVariants as queries;
+ghost use Rattle.hk_c.specs.Calls.{Absorbed, AtLive, Bounded, Called, Counts, Finished, Got, Listed, MergedAt, Opened, Pruned, Told, Worded, Wrote, kept_reply};
+
+mod changes;
+mod found;
+mod handle;
+mod listing;
+mod loose;
+mod replica;
+mod words;
+
+pub use found::{Bounds, Found};
+pub use handle::Handle;
+use hk_model::Query;
+use hk_state::front_of;
+use hk_types::{Key, Refusal, Row, Table, Tag};
+pub use replica::Replica;
+use std::alloc::Global;
+use std::mem::replace;
+use words::line_of;
+
+/// What a call answers that was handed a closed handle.
+const CLOSED: u8 = 255;
+
+const MEMORY: u8 = 90;
+
+/// Puts a replica in a handle, and lets go what it held.
+fn put_back(alloc: Global, handle: &mut Handle, replica: Box<Replica>)
+    ensures { handle.new.replica ≡ Some replica.value }
+{
+    let before = replace(handle, Handle::of(replica));
+    drop(before.into_box(alloc));
+}
+
+/// Opens a replica of a log. What the handle held before is let go. 0, or the number of the refusal: 5 or 90.
+#[unsafe(no_mangle)]
+pub extern "C" fn hk_open(alloc: Global, handle: &mut Handle, log: u64, streams: u16) -> u8
+    ensures { Opened handle.new.replica log streams result }
+{
+    hk_close(alloc, handle);
+    match Replica::new(alloc, log, streams) {
+        Err(why) => why.number(),
+        Ok(replica) => match Box::new(alloc, replica) {
+            Err(_refused) => MEMORY,
+            Ok(boxed) => {
+                put_back(alloc, handle, boxed);
+                0
+            }
+        },
+    }
+}
+
+/// Answers the requests, and keeps the replies, of which as much is copied as there is room. How many bytes there
+/// are is written. The number of how the session ended, or 255 at a closed handle.
+#[unsafe(no_mangle)]
+pub extern "C" fn hk_call(
+    alloc: Global,
+    handle: &mut Handle,
+    requests: &[u8],
+    out: &mut [u8],
+    written: &mut usize,
+) -> u8
+    ensures called { Called handle.old.replica handle.new.replica requests.now result }
+    ensures written { written.new ≡ length (kept_reply handle.new.replica) }
+    ensures copied { out.new ≡ take (min written.new (length out.old)) (kept_reply handle.new.replica) ++ drop (min written.new (length out.old)) out.old }
+{
+    match replace(handle, Handle::none()).into_box(alloc) {
+        None => {
+            *written = 0;
+            CLOSED
+        }
+        Some(mut replica) => {
+            let ended = replica.answer(alloc, requests);
+            let reply = replica.reply();
+            *written = reply.len();
+            let _copied = copy_prefix(reply, out);
+            put_back(alloc, handle, replica);
+            ended.number()
+        }
+    }
+}
+
+/// Copies as many bytes as both have, and returns how many.
+fn copy_prefix(from: &[u8], to: &mut [u8]) -> usize
+    ensures count { result ≡ min (length from.now) (length to.old) }
+    ensures copied { to.new ≡ take result from.now ++ drop result to.old }
+{
+    let n = from.len().min(to.len());
+    to[..n].copy_from_slice(&from[..n]);
+    n
+}
+
+/// Copies the reply of the last call from a position on, as much as there is room, and tells how much.
+#[unsafe(no_mangle)]
+pub extern "C" fn hk_reply(alloc: Global, handle: &mut Handle, from: usize, out: &mut [u8]) -> usize
+    ensures kept { handle.new.replica ≡ handle.old.replica }
+    ensures copied { out.new ≡ take result (drop from (kept_reply handle.old.replica)) ++ drop result out.old }
+{
+    match replace(handle, Handle::none()).into_box(alloc) {
+        None => 0,
+        Some(replica) => {
+            let reply = replica.reply();
+            let start = from.min(reply.len());
+            let copied = copy_prefix(&reply[start..], out);
+            put_back(alloc, handle, replica);
+            copied
+        }
+    }
+}
+
+/// Lets the replica go. A closed handle stays closed.
+#[unsafe(no_mangle)]
+pub extern "C" fn hk_close(alloc: Global, handle: &mut Handle)
+    ensures { handle.new.replica ≡ None }
+{
+    let old = replace(handle, Handle::none());
+    drop(old.into_box(alloc));
+}
+
+/// Tells of a row, and copies as much of its body as there is room.
+fn tell(row: Option<Row>, found: &mut Found, out: &mut [u8])
+    ensures { Told row found.new out.old out.new }
+{
+    match row {
+        None => *found = Found {
+            row: false,
+            tag: 0,
+            len: 0,
+        },
+        Some(row) => {
+            let body = row.body();
+            *found = Found {
+                row: true,
+                tag: row.tag().number(),
+                len: body.len(),
+            };
+            let _copied = copy_prefix(body, out);
+        }
+    }
+}
+
+/// Tells of the row that a replica answers. 0, or the number of the refusal.
+fn get_row(
+    alloc: Global,
+    replica: &Replica,
+    time: u64,
+    table: u16,
+    key: u64,
+    found: &mut Found,
+    out: &mut [u8],
+) -> u8
+    ensures { Got (Some replica.now) time table key found.new out.old out.new result }
+{
+    match replica.get(alloc, time, Table::new(table), Key::new(key)) {
+        Err(why) => why.number(),
+        Ok(row) => {
+            tell(row, found, out);
+            0
+        }
+    }
+}
+
+/// The row of a table at a key at a time: whether there is one, its tag and length, and as much of its body as there
+/// is room. 0, or the number of the refusal, or 255 at a closed handle.
+#[unsafe(no_mangle)]
+pub extern "C" fn hk_get(
+    alloc: Global,
+    handle: &mut Handle,
+    time: u64,
+    table: u16,
+    key: u64,
+    found: &mut Found,
+    out: &mut [u8],
+) -> u8
+    ensures kept { handle.new.replica ≡ handle.old.replica }
+    ensures got { Got handle.old.replica time table key found.new out.old out.new result }
+{
+    match replace(handle, Handle::none()).into_box(alloc) {
+        None => CLOSED,
+        Some(replica) => {
+            let number = get_row(alloc, &replica, time, table, key, found, out);
+            put_back(alloc, handle, replica);
+            number
+        }
+    }
+}
+
+/// How many rows a table has at a time. 0, or the number of the refusal, or 255 at a closed handle.
+#[unsafe(no_mangle)]
+pub extern "C" fn hk_count(
+    alloc: Global,
+    handle: &mut Handle,
+    time: u64,
+    table: u16,
+    count: &mut u64,
+) -> u8
+    ensures kept { handle.new.replica ≡ handle.old.replica }
+    ensures counted { Counts handle.old.replica time table count.new result }
+{
+    match replace(handle, Handle::none()).into_box(alloc) {
+        None => CLOSED,
+        Some(replica) => {
+            let counted = replica.count(alloc, time, Table::new(table));
+            put_back(alloc, handle, replica);
+            match counted {
+                Err(why) => why.number(),
+                Ok(number) => {
+                    *count = number;
+                    0
+                }
+            }
+        }
+    }
+}
+
+/// From where to where the replica can be read, and how many operations it has done. 0, or 255 at a closed handle.
+#[unsafe(no_mangle)]
+pub extern "C" fn hk_front(alloc: Global, handle: &mut Handle, bounds: &mut Bounds) -> u8
+    ensures kept { handle.new.replica ≡ handle.old.replica }
+    ensures front { Bounded handle.old.replica bounds.new result }
+{
+    match replace(handle, Handle::none()).into_box(alloc) {
+        None => CLOSED,
+        Some(replica) => {
+            let front = front_of(replica.host.state());
+            *bounds = Bounds {
+                horizon: front.horizon.number(),
+                readable: front.readable.number(),
+                ops: replica.host.ops(),
+            };
+            put_back(alloc, handle, replica);
+            0
+        }
+    }
+}
+
+/// Writes the rows that are kept, as much as there is room, and how many bytes they have.
+fn write_list(
+    listed: Result<(), Refusal>,
+    replica: &Replica,
+    out: &mut [u8],
+    needed: &mut usize,
+) -> u8
+    ensures { Wrote listed replica.now.reply.items needed.new out.old out.new result }
+{
+    match listed {
+        Err(why) => {
+            *needed = 0;
+            why.number()
+        }
+        Ok(()) => {
+            let text = replica.reply();
+            *needed = text.len();
+            let _copied = copy_prefix(text, out);
+            0
+        }
+    }
+}
+
+/// Lists the rows that are answered from a key on, and keeps them. 0, or the number of the refusal.
+fn list(
+    alloc: Global,
+    handle: &mut Handle,
+    time: u64,
+    query: &Query,
+    low: Key,
+    out: &mut [u8],
+    needed: &mut usize,
+) -> u8
+    ensures { Listed handle.old.replica handle.new.replica time query.now low needed.new out.old out.new result }
+{
+    match replace(handle, Handle::none()).into_box(alloc) {
+        None => CLOSED,
+        Some(mut replica) => {
+            let listed = replica.list(alloc, time, query, low);
+            let number = write_list(listed, &replica, out, needed);
+            put_back(alloc, handle, replica);
+            number
+        }
+    }
+}
+
+/// The rows of a table from a low key to a high one, both inside, at a time: each its key in 8 bytes, its tag in 4,
+/// the length of its body in 2, the high byte first, and its body. As much as there is room; how many bytes they have
+/// is written, and `hk_reply` gives the rest. 0, or the number of the refusal, or 255 at a closed handle.
+#[unsafe(no_mangle)]
+pub extern "C" fn hk_range(
+    alloc: Global,
+    handle: &mut Handle,
+    time: u64,
+    table: u16,
+    low: u64,
+    high: u64,
+    out: &mut [u8],
+    needed: &mut usize,
+) -> u8
+    ensures { Listed handle.old.replica handle.new.replica time (queries.Range table low high) low
+        needed.new out.old out.new result }
+{
+    let (table, low, high) = (Table::new(table), Key::new(low), Key::new(high));
+    let query = Query::Range { table, low, high };
+    list(alloc, handle, time, &query, low, out, needed)
+}
+
+/// The rows of a table with a tag at a time, from a key on, as `hk_range` gives them.
+#[unsafe(no_mangle)]
+pub extern "C" fn hk_by_tag(
+    alloc: Global,
+    handle: &mut Handle,
+    time: u64,
+    table: u16,
+    tag: u32,
+    low: u64,
+    out: &mut [u8],
+    needed: &mut usize,
+) -> u8
+    ensures { Listed handle.old.replica handle.new.replica time (queries.ByTag table tag) low
+        needed.new out.old out.new result }
+{
+    let (table, tag) = (Table::new(table), Tag::new(tag));
+    let query = Query::ByTag { table, tag };
+    list(alloc, handle, time, &query, Key::new(low), out, needed)
+}
+
+/// Takes the next piece of a stream of item frames: the items of the frames that are whole now, all or none of them.
+/// What is cut off is kept for the next piece. 0, or the number of the refusal, or 255 at a closed handle.
+#[unsafe(no_mangle)]
+pub extern "C" fn hk_absorb(alloc: Global, handle: &mut Handle, piece: &[u8]) -> u8
+    ensures { AtLive (λ old new number. Absorbed old new piece.now number)
+        handle.old.replica handle.new.replica result }
+{
+    match replace(handle, Handle::none()).into_box(alloc) {
+        None => CLOSED,
+        Some(mut replica) => {
+            let number = replica.absorb(alloc, piece);
+            put_back(alloc, handle, replica);
+            number
+        }
+    }
+}
+
+/// Ends the stream of items, and begins another. 0, or 1 where a frame is cut off, or the fault that was met, or 255
+/// at a closed handle.
+#[unsafe(no_mangle)]
+pub extern "C" fn hk_finish(alloc: Global, handle: &mut Handle) -> u8
+    ensures { AtLive Finished handle.old.replica handle.new.replica result }
+{
+    match replace(handle, Handle::none()).into_box(alloc) {
+        None => CLOSED,
+        Some(mut replica) => {
+            let number = replica.finish(alloc);
+            put_back(alloc, handle, replica);
+            number
+        }
+    }
+}
+
+/// Drops what ended at a horizon or before. 0, or the number of the refusal, or 255 at a closed handle.
+#[unsafe(no_mangle)]
+pub extern "C" fn hk_prune(alloc: Global, handle: &mut Handle, horizon: u64) -> u8
+    ensures { AtLive (λ old new number. Pruned old new horizon number)
+        handle.old.replica handle.new.replica result }
+{
+    match replace(handle, Handle::none()).into_box(alloc) {
+        None => CLOSED,
+        Some(mut replica) => {
+            let number = replica.prune(horizon);
+            put_back(alloc, handle, replica);
+            number
+        }
+    }
+}
+
+/// Joins what another handle's replica holds. 0, or the number of the refusal, or 255 where one is closed.
+#[unsafe(no_mangle)]
+pub extern "C" fn hk_merge(alloc: Global, handle: &mut Handle, peer: &mut Handle) -> u8
+    ensures peer { peer.new.replica ≡ peer.old.replica }
+    ensures merged { MergedAt handle.old.replica handle.new.replica peer.old.replica result }
+{
+    let Some(other) = replace(peer, Handle::none()).into_box(alloc) else {
+        return CLOSED;
+    };
+    let number = match replace(handle, Handle::none()).into_box(alloc) {
+        None => CLOSED,
+        Some(mut replica) => {
+            let number = replica.merge(alloc, &other);
+            put_back(alloc, handle, replica);
+            number
+        }
+    };
+    put_back(alloc, peer, other);
+    number
+}
+
+/// What a number means and what to do, in words: as much as there is room. How many bytes they have is returned, and
+/// 0 for a number that no refusal has, or where memory ran out.
+#[unsafe(no_mangle)]
+pub extern "C" fn hk_words(alloc: Global, number: u8, out: &mut [u8]) -> usize
+    ensures { Worded out.old out.new result }
+{
+    let line = line_of(alloc, number);
+    let words = line.as_bytes();
+    let _copied = copy_prefix(words, out);
+    words.len()
+}

@@ -1,0 +1,124 @@
+//! A replica that answers requests, with what is cut off of its items, and its last reply.
+
+ghost use Rattle.std.specs.Prelude.{◌≡◌, [], Ok, Some, ⊤, MatchResult, IfOk, IfErr, OnOk, OnErr};
+ghost use Rattle.hk_model.specs.Replica.Answers.{answer_seen, One, Rows, Number};
+ghost use Rattle.hk_model.specs.declared.query.Query.TheVariants.{Get, Count};
+ghost use Rattle.hk_c.specs.Calls.{Answered, Lists, Opened, WhyNot, asked_reply};
+
+use crate::listing::put_rows;
+use hk_codec::Feeder;
+use hk_model::{Answer, Query};
+use hk_query::ask;
+use hk_session::{Counted, Ended, StateHost, serve};
+use hk_state::ReplicaState;
+use hk_types::{Config, Key, Refusal, Row, Table, Time};
+use std::alloc::Global;
+
+/// A replica that answers requests, with what is cut off of its items, and its last reply.
+#[derive(Drop)]
+pub struct Replica {
+    pub(crate) host: StateHost,
+    pub(crate) feeder: Feeder,
+    reply: Vec<u8>,
+}
+
+impl Replica {
+    /// A replica of this log, that took nothing.
+    pub(crate) fn new(alloc: Global, log: u64, streams: u16) -> Result<Replica, Refusal>
+        ensures { MatchResult result (λ r. Opened (Some r) log streams 0) (λ _. ⊤) }
+    {
+        let config = Config::new(log, streams)?;
+        let state = ReplicaState::new(alloc, config)?;
+        Ok(Replica {
+            host: StateHost::new(alloc, state),
+            feeder: Feeder::new(alloc),
+            reply: Vec::new(alloc),
+        })
+    }
+
+    /// Answers these requests, one after the other, and keeps the replies.
+    pub(crate) fn answer(&mut self, alloc: Global, requests: &[u8]) -> Ended
+        ensures answered { Answered self.old self.new requests.now result }
+        ensures fed { self.new.feeder ≡ self.old.feeder }
+    {
+        let mut reader = Counted::new(requests);
+        let mut writer = Counted::new(Vec::new(alloc));
+        let ended = serve(alloc, &mut reader, &mut writer, &mut self.host);
+        self.reply = writer.into_inner();
+        ended
+    }
+
+    /// What is answered to a query at a time.
+    fn ask(&self, alloc: Global, time: u64, query: &Query) -> Result<Answer, Refusal>
+        ensures ok { IfOk result (λ a. asked_reply self.now.host.content time query.now ≡ Ok (answer_seen a)) }
+        ensures err { IfErr result (WhyNot self.now.host.content time query.now) }
+    {
+        let time = Time::new(time)?;
+        ask(alloc, self.host.state(), time, query)
+    }
+
+    /// The row of a table at a key at a time.
+    pub(crate) fn get(
+        &self,
+        alloc: Global,
+        time: u64,
+        table: Table,
+        key: Key,
+    ) -> Result<Option<Row>, Refusal>
+        ensures ok { IfOk result (λ row. asked_reply self.now.host.content time (Get table key) ≡ Ok (One row)) }
+        ensures err { IfErr result (WhyNot self.now.host.content time (Get table key)) }
+    {
+        match self.ask(alloc, time, &Query::Get { table, key })? {
+            Answer::One(row) => Ok(row),
+            _none => Err(Refusal::Memory),
+        }
+    }
+
+    /// How many rows a table has at a time.
+    pub(crate) fn count(&self, alloc: Global, time: u64, table: Table) -> Result<u64, Refusal>
+        ensures ok { IfOk result (λ n. asked_reply self.now.host.content time (Count table) ≡ Ok (Number n)) }
+        ensures err { IfErr result (WhyNot self.now.host.content time (Count table)) }
+    {
+        match self.ask(alloc, time, &Query::Count { table })? {
+            Answer::Number(n) => Ok(n),
+            _none => Err(Refusal::Memory),
+        }
+    }
+
+    /// The rows that are answered to a query at a time.
+    fn rows(&self, alloc: Global, time: u64, query: &Query) -> Result<Vec<(Key, Row)>, Refusal>
+        ensures ok { IfOk result (λ rows. asked_reply self.now.host.content time query.now ≡ Ok (Rows rows.items)) }
+        ensures err { IfErr result (WhyNot self.now.host.content time query.now) }
+    {
+        match self.ask(alloc, time, query)? {
+            Answer::Rows(rows) => Ok(rows),
+            _none => Err(Refusal::Memory),
+        }
+    }
+
+    /// Keeps the text of the rows that are answered, from a key on.
+    pub(crate) fn list(
+        &mut self,
+        alloc: Global,
+        time: u64,
+        query: &Query,
+        low: Key,
+    ) -> Result<(), Refusal>
+        ensures ok { OnOk result (Lists self.old self.new time query.now low) }
+        ensures err { IfErr result (WhyNot self.old.host.content time query.now) }
+        ensures kept { OnErr result (self.new ≡ self.old) }
+    {
+        let rows = self.rows(alloc, time, query)?;
+        let mut text = Vec::new(alloc);
+        put_rows(&mut text, &rows, low)?;
+        self.reply = text;
+        Ok(())
+    }
+
+    /// The replies to the last requests, or the text of the last rows.
+    pub(crate) fn reply(&self) -> &[u8]
+        ensures { result.now ≡ self.now.reply.items }
+    {
+        self.reply.as_slice()
+    }
+}
