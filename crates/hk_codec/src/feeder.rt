@@ -66,7 +66,8 @@ impl Feeder {
 /// not said. Cost: O(n), n bytes of the frames.
 pub fn take_items(alloc: Global, bytes: &[u8], out: &mut Vec<Item>) -> Result<Progress, AllocError>
     ensures used { IfOk result (λ p. p.used ≤ length bytes.now) }
-    ensures read { IfOk result (λ p. Adds out.old.items out.new.items bytes.now (rest_of (drop p.used bytes.now) p.fault)) }
+    ensures read { IfOk result (λ p.
+        Adds out.old.items out.new.items bytes.now (rest_of (drop p.used bytes.now) p.fault)) }
 {
     take_frames::<ItemFormat>(alloc, bytes, out)
 }
