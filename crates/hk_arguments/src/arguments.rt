@@ -66,7 +66,7 @@ error; 'hkrep explain' lists all refusals. The status is 0; 1 where a line 'refu
 for a bad command line.";
 
 /// The program's version, and the kit that it is proved with.
-const VERSION: &str = "0.1.0 (rattle-kit-13b logic dac8208d650f15bf)";
+const VERSION: &str = "0.1.0 (rattle-kit-13f logic dac8208d650f15bf)";
 
 const AT_ABOUT: &str = "Absorb the item frames of standard input, and print a row at a time";
 
