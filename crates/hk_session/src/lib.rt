@@ -14,5 +14,5 @@ mod state_host;
 pub use counted::Counted;
 pub use ended::Ended;
 pub use host::Host;
-pub use serving::serve;
+pub use serving::{serve, serve_bytes};
 pub use state_host::StateHost;

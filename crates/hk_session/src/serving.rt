@@ -265,3 +265,52 @@ pub fn serve<R: Read, W: Write, H: Host>(
 {
     run(alloc, reader, writer, host)
 }
+
+/// The session of bytes, by its parts.
+fn run_bytes<W: Write, H: Host>(
+    alloc: Global,
+    bytes: &[u8],
+    writer: &mut Counted<W>,
+    host: &mut H,
+) -> Ended
+    requires writer { writer.old.faults ≡ 0 }
+    requires ready { H.ready host.old }
+    ensures transcript { SessionStep H.may host.old host.new (W.contents writer.old.device) (W.contents writer.new.device)
+        bytes.now (Ends result) }
+    ensures ready { H.ready host.new }
+    ensures write_fault { result ≡ ends.WriteFault → 0 < writer.new.faults }
+    ensures writes { result ≢ ends.WriteFault → writer.new.faults ≡ 0 }
+{
+    let mut feeder = RequestFeeder::new(alloc);
+    match handle_piece(alloc, bytes, &mut feeder, writer, host) {
+        Some(ended) => ended,
+        None => finish(alloc, feeder, writer),
+    }
+}
+
+/// Answers the requests that these bytes encode, as a session that `serve` has with a reader of them, and makes no
+/// buffer to read into. All bytes are one piece: the replies are written together, or as soon as they have more than
+/// 65,536 bytes. Cost: that of the answers, a copy of each reply, and a pass over the bytes.
+pub fn serve_bytes<W: Write, H: Host>(
+    alloc: Global,
+    bytes: &[u8],
+    writer: &mut Counted<W>,
+    host: &mut H,
+) -> Ended
+    requires writer { writer.old.faults ≡ 0 }
+    requires ready { H.ready host.old }
+    // What was written is the transcript of the bytes.
+    ensures whole { IsDone result → (text : List ℕ)
+        × Appends (W.contents writer.old.device) (W.contents writer.new.device) text
+        × Transcript H.may host.old host.new bytes.now text }
+    // What was written is the transcript of a front of the bytes, of whole requests or of all of them: all of it, or
+    // cut off in its last replies. Nothing but that front was executed.
+    ensures stopped { IsStopped result → (part : List ℕ)
+        × Appends (W.contents writer.old.device) (W.contents writer.new.device) part
+        × PartialTranscript H.may host.old host.new bytes.now part }
+    ensures ready { H.ready host.new }
+    ensures write_fault { result ≡ ends.WriteFault → 0 < writer.new.faults }
+    ensures writes { result ≢ ends.WriteFault → writer.new.faults ≡ 0 }
+{
+    run_bytes(alloc, bytes, writer, host)
+}
