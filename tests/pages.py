@@ -92,11 +92,17 @@ def as_said(printed, said):
     return not said or printed.splitlines() == re.split(r", then |, ", said)
 
 
+def serving(port):
+    node = subprocess.Popen([PROGRAM, "serve", "--log", "7", "--streams", "1", "--port", port, "--links", "30"], stdout=subprocess.PIPE)
+    node.stdout.readline()
+    return node
+
+
 def shown_commands():
-    """Each command that a page shows runs, and prints what the page says; `push` to the node that stands above it."""
-    problems, count, port = [], 0, free_port()
+    """Each command that a page shows runs, and prints what the page says; those with a port ask a node that took the first items, `push` and `feed` one that took none."""
+    problems, count = [], 0
     for page, command, said in shown():
-        count += 1
+        count, port = count + 1, free_port()
         for word, stands_for in STAND_INS.items():
             command = command.replace(word, stands_for or port)
         if not command.startswith("bin/"):
@@ -105,10 +111,12 @@ def shown_commands():
             continue
         if " --log " in command and " < " not in command:
             command += " < examples/first.bin"
-        if " push " in command:
-            node = subprocess.Popen([PROGRAM, "serve", "--log", "7", "--streams", "1", "--port", port, "--links", "1"], stdout=subprocess.PIPE)
-            node.stdout.readline()
+        if " --port " in command:
+            node = serving(port)
+            if " push " not in command and " feed " not in command:
+                bash(f"bin/hkrep feed --port {port} < examples/first.bin")
             printed, status = bash(command)
+            node.kill()
             node.communicate(timeout=60)
         else:
             printed, status = bash(command)
@@ -130,12 +138,6 @@ def run_example(line, ports, folder):
         line = line.replace(named, port)
     line = re.sub(r"\bhkrep\b", "bin/hkrep", line).replace("second.bin", f"{folder}/second.bin").replace("whole.bin", f"{folder}/whole.bin")
     return line, bash(line)
-
-
-def serving(port):
-    node = subprocess.Popen([PROGRAM, "serve", "--log", "7", "--streams", "1", "--port", port, "--links", "30"], stdout=subprocess.PIPE)
-    node.stdout.readline()
-    return node
 
 
 def helped():

@@ -121,7 +121,7 @@ const VERSION: &str = "0.1.0 (rattle-kit-13b logic dac8208d650f15bf)";
 
 const SERVE_ABOUT: &str = "Start a node, and serve links to it on a port of 127.0.0.1";
 
-pub(crate) const LINKS_EXAMPLE: &str = "Example, a node and a feeder:
+const LINKS_EXAMPLE: &str = "Example, a node and a feeder:
   hkrep serve --log 7 --streams 1 --port 47110 --links 1 &
   hkrep push --port 47110 < examples/links/first.bin
 The node prints 'listening 47110' once links can be opened. The feeder sends two items and asks \

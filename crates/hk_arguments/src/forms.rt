@@ -1,6 +1,6 @@
 //! The commands but `serve`, as tables of what they take.
 
-use crate::arguments::{LINKS_EXAMPLE, plain};
+use crate::arguments::plain;
 use crate::texts;
 use clap::builder::ValueParser;
 use clap::{Arg, ArgAction, Command, value_parser};
@@ -262,7 +262,7 @@ pub(crate) const FORMS: [Form; 16] = [
     Form {
         name: "push",
         about: texts::PUSH_ABOUT,
-        example: LINKS_EXAMPLE,
+        example: texts::PUSH_EXAMPLE,
         numbers: &[PORT],
         has_json: false,
         has_queries: false,

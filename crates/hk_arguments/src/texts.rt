@@ -119,12 +119,16 @@ stories.";
 pub(crate) const PUSH_ABOUT: &str =
     "Send the requests of standard input to a node, and print each reply";
 
-pub(crate) const PUSH_LONG_ABOUT: &str =
-    "Send the requests of standard input to a node, and print each reply.
-
-A request is sent once the reply to the one before was printed. 'refused' and a number ends it \
+pub(crate) const PUSH_EXAMPLE: &str = "A request is sent once the reply to the one before was printed. 'refused' and a number ends it \
 where the input or a reply is malformed (1 to 10; 1 where the replies end), a read (91) or a \
-write (92) fails, or nobody listens (93). docs/PROTOCOL.md says what goes over a link.";
+write (92) fails, or nobody listens (93). docs/PROTOCOL.md says what goes over a link.
+
+Example, a node and a feeder:
+  hkrep serve --log 7 --streams 1 --port 47110 --links 1 &
+  hkrep push --port 47110 < examples/links/first.bin
+The node prints 'listening 47110' once links can be opened. The feeder sends two items and asks \
+for a row: it prints 'done 2' and '9 41'. When the links have ended, the node prints 'ended 0' for \
+each, or the number of what ended it.";
 
 pub(crate) const FRAMES_ABOUT: &str =
     "Write the frames of the items of standard input, one in JSON a line";
