@@ -53,6 +53,14 @@ impl Batches<'_, '_> {
         }
     }
 
+    /// Sends what is left; a batch of none where there was no item at all, so that the node tells its number.
+    fn finish(&mut self) -> Result<(), Stop> {
+        if self.items.is_empty() && self.ops > 0 {
+            return Ok(());
+        }
+        self.send()
+    }
+
     fn is_full(&self) -> bool {
         let count = self.items.len() as u64;
         count >= self.most || count >= MOST_ITEMS || self.bytes >= MOST_BYTES
@@ -116,7 +124,7 @@ fn feed<R: Net<Listener = TcpListener, Stream = TcpStream> + Clock, I: Read, W: 
         ops: 0,
     };
     hand_items(alloc, input, &mut batches)?;
-    batches.send()?;
+    batches.finish()?;
     let (ops, taken) = (batches.ops, batches.taken);
     if let Some(millis) = millis_since(rt, start) {
         tell_rate(alloc, taken, millis, output)?;
