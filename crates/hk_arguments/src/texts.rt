@@ -119,7 +119,8 @@ stories.";
 pub(crate) const PUSH_ABOUT: &str =
     "Send the requests of standard input to a node, and print each reply";
 
-pub(crate) const PUSH_EXAMPLE: &str = "A request is sent once the reply to the one before was printed. 'refused' and a number ends it \
+pub(crate) const PUSH_EXAMPLE: &str =
+    "A request is sent once the reply to the one before was printed. 'refused' and a number ends it \
 where the input or a reply is malformed (1 to 10; 1 where the replies end), a read (91) or a \
 write (92) fails, or nobody listens (93). docs/PROTOCOL.md says what goes over a link.
 
