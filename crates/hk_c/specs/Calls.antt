@@ -29,7 +29,6 @@ use Rattle.hk_session.specs.Steps.{Step}
 use Rattle.hk_session.specs.Transcript.{Transcript, PartialTranscript, IsDone, IsStopped}
 use Rattle.hk_session.specs.Endings.{ended_number}
 use Rattle.hk_session.specs.declared.ended.Ended.{Ended}
-use Rattle.hk_session.specs.declared.ended.Ended.TheVariants.{Clean}
 use Rattle.hk_c.specs.declared.replica.Replica.{Replica}
 
 -- the handle holds a replica of this log that took nothing, where the number is 0, and nothing where it is another
@@ -37,12 +36,12 @@ abbrev pub Opened : Option Replica → ℕ → ℕ → ℕ → Type 0
 Opened None log streams number = number ≢ 0
 Opened (Some r) log streams number = (number ≡ 0) × (config : ConfigValue) × (checked_config log streams ≡ Ok config) × (r.host.content ≡ empty_content config) × (r.host.ops ≡ 1) × (r.feeder ≡ Ok [])
 
--- What a session on these bytes did to the replica, where it ended so: its reply is the transcript of a front of them,
--- which is all of them where no fault was met; and a front of that, where memory ran out.
+-- What a session on these bytes did to the replica, where it ended so: its reply is their transcript, and a front of
+-- that where memory ran out.
 abbrev pub Answered : Replica → Replica → List ℕ → Ended → Type 0
 Answered old new bytes ended =
-    (IsDone ended → (front back : List ℕ) × (bytes ≡ front ++ back) × (ended ≡ Clean → back ≡ []) × Transcript Step old.host new.host front new.reply.items)
-    × (IsStopped ended → (front back : List ℕ) × (bytes ≡ front ++ back) × PartialTranscript Step old.host new.host front new.reply.items)
+    (IsDone ended → Transcript Step old.host new.host bytes new.reply.items)
+    × (IsStopped ended → PartialTranscript Step old.host new.host bytes new.reply.items)
 
 -- the same by the number, at what a handle holds
 abbrev pub Called : Option Replica → Option Replica → List ℕ → ℕ → Type 0

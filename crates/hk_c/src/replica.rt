@@ -9,7 +9,7 @@ use crate::listing::put_rows;
 use hk_codec::Feeder;
 use hk_model::{Answer, Query};
 use hk_query::ask;
-use hk_session::{Counted, Ended, StateHost, serve};
+use hk_session::{Counted, Ended, StateHost, serve_bytes};
 use hk_state::ReplicaState;
 use hk_types::{Config, Key, Refusal, Row, Table, Time};
 use std::alloc::Global;
@@ -41,9 +41,8 @@ impl Replica {
         ensures answered { Answered self.old self.new requests.now result }
         ensures fed { self.new.feeder ≡ self.old.feeder }
     {
-        let mut reader = Counted::new(requests);
         let mut writer = Counted::new(Vec::new(alloc));
-        let ended = serve(alloc, &mut reader, &mut writer, &mut self.host);
+        let ended = serve_bytes(alloc, requests, &mut writer, &mut self.host);
         self.reply = writer.into_inner();
         ended
     }
