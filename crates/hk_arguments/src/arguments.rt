@@ -5,6 +5,7 @@ use clap::{Arg, ArgAction, ArgMatches, Command, Error, value_parser};
 use hk_model::Query;
 use hk_types::{Config, Key, LAST_TIME, Links, Table, Tag, Time};
 use std::alloc::{AllocError, Global};
+use std::net::Ipv4Addr;
 
 /// What the program is asked to do.
 #[derive(Clone, Copy)]
@@ -45,6 +46,17 @@ pub enum Call {
         config: Config,
         port: u16,
         links: Links,
+    },
+    /// Start a node, and serve links to it for ever.
+    Stay {
+        config: Config,
+        address: Ipv4Addr,
+        port: u16,
+        links: Links,
+        /// The port for links that only read, and how many of them are served at once.
+        reading: Option<(u16, Links)>,
+        /// How many seconds a read inside a frame is waited for; 0 for ever.
+        read_seconds: u64,
     },
     /// Send requests to the node on a port.
     Push {
@@ -191,7 +203,12 @@ each, or the number of what ended it.";
 const SERVE_LONG_ABOUT: &str = "Start a node, and serve links to it on a port of 127.0.0.1.
 
 It serves as many links as --links says, side by side, and ends when all have ended. It prints \
-'refused 93' where the port can't be listened to. docs/PROTOCOL.md says what goes over a link.";
+'refused 93' where the port can't be listened to. docs/PROTOCOL.md says what goes over a link.
+
+With --stay it serves links for ever, --links of them at once: a further link waits until one ends. \
+It prints 'ended' and a number as each link ends. --read-port opens a second port, whose links may \
+ask and not change. NOTHING IS ENCRYPTED OR AUTHENTICATED: whoever reaches the port may write. Give \
+--address only behind a proxy that does both (docs/OPERATING.md).";
 
 const PUSH_LONG_ABOUT: &str = "Send the requests of standard input to a node, and print each reply.
 
@@ -216,7 +233,15 @@ const COUNT_NUMBERS: [&str; 1] = ["table"];
 
 const EXPLAIN_NUMBERS: [&str; 1] = ["number"];
 
-const SERVE_NUMBERS: [&str; 4] = ["log", "streams", "port", "links"];
+const SERVE_NUMBERS: [&str; 7] = [
+    "log",
+    "streams",
+    "port",
+    "links",
+    "read-port",
+    "read-links",
+    "read-seconds",
+];
 
 const PUSH_NUMBERS: [&str; 1] = ["port"];
 
@@ -360,12 +385,57 @@ fn explain_command<'a>(alloc: Global) -> Result<Command<'a>, AllocError> {
     )))
 }
 
+/// An option of `serve` that has a value, and is for a node that stays.
+fn stay_option<'a>(
+    alloc: Global,
+    name: &'a str,
+    value: &'a str,
+    help: &'a str,
+) -> Result<Arg<'a>, AllocError> {
+    Arg::new(alloc, name)
+        .long(name)
+        .value_name(value)
+        .help(help)
+        .action(ArgAction::Set)
+        .requires_arg("stay")
+}
+
+fn with_reading<'a>(alloc: Global, command: Command<'a>) -> Result<Command<'a>, AllocError> {
+    let help = "A second port, whose links may only read: 1 to 65535";
+    let port = stay_option(alloc, "read-port", "P2", help)?
+        .requires_arg("read-links")?
+        .value_parser(value_parser!(u16).range(1..=65_535));
+    let help = "How many links that only read are served at once: 1 to 63, and 64 with the others";
+    let links = stay_option(alloc, "read-links", "M", help)?
+        .requires_arg("read-port")?
+        .value_parser(value_parser!(u16).range(1..=63));
+    command.arg(port)?.arg(links)
+}
+
+fn with_stay<'a>(alloc: Global, command: Command<'a>) -> Result<Command<'a>, AllocError> {
+    let help = "Serve links for ever, so many at once";
+    let stay = Arg::new(alloc, "stay")
+        .long("stay")
+        .help(help)
+        .action(ArgAction::SetTrue);
+    let help =
+        "Where the ports are opened, in place of 127.0.0.1. Nothing is encrypted or authenticated";
+    let address = stay_option(alloc, "address", "A", help)?;
+    let help = "End a link where inside a frame nothing comes for so long: 0 (never) to 86400";
+    let seconds = stay_option(alloc, "read-seconds", "N", help)?.value_parser(value_parser!(
+        u64
+    ).range(0..=86_400));
+    command.arg(stay)?.arg(address)?.arg(seconds)
+}
+
 fn serve_command<'a>(alloc: Global) -> Result<Command<'a>, AllocError> {
     let command = plain(alloc, "serve", SERVE_ABOUT, LINKS_EXAMPLE).long_about(SERVE_LONG_ABOUT);
     let command = with_log(alloc, command)?;
     let command = with_streams(alloc, command)?;
     let command = with_port(alloc, command)?;
-    with_links(alloc, command)
+    let command = with_links(alloc, command)?;
+    let command = with_stay(alloc, command)?;
+    with_reading(alloc, command)
 }
 
 fn push_command<'a>(alloc: Global) -> Result<Command<'a>, AllocError> {
@@ -518,8 +588,44 @@ fn checked_ask(alloc: Global, matches: &ArgMatches<'_>) -> Result<Call, Error> {
     checked(alloc, matches, &ASK_NUMBERS, ask_call(matches, name, words))
 }
 
+/// The port for links that only read and how many they are, where they and the others are at most 64.
+fn reading_of(matches: &ArgMatches<'_>, links: u16) -> Option<Option<(u16, Links)>> {
+    let Some(port) = matches.get_one::<u16>("read-port") else {
+        return Some(None);
+    };
+    let reading = matches.get_one::<u16>("read-links")?;
+    if reading > 64u16.saturating_sub(links) {
+        return None;
+    }
+    Some(Some((port, Links::new(reading)?)))
+}
+
+/// The address that is named, or that of this machine alone.
+fn address_of(matches: &ArgMatches<'_>) -> Option<Ipv4Addr> {
+    match matches.get_str("address") {
+        None => Some(Ipv4Addr::LOCALHOST),
+        Some(word) => word.parse::<Ipv4Addr>().ok(),
+    }
+}
+
+/// The call that `serve --stay` makes, where each argument is in its range.
+fn stay_call(matches: &ArgMatches<'_>) -> Option<Call> {
+    let links = matches.get_one::<u16>("links")?;
+    Some(Call::Stay {
+        config: config_of(matches)?,
+        address: address_of(matches)?,
+        port: matches.get_one::<u16>("port")?,
+        links: Links::new(links)?,
+        reading: reading_of(matches, links)?,
+        read_seconds: matches.get_one::<u64>("read-seconds").unwrap_or(0),
+    })
+}
+
 /// The call that the arguments of `serve` make, where each of them is in its range.
 fn serve_call(matches: &ArgMatches<'_>) -> Option<Call> {
+    if matches.get_flag("stay") {
+        return stay_call(matches);
+    }
     let log = matches.get_one::<u64>("log")?;
     let streams = matches.get_one::<u16>("streams")?;
     let links = matches.get_one::<u16>("links")?;

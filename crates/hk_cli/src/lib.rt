@@ -4,6 +4,7 @@
 mod notice;
 mod push;
 mod serve;
+mod stay;
 
 pub use hk_commands::{
     run_ask, run_at, run_explain, run_front, run_items, run_rewrite, run_status, run_world,
@@ -12,3 +13,4 @@ pub use hk_lines::{Printed, line_of};
 pub use hk_types::Links;
 pub use push::run_push;
 pub use serve::run_serve;
+pub use stay::{ReadPort, Stay, run_stay};

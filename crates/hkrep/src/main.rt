@@ -6,15 +6,15 @@ mod watched;
 use crate::watched::Watched;
 use hk_arguments::{Call, read_call};
 use hk_cli::{
-    run_ask, run_at, run_explain, run_front, run_items, run_push, run_rewrite, run_serve,
-    run_status, run_world,
+    ReadPort, Stay, run_ask, run_at, run_explain, run_front, run_items, run_push, run_rewrite,
+    run_serve, run_status, run_stay, run_world,
 };
 use std::alloc::Global;
 use std::io;
 use std::io::{Read, Write};
 use std::net::{Net, TcpListener, TcpStream};
 use std::process::ExitCode;
-use std::rt::Env;
+use std::rt::{Clock, Env};
 use std::sync::Wait;
 use std::thread::Threads;
 
@@ -56,7 +56,7 @@ fn run_alone<I: Read, W: Write, E: Write>(
 fn run<R, I: Read, E: Write>(rt: &R, input: &mut I, errors: &mut E, call: Call) -> u8
 where
     R: Print + Alloc<A = Global>,
-    R: Net<Listener = TcpListener, Stream = TcpStream> + Threads + Wait + Sync,
+    R: Net<Listener = TcpListener, Stream = TcpStream> + Threads + Wait + Clock + Sync,
 {
     let mut output = io::writer(rt);
     match call {
@@ -65,6 +65,24 @@ where
             port,
             links,
         } => run_serve(rt, rt.alloc(), port, config, links, &mut output, errors),
+        Call::Stay {
+            config,
+            address,
+            port,
+            links,
+            reading,
+            read_seconds,
+        } => {
+            let reading = reading.map(|(port, links)| ReadPort { port, links });
+            let stay = Stay {
+                address,
+                port,
+                links,
+                reading,
+                read_seconds,
+            };
+            run_stay(rt, rt.alloc(), config, &stay, &mut output, errors)
+        }
         Call::Push { port } => run_push(rt, rt.alloc(), input, port, &mut output, errors),
         other => run_alone(rt.alloc(), input, &mut output, errors, other),
     }
