@@ -21,6 +21,8 @@ ROW = ("row", (9, b"\x41"))
 TOO_LONG = bytes.fromhex("ffffffff")
 # How many connects of each kind.
 BAD_PEERS = 2_500
+# The last of them, beside which memory is looked at.
+MEASURED = 500
 
 
 def is_silent(link, seconds=0.3):
@@ -78,11 +80,25 @@ def hurt(port, kind):
             it.setsockopt(socket.SOL_SOCKET, socket.SO_LINGER, struct.pack("ii", 1, 0))
 
 
+ENDS = {"nothing": {"ended 0"}, "half a frame": {"ended 1", "ended 92"}, "another protocol": {"ended 2", "ended 91", "ended 92"},
+        "a reset": {"ended 0", "ended 91"}}
+
+
+def hurt_often(node, count):
+    """So many bad peers of each kind, one after the other; what is wrong with how they ended."""
+    problems = []
+    for kind, ends in ENDS.items():
+        for _ in range(count):
+            hurt(node.port, kind)
+        told = {node.line() for _ in range(count)}
+        if not told <= ends:
+            problems.append(f"{kind}: {sorted(told)}")
+    return problems
+
+
 def bad_peers():
-    """Ten thousand connects that say nothing, half a frame, another protocol's bytes, or reset: others are answered beside them,
-    and memory is then as before."""
-    wanted = {"nothing": {"ended 0"}, "half a frame": {"ended 1", "ended 92"}, "another protocol": {"ended 2", "ended 91", "ended 92"},
-              "a reset": {"ended 0", "ended 91"}}
+    """Ten thousand connects that say nothing, half a frame, another protocol's bytes, or reset: another link is answered beside most
+    of them, and after them memory doesn't grow any more."""
     with Staying(5) as node:
         problems, stop = [], threading.Event()
         with node.link() as link:
@@ -90,17 +106,12 @@ def bad_peers():
         problems += differ([("its end", node.line(), "ended 0")])
         asking = threading.Thread(target=quiet, args=(node, stop, problems))
         asking.start()
-        before = None
-        for kind, ends in wanted.items():
-            for at in range(BAD_PEERS):
-                hurt(node.port, kind)
-                if before is None and at == 500:
-                    before = node.memory()
-            told = {node.line() for _ in range(BAD_PEERS)}
-            if not told <= ends:
-                problems.append(f"{kind}: {sorted(told)}")
+        problems += hurt_often(node, BAD_PEERS - MEASURED)
         stop.set()
         asking.join(30)
+        problems += differ([("the end of the link beside them", node.line(), "ended 0")])
+        before = node.memory()
+        problems += hurt_often(node, MEASURED)
         grown = node.memory() - before
         if grown > 1 << 20:
             problems.append(f"memory grew by {grown} bytes")

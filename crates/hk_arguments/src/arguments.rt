@@ -47,7 +47,7 @@ pub enum Call {
         port: u16,
         links: Links,
     },
-    /// Start a node, and serve links to it for ever.
+    /// Start a node, and serve links to it without an end.
     Stay {
         config: Config,
         address: Ipv4Addr,
@@ -55,7 +55,7 @@ pub enum Call {
         links: Links,
         /// The port for links that only read, and how many of them are served at once.
         reading: Option<(u16, Links)>,
-        /// How many seconds a read inside a frame is waited for; 0 for ever.
+        /// How many seconds a read inside a frame is waited for; 0 is no limit.
         read_seconds: u64,
     },
     /// Send requests to the node on a port.
@@ -205,7 +205,7 @@ const SERVE_LONG_ABOUT: &str = "Start a node, and serve links to it on a port of
 It serves as many links as --links says, side by side, and ends when all have ended. It prints \
 'refused 93' where the port can't be listened to. docs/PROTOCOL.md says what goes over a link.
 
-With --stay it serves links for ever, --links of them at once: a further link waits until one ends. \
+With --stay it serves links without an end, --links of them at once: a further link waits until one ends. \
 It prints 'ended' and a number as each link ends. --read-port opens a second port, whose links may \
 ask and not change. NOTHING IS ENCRYPTED OR AUTHENTICATED: whoever reaches the port may write. Give \
 --address only behind a proxy that does both (docs/OPERATING.md).";
@@ -413,7 +413,7 @@ fn with_reading<'a>(alloc: Global, command: Command<'a>) -> Result<Command<'a>, 
 }
 
 fn with_stay<'a>(alloc: Global, command: Command<'a>) -> Result<Command<'a>, AllocError> {
-    let help = "Serve links for ever, so many at once";
+    let help = "Serve links without an end, so many at once";
     let stay = Arg::new(alloc, "stay")
         .long("stay")
         .help(help)

@@ -37,7 +37,7 @@ pub struct Stay {
     pub links: Links,
     /// The port for links that only read, if there is one.
     pub reading: Option<ReadPort>,
-    /// How many seconds a read inside a frame is waited for; 0 for ever.
+    /// How many seconds a read inside a frame is waited for; 0 is no limit.
     pub read_seconds: u64,
 }
 
@@ -130,7 +130,7 @@ fn places_wanted(stay: &Stay) -> usize
     (stay.links.count() + reading).min(64)
 }
 
-/// Serves the links to a new node of this list for ever.
+/// Serves links to a new node of this list without an end.
 fn stay_list<
     J: NodeName + Send + Sync,
     R: Net<Listener = TcpListener, Stream = TcpStream> + Threads + Wait + Clock + Sync,
@@ -158,7 +158,7 @@ fn stay_list<
     serve_forever(rt, alloc, places, &mut telling).map_err(stop_of)
 }
 
-/// Starts a node of a log, and serves links to it for ever: a place is given back when its link ends. Prints `listening`
+/// Starts a node of a log, and serves links to it without an end: a place is given back when its link ends. Prints `listening`
 /// and the port once links can be opened, `reading` and the other port where there is one, and `ended` and its number for
 /// each link when it ends.
 ///

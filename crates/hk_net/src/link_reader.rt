@@ -10,7 +10,7 @@ use std::time::Duration;
 ///
 /// Where a number of seconds is given, a read inside a frame fails that brings nothing for so long, and so does one
 /// where the frame took more reads than its length explains: 64, and one more for each 64 bytes of its length. A read
-/// between two frames waits for ever. Where only readings pass, the kind of each other request is read as one that no
+/// between two frames has no limit. Where only readings pass, the kind of each other request is read as one that no
 /// message has, so that the session ends there.
 #[derive(Drop)]
 pub(crate) struct LinkReader<'a> {

@@ -39,8 +39,8 @@ pub fn serve_on_seat<
     // The bytes read, and what was done and written for them.
     ensures transcript { (bytes : List ℕ)
         × Consumes (I.remaining reader.old.device) (I.remaining reader.new.device) bytes
-        × SessionStep (MayReply J.config) seat result.1 (O.contents writer.old.device) (O.contents writer.new.device)
-        bytes (Ends result.0) }
+        × SessionStep (MayReply J.config) seat result.1
+        (O.contents writer.old.device) (O.contents writer.new.device) bytes (Ends result.0) }
 {
     let mut host = NodeHost::new(rt, alloc, node, seat);
     let ended = serve(alloc, reader, writer, &mut host);
@@ -61,8 +61,8 @@ pub fn read_on_seat<J: NodeName, I: Read + Drop, O: Write + Drop>(
     // The bytes read, and what was done and written for them.
     ensures transcript { (bytes : List ℕ)
         × Consumes (I.remaining reader.old.device) (I.remaining reader.new.device) bytes
-        × SessionStep MayOnlyRead seat result.1 (O.contents writer.old.device) (O.contents writer.new.device)
-        bytes (Ends result.0) }
+        × SessionStep MayOnlyRead seat result.1
+        (O.contents writer.old.device) (O.contents writer.new.device) bytes (Ends result.0) }
 {
     let mut host = SeatHost::new(seat);
     let ended = serve(alloc, reader, writer, &mut host);

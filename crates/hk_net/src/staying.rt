@@ -145,7 +145,7 @@ fn serve_place<J: NodeName, N: Wait + Drop, R: Threads + Wait + Clock + Sync>(
     seat
 }
 
-/// Serves links for ever, each place in a thread of its own: the thread accepts a link of the place's door, runs its
+/// Serves links without an end, each place in a thread of its own: the thread accepts a link of the place's door, runs its
 /// session on the place's seat, and takes the seat back for the next link, so that at most as many links are served at
 /// once as there are places, and a further one waits to be accepted. No list grows with the links.
 ///
