@@ -1,4 +1,4 @@
-//! Tests of the running node, and of links to it over TCP.
+//! Tests of the running node.
 #![tactic(auto)]
 
 #[cfg(test)]

@@ -17,7 +17,6 @@ use std::test::Fail;
 use std::thread;
 use std::thread::Threads;
 
-mod links;
 mod rows;
 mod threads;
 
