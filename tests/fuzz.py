@@ -132,7 +132,7 @@ def of_items(source):
     items, fault = reference.items_of(data)
     new = b"".join(reference.frame(it, 2) for it in items).decode("latin-1")
     return [(["items"], data, told(*reference.printed(data))),
-            (["rewrite"], data, (f"refused {fault}\n", 1) if fault else (new, 0))]
+            (["rewrite"], data, ("", 1) if fault else (new, 0))]
 
 
 def of_at(source):
@@ -175,7 +175,7 @@ def of_world(source):
     return [(["world"], text.encode("latin-1"), told(*reference.played(text)))]
 
 
-LINES = [["at", "--log", "7", "--streams", "1", "1", "1", "5"], ["items"], ["rewrite"], ["world"], ["--help"], ["--version"], ["push", "--port", "1"],
+LINES = [["at", "--log", "7", "--streams", "1", "1", "1", "5"], ["items"], ["items", "--json"], ["frames"], ["rewrite"], ["world"], ["--help"], ["--version"], ["push", "--port", "1"], ["ask", "--port", "1", "get", "1", "5"], ["feed", "--port", "1", "--batch", "7"],
          ["serve", "--log", "7", "--streams", "1", "--port", "0", "--links", "1"], ["help", "at"], ["at", "--help"]]
 
 

@@ -6,6 +6,7 @@ import re
 import socket
 import subprocess
 import sys
+import tempfile
 
 from checks import ended, is_built, report
 
@@ -91,11 +92,17 @@ def as_said(printed, said):
     return not said or printed.splitlines() == re.split(r", then |, ", said)
 
 
+def serving(port):
+    node = subprocess.Popen([PROGRAM, "serve", "--log", "7", "--streams", "1", "--port", port, "--links", "30"], stdout=subprocess.PIPE)
+    node.stdout.readline()
+    return node
+
+
 def shown_commands():
-    """Each command that a page shows runs, and prints what the page says; `push` to the node that stands above it."""
-    problems, count, port = [], 0, free_port()
+    """Each command that a page shows runs, and prints what the page says; those with a port ask a node that took the first items, `push` and `feed` one that took none."""
+    problems, count = [], 0
     for page, command, said in shown():
-        count += 1
+        count, port = count + 1, free_port()
         for word, stands_for in STAND_INS.items():
             command = command.replace(word, stands_for or port)
         if not command.startswith("bin/"):
@@ -104,10 +111,12 @@ def shown_commands():
             continue
         if " --log " in command and " < " not in command:
             command += " < examples/first.bin"
-        if " push " in command:
-            node = subprocess.Popen([PROGRAM, "serve", "--log", "7", "--streams", "1", "--port", port, "--links", "1"], stdout=subprocess.PIPE)
-            node.stdout.readline()
+        if " --port " in command:
+            node = serving(port)
+            if " push " not in command and " feed " not in command:
+                bash(f"bin/hkrep feed --port {port} < examples/first.bin")
             printed, status = bash(command)
+            node.kill()
             node.communicate(timeout=60)
         else:
             printed, status = bash(command)
@@ -115,6 +124,44 @@ def shown_commands():
         if status != is_refused or not printed or not as_said(printed, said):
             problems.append(f"{page.name}: {command}: status {status}, printed {printed[:200]!r}")
     report("each command that a page shows runs and prints what the page says", problems or ([] if count >= 10 else [f"only {count} commands"]))
+
+
+def examples_of(command):
+    """The lines of the example in a command's help."""
+    helped, _ = bash(f"bin/hkrep help {command}")
+    return re.findall(r"^  ((?:echo .* \| )?hkrep .*)$", helped, re.M)
+
+
+def run_example(line, ports, folder):
+    """Runs a line of an example, with free ports for those that it names and in a folder for what it writes."""
+    for named, port in ports.items():
+        line = line.replace(named, port)
+    line = re.sub(r"\bhkrep\b", "bin/hkrep", line).replace("second.bin", f"{folder}/second.bin").replace("whole.bin", f"{folder}/whole.bin")
+    return line, bash(line)
+
+
+def helped():
+    """Each command's help has an example, which runs; those with a port are asked of nodes, one of which took the first items."""
+    listed, _ = bash("bin/hkrep --help")
+    known = [line.split()[0] for line in listed.splitlines() if re.match(r"  [a-z]+ ", line) and line.split()[0] not in ("help", "world")]
+    ports = {"47110": free_port(), "47111": free_port()}
+    nodes = [serving(port) for port in ports.values()]
+    problems = []
+    try:
+        bash(f"bin/hkrep feed --port {ports['47110']} < examples/first.bin")
+        with tempfile.TemporaryDirectory() as folder:
+            for command in sorted(known, key=lambda it: (it == "prune", it == "load", it)):
+                lines = [line for line in examples_of(command) if not line.endswith("&")]
+                problems += [] if lines else [f"{command} has no example"]
+                for line in lines:
+                    line, (printed, status) = run_example(line, ports, folder)
+                    if status != 0 or (not printed and " > " not in line):
+                        problems.append(f"{line}: status {status}, printed {printed[:100]!r}")
+    finally:
+        for node in nodes:
+            node.kill()
+            node.communicate()
+    report("each command's help has an example, and it runs", problems or ([] if len(known) >= 10 else [f"only {known}"]))
 
 
 def made():
@@ -139,7 +186,7 @@ def links():
 def main():
     if not is_built(PROGRAM):
         return ended()
-    for check in (listings, picture, calling, commands, shown_commands, made, asked_node, links):
+    for check in (listings, picture, calling, commands, shown_commands, helped, made, asked_node, links):
         check()
     return ended()
 

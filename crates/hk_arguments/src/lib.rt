@@ -2,5 +2,8 @@
 #![tactic(auto)]
 
 mod arguments;
+mod calls;
+mod forms;
+mod texts;
 
-pub use arguments::{Call, read_call};
+pub use arguments::{Call, Order, read_call};

@@ -2,13 +2,16 @@
 #![tactic(auto)]
 
 mod notice;
-mod push;
 mod serve;
 
 pub use hk_commands::{
-    run_ask, run_at, run_explain, run_front, run_items, run_rewrite, run_status, run_world,
+    Form, run_ask, run_at, run_explain, run_frames, run_front, run_items, run_rewrite, run_status,
+    run_world,
 };
 pub use hk_lines::{Printed, line_of};
+pub use hk_remote::{
+    run_feed, run_load, run_node_ask, run_node_front, run_node_status, run_prune, run_pull,
+    run_push, run_save, run_shell,
+};
 pub use hk_types::Links;
-pub use push::run_push;
 pub use serve::run_serve;

@@ -59,7 +59,7 @@ fn serve_list<
 {
     let listener = match TcpListener::bind(rt, (Ipv4Addr::LOCALHOST, port)) {
         Ok(listener) => listener,
-        Err(_error) => return Err(Stop::NetFault),
+        Err(error) => return Err(output.net_fault("listen on", port, &error)),
     };
     let (node, seats) = start::<J, &R>(rt, alloc, list, links.count())?;
     output.print(&Notice::Listening(port))?;

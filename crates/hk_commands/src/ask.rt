@@ -3,15 +3,14 @@
 ghost use Rattle.std.specs.Prelude.{◌≤◌};
 
 use crate::frames::{Sink, hand_items};
-use crate::output::Output;
-use crate::status::stream_status;
+use crate::output::{Form, Output};
+use crate::status::put_status;
 use crate::stop::Stop;
 use hk_log::Item;
-use hk_model::Told;
 use hk_query::{Answer, Query, ask};
 use hk_reasons::{Asked, Origin, Place};
 use hk_state::{ReplicaState, front_of};
-use hk_types::{Config, Key, StreamNo, Table, Time};
+use hk_types::{Config, Key, Table, Time};
 use std::alloc::Global;
 use std::io::{Read, Write};
 
@@ -57,7 +56,7 @@ fn answer_at<I: Read>(
     }
 }
 
-/// Absorbs the item frames of the input, and prints the answer to a query at a time. Where a frame has a fault, an item
+/// Absorbs the item frames of the input, and prints the answer to a query at a time, in a form. Where a frame has a fault, an item
 /// is refused or the query is, the one that comes first is printed and no answer, and is told to `errors` in words. The
 /// status: 0, or 1 where a line `refused` was printed or a write failed. Cost: O(n · log n), n bytes of the input, and
 /// that of the query.
@@ -69,12 +68,13 @@ pub fn run_ask<I: Read, W: Write, E: Write>(
     config: Config,
     time: Time,
     query: &Query,
+    form: Form,
 ) -> u8
     ensures { result ≤ 1 }
 {
-    let mut output = Output::new(alloc, writer, errors);
+    let mut output = Output::of_form(alloc, form, writer, errors);
     let printed = match answer_at(alloc, input, config, time, query) {
-        Ok(answer) => output.print(&answer),
+        Ok(answer) => output.show(&answer),
         Err(stop) => Err(stop),
     };
     ended(printed, &mut output)
@@ -94,7 +94,8 @@ pub fn run_at<I: Read, W: Write, E: Write>(
     ensures { result ≤ 1 }
 {
     let query = Query::Get { table, key };
-    run_ask(alloc, input, writer, errors, config, time, &query)
+    let form = Form::Lines;
+    run_ask(alloc, input, writer, errors, config, time, &query, form)
 }
 
 /// Absorbs the item frames of the input, and prints from where to where the replica can be read. What stops it, and the
@@ -105,12 +106,13 @@ pub fn run_front<I: Read, W: Write, E: Write>(
     writer: &mut W,
     errors: &mut E,
     config: Config,
+    form: Form,
 ) -> u8
     ensures { result ≤ 1 }
 {
-    let mut output = Output::new(alloc, writer, errors);
+    let mut output = Output::of_form(alloc, form, writer, errors);
     let printed = match absorbed(alloc, input, config) {
-        Ok(absorber) => output.print(&Told::Fronted(front_of(&absorber.state))),
+        Ok(absorber) => output.show_front(front_of(&absorber.state)),
         Err(stop) => Err(stop),
     };
     ended(printed, &mut output)
@@ -124,27 +126,16 @@ pub fn run_status<I: Read, W: Write, E: Write>(
     writer: &mut W,
     errors: &mut E,
     config: Config,
+    form: Form,
 ) -> u8
     ensures { result ≤ 1 }
 {
-    let mut output = Output::new(alloc, writer, errors);
+    let mut output = Output::of_form(alloc, form, writer, errors);
     let printed = match absorbed(alloc, input, config) {
-        Ok(absorber) => print_status(&absorber.state, &mut output),
+        Ok(absorber) => put_status(absorber.state.got(), front_of(&absorber.state), &mut output),
         Err(stop) => Err(stop),
     };
     ended(printed, &mut output)
-}
-
-fn print_status<W: Write, E: Write>(
-    state: &ReplicaState,
-    output: &mut Output<'_, W, E>,
-) -> Result<(), Stop> {
-    let got = state.got();
-    for index in 0..got.streams() {
-        let stream = StreamNo::new(index + 1)?;
-        output.print(&stream_status(got, stream))?;
-    }
-    output.print(&Told::Fronted(front_of(state)))
 }
 
 /// Writes what was printed, or why it stopped, and gives the status.

@@ -8,6 +8,9 @@ pub(crate) const MOST_LINE_BYTES: usize = 16_384;
 /// The most letters of a line that are shown again.
 const MOST_SHOWN: usize = 60;
 
+/// The form of the first line.
+const OPENING: &str = "world LOG STREAMS REPLICAS";
+
 /// What is wrong with a line; its words are counted from 1.
 #[derive(Clone, Copy)]
 pub(crate) enum Flaw {
@@ -38,6 +41,7 @@ pub(crate) enum Flaw {
 /// The form of the line that has this first word.
 fn form_of(name: &str) -> &'static str {
     match name {
+        "world" => OPENING,
         "begin" => "begin SLOT",
         "put" => "put SLOT TABLE KEY TAG BODY",
         "remove" => "remove SLOT TABLE KEY",
@@ -61,7 +65,8 @@ fn form_of(name: &str) -> &'static str {
 
 fn wanted(flaw: Flaw, text: &str) -> &'static str {
     match flaw {
-        Flaw::NoWorld => "world LOG STREAMS REPLICAS",
+        Flaw::NoWorld => OPENING,
+        Flaw::NoCommand => form_of(""),
         Flaw::EmptySlot => "begin SLOT before it",
         _other => match text.split_once(' ') {
             Some((name, _rest)) => form_of(name),

@@ -15,7 +15,8 @@ pub const PIECE_BYTES: usize = 65_536;
 pub const MOST_READS: u64 = 4_294_967_296;
 
 /// What takes the items of an input, one after the other.
-pub(crate) trait Sink {
+pub trait Sink {
+    /// Takes the next item, or says what stops the command.
     fn take(&mut self, item: Item) -> Result<(), Stop>;
 }
 
@@ -55,8 +56,8 @@ fn checked(fed: Result<(), Refusal>, frames: u64) -> Result<(), Stop> {
 }
 
 /// Hands the items of the input to the sink in their order, up to the end, or to what stops them first:
-/// the sink, a fault of the input, or a read.
-pub(crate) fn hand_items<I: Read, S: Sink>(
+/// the sink, a fault of the input, or a read. Cost: O(n), n bytes of the input, and that of the sink.
+pub fn hand_items<I: Read, S: Sink>(
     alloc: Global,
     input: &mut I,
     sink: &mut S,

@@ -3,7 +3,7 @@
 ghost use Rattle.std.specs.Prelude.{◌≤◌};
 
 use crate::frames::{Sink, hand_items};
-use crate::output::Output;
+use crate::output::{Form, Output};
 use crate::stop::Stop;
 use hk_log::Item;
 use std::alloc::Global;
@@ -11,11 +11,11 @@ use std::io::{Read, Write};
 
 impl<'a, W: Write, E: Write> Sink for Output<'a, W, E> {
     fn take(&mut self, item: Item) -> Result<(), Stop> {
-        self.print(&item)
+        self.show(&item)
     }
 }
 
-/// Prints a line for each item of the input, up to its end, and answers the status 0. Where something stops it
+/// Prints a line for each item of the input, in a form, up to its end, and answers the status 0. Where something stops it
 /// first, the lines of the items before it stand, a line says why, and the status is 1:
 ///
 /// - `refused` and the fault's number, 1 to 10, where the bytes that follow the items encode nothing;
@@ -30,10 +30,11 @@ pub fn run_items<I: Read, W: Write, E: Write>(
     input: &mut I,
     writer: &mut W,
     errors: &mut E,
+    form: Form,
 ) -> u8
     ensures { result ≤ 1 }
 {
-    let mut output = Output::new(alloc, writer, errors);
+    let mut output = Output::of_form(alloc, form, writer, errors);
     if let Err(stop) = hand_items(alloc, input, &mut output) {
         return output.stop(stop);
     }

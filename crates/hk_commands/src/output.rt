@@ -3,11 +3,15 @@
 ghost use Rattle.std.specs.Prelude.{◌≡◌};
 
 use crate::flaw::{Flaw, put_bad_line};
+use crate::json::{LineFault, put_bad_item};
 use crate::stop::Stop;
+use hk_json::InJson;
 use hk_lines::Printed;
+use hk_model::{Front, Told};
 use hk_reasons::{Asked, Origin, Place, put_known, put_reason};
 use hk_types::Refusal;
 use std::alloc::{AllocError, Global};
+use std::io;
 use std::io::Write;
 
 /// How many bytes of lines are gathered before they are written.
@@ -22,10 +26,22 @@ const NO_MEMORY: &[u8] = b"refused 90: out of memory; free memory, and make the 
 /// What is told where a write of the output failed.
 const NO_OUTPUT: &[u8] = b"stopped: the output can't be written; see where standard output goes\n";
 
+/// The form of what a command prints.
+#[derive(Clone, Copy)]
+pub enum Form {
+    /// The lines of hk_lines.
+    Lines,
+    /// Lines of JSON.
+    Json,
+    /// Bytes that are no lines, so why the command stopped goes to standard error alone.
+    Bytes,
+}
+
 /// The lines of a command on their way to a writer, and what is told of refusals in words on its way to another.
 #[derive(Drop)]
 pub struct Output<'a, W: Write, E: Write> {
     alloc: Global,
+    form: Form,
     writer: &'a mut W,
     errors: &'a mut E,
     /// What was gathered: whole lines.
@@ -34,17 +50,31 @@ pub struct Output<'a, W: Write, E: Write> {
     reasons: String,
     /// The lines of the value that is being printed; where memory runs out none of them is.
     next: String,
+    /// Whether nobody reads the output any more, as behind `head`.
+    is_closed: bool,
 }
 
 impl<'a, W: Write, E: Write> Output<'a, W, E> {
+    /// An output in lines.
     pub fn new(alloc: Global, writer: &'a mut W, errors: &'a mut E) -> Output<'a, W, E> {
+        Output::of_form(alloc, Form::Lines, writer, errors)
+    }
+
+    pub fn of_form(
+        alloc: Global,
+        form: Form,
+        writer: &'a mut W,
+        errors: &'a mut E,
+    ) -> Output<'a, W, E> {
         Output {
             alloc,
+            form,
             writer,
             errors,
             lines: String::new(alloc),
             reasons: String::new(alloc),
             next: String::new(alloc),
+            is_closed: false,
         }
     }
 
@@ -53,6 +83,34 @@ impl<'a, W: Write, E: Write> Output<'a, W, E> {
     pub fn print<T: Printed>(&mut self, value: &T) -> Result<(), Stop> {
         self.next.clear();
         value.print_to(self.alloc, &mut self.next)?;
+        self.keep_lines()
+    }
+
+    /// The same in the form of the output. Cost: as that of `print`.
+    pub fn show<T: Printed + InJson>(&mut self, value: &T) -> Result<(), Stop> {
+        match self.form {
+            Form::Json => self.print_json(value),
+            _lines => self.print(value),
+        }
+    }
+
+    /// The same of from where to where can be read. Cost: O(1).
+    pub fn show_front(&mut self, front: Front) -> Result<(), Stop> {
+        match self.form {
+            Form::Json => self.print_json(&front),
+            _lines => self.print(&Told::Fronted(front)),
+        }
+    }
+
+    /// Adds a value's line of JSON, all of it or nothing. Cost: as that of `print`.
+    pub fn print_json<T: InJson>(&mut self, value: &T) -> Result<(), Stop> {
+        self.next.clear();
+        value.json_to(self.alloc, &mut self.next)?;
+        self.keep_lines()
+    }
+
+    /// Adds the lines that were made, and writes what was gathered once that is much.
+    fn keep_lines(&mut self) -> Result<(), Stop> {
         self.lines.push_str(&self.next)?;
         if self.lines.len() >= GATHERED_BYTES || self.reasons.len() >= GATHERED_BYTES {
             return self.flush();
@@ -82,6 +140,41 @@ impl<'a, W: Write, E: Write> Output<'a, W, E> {
         self.keep_reason(made);
     }
 
+    /// The same of a line of JSON that is no item. Cost: O(1).
+    pub(crate) fn tell_item(&mut self, number: u64, fault: &LineFault) {
+        self.next.clear();
+        let made = put_bad_item(self.alloc, number, fault, &mut self.next);
+        self.keep_reason(made);
+    }
+
+    /// Adds that a link was cut before the reply to a request. Cost: O(1).
+    fn tell_cut(&mut self, request: u64) {
+        self.next.clear();
+        let made = writeln!(
+            self.next,
+            "request {request}: refused 1: the link was cut before the reply; see whether the node still runs"
+        );
+        self.keep_reason(made);
+    }
+
+    /// Tells what failed at a port of 127.0.0.1, in the system's words, and gives what stops the command. Cost: O(1).
+    pub fn net_fault(&mut self, what: &str, port: u16, error: &io::Error) -> Stop {
+        self.next.clear();
+        let made = writeln!(
+            self.next,
+            "refused 93: can't {what} port {port}: {error}; see that a node listens there, or that no other program does"
+        );
+        self.keep_reason(made);
+        Stop::NetTold
+    }
+
+    /// Adds a line of words that are no reason, as how fast something went. Cost: O(n), n bytes of the line.
+    pub fn note(&mut self, line: &str) {
+        if self.reasons.push_str(line).is_err() {
+            self.say(NO_WORDS);
+        }
+    }
+
     /// Gathers the line that was made, where there was memory for it.
     fn keep_reason(&mut self, made: Result<(), AllocError>) {
         let is_kept = made.is_ok() && self.reasons.push_str(&self.next).is_ok();
@@ -105,7 +198,7 @@ impl<'a, W: Write, E: Write> Output<'a, W, E> {
         }
         match written {
             Ok(()) => self.sent(),
-            Err(_error) => Err(Stop::WriteFault),
+            Err(error) => Err(self.write_fault(&error)),
         }
     }
 
@@ -113,14 +206,29 @@ impl<'a, W: Write, E: Write> Output<'a, W, E> {
     pub fn send(&mut self, bytes: &[u8]) -> Result<(), Stop> {
         match self.writer.write_all(bytes) {
             Ok(()) => self.sent(),
-            Err(_error) => Err(Stop::WriteFault),
+            Err(error) => Err(self.write_fault(&error)),
+        }
+    }
+
+    /// Why a write that failed stops the command. Where nobody reads the output any more that is kept.
+    fn write_fault(&mut self, error: &io::Error) -> Stop {
+        if error.kind() == io::ErrorKind::BrokenPipe {
+            self.is_closed = true;
+        }
+        Stop::WriteFault
+    }
+
+    /// Tells that the output can't be written, but where its reader is gone, of which other tools tell nothing either.
+    fn say_no_output(&mut self) {
+        if !self.is_closed {
+            self.say(NO_OUTPUT);
         }
     }
 
     fn sent(&mut self) -> Result<(), Stop> {
         match self.writer.flush() {
             Ok(()) => Ok(()),
-            Err(_error) => Err(Stop::WriteFault),
+            Err(error) => Err(self.write_fault(&error)),
         }
     }
 
@@ -133,7 +241,7 @@ impl<'a, W: Write, E: Write> Output<'a, W, E> {
         let printed = self.print_stop(&stop);
         let flushed = self.flush();
         if printed.is_err() || flushed.is_err() {
-            self.say(NO_OUTPUT);
+            self.say_no_output();
         }
         1
     }
@@ -155,31 +263,55 @@ impl<'a, W: Write, E: Write> Output<'a, W, E> {
             Stop::ReadFault => self.tell_known(Place::Whole, "refused", 91),
             Stop::SendFault => self.tell_known(Place::Whole, "refused", 92),
             Stop::NetFault => self.tell_known(Place::Whole, "refused", 93),
-            Stop::WriteFault => self.say(NO_OUTPUT),
-            Stop::BadCommand(_) => (),
+            Stop::LinkCut(request) => self.tell_cut(*request),
+            Stop::WriteFault => self.say_no_output(),
+            Stop::BadCommand(_) | Stop::NetTold => (),
         }
     }
 
+    /// Adds why the command stopped, in the form of the output.
     fn print_stop(&mut self, stop: &Stop) -> Result<(), Stop> {
         self.flush()?;
         match stop {
-            Stop::Refused(Refusal::Memory) | Stop::RefusedAt(Refusal::Memory, _) => {
-                self.write_plain(b"refused 90\n")
-            }
-            Stop::Refused(refusal) | Stop::RefusedAt(refusal, _) => match self.print(refusal) {
-                Err(Stop::Refused(_memory)) => self.write_plain(b"refused 90\n"),
-                other => other,
-            },
+            Stop::Refused(refusal) | Stop::RefusedAt(refusal, _) => self.print_refusal(refusal),
             Stop::BadCommand(line) => self.print_bad(*line),
-            Stop::ReadFault => self.write_plain(b"refused 91\n"),
+            Stop::ReadFault => self.print_device(b"refused 91\n", b"{\"refused\":91}\n"),
             Stop::WriteFault => Ok(()),
-            Stop::SendFault => self.write_plain(b"refused 92\n"),
-            Stop::NetFault => self.write_plain(b"refused 93\n"),
+            Stop::SendFault => self.print_device(b"refused 92\n", b"{\"refused\":92}\n"),
+            Stop::LinkCut(_request) => self.print_device(b"refused 1\n", b"{\"refused\":1}\n"),
+            Stop::NetFault | Stop::NetTold => {
+                self.print_device(b"refused 93\n", b"{\"refused\":93}\n")
+            }
+        }
+    }
+
+    fn print_refusal(&mut self, refusal: &Refusal) -> Result<(), Stop> {
+        if matches!(self.form, Form::Bytes) {
+            return Ok(());
+        }
+        if !matches!(refusal, Refusal::Memory) {
+            match self.show(refusal) {
+                Err(Stop::Refused(_memory)) => (),
+                other => return other,
+            }
+        }
+        self.print_device(b"refused 90\n", b"{\"refused\":90}\n")
+    }
+
+    /// Writes one of two lines, which take no memory: that of the form of the output.
+    fn print_device(&mut self, line: &[u8], json: &[u8]) -> Result<(), Stop> {
+        match self.form {
+            Form::Lines => self.write_plain(line),
+            Form::Json => self.write_plain(json),
+            Form::Bytes => Ok(()),
         }
     }
 
     /// Adds that a line is no command.
     fn print_bad(&mut self, line: u64) -> Result<(), Stop> {
+        if !matches!(self.form, Form::Lines) {
+            return Ok(());
+        }
         match self.add_bad(line) {
             Ok(()) => Ok(()),
             Err(_memory) => self.write_plain(b"refused 90\n"),
@@ -196,7 +328,7 @@ impl<'a, W: Write, E: Write> Output<'a, W, E> {
     fn write_plain(&mut self, line: &[u8]) -> Result<(), Stop> {
         match self.writer.write_all(line) {
             Ok(()) => Ok(()),
-            Err(_error) => Err(Stop::WriteFault),
+            Err(error) => Err(self.write_fault(&error)),
         }
     }
 }

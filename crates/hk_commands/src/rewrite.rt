@@ -3,23 +3,22 @@
 ghost use Rattle.std.specs.Prelude.{◌≤◌};
 
 use crate::frames::{MOST_READS, PIECE_BYTES};
-use crate::output::Output;
+use crate::output::{Form, Output};
 use crate::stop::Stop;
 use hk_codec::rewrite;
 use std::alloc::Global;
 use std::io::{Read, Write};
 
 /// Writes the item frames of the input, which may be of version 1 and 2, as frames of version 2, once all of the input
-/// was read, and answers the status 0. Where something stops it first, no frame is written, a line says why, and the
+/// was read, and answers the status 0. Where something stops it first, nothing is written, `errors` is told why, and the
 /// status is 1:
 ///
-/// - `refused` and the fault's number, 1 to 10, where the bytes that follow the items encode nothing;
-/// - `refused 90` where memory ran out;
-/// - `refused 91` where a read failed, or 2^32 reads did not come to the end;
-/// - no line where a write failed or took no bytes: the status alone tells it.
+/// - the fault's number, 1 to 10, where the bytes that follow the items encode nothing;
+/// - 90 where memory ran out;
+/// - 91 where a read failed, or 2^32 reads did not come to the end;
+/// - that the output can't be written, where a write failed or took no bytes; then a part of the frames may stand.
 ///
-/// What stops it is told to `errors` in words. It holds the bytes that it reads and those that it writes. Cost: O(n), n bytes
-/// of the input.
+/// It holds the bytes that it reads and those that it writes. Cost: O(n), n bytes of the input.
 pub fn run_rewrite<I: Read, W: Write, E: Write>(
     alloc: Global,
     input: &mut I,
@@ -28,7 +27,7 @@ pub fn run_rewrite<I: Read, W: Write, E: Write>(
 ) -> u8
     ensures { result ≤ 1 }
 {
-    let mut output = Output::new(alloc, writer, errors);
+    let mut output = Output::of_form(alloc, Form::Bytes, writer, errors);
     let sent = match rewritten(alloc, input) {
         Ok(frames) => output.send(&frames),
         Err(stop) => Err(stop),

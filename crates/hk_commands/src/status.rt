@@ -6,10 +6,15 @@ ghost use Rattle.hk_model.specs.Replica.Streams.{covers, stream_at};
 ghost use Rattle.std.specs.String.{string_bytes};
 ghost use Rattle.hk_commands.specs.Statuses as spec;
 
+use crate::output::Output;
+use crate::stop::Stop;
+use hk_json::{InJson, StreamLine};
 use hk_lines::Printed;
 use hk_marks::Got;
-use hk_types::{StreamNo, Time};
+use hk_model::Front;
+use hk_types::{Refusal, StreamNo, Time};
 use std::alloc::{AllocError, Global};
+use std::io::Write;
 
 /// What a stream does to the readable mark.
 #[derive(Clone, Copy)]
@@ -100,7 +105,7 @@ fn put_standing(standing: Standing, out: &mut String) -> Result<(), AllocError>
 }
 
 #[tactic(auto, using(std::proofs::Common::append_assoc))]
-fn put_status(status: &StreamStatus, out: &mut String) -> Result<(), AllocError>
+fn put_stream(status: &StreamStatus, out: &mut String) -> Result<(), AllocError>
     ensures { OnOk result (string_bytes out.new ≡ string_bytes out.old ++ spec.status_line status.now) }
 {
     put_taken(status, out)?;
@@ -112,6 +117,41 @@ impl Printed for StreamStatus {
     ghost text = { spec.status_line };
 
     fn print_to(&self, _alloc: Global, out: &mut String) -> Result<(), AllocError> {
-        put_status(self, out)
+        put_stream(self, out)
     }
+}
+
+fn word_of(standing: Standing) -> &'static str {
+    match standing {
+        Standing::Open => "open",
+        Standing::Holds => "holds",
+        Standing::Retired => "retired",
+    }
+}
+
+impl InJson for StreamStatus {
+    fn json_to(&self, alloc: Global, out: &mut String) -> Result<(), Refusal> {
+        let line = StreamLine {
+            stream: self.stream,
+            prefix: self.prefix,
+            extra: self.extra as u64,
+            closed: self.closed,
+            waiting: self.waiting as u64,
+            standing: word_of(self.standing),
+        };
+        line.json_to(alloc, out)
+    }
+}
+
+/// Adds a line of each stream, how far it is, and then one from where to where can be read. Cost: O(s²), s streams.
+pub fn put_status<W: Write, E: Write>(
+    got: &Got,
+    front: Front,
+    output: &mut Output<'_, W, E>,
+) -> Result<(), Stop> {
+    for index in 0..got.streams() {
+        let stream = StreamNo::new(index + 1)?;
+        output.show(&stream_status(got, stream))?;
+    }
+    output.show_front(front)
 }

@@ -25,6 +25,10 @@ pub enum Stop {
     SendFault,
     /// A port can't be listened to, or a link can't be opened or accepted.
     NetFault,
+    /// The same, where it was told already what failed and why.
+    NetTold,
+    /// A link ended before the reply to the request of this number, counted from 1.
+    LinkCut(u64),
 }
 
 impl From<Refusal> for Stop {

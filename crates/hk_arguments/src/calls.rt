@@ -1,0 +1,159 @@
+//! The calls that the arguments of the commands make.
+
+use crate::arguments::{Call, Order, config_of};
+use clap::ArgMatches;
+use hk_model::Query;
+use hk_types::{Config, Key, Table, Tag, Time};
+
+/// How many items a batch has where that isn't said.
+const BATCH: u64 = 4_096;
+
+fn table_of(matches: &ArgMatches<'_>) -> Option<Table> {
+    Some(Table::new(matches.get_one::<u16>("table")?))
+}
+
+fn key_of(matches: &ArgMatches<'_>, name: &str) -> Option<Key> {
+    Some(Key::new(matches.get_one::<u64>(name)?))
+}
+
+fn time_of(matches: &ArgMatches<'_>) -> Option<Time> {
+    Time::new(matches.get_one::<u64>("time")?).ok()
+}
+
+fn port_of(matches: &ArgMatches<'_>) -> Option<u16> {
+    matches.get_one::<u16>("port")
+}
+
+fn is_json(matches: &ArgMatches<'_>) -> bool {
+    matches.get_flag("json")
+}
+
+/// The query that the words behind the time make.
+fn query_of(name: &str, words: &ArgMatches<'_>) -> Option<Query> {
+    let table = table_of(words)?;
+    Some(match name {
+        "get" => Query::Get {
+            table,
+            key: key_of(words, "key")?,
+        },
+        "range" => Query::Range {
+            table,
+            low: key_of(words, "low")?,
+            high: key_of(words, "high")?,
+        },
+        "tag" => Query::ByTag {
+            table,
+            tag: Tag::new(words.get_one::<u32>("tag")?),
+        },
+        _count => Query::Count { table },
+    })
+}
+
+fn at_call(matches: &ArgMatches<'_>) -> Option<Call> {
+    Some(Call::At {
+        config: config_of(matches)?,
+        time: time_of(matches)?,
+        table: table_of(matches)?,
+        key: key_of(matches, "key")?,
+    })
+}
+
+/// The call of a query over a link, or of item frames.
+fn ask_call(matches: &ArgMatches<'_>) -> Option<Call> {
+    let (name, words) = matches.subcommand()?;
+    let query = query_of(name, words)?;
+    let time = time_of(matches);
+    let is_json = is_json(matches);
+    if let Some(port) = port_of(matches) {
+        let order = Order::Ask {
+            time,
+            query,
+            is_json,
+        };
+        return Some(Call::Node { port, order });
+    }
+    Some(Call::Ask {
+        config: config_of(matches)?,
+        time: time?,
+        query,
+        is_json,
+    })
+}
+
+fn front_of(config: Config, is_json: bool) -> Call {
+    Call::Front { config, is_json }
+}
+
+fn front_call(matches: &ArgMatches<'_>) -> Option<Call> {
+    let is_json = is_json(matches);
+    if let Some(port) = port_of(matches) {
+        let order = Order::Front { is_json };
+        return Some(Call::Node { port, order });
+    }
+    Some(front_of(config_of(matches)?, is_json))
+}
+
+fn status_call(matches: &ArgMatches<'_>) -> Option<Call> {
+    let is_json = is_json(matches);
+    if let Some(port) = port_of(matches) {
+        let order = Order::Status { is_json };
+        return Some(Call::Node { port, order });
+    }
+    let config = config_of(matches)?;
+    Some(Call::Status { config, is_json })
+}
+
+fn batch_of(matches: &ArgMatches<'_>) -> u64 {
+    matches.get_one::<u64>("batch").unwrap_or(BATCH)
+}
+
+/// What a command asks of a node alone.
+fn order_of(name: &str, matches: &ArgMatches<'_>) -> Option<Order> {
+    Some(match name {
+        "push" => Order::Push,
+        "shell" => Order::Shell,
+        "save" => Order::Save {
+            is_json: is_json(matches),
+        },
+        "load" => Order::Load,
+        "pull" => Order::Pull {
+            from: matches.get_one::<u16>("from")?,
+        },
+        "prune" => Order::Prune {
+            horizon: time_of(matches)?,
+        },
+        "feed" => Order::Feed {
+            batch: batch_of(matches),
+        },
+        _other => return None,
+    })
+}
+
+fn node_call(name: &str, matches: &ArgMatches<'_>) -> Option<Call> {
+    let order = order_of(name, matches)?;
+    let port = port_of(matches)?;
+    Some(Call::Node { port, order })
+}
+
+fn explain_call(matches: &ArgMatches<'_>) -> Call {
+    let number = matches.get_one::<u64>("number");
+    Call::Explain { number }
+}
+
+/// The call that the arguments of a command make, where each of them is in its range.
+pub(crate) fn call_of(name: &str, matches: &ArgMatches<'_>) -> Option<Call> {
+    match name {
+        "at" => at_call(matches),
+        "ask" => ask_call(matches),
+        "front" => front_call(matches),
+        "status" => status_call(matches),
+        "items" => Some(Call::Items {
+            is_json: is_json(matches),
+        }),
+        "frames" => Some(Call::Frames),
+        "rewrite" => Some(Call::Rewrite),
+        "world" => Some(Call::World),
+        "explain" => Some(explain_call(matches)),
+        node => node_call(node, matches),
+    }
+}

@@ -1,0 +1,476 @@
+//! The commands but `serve`, as tables of what they take.
+
+use crate::arguments::plain;
+use crate::texts;
+use clap::builder::ValueParser;
+use clap::{Arg, ArgAction, Command, value_parser};
+use std::alloc::{AllocError, Global};
+
+/// When an argument has to be given.
+#[derive(Clone, Copy)]
+pub(crate) enum Need {
+    Always,
+    /// Where no port is given.
+    NoPort,
+    /// The same, and with a port it may not be.
+    NotWithPort,
+    Never,
+}
+
+/// An argument that is a number.
+#[derive(Clone, Copy)]
+pub(crate) struct Number {
+    pub(crate) name: &'static str,
+    value: &'static str,
+    help: &'static str,
+    /// From where to where it goes, where it is not any of 64 bits.
+    range: Option<(i64, i64)>,
+    is_option: bool,
+    need: Need,
+}
+
+/// A command.
+#[derive(Clone, Copy)]
+pub(crate) struct Form {
+    pub(crate) name: &'static str,
+    about: &'static str,
+    example: &'static str,
+    pub(crate) numbers: &'static [Number],
+    has_json: bool,
+    has_queries: bool,
+}
+
+const LOG: Number = Number {
+    name: "log",
+    value: "L",
+    help: "The id of the log: a number up to 18446744073709551615",
+    range: None,
+    is_option: true,
+    need: Need::Always,
+};
+
+const STREAMS: Number = Number {
+    name: "streams",
+    value: "S",
+    help: "How many streams the log has: 1 to 64",
+    range: Some((1, 64)),
+    is_option: true,
+    need: Need::Always,
+};
+
+const OR_LOG: Number = Number {
+    name: "log",
+    value: "L",
+    help: "The id of the log: a number up to 18446744073709551615",
+    range: None,
+    is_option: true,
+    need: Need::NotWithPort,
+};
+
+const OR_STREAMS: Number = Number {
+    name: "streams",
+    value: "S",
+    help: "How many streams the log has: 1 to 64",
+    range: Some((1, 64)),
+    is_option: true,
+    need: Need::NotWithPort,
+};
+
+const OR_PORT: Number = Number {
+    name: "port",
+    value: "P",
+    help: "Ask the node on this port of 127.0.0.1: 1 to 65535",
+    range: Some((1, 65_535)),
+    is_option: true,
+    need: Need::Never,
+};
+
+const PORT: Number = Number {
+    name: "port",
+    value: "P",
+    help: "The port of 127.0.0.1: 1 to 65535",
+    range: Some((1, 65_535)),
+    is_option: true,
+    need: Need::Always,
+};
+
+const FROM: Number = Number {
+    name: "from",
+    value: "Q",
+    help: "The port of the other node: 1 to 65535",
+    range: Some((1, 65_535)),
+    is_option: true,
+    need: Need::Always,
+};
+
+const BATCH: Number = Number {
+    name: "batch",
+    value: "N",
+    help: "How many items a batch has: 1 to 65536; 4096 where it isn't given",
+    range: Some((1, 65_536)),
+    is_option: true,
+    need: Need::Never,
+};
+
+const TIME: Number = Number {
+    name: "time",
+    value: "T",
+    help: "The time to read at: 0 to 4611686018427387904",
+    range: Some((0, 4_611_686_018_427_387_904)),
+    is_option: false,
+    need: Need::Always,
+};
+
+const OR_TIME: Number = Number {
+    name: "time",
+    value: "T",
+    help: "The time to read at: 0 to 4611686018427387904",
+    range: Some((0, 4_611_686_018_427_387_904)),
+    is_option: false,
+    need: Need::NoPort,
+};
+
+const HORIZON: Number = Number {
+    name: "time",
+    value: "T",
+    help: "The time: 0 to 4611686018427387904",
+    range: Some((0, 4_611_686_018_427_387_904)),
+    is_option: false,
+    need: Need::Always,
+};
+
+const TABLE: Number = Number {
+    name: "table",
+    value: "TABLE",
+    help: "The number of the table: 0 to 65535",
+    range: Some((0, 65_535)),
+    is_option: false,
+    need: Need::Always,
+};
+
+const KEY: Number = Number {
+    name: "key",
+    value: "KEY",
+    help: "The key of the row: 0 to 18446744073709551615",
+    range: None,
+    is_option: false,
+    need: Need::Always,
+};
+
+const LOW: Number = Number {
+    name: "low",
+    value: "LOW",
+    help: "The least key",
+    range: None,
+    is_option: false,
+    need: Need::Always,
+};
+
+const HIGH: Number = Number {
+    name: "high",
+    value: "HIGH",
+    help: "The greatest key",
+    range: None,
+    is_option: false,
+    need: Need::Always,
+};
+
+const TAG: Number = Number {
+    name: "tag",
+    value: "TAG",
+    help: "The tag: 0 to 4294967295",
+    range: Some((0, 4_294_967_295)),
+    is_option: false,
+    need: Need::Always,
+};
+
+const REFUSAL: Number = Number {
+    name: "number",
+    value: "NUMBER",
+    help: "The number of a refusal",
+    range: None,
+    is_option: false,
+    need: Need::Never,
+};
+
+/// The commands, in the order of the help.
+pub(crate) const FORMS: [Form; 16] = [
+    Form {
+        name: "at",
+        about: texts::AT_ABOUT,
+        example: texts::AT_EXAMPLE,
+        numbers: &[LOG, STREAMS, TIME, TABLE, KEY],
+        has_json: false,
+        has_queries: false,
+    },
+    Form {
+        name: "ask",
+        about: texts::ASK_ABOUT,
+        example: texts::ASK_EXAMPLE,
+        numbers: &[OR_LOG, OR_STREAMS, OR_PORT, OR_TIME],
+        has_json: true,
+        has_queries: true,
+    },
+    Form {
+        name: "front",
+        about: texts::FRONT_ABOUT,
+        example: texts::FRONT_EXAMPLE,
+        numbers: &[OR_LOG, OR_STREAMS, OR_PORT],
+        has_json: true,
+        has_queries: false,
+    },
+    Form {
+        name: "status",
+        about: texts::STATUS_ABOUT,
+        example: texts::STATUS_EXAMPLE,
+        numbers: &[OR_LOG, OR_STREAMS, OR_PORT],
+        has_json: true,
+        has_queries: false,
+    },
+    Form {
+        name: "items",
+        about: texts::ITEMS_ABOUT,
+        example: texts::ITEMS_EXAMPLE,
+        numbers: &[],
+        has_json: true,
+        has_queries: false,
+    },
+    Form {
+        name: "frames",
+        about: texts::FRAMES_ABOUT,
+        example: texts::FRAMES_EXAMPLE,
+        numbers: &[],
+        has_json: false,
+        has_queries: false,
+    },
+    Form {
+        name: "rewrite",
+        about: texts::REWRITE_ABOUT,
+        example: texts::REWRITE_EXAMPLE,
+        numbers: &[],
+        has_json: false,
+        has_queries: false,
+    },
+    Form {
+        name: "world",
+        about: texts::WORLD_ABOUT,
+        example: texts::WORLD_EXAMPLE,
+        numbers: &[],
+        has_json: false,
+        has_queries: false,
+    },
+    Form {
+        name: "push",
+        about: texts::PUSH_ABOUT,
+        example: texts::PUSH_EXAMPLE,
+        numbers: &[PORT],
+        has_json: false,
+        has_queries: false,
+    },
+    Form {
+        name: "feed",
+        about: texts::FEED_ABOUT,
+        example: texts::FEED_EXAMPLE,
+        numbers: &[PORT, BATCH],
+        has_json: false,
+        has_queries: false,
+    },
+    Form {
+        name: "save",
+        about: texts::SAVE_ABOUT,
+        example: texts::SAVE_EXAMPLE,
+        numbers: &[PORT],
+        has_json: true,
+        has_queries: false,
+    },
+    Form {
+        name: "load",
+        about: texts::LOAD_ABOUT,
+        example: texts::LOAD_EXAMPLE,
+        numbers: &[PORT],
+        has_json: false,
+        has_queries: false,
+    },
+    Form {
+        name: "pull",
+        about: texts::PULL_ABOUT,
+        example: texts::PULL_EXAMPLE,
+        numbers: &[PORT, FROM],
+        has_json: false,
+        has_queries: false,
+    },
+    Form {
+        name: "prune",
+        about: texts::PRUNE_ABOUT,
+        example: texts::PRUNE_EXAMPLE,
+        numbers: &[PORT, HORIZON],
+        has_json: false,
+        has_queries: false,
+    },
+    Form {
+        name: "shell",
+        about: texts::SHELL_ABOUT,
+        example: texts::SHELL_EXAMPLE,
+        numbers: &[PORT],
+        has_json: false,
+        has_queries: false,
+    },
+    Form {
+        name: "explain",
+        about: texts::EXPLAIN_ABOUT,
+        example: texts::EXPLAIN_EXAMPLE,
+        numbers: &[REFUSAL],
+        has_json: false,
+        has_queries: false,
+    },
+];
+
+/// The queries.
+pub(crate) const QUERIES: [Form; 4] = [
+    Form {
+        name: "get",
+        about: texts::GET_ABOUT,
+        example: "",
+        numbers: &[TABLE, KEY],
+        has_json: false,
+        has_queries: false,
+    },
+    Form {
+        name: "range",
+        about: texts::RANGE_ABOUT,
+        example: "",
+        numbers: &[TABLE, LOW, HIGH],
+        has_json: false,
+        has_queries: false,
+    },
+    Form {
+        name: "tag",
+        about: texts::TAG_ABOUT,
+        example: "",
+        numbers: &[TABLE, TAG],
+        has_json: false,
+        has_queries: false,
+    },
+    Form {
+        name: "count",
+        about: texts::COUNT_ABOUT,
+        example: "",
+        numbers: &[TABLE],
+        has_json: false,
+        has_queries: false,
+    },
+];
+
+/// The form of this name.
+pub(crate) fn form_named<'f>(forms: &'f [Form], name: &str) -> Option<&'f Form> {
+    for form in forms {
+        if form.name == name {
+            return Some(form);
+        }
+    }
+    None
+}
+
+/// The numbers of the form of this name.
+pub(crate) fn numbers_of(forms: &[Form], name: &str) -> &'static [Number] {
+    match form_named(forms, name) {
+        Some(form) => form.numbers,
+        None => &[],
+    }
+}
+
+fn parser_of<'a>(range: Option<(i64, i64)>) -> ValueParser<'a> {
+    match range {
+        Some((least, most)) => value_parser!(u64).range(least..=most),
+        None => value_parser!(u64),
+    }
+}
+
+fn with_need<'a>(arg: Arg<'a>, need: Need) -> Result<Arg<'a>, AllocError> {
+    match need {
+        Need::Always => Ok(arg.required(true)),
+        Need::NoPort => arg.required_unless_present("port"),
+        Need::NotWithPort => arg.required_unless_present("port")?.conflicts_with("port"),
+        Need::Never => Ok(arg),
+    }
+}
+
+fn number_arg<'a>(alloc: Global, number: &Number) -> Result<Arg<'a>, AllocError> {
+    let arg = Arg::new(alloc, number.name)
+        .value_name(number.value)
+        .help(number.help)
+        .action(ArgAction::Set)
+        .value_parser(parser_of(number.range));
+    if number.is_option {
+        return with_need(arg.long(number.name), number.need);
+    }
+    with_need(arg, number.need)
+}
+
+fn with_numbers<'a>(
+    alloc: Global,
+    command: Command<'a>,
+    numbers: &[Number],
+) -> Result<Command<'a>, AllocError> {
+    let mut command = command;
+    for number in numbers {
+        command = command.arg(number_arg(alloc, number)?)?;
+    }
+    Ok(command)
+}
+
+/// A command with its option for JSON, where it has one.
+fn with_json<'a>(
+    alloc: Global,
+    command: Command<'a>,
+    has_json: bool,
+) -> Result<Command<'a>, AllocError> {
+    if !has_json {
+        return Ok(command);
+    }
+    let json = Arg::new(alloc, "json")
+        .long("json")
+        .help("Print lines of JSON")
+        .action(ArgAction::SetTrue);
+    command.arg(json)
+}
+
+/// The command of a form, without queries.
+fn plain_command<'a>(alloc: Global, form: &Form) -> Result<Command<'a>, AllocError> {
+    let command = plain(alloc, form.name, form.about, form.example);
+    let command = with_numbers(alloc, command, form.numbers)?;
+    with_json(alloc, command, form.has_json)
+}
+
+fn query_command<'a>(alloc: Global, query: &Form) -> Result<Command<'a>, AllocError> {
+    let command = Command::new(alloc, query.name).about(query.about);
+    with_numbers(alloc, command, query.numbers)
+}
+
+fn with_queries<'a>(alloc: Global, command: Command<'a>) -> Result<Command<'a>, AllocError> {
+    let mut command = command.subcommand_required(true);
+    for query in &QUERIES {
+        command = command.subcommand(query_command(alloc, query)?)?;
+    }
+    Ok(command)
+}
+
+fn form_command<'a>(alloc: Global, form: &Form) -> Result<Command<'a>, AllocError> {
+    let command = plain_command(alloc, form)?;
+    if form.has_queries {
+        return with_queries(alloc, command);
+    }
+    Ok(command)
+}
+
+/// A command with those of all forms.
+pub(crate) fn with_forms<'a>(
+    alloc: Global,
+    command: Command<'a>,
+) -> Result<Command<'a>, AllocError> {
+    let mut command = command;
+    for form in &FORMS {
+        command = command.subcommand(form_command(alloc, form)?)?;
+    }
+    Ok(command)
+}

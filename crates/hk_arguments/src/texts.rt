@@ -1,0 +1,182 @@
+//! What the help says.
+
+pub(crate) const AT_ABOUT: &str =
+    "Absorb the item frames of standard input, and print a row at a time";
+
+pub(crate) const AT_EXAMPLE: &str = "Example:
+  hkrep at --log 7 --streams 1 1 1 5 < examples/first.bin
+prints '9 41': at time 1 the row of table 1, key 5 has the tag 9 and the body 41 (hexadecimal). \
+It prints 'none' where there is no such row, and 'refused 26 readable R' where the replica can \
+be read up to R only.";
+
+pub(crate) const ASK_ABOUT: &str =
+    "Absorb the item frames of standard input, and print the answer to a query at a time";
+
+pub(crate) const ASK_EXAMPLE: &str = "Example:
+  hkrep ask --log 7 --streams 1 1 range 1 0 9 < examples/first.bin
+prints '5 9 41', the key, tag and body of each row of table 1 with a key from 0 to 9 at time 1, and \
+then 'rows 1'. What is refused is printed as at 'hkrep at'. With --port it asks a node that runs, and \
+reads at the readable mark where no time is given:
+  hkrep ask --port 47110 get 1 5";
+
+pub(crate) const GET_ABOUT: &str = "The row at a key: prints 'TAG BODY' or 'none'";
+
+pub(crate) const RANGE_ABOUT: &str =
+    "The rows with keys from LOW to HIGH: prints 'KEY TAG BODY' for each, and 'rows COUNT'";
+
+pub(crate) const TAG_ABOUT: &str =
+    "The rows with a tag: prints 'KEY TAG BODY' for each, and 'rows COUNT'";
+
+pub(crate) const COUNT_ABOUT: &str = "How many rows there are: prints 'count COUNT'";
+
+pub(crate) const FRONT_ABOUT: &str =
+    "Absorb the item frames of standard input, and print from where to where can be read";
+
+pub(crate) const FRONT_EXAMPLE: &str = "Example:
+  hkrep front --log 7 --streams 1 < examples/first.bin
+prints 'front horizon 0 readable 1': times from 0 to 1 can be read. Of a node that runs:
+  hkrep front --port 47110";
+
+pub(crate) const STATUS_ABOUT: &str =
+    "Absorb the item frames of standard input, and print how far each stream is";
+
+pub(crate) const STATUS_EXAMPLE: &str = "Example:
+  hkrep status --log 7 --streams 2 < examples/first.bin
+prints
+  stream 1 prefix 1 extra 0 closed 1 waiting 0 open
+  stream 2 prefix 0 extra 0 closed 0 waiting 0 holds
+  front horizon 0 readable 0
+Of each stream: the number up to which all entries are there, how many are there above it, the time \
+up to which marks close it, how many marks wait for entries, and whether it holds the readable mark \
+back ('holds'), is closed further ('open') or is retired ('retired'). Of a node that runs:
+  hkrep status --port 47110";
+
+pub(crate) const EXPLAIN_ABOUT: &str = "Print what the numbers of refusals mean, and what to do";
+
+pub(crate) const EXPLAIN_EXAMPLE: &str = "Example:
+  hkrep explain 26
+prints the number, the name, the meaning and what to do. Without a number it lists all. A number that \
+no refusal has ends with status 2.";
+
+pub(crate) const ITEMS_ABOUT: &str = "Print each item of the frames of standard input";
+
+pub(crate) const ITEMS_EXAMPLE: &str = "Example:
+  hkrep items < examples/first.bin
+prints
+  commit log 7 stream 1 number 1 time 1 ends 0 rows 1
+  mark log 7 stream 1 n 1 m 1
+A fault of the input is printed after the items before it, as 'refused NUMBER'. With --json each item is \
+printed whole, as a line of JSON that 'hkrep frames' reads; docs/FORMATS.md has the lines.";
+
+pub(crate) const REWRITE_ABOUT: &str = "Write the item frames of standard input in version 2";
+
+pub(crate) const REWRITE_EXAMPLE: &str = "Example:
+  hkrep rewrite < examples/first.bin > second.bin
+writes the same items, their ends and rows in groups of one table. Where the input has a fault no frame is \
+written, and standard error says why.";
+
+pub(crate) const WORLD_ABOUT: &str =
+    "Play the script of standard input: a primary, and replicas that take its items";
+
+pub(crate) const WORLD_EXAMPLE: &str =
+    "The first line makes the world; the others are commands, one a line, in any order:
+  world LOG STREAMS REPLICAS      1 to 64 streams, 1 to 16 replicas, which are counted from 1
+  begin SLOT                      a transaction begins in a slot, 1 to 16, and reads at the last commit
+  put SLOT TABLE KEY TAG BODY     it puts a row; the body is - or pairs of hexadecimal digits
+  remove SLOT TABLE KEY           it removes a row
+  commit SLOT STREAM              it commits on a stream; the primary emits an entry
+  mark STREAM                     the primary emits a mark of a stream: all so far is told
+  retire STREAM                   it emits the last mark of a stream, which takes no more commits
+  absorb REPLICA ITEM             a replica takes an item; items are counted from 1 as they are emitted
+  batch REPLICA ITEM ITEM ..      a replica takes up to 64 items at once
+  prune REPLICA TIME              a replica forgets what is below a time
+  merge TO FROM                   a replica takes all that another has
+  delta TO FROM BASE              a replica takes what another learnt since a time
+  ask REPLICA TIME get TABLE KEY           the row at a key; replica 0 is the primary
+  ask REPLICA TIME range TABLE LOW HIGH    the rows of a range of keys
+  ask REPLICA TIME tag TABLE TAG           the rows with a tag
+  ask REPLICA TIME count TABLE             how many rows there are
+  front REPLICA                   from where to where a replica can be read
+
+Example:
+  hkrep world <<END
+  world 7 1 1
+  begin 1
+  put 1 1 5 9 41
+  commit 1 1
+  mark 1
+  absorb 1 1
+  front 1
+  absorb 1 2
+  ask 1 1 get 1 5
+  END
+plays the script line by line, and prints what each line is told: 'begun 1 at 0', 'ok', 'committed 1', \
+'mark stream 1 n 1 m 1', 'taken', 'front horizon 0 readable 0', 'taken' and '9 41'. A refused command \
+prints its refusal and changes nothing; a line that is no command prints 'line N: bad command' and ends \
+the script. Standard error says why. examples/world has longer scripts, and a README that tells their \
+stories.";
+
+pub(crate) const PUSH_ABOUT: &str =
+    "Send the requests of standard input to a node, and print each reply";
+
+pub(crate) const PUSH_EXAMPLE: &str =
+    "A request is sent once the reply to the one before was printed. 'refused' and a number ends it \
+where the input or a reply is malformed (1 to 10; 1 where the replies end), a read (91) or a \
+write (92) fails, or nobody listens (93). docs/PROTOCOL.md says what goes over a link.
+
+Example, a node and a feeder:
+  hkrep serve --log 7 --streams 1 --port 47110 --links 1 &
+  hkrep push --port 47110 < examples/links/first.bin
+The node prints 'listening 47110' once links can be opened. The feeder sends two items and asks \
+for a row: it prints 'done 2' and '9 41'. When the links have ended, the node prints 'ended 0' for \
+each, or the number of what ended it.";
+
+pub(crate) const FRAMES_ABOUT: &str =
+    "Write the frames of the items of standard input, one in JSON a line";
+
+pub(crate) const FRAMES_EXAMPLE: &str = "Example:
+  hkrep items --json < examples/first.bin | hkrep frames > second.bin
+writes the same items in version 2. A line that is no item ends it with status 1: standard error has its \
+number, the column and what was expected, and nothing is written for it.";
+
+pub(crate) const SAVE_ABOUT: &str = "Write all that a node holds, for 'hkrep load'";
+
+pub(crate) const SAVE_EXAMPLE: &str = "Example:
+  hkrep save --port 47110 > whole.bin
+writes one frame. With --json it prints a line of the head and one of each version.";
+
+pub(crate) const LOAD_ABOUT: &str = "Hand what 'hkrep save' wrote to a node";
+
+pub(crate) const LOAD_EXAMPLE: &str = "Example:
+  hkrep load --port 47110 < whole.bin
+prints 'done' and the number of the node's operation.";
+
+pub(crate) const PULL_ABOUT: &str = "Have a node take what another one has learnt";
+
+pub(crate) const PULL_EXAMPLE: &str = "Example:
+  hkrep pull --port 47111 --from 47110
+asks the node on 47110 for a delta since the readable mark of the one on 47111, or for the whole where it \
+can't cut one there, hands it to that one, and prints 'done' and the number of its operation.";
+
+pub(crate) const PRUNE_ABOUT: &str = "Have a node forget what no one reads from a time on";
+
+pub(crate) const PRUNE_EXAMPLE: &str = "Example:
+  hkrep prune --port 47110 1
+prints 'done' and the number of the node's operation.";
+
+pub(crate) const FEED_ABOUT: &str = "Hand the item frames of standard input to a node";
+
+pub(crate) const FEED_EXAMPLE: &str = "Example:
+  hkrep feed --port 47110 < examples/first.bin
+prints 'done' and the number of the node's last operation. Standard error says how many items a second went. \
+The first batch that is refused ends it; those before it are taken.";
+
+pub(crate) const SHELL_ABOUT: &str = "Answer the lines of standard input from a node that runs";
+
+pub(crate) const SHELL_EXAMPLE: &str = "Example:
+  echo 'range 1 0 9' | hkrep shell --port 47110
+prints the rows of table 1 with a key from 0 to 9 at the readable mark as a table, and how many they are. The lines:
+  get TABLE KEY | range TABLE LOW HIGH | tag TABLE TAG | count TABLE      at the readable mark
+  at TIME get TABLE KEY                                                   the same at a time
+  front | status | help
+On a terminal a prompt stands before each line. A refusal is printed, and the next line goes on.";

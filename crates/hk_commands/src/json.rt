@@ -1,0 +1,218 @@
+//! The command `frames`.
+
+ghost use Rattle.std.specs.Prelude.{◌≤◌};
+
+use crate::frames::{MOST_READS, PIECE_BYTES};
+use crate::output::{Form, Output};
+use crate::stop::Stop;
+use hk_codec::encode;
+use hk_json::{BadItem, item_of};
+use hk_types::Refusal;
+use std::alloc::{AllocError, Global};
+use std::io::{Read, Write};
+
+/// The most bytes of a line, without its line feed: about twice those of the longest item.
+const MOST_JSON_BYTES: usize = 16_777_216;
+
+/// How many bytes of frames are gathered before they are written.
+const GATHERED_BYTES: usize = 65_536;
+
+/// What a line has to be.
+const WANTED: &str = "{\"commit\":{\"log\":\"7\",\"stream\":1,\"number\":\"1\",\"time\":\"1\",\
+\"ends\":[{\"table\":1,\"key\":\"5\",\"born\":\"1\"}],\"rows\":[{\"table\":1,\"key\":\"5\",\"tag\":9,\"body\":\"41\"}]}} \
+or {\"mark\":{\"log\":\"7\",\"stream\":1,\"n\":\"1\",\"m\":\"1\"}}";
+
+/// What is wrong with a line.
+#[derive(Clone, Copy, Drop)]
+pub(crate) enum LineFault {
+    /// Its bytes are no text.
+    NoText,
+    /// It has more than `MOST_JSON_BYTES` bytes.
+    TooLong,
+    /// It is no item.
+    Item(BadItem),
+}
+
+/// Adds what is wrong, without the place that the words of an error of JSON end with.
+fn put_what(alloc: Global, fault: &LineFault, out: &mut String) -> Result<(), AllocError> {
+    match fault {
+        LineFault::NoText => out.push_str("its bytes are no text"),
+        LineFault::TooLong => write!(out, "it has more than {MOST_JSON_BYTES} bytes"),
+        LineFault::Item(BadItem::Memory) => out.push_str("out of memory"),
+        LineFault::Item(BadItem::Rule(rule)) => write!(out, "no item: {rule}"),
+        LineFault::Item(BadItem::Text(error)) => {
+            let text = format!(in alloc; "{error}")?;
+            match text.rsplit_once(" at line ") {
+                Some((what, _place)) => out.push_str(what),
+                None => out.push_str(&text),
+            }
+        }
+    }
+}
+
+/// Adds a line that says at which column a line is bad and why, and what was expected. The only error is out of memory;
+/// then a part of the line may stand. Cost: O(1).
+pub(crate) fn put_bad_item(
+    alloc: Global,
+    number: u64,
+    fault: &LineFault,
+    out: &mut String,
+) -> Result<(), AllocError> {
+    let column = match fault {
+        LineFault::Item(bad) => bad.column(),
+        _whole => 1,
+    };
+    write!(out, "line {number}, column {column}: ")?;
+    put_what(alloc, fault, out)?;
+    writeln!(out, "; expected: {WANTED}")
+}
+
+/// Lines on their way to frames.
+#[derive(Drop)]
+struct Framer {
+    alloc: Global,
+    /// The line that is being read, and its number, counted from 1.
+    line: Vec<u8>,
+    number: u64,
+    /// The frames of the lines before it that are not written yet.
+    frames: Vec<u8>,
+}
+
+impl Framer {
+    fn new(alloc: Global) -> Framer {
+        Framer {
+            alloc,
+            line: Vec::new(alloc),
+            number: 1,
+            frames: Vec::new(alloc),
+        }
+    }
+
+    /// Adds the frame of the line that was read, or says what is wrong with it.
+    fn add_item(&mut self) -> Result<(), LineFault> {
+        let Ok(text) = str::from_utf8(&self.line) else {
+            return Err(LineFault::NoText);
+        };
+        let item = match item_of(self.alloc, text) {
+            Ok(item) => item,
+            Err(bad) => return Err(LineFault::Item(bad)),
+        };
+        match encode(&item, &mut self.frames) {
+            Ok(()) => Ok(()),
+            Err(_memory) => Err(LineFault::Item(BadItem::Memory)),
+        }
+    }
+
+    /// Writes the frames of the lines before, tells what is wrong with this one, and stops.
+    fn stop_of<W: Write, E: Write>(
+        &mut self,
+        fault: &LineFault,
+        output: &mut Output<'_, W, E>,
+    ) -> Stop {
+        if let Err(stop) = output.send(&self.frames) {
+            return stop;
+        }
+        if matches!(fault, LineFault::Item(BadItem::Memory)) {
+            return Stop::Refused(Refusal::Memory);
+        }
+        output.tell_item(self.number, fault);
+        Stop::BadCommand(self.number)
+    }
+
+    /// Adds the frame of the line that was read, where it is not empty, and writes what was gathered once that is much.
+    fn end_line<W: Write, E: Write>(&mut self, output: &mut Output<'_, W, E>) -> Result<(), Stop> {
+        if self.line.is_empty() {
+            return Ok(());
+        }
+        if let Err(fault) = self.add_item() {
+            return Err(self.stop_of(&fault, output));
+        }
+        self.line.clear();
+        if self.frames.len() < GATHERED_BYTES {
+            return Ok(());
+        }
+        self.send(output)
+    }
+
+    fn send<W: Write, E: Write>(&mut self, output: &mut Output<'_, W, E>) -> Result<(), Stop> {
+        output.send(&self.frames)?;
+        self.frames.clear();
+        Ok(())
+    }
+
+    fn take<W: Write, E: Write>(
+        &mut self,
+        byte: u8,
+        output: &mut Output<'_, W, E>,
+    ) -> Result<(), Stop> {
+        if byte == b'\n' {
+            self.end_line(output)?;
+            self.number = self.number.saturating_add(1);
+            return Ok(());
+        }
+        if self.line.len() >= MOST_JSON_BYTES {
+            return Err(self.stop_of(&LineFault::TooLong, output));
+        }
+        self.line
+            .push(byte)
+            .map_err(|_full| Stop::Refused(Refusal::Memory))
+    }
+
+    fn take_all<W: Write, E: Write>(
+        &mut self,
+        bytes: &[u8],
+        output: &mut Output<'_, W, E>,
+    ) -> Result<(), Stop> {
+        for byte in bytes {
+            self.take(*byte, output)?;
+        }
+        Ok(())
+    }
+}
+
+/// Writes the frames of the lines of the input up to its end, or to what stops it first.
+fn frame_all<I: Read, W: Write, E: Write>(
+    alloc: Global,
+    input: &mut I,
+    output: &mut Output<'_, W, E>,
+) -> Result<(), Stop> {
+    let mut framer = Framer::new(alloc);
+    let mut piece = vec![in alloc; 0u8; PIECE_BYTES]?;
+    for _ in 0..MOST_READS {
+        let count = match input.read(piece.as_mut_slice()) {
+            Ok(count) => count,
+            Err(_error) => return Err(Stop::ReadFault),
+        };
+        if count == 0 {
+            framer.end_line(output)?;
+            return framer.send(output);
+        }
+        framer.take_all(&piece[..count], output)?;
+    }
+    Err(Stop::ReadFault)
+}
+
+/// Writes the frame, of version 2, of the item on each line of JSON of the input, up to its end, and answers the status 0.
+/// Empty lines are passed over. Where something stops it first, only frames of whole lines before it are written, `errors`
+/// is told why, and the status is 1:
+///
+/// - the number and column of a line that is no item, with what was expected there; nothing is written for it;
+/// - 90 where memory ran out;
+/// - 91 where a read failed, or 2^32 reads did not come to the end;
+/// - that the output can't be written, where a write failed or took no bytes.
+///
+/// It holds one line, and up to 65,536 bytes of frames and one more frame. Cost: O(n), n bytes of the input.
+pub fn run_frames<I: Read, W: Write, E: Write>(
+    alloc: Global,
+    input: &mut I,
+    writer: &mut W,
+    errors: &mut E,
+) -> u8
+    ensures { result ≤ 1 }
+{
+    let mut output = Output::of_form(alloc, Form::Bytes, writer, errors);
+    match frame_all(alloc, input, &mut output) {
+        Ok(()) => 0,
+        Err(stop) => output.stop(stop),
+    }
+}

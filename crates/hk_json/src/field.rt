@@ -1,0 +1,135 @@
+//! The fields of lines.
+
+use hk_types::{MOST_BODY_BYTES, StreamNo, Time};
+use serde::{Described, Deserialize, Deserializer, Format, Serialize, Serializer};
+use std::alloc::{AllocError, Global};
+
+/// A number of 64 bits, as a string.
+#[derive(Clone, Copy)]
+pub(crate) struct Wide(pub(crate) u64);
+
+impl Described for Wide {}
+
+impl Serialize for Wide {
+    fn serialize<S: Serializer>(&self, out: &mut S) -> Result<(), S::Error> {
+        out.collect_str(&self.0)
+    }
+}
+
+/// The number that decimal digits alone make.
+fn number_of(digits: &str) -> Option<u64> {
+    if digits.is_empty() || !digits.bytes().all(|byte| byte.is_ascii_digit()) {
+        return None;
+    }
+    digits.parse::<u64>().ok()
+}
+
+impl<'de> Deserialize<'de> for Wide {
+    fn deserialize<F: Format>(
+        alloc: Global,
+        from: &mut Deserializer<'de, '_, F>,
+    ) -> Result<Wide, F::Error> {
+        let digits = from.string(alloc)?;
+        match number_of(&digits) {
+            Some(number) => Ok(Wide(number)),
+            None => Err(from.custom("no string of a 64-bit number")),
+        }
+    }
+}
+
+/// A time, as a string.
+#[derive(Clone, Copy)]
+pub(crate) struct Moment(pub(crate) Time);
+
+impl Described for Moment {}
+
+impl Serialize for Moment {
+    fn serialize<S: Serializer>(&self, out: &mut S) -> Result<(), S::Error> {
+        Wide(self.0.number()).serialize(out)
+    }
+}
+
+impl<'de> Deserialize<'de> for Moment {
+    fn deserialize<F: Format>(
+        alloc: Global,
+        from: &mut Deserializer<'de, '_, F>,
+    ) -> Result<Moment, F::Error> {
+        let number = Wide::deserialize(alloc, from)?;
+        match Time::new(number.0) {
+            Ok(time) => Ok(Moment(time)),
+            Err(_fault) => Err(from.custom("a time is at most 2^62")),
+        }
+    }
+}
+
+/// The number of a stream.
+#[derive(Clone, Copy)]
+pub(crate) struct Stream(pub(crate) StreamNo);
+
+impl Described for Stream {}
+
+impl Serialize for Stream {
+    fn serialize<S: Serializer>(&self, out: &mut S) -> Result<(), S::Error> {
+        self.0.number().serialize(out)
+    }
+}
+
+impl<'de> Deserialize<'de> for Stream {
+    fn deserialize<F: Format>(
+        alloc: Global,
+        from: &mut Deserializer<'de, '_, F>,
+    ) -> Result<Stream, F::Error> {
+        let number = u16::deserialize(alloc, from)?;
+        match StreamNo::new(number) {
+            Ok(stream) => Ok(Stream(stream)),
+            Err(_fault) => Err(from.custom("a stream is 1 to 64")),
+        }
+    }
+}
+
+/// A body, as hexadecimal digits.
+#[derive(Drop)]
+pub(crate) struct Body(String);
+
+impl Body {
+    /// The digits of these bytes.
+    pub(crate) fn of(alloc: Global, bytes: &[u8]) -> Result<Body, AllocError> {
+        Ok(Body(hex::encode(alloc, bytes)?))
+    }
+
+    /// The bytes of these digits.
+    pub(crate) fn bytes(&self, alloc: Global) -> Option<Vec<u8>> {
+        hex::decode(alloc, &self.0).ok()
+    }
+}
+
+impl Described for Body {}
+
+impl Serialize for Body {
+    fn serialize<S: Serializer>(&self, out: &mut S) -> Result<(), S::Error> {
+        out.str(&self.0)
+    }
+}
+
+/// Whether a byte is a lower-case hexadecimal digit.
+fn is_digit(byte: u8) -> bool {
+    byte.is_ascii_digit() || (b'a'..=b'f').contains(&byte)
+}
+
+/// Whether these are the digits of a body.
+fn are_digits(digits: &str) -> bool {
+    digits.len() <= 2 * MOST_BODY_BYTES && digits.len() % 2 == 0 && digits.bytes().all(is_digit)
+}
+
+impl<'de> Deserialize<'de> for Body {
+    fn deserialize<F: Format>(
+        alloc: Global,
+        from: &mut Deserializer<'de, '_, F>,
+    ) -> Result<Body, F::Error> {
+        let digits = from.string(alloc)?;
+        if are_digits(&digits) {
+            return Ok(Body(digits));
+        }
+        Err(from.custom("no pairs of 0 to 9 and a to f"))
+    }
+}
