@@ -31,7 +31,11 @@ def listings():
     blocks = [(page.name, block) for page in PAGES if page.parent.name in ("uses", "examples")
               for block in re.findall(r"```(?:rust|python)\n(.*?)\n```", page.read_text(), re.S)]
     problems = [f"{name}: {block.splitlines()[0]}" for name, block in blocks if not any(block in text for text in texts)]
-    report("what uses/README.md lists are lines of files", problems or ([] if len(blocks) >= 3 else ["fewer than three listings"]))
+    texts = [path.read_text() for path in (ROOT / "crates" / "hk_node").glob("**/*") if path.suffix in (".rt", ".antt", ".edit")]
+    changed = re.findall(r"```(?:rust|antt|)\n((?:    |file|--|effect|abbrev).*?)\n```", (ROOT / "docs" / "CONTRIBUTING.md").read_text(), re.S)
+    problems += [f"CONTRIBUTING.md: {block.splitlines()[0]}" for block in changed if not any(block in text for text in texts)]
+    problems += [] if len(blocks) >= 3 and len(changed) >= 4 else [f"{len(blocks)} and {len(changed)} listings"]
+    report("what uses/README.md and docs/CONTRIBUTING.md list are lines of files", problems)
 
 
 def pictures():
