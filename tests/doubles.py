@@ -1,5 +1,5 @@
 #!/usr/bin/env python3
-"""Nothing is said twice: no sentence of nine words or more stands in two pages, nor twice in one, and no run of sixteen words.
+"""Nothing is said twice: no nine words of a sentence stand in two pages one after the other, and no sentence of nine words twice in one.
 
     tests/doubles.py           a line for each that does, and at the end 'N passed, M failed'
     tests/doubles.py PAGE ..   of these pages alone
@@ -14,7 +14,6 @@ from checks import ended, report
 
 ROOT = pathlib.Path(__file__).resolve().parent.parent
 LEAST = 9
-RUN = 16
 
 
 def pages():
@@ -66,15 +65,15 @@ def doubled(texts):
 
 
 def runs(texts):
-    """Each run of sixteen words inside sentences that stands in two pages: the longest, once."""
+    """Where a run of nine words inside sentences stands in two pages: its first words, once."""
     first, found = {}, []
     for name, text in texts.items():
         for sentence in sentences(text):
-            last = -RUN
-            for at in range(len(sentence) - RUN + 1):
-                run = sentence[at:at + RUN]
+            last = -LEAST
+            for at in range(len(sentence) - LEAST + 1):
+                run = sentence[at:at + LEAST]
                 other = first.setdefault(run, name)
-                if other != name and at > last + RUN:
+                if other != name and at > last + LEAST:
                     found.append(f"{other}, {name}: {' '.join(run)}")
                     last = at
     return found
@@ -83,7 +82,7 @@ def runs(texts):
 def main(names):
     texts = {name: text for name, text in pages().items() if not names or name in names}
     report("no sentence of nine words or more stands twice", doubled(texts))
-    report("no run of sixteen words stands in two pages", runs(texts))
+    report("no nine words of a sentence stand in two pages", runs(texts))
     return ended()
 
 
