@@ -96,7 +96,7 @@ impl World {
     pub fn log(&self) -> &[Item]
         ensures { result ≡ self.now.world.emitted }
     {
-        self.primary.items()
+        self.primary.log()
     }
 
     /// How many replicas there are. They are numbered from 1.

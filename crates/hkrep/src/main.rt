@@ -10,11 +10,14 @@ use hk_cli::{
     run_rewrite, run_serve, run_status, run_world,
 };
 use std::alloc::Global;
-use std::fs::File;
-use std::io;
+use std::fs::Files;
 use std::io::{IsTerminal, Read, Write};
+use std::net::{Net, TcpListener, TcpStream};
 use std::process::ExitCode;
-use std::rt::Env;
+use std::rt::{Clock, Env};
+use std::sync::Wait;
+use std::thread::Threads;
+use std::{fs, io};
 
 /// What is told where the help can't be written.
 const NO_OUTPUT: &[u8] = b"stopped: the output can't be written; see where standard output goes\n";
@@ -109,8 +112,8 @@ fn tell_no_file<E: Write>(alloc: Global, name: &str, error: &io::Error, errors: 
 }
 
 /// The status of a script whose items are written to a file of this name, where one is given.
-fn run_script<I: Read, W: Write, E: Write>(
-    rt: &HostRuntime,
+fn run_script<R: Files + Alloc<A = Global>, I: Read, W: Write, E: Write>(
+    rt: &R,
     input: &mut I,
     items: Option<&str>,
     output: &mut W,
@@ -118,9 +121,9 @@ fn run_script<I: Read, W: Write, E: Write>(
 ) -> u8 {
     let alloc = rt.alloc();
     let Some(name) = items else {
-        return run_world(alloc, input, None::<&mut File>, output, errors);
+        return run_world(alloc, input, None::<&mut R::File>, output, errors);
     };
-    match File::create(rt, name) {
+    match fs::create(rt, name) {
         Ok(mut file) => run_world(alloc, input, Some(&mut file), output, errors),
         Err(error) => {
             tell_no_file(alloc, name, &error, errors);
@@ -130,13 +133,17 @@ fn run_script<I: Read, W: Write, E: Write>(
 }
 
 /// The status of a call over standard output and these.
-fn run<I: Read, E: Write>(
-    rt: &HostRuntime,
+fn run<R, I: Read, E: Write>(
+    rt: &R,
     input: &mut I,
     is_terminal: bool,
     errors: &mut E,
     call: Call<'_>,
-) -> u8 {
+) -> u8
+where
+    R: Print + Alloc<A = Global> + Clock + Files,
+    R: Net<Listener = TcpListener, Stream = TcpStream> + Threads + Wait + Sync,
+{
     let mut output = io::writer(rt);
     match call {
         Call::Serve {
