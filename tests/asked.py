@@ -102,8 +102,8 @@ def bad_lines():
         problems += differ([(name, (out, status, is_told or told), (before, 1, True))])
     report("a bad line of JSON is told with its number, column and what was expected", problems)
     column = run("frames", data=GOOD.replace('"n":"1"', '"n":"1x"').encode())[2]
-    stands = GOOD.index('"n":"1"') + len('"n":"1x"')
-    report("the column is where the reader stands", [] if f"line 1, column {stands}" in column or f"column {stands + 1}:" in column else [column])
+    stands = GOOD.index('"n":"1"') + len('"n":') + 1
+    report("the column is that of the value that is wrong", [] if f"line 1, column {stands}: " in column else [column])
 
 
 def json_answers():
@@ -129,7 +129,7 @@ def over_a_link():
     rows = [(1, key, 9, bytes([key])) for key in range(9)]
     frames = say.new_entry(1, 1, rows, stream=1) + say.new_entry(1, 2, [(1, 3, 8, b"")], [(1, 3, 1)], stream=2) + say.mark(1, 1, 5, version=2) + say.mark(2, 1, 4, version=2)
     words = ["--log", 7, "--streams", 2]
-    with Node(30, streams=2) as node, Node(30, streams=2) as other:
+    with Node(60, streams=2) as node, Node(60, streams=2) as other:
         to = ["--port", node.port]
         fed = run("feed", *to, "--batch", 2, data=frames)
         pairs += [("feed", fed[:2], (b"done 3\n", 0)), ("the rate is told", fed[2].startswith("fed 4 items in ") and fed[2].endswith(" a second\n"), True)]
