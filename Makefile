@@ -1,4 +1,5 @@
-# make try    runs the first example without any proof, in about a minute
+# make quick  makes bin/hkrep-unproved: the program without any proof, in a minute or three, which says so at --version
+# make try    the same, and runs the first example with it
 # make        proves and builds bin/hkrep
 # make demo   the same, and runs the first example
 # make serve-demo   the same, and a node that two feeders fill, with a second node that catches up
@@ -12,17 +13,24 @@
 
 PREFIX = /usr/local
 
-.PHONY: all try test lib install demo serve-demo redis-demo look compare bench clean
+.PHONY: all quick try test lib install demo serve-demo redis-demo look compare bench clean
 
 CASES = 10000
 SEED = 1
 
 all: bin/hkrep
 
+SOURCES := $(shell find crates -name out -prune -o -name must-fail -prune -o -name 'hk_tests_*' -prune -o -type f -print) crates.txt HANDLES
+
 # made anew where a source changed
-bin/hkrep: $(shell find crates -name out -prune -o -name must-fail -prune -o -name 'hk_tests_*' -prune -o -type f -print) crates.txt HANDLES tests/build
+bin/hkrep: $(SOURCES) tests/build
 	tests/build
 	touch bin/hkrep
+
+bin/hkrep-unproved: $(SOURCES) VERSION tests/quick
+	tests/quick
+
+quick: bin/hkrep-unproved
 
 lib:
 	tests/library
@@ -36,8 +44,8 @@ install:
 	ln -sf libhekaton.so.0 $(DESTDIR)$(PREFIX)/lib/libhekaton.so
 	sed 's,^prefix=.*,prefix=$(PREFIX),' lib/hekaton.pc > $(DESTDIR)$(PREFIX)/lib/pkgconfig/hekaton.pc
 
-try:
-	cd crates/hkrep && rt try -- at --log 7 --streams 1 1 1 5 < ../../examples/first.bin
+try: bin/hkrep-unproved
+	bin/hkrep-unproved at --log 7 --streams 1 1 1 5 < examples/first.bin
 
 test:
 	tests/all
