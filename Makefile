@@ -8,12 +8,13 @@
 # make test   the one test command: every proof from nothing, the must-fail edits, the tests, then the end-to-end checks
 # make compare CASES=100000 SEED=7   that many random cases beside tests/reference.py, once bin/hkrep is built
 # make lib    proves and builds the library for programs in C and other languages: lib/libhekaton.a and .so (docs/EMBEDDING.md)
-# make install PREFIX=/usr/local   puts the program, the library, its header and hekaton.pc there; they have to be built
+# make install PREFIX=/usr/local DESTDIR=   puts the program, the library, the Python client, manual pages, completions and examples there
+# make package   makes a Debian package, a plain tar and a wheel in dist/ (docs/RELEASE.md); for both, make and make lib, or make test, go before
 # make bench  times the built program (by hand; never part of the gate's verdict)
 
 PREFIX = /usr/local
 
-.PHONY: all quick try test lib install demo serve-demo redis-demo look compare bench clean
+.PHONY: all quick try test lib install package demo serve-demo redis-demo look compare bench clean
 
 CASES = 10000
 SEED = 1
@@ -36,13 +37,10 @@ lib:
 	tests/library
 
 install:
-	install -d $(DESTDIR)$(PREFIX)/bin $(DESTDIR)$(PREFIX)/lib/pkgconfig $(DESTDIR)$(PREFIX)/include
-	install -m 755 bin/hkrep $(DESTDIR)$(PREFIX)/bin/hkrep
-	install -m 644 include/hekaton.h $(DESTDIR)$(PREFIX)/include/hekaton.h
-	install -m 644 lib/libhekaton.a $(DESTDIR)$(PREFIX)/lib/libhekaton.a
-	install -m 755 lib/libhekaton.so $(DESTDIR)$(PREFIX)/lib/libhekaton.so.0
-	ln -sf libhekaton.so.0 $(DESTDIR)$(PREFIX)/lib/libhekaton.so
-	sed 's,^prefix=.*,prefix=$(PREFIX),' lib/hekaton.pc > $(DESTDIR)$(PREFIX)/lib/pkgconfig/hekaton.pc
+	deploy/install --prefix "$(PREFIX)" --destdir "$(DESTDIR)"
+
+package:
+	deploy/package
 
 try: bin/hkrep-unproved
 	bin/hkrep-unproved at --log 7 --streams 1 1 1 5 < examples/first.bin
@@ -69,4 +67,4 @@ bench: bin/hkrep
 	bench/run
 
 clean:
-	rm -rf bin lib crates/*/out
+	rm -rf bin lib dist crates/*/out

@@ -1,4 +1,5 @@
 """The manual pages, in roff's man(7), from what the program says itself: hkrep.1 and one of each command."""
+import textwrap
 import time
 
 from helped import told
@@ -10,6 +11,11 @@ def escaped(text):
     """Words of a text, with nothing in them that roff would take for its own."""
     text = text.replace("\\", "\\e").replace("-", "\\-").replace("'", "\\(aq").replace("`", "\\(ga").replace("^", "\\(ha").replace("~", "\\(ti")
     return f"\\&{text}" if text.startswith(".") else text
+
+
+def flowing(text):
+    """A text that flows, in lines of a length that can be read in the source too."""
+    return [escaped(line) for line in textwrap.wrap(text, 72, break_long_words=False, break_on_hyphens=False)]
 
 
 def paragraphs(lines):
@@ -24,7 +30,7 @@ def paragraphs(lines):
         if not line.strip():
             out += [".PP"] if out and out[-1] != ".PP" else []
         else:
-            out.append(escaped(line[2:] if is_verbatim else line))
+            out += [escaped(line[2:])] if is_verbatim else flowing(line)
     out += [".fi", ".RE"] if verbatim else []
     while out and out[0] == ".PP":
         out.pop(0)
@@ -34,7 +40,7 @@ def paragraphs(lines):
 
 
 def listed(entries):
-    return [line for it in entries for line in (".TP", f"\\fB{escaped(it.name)}\\fR", escaped(it.said))]
+    return [line for it in entries for line in (".TP", f"\\fB{escaped(it.name)}\\fR", *flowing(it.said))]
 
 
 def text_of(help_):
@@ -62,8 +68,13 @@ def refusals(program):
     out = [".SH REFUSALS"]
     for line in told(program, "explain").splitlines():
         number, _, said = line.strip().partition(" ")
-        out += [".TP", f"\\fB{escaped(number)}\\fR", escaped(said)]
+        out += [".TP", f"\\fB{escaped(number)}\\fR", *flowing(said)]
     return out
+
+
+def places(files):
+    """The files that whoever runs the program may look for."""
+    return [".SH FILES", *(line for path, said in files for line in (".TP", f"\\fI{escaped(path)}\\fR", *flowing(said)))]
 
 
 def page(help_, version, seconds, more, others):
@@ -80,8 +91,8 @@ def page(help_, version, seconds, more, others):
     return f"{name}.1", "\n".join(out) + "\n"
 
 
-def pages(program, whole, version, seconds):
-    """All pages by their names."""
+def pages(program, whole, version, seconds, files):
+    """All pages by their names; `files` are paths with a word on each."""
     names = ["-".join(["hkrep", *it.words]) for it in whole.below]
-    made = [page(whole, version, seconds, refusals(program), names)]
+    made = [page(whole, version, seconds, [*refusals(program), *places(files)], names)]
     return dict(made + [page(it, version, seconds, [], ["hkrep"]) for it in whole.below])
