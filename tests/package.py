@@ -27,8 +27,8 @@ WORK = pathlib.Path(tempfile.mkdtemp(prefix="package"))
 CLONE, BARE = WORK / "clone", WORK / "bare"
 DEB = CLONE / "dist" / f"vadungsil_{VERSION}_amd64.deb"
 SHARED = "usr/share/vadungsil"
-# who the commits of the clone are of
-AUTHOR = {f"GIT_{who}_{what}": said for who in ("AUTHOR", "COMMITTER") for what, said in (("NAME", "test"), ("EMAIL", "test@invalid"))}
+# who the commits of the clone are of; and this clone may be another's
+AUTHOR = {"GIT_CONFIG_COUNT": "1", "GIT_CONFIG_KEY_0": "safe.directory", "GIT_CONFIG_VALUE_0": "*"} | {f"GIT_{who}_{what}": said for who in ("AUTHOR", "COMMITTER") for what, said in (("NAME", "test"), ("EMAIL", "test@invalid"))}
 
 
 def run(command, **more):
