@@ -27,13 +27,14 @@ WORK = pathlib.Path(tempfile.mkdtemp(prefix="package"))
 CLONE, BARE = WORK / "clone", WORK / "bare"
 DEB = CLONE / "dist" / f"vadungsil_{VERSION}_amd64.deb"
 SHARED = "usr/share/vadungsil"
-# who the commits of the clone are of; and this clone may be another's
-AUTHOR = {"GIT_CONFIG_COUNT": "1", "GIT_CONFIG_KEY_0": "safe.directory", "GIT_CONFIG_VALUE_0": "*"} | {f"GIT_{who}_{what}": said for who in ("AUTHOR", "COMMITTER") for what, said in (("NAME", "test"), ("EMAIL", "test@invalid"))}
+# git's settings here: who the commits of the clone are of, and that this clone may be another's
+SETTINGS = "[user]\n\tname = test\n\temail = test@invalid\n[safe]\n\tdirectory = *\n"
+GIT = {"GIT_CONFIG_GLOBAL": str(WORK / "gitconfig"), "GIT_CONFIG_NOSYSTEM": "1"}
 
 
 def run(command, **more):
     """What a command printed, standard error behind it if it isn't told otherwise, and its status."""
-    env = {**os.environ, **AUTHOR, "LC_ALL": "C.UTF-8", "PYTHONDONTWRITEBYTECODE": "1", **more.pop("env", {})}
+    env = {**os.environ, **GIT, "LC_ALL": "C.UTF-8", "PYTHONDONTWRITEBYTECODE": "1", **more.pop("env", {})}
     shell = ["bash", "-c", command] if isinstance(command, str) else [str(it) for it in command]
     is_output_alone = more.pop("is_output_alone", False)
     done = subprocess.run(shell, stdin=subprocess.DEVNULL, capture_output=True, timeout=120, check=False, env=env, **more)
@@ -59,6 +60,7 @@ def typed(lines):
 
 def cloned():
     """A clone of the commit with what is changed beside it, with bin/ and lib/ and something to commit."""
+    (WORK / "gitconfig").write_text(SETTINGS, encoding="utf-8")
     run(["git", "clone", "-q", "--shared", ROOT, CLONE])
     changed = run(f"git -C '{ROOT}' diff --binary HEAD > '{WORK}/changed'; [ ! -s '{WORK}/changed' ] || git -C '{CLONE}' apply '{WORK}/changed'")
     for name in ("bin", "lib"):
