@@ -1,5 +1,6 @@
 """What `hkrep --help` and `hkrep help COMMAND` say, taken apart: of this the manual pages and the completions are made, so that each text
 is written once. Standard library only."""
+import functools
 import re
 import subprocess
 
@@ -60,6 +61,7 @@ class Help:
         return self.before[0].rstrip(".")
 
 
+@functools.lru_cache(maxsize=None)
 def told(program, *words):
     """What the program prints, under its own name wherever it stands."""
     done = subprocess.run(["hkrep", *words], executable=str(program), stdin=subprocess.DEVNULL, capture_output=True, text=True, timeout=60, check=False)

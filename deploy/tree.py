@@ -33,9 +33,13 @@ PAGES = (".md", ".svg", ".png", ".json")
 
 
 def git(*words):
-    """What git says, or nothing where this is no clone."""
-    done = subprocess.run(["git", *words], cwd=ROOT, capture_output=True, text=True, check=False)
-    return done.stdout.strip() if done.returncode == 0 else ""
+    """What git says, also to root of another's clone, or nothing where this is none."""
+    if not (ROOT / ".git").exists():
+        return ""
+    done = subprocess.run(["git", "-c", "safe.directory=*", *words], cwd=ROOT, capture_output=True, text=True, check=False)
+    if done.returncode:
+        sys.exit(f"git {' '.join(words)}: {done.stderr.strip()}")
+    return done.stdout.strip()
 
 
 def seconds():
