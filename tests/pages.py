@@ -3,12 +3,13 @@
 what the page says, the pictures are what their scripts draw, and each link leads to a file. Needs bin/hkrep, or bin/hkrep-unproved."""
 import pathlib
 import re
+import shutil
 import socket
 import subprocess
 import sys
 import tempfile
 
-from checks import ended, is_built, report
+from checks import ended, is_built, report, skip
 
 ROOT = pathlib.Path(__file__).resolve().parent.parent
 PROVED, UNPROVED = ROOT / "bin" / "hkrep", ROOT / "bin" / "hkrep-unproved"
@@ -203,6 +204,19 @@ def made():
     report("each make of a page is in the Makefile, and the demo prints its answer", problems + ([] if (demo, status) == ("9 41\n", 0) else [demo]))
 
 
+def toolchain():
+    """Each command of the toolchain that a page names is one that `rt help` has, and a kit that a page names is the one here."""
+    if not shutil.which("rt"):
+        skip("no toolchain is here: its commands in the pages are not looked for")
+        return
+    said = bash("rt help")[0]
+    named = {word for page in PAGES for word in re.findall(r"(?:`|^    )rt ([a-z-]+)", page.read_text(), re.M)}
+    problems = sorted(word for word in named if not re.search(rf"\b(?:rt |\|){word}\b", said))
+    kits = {kit for page in PAGES for kit in re.findall(r"`(rattle-kit-\S+ logic \w+)`", page.read_text())}
+    problems += [kit for kit in kits if kit not in bash("rt version")[0]]
+    report("each rt of a page is one of the toolchain's, and the kit is this one", problems if len(named) >= 5 else [*problems, f"only {named}"])
+
+
 def links():
     problems = []
     for page in PAGES:
@@ -215,7 +229,7 @@ def links():
 def main():
     if not is_built(PROGRAM):
         return ended()
-    for check in (listings, pictures, calling, commands, shown_commands, started, helped, made, asked_node, links):
+    for check in (listings, pictures, calling, commands, shown_commands, started, helped, made, toolchain, asked_node, links):
         check()
     return ended()
 
