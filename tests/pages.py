@@ -209,11 +209,11 @@ def toolchain():
     if not shutil.which("rt"):
         skip("no toolchain is here: its commands in the pages are not looked for")
         return
-    said = bash("rt help")[0]
+    said = bash("rt help 2>&1")[0]
     named = {word for page in PAGES for word in re.findall(r"(?:`|^    )rt ([a-z-]+)", page.read_text(), re.M)}
     problems = sorted(word for word in named if not re.search(rf"\b(?:rt |\|){word}\b", said))
     kits = {kit for page in PAGES for kit in re.findall(r"`(rattle-kit-\S+ logic \w+)`", page.read_text())}
-    problems += [kit for kit in kits if kit not in bash("rt version")[0]]
+    problems += [kit for kit in kits if kit not in bash("rt version 2>&1")[0]]
     report("each rt of a page is one of the toolchain's, and the kit is this one", problems if len(named) >= 5 else [*problems, f"only {named}"])
 
 
