@@ -94,7 +94,7 @@ impl World {
 
     /// The items that the primary emitted, in their order.
     pub fn log(&self) -> &[Item]
-        ensures { result ≡ self.now.world.emitted }
+        ensures { result.now ≡ self.now.world.emitted }
     {
         self.primary.log()
     }
