@@ -82,7 +82,7 @@ impl Lines<'_, '_> {
         Ok(())
     }
 
-    /// Prints and tells a refusal of the node's, and notes it; want of memory stops the command.
+    /// Prints and tells a refusal of the node's, and notes it; where memory ran out the command stops.
     fn tell_refusal<W: Write, E: Write>(
         &mut self,
         why: Refusal,
