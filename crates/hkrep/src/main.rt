@@ -41,7 +41,7 @@ fn run_alone<I: Read, W: Write, E: Write>(
     input: &mut I,
     output: &mut W,
     errors: &mut E,
-    call: Call<'_>,
+    call: &Call<'_>,
 ) -> u8 {
     match call {
         Call::At {
@@ -49,24 +49,24 @@ fn run_alone<I: Read, W: Write, E: Write>(
             time,
             table,
             key,
-        } => run_at(alloc, input, output, errors, config, time, table, key),
+        } => run_at(alloc, input, output, errors, *config, *time, *table, *key),
         Call::Ask {
             config,
             time,
             query,
             is_json,
         } => {
-            let form = form_of(is_json);
-            run_ask(alloc, input, output, errors, config, time, &query, form)
+            let form = form_of(*is_json);
+            run_ask(alloc, input, output, errors, *config, *time, query, form)
         }
         Call::Front { config, is_json } => {
-            run_front(alloc, input, output, errors, config, form_of(is_json))
+            run_front(alloc, input, output, errors, *config, form_of(*is_json))
         }
         Call::Status { config, is_json } => {
-            run_status(alloc, input, output, errors, config, form_of(is_json))
+            run_status(alloc, input, output, errors, *config, form_of(*is_json))
         }
-        Call::Items { is_json } => run_items(alloc, input, output, errors, form_of(is_json)),
-        Call::Explain { number } => run_explain(alloc, number, output, errors),
+        Call::Items { is_json } => run_items(alloc, input, output, errors, form_of(*is_json)),
+        Call::Explain { number } => run_explain(alloc, *number, output, errors),
         Call::Rewrite => run_rewrite(alloc, input, output, errors),
         _frames => run_frames(alloc, input, output, errors),
     }
@@ -111,6 +111,27 @@ fn tell_no_file<E: Write>(alloc: Global, name: &str, error: &io::Error, errors: 
     };
 }
 
+/// The status of a script whose items are written to a new file of this name.
+fn run_kept_script<R: Files + Alloc<A = Global>, I: Read, W: Write, E: Write>(
+    rt: &R,
+    input: &mut I,
+    name: &str,
+    output: &mut W,
+    errors: &mut E,
+) -> u8 {
+    let alloc = rt.alloc();
+    match fs::create(rt, name) {
+        Ok(mut file) => {
+            let items = Some(&mut file);
+            run_world(alloc, input, items, output, errors)
+        }
+        Err(error) => {
+            tell_no_file(alloc, name, &error, errors);
+            1
+        }
+    }
+}
+
 /// The status of a script whose items are written to a file of this name, where one is given.
 fn run_script<R: Files + Alloc<A = Global>, I: Read, W: Write, E: Write>(
     rt: &R,
@@ -119,16 +140,9 @@ fn run_script<R: Files + Alloc<A = Global>, I: Read, W: Write, E: Write>(
     output: &mut W,
     errors: &mut E,
 ) -> u8 {
-    let alloc = rt.alloc();
-    let Some(name) = items else {
-        return run_world(alloc, input, None::<&mut R::File>, output, errors);
-    };
-    match fs::create(rt, name) {
-        Ok(mut file) => run_world(alloc, input, Some(&mut file), output, errors),
-        Err(error) => {
-            tell_no_file(alloc, name, &error, errors);
-            1
-        }
+    match items {
+        Some(name) => run_kept_script(rt, input, name, output, errors),
+        None => run_world::<I, R::File, W, E>(rt.alloc(), input, None, output, errors),
     }
 }
 
@@ -138,7 +152,7 @@ fn run<R, I: Read, E: Write>(
     input: &mut I,
     is_terminal: bool,
     errors: &mut E,
-    call: Call<'_>,
+    call: &Call<'_>,
 ) -> u8
 where
     R: Print + Alloc<A = Global> + Clock + Files,
@@ -150,13 +164,13 @@ where
             config,
             port,
             links,
-        } => run_serve(rt, rt.alloc(), port, config, links, &mut output, errors),
+        } => run_serve(rt, rt.alloc(), *port, *config, *links, &mut output, errors),
         Call::Node { port, order } => {
-            let order = order_of(order);
+            let order = order_of(*order);
             run_order(
                 rt,
                 rt.alloc(),
-                port,
+                *port,
                 &order,
                 input,
                 is_terminal,
@@ -164,8 +178,8 @@ where
                 errors,
             )
         }
-        Call::World { items } => run_script(rt, input, items, &mut output, errors),
-        other => run_alone(rt.alloc(), input, &mut output, errors, other),
+        Call::World { items } => run_script(rt, input, *items, &mut output, errors),
+        _alone => run_alone(rt.alloc(), input, &mut output, errors, call),
     }
 }
 
@@ -184,5 +198,5 @@ fn main(rt: HostRuntime) -> io::Result<ExitCode> {
     let mut input = Watched::new(&rt, rt.reader());
     let mut errors = rt.stderr();
     let is_terminal = rt.stdin().is_terminal();
-    Ok(ExitCode::from(run(&rt, &mut input, is_terminal, &mut errors, call)))
+    Ok(ExitCode::from(run(&rt, &mut input, is_terminal, &mut errors, &call)))
 }
