@@ -111,24 +111,11 @@ fn tell_no_file<E: Write>(alloc: Global, name: &str, error: &io::Error, errors: 
     };
 }
 
-/// The status of a script whose items are written to a new file of this name.
-fn run_kept_script<R: Files + Alloc<A = Global>, I: Read, W: Write, E: Write>(
-    rt: &R,
-    input: &mut I,
-    name: &str,
-    output: &mut W,
-    errors: &mut E,
-) -> u8 {
-    let alloc = rt.alloc();
-    match fs::create(rt, name) {
-        Ok(mut file) => {
-            let items = Some(&mut file);
-            run_world(alloc, input, items, output, errors)
-        }
-        Err(error) => {
-            tell_no_file(alloc, name, &error, errors);
-            1
-        }
+/// A new file of this name, where one is given.
+fn made<R: Files>(rt: &R, name: Option<&str>) -> io::Result<Option<R::File>> {
+    match name {
+        Some(name) => Ok(Some(fs::create(rt, name)?)),
+        None => Ok(None),
     }
 }
 
@@ -140,9 +127,13 @@ fn run_script<R: Files + Alloc<A = Global>, I: Read, W: Write, E: Write>(
     output: &mut W,
     errors: &mut E,
 ) -> u8 {
-    match items {
-        Some(name) => run_kept_script(rt, input, name, output, errors),
-        None => run_world::<I, R::File, W, E>(rt.alloc(), input, None, output, errors),
+    let alloc = rt.alloc();
+    match made(rt, items) {
+        Ok(mut file) => run_world(alloc, input, file.as_mut(), output, errors),
+        Err(error) => {
+            tell_no_file(alloc, items.unwrap_or(""), &error, errors);
+            1
+        }
     }
 }
 
