@@ -104,7 +104,10 @@ E2 = say.entry(2, 2, [(1, 5, 9, b"\x42")], [(1, 5, 1)])
 E3 = say.entry(3, 3, [(1, 6, 9, b"\x43")])
 FRAMES = E1 + E3 + say.mark(1, 3, 3) + E2
 LINES = "".join(f"{it.line()}\n" for it in reference.items_of(FRAMES)[0])
-NEW_FRAMES = b"".join(reference.frame(it, 2) for it in reference.items_of(FRAMES)[0]).decode("latin-1")
+EACH_FRAME = [reference.frame(it, 2).decode("latin-1") for it in reference.items_of(FRAMES)[0]]
+NEW_FRAMES = "".join(EACH_FRAME)
+# the frames of whole lines before what stopped them
+FRAME_FRONTS = ["".join(EACH_FRAME[:count]) for count in range(len(EACH_FRAME) + 1)]
 
 # The same items in JSON.
 JSON_LINES = """{"commit":{"log":"7","stream":1,"number":"1","time":"1","ends":[],"rows":[{"table":1,"key":"5","tag":9,"body":"41"}]}}
@@ -129,10 +132,10 @@ LINE = re.compile(r"begun 1 at \d|ok|committed (none|\d)|mark stream \d n \d m \
 
 
 def problem_of_run(args, data, whole, **how):
-    """Nothing, or what is wrong with a run that meets a refusal. A script goes on behind a command that is refused, and frames
-    are written all or none."""
+    """Nothing, or what is wrong with a run that meets a refusal. A script goes on behind a command that is refused, the frames
+    of a rewrite are written all or none, and those of lines up to the one that is in hand."""
     ran = Ran(args, data, **how)
-    told = ran.out in (whole, "") if args in (["rewrite"], ["frames"]) else is_front_of_lines(ran.out, whole) or (args[0] == "world" and ran.out.endswith("\n") and all(map(LINE.fullmatch, ran.out.splitlines())))
+    told = ran.out in {"rewrite": (whole, ""), "frames": FRAME_FRONTS}[args[0]] if args[0] in ("rewrite", "frames") else is_front_of_lines(ran.out, whole) or (args[0] == "world" and ran.out.endswith("\n") and all(map(LINE.fullmatch, ran.out.splitlines())))
     is_right = ran.status in (0, 1, 2) and told and ran.refused > 0 and (ran.status != 0 or ran.out == whole)
     return None if is_right else f"{how}: status {ran.status}, {ran.refused} refused, printed {ran.out[-200:]!r}"
 
