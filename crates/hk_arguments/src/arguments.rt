@@ -2,11 +2,13 @@
 
 use crate::calls::call_of;
 use crate::forms::{FORMS, Form, Number, QUERIES, form_named, numbers_of, with_forms};
+use crate::stay::{stay_call, with_stay};
 use clap::error::ErrorKind;
 use clap::{Arg, ArgAction, ArgMatches, Command, Error, value_parser};
 use hk_model::Query;
 use hk_types::{Config, Key, Links, Table, Time};
 use std::alloc::{AllocError, Global};
+use std::net::Ipv4Addr;
 
 /// What the program is asked to do.
 #[derive(Clone, Copy)]
@@ -54,6 +56,17 @@ pub enum Call {
         config: Config,
         port: u16,
         links: Links,
+    },
+    /// Start a node, and serve links to it without an end.
+    Stay {
+        config: Config,
+        address: Ipv4Addr,
+        port: u16,
+        links: Links,
+        /// The port for links that only read, and how many of them are served at once.
+        reading: Option<(u16, Links)>,
+        /// How many seconds a read inside a frame is waited for; 0 is no limit.
+        read_seconds: u64,
     },
     /// Have the node on a port do something.
     Node {
@@ -131,10 +144,23 @@ each, or the number of what ended it.";
 const SERVE_LONG_ABOUT: &str = "Start a node, and serve links to it on a port of 127.0.0.1.
 
 It serves as many links as --links says, side by side, and ends when all have ended. It prints \
-'refused 93' where the port can't be listened to. docs/PROTOCOL.md says what goes over a link.";
+'refused 93' where the port can't be listened to. docs/PROTOCOL.md says what goes over a link.
+
+With --stay it serves links without an end, --links of them at once: a further link waits until one ends. \
+It prints 'ended' and a number as each link ends. --read-port opens a second port, whose links may \
+ask and not change. NOTHING IS ENCRYPTED OR AUTHENTICATED: whoever reaches the port may write. Give \
+--address only behind a proxy that does both (docs/OPERATING.md).";
 
 /// The names of the numbers of `serve`.
-const SERVE_NUMBERS: [&str; 4] = ["log", "streams", "port", "links"];
+const SERVE_NUMBERS: [&str; 7] = [
+    "log",
+    "streams",
+    "port",
+    "links",
+    "read-port",
+    "read-links",
+    "read-seconds",
+];
 
 /// An argument that has to be given.
 fn wanted<'a>(alloc: Global, name: &'a str, value: &'a str, help: &'a str) -> Arg<'a> {
@@ -179,7 +205,8 @@ fn serve_command<'a>(alloc: Global) -> Result<Command<'a>, AllocError> {
     let command = with_log(alloc, command)?;
     let command = with_streams(alloc, command)?;
     let command = with_port(alloc, command)?;
-    with_links(alloc, command)
+    let command = with_links(alloc, command)?;
+    with_stay(alloc, command)
 }
 
 pub(crate) fn plain<'a>(
@@ -244,6 +271,9 @@ pub(crate) fn config_of(matches: &ArgMatches<'_>) -> Option<Config> {
 
 /// The call that the arguments of `serve` make, where each of them is in its range.
 fn serve_call(matches: &ArgMatches<'_>) -> Option<Call> {
+    if matches.get_flag("stay") {
+        return stay_call(matches);
+    }
     let log = matches.get_one::<u64>("log")?;
     let streams = matches.get_one::<u16>("streams")?;
     let links = matches.get_one::<u16>("links")?;

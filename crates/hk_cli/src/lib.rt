@@ -3,6 +3,7 @@
 
 mod notice;
 mod serve;
+mod stay;
 
 pub use hk_commands::{
     Form, run_ask, run_at, run_explain, run_frames, run_front, run_items, run_rewrite, run_status,
@@ -15,3 +16,4 @@ pub use hk_remote::{
 };
 pub use hk_types::Links;
 pub use serve::run_serve;
+pub use stay::{ReadPort, Stay, run_stay};

@@ -17,7 +17,7 @@ use std::sync::Wait;
 use std::thread::Threads;
 
 /// Why the command stops where serving did.
-fn stop_of(fault: NetFault) -> Stop {
+pub(crate) fn stop_of(fault: NetFault) -> Stop {
     match fault {
         NetFault::Memory => Stop::Refused(Refusal::Memory),
         NetFault::Socket => Stop::NetFault,

@@ -1,1 +1,2 @@
 mod JoinRequests
+mod Seen

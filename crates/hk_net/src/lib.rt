@@ -5,9 +5,17 @@
 #![tactic(auto)]
 
 mod fault;
+mod frame_watch;
+mod link_reader;
 mod links;
 mod node_host;
+mod seat_host;
+mod seats;
+mod staying;
 
 pub use fault::NetFault;
 pub use links::serve_links;
 pub use node_host::NodeHost;
+pub use seat_host::SeatHost;
+pub use seats::{read_on_seat, serve_on_seat};
+pub use staying::{Door, LinkEvent, Watch, serve_forever};

@@ -15,23 +15,32 @@ use std::thread::Threads;
 use std::time::Duration;
 
 /// How many pieces of what a peer still sends are read once its session has ended.
-const LAST_PIECES: u32 = 1024;
+const LAST_PIECES: u32 = 100;
 
-/// How many seconds the next piece is waited for.
-const LAST_WAIT: u64 = 1;
+/// How many milliseconds the first of them is waited for.
+const FIRST_WAIT: u64 = 250;
+
+/// How many milliseconds each next one is waited for. The system may wait for a few more.
+const NEXT_WAIT: u64 = 10;
 
 /// Lets the peer read the last reply. A link that is closed over bytes that nobody read is cut off, and the peer could
-/// lose what was written; so what it still sends is read and dropped, up to a bound.
-fn drain(stream: &TcpStream) {
-    let wait = Duration::from_secs(LAST_WAIT);
-    if stream.shutdown(Shutdown::Write).is_err() || stream.set_read_timeout(Some(wait)).is_err() {
+/// lose what was written; so what it still sends is read and dropped, for less than two seconds whatever it sends.
+pub(crate) fn drain(stream: &TcpStream) {
+    if stream.shutdown(Shutdown::Write).is_err() {
         return;
     }
-    let mut piece = [0u8; 4096];
+    let mut piece = [0u8; 16_384];
+    let mut wait = FIRST_WAIT;
     for _ in 0..LAST_PIECES {
+        if stream
+            .set_read_timeout(Some(Duration::from_millis(wait)))
+            .is_err()
+        {
+            return;
+        }
         match (&mut &*stream).read(&mut piece) {
             Ok(0) | Err(_) => return,
-            Ok(_) => {}
+            Ok(_) => wait = NEXT_WAIT,
         }
     }
 }
