@@ -7,7 +7,7 @@ use crate::fault::NetFault;
 use crate::link_reader::LinkReader;
 use crate::links::drain;
 use crate::seats::{read_on_seat, serve_on_seat};
-use crossbeam_channel::{Sender, bounded};
+use crossbeam_channel::{Receiver, Sender, bounded};
 use hk_node::{Node, NodeName, ReaderSeat};
 use hk_session::{Counted, Ended};
 use std::alloc::Global;
@@ -15,7 +15,7 @@ use std::net::{TcpListener, TcpStream};
 use std::rt::Clock;
 use std::sync::Wait;
 use std::thread;
-use std::thread::Threads;
+use std::thread::{Scope, Threads};
 use std::time::Duration;
 
 /// How many links a seat serves: nobody gets there.
@@ -145,6 +145,39 @@ fn serve_place<J: NodeName, N: Wait + Drop, R: Threads + Wait + Clock + Sync>(
     seat
 }
 
+/// Starts the thread of a place, which serves its links. Gives false where it can't be started.
+fn start_place<
+    's,
+    E,
+    J: NodeName + Send + Sync,
+    N: Wait + Drop + Send + Sync,
+    R: Threads + Wait + Clock + Sync,
+>(
+    scope: &Scope<'s, E>,
+    rt: &'s R,
+    alloc: Global,
+    door: Door<'s, J, N>,
+    seat: ReaderSeat<J>,
+    events: &Sender<LinkEvent>,
+) -> bool {
+    match events.clone() {
+        Ok(events) => scope
+            .spawn(move || serve_place(rt, alloc, door, seat, events))
+            .is_ok(),
+        Err(_error) => false,
+    }
+}
+
+/// Tells what happens to links, until no thread is left that could say more.
+fn tell_events<R: Wait, T: Watch>(rt: &R, events: &Receiver<LinkEvent>, watch: &mut T) {
+    for _ in rt.forever() {
+        match events.recv(rt) {
+            Ok(event) => watch.told(event),
+            Err(_all_ended) => return,
+        }
+    }
+}
+
 /// Serves links without an end, each place in a thread of its own: the thread accepts a link of the place's door, runs its
 /// session on the place's seat, and takes the seat back for the next link, so that at most as many links are served at
 /// once as there are places, and a further one waits to be accepted. No list grows with the links.
@@ -165,39 +198,20 @@ pub fn serve_forever<
     watch: &mut T,
 ) -> Result<(), NetFault> {
     let (events, told) = bounded::<LinkEvent, _>(alloc, EVENTS)?;
-    let mut links = Vec::with_capacity(alloc, places.len())?;
     thread::scope(thread::scope_env(), rt, |scope| -> Result<(), NetFault> {
         let mut started = false;
         for (door, seat) in places {
-            let Ok(events) = events.clone() else {
+            if start_place(scope, rt, alloc, door, seat, &events) {
+                started = true;
+            } else {
                 watch.told(LinkEvent::NotStarted);
-                continue;
-            };
-            let link = scope
-                .spawn(move || serve_place(rt, alloc, door, seat, events))
-                .ok();
-            match &link {
-                Some(_started) => started = true,
-                None => watch.told(LinkEvent::NotStarted),
             }
-            // There is room for each.
-            let _kept = links.push(link);
         }
         drop(events);
         if !started {
             return Err(NetFault::Memory);
         }
-        for _ in rt.forever() {
-            match told.recv(rt) {
-                Ok(event) => watch.told(event),
-                Err(_all_ended) => break,
-            }
-        }
-        for link in links {
-            if let Some(link) = link {
-                drop(link.join(rt));
-            }
-        }
+        tell_events(rt, &told, watch);
         Ok(())
     })
 }

@@ -6,9 +6,9 @@ mod watched;
 use crate::watched::Watched;
 use hk_arguments::{Call, Order, read_call};
 use hk_cli::{
-    Form, ReadPort, Stay, run_ask, run_at, run_explain, run_feed, run_frames, run_front, run_items, run_load,
-    run_node_ask, run_node_front, run_node_status, run_prune, run_pull, run_push, run_rewrite,
-    run_save, run_serve, run_shell, run_status, run_stay, run_world,
+    Form, ReadPort, Stay, run_ask, run_at, run_explain, run_feed, run_frames, run_front, run_items,
+    run_load, run_node_ask, run_node_front, run_node_status, run_prune, run_pull, run_push,
+    run_rewrite, run_save, run_serve, run_shell, run_status, run_stay, run_world,
 };
 use std::alloc::Global;
 use std::io;
