@@ -67,6 +67,8 @@ pub enum Call {
         reading: Option<(u16, Links)>,
         /// How many seconds a read inside a frame is waited for; 0 is no limit.
         read_seconds: u64,
+        /// Whether only faults are told on standard error.
+        is_quiet: bool,
     },
     /// Have the node on a port do something.
     Node {

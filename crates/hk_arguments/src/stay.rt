@@ -9,6 +9,8 @@ use std::net::Ipv4Addr;
 
 const STAY_HELP: &str = "Serve links without an end, so many at once";
 
+const QUIET_HELP: &str = "Tell standard error of faults alone, and not of each link";
+
 const ADDRESS_HELP: &str =
     "Where the ports are opened, in place of 127.0.0.1. Nothing is encrypted or authenticated";
 
@@ -24,13 +26,19 @@ pub(crate) fn with_stay<'a>(
         .long("stay")
         .help(STAY_HELP)
         .action(ArgAction::SetTrue);
+    let quiet = Arg::new(alloc, "quiet")
+        .short('q')
+        .long("quiet")
+        .help(QUIET_HELP)
+        .action(ArgAction::SetTrue)
+        .requires_arg("stay")?;
     let address = Arg::new(alloc, "address")
         .long("address")
         .value_name("A")
         .help(ADDRESS_HELP)
         .action(ArgAction::Set)
         .requires_arg("stay")?;
-    let command = command.arg(stay)?.arg(address)?;
+    let command = command.arg(stay)?.arg(quiet)?.arg(address)?;
     with_numbers(alloc, command, &STAY_NUMBERS)
 }
 
@@ -64,5 +72,6 @@ pub(crate) fn stay_call(matches: &ArgMatches<'_>) -> Option<Call> {
         links: Links::new(links)?,
         reading: reading_of(matches, links)?,
         read_seconds: matches.get_one::<u64>("read-seconds").unwrap_or(0),
+        is_quiet: matches.get_flag("quiet"),
     })
 }

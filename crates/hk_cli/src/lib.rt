@@ -4,6 +4,7 @@
 mod notice;
 mod serve;
 mod stay;
+mod telling;
 
 pub use hk_commands::{
     Form, run_ask, run_at, run_explain, run_frames, run_front, run_items, run_rewrite, run_status,

@@ -4,10 +4,10 @@ ghost use Rattle.std.specs.Prelude.{◌≡◌, ◌<◌, ◌≤◌};
 
 use crate::notice::Notice;
 use crate::serve::stop_of;
+use crate::telling::Telling;
 use hk_commands::{Output, Stop};
-use hk_net::{Door, LinkEvent, Watch, serve_forever};
+use hk_net::{Door, serve_forever};
 use hk_node::{NewList, Node, NodeName, ReaderSeat, start};
-use hk_reasons::Place;
 use hk_types::{Config, Links, Refusal};
 use std::alloc::Global;
 use std::io::Write;
@@ -39,61 +39,35 @@ pub struct Stay {
     pub reading: Option<ReadPort>,
     /// How many seconds a read inside a frame is waited for; 0 is no limit.
     pub read_seconds: u64,
-}
-
-/// Tells each link that ended as it ends.
-#[derive(Drop)]
-struct Telling<'o, 'a, W: Write, E: Write> {
-    output: &'o mut Output<'a, W, E>,
-    /// How many links ended, and accepts failed.
-    count: u64,
-}
-
-impl<W: Write, E: Write> Telling<'_, '_, W, E> {
-    fn tell(&mut self, what: &str, number: u8) {
-        self.count = self.count.saturating_add(1);
-        self.output
-            .tell_known(Place::Link(self.count), what, number);
-    }
-}
-
-impl<W: Write, E: Write> Watch for Telling<'_, '_, W, E> {
-    fn told(&mut self, event: LinkEvent) {
-        match event {
-            LinkEvent::Opened => return,
-            LinkEvent::Ended(ended) => {
-                let number = ended.number();
-                self.tell("ended", number);
-                // Where the line can't be printed the node serves on.
-                let _printed = self.output.print(&Notice::Ended(number));
-            }
-            LinkEvent::NotAccepted => self.tell("not accepted", 93),
-            LinkEvent::NotStarted => self.tell("not started", 90),
-        }
-        let _written = self.output.flush();
-    }
+    /// Whether links that open, or end without a fault, are told to nobody.
+    pub is_quiet: bool,
 }
 
 /// Listens to a port of an address.
-fn listener_of<R: Net<Listener = TcpListener, Stream = TcpStream>>(
+fn listener_of<R: Net<Listener = TcpListener, Stream = TcpStream>, W: Write, E: Write>(
     rt: &R,
     address: Ipv4Addr,
     port: u16,
+    output: &mut Output<'_, W, E>,
 ) -> Result<TcpListener, Stop> {
     match TcpListener::bind(rt, (address, port)) {
         Ok(listener) => Ok(listener),
-        Err(_error) => Err(Stop::NetFault),
+        Err(error) => Err(output.net_fault("listen on", port, &error)),
     }
 }
 
 /// The listener of the links that only read, if there are any.
-fn reading_listener<R: Net<Listener = TcpListener, Stream = TcpStream>>(
+fn reading_listener<R: Net<Listener = TcpListener, Stream = TcpStream>, W: Write, E: Write>(
     rt: &R,
     stay: &Stay,
+    output: &mut Output<'_, W, E>,
 ) -> Result<Option<TcpListener>, Stop> {
     match stay.reading {
         None => Ok(None),
-        Some(reading) => Ok(Some(listener_of(rt, stay.address, reading.port)?)),
+        Some(reading) => {
+            let listener = listener_of(rt, stay.address, reading.port, output)?;
+            Ok(Some(listener))
+        }
     }
 }
 
@@ -145,8 +119,8 @@ fn stay_list<
 ) -> Result<(), Stop>
     requires { list ≡ (J.book, J.config) }
 {
-    let listener = listener_of(rt, stay.address, stay.port)?;
-    let reading = reading_listener(rt, stay)?;
+    let listener = listener_of(rt, stay.address, stay.port, output)?;
+    let reading = reading_listener(rt, stay, output)?;
     let (node, seats) = start::<J, &R>(rt, alloc, list, places_wanted(stay))?;
     let places = places_of(alloc, &node, seats, stay, &listener, &reading)?;
     output.print(&Notice::Listening(stay.port))?;
@@ -154,7 +128,7 @@ fn stay_list<
         output.print(&Notice::Reading(reading.port))?;
     }
     output.flush()?;
-    let mut telling = Telling { output, count: 0 };
+    let mut telling = Telling::new(alloc, output, stay.is_quiet);
     serve_forever(rt, alloc, places, &mut telling).map_err(stop_of)
 }
 
@@ -164,8 +138,8 @@ fn stay_list<
 ///
 /// It ends, and the status is 1, only where one of these happens: `refused 93` where a port can't be listened to,
 /// `refused 90` where memory ran out for the node or its threads, and no line where those first lines can't be written.
-/// Later lines that can't be written are lost, and the node serves on. Each number above 0, and each accept that failed,
-/// is told to `errors` in words. Cost: that of `start` and of `serve_forever`.
+/// Later lines that can't be written are lost, and the node serves on. Each link that opens and ends, each change that is
+/// refused, and each accept that failed is told to `errors` in words. Cost: that of `start` and of `serve_forever`.
 pub fn run_stay<
     R: Net<Listener = TcpListener, Stream = TcpStream> + Threads + Wait + Clock + Sync,
     W: Write,

@@ -6,6 +6,7 @@
 
 mod fault;
 mod frame_watch;
+mod link_events;
 mod link_reader;
 mod links;
 mod node_host;
@@ -14,8 +15,9 @@ mod seats;
 mod staying;
 
 pub use fault::NetFault;
+pub use link_events::{LinkEvent, Watch};
 pub use links::serve_links;
 pub use node_host::NodeHost;
 pub use seat_host::SeatHost;
 pub use seats::{read_on_seat, serve_on_seat};
-pub use staying::{Door, LinkEvent, Watch, serve_forever};
+pub use staying::{Door, serve_forever};

@@ -5,7 +5,7 @@ ghost use Rattle.std.specs.Thread.{IsSync};
 ghost use mathlib.Core.List.{IsPrefix};
 ghost use Rattle.hk_model.specs.Replica.Rules.{gather_result};
 ghost use Rattle.hk_delta.specs.Gathers.{Gathers};
-ghost use Rattle.hk_wire.specs.Replies.{reply_seen};
+ghost use Rattle.hk_wire.specs.Replies.{Refused, reply_seen};
 ghost use Rattle.hk_node.specs.declared.op.Op.{Op};
 ghost use Rattle.hk_node.specs.declared.op.Op.TheVariants.{Join, Prune as PruneTo};
 ghost use Rattle.hk_node.specs.Lists.{last_of};
@@ -14,6 +14,7 @@ ghost use Rattle.hk_node.specs.Replay.{is_legal, replay};
 ghost use Rattle.hk_node.specs.Replies.{node_delta, node_front, node_reply, node_whole};
 ghost use Rattle.hk_net.specs.Replying.{IsChangeReply, IsItemsReply, IsOrOutOfMemory, MayReply, front_reply};
 
+use crate::link_events::{LinkEvent, Teller};
 use crate::seat_host::SeatHost;
 use hk_batch::{OpenGate, build};
 use hk_delta::{Fragment, fragment_of};
@@ -54,6 +55,8 @@ pub struct NodeHost<'a, J: NodeName, N: Wait + Drop, R: Threads + Wait + Sync> {
     alloc: Global,
     node: &'a Node<J, N>,
     reads: SeatHost<J>,
+    /// Who is told of refused changes, if anyone is.
+    teller: Option<&'a Teller>,
 }
 
 impl<'a, J: NodeName, N: Wait + Drop, R: Threads + Wait + Sync> Model for NodeHost<'a, J, N, R> {
@@ -87,6 +90,26 @@ impl<'a, J: NodeName, N: Wait + Drop, R: Threads + Wait + Sync> NodeHost<'a, J, 
             alloc,
             node,
             reads: SeatHost::new(seat),
+            teller: None,
+        }
+    }
+
+    /// The same, of which each refused change is told.
+    pub(crate) fn telling(
+        rt: &'a R,
+        alloc: Global,
+        node: &'a Node<J, N>,
+        seat: ReaderSeat<J>,
+        teller: &'a Teller,
+    ) -> NodeHost<'a, J, N, R>
+        ensures { result ≡ seat }
+    {
+        NodeHost {
+            rt,
+            alloc,
+            node,
+            reads: SeatHost::new(seat),
+            teller: Some(teller),
         }
     }
 
@@ -108,6 +131,17 @@ impl<'a, J: NodeName, N: Wait + Drop, R: Threads + Wait + Sync> NodeHost<'a, J, 
         Reply::Done { ops }
     }
 
+    /// The reply to a change that is refused, which is told.
+    fn refused(&self, why: Refusal) -> Reply
+        ensures legal { is_legal self.now ≡ true }
+        ensures told { reply_seen result ≡ Refused why }
+    {
+        if let Some(teller) = self.teller {
+            teller.tell(self.rt, LinkEvent::Refused(why.number()));
+        }
+        Reply::Refused(why)
+    }
+
     /// The one fragment that items make. A long list is gathered by several workers, which are waited for.
     fn gather(&self, items: &[Item]) -> Result<Fragment, Refusal>
         ensures legal { is_legal self.now ≡ true }
@@ -127,7 +161,7 @@ impl<'a, J: NodeName, N: Wait + Drop, R: Threads + Wait + Sync> NodeHost<'a, J, 
     {
         match self.gather(items) {
             Ok(fragment) => self.join(fragment),
-            Err(why) => Reply::Refused(why),
+            Err(why) => self.refused(why),
         }
     }
 
@@ -138,7 +172,7 @@ impl<'a, J: NodeName, N: Wait + Drop, R: Threads + Wait + Sync> NodeHost<'a, J, 
     {
         match self.node.join(self.rt, fragment) {
             Ok(receipt) => self.learn(receipt),
-            Err(why) => Reply::Refused(why),
+            Err(why) => self.refused(why),
         }
     }
 
@@ -149,7 +183,7 @@ impl<'a, J: NodeName, N: Wait + Drop, R: Threads + Wait + Sync> NodeHost<'a, J, 
     {
         match self.node.prune(self.rt, horizon) {
             Ok((_, receipt)) => self.learn(receipt),
-            Err(why) => Reply::Refused(why),
+            Err(why) => self.refused(why),
         }
     }
 

@@ -16,6 +16,34 @@ use std::io::{Read, Write};
 use std::sync::Wait;
 use std::thread::Threads;
 
+/// Runs one session over a host of a node, and gives how it ended with the host's seat.
+pub(crate) fn serve_host<
+    J: NodeName,
+    N: Wait + Drop,
+    R: Threads + Wait + Sync,
+    I: Read + Drop,
+    O: Write + Drop,
+>(
+    alloc: Global,
+    host: NodeHost<'_, J, N, R>,
+    reader: &mut Counted<I>,
+    writer: &mut Counted<O>,
+) -> (Ended, ReaderSeat<J>)
+    requires reader { reader.old.faults ≡ 0 }
+    requires writer { writer.old.faults ≡ 0 }
+    requires ready { IsSync R.row }
+    ensures seen { IsPrefix host result.1 }
+    // The bytes read, and what was done and written for them.
+    ensures transcript { (bytes : List ℕ)
+        × Consumes (I.remaining reader.old.device) (I.remaining reader.new.device) bytes
+        × SessionStep (MayReply J.config) host result.1
+        (O.contents writer.old.device) (O.contents writer.new.device) bytes (Ends result.0) }
+{
+    let mut host = host;
+    let ended = serve(alloc, reader, writer, &mut host);
+    (ended, host.into_seat())
+}
+
 /// Runs one session on a seat, as `serve` over a `NodeHost`, and gives how it ended with the seat, which knows then all
 /// that it knew before and what the session added. The next session on it begins there. Cost: that of the session.
 pub fn serve_on_seat<
@@ -42,9 +70,7 @@ pub fn serve_on_seat<
         × SessionStep (MayReply J.config) seat result.1
         (O.contents writer.old.device) (O.contents writer.new.device) bytes (Ends result.0) }
 {
-    let mut host = NodeHost::new(rt, alloc, node, seat);
-    let ended = serve(alloc, reader, writer, &mut host);
-    (ended, host.into_seat())
+    serve_host(alloc, NodeHost::new(rt, alloc, node, seat), reader, writer)
 }
 
 /// Runs one session on a seat that only reads, as `serve` over a `SeatHost`: the node is not there to be changed. Gives

@@ -4,13 +4,15 @@ ghost use Rattle.std.specs.Prelude.{◌≡◌};
 ghost use mathlib.Core.List.{IsPrefix};
 
 use crate::fault::NetFault;
+use crate::link_events::{EVENTS, LinkEvent, Teller, Watch, hand_on};
 use crate::link_reader::LinkReader;
 use crate::links::drain;
-use crate::seats::{read_on_seat, serve_on_seat};
-use crossbeam_channel::{Receiver, Sender, bounded};
+use crate::node_host::NodeHost;
+use crate::seats::{read_on_seat, serve_host};
+use crossbeam_channel::{Sender, bounded};
 use hk_node::{Node, NodeName, ReaderSeat};
 use hk_session::{Counted, Ended};
-use std::alloc::Global;
+use std::alloc::{AllocError, Global};
 use std::net::{TcpListener, TcpStream};
 use std::rt::Clock;
 use std::sync::Wait;
@@ -23,28 +25,6 @@ const MOST_LINKS: u64 = 1 << 62;
 
 /// How many milliseconds pass before an accept that failed is tried again.
 const ACCEPT_PAUSE: u64 = 100;
-
-/// How many events may wait to be told; a link whose event finds no room waits with it.
-const EVENTS: usize = 1_024;
-
-/// What happens to the links of a node that stays.
-#[derive(Clone, Copy, Debug, PartialEq, Eq)]
-pub enum LinkEvent {
-    /// A link was opened.
-    Opened,
-    /// A link ended so, and its seat waits for the next one.
-    Ended(Ended),
-    /// A link could not be accepted, as where no descriptor is left; it is tried again.
-    NotAccepted,
-    /// The thread of a seat could not be started, so that the node has one place less.
-    NotStarted,
-}
-
-/// Who is told what happens to links, one event after the other.
-pub trait Watch {
-    /// Takes in an event.
-    fn told(&mut self, event: LinkEvent);
-}
 
 /// Where links come in, and what they may do.
 #[derive(Drop)]
@@ -87,6 +67,7 @@ fn serve_stream<J: NodeName, N: Wait + Drop, R: Threads + Wait + Sync>(
     door: &Door<'_, J, N>,
     seat: ReaderSeat<J>,
     stream: &TcpStream,
+    teller: &Teller,
 ) -> (Ended, ReaderSeat<J>)
     ensures { IsPrefix seat result.1 }
 {
@@ -96,7 +77,10 @@ fn serve_stream<J: NodeName, N: Wait + Drop, R: Threads + Wait + Sync>(
     let mut reader = Counted::new(LinkReader::new(stream, door.read_seconds, only_readings));
     let mut writer = Counted::new(stream);
     match door.node {
-        Some(node) => serve_on_seat(rt, alloc, node, seat, &mut reader, &mut writer),
+        Some(node) => {
+            let host = NodeHost::telling(rt, alloc, node, seat, teller);
+            serve_host(alloc, host, &mut reader, &mut writer)
+        }
         None => read_on_seat(alloc, seat, &mut reader, &mut writer),
     }
 }
@@ -107,21 +91,21 @@ fn serve_next<J: NodeName, N: Wait + Drop, R: Threads + Wait + Clock + Sync>(
     alloc: Global,
     door: &Door<'_, J, N>,
     seat: ReaderSeat<J>,
-    events: &Sender<LinkEvent>,
+    teller: &Teller,
 ) -> ReaderSeat<J>
     ensures { IsPrefix seat result }
 {
     match door.listener.accept() {
         Ok((stream, _address)) => {
-            let _opened = events.send(rt, LinkEvent::Opened);
-            let (ended, back) = serve_stream(rt, alloc, door, seat, &stream);
+            teller.tell(rt, LinkEvent::Opened);
+            let (ended, back) = serve_stream(rt, alloc, door, seat, &stream, teller);
             drain(&stream);
             drop(stream);
-            let _ended = events.send(rt, LinkEvent::Ended(ended));
+            teller.tell(rt, LinkEvent::Ended(ended));
             back
         }
         Err(_error) => {
-            let _failed = events.send(rt, LinkEvent::NotAccepted);
+            teller.tell(rt, LinkEvent::NotAccepted);
             thread::sleep(rt, Duration::from_millis(ACCEPT_PAUSE));
             seat
         }
@@ -134,13 +118,13 @@ fn serve_place<J: NodeName, N: Wait + Drop, R: Threads + Wait + Clock + Sync>(
     alloc: Global,
     door: Door<'_, J, N>,
     seat: ReaderSeat<J>,
-    events: Sender<LinkEvent>,
+    teller: Teller,
 ) -> ReaderSeat<J>
     ensures { IsPrefix seat result }
 {
     let mut seat = seat;
     for _ in 0..MOST_LINKS {
-        seat = serve_next(rt, alloc, &door, seat, &events);
+        seat = serve_next(rt, alloc, &door, seat, &teller);
     }
     seat
 }
@@ -158,23 +142,13 @@ fn start_place<
     alloc: Global,
     door: Door<'s, J, N>,
     seat: ReaderSeat<J>,
-    events: &Sender<LinkEvent>,
+    teller: Result<Teller, AllocError>,
 ) -> bool {
-    match events.clone() {
-        Ok(events) => scope
-            .spawn(move || serve_place(rt, alloc, door, seat, events))
+    match teller {
+        Ok(teller) => scope
+            .spawn(move || serve_place(rt, alloc, door, seat, teller))
             .is_ok(),
         Err(_error) => false,
-    }
-}
-
-/// Tells what happens to links, until no thread is left that could say more.
-fn tell_events<R: Wait, T: Watch>(rt: &R, events: &Receiver<LinkEvent>, watch: &mut T) {
-    for _ in rt.forever() {
-        match events.recv(rt) {
-            Ok(event) => watch.told(event),
-            Err(_all_ended) => return,
-        }
     }
 }
 
@@ -182,7 +156,8 @@ fn tell_events<R: Wait, T: Watch>(rt: &R, events: &Receiver<LinkEvent>, watch: &
 /// session on the place's seat, and takes the seat back for the next link, so that at most as many links are served at
 /// once as there are places, and a further one waits to be accepted. No list grows with the links.
 ///
-/// `watch` is told of each link that opens and ends, in the order in which that is seen. A failed accept is told, and
+/// `watch` is told of each link that opens and ends and of each change that is refused, with the number of its place in
+/// `places`, in the order in which that is seen; links wait where it is slow. A failed accept is told, and
 /// tried again after a tenth of a second; it ends nothing. `Memory` comes where the threads can't be prepared, or none
 /// of them could be started. It returns otherwise only after 2^62 links of each place. Cost: that of the sessions.
 pub fn serve_forever<
@@ -197,21 +172,24 @@ pub fn serve_forever<
     places: Vec<(Door<'d, J, N>, ReaderSeat<J>)>,
     watch: &mut T,
 ) -> Result<(), NetFault> {
-    let (events, told) = bounded::<LinkEvent, _>(alloc, EVENTS)?;
+    let (events, told) = bounded::<(usize, LinkEvent), _>(alloc, EVENTS)?;
     thread::scope(thread::scope_env(), rt, |scope| -> Result<(), NetFault> {
         let mut started = false;
+        let mut place = 0usize;
         for (door, seat) in places {
-            if start_place(scope, rt, alloc, door, seat, &events) {
+            let teller = Teller::new(place, &events);
+            if start_place(scope, rt, alloc, door, seat, teller) {
                 started = true;
             } else {
-                watch.told(LinkEvent::NotStarted);
+                watch.told(place, LinkEvent::NotStarted);
             }
+            place = place.saturating_add(1);
         }
         drop(events);
         if !started {
             return Err(NetFault::Memory);
         }
-        tell_events(rt, &told, watch);
+        hand_on(rt, &told, watch);
         Ok(())
     })
 }

@@ -155,6 +155,7 @@ where
             links,
             reading,
             read_seconds,
+            is_quiet,
         } => {
             let reading = reading.map(|(port, links)| ReadPort { port, links });
             let stay = Stay {
@@ -163,6 +164,7 @@ where
                 links,
                 reading,
                 read_seconds,
+                is_quiet,
             };
             run_stay(rt, rt.alloc(), config, &stay, &mut output, errors)
         }
