@@ -2,6 +2,7 @@
 """Checks of `bin/hkrep serve --stay`: places that are given back, links that only read, limits of time, and peers that mean ill.
 
 Prints a line for each check and ends with 'N passed, M failed'. Standard library only."""
+import signal
 import socket
 import struct
 import subprocess
@@ -209,6 +210,45 @@ def no_more_files():
     report("a node that stays and can open no further file", differ(pairs + [("it is told", bool(told), True)]))
 
 
+def signals():
+    """A signal ends the process at once: the client sees its link end, and nothing more is printed."""
+    problems = []
+    for signal_of in (signal.SIGTERM, signal.SIGINT):
+        with Staying(1) as node, node.link() as link:
+            pairs = [("a push", link.ask(PUSHED), ("done", 2))]
+            node.child.send_signal(signal_of)
+            try:
+                told = link.socket.recv(1)
+            except ConnectionResetError:
+                told = b""
+            pairs += [("the link", told, b""), ("the status", node.child.wait(30), -signal_of), ("nothing more", node.line(), None)]
+            problems += [f"{signal_of.name}: {problem}" for problem in differ(pairs)]
+    report("a node that a signal ends", problems)
+
+
+def what_is_told():
+    """Links that open and end, faults and refused changes are told on standard error; with -q only what is above 0."""
+    all_told = {"": ["link 1: opened", "link 1: refused 20: ", "link 1: ended 0", "link 2: opened", "link 2: ended 2: "], "-q": ["link 1: refused 20: ", "link 2: ended 2: "]}
+    problems = []
+    for option, told in all_told.items():
+        with Staying(1, *option.split()) as node:
+            with node.link() as link:
+                pairs = [("another log's item", link.ask(say.items(say.mark(1, 0, 0, log=8)))[:2], ("refused", 20))]
+            pairs.append(("its end", node.line(), "ended 0"))
+            with node.link() as link:
+                link.send(TOO_LONG)
+                link.read_all()
+            pairs.append(("a fault's end", node.line(), "ended 2"))
+            until = time.monotonic() + 10
+            while len(node.words) < len(told) and time.monotonic() < until:
+                time.sleep(0.01)
+        words = [line.removesuffix("\n") for line in node.words]
+        pairs += [("how many lines", len(words), len(told))]
+        pairs += [("a line", word[:len(start)], start) for word, start in zip(words, told)]
+        problems += differ(pairs)
+    report("what a node that stays tells on standard error", problems)
+
+
 def addresses_and_bad_lines():
     """An address of its own; options that want others, and numbers out of their ranges."""
     with Staying(1, "--address", "127.0.0.2", address="127.0.0.2") as node, node.link() as link:
@@ -221,7 +261,7 @@ def addresses_and_bad_lines():
     plain = ["--log", "7", "--streams", "1", "--port", "47999", "--links"]
     for words in (["1", "--address", "127.0.0.1"], ["1", "--read-seconds", "3"], ["1", "--read-port", "47998", "--read-links", "1"],
                   ["1", "--stay", "--read-port", "47998"], ["1", "--stay", "--read-links", "1"], ["64", "--stay", "--read-port", "47998", "--read-links", "1"],
-                  ["1", "--stay", "--address", "node"], ["1", "--stay", "--read-seconds", "86401"], ["1", "--stay", "--read-seconds", "+1"]):
+                  ["1", "--stay", "--address", "node"], ["1", "--stay", "--read-seconds", "86401"], ["1", "--stay", "--read-seconds", "+1"], ["1", "-q"]):
         done = subprocess.run([str(PROGRAM), "serve", *plain, *words], capture_output=True, text=True, timeout=30, check=False)
         pairs.append((" ".join(words), (done.returncode, done.stdout), (2, "")))
     with socket.create_server(("127.0.0.1", 0)) as taken:
@@ -236,7 +276,7 @@ def main():
     if not is_built(PROGRAM):
         return ended()
     start = time.monotonic()
-    for check in (places_are_given_back, ends_soon_after_a_fault, limits_of_time, links_that_only_read, no_more_files, addresses_and_bad_lines, bad_peers):
+    for check in (places_are_given_back, ends_soon_after_a_fault, limits_of_time, links_that_only_read, no_more_files, signals, what_is_told, addresses_and_bad_lines, bad_peers):
         if sys.argv[1:] and check.__name__ not in sys.argv[1:]:
             continue
         try:

@@ -54,7 +54,7 @@ impl<'o, 'a, W: Write, E: Write> Telling<'o, 'a, W, E> {
         }
     }
 
-    /// Tells that a link did something that is no fault, but to who wants to hear of faults alone.
+    /// Tells that a link did something that is no fault, unless only faults are wanted.
     fn note(&mut self, link: u64, what: &str) {
         if self.is_quiet {
             return;

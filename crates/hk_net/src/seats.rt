@@ -39,9 +39,9 @@ pub(crate) fn serve_host<
         × SessionStep (MayReply J.config) host result.1
         (O.contents writer.old.device) (O.contents writer.new.device) bytes (Ends result.0) }
 {
-    let mut host = host;
-    let ended = serve(alloc, reader, writer, &mut host);
-    (ended, host.into_seat())
+    let mut served = host;
+    let ended = serve(alloc, reader, writer, &mut served);
+    (ended, served.into_seat())
 }
 
 /// Runs one session on a seat, as `serve` over a `NodeHost`, and gives how it ended with the seat, which knows then all
