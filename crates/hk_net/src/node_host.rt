@@ -5,7 +5,7 @@ ghost use Rattle.std.specs.Thread.{IsSync};
 ghost use mathlib.Core.List.{IsPrefix};
 ghost use Rattle.hk_model.specs.Replica.Rules.{gather_result};
 ghost use Rattle.hk_delta.specs.Gathers.{Gathers};
-ghost use Rattle.hk_wire.specs.Replies.{Refused, reply_seen};
+ghost use Rattle.hk_wire.specs.Replies.{reply_seen};
 ghost use Rattle.hk_node.specs.declared.op.Op.{Op};
 ghost use Rattle.hk_node.specs.declared.op.Op.TheVariants.{Join, Prune as PruneTo};
 ghost use Rattle.hk_node.specs.Lists.{last_of};
@@ -131,15 +131,11 @@ impl<'a, J: NodeName, N: Wait + Drop, R: Threads + Wait + Sync> NodeHost<'a, J, 
         Reply::Done { ops }
     }
 
-    /// The reply to a change that is refused, which is told.
-    fn refused(&self, why: Refusal) -> Reply
-        ensures legal { is_legal self.now ≡ true }
-        ensures told { reply_seen result ≡ Refused why }
-    {
+    /// Tells that a change was refused.
+    fn tell_refused(&self, why: &Refusal) {
         if let Some(teller) = self.teller {
             teller.tell(self.rt, LinkEvent::Refused(why.number()));
         }
-        Reply::Refused(why)
     }
 
     /// The one fragment that items make. A long list is gathered by several workers, which are waited for.
@@ -161,7 +157,10 @@ impl<'a, J: NodeName, N: Wait + Drop, R: Threads + Wait + Sync> NodeHost<'a, J, 
     {
         match self.gather(items) {
             Ok(fragment) => self.join(fragment),
-            Err(why) => self.refused(why),
+            Err(why) => {
+                self.tell_refused(&why);
+                Reply::Refused(why)
+            }
         }
     }
 
@@ -172,7 +171,10 @@ impl<'a, J: NodeName, N: Wait + Drop, R: Threads + Wait + Sync> NodeHost<'a, J, 
     {
         match self.node.join(self.rt, fragment) {
             Ok(receipt) => self.learn(receipt),
-            Err(why) => self.refused(why),
+            Err(why) => {
+                self.tell_refused(&why);
+                Reply::Refused(why)
+            }
         }
     }
 
@@ -183,7 +185,10 @@ impl<'a, J: NodeName, N: Wait + Drop, R: Threads + Wait + Sync> NodeHost<'a, J, 
     {
         match self.node.prune(self.rt, horizon) {
             Ok((_, receipt)) => self.learn(receipt),
-            Err(why) => self.refused(why),
+            Err(why) => {
+                self.tell_refused(&why);
+                Reply::Refused(why)
+            }
         }
     }
 
