@@ -32,11 +32,11 @@ pub(crate) fn serve_host<
     requires reader { reader.old.faults ≡ 0 }
     requires writer { writer.old.faults ≡ 0 }
     requires ready { IsSync R.row }
-    ensures seen { IsPrefix host result.1 }
+    ensures seen { IsPrefix host.entry result.1 }
     // The bytes read, and what was done and written for them.
     ensures transcript { (bytes : List ℕ)
         × Consumes (I.remaining reader.old.device) (I.remaining reader.new.device) bytes
-        × SessionStep (MayReply J.config) host result.1
+        × SessionStep (MayReply J.config) host.entry result.1
         (O.contents writer.old.device) (O.contents writer.new.device) bytes (Ends result.0) }
 {
     let mut served = host;
