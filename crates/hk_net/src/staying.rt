@@ -1,6 +1,7 @@
 //! Links over TCP to a node that stays: each seat is given back for the next link.
 
 ghost use Rattle.std.specs.Prelude.{◌≡◌};
+ghost use Rattle.std.specs.Thread.{IsSend, IsSync};
 ghost use mathlib.Core.List.{IsPrefix};
 
 use crate::fault::NetFault;
@@ -173,23 +174,29 @@ pub fn serve_forever<
     watch: &mut T,
 ) -> Result<(), NetFault> {
     let (events, told) = bounded::<(usize, LinkEvent), _>(alloc, EVENTS)?;
-    thread::scope(thread::scope_env(), rt, |scope| -> Result<(), NetFault> {
-        let mut started = false;
-        let mut place = 0usize;
-        for (door, seat) in places {
-            let teller = Teller::new(place, &events);
-            if start_place(scope, rt, alloc, door, seat, teller) {
-                started = true;
-            } else {
-                watch.told(place, LinkEvent::NotStarted);
+    thread::scope(
+        thread::scope_env(),
+        rt,
+        |scope| -> Result<(), NetFault>
+            requires { IsSend J.row × IsSync J.row × IsSend N.row × IsSync N.row × IsSync R.row }
+        {
+            let mut started = false;
+            let mut place = 0usize;
+            for (door, seat) in places {
+                let teller = Teller::new(place, &events);
+                if start_place(scope, rt, alloc, door, seat, teller) {
+                    started = true;
+                } else {
+                    watch.told(place, LinkEvent::NotStarted);
+                }
+                place = place.saturating_add(1);
             }
-            place = place.saturating_add(1);
-        }
-        drop(events);
-        if !started {
-            return Err(NetFault::Memory);
-        }
-        hand_on(rt, &told, watch);
-        Ok(())
-    })
+            drop(events);
+            if !started {
+                return Err(NetFault::Memory);
+            }
+            hand_on(rt, &told, watch);
+            Ok(())
+        },
+    )
 }
