@@ -1,5 +1,5 @@
 -- What a seat has seen after a session begins with what it had seen before.
-use Rattle.std.proofs.Common.{ℕ, Option, ◌≡◌, ◌⊎◌, inl, inr, List, [], ◌∷◌, ◌++◌, refl, sym, ap, subst, ◌∙◌, append_assoc, append-nil}
+use Rattle.std.proofs.Common.{ℕ, Option, ◌≡◌, ◌⊎◌, inl, inr, List, [], ◌∷◌, ◌++◌, sym, ap, subst, ◌∙◌, append_assoc, append-nil}
 use mathlib.Core.List.{IsPrefix}
 use Rattle.hk_types.specs.Values.{ConfigValue}
 use Rattle.hk_wire.specs.declared.request.Request.{Request}

@@ -1,5 +1,5 @@
 -- What a host over a node and a seat of it may reply.
-use Rattle.std.specs.Prelude.{ℕ, ◌≡◌, ◌⊎◌, ◌≤◌, true, List, length, take, Option, Some, None, Result, Ok, Err}
+use Rattle.std.specs.Prelude.{◌≡◌, ◌⊎◌, ◌≤◌, true, List, length, take, Some, Result, Ok, Err}
 use mathlib.Core.List.{IsPrefix}
 use Rattle.hk_types.specs.Values.{ConfigValue}
 use Rattle.hk_types.specs.declared.faults.Refusal.{Refusal}
@@ -11,7 +11,7 @@ use Rattle.hk_model.specs.Replica.Rules.{gather_result}
 use Rattle.hk_wire.specs.declared.reply.Reply.{Reply}
 use Rattle.hk_wire.specs.declared.request.Request.{Request}
 use Rattle.hk_wire.specs.declared.request.Request.TheVariants as asked
-use Rattle.hk_wire.specs.Replies.{ReplyValue, Done, Front, Fragment, Answer, Refused, reply_seen}
+use Rattle.hk_wire.specs.Replies.{ReplyValue, Done, Front, Refused, reply_seen}
 use Rattle.hk_session.specs.Steps.{query_reply, fragment_reply}
 use Rattle.hk_node.specs.declared.op.Op.{Op}
 use Rattle.hk_node.specs.declared.op.Op.TheVariants.{Join, Prune as PruneTo}
