@@ -1,4 +1,5 @@
-# make try    runs the first example without any proof, in about a minute
+# make quick  makes bin/hkrep-unproved: the program without any proof, in a minute or three, which says so at --version
+# make try    the same, and runs the first example with it
 # make        proves and builds bin/hkrep
 # make demo   the same, and runs the first example
 # make serve-demo   the same, and a node that two feeders fill, with a second node that catches up
@@ -7,37 +8,42 @@
 # make test   the one test command: every proof from nothing, the must-fail edits, the tests, then the end-to-end checks
 # make compare CASES=100000 SEED=7   that many random cases beside tests/reference.py, once bin/hkrep is built
 # make lib    proves and builds the library for programs in C and other languages: lib/libhekaton.a and .so (docs/EMBEDDING.md)
-# make install PREFIX=/usr/local   puts the program, the library, its header and hekaton.pc there; they have to be built
+# make install PREFIX=/usr/local DESTDIR=   puts the program, the library, the Python client, manual pages, completions and examples there
+# make package   makes a Debian package, a plain tar and a wheel in dist/ (docs/RELEASE.md); for both, make and make lib, or make test, go before
 # make bench  times the built program (by hand; never part of the gate's verdict)
 
 PREFIX = /usr/local
 
-.PHONY: all try test lib install demo serve-demo redis-demo look compare bench clean
+.PHONY: all quick try test lib install package demo serve-demo redis-demo look compare bench clean
 
 CASES = 10000
 SEED = 1
 
 all: bin/hkrep
 
+SOURCES := $(shell find crates -name out -prune -o -name must-fail -prune -o -name 'hk_tests_*' -prune -o -type f -print) crates.txt HANDLES
+
 # made anew where a source changed
-bin/hkrep: $(shell find crates -name out -prune -o -name must-fail -prune -o -name 'hk_tests_*' -prune -o -type f -print) crates.txt HANDLES tests/build
+bin/hkrep: $(SOURCES) tests/build
 	tests/build
 	touch bin/hkrep
+
+bin/hkrep-unproved: $(SOURCES) VERSION tests/quick
+	tests/quick
+
+quick: bin/hkrep-unproved
 
 lib:
 	tests/library
 
 install:
-	install -d $(DESTDIR)$(PREFIX)/bin $(DESTDIR)$(PREFIX)/lib/pkgconfig $(DESTDIR)$(PREFIX)/include
-	install -m 755 bin/hkrep $(DESTDIR)$(PREFIX)/bin/hkrep
-	install -m 644 include/hekaton.h $(DESTDIR)$(PREFIX)/include/hekaton.h
-	install -m 644 lib/libhekaton.a $(DESTDIR)$(PREFIX)/lib/libhekaton.a
-	install -m 755 lib/libhekaton.so $(DESTDIR)$(PREFIX)/lib/libhekaton.so.0
-	ln -sf libhekaton.so.0 $(DESTDIR)$(PREFIX)/lib/libhekaton.so
-	sed 's,^prefix=.*,prefix=$(PREFIX),' lib/hekaton.pc > $(DESTDIR)$(PREFIX)/lib/pkgconfig/hekaton.pc
+	deploy/install --prefix "$(PREFIX)" --destdir "$(DESTDIR)"
 
-try:
-	cd crates/hkrep && rt try -- at --log 7 --streams 1 1 1 5 < ../../examples/first.bin
+package:
+	deploy/package
+
+try: bin/hkrep-unproved
+	bin/hkrep-unproved at --log 7 --streams 1 1 1 5 < examples/first.bin
 
 test:
 	tests/all
@@ -61,4 +67,4 @@ bench: bin/hkrep
 	bench/run
 
 clean:
-	rm -rf bin lib crates/*/out
+	rm -rf bin lib dist crates/*/out

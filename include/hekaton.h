@@ -25,6 +25,9 @@
 extern "C" {
 #endif
 
+/* The version of all of Vadungsil. */
+#define HEKATON_VERSION "0.1.0"
+
 /* A replica, or nothing. */
 typedef struct hk_handle { void *at; bool live; } hk_handle;
 #define HK_CLOSED { NULL, false }

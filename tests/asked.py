@@ -102,14 +102,14 @@ def bad_lines():
         problems += differ([(name, (out, status, is_told or told), (before, 1, True))])
     report("a bad line of JSON is told with its number, column and what was expected", problems)
     column = run("frames", data=GOOD.replace('"n":"1"', '"n":"1x"').encode())[2]
-    stands = GOOD.index('"n":"1"') + len('"n":"1x"')
-    report("the column is where the reader stands", [] if f"line 1, column {stands}" in column or f"column {stands + 1}:" in column else [column])
+    stands = GOOD.index('"n":"1"') + len('"n":') + 1
+    report("the column is that of the value that is wrong", [] if f"line 1, column {stands}: " in column else [column])
 
 
 def json_answers():
     words = ["--log", 7, "--streams", 1, "--json"]
     front = line_of({"front": {"horizon": "0", "readable": "1"}}).encode()
-    stream = {"stream": 1, "prefix": "1", "extra": "0", "closed": "1", "waiting": "0", "standing": "holds"}
+    stream = {"stream": 1, "prefix": "1", "extra": "0", "closed": "1", "waiting": "0", "standing": "open"}
     pairs = [
         ("get", run("ask", *words, 1, "get", 1, 5, data=FIRST), (line_of({"row": {"tag": 9, "body": "41"}}).encode(), 0, "")),
         ("none", run("ask", *words, 1, "get", 1, 6, data=FIRST), (b'{"row":null}\n', 0, "")),
@@ -129,7 +129,7 @@ def over_a_link():
     rows = [(1, key, 9, bytes([key])) for key in range(9)]
     frames = say.new_entry(1, 1, rows, stream=1) + say.new_entry(1, 2, [(1, 3, 8, b"")], [(1, 3, 1)], stream=2) + say.mark(1, 1, 5, version=2) + say.mark(2, 1, 4, version=2)
     words = ["--log", 7, "--streams", 2]
-    with Node(30, streams=2) as node, Node(30, streams=2) as other:
+    with Node(60, streams=2) as node, Node(60, streams=2) as other:
         to = ["--port", node.port]
         fed = run("feed", *to, "--batch", 2, data=frames)
         pairs += [("feed", fed[:2], (b"done 3\n", 0)), ("the rate is told", fed[2].startswith("fed 4 items in ") and fed[2].endswith(" a second\n"), True)]
@@ -169,7 +169,7 @@ def shell():
         ("get 1 5", "9 41\n", ""), ("at 1 get 1 6", "none\n", ""), ("  range  1 0 99 ", table, ""), ("at 4 range 1 0 99", table, ""),
         ("range 2 0 18446744073709551615", "                 key  tag  body\n18446744073709551615    0  4243\nrows 1\n".replace("                 key", " " * 17 + "key"), ""),
         ("tag 1 8", "key  tag  body\nrows 0\n", ""), ("count 1", "count 2\n", ""), ("front", "front horizon 0 readable 4\n", ""), ("", "", ""),
-        ("status", "stream 1 prefix 1 extra 0 closed 4 waiting 0 holds\nfront horizon 0 readable 4\n", ""), ("at 5 count 1", "refused 26 readable 4\n", "refused 26: time 5 is"),
+        ("status", "stream 1 prefix 1 extra 0 closed 4 waiting 0 open\nfront horizon 0 readable 4\n", ""), ("at 5 count 1", "refused 26 readable 4\n", "refused 26: time 5 is"),
         ("at 0 count 1", "count 0\n", ""), ("bogus", "", "line 1: expected: "), ("get 1", "", "expected: "), ("get 1 5 6", "", "expected: "), ("at get 1 5", "", "expected: "),
         ("get 65536 5", "", "expected: "), ("get 1 -5", "", "expected: "), ("at 9999999999999999999 count 1", "", "expected: "), ("x" * 5000, "", "expected: "))
     pairs = []

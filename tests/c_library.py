@@ -217,13 +217,40 @@ def piped(replica):
     return later.result()
 
 
+def listed_lines(text):
+    """The lines of the page's listings in C++, Rust, Python and Go that stand in no example."""
+    files = [it for folder in ("examples/embedding", "clients/rust/examples") for it in (ROOT / folder).iterdir() if it.is_file()]
+    lines = {line.strip() for it in files for line in it.read_text(encoding="utf-8").splitlines()}
+    listed = [line for block in re.findall(r"```(?:cpp|rust|python|go)\n(.*?)```", text, re.DOTALL) for line in block.splitlines()]
+    return [line for line in listed if line.strip() not in lines] + ([] if len(listed) >= 20 else [f"{len(listed)} lines"])
+
+
+def in_page():
+    """docs/EMBEDDING.md: the lines of its listings stand in the examples, and its commands, typed in a copy, print what they say."""
+    text, tree = (ROOT / "docs" / "EMBEDDING.md").read_text(encoding="utf-8"), WORK / "tree"
+    report("docs/EMBEDDING.md: what it lists stands in the examples", listed_lines(text))
+    for folder in ("include", "lib", "examples", "clients"):
+        shutil.copytree(ROOT / folder, tree / folder, symlinks=True, ignore=shutil.ignore_patterns("target", "Cargo.lock", "__pycache__"))
+    (tree / "feed.c").write_text(re.search(r"```c\n(.*?)```", text, re.DOTALL)[1], encoding="utf-8")
+    problems, count = [], 0
+    for line in re.findall(r"^    (.*\S)$", text, re.MULTILINE):
+        command, _, said = line.partition("  # ")
+        tool = re.sub(r"\w+=(\S*\".*?\"|\S+) ", "", command).split()[0]
+        if tool in ("cargo", "go", "cc", "g++", "python3", "./feed", "./first") and (tool.startswith("./") or shutil.which(tool)):
+            count += 1
+            command = command.replace("$(pkg-config --cflags --libs hekaton)", "-Iinclude -Llib -l:libhekaton.a")
+            printed, status = run(["bash", "-c", command], cwd=tree, env={**os.environ, "CARGO_NET_OFFLINE": "true"})
+            problems += [f"{command}: status {status}, {printed[-300:]}"] if status or said.strip() not in printed else []
+    report(f"docs/EMBEDDING.md: its commands ({count})", problems + ([] if count >= 5 else ["too few"]))
+
+
 def main(words):
     if not shutil.which("gcc"):
         skip("gcc is not installed: the library for C is not tested")
         return ended()
     try:
         if made():
-            for check in (in_c, in_cpp, in_rust, in_go, in_python):
+            for check in (in_c, in_cpp, in_rust, in_go, in_python, in_page):
                 if not words or check.__name__ in words:
                     check()
     finally:

@@ -120,7 +120,7 @@ def commands():
     lines, _ = reference.played(script)
     words = ["at", "--log", "7", "--streams", "1", "3", "1", "5"]
     return [(words, FRAMES, "9 42\n"), (["items"], FRAMES, LINES), (["rewrite"], FRAMES, NEW_FRAMES),
-            (["items", "--json"], FRAMES, JSON_LINES), (["frames"], JSON_LINES.encode(), NEW_FRAMES), (["world"], script.encode(), "".join(f"{it}\n" for it in lines))]
+            (["items", "--json"], FRAMES, JSON_LINES), (["frames"], JSON_LINES.encode(), NEW_FRAMES), (["world"], script.encode(), "".join(f"{it}\n" for it in lines)), (["world", "--items", "/dev/null"], script.encode(), "".join(f"{it}\n" for it in lines))]
 
 
 # The lines that a script prints where some of its commands are refused.
@@ -132,7 +132,7 @@ def problem_of_run(args, data, whole, **how):
     """Nothing, or what is wrong with a run that meets a refusal. A script goes on behind a command that is refused, and frames
     are written all or none."""
     ran = Ran(args, data, **how)
-    told = ran.out in (whole, "") if args in (["rewrite"], ["frames"]) else is_front_of_lines(ran.out, whole) or (args == ["world"] and ran.out.endswith("\n") and all(map(LINE.fullmatch, ran.out.splitlines())))
+    told = ran.out in (whole, "") if args in (["rewrite"], ["frames"]) else is_front_of_lines(ran.out, whole) or (args[0] == "world" and ran.out.endswith("\n") and all(map(LINE.fullmatch, ran.out.splitlines())))
     is_right = ran.status in (0, 1, 2) and told and ran.refused > 0 and (ran.status != 0 or ran.out == whole)
     return None if is_right else f"{how}: status {ran.status}, {ran.refused} refused, printed {ran.out[-200:]!r}"
 

@@ -1,20 +1,22 @@
 #!/usr/bin/env python3
 """What the pages show is what there is: listings are lines of files that the gate proves or runs, commands run and print
-what the page says, the picture is what its script draws, and each link leads to a file. Needs bin/hkrep."""
+what the page says, the pictures are what their scripts draw, and each link leads to a file. Needs bin/hkrep, or bin/hkrep-unproved."""
 import pathlib
 import re
+import shutil
 import socket
 import subprocess
 import sys
 import tempfile
 
-from checks import ended, is_built, report
+from checks import ended, is_built, report, skip
 
 ROOT = pathlib.Path(__file__).resolve().parent.parent
-PROGRAM = ROOT / "bin" / "hkrep"
-README = (ROOT / "README.md").read_text()
-PAGES = [ROOT / "README.md", *(ROOT / "docs").glob("*.md"), *(ROOT / "uses").glob("*.md"), *(ROOT / "examples").glob("*.md"),
-         *(ROOT / "examples").glob("world/*.md")]
+PROVED, UNPROVED = ROOT / "bin" / "hkrep", ROOT / "bin" / "hkrep-unproved"
+PROGRAM = PROVED if PROVED.exists() or not UNPROVED.exists() else UNPROVED
+STARTED = (ROOT / "docs" / "GETTING_STARTED.md").read_text()
+PAGES = [*ROOT.glob("*.md"), *(ROOT / "docs").glob("*.md"), *(ROOT / "bench").glob("*.md"), *(ROOT / "uses").glob("*.md"),
+         *(ROOT / "examples").glob("*.md"), *(ROOT / "examples").glob("world/*.md")]
 
 # What stands in a command of a page for something of the reader's own; a port is a free one.
 STAND_INS = {"FRAMES": "examples/first.bin", "NAME": "half_fed", "47000": None, "47110": None}
@@ -25,16 +27,22 @@ def sources():
 
 
 def listings():
+    """What a page lists in Rattle stands in a source; listings in Python are run by tests/python_client.py, or stand in an example."""
     texts = [path.read_text() for path in sources()]
-    # those of the first screen are run by tests/python_client.py
-    blocks = re.findall(r"```(?:rust|python)\n(.*?)\n```", README[README.index("## Three commands"):], re.S)
-    problems = [block.splitlines()[0] for block in blocks if not any(block in text for text in texts)]
-    report("the README's listings are lines of files", problems or ([] if len(blocks) >= 2 else ["fewer than two listings"]))
+    blocks = [(page.name, block) for page in PAGES if page.parent.name in ("uses", "examples")
+              for block in re.findall(r"```(?:rust|python)\n(.*?)\n```", page.read_text(), re.S)]
+    problems = [f"{name}: {block.splitlines()[0]}" for name, block in blocks if not any(block in text for text in texts)]
+    texts = [path.read_text() for path in (ROOT / "crates" / "hk_node").glob("**/*") if path.suffix in (".rt", ".antt", ".edit")]
+    changed = re.findall(r"```(?:rust|antt|)\n((?:    |file|--|effect|abbrev).*?)\n```", (ROOT / "docs" / "CONTRIBUTING.md").read_text(), re.S)
+    problems += [f"CONTRIBUTING.md: {block.splitlines()[0]}" for block in changed if not any(block in text for text in texts)]
+    problems += [] if len(blocks) >= 3 and len(changed) >= 4 else [f"{len(blocks)} and {len(changed)} listings"]
+    report("what uses/README.md and docs/CONTRIBUTING.md list are lines of files", problems)
 
 
-def picture():
-    got = subprocess.run([ROOT / "docs" / "streams", "--check"], stderr=subprocess.PIPE, text=True, check=False)
-    report("docs/streams.svg is what its script draws", [got.stderr] if got.returncode else [])
+def pictures():
+    for script, drawn in (("streams", "docs/streams.svg is"), ("pictures", "docs/answer.svg, nodes.svg and trust.svg are")):
+        got = subprocess.run([ROOT / "docs" / script, "--check"], stderr=subprocess.PIPE, text=True, check=False)
+        report(f"{drawn} what docs/{script} draws", [got.stderr] if got.returncode else [])
 
 
 def calling():
@@ -43,10 +51,10 @@ def calling():
 
 
 def commands():
-    listed = re.findall(r"^hkrep (\w+) ", README, re.M)
+    listed = re.findall(r"^hkrep (\w+) ", STARTED[STARTED.index("## All commands"):], re.M)
     got = subprocess.run([PROGRAM, "--help"], stdout=subprocess.PIPE, text=True, check=False)
     known = [line.split()[0] for line in got.stdout.splitlines() if re.match(r"  [a-z]+ ", line) and line.split()[0] != "help"]
-    report("the README lists each command", [] if sorted(listed) == sorted(known) else [f"{listed}, and --help has {known}"])
+    report("GETTING_STARTED lists each command", [] if sorted(listed) == sorted(known) else [f"{listed}, and --help has {known}"])
 
 
 def free_port():
@@ -56,7 +64,7 @@ def free_port():
 
 
 def asked_node():
-    """The node of the README, on a free port."""
+    """The node that uses/README.md asks, on a free port."""
     port = free_port()
     node = subprocess.Popen([PROGRAM, "serve", "--log", "7", "--streams", "1", "--port", port, "--links", "1"], stdout=subprocess.PIPE, text=True)
     node.stdout.readline()
@@ -65,7 +73,7 @@ def asked_node():
     ended, _ = node.communicate(timeout=60)
     wanted = "front 01 21 00 00 00 00 00 00 00 00 00 00 00 00 00 00 00 01\ntag 9 body 41\n"
     problems = [] if got.stdout == wanted and ended == "ended 0\n" and node.returncode == 0 else [got.stdout + ended]
-    report("examples/links/ask.py asks the README's node", problems)
+    report("examples/links/ask.py asks a node", problems)
 
 
 def shown():
@@ -81,6 +89,7 @@ def shown():
 
 
 def bash(command):
+    command = command.replace("bin/hkrep", str(PROGRAM.relative_to(ROOT))) if PROGRAM == UNPROVED else command
     ran = subprocess.run(["bash", "-c", command], cwd=ROOT, stdout=subprocess.PIPE, stderr=subprocess.PIPE, text=True, timeout=60, check=False)
     return ran.stdout, ran.returncode
 
@@ -124,6 +133,27 @@ def shown_commands():
         if status != is_refused or not printed or not as_said(printed, said):
             problems.append(f"{page.name}: {command}: status {status}, printed {printed[:200]!r}")
     report("each command that a page shows runs and prints what the page says", problems or ([] if count >= 10 else [f"only {count} commands"]))
+
+
+def typed(text):
+    """The listings of a page for one shell, each with what it has to print; a line that starts a node is followed by a wait for it."""
+    for block, said in re.findall(r"^```sh\n(.*?)^```(?:\n+```text\n(.*?)^```)?", text, re.M | re.S):
+        waits = r"\1\nfor _ in $(seq 100); do grep -q listening \2 && break; sleep 0.1; done"
+        yield re.sub(r"^(hkrep serve .* > (\S+) &)$", waits, block, flags=re.M), said
+
+
+def started():
+    """docs/GETTING_STARTED.md from its first line to its last, in one shell, with free ports for its nodes."""
+    listed = list(typed(STARTED))
+    script = "".join(f"{block}\necho '<end {number}>'\n" for number, (block, _) in enumerate(listed))
+    for port in sorted(set(re.findall(r"\b4700\d\b", script))):
+        script = script.replace(port, free_port())
+    script = script.replace("$PWD/bin/hkrep-unproved", str(PROGRAM))
+    ran = subprocess.run(["bash"], input=script, cwd=ROOT, stdout=subprocess.PIPE, stderr=subprocess.PIPE, text=True, timeout=120, check=False)
+    pieces = re.split(r"<end \d+>\n", ran.stdout)
+    problems = [f"{block.splitlines()[-1]}: printed {got!r}, wanted {said!r}" for (block, said), got in zip(listed, pieces) if got != said]
+    problems += [] if len(pieces) == len(listed) + 1 and len(listed) >= 10 else [f"{len(listed)} listings, {len(pieces) - 1} ended: {ran.stderr[-300:]}"]
+    report(f"docs/GETTING_STARTED.md, typed from its first line to its last ({len(listed)} listings)", problems)
 
 
 def examples_of(command):
@@ -174,6 +204,19 @@ def made():
     report("each make of a page is in the Makefile, and the demo prints its answer", problems + ([] if (demo, status) == ("9 41\n", 0) else [demo]))
 
 
+def toolchain():
+    """Each command of the toolchain that a page names is one that `rt help` has, and a kit that a page names is the one here."""
+    if not shutil.which("rt"):
+        skip("no toolchain is here: its commands in the pages are not looked for")
+        return
+    said = bash("rt help 2>&1")[0]
+    named = {word for page in PAGES for word in re.findall(r"(?:`|^    )rt ([a-z-]+)", page.read_text(), re.M)}
+    problems = sorted(word for word in named if not re.search(rf"\b(?:rt |\|){word}\b", said))
+    kits = {kit for page in PAGES for kit in re.findall(r"`(rattle-kit-\S+ logic \w+)`", page.read_text())}
+    problems += [kit for kit in kits if kit not in bash("rt version 2>&1")[0]]
+    report("each rt of a page is one of the toolchain's, and the kit is this one", problems if len(named) >= 5 else [*problems, f"only {named}"])
+
+
 def links():
     problems = []
     for page in PAGES:
@@ -186,7 +229,7 @@ def links():
 def main():
     if not is_built(PROGRAM):
         return ended()
-    for check in (listings, picture, calling, commands, shown_commands, helped, made, asked_node, links):
+    for check in (listings, pictures, calling, commands, shown_commands, started, helped, made, toolchain, asked_node, links):
         check()
     return ended()
 

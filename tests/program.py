@@ -14,7 +14,7 @@ import tempfile
 import time
 
 from checks import ended, is_built, report
-from messages import entry, mark
+from messages import entry, mark, new_entry
 
 ROOT = pathlib.Path(__file__).resolve().parent.parent
 PROGRAM = ROOT / "bin" / "hkrep"
@@ -452,6 +452,54 @@ def world_scripts():
           "begun 1 at 0\nok\nrefused 31 table 1 key 9\n", 1)
 
 
+# A script of two streams, what it prints, and the frames of its items.
+EMITTING = b"""world 7 2 1
+begin 1
+put 1 1 5 9 41
+commit 1 1
+mark 1
+begin 2
+put 2 1 5 9 42
+put 2 1 6 9 -
+prune 1 9
+commit 2 2
+retire 2
+"""
+EMITTED = (new_entry(1, 1, [(1, 5, 9, b"A")]) + mark(1, 1, 1, version=2)
+           + new_entry(1, 2, [(1, 5, 9, b"B"), (1, 6, 9, b"")], [(1, 5, 1)], stream=2) + mark(2, 1, 2 ** 62, version=2))
+
+
+def kept_items(folder, script, name="items.bin"):
+    """The status of a script with `--items`, what it printed and told, and what the file has."""
+    file = pathlib.Path(folder) / name
+    got = run(["world", "--items", str(file)], script)
+    return got.returncode, got.stdout.decode(), got.stderr.decode(), file.read_bytes() if file.is_file() else None
+
+
+def items_of_worlds():
+    """The frames of a world's items in a file of their own: at the end of the script, none where it stopped before."""
+    plain = run(["world"], EMITTING)
+    printed = plain.stdout.decode()
+    with tempfile.TemporaryDirectory() as folder:
+        (pathlib.Path(folder) / "items.bin").write_bytes(b"what stood there")
+        kept = kept_items(folder, EMITTING)
+        many = b"world 7 1 1\n" + b"begin 1\nput 1 1 5 9 " + b"41" * 4000 + b"\ncommit 1 1\n"
+        several = b"world 7 1 1\n" + b"".join(b"begin 1\nput 1 1 %d 9 %s\ncommit 1 1\n" % (n, b"42" * 4000) for n in range(1, 41))
+        frames = b"".join(new_entry(n, n, [(1, n, 9, b"B" * 4000)]) for n in range(1, 41))
+        cases = [("the file has the items' frames, and the lines are as without it", kept, (plain.returncode, printed, plain.stderr.decode(), EMITTED)),
+                 ("a body of 4,000 bytes", kept_items(folder, many)[3], new_entry(1, 1, [(1, 5, 9, b"A" * 4000)])),
+                 ("more than one write has", kept_items(folder, several)[3], frames),
+                 ("no item", kept_items(folder, b"world 7 1 1\n")[3], b""), ("no script", kept_items(folder, b"")[3], b""),
+                 ("a script that stops", kept_items(folder, EMITTING + b"bogus\n")[::3], (1, b"")),
+                 ("a folder that isn't there", kept_items(folder, EMITTING, "no/items.bin")[0::3], (1, None)),
+                 ("which is told", "stopped: can't make the file " in kept_items(folder, EMITTING, "no/items.bin")[2], True)]
+    full = run(["world", "--items", "/dev/full"], EMITTING)
+    told = "stopped: the file of items can't be written; see where it goes\n"
+    cases += [("a full device", (full.returncode, full.stdout.decode(), full.stderr.decode().endswith(told)), (1, printed, True))]
+    for name, got, wanted in cases:
+        report(f"world --items: {name}", [] if got == wanted else [f"{got!r} where {wanted!r} was to be"[:600]])
+
+
 def reasons():
     """What standard error says: where, what was refused with its numbers, and what to do."""
     check_told("why a time is above the mark", at(1, 1, 5), E1,
@@ -647,9 +695,9 @@ def told_of_json(data, length):
     return b"".join(line for line, end in zip(JSON_LINES.splitlines(keepends=True), (len(E1), len(data))) if end <= length)
 
 
-def told_of_frames(data, length):
-    """What `frames` writes of so many of the first bytes of these lines: frames that are few are written at the end."""
-    return NEW_E1 + mark(1, 1, 1, version=2) if length >= len(data) else b""
+def told_of_frames(_data, _length):
+    """What `frames` writes where a read fails behind so many bytes of these lines: frames that are few are written at the end of the input."""
+    return b""
 
 
 def told_of_lines(data, length):
@@ -664,11 +712,12 @@ def failing_reads_and_writes():
     calls = ((["items"], E1 + mark(1, 1, 1), 7, told_of_items, b"refused 91\n"),
              (["world"], b"world 7 1 1\nbegin 1\nbegin 2\nbegin 3\n", 5, told_of_lines, b"refused 91\n"),
              (["items", "--json"], E1 + mark(1, 1, 1), 7, told_of_json, b'{"refused":91}\n'), (["frames"], JSON_LINES, 25, told_of_frames, b""))
+    wholes = {"frames": NEW_E1 + mark(1, 1, 1, version=2)}
     with tempfile.TemporaryDirectory() as folder:
         library = pathlib.Path(folder) / "failing_io.so"
         subprocess.run(["cc", "-shared", "-fPIC", "-O1", "-o", str(library), str(source), "-ldl"], check=True)
         for args, data, step, told_of, refused in calls:
-            whole = told_of(data, len(data))
+            whole = wholes.get(args[0], told_of(data, len(data)))
             for name in ("FAILING_READ", "FAILING_WRITE"):
                 problems, number = [], 0
                 while number < 100:
@@ -716,7 +765,7 @@ def links_example():
 def main():
     if not is_built(PROGRAM):
         return ended()
-    for group_of_checks in (worked_rows, new_worked_rows, bytes_of_all_kinds, faults_of_frames, faults_of_new_frames, rewriting, pieces, deliveries, generated_histories, refusals, world_scripts, reasons, explained, asks_and_fronts, bad_scripts, long_scripts, command_lines, failing_devices, failing_reads_and_writes, links_example):
+    for group_of_checks in (worked_rows, new_worked_rows, bytes_of_all_kinds, faults_of_frames, faults_of_new_frames, rewriting, pieces, deliveries, generated_histories, refusals, world_scripts, items_of_worlds, reasons, explained, asks_and_fronts, bad_scripts, long_scripts, command_lines, failing_devices, failing_reads_and_writes, links_example):
         group_of_checks()
     return ended()
 

@@ -774,12 +774,10 @@ def syntax():
 
 
 def page():
-    """docs/PYTHON.md and the README's first screen: each listing runs, one after the other of a page, and prints what stands below it."""
+    """docs/PYTHON.md and README.md: each listing runs, one after the other of a page, and prints what stands below it."""
     problems, count = [], 0
     for name in ("docs/PYTHON.md", "README.md"):
         text = (ROOT / name).read_text(encoding="utf-8")
-        if name == "README.md":
-            text = text[:text.index("## Three commands")]
         blocks = re.findall(r"```python\n(.*?)```(?:\n+```text\n(.*?)```)?", text, re.S)
         with Served(20) as served, tempfile.TemporaryDirectory() as folder:
             state = {}
@@ -799,7 +797,7 @@ def page():
                 count += 1
                 got = command([word if not word.startswith("report") else f"{folder}/{word}" for word in line.replace("47000", str(served.port)).split()])
                 problems += differ([(line, got[0].strip(), printed)])
-    report(f"the listings and commands of docs/PYTHON.md and of the README's first screen ({count})", problems + ([] if count >= 8 else ["too few"]))
+    report(f"the listings and commands of docs/PYTHON.md and of README.md ({count})", problems + ([] if count >= 8 else ["too few"]))
 
 
 CHECKS = (values, reasons, client_items, client_messages, client_faults, stored, syntax, program_items, program_replies, program_sessions, a_node, pipelines,

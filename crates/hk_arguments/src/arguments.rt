@@ -12,7 +12,7 @@ use std::net::Ipv4Addr;
 
 /// What the program is asked to do.
 #[derive(Clone, Copy)]
-pub enum Call {
+pub enum Call<'a> {
     /// Absorb item frames, and print the row at a table and a key at a time.
     At {
         config: Config,
@@ -49,8 +49,10 @@ pub enum Call {
     Frames,
     /// Write item frames in version 2.
     Rewrite,
-    /// Play a script of a primary and its replicas.
-    World,
+    /// Play a script of a primary and its replicas, and write the items to a file of this name where one is given.
+    World {
+        items: Option<&'a str>,
+    },
     /// Start a node, and serve so many links on a port.
     Serve {
         config: Config,
@@ -272,7 +274,7 @@ pub(crate) fn config_of(matches: &ArgMatches<'_>) -> Option<Config> {
 }
 
 /// The call that the arguments of `serve` make, where each of them is in its range.
-fn serve_call(matches: &ArgMatches<'_>) -> Option<Call> {
+fn serve_call<'a>(matches: &ArgMatches<'a>) -> Option<Call<'a>> {
     if matches.get_flag("stay") {
         return stay_call(matches);
     }
@@ -299,17 +301,12 @@ fn bad_word(alloc: Global, word: &str) -> Result<Error, AllocError> {
     bad_line(alloc, message.as_str())
 }
 
-/// A call, where the words of its numbers are made of decimal digits alone and it could be made.
-fn checked(
-    alloc: Global,
-    matches: &ArgMatches<'_>,
-    numbers: &[&str],
-    call: Option<Call>,
-) -> Result<Call, Error> {
-    if let Some(word) = first_signed(matches, numbers) {
+/// The call of `serve`, where the words of its numbers are made of decimal digits alone and it could be made.
+fn read_serve<'a>(alloc: Global, matches: &ArgMatches<'a>) -> Result<Call<'a>, Error> {
+    if let Some(word) = first_signed(matches, &SERVE_NUMBERS) {
         return Err(bad_word(alloc, word)?);
     }
-    match call {
+    match serve_call(matches) {
         Some(call) => Ok(call),
         None => Err(bad_line(alloc, "a number is out of its range")?),
     }
@@ -326,7 +323,11 @@ fn first_bad<'a>(form: &Form, matches: &ArgMatches<'a>) -> Option<&'a str> {
 }
 
 /// The call of a form, where the words of its numbers are made of decimal digits alone and it could be made.
-fn checked_form(alloc: Global, form: &Form, matches: &ArgMatches<'_>) -> Result<Call, Error> {
+fn checked_form<'a>(
+    alloc: Global,
+    form: &Form,
+    matches: &ArgMatches<'a>,
+) -> Result<Call<'a>, Error> {
     if let Some(word) = first_bad(form, matches) {
         return Err(bad_word(alloc, word)?);
     }
@@ -336,7 +337,7 @@ fn checked_form(alloc: Global, form: &Form, matches: &ArgMatches<'_>) -> Result<
     }
 }
 
-fn read_form(alloc: Global, name: &str, matches: &ArgMatches<'_>) -> Result<Call, Error> {
+fn read_form<'a>(alloc: Global, name: &str, matches: &ArgMatches<'a>) -> Result<Call<'a>, Error> {
     match form_named(&FORMS, name) {
         Some(form) => checked_form(alloc, form, matches),
         None => Err(bad_line(alloc, "no such command")?),
@@ -345,10 +346,10 @@ fn read_form(alloc: Global, name: &str, matches: &ArgMatches<'_>) -> Result<Call
 
 /// Reads the words of the command line, the program's name first. An error has a text and a status: 2 for a
 /// bad command line, 0 where help or the version was asked for. Cost: O(n), n bytes of the words.
-pub fn read_call<'a>(alloc: Global, words: &'a [String]) -> Result<Call, Error> {
+pub fn read_call<'a>(alloc: Global, words: &'a [String]) -> Result<Call<'a>, Error> {
     let matches = program(alloc)?.try_get_matches_from(words)?;
     match matches.subcommand() {
-        Some(("serve", serve)) => checked(alloc, serve, &SERVE_NUMBERS, serve_call(serve)),
+        Some(("serve", serve)) => read_serve(alloc, serve),
         Some((name, words)) => read_form(alloc, name, words),
         None => Err(bad_line(alloc, "a command is missing")?),
     }

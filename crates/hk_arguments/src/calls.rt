@@ -49,7 +49,7 @@ fn query_of(name: &str, words: &ArgMatches<'_>) -> Option<Query> {
     })
 }
 
-fn at_call(matches: &ArgMatches<'_>) -> Option<Call> {
+fn at_call<'a>(matches: &ArgMatches<'a>) -> Option<Call<'a>> {
     Some(Call::At {
         config: config_of(matches)?,
         time: time_of(matches)?,
@@ -59,7 +59,7 @@ fn at_call(matches: &ArgMatches<'_>) -> Option<Call> {
 }
 
 /// The call of a query over a link, or of item frames.
-fn ask_call(matches: &ArgMatches<'_>) -> Option<Call> {
+fn ask_call<'a>(matches: &ArgMatches<'a>) -> Option<Call<'a>> {
     let (name, words) = matches.subcommand()?;
     let query = query_of(name, words)?;
     let time = time_of(matches);
@@ -80,11 +80,11 @@ fn ask_call(matches: &ArgMatches<'_>) -> Option<Call> {
     })
 }
 
-fn front_of(config: Config, is_json: bool) -> Call {
+fn front_of<'a>(config: Config, is_json: bool) -> Call<'a> {
     Call::Front { config, is_json }
 }
 
-fn front_call(matches: &ArgMatches<'_>) -> Option<Call> {
+fn front_call<'a>(matches: &ArgMatches<'a>) -> Option<Call<'a>> {
     let is_json = is_json(matches);
     if let Some(port) = port_of(matches) {
         let order = Order::Front { is_json };
@@ -93,7 +93,7 @@ fn front_call(matches: &ArgMatches<'_>) -> Option<Call> {
     Some(front_of(config_of(matches)?, is_json))
 }
 
-fn status_call(matches: &ArgMatches<'_>) -> Option<Call> {
+fn status_call<'a>(matches: &ArgMatches<'a>) -> Option<Call<'a>> {
     let is_json = is_json(matches);
     if let Some(port) = port_of(matches) {
         let order = Order::Status { is_json };
@@ -129,19 +129,19 @@ fn order_of(name: &str, matches: &ArgMatches<'_>) -> Option<Order> {
     })
 }
 
-fn node_call(name: &str, matches: &ArgMatches<'_>) -> Option<Call> {
+fn node_call<'a>(name: &str, matches: &ArgMatches<'a>) -> Option<Call<'a>> {
     let order = order_of(name, matches)?;
     let port = port_of(matches)?;
     Some(Call::Node { port, order })
 }
 
-fn explain_call(matches: &ArgMatches<'_>) -> Call {
+fn explain_call<'a>(matches: &ArgMatches<'a>) -> Call<'a> {
     let number = matches.get_one::<u64>("number");
     Call::Explain { number }
 }
 
 /// The call that the arguments of a command make, where each of them is in its range.
-pub(crate) fn call_of(name: &str, matches: &ArgMatches<'_>) -> Option<Call> {
+pub(crate) fn call_of<'a>(name: &str, matches: &ArgMatches<'a>) -> Option<Call<'a>> {
     match name {
         "at" => at_call(matches),
         "ask" => ask_call(matches),
@@ -152,7 +152,9 @@ pub(crate) fn call_of(name: &str, matches: &ArgMatches<'_>) -> Option<Call> {
         }),
         "frames" => Some(Call::Frames),
         "rewrite" => Some(Call::Rewrite),
-        "world" => Some(Call::World),
+        "world" => Some(Call::World {
+            items: matches.get_str("items"),
+        }),
         "explain" => Some(explain_call(matches)),
         node => node_call(node, matches),
     }

@@ -31,6 +31,16 @@ pub(crate) struct Number {
     need: Need,
 }
 
+/// What a command takes beside numbers.
+#[derive(Clone, Copy)]
+enum Extra {
+    Nothing,
+    /// That it prints lines of JSON.
+    Json,
+    /// A file for items.
+    Items,
+}
+
 /// A command.
 #[derive(Clone, Copy)]
 pub(crate) struct Form {
@@ -38,7 +48,7 @@ pub(crate) struct Form {
     about: &'static str,
     example: &'static str,
     pub(crate) numbers: &'static [Number],
-    has_json: bool,
+    extra: Extra,
     has_queries: bool,
 }
 
@@ -232,7 +242,7 @@ pub(crate) const FORMS: [Form; 16] = [
         about: texts::AT_ABOUT,
         example: texts::AT_EXAMPLE,
         numbers: &[LOG, STREAMS, TIME, TABLE, KEY],
-        has_json: false,
+        extra: Extra::Nothing,
         has_queries: false,
     },
     Form {
@@ -240,7 +250,7 @@ pub(crate) const FORMS: [Form; 16] = [
         about: texts::ASK_ABOUT,
         example: texts::ASK_EXAMPLE,
         numbers: &[OR_LOG, OR_STREAMS, OR_PORT, OR_TIME],
-        has_json: true,
+        extra: Extra::Json,
         has_queries: true,
     },
     Form {
@@ -248,7 +258,7 @@ pub(crate) const FORMS: [Form; 16] = [
         about: texts::FRONT_ABOUT,
         example: texts::FRONT_EXAMPLE,
         numbers: &[OR_LOG, OR_STREAMS, OR_PORT],
-        has_json: true,
+        extra: Extra::Json,
         has_queries: false,
     },
     Form {
@@ -256,7 +266,7 @@ pub(crate) const FORMS: [Form; 16] = [
         about: texts::STATUS_ABOUT,
         example: texts::STATUS_EXAMPLE,
         numbers: &[OR_LOG, OR_STREAMS, OR_PORT],
-        has_json: true,
+        extra: Extra::Json,
         has_queries: false,
     },
     Form {
@@ -264,7 +274,7 @@ pub(crate) const FORMS: [Form; 16] = [
         about: texts::ITEMS_ABOUT,
         example: texts::ITEMS_EXAMPLE,
         numbers: &[],
-        has_json: true,
+        extra: Extra::Json,
         has_queries: false,
     },
     Form {
@@ -272,7 +282,7 @@ pub(crate) const FORMS: [Form; 16] = [
         about: texts::FRAMES_ABOUT,
         example: texts::FRAMES_EXAMPLE,
         numbers: &[],
-        has_json: false,
+        extra: Extra::Nothing,
         has_queries: false,
     },
     Form {
@@ -280,7 +290,7 @@ pub(crate) const FORMS: [Form; 16] = [
         about: texts::REWRITE_ABOUT,
         example: texts::REWRITE_EXAMPLE,
         numbers: &[],
-        has_json: false,
+        extra: Extra::Nothing,
         has_queries: false,
     },
     Form {
@@ -288,7 +298,7 @@ pub(crate) const FORMS: [Form; 16] = [
         about: texts::WORLD_ABOUT,
         example: texts::WORLD_EXAMPLE,
         numbers: &[],
-        has_json: false,
+        extra: Extra::Items,
         has_queries: false,
     },
     Form {
@@ -296,7 +306,7 @@ pub(crate) const FORMS: [Form; 16] = [
         about: texts::PUSH_ABOUT,
         example: texts::PUSH_EXAMPLE,
         numbers: &[PORT],
-        has_json: false,
+        extra: Extra::Nothing,
         has_queries: false,
     },
     Form {
@@ -304,7 +314,7 @@ pub(crate) const FORMS: [Form; 16] = [
         about: texts::FEED_ABOUT,
         example: texts::FEED_EXAMPLE,
         numbers: &[PORT, BATCH],
-        has_json: false,
+        extra: Extra::Nothing,
         has_queries: false,
     },
     Form {
@@ -312,7 +322,7 @@ pub(crate) const FORMS: [Form; 16] = [
         about: texts::SAVE_ABOUT,
         example: texts::SAVE_EXAMPLE,
         numbers: &[PORT],
-        has_json: true,
+        extra: Extra::Json,
         has_queries: false,
     },
     Form {
@@ -320,7 +330,7 @@ pub(crate) const FORMS: [Form; 16] = [
         about: texts::LOAD_ABOUT,
         example: texts::LOAD_EXAMPLE,
         numbers: &[PORT],
-        has_json: false,
+        extra: Extra::Nothing,
         has_queries: false,
     },
     Form {
@@ -328,7 +338,7 @@ pub(crate) const FORMS: [Form; 16] = [
         about: texts::PULL_ABOUT,
         example: texts::PULL_EXAMPLE,
         numbers: &[PORT, FROM],
-        has_json: false,
+        extra: Extra::Nothing,
         has_queries: false,
     },
     Form {
@@ -336,7 +346,7 @@ pub(crate) const FORMS: [Form; 16] = [
         about: texts::PRUNE_ABOUT,
         example: texts::PRUNE_EXAMPLE,
         numbers: &[PORT, HORIZON],
-        has_json: false,
+        extra: Extra::Nothing,
         has_queries: false,
     },
     Form {
@@ -344,7 +354,7 @@ pub(crate) const FORMS: [Form; 16] = [
         about: texts::SHELL_ABOUT,
         example: texts::SHELL_EXAMPLE,
         numbers: &[PORT],
-        has_json: false,
+        extra: Extra::Nothing,
         has_queries: false,
     },
     Form {
@@ -352,7 +362,7 @@ pub(crate) const FORMS: [Form; 16] = [
         about: texts::EXPLAIN_ABOUT,
         example: texts::EXPLAIN_EXAMPLE,
         numbers: &[REFUSAL],
-        has_json: false,
+        extra: Extra::Nothing,
         has_queries: false,
     },
 ];
@@ -364,7 +374,7 @@ pub(crate) const QUERIES: [Form; 4] = [
         about: texts::GET_ABOUT,
         example: "",
         numbers: &[TABLE, KEY],
-        has_json: false,
+        extra: Extra::Nothing,
         has_queries: false,
     },
     Form {
@@ -372,7 +382,7 @@ pub(crate) const QUERIES: [Form; 4] = [
         about: texts::RANGE_ABOUT,
         example: "",
         numbers: &[TABLE, LOW, HIGH],
-        has_json: false,
+        extra: Extra::Nothing,
         has_queries: false,
     },
     Form {
@@ -380,7 +390,7 @@ pub(crate) const QUERIES: [Form; 4] = [
         about: texts::TAG_ABOUT,
         example: "",
         numbers: &[TABLE, TAG],
-        has_json: false,
+        extra: Extra::Nothing,
         has_queries: false,
     },
     Form {
@@ -388,7 +398,7 @@ pub(crate) const QUERIES: [Form; 4] = [
         about: texts::COUNT_ABOUT,
         example: "",
         numbers: &[TABLE],
-        has_json: false,
+        extra: Extra::Nothing,
         has_queries: false,
     },
 ];
@@ -461,27 +471,39 @@ pub(crate) fn with_numbers<'a>(
     Ok(command)
 }
 
-/// A command with its option for JSON, where it has one.
-fn with_json<'a>(
-    alloc: Global,
-    command: Command<'a>,
-    has_json: bool,
-) -> Result<Command<'a>, AllocError> {
-    if !has_json {
-        return Ok(command);
-    }
-    let json = Arg::new(alloc, "json")
+fn json_arg<'a>(alloc: Global) -> Arg<'a> {
+    Arg::new(alloc, "json")
         .long("json")
         .help("Print lines of JSON")
-        .action(ArgAction::SetTrue);
-    command.arg(json)
+        .action(ArgAction::SetTrue)
+}
+
+fn items_arg<'a>(alloc: Global) -> Arg<'a> {
+    Arg::new(alloc, "items")
+        .long("items")
+        .value_name("FILE")
+        .help("Also write the frames of the primary's items to this file, which is made anew")
+        .action(ArgAction::Set)
+}
+
+/// A command with what it takes beside numbers.
+fn with_extra<'a>(
+    alloc: Global,
+    command: Command<'a>,
+    extra: Extra,
+) -> Result<Command<'a>, AllocError> {
+    match extra {
+        Extra::Nothing => Ok(command),
+        Extra::Json => command.arg(json_arg(alloc)),
+        Extra::Items => command.arg(items_arg(alloc)),
+    }
 }
 
 /// The command of a form, without queries.
 fn plain_command<'a>(alloc: Global, form: &Form) -> Result<Command<'a>, AllocError> {
     let command = plain(alloc, form.name, form.about, form.example);
     let command = with_numbers(alloc, command, form.numbers)?;
-    with_json(alloc, command, form.has_json)
+    with_extra(alloc, command, form.extra)
 }
 
 fn query_command<'a>(alloc: Global, query: &Form) -> Result<Command<'a>, AllocError> {

@@ -63,7 +63,7 @@ fn address_of(matches: &ArgMatches<'_>) -> Option<Ipv4Addr> {
 }
 
 /// The call that `serve --stay` makes, where each argument is in its range.
-pub(crate) fn stay_call(matches: &ArgMatches<'_>) -> Option<Call> {
+pub(crate) fn stay_call<'a>(matches: &ArgMatches<'a>) -> Option<Call<'a>> {
     let links = matches.get_one::<u16>("links")?;
     Some(Call::Stay {
         config: config_of(matches)?,

@@ -48,7 +48,7 @@ prints
   front horizon 0 readable 0
 Of each stream: the number up to which all entries are there, how many are there above it, the time \
 up to which marks close it, how many marks wait for entries, and whether it holds the readable mark \
-back ('holds'), is closed further ('open') or is retired ('retired'). Of a node that runs:
+back while another is closed further ('holds'), doesn't ('open') or is retired ('retired'). Of a node that runs:
   hkrep status --port 47110";
 
 pub(crate) const EXPLAIN_ABOUT: &str = "Print what the numbers of refusals mean, and what to do";
@@ -111,7 +111,8 @@ Example:
   ask 1 1 get 1 5
   END
 plays the script line by line, and prints what each line is told: 'begun 1 at 0', 'ok', 'committed 1', \
-'mark stream 1 n 1 m 1', 'taken', 'front horizon 0 readable 0', 'taken' and '9 41'. A refused command \
+'mark stream 1 n 1 m 1', 'taken', 'front horizon 0 readable 0', 'taken' and '9 41'. With --items FILE the \
+frames of the two items are written to FILE at the end of the script, none where it stopped before. A refused command \
 prints its refusal and changes nothing; a line that is no command prints 'line N: bad command' and ends \
 the script. Standard error says why. examples/world has longer scripts, and a README that tells their \
 stories.";

@@ -11,10 +11,7 @@ pub use hk_commands::{
     run_world,
 };
 pub use hk_lines::{Printed, line_of};
-pub use hk_remote::{
-    run_feed, run_load, run_node_ask, run_node_front, run_node_status, run_prune, run_pull,
-    run_push, run_save, run_shell,
-};
+pub use hk_remote::{Order, run_order};
 pub use hk_types::Links;
 pub use serve::run_serve;
 pub use stay::{ReadPort, Stay, run_stay};

@@ -1,15 +1,24 @@
 -- How far a stream is, and the line that is printed of it.
-use Rattle.std.specs.Prelude.{ℕ, List, ◌++◌, ◌^◌, ◌==◌, if◌then◌else◌, codes}
+use Rattle.std.specs.Prelude.{ℕ, List, [], ◌∷◌, ◌++◌, ◌^◌, ◌==◌, Bool, true, not, ◌&&◌, if◌then◌else◌, codes}
 use Rattle.std.specs.Fmt.{decimal}
+use Rattle.hk_model.specs.Replica.Streams.{StreamContent}
+use Rattle.hk_model.specs.Replica.Content.{least_closed}
 use Rattle.hk_lines.specs.Lines.{line_end}
 use Rattle.hk_commands.specs.declared.status.Standing.{Standing}
 use Rattle.hk_commands.specs.declared.status.Standing.TheVariants.{Open, Holds, Retired}
 use Rattle.hk_commands.specs.declared.status.StreamStatus.{StreamStatus}
 
--- what a stream does to the readable mark: one that is closed up to the last time of all is retired, and of the others
--- those that are closed least hold it back
-abbrev pub standing_of : ℕ → ℕ → Standing
-standing_of closed readable = if closed == 2 ^ 62 then Retired else (if closed == readable then Holds else Open)
+-- whether all streams are closed up to a time and no further
+abbrev pub are_closed_at : ℕ → List StreamContent → Bool
+are_closed_at time [] = true
+are_closed_at time (s ∷ streams) = s.closed == time && are_closed_at time streams
+
+-- what a stream does to the readable mark, by the time up to which it is closed: where that is the last time of all it is
+-- retired; where it is the least one, and another stream is closed further, it holds the mark back
+abbrev pub standing_of : ℕ → List StreamContent → Standing
+standing_of closed streams =
+    if closed == 2 ^ 62 then Retired
+    else (if closed == least_closed streams && not (are_closed_at closed streams) then Holds else Open)
 
 -- which entries a stream has
 abbrev pub taken_part : StreamStatus → List ℕ

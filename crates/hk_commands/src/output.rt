@@ -23,6 +23,9 @@ const NO_WORDS: &[u8] = b"refused: no memory to say why; hkrep explain has the n
 /// What is told where memory ran out.
 const NO_MEMORY: &[u8] = b"refused 90: out of memory; free memory, and make the same call again\n";
 
+/// What is told where a write of the file of items failed.
+const NO_ITEMS: &[u8] = b"stopped: the file of items can't be written; see where it goes\n";
+
 /// What is told where a write of the output failed.
 const NO_OUTPUT: &[u8] = b"stopped: the output can't be written; see where standard output goes\n";
 
@@ -264,6 +267,7 @@ impl<'a, W: Write, E: Write> Output<'a, W, E> {
             Stop::SendFault => self.tell_known(Place::Whole, "refused", 92),
             Stop::NetFault => self.tell_known(Place::Whole, "refused", 93),
             Stop::LinkCut(request) => self.tell_cut(*request),
+            Stop::ItemsFault => self.say(NO_ITEMS),
             Stop::WriteFault => self.say_no_output(),
             Stop::BadCommand(_) | Stop::NetTold => (),
         }
@@ -276,7 +280,7 @@ impl<'a, W: Write, E: Write> Output<'a, W, E> {
             Stop::Refused(refusal) | Stop::RefusedAt(refusal, _) => self.print_refusal(refusal),
             Stop::BadCommand(line) => self.print_bad(*line),
             Stop::ReadFault => self.print_device(b"refused 91\n", b"{\"refused\":91}\n"),
-            Stop::WriteFault => Ok(()),
+            Stop::WriteFault | Stop::ItemsFault => Ok(()),
             Stop::SendFault => self.print_device(b"refused 92\n", b"{\"refused\":92}\n"),
             Stop::LinkCut(_request) => self.print_device(b"refused 1\n", b"{\"refused\":1}\n"),
             Stop::NetFault | Stop::NetTold => {

@@ -8,6 +8,7 @@ use crate::flaw::Flaw;
 use crate::words::Unread;
 use hk_laws::World;
 use hk_lines::Printed;
+use hk_log::Item;
 use hk_model::{Event, Told};
 use hk_primary::Txn;
 use hk_types::{Key, Refusal, Row, StreamNo, Table, Time};
@@ -73,6 +74,11 @@ impl Script {
     /// Whether a command was refused.
     pub(crate) fn is_refused(&self) -> bool {
         self.is_refused
+    }
+
+    /// The items that the primary emitted, in their order.
+    pub(crate) fn log(&self) -> &[Item] {
+        self.world.log()
     }
 
     /// Does what a command says, unless it names an empty slot.

@@ -1,7 +1,6 @@
 //! How far each stream of a replica is.
 
 ghost use Rattle.std.specs.Prelude.{◌≡◌, ◌≤◌, ◌++◌, ℕ, nat_le, length, OnOk};
-ghost use Rattle.hk_model.specs.Replica.Content.{least_closed};
 ghost use Rattle.hk_model.specs.Replica.Streams.{covers, stream_at};
 ghost use Rattle.std.specs.String.{string_bytes};
 ghost use Rattle.hk_commands.specs.Statuses as spec;
@@ -19,9 +18,9 @@ use std::io::Write;
 /// What a stream does to the readable mark.
 #[derive(Clone, Copy)]
 pub enum Standing {
-    /// It is closed up to a time above the mark.
+    /// It is closed up to a time above the mark, or all streams are closed up to the mark.
     Open,
-    /// It is closed up to the mark, and holds it back.
+    /// It is closed up to the mark, another stream is closed further, and so it holds the mark back.
     Holds,
     /// It is retired, and holds nobody back.
     Retired,
@@ -44,15 +43,31 @@ pub struct StreamStatus {
     pub standing: Standing,
 }
 
+/// Whether all streams are closed up to a time and no further.
+fn are_closed_at(got: &Got, time: Time) -> bool
+    ensures { result ≡ spec.are_closed_at time got.now }
+{
+    for index in 0..got.streams() {
+        let Ok(stream) = StreamNo::new(index + 1) else {
+            return false;
+        };
+        if got.closed(stream) != time {
+            return false;
+        }
+    }
+    true
+}
+
 /// What a stream does to the readable mark.
 fn standing_of(got: &Got, stream: StreamNo) -> Standing
     requires { stream ≤ length got.now }
-    ensures { result ≡ spec.standing_of (stream_at got.now stream).closed (least_closed got.now) }
+    ensures { result ≡ spec.standing_of (stream_at got.now stream).closed got.now }
 {
+    let closed = got.closed(stream);
     if got.retired(stream) {
         return Standing::Retired;
     }
-    if got.closed(stream) == got.readable() {
+    if closed == got.readable() && !are_closed_at(got, closed) {
         return Standing::Holds;
     }
     Standing::Open
@@ -64,8 +79,7 @@ pub fn stream_status(got: &Got, stream: StreamNo) -> StreamStatus
     ensures stream { result.stream ≡ stream }
     ensures prefix { (n : ℕ) → covers (stream_at got.now stream).taken n ≡ nat_le n result.prefix }
     ensures closed { result.closed ≡ (stream_at got.now stream).closed }
-    ensures standing { result.standing
-        ≡ spec.standing_of (stream_at got.now stream).closed (least_closed got.now) }
+    ensures standing { result.standing ≡ spec.standing_of (stream_at got.now stream).closed got.now }
 {
     StreamStatus {
         stream,

@@ -21,6 +21,8 @@ pub enum Stop {
     BadCommand(u64),
     /// A write failed or took no bytes, so nothing more can be printed.
     WriteFault,
+    /// A write to the file of items failed or took no bytes.
+    ItemsFault,
     /// A write to a link failed or took no bytes.
     SendFault,
     /// A port can't be listened to, or a link can't be opened or accepted.

@@ -9,6 +9,8 @@ use crate::output::Output;
 use crate::script::{Reply, Script};
 use crate::stop::Stop;
 use crate::words::Unread;
+use hk_codec::encode;
+use hk_log::Item;
 use hk_reasons::{Asked, Origin, Place};
 use hk_types::Refusal;
 use std::alloc::Global;
@@ -127,6 +129,28 @@ impl Player {
     }
 }
 
+/// Writes what was gathered of the items' frames, and empties it.
+fn write_frames<F: Write>(frames: &mut Vec<u8>, file: &mut F) -> Result<(), Stop> {
+    let written = file.write_all(frames);
+    frames.clear();
+    match written {
+        Ok(()) => Ok(()),
+        Err(_error) => Err(Stop::ItemsFault),
+    }
+}
+
+/// Writes the frames of items.
+fn write_items<F: Write>(alloc: Global, items: &[Item], file: &mut F) -> Result<(), Stop> {
+    let mut frames = Vec::new(alloc);
+    for item in items {
+        encode(item, &mut frames)?;
+        if frames.len() >= PIECE_BYTES {
+            write_frames(&mut frames, file)?;
+        }
+    }
+    write_frames(&mut frames, file)
+}
+
 /// Plays the script of the input up to its end, or to what stops it first.
 fn play<I: Read, W: Write, E: Write>(
     alloc: Global,
@@ -150,22 +174,43 @@ fn play<I: Read, W: Write, E: Write>(
     Err(Stop::ReadFault)
 }
 
+/// The same, and then writes the frames of the items that the primary emitted, where there is a file for them.
+fn play_and_keep<I: Read, F: Write, W: Write, E: Write>(
+    alloc: Global,
+    input: &mut I,
+    player: &mut Player,
+    items: Option<&mut F>,
+    output: &mut Output<'_, W, E>,
+) -> Result<(), Stop> {
+    play(alloc, input, player, output)?;
+    let Some(file) = items else {
+        return Ok(());
+    };
+    match &player.script {
+        Some(script) => write_items(alloc, script.log(), file),
+        None => Ok(()),
+    }
+}
+
 /// Plays the script of the input, line by line, up to its end, and prints what each line is told. What the lines
-/// of one read are told is written before the next read.
+/// of one read are told is written before the next read. At the end the frames of the items that the primary emitted are
+/// written to `items`, where it is there, in version 2 and in their order.
 ///
 /// The status is 0, or 1 where a refusal was printed or something stopped the script:
 ///
 /// - `line N: bad command` where the line of that number is none, has more than 16,384 bytes, or names an empty slot;
 /// - `refused 90` where memory ran out outside a command;
 /// - `refused 91` where a read failed, or 2^32 reads did not come to the end;
-/// - no line where a write failed or took no bytes: the status alone tells it.
+/// - no line where a write failed or took no bytes, of the lines or of the items: the status, and `errors`, tell it.
 ///
+/// Where something stopped the script no item is written; where a write of the items failed a part of them may stand.
 /// A command that is refused prints its refusal, changes nothing, and the script goes on. What is refused, and a line
-/// that is no command, is told to `errors` in words. Cost: that of the events, and O(n), n bytes of the script and of
-/// the lines.
-pub fn run_world<I: Read, W: Write, E: Write>(
+/// that is no command, is told to `errors` in words. Cost: that of the events, and O(n), n bytes of the script, of the
+/// lines and of the items.
+pub fn run_world<I: Read, F: Write, W: Write, E: Write>(
     alloc: Global,
     input: &mut I,
+    items: Option<&mut F>,
     writer: &mut W,
     errors: &mut E,
 ) -> u8
@@ -173,7 +218,7 @@ pub fn run_world<I: Read, W: Write, E: Write>(
 {
     let mut output = Output::new(alloc, writer, errors);
     let mut player = Player::new(alloc);
-    match play(alloc, input, &mut player, &mut output) {
+    match play_and_keep(alloc, input, &mut player, items, &mut output) {
         Ok(()) => u8::from(player.is_refused()),
         Err(stop) => output.stop(stop),
     }

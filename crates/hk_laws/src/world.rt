@@ -6,6 +6,7 @@ ghost use Rattle.hk_model.specs.History.Histories.{commits, last};
 ghost use Rattle.hk_model.specs.Replica.Replicas.{empty_content};
 ghost use Rattle.hk_model.specs.World.Worlds.{Agree, new_contents, new_items};
 
+use hk_log::Item;
 use hk_primary::Primary;
 use hk_state::ReplicaState;
 use hk_types::{Config, Refusal, Time};
@@ -89,6 +90,13 @@ impl World {
         ensures { result ≡ length self.now.world.emitted }
     {
         self.primary.item_count()
+    }
+
+    /// The items that the primary emitted, in their order.
+    pub fn log(&self) -> &[Item]
+        ensures { result.now ≡ self.now.world.emitted }
+    {
+        self.primary.log()
     }
 
     /// How many replicas there are. They are numbered from 1.

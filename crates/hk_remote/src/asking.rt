@@ -15,6 +15,8 @@ help: this
 /// What a line asks.
 #[derive(Clone, Copy)]
 pub(crate) enum Asking {
+    /// The line is empty.
+    Nothing,
     /// A query, at the readable mark where no time is given.
     Query { time: Option<Time>, query: Query },
     Front,
@@ -121,7 +123,9 @@ fn first_of(name: &str, words: &mut Words<'_>) -> Option<Asking> {
 /// What a line asks, where it has one of the forms.
 pub(crate) fn asking_of(line: &str) -> Option<Asking> {
     let mut words = Words { rest: line };
-    let name = words.next()?;
+    let Some(name) = words.next() else {
+        return Some(Asking::Nothing);
+    };
     let asking = first_of(name, &mut words)?;
     if words.next().is_some() {
         return None;

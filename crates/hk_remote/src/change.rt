@@ -1,18 +1,15 @@
-//! Commands that change a node: `pull` and `prune` over a link.
+//! What changes a node: `pull` and `prune`.
 
-ghost use Rattle.std.specs.Prelude.{◌≤◌};
-
-use crate::link::{Link, asked_of, ended, opened, unasked};
+use crate::link::{Link, asked_of, opened, unasked};
 use crate::read::{fragment_at, front_at};
 use hk_commands::{Output, Stop};
 use hk_types::{Refusal, Time};
 use hk_wire::{Reply, Request};
-use std::alloc::Global;
 use std::io::Write;
 use std::net::{Net, TcpListener, TcpStream};
 
 /// Sends a request, and prints its reply.
-pub(crate) fn tell<W: Write, E: Write>(
+fn tell<W: Write, E: Write>(
     link: &mut Link<'_>,
     request: &Request,
     output: &mut Output<'_, W, E>,
@@ -21,33 +18,13 @@ pub(crate) fn tell<W: Write, E: Write>(
     output.print(&reply)
 }
 
-fn prune<R: Net<Listener = TcpListener, Stream = TcpStream>, W: Write, E: Write>(
-    rt: &R,
-    alloc: Global,
-    port: u16,
+/// Has the node forget what is below a time, and prints its number.
+pub(crate) fn prune<W: Write, E: Write>(
+    link: &mut Link<'_>,
+    horizon: Time,
     output: &mut Output<'_, W, E>,
-    horizon: Time,
 ) -> Result<(), Stop> {
-    let stream = opened(rt, port, output)?;
-    let mut link = Link::new(alloc, &stream)?;
-    tell(&mut link, &Request::Prune { horizon }, output)
-}
-
-/// Has the node on a port of 127.0.0.1 forget what no one reads from a time on, and prints `done` and the number of its
-/// operation. What stops it, and the status, are as at `run_node_ask`. Cost: O(1), beside the node's work.
-pub fn run_prune<R: Net<Listener = TcpListener, Stream = TcpStream>, W: Write, E: Write>(
-    rt: &R,
-    alloc: Global,
-    port: u16,
-    writer: &mut W,
-    errors: &mut E,
-    horizon: Time,
-) -> u8
-    ensures { result ≤ 1 }
-{
-    let mut output = Output::new(alloc, writer, errors);
-    let told = prune(rt, alloc, port, &mut output, horizon);
-    ended(told, &mut output)
+    tell(link, &Request::Prune { horizon }, output)
 }
 
 /// Whether a delta was refused for its base alone, so that the whole may be had.
@@ -58,51 +35,39 @@ fn is_of_base(why: &Refusal) -> bool {
     )
 }
 
-/// What the other node has learnt since a time, or all that it holds where it can't cut a delta there, as the request that
-/// hands it on.
+/// All that a node holds where it refused a delta for its base, as the request that hands it on; any other refusal stops the
+/// command.
+fn whole_after(from: &mut Link<'_>, delta: &Request, why: Refusal) -> Result<Request, Stop> {
+    if !is_of_base(&why) {
+        let origin = from.origin(asked_of(delta));
+        return Err(Stop::RefusedAt(why, origin));
+    }
+    let whole = fragment_at(from, &Request::Full)?;
+    Ok(Request::MergeThis(whole))
+}
+
+/// What a node has learnt since a time, or all that it holds where it can't cut a delta there, as the request that hands it
+/// on.
 fn handed_on(from: &mut Link<'_>, base: Time) -> Result<Request, Stop> {
     let request = Request::Delta { base };
-    match from.ask(&request)? {
+    let reply = from.ask(&request)?;
+    match reply {
         Reply::Fragment(delta) => Ok(Request::JoinThis(delta)),
-        Reply::Refused(why) if is_of_base(&why) => {
-            Ok(Request::MergeThis(fragment_at(from, &Request::Full)?))
-        }
-        Reply::Refused(why) => Err(Stop::RefusedAt(why, from.origin(asked_of(&request)))),
-        _other => Err(unasked()),
+        Reply::Refused(why) => whole_after(from, &request, why),
+        _none => Err(unasked()),
     }
 }
 
-fn pull<R: Net<Listener = TcpListener, Stream = TcpStream>, W: Write, E: Write>(
+/// Has the node take what the one on another port has learnt since its readable mark, and prints its number.
+pub(crate) fn pull<R: Net<Listener = TcpListener, Stream = TcpStream>, W: Write, E: Write>(
     rt: &R,
-    alloc: Global,
-    port: u16,
+    own: &mut Link<'_>,
     from: u16,
     output: &mut Output<'_, W, E>,
 ) -> Result<(), Stop> {
-    let own = opened(rt, port, output)?;
-    let other = opened(rt, from, output)?;
-    let mut own = Link::new(alloc, &own)?;
-    let mut other = Link::new(alloc, &other)?;
-    let base = front_at(&mut own)?.readable;
-    let request = handed_on(&mut other, base)?;
-    tell(&mut own, &request, output)
-}
-
-/// Has the node on a port of 127.0.0.1 take what another node there has learnt since the first one's readable mark, or all
-/// that the other one holds where it refuses the delta for its base, and prints `done` and the number of the operation. What
-/// stops it, and the status, are as at `run_node_ask`. Cost: O(n), n bytes of what is taken, which it holds, beside the work
-/// of both nodes.
-pub fn run_pull<R: Net<Listener = TcpListener, Stream = TcpStream>, W: Write, E: Write>(
-    rt: &R,
-    alloc: Global,
-    port: u16,
-    from: u16,
-    writer: &mut W,
-    errors: &mut E,
-) -> u8
-    ensures { result ≤ 1 }
-{
-    let mut output = Output::new(alloc, writer, errors);
-    let told = pull(rt, alloc, port, from, &mut output);
-    ended(told, &mut output)
+    let stream = opened(rt, from, output)?;
+    let mut other = Link::new(own.alloc(), &stream)?;
+    let front = front_at(own)?;
+    let request = handed_on(&mut other, front.readable)?;
+    tell(own, &request, output)
 }

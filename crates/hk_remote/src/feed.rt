@@ -1,8 +1,6 @@
-//! The command `feed`.
+//! Item frames in batches: `feed`.
 
-ghost use Rattle.std.specs.Prelude.{◌≤◌};
-
-use crate::link::{Link, ended, opened, unasked};
+use crate::link::{Link, unasked};
 use hk_codec::frame_len;
 use hk_commands::{Output, Sink, Stop, hand_items};
 use hk_log::Item;
@@ -11,7 +9,6 @@ use hk_wire::{Reply, Request};
 use std::alloc::Global;
 use std::io::{Read, Write};
 use std::mem;
-use std::net::{Net, TcpListener, TcpStream};
 use std::rt::Clock;
 use std::time::Instant;
 
@@ -103,20 +100,20 @@ fn tell_rate<W: Write, E: Write>(
     Ok(())
 }
 
-fn feed<R: Net<Listener = TcpListener, Stream = TcpStream> + Clock, I: Read, W: Write, E: Write>(
+/// Hands the items of the input to the node, in batches of so many items or as many bytes as a batch may have, and prints the
+/// number of its last operation. The batches before what stops it are taken.
+pub(crate) fn feed<R: Clock, I: Read, W: Write, E: Write>(
     rt: &R,
-    alloc: Global,
-    port: u16,
+    link: &mut Link<'_>,
     input: &mut I,
     most: u64,
     output: &mut Output<'_, W, E>,
 ) -> Result<(), Stop> {
-    let stream = opened(rt, port, output)?;
-    let mut link = Link::new(alloc, &stream)?;
+    let alloc = link.alloc();
     let start = Instant::now(rt).ok();
     let mut batches = Batches {
         alloc,
-        link: &mut link,
+        link,
         most,
         items: Vec::new(alloc),
         bytes: 0,
@@ -130,22 +127,4 @@ fn feed<R: Net<Listener = TcpListener, Stream = TcpStream> + Clock, I: Read, W: 
         tell_rate(alloc, taken, millis, output)?;
     }
     output.print(&Reply::Done { ops })
-}
-
-/// Hands the items of the input to the node on a port of 127.0.0.1, in batches of so many items or 67,108,864 bytes, and
-/// prints `done` and the number of the last operation; how many items a second went is told to `errors`.
-///
-/// Where something stops it, as at `run_node_ask`, or a frame of the input has a fault, the batches before it are taken, and
-/// a line says why. The status is 0 or 1. Cost: O(n), n bytes of the input, beside the node's work; it holds one batch.
-pub fn run_feed<
-    R: Net<Listener = TcpListener, Stream = TcpStream> + Clock,
-    I: Read,
-    W: Write,
-    E: Write,
->(rt: &R, alloc: Global, port: u16, input: &mut I, writer: &mut W, errors: &mut E, most: u64) -> u8
-    ensures { result ≤ 1 }
-{
-    let mut output = Output::new(alloc, writer, errors);
-    let told = feed(rt, alloc, port, input, most, &mut output);
-    ended(told, &mut output)
 }

@@ -1,7 +1,5 @@
 //! An open link to a node.
 
-ghost use Rattle.std.specs.Prelude.{◌≤◌};
-
 use hk_commands::{MOST_READS, Output, PIECE_BYTES, Stop};
 use hk_reasons::{Asked, Origin, Place};
 use hk_types::{FormFault, Refusal};
@@ -13,6 +11,7 @@ use std::net::{Ipv4Addr, Net, TcpListener, TcpStream};
 /// An open link to a node.
 #[derive(Drop)]
 pub(crate) struct Link<'a> {
+    alloc: Global,
     stream: &'a TcpStream,
     feeder: ReplyFeeder,
     /// Replies that came and are not handed out yet: more than one where the node says more than it was asked.
@@ -52,6 +51,7 @@ pub(crate) fn opened<R: Net<Listener = TcpListener, Stream = TcpStream>, W: Writ
 impl<'a> Link<'a> {
     pub(crate) fn new(alloc: Global, stream: &'a TcpStream) -> Result<Link<'a>, Stop> {
         Ok(Link {
+            alloc,
             stream,
             feeder: ReplyFeeder::new(alloc),
             replies: Vec::new(alloc),
@@ -59,6 +59,11 @@ impl<'a> Link<'a> {
             text: Vec::new(alloc),
             sent: 0,
         })
+    }
+
+    /// What its memory grows by.
+    pub(crate) fn alloc(&self) -> Global {
+        self.alloc
     }
 
     /// Where a refusal comes from that answers a request, or a fault of the link behind it.
@@ -132,18 +137,4 @@ impl<'a> Link<'a> {
 /// Why the command stops where a reply is none to its request.
 pub(crate) fn unasked() -> Stop {
     Stop::Refused(Refusal::Form(FormFault::BadKind))
-}
-
-/// Writes what was printed, or why it stopped, and gives the status.
-pub(crate) fn ended<W: Write, E: Write>(told: Result<(), Stop>, output: &mut Output<'_, W, E>) -> u8
-    ensures { result ≤ 1 }
-{
-    let flushed = match told {
-        Ok(()) => output.flush(),
-        Err(stop) => Err(stop),
-    };
-    match flushed {
-        Ok(()) => 0,
-        Err(stop) => output.stop(stop),
-    }
 }

@@ -1,17 +1,14 @@
-//! The command `shell`.
-
-ghost use Rattle.std.specs.Prelude.{◌≤◌};
+//! Lines as a person writes them: `shell`.
 
 use crate::asking::{Asking, HELP, asking_of};
-use crate::link::{Link, ended, opened};
-use crate::read::{answer_at, front_at, put_node_status};
+use crate::link::Link;
+use crate::read::{answer_at, tell_front, tell_status};
 use crate::table::put_table;
 use hk_commands::{MOST_READS, Output, PIECE_BYTES, Stop};
 use hk_model::{Answer, Query};
 use hk_types::{Refusal, Time};
 use std::alloc::{AllocError, Global};
 use std::io::{Read, Write};
-use std::net::{Net, TcpListener, TcpStream};
 
 /// The most bytes of a line.
 const MOST_LINE_BYTES: usize = 1_024;
@@ -21,7 +18,7 @@ const PROMPT: &[u8] = b"hkrep> ";
 
 /// Lines on their way to a node.
 #[derive(Drop)]
-struct Shell<'a, 'l> {
+struct Lines<'a, 'l> {
     alloc: Global,
     link: &'a mut Link<'l>,
     /// The line that is being read, and its number, counted from 1.
@@ -31,7 +28,7 @@ struct Shell<'a, 'l> {
     is_refused: bool,
 }
 
-impl Shell<'_, '_> {
+impl Lines<'_, '_> {
     /// Prints an answer: rows as a table.
     fn print_answer<W: Write, E: Write>(
         &mut self,
@@ -63,12 +60,10 @@ impl Shell<'_, '_> {
     ) -> Result<(), Stop> {
         match asking {
             Asking::Query { time, query } => self.query(time, query, output),
-            Asking::Front => {
-                let front = front_at(self.link)?;
-                output.show_front(front)
-            }
-            Asking::Status => put_node_status(self.link, output),
+            Asking::Front => tell_front(self.link, output),
+            Asking::Status => tell_status(self.link, output),
             Asking::Help => output.send(HELP.as_bytes()),
+            Asking::Nothing => Ok(()),
         }
     }
 
@@ -86,30 +81,39 @@ impl Shell<'_, '_> {
         Ok(())
     }
 
-    /// Makes what was asked; a refusal of the node's is printed, and the next line goes on.
-    fn told<W: Write, E: Write>(
+    /// Prints and tells a refusal of the node's, behind which the next line goes on; all else stops the command.
+    fn go_on<W: Write, E: Write>(
         &mut self,
-        asking: Asking,
+        stop: Stop,
         output: &mut Output<'_, W, E>,
     ) -> Result<(), Stop> {
-        match self.make(asking, output) {
-            Err(Stop::RefusedAt(why, origin)) if !matches!(why, Refusal::Memory) => {
-                self.is_refused = true;
-                output.tell(origin, &why);
-                output.print(&why)
-            }
-            other => other,
+        let Stop::RefusedAt(why, origin) = stop else {
+            return Err(stop);
+        };
+        if matches!(why, Refusal::Memory) {
+            return Err(stop);
+        }
+        self.is_refused = true;
+        output.tell(origin, &why);
+        output.print(&why)
+    }
+
+    /// What the line that was read asks, where it has a form.
+    fn asked(&self) -> Option<Asking> {
+        match str::from_utf8(&self.line) {
+            Ok(line) => asking_of(line),
+            Err(_error) => None,
         }
     }
 
-    /// Answers the line that was read, where it isn't empty.
+    /// Answers the line that was read.
     fn end_line<W: Write, E: Write>(&mut self, output: &mut Output<'_, W, E>) -> Result<(), Stop> {
-        let text = str::from_utf8(&self.line).unwrap_or("?");
-        if text.trim().is_empty() {
-            return Ok(());
-        }
-        match asking_of(text) {
-            Some(asking) => self.told(asking, output)?,
+        match self.asked() {
+            Some(asking) => {
+                if let Err(stop) = self.make(asking, output) {
+                    self.go_on(stop, output)?;
+                }
+            }
             None => self.tell_unknown(output)?,
         }
         output.flush()
@@ -159,12 +163,12 @@ fn prompt<W: Write, E: Write>(
 
 /// Answers the lines of the input up to its end, and says whether one was refused or had no form.
 fn answer_all<I: Read, W: Write, E: Write>(
-    shell: &mut Shell<'_, '_>,
+    lines: &mut Lines<'_, '_>,
     input: &mut I,
     is_terminal: bool,
     output: &mut Output<'_, W, E>,
 ) -> Result<bool, Stop> {
-    let mut piece = vec![in shell.alloc; 0u8; PIECE_BYTES]?;
+    let mut piece = vec![in lines.alloc; 0u8; PIECE_BYTES]?;
     for _ in 0..MOST_READS {
         prompt(is_terminal, output)?;
         let count = match input.read(piece.as_mut_slice()) {
@@ -172,54 +176,28 @@ fn answer_all<I: Read, W: Write, E: Write>(
             Err(_error) => return Err(Stop::ReadFault),
         };
         if count == 0 {
-            shell.end_line(output)?;
-            return Ok(shell.is_refused);
+            lines.end_line(output)?;
+            return Ok(lines.is_refused);
         }
-        shell.take_all(&piece[..count], output)?;
+        lines.take_all(&piece[..count], output)?;
     }
     Err(Stop::ReadFault)
 }
 
-fn ask_all<R: Net<Listener = TcpListener, Stream = TcpStream>, I: Read, W: Write, E: Write>(
-    rt: &R,
-    alloc: Global,
-    port: u16,
+/// Answers the lines of the input from the node, and says whether one was refused or had no form.
+pub(crate) fn answer_lines<I: Read, W: Write, E: Write>(
+    link: &mut Link<'_>,
     input: &mut I,
     is_terminal: bool,
     output: &mut Output<'_, W, E>,
 ) -> Result<bool, Stop> {
-    let stream = opened(rt, port, output)?;
-    let mut link = Link::new(alloc, &stream)?;
-    let mut shell = Shell {
+    let alloc = link.alloc();
+    let mut lines = Lines {
         alloc,
-        link: &mut link,
+        link,
         line: Vec::new(alloc),
         number: 1,
         is_refused: false,
     };
-    answer_all(&mut shell, input, is_terminal, output)
-}
-
-/// Answers lines such as `get 1 5`, `at 5 range 1 0 9`, `front` and `status` from the node on a port of 127.0.0.1, rows as a
-/// table; on a terminal a prompt stands before each. A line of another form is told to `errors`, a refusal is printed and told,
-/// and the next line goes on.
-///
-/// The status is 0, or 1 where one of these was so, or something stopped it as at `run_node_ask`. Cost: that of the answers,
-/// and O(n), n bytes of the input and of what is printed.
-pub fn run_shell<R: Net<Listener = TcpListener, Stream = TcpStream>, I: Read, W: Write, E: Write>(
-    rt: &R,
-    alloc: Global,
-    port: u16,
-    input: &mut I,
-    is_terminal: bool,
-    writer: &mut W,
-    errors: &mut E,
-) -> u8
-    ensures { result ≤ 1 }
-{
-    let mut output = Output::new(alloc, writer, errors);
-    match ask_all(rt, alloc, port, input, is_terminal, &mut output) {
-        Ok(is_refused) => u8::from(is_refused),
-        Err(stop) => ended(Err(stop), &mut output),
-    }
+    answer_all(&mut lines, input, is_terminal, output)
 }

@@ -4,23 +4,26 @@
 mod watched;
 
 use crate::watched::Watched;
-use hk_arguments::{Call, Order, read_call};
+use hk_arguments::{Call, Order as Asked, read_call};
 use hk_cli::{
-    Form, ReadPort, Stay, run_ask, run_at, run_explain, run_feed, run_frames, run_front, run_items,
-    run_load, run_node_ask, run_node_front, run_node_status, run_prune, run_pull, run_push,
-    run_rewrite, run_save, run_serve, run_shell, run_status, run_stay, run_world,
+    Form, Order, ReadPort, Stay, run_ask, run_at, run_explain, run_frames, run_front, run_items,
+    run_order, run_rewrite, run_serve, run_status, run_stay, run_world,
 };
 use std::alloc::Global;
-use std::io;
+use std::fs::Files;
 use std::io::{IsTerminal, Read, Write};
 use std::net::{Net, TcpListener, TcpStream};
 use std::process::ExitCode;
 use std::rt::{Clock, Env};
 use std::sync::Wait;
 use std::thread::Threads;
+use std::{fs, io};
 
 /// What is told where the help can't be written.
 const NO_OUTPUT: &[u8] = b"stopped: the output can't be written; see where standard output goes\n";
+
+/// What is told where a file can't be made and there is no memory to say which.
+const NO_FILE: &[u8] = b"stopped: the file can't be made, and there is no memory to say why\n";
 
 /// The words that the process was started with.
 fn words<R: Env + Alloc<A = Global>>(rt: &R) -> io::Result<Vec<String>> {
@@ -38,7 +41,7 @@ fn run_alone<I: Read, W: Write, E: Write>(
     input: &mut I,
     output: &mut W,
     errors: &mut E,
-    call: Call,
+    call: Call<'_>,
 ) -> u8 {
     match call {
         Call::At {
@@ -65,67 +68,67 @@ fn run_alone<I: Read, W: Write, E: Write>(
         Call::Items { is_json } => run_items(alloc, input, output, errors, form_of(is_json)),
         Call::Explain { number } => run_explain(alloc, number, output, errors),
         Call::Rewrite => run_rewrite(alloc, input, output, errors),
-        Call::World => run_world(alloc, input, output, errors),
         _frames => run_frames(alloc, input, output, errors),
     }
 }
 
-/// The status of what reads a node that runs.
-fn run_reading<R, W: Write, E: Write>(
-    rt: &R,
-    port: u16,
-    output: &mut W,
-    errors: &mut E,
-    order: Order,
-) -> u8
-where
-    R: Alloc<A = Global> + Net<Listener = TcpListener, Stream = TcpStream>,
-{
-    let alloc = rt.alloc();
+/// What is asked of a node, as the commands take it.
+fn order_of(order: Asked) -> Order {
     match order {
-        Order::Ask {
+        Asked::Push => Order::Push,
+        Asked::Shell => Order::Shell,
+        Asked::Ask {
             time,
             query,
             is_json,
-        } => {
-            let form = form_of(is_json);
-            run_node_ask(rt, alloc, port, output, errors, form, time, query)
-        }
-        Order::Front { is_json } => {
-            run_node_front(rt, alloc, port, output, errors, form_of(is_json))
-        }
-        Order::Status { is_json } => {
-            run_node_status(rt, alloc, port, output, errors, form_of(is_json))
-        }
-        Order::Save { is_json } if is_json => {
-            run_save(rt, alloc, port, output, errors, Form::Json)
-        }
-        _save => run_save(rt, alloc, port, output, errors, Form::Bytes),
+        } => Order::Ask {
+            time,
+            query,
+            form: form_of(is_json),
+        },
+        Asked::Front { is_json } => Order::Front {
+            form: form_of(is_json),
+        },
+        Asked::Status { is_json } => Order::Status {
+            form: form_of(is_json),
+        },
+        Asked::Save { is_json } => Order::Save {
+            form: form_of(is_json),
+        },
+        Asked::Load => Order::Load,
+        Asked::Pull { from } => Order::Pull { from },
+        Asked::Prune { horizon } => Order::Prune { horizon },
+        Asked::Feed { batch } => Order::Feed { batch },
     }
 }
 
-/// The status of what is asked of a node that runs; `is_terminal` says where the input comes from.
-fn run_order<R, I: Read, W: Write, E: Write>(
+/// Tells that a file can't be made, in the system's words.
+fn tell_no_file<E: Write>(alloc: Global, name: &str, error: &io::Error, errors: &mut E) {
+    let line = format!(in alloc; "stopped: can't make the file {name}: {error}\n");
+    let _told = match line {
+        Ok(line) => errors.write_all(line.as_bytes()),
+        Err(_memory) => errors.write_all(NO_FILE),
+    };
+}
+
+/// The status of a script whose items are written to a file of this name, where one is given.
+fn run_script<R: Files + Alloc<A = Global>, I: Read, W: Write, E: Write>(
     rt: &R,
-    port: u16,
     input: &mut I,
-    is_terminal: bool,
+    items: Option<&str>,
     output: &mut W,
     errors: &mut E,
-    order: Order,
-) -> u8
-where
-    R: Alloc<A = Global> + Net<Listener = TcpListener, Stream = TcpStream> + Clock,
-{
+) -> u8 {
     let alloc = rt.alloc();
-    match order {
-        Order::Push => run_push(rt, alloc, input, port, output, errors),
-        Order::Shell => run_shell(rt, alloc, port, input, is_terminal, output, errors),
-        Order::Load => run_load(rt, alloc, input, port, output, errors),
-        Order::Feed { batch } => run_feed(rt, alloc, port, input, output, errors, batch),
-        Order::Pull { from } => run_pull(rt, alloc, port, from, output, errors),
-        Order::Prune { horizon } => run_prune(rt, alloc, port, output, errors, horizon),
-        reading => run_reading(rt, port, output, errors, reading),
+    let Some(name) = items else {
+        return run_world(alloc, input, None::<&mut R::File>, output, errors);
+    };
+    match fs::create(rt, name) {
+        Ok(mut file) => run_world(alloc, input, Some(&mut file), output, errors),
+        Err(error) => {
+            tell_no_file(alloc, name, &error, errors);
+            1
+        }
     }
 }
 
@@ -135,10 +138,10 @@ fn run<R, I: Read, E: Write>(
     input: &mut I,
     is_terminal: bool,
     errors: &mut E,
-    call: Call,
+    call: Call<'_>,
 ) -> u8
 where
-    R: Print + Alloc<A = Global> + Clock,
+    R: Print + Alloc<A = Global> + Clock + Files,
     R: Net<Listener = TcpListener, Stream = TcpStream> + Threads + Wait + Sync,
 {
     let mut output = io::writer(rt);
@@ -168,15 +171,20 @@ where
             };
             run_stay(rt, rt.alloc(), config, &stay, &mut output, errors)
         }
-        Call::Node { port, order } => run_order(
-            rt,
-            port,
-            input,
-            is_terminal,
-            &mut output,
-            errors,
-            order,
-        ),
+        Call::Node { port, order } => {
+            let order = order_of(order);
+            run_order(
+                rt,
+                rt.alloc(),
+                port,
+                &order,
+                input,
+                is_terminal,
+                &mut output,
+                errors,
+            )
+        }
+        Call::World { items } => run_script(rt, input, items, &mut output, errors),
         other => run_alone(rt.alloc(), input, &mut output, errors, other),
     }
 }

@@ -1,0 +1,183 @@
+//! What a node that runs is asked to do.
+
+ghost use Rattle.std.specs.Prelude.{◌≤◌};
+
+use crate::change::{prune, pull};
+use crate::feed::feed;
+use crate::link::{Link, opened};
+use crate::push::{Accepted, push_all};
+use crate::read::{save, tell_answer, tell_front, tell_status};
+use crate::shell::answer_lines;
+use hk_commands::{Form, Output, Stop};
+use hk_model::Query;
+use hk_types::Time;
+use std::alloc::Global;
+use std::io::{Read, Write};
+use std::net::{Net, TcpListener, TcpStream};
+use std::rt::Clock;
+
+/// What a node is asked to do.
+#[derive(Clone, Copy)]
+pub enum Order {
+    /// To answer the requests of the input.
+    Push,
+    /// To answer the lines of the input.
+    Shell,
+    /// To answer a query, at the readable mark where no time is given.
+    Ask {
+        time: Option<Time>,
+        query: Query,
+        form: Form,
+    },
+    /// To tell from where to where it can be read.
+    Front {
+        form: Form,
+    },
+    /// To tell how far each stream is.
+    Status {
+        form: Form,
+    },
+    /// To hand out all that it holds: the frame of a request that hands it to a node, or lines of JSON.
+    Save {
+        form: Form,
+    },
+    /// To take the fragments of the input, as `Save` hands them out.
+    Load,
+    /// To take what the node on another port of 127.0.0.1 has learnt since this one's readable mark, or all that it holds
+    /// where it refuses the delta for its base.
+    Pull {
+        from: u16,
+    },
+    /// To forget what is below a time.
+    Prune {
+        horizon: Time,
+    },
+    /// To take the items of the input, in batches of so many, or of 67,108,864 bytes.
+    Feed {
+        batch: u64,
+    },
+}
+
+impl Order {
+    /// The form of what is printed.
+    fn form(&self) -> Form {
+        match self {
+            Order::Ask { form, .. } | Order::Front { form } | Order::Status { form } => *form,
+            Order::Save { form } => match form {
+                Form::Json => Form::Json,
+                _bytes => Form::Bytes,
+            },
+            _lines => Form::Lines,
+        }
+    }
+}
+
+/// The same, where no reply was a refusal that the command went on behind.
+fn granted(told: Result<(), Stop>) -> Result<bool, Stop> {
+    told?;
+    Ok(false)
+}
+
+/// Does what only reads the node.
+fn read<W: Write, E: Write>(
+    link: &mut Link<'_>,
+    output: &mut Output<'_, W, E>,
+    order: &Order,
+) -> Result<(), Stop> {
+    match order {
+        Order::Ask { time, query, .. } => tell_answer(link, *time, *query, output),
+        Order::Front { .. } => tell_front(link, output),
+        Order::Status { .. } => tell_status(link, output),
+        Order::Save { form } => save(link, *form, output),
+        _change => Ok(()),
+    }
+}
+
+/// Has a node do what is asked, and says whether a reply was a refusal that the command went on behind.
+fn obey<R, I: Read, W: Write, E: Write>(
+    rt: &R,
+    link: &mut Link<'_>,
+    input: &mut I,
+    is_terminal: bool,
+    output: &mut Output<'_, W, E>,
+    order: &Order,
+) -> Result<bool, Stop>
+where
+    R: Net<Listener = TcpListener, Stream = TcpStream> + Clock,
+{
+    match order {
+        Order::Push => push_all(link, input, Accepted::All, output),
+        Order::Load => push_all(link, input, Accepted::Fragments, output),
+        Order::Shell => answer_lines(link, input, is_terminal, output),
+        Order::Feed { batch } => granted(feed(rt, link, input, *batch, output)),
+        Order::Pull { from } => granted(pull(rt, link, *from, output)),
+        Order::Prune { horizon } => granted(prune(link, *horizon, output)),
+        _reading => granted(read(link, output, order)),
+    }
+}
+
+/// The same over a new link to the node on a port, and writes what was printed.
+fn obey_at<R, I: Read, W: Write, E: Write>(
+    rt: &R,
+    alloc: Global,
+    port: u16,
+    input: &mut I,
+    is_terminal: bool,
+    output: &mut Output<'_, W, E>,
+    order: &Order,
+) -> Result<bool, Stop>
+where
+    R: Net<Listener = TcpListener, Stream = TcpStream> + Clock,
+{
+    let stream = opened(rt, port, output)?;
+    let mut link = Link::new(alloc, &stream)?;
+    let is_refused = obey(rt, &mut link, input, is_terminal, output, order)?;
+    output.flush()?;
+    Ok(is_refused)
+}
+
+/// Has the node on a port of 127.0.0.1 do what is asked, over a link that is opened for it, and prints its replies.
+///
+/// `Push` sends a request, waits for its reply and prints it, and then sends the next; a reply that is a refusal is printed
+/// and told, and the next request goes on. `Load` does the same with fragments alone; another request is not sent, and ends it
+/// with 4. `Shell` reads lines such as `get 1 5`, `at 5 range 1 0 9`, `front` and `status`, prints rows as a table, and on a
+/// terminal a prompt before each line; a line of another form is told to `errors`, a refusal is printed and told, and the next
+/// line goes on. `Status` reads a delta since the readable mark, and is refused as too old where the node is pruned between.
+/// `Pull`, `Prune` and `Feed` print `done` and the number of the node's last operation; `Feed` ends at the first batch that is
+/// refused, and tells `errors` how many items a second went.
+///
+/// The status is 0, or 1 where a reply was a refusal, a line had no form, or one of these ended it:
+///
+/// - the node's refusal, with its number;
+/// - the fault of the input, 1 to 10, behind the replies to the requests before it, or the items before it;
+/// - the fault of a reply, 1 to 10: 1 where the link was cut before the reply, 4 where the reply is none to its request;
+/// - 90 where memory ran out;
+/// - 91 where a read failed, of the input or the link, or 2^32 reads did not come to an end;
+/// - 92 where a write to the link failed or took no bytes;
+/// - 93 where the link could not be opened, as to a port that nobody listens to;
+/// - a write of the output that failed or took no bytes.
+///
+/// Each but the last is printed as `refused` and the number, in the order's form (where `Save` writes a frame it writes all of
+/// it or nothing), and told to `errors` in words. What the node took before stays. It waits for a reply without a limit, and
+/// holds 65,536 bytes of the input, a batch, and one reply. Cost: O(n · log n), n bytes of the requests and the replies,
+/// beside the node's answers; `Status` O(s²) for s streams.
+pub fn run_order<R, I: Read, W: Write, E: Write>(
+    rt: &R,
+    alloc: Global,
+    port: u16,
+    order: &Order,
+    input: &mut I,
+    is_terminal: bool,
+    writer: &mut W,
+    errors: &mut E,
+) -> u8
+where
+    R: Net<Listener = TcpListener, Stream = TcpStream> + Clock,
+    ensures { result ≤ 1 }
+{
+    let mut output = Output::of_form(alloc, order.form(), writer, errors);
+    match obey_at(rt, alloc, port, input, is_terminal, &mut output, order) {
+        Ok(is_refused) => u8::from(is_refused),
+        Err(stop) => output.stop(stop),
+    }
+}
