@@ -1,4 +1,4 @@
-# make quick  makes bin/hkrep-unproved: the program without any proof, in a minute or three, which says so at --version
+# make quick  makes bin/hkrep-unproved: the program without any proof, in about two minutes, which says so at --version
 # make try    the same, and runs the first example with it
 # make        proves and builds bin/hkrep
 # make demo   the same, and runs the first example

@@ -72,12 +72,6 @@ impl Order {
     }
 }
 
-/// The same, where no reply was a refusal that the command went on behind.
-fn granted(told: Result<(), Stop>) -> Result<bool, Stop> {
-    told?;
-    Ok(false)
-}
-
 /// Does what only reads the node.
 fn read<W: Write, E: Write>(
     link: &mut Link<'_>,
@@ -109,10 +103,10 @@ where
         Order::Push => push_all(link, input, Accepted::All, output),
         Order::Load => push_all(link, input, Accepted::Fragments, output),
         Order::Shell => answer_lines(link, input, is_terminal, output),
-        Order::Feed { batch } => granted(feed(rt, link, input, *batch, output)),
-        Order::Pull { from } => granted(pull(rt, link, *from, output)),
-        Order::Prune { horizon } => granted(prune(link, *horizon, output)),
-        _reading => granted(read(link, output, order)),
+        Order::Feed { batch } => feed(rt, link, input, *batch, output).map(|_told| false),
+        Order::Pull { from } => pull(rt, link, *from, output).map(|_told| false),
+        Order::Prune { horizon } => prune(link, *horizon, output).map(|_told| false),
+        _reading => read(link, output, order).map(|_told| false),
     }
 }
 
@@ -132,8 +126,7 @@ where
     let stream = opened(rt, port, output)?;
     let mut link = Link::new(alloc, &stream)?;
     let is_refused = obey(rt, &mut link, input, is_terminal, output, order)?;
-    output.flush()?;
-    Ok(is_refused)
+    output.flush().map(|_written| is_refused)
 }
 
 /// Has the node on a port of 127.0.0.1 do what is asked, over a link that is opened for it, and prints its replies.

@@ -26,22 +26,16 @@ pub(crate) fn fragment_at(link: &mut Link<'_>, request: &Request) -> Result<Frag
     }
 }
 
-/// The time, or the node's readable mark where none is given.
-fn time_at(link: &mut Link<'_>, time: Option<Time>) -> Result<Time, Stop> {
-    if let Some(time) = time {
-        return Ok(time);
-    }
-    let front = front_at(link)?;
-    Ok(front.readable)
-}
-
 /// The node's answer to a query at a time, or at its readable mark.
 pub(crate) fn answer_at(
     link: &mut Link<'_>,
     time: Option<Time>,
     query: Query,
 ) -> Result<Answer, Stop> {
-    let t = time_at(link, time)?;
+    let t = match time {
+        Some(time) => time,
+        None => front_at(link)?.readable,
+    };
     match link.granted(&Request::Ask { t, query })? {
         Reply::Answer(answer) => Ok(answer),
         _none => Err(unasked()),

@@ -6,6 +6,7 @@ use crate::read::{answer_at, tell_front, tell_status};
 use crate::table::put_table;
 use hk_commands::{MOST_READS, Output, PIECE_BYTES, Stop};
 use hk_model::{Answer, Query};
+use hk_reasons::Origin;
 use hk_types::{Refusal, Time};
 use std::alloc::{AllocError, Global};
 use std::io::{Read, Write};
@@ -81,21 +82,31 @@ impl Lines<'_, '_> {
         Ok(())
     }
 
-    /// Prints and tells a refusal of the node's, behind which the next line goes on; all else stops the command.
+    /// Prints and tells a refusal of the node's, and notes it; where memory ran out the command stops.
+    fn tell_refusal<W: Write, E: Write>(
+        &mut self,
+        why: Refusal,
+        origin: Origin,
+        output: &mut Output<'_, W, E>,
+    ) -> Result<(), Stop> {
+        if matches!(why, Refusal::Memory) {
+            return Err(Stop::Refused(why));
+        }
+        self.is_refused = true;
+        output.tell(origin, &why);
+        output.print(&why)
+    }
+
+    /// Goes on behind a refusal of the node's; all else stops the command.
     fn go_on<W: Write, E: Write>(
         &mut self,
         stop: Stop,
         output: &mut Output<'_, W, E>,
     ) -> Result<(), Stop> {
-        let Stop::RefusedAt(why, origin) = stop else {
-            return Err(stop);
-        };
-        if matches!(why, Refusal::Memory) {
-            return Err(stop);
+        match stop {
+            Stop::RefusedAt(why, origin) => self.tell_refusal(why, origin, output),
+            other => Err(other),
         }
-        self.is_refused = true;
-        output.tell(origin, &why);
-        output.print(&why)
     }
 
     /// What the line that was read asks, where it has a form.

@@ -3,7 +3,7 @@
 
 ghost use Rattle.std.specs.Prelude.{◌≡◌};
 
-use hk_cli::run_push;
+use hk_cli::{Order, run_order};
 use hk_net::serve_links;
 use hk_node::{NewList, NodeName, start};
 use hk_session::Ended;
@@ -14,6 +14,7 @@ use std::io::{ErrorKind, Read, Write};
 use std::marker::Brand;
 use std::net::{Net, Shutdown, TcpListener, TcpStream};
 use std::process::Abort;
+use std::rt::Clock;
 use std::sync::Wait;
 use std::test::Fail;
 use std::thread;
@@ -85,7 +86,7 @@ fn connected<R: Net<Stream = TcpStream>>(rt: &R) -> Result<TcpStream, Fail> {
 /// answered. All end between requests.
 fn linked<
     J: NodeName + Send + Sync,
-    R: Net<Listener = TcpListener, Stream = TcpStream> + Threads + Wait + Abort + Sync,
+    R: Net<Listener = TcpListener, Stream = TcpStream> + Threads + Wait + Abort + Clock + Sync,
 >(rt: &R, alloc: Global, list: NewList) -> Result<(), Fail>
     requires { list ≡ (J.book, J.config) }
 {
@@ -99,11 +100,13 @@ fn linked<
         || serve_links(rt, alloc, &listener, &node, seats),
         || {
             let answered = second_before_first(&first, &second);
-            let pushed = run_push(
+            let pushed = run_order(
                 rt,
                 alloc,
-                &mut asked.as_slice(),
                 47101,
+                &Order::Push,
+                &mut asked.as_slice(),
+                false,
                 &mut printed,
                 &mut told,
             );
