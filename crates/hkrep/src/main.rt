@@ -6,8 +6,8 @@ mod watched;
 use crate::watched::Watched;
 use hk_arguments::{Call, Order as Asked, read_call};
 use hk_cli::{
-    Form, Order, ReadPort, Stay, run_ask, run_at, run_explain, run_frames, run_front, run_items,
-    run_order, run_rewrite, run_serve, run_status, run_stay, run_world,
+    Form, Links, Order, ReadPort, Stay, run_ask, run_at, run_explain, run_frames, run_front,
+    run_items, run_order, run_rewrite, run_serve, run_status, run_stay, run_world,
 };
 use std::alloc::Global;
 use std::fs::Files;
@@ -41,7 +41,7 @@ fn run_alone<I: Read, W: Write, E: Write>(
     input: &mut I,
     output: &mut W,
     errors: &mut E,
-    call: Call<'_>,
+    call: &Call<'_>,
 ) -> u8 {
     match call {
         Call::At {
@@ -49,24 +49,24 @@ fn run_alone<I: Read, W: Write, E: Write>(
             time,
             table,
             key,
-        } => run_at(alloc, input, output, errors, config, time, table, key),
+        } => run_at(alloc, input, output, errors, *config, *time, *table, *key),
         Call::Ask {
             config,
             time,
             query,
             is_json,
         } => {
-            let form = form_of(is_json);
-            run_ask(alloc, input, output, errors, config, time, &query, form)
+            let form = form_of(*is_json);
+            run_ask(alloc, input, output, errors, *config, *time, query, form)
         }
         Call::Front { config, is_json } => {
-            run_front(alloc, input, output, errors, config, form_of(is_json))
+            run_front(alloc, input, output, errors, *config, form_of(*is_json))
         }
         Call::Status { config, is_json } => {
-            run_status(alloc, input, output, errors, config, form_of(is_json))
+            run_status(alloc, input, output, errors, *config, form_of(*is_json))
         }
-        Call::Items { is_json } => run_items(alloc, input, output, errors, form_of(is_json)),
-        Call::Explain { number } => run_explain(alloc, number, output, errors),
+        Call::Items { is_json } => run_items(alloc, input, output, errors, form_of(*is_json)),
+        Call::Explain { number } => run_explain(alloc, *number, output, errors),
         Call::Rewrite => run_rewrite(alloc, input, output, errors),
         _frames => run_frames(alloc, input, output, errors),
     }
@@ -111,6 +111,14 @@ fn tell_no_file<E: Write>(alloc: Global, name: &str, error: &io::Error, errors: 
     };
 }
 
+/// A new file of this name, where one is given.
+fn made<R: Files>(rt: &R, name: Option<&str>) -> io::Result<Option<R::File>> {
+    match name {
+        Some(name) => Ok(Some(fs::create(rt, name)?)),
+        None => Ok(None),
+    }
+}
+
 /// The status of a script whose items are written to a file of this name, where one is given.
 fn run_script<R: Files + Alloc<A = Global>, I: Read, W: Write, E: Write>(
     rt: &R,
@@ -120,15 +128,20 @@ fn run_script<R: Files + Alloc<A = Global>, I: Read, W: Write, E: Write>(
     errors: &mut E,
 ) -> u8 {
     let alloc = rt.alloc();
-    let Some(name) = items else {
-        return run_world(alloc, input, None::<&mut R::File>, output, errors);
-    };
-    match fs::create(rt, name) {
-        Ok(mut file) => run_world(alloc, input, Some(&mut file), output, errors),
+    match made(rt, items) {
+        Ok(mut file) => run_world(alloc, input, file.as_mut(), output, errors),
         Err(error) => {
-            tell_no_file(alloc, name, &error, errors);
+            tell_no_file(alloc, items.unwrap_or(""), &error, errors);
             1
         }
+    }
+}
+
+/// The port for links that only read, as the command takes it.
+fn reading_of(reading: Option<(u16, Links)>) -> Option<ReadPort> {
+    match reading {
+        Some((port, links)) => Some(ReadPort { port, links }),
+        None => None,
     }
 }
 
@@ -138,7 +151,7 @@ fn run<R, I: Read, E: Write>(
     input: &mut I,
     is_terminal: bool,
     errors: &mut E,
-    call: Call<'_>,
+    call: &Call<'_>,
 ) -> u8
 where
     R: Print + Alloc<A = Global> + Clock + Files,
@@ -150,7 +163,7 @@ where
             config,
             port,
             links,
-        } => run_serve(rt, rt.alloc(), port, config, links, &mut output, errors),
+        } => run_serve(rt, rt.alloc(), *port, *config, *links, &mut output, errors),
         Call::Stay {
             config,
             address,
@@ -160,23 +173,22 @@ where
             read_seconds,
             is_quiet,
         } => {
-            let reading = reading.map(|(port, links)| ReadPort { port, links });
             let stay = Stay {
-                address,
-                port,
-                links,
-                reading,
-                read_seconds,
-                is_quiet,
+                address: *address,
+                port: *port,
+                links: *links,
+                reading: reading_of(*reading),
+                read_seconds: *read_seconds,
+                is_quiet: *is_quiet,
             };
-            run_stay(rt, rt.alloc(), config, &stay, &mut output, errors)
+            run_stay(rt, rt.alloc(), *config, &stay, &mut output, errors)
         }
         Call::Node { port, order } => {
-            let order = order_of(order);
+            let order = order_of(*order);
             run_order(
                 rt,
                 rt.alloc(),
-                port,
+                *port,
                 &order,
                 input,
                 is_terminal,
@@ -184,8 +196,8 @@ where
                 errors,
             )
         }
-        Call::World { items } => run_script(rt, input, items, &mut output, errors),
-        other => run_alone(rt.alloc(), input, &mut output, errors, other),
+        Call::World { items } => run_script(rt, input, *items, &mut output, errors),
+        _alone => run_alone(rt.alloc(), input, &mut output, errors, call),
     }
 }
 
@@ -204,5 +216,5 @@ fn main(rt: HostRuntime) -> io::Result<ExitCode> {
     let mut input = Watched::new(&rt, rt.reader());
     let mut errors = rt.stderr();
     let is_terminal = rt.stdin().is_terminal();
-    Ok(ExitCode::from(run(&rt, &mut input, is_terminal, &mut errors, call)))
+    Ok(ExitCode::from(run(&rt, &mut input, is_terminal, &mut errors, &call)))
 }
