@@ -81,7 +81,7 @@ def main(entries):
         rate = timed("follow", frames, lambda: status(it.follow(*it.until())))
         print(f"follow is at {rate / best:.2f} of the quickest direct push")
         it.numbers_of = {stream: it.numbers(stream)[-1] for stream in (2, 3, 4)}
-        lateness(it, 1000)
+        lateness(it, min(1000, entries))
 
 
 if __name__ == "__main__":

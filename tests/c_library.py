@@ -15,6 +15,7 @@ sys.dont_write_bytecode = True
 ROOT = pathlib.Path(__file__).resolve().parent.parent
 sys.path[:0] = [str(ROOT / "tests"), str(ROOT / "clients" / "python")]
 from checks import differ, ended, report, skip  # noqa: E402
+from shown import of  # noqa: E402
 
 LIB, HEADER, FIRST = ROOT / "lib", ROOT / "include" / "hekaton.h", ROOT / "examples" / "first.bin"
 LINKED = ["-I", str(ROOT / "include")]
@@ -217,30 +218,31 @@ def piped(replica):
     return later.result()
 
 
-def listed_lines(text):
+def listed_lines():
     """The lines of the page's listings in C++, Rust, Python and Go that stand in no example."""
     files = [it for folder in ("examples/embedding", "clients/rust/examples") for it in (ROOT / folder).iterdir() if it.is_file()]
     lines = {line.strip() for it in files for line in it.read_text(encoding="utf-8").splitlines()}
-    listed = [line for block in re.findall(r"```(?:cpp|rust|python|go)\n(.*?)```", text, re.DOTALL) for line in block.splitlines()]
+    listed = [line for it in of("c_library.py listings") if it.how != "c" for line in it.text.splitlines()]
     return [line for line in listed if line.strip() not in lines] + ([] if len(listed) >= 20 else [f"{len(listed)} lines"])
 
 
 def in_page():
     """docs/EMBEDDING.md: the lines of its listings stand in the examples, and its commands, typed in a copy, print what they say."""
-    text, tree = (ROOT / "docs" / "EMBEDDING.md").read_text(encoding="utf-8"), WORK / "tree"
-    report("docs/EMBEDDING.md: what it lists stands in the examples", listed_lines(text))
+    tree = WORK / "tree"
+    report("docs/EMBEDDING.md: what it lists stands in the examples", listed_lines())
     for folder in ("include", "lib", "examples", "clients"):
         shutil.copytree(ROOT / folder, tree / folder, symlinks=True, ignore=shutil.ignore_patterns("target", "Cargo.lock", "__pycache__"))
-    (tree / "feed.c").write_text(re.search(r"```c\n(.*?)```", text, re.DOTALL)[1], encoding="utf-8")
+    (tree / "feed.c").write_text("".join(it.text for it in of("c_library.py listings") if it.how == "c"), encoding="utf-8")
     problems, count = [], 0
-    for line in re.findall(r"^    (.*\S)$", text, re.MULTILINE):
-        command, _, said = line.partition("  # ")
-        tool = re.sub(r"\w+=(\S*\".*?\"|\S+) ", "", command).split()[0]
-        if tool in ("cargo", "go", "cc", "g++", "python3", "./feed", "./first") and (tool.startswith("./") or shutil.which(tool)):
-            count += 1
-            command = command.replace("$(pkg-config --cflags --libs hekaton)", "-Iinclude -Llib -l:libhekaton.a")
-            printed, status = run(["bash", "-c", command], cwd=tree, env={**os.environ, "CARGO_NET_OFFLINE": "true"})
-            problems += [f"{command}: status {status}, {printed[-300:]}"] if status or said.strip() not in printed else []
+    for it in of("c_library.py commands"):
+        tool = re.sub(r"\w+=(\S*\".*?\"|\S+) ", "", it.text).split()[0]
+        if not tool.startswith("./") and not shutil.which(tool):
+            skip(f"{tool} is not installed: a command of docs/EMBEDDING.md isn't typed", needed=False)
+            continue
+        count += 1
+        command = it.text.replace("$(pkg-config --cflags --libs hekaton)", "-Iinclude -Llib -l:libhekaton.a")
+        printed, status = run(["bash", "-c", command], cwd=tree, env={**os.environ, "CARGO_NET_OFFLINE": "true"})
+        problems += [f"{command}: status {status}, {printed[-300:]}"] if status or it.printed not in printed else []
     report(f"docs/EMBEDDING.md: its commands ({count})", problems + ([] if count >= 5 else ["too few"]))
 
 

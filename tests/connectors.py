@@ -8,6 +8,7 @@ what it started."""
 import os
 import pathlib
 import random
+import re
 import shutil
 import socket
 import subprocess
@@ -32,6 +33,7 @@ except ImportError:
 
 import reference
 from checks import ended, is_built, report, skip
+from shown import of
 from feeding import Feed, place_of
 from vadungsil import LAST_TIME, Entry, LogWriter, Mark, encode
 from vadungsil.node import Node
@@ -471,10 +473,8 @@ def secured(it):
     port = free_port()
     it.start_redis("--tls-port", port, "--tls-cert-file", folder / "cert.pem", "--tls-key-file", folder / "key.pem", "--tls-ca-cert-file",
                    folder / "cert.pem")
-    page = (ROOT / "docs" / "CONNECTORS.md").read_text()
-    for user in ("writer", "reader"):
-        line = next(line.strip() for line in page.split("\n") if line.strip().startswith(f"ACL SETUSER {user} "))
-        it.client.execute_command(*line.replace("PASSWORD", "secret").split())
+    for line in of("connectors.py secured"):
+        it.client.execute_command(*line.text.replace("PASSWORD", "secret").split())
     tls = ["--cacert", folder / "cert.pem", "--cert", folder / "cert.pem", "--key", folder / "key.pem", *WORDS]
     env = {**os.environ, "REDISCLI_AUTH": "secret"}
     writer, reader = ([f"rediss://{user}@localhost:{port}", *tls] for user in ("writer", "reader"))
@@ -510,8 +510,26 @@ def told_by_status(it):
     it.same()
 
 
+def as_in_the_page(it):
+    """The commands of docs/CONNECTORS.md, typed one after the other: those that go on until they are ended do so for as long as it takes."""
+    env = {**os.environ, "REDIS_URL": f"redis://127.0.0.1:{it.redis_port}"}
+    for shown in of("connectors.py typed"):
+        line = shown.text.replace("LOG.bin", str(it.folder / "log.bin")).replace("47000", str(it.node_port)).replace("redis-cli", f"redis-cli -p {it.redis_port}")
+        child = it.start("bash", "-c", f"exec {line}", cwd=ROOT, env=env, stdout=subprocess.PIPE)
+        if "/follow" in line:
+            it.reached(1)
+            kill(child)
+        elif "--watch" in line:
+            holds(child.stdout.readline(), "--watch tells nothing")
+            kill(child)
+        else:
+            status(child)
+    holds(all(number >= 5000 for number in it.numbers(1)), "nothing was trimmed")
+    it.same()
+
+
 STORIES = [killed_followers, killed_publisher, killed_redis, killed_node, lost_tail, trimmed, forked, two_followers, two_publishers, out_of_order,
-           twice_fed, lacking_input, poisoned, large_numbers, kept, secured, told_by_status]
+           twice_fed, lacking_input, poisoned, large_numbers, kept, secured, told_by_status, as_in_the_page]
 
 
 def tables_of(frames, entries):
@@ -547,6 +565,15 @@ def over_kafka():
     report(f"the example for Kafka, on a mock broker ({time.monotonic() - begin:.1f} s)", problems)
 
 
+def demonstrated():
+    """`make redis-demo`, as its recipe is typed: a node is killed in the middle, and both show the primary's rows."""
+    begin, recipe = time.monotonic(), re.search(r"^redis-demo:.*\n\t(.*)$", (ROOT / "Makefile").read_text(), re.M)[1]
+    problems = [] if all(it.text == "make redis-demo" for it in of("connectors.py demonstrated")) and recipe == "connectors/redis/demo" else [recipe]
+    got = subprocess.run([sys.executable, ROOT / recipe, "200"], stdout=subprocess.PIPE, stderr=subprocess.STDOUT, text=True, timeout=PATIENCE, check=False)
+    problems += [] if got.returncode == 0 and got.stdout.count("equal") == 10 else [got.stdout]
+    report(f"make redis-demo ({time.monotonic() - begin:.1f} s)", problems)
+
+
 def main(words):
     if redis is None:
         skip("python3-redis is not installed")
@@ -563,6 +590,8 @@ def main(words):
     with ThreadPoolExecutor(SIDE_BY_SIDE) as pool:
         for name, problems, told in pool.map(lambda story: play(story, *log), chosen):
             report(name, problems, told)
+    if not words or "demonstrated" in words:
+        demonstrated()
     if not words or "over_kafka" in words:
         over_kafka()
     return ended()

@@ -273,18 +273,18 @@ class Node:
     """A node under the library, which is ended at the latest when the block is left. Its requests for memory count from when the
     page is armed on."""
 
-    def __init__(self, links=2, streams=1, **how):
+    def __init__(self, links=2, *options, streams=1, **how):
         for _ in range(5):
-            self.start(links, streams, Page(**{"waits": 1, **how}))
+            self.start(links, streams, options, Page(**{"waits": 1, **how}))
             if self.said != "refused 93\n":
                 return
             # somebody took the port in between
             self.__exit__()
         raise RuntimeError("no port could be listened to")
 
-    def start(self, links, streams, page):
+    def start(self, links, streams, options, page):
         self.page, self.port = page, free_port()
-        words = ["serve", "--log", "7", "--streams", str(streams), "--port", str(self.port), "--links", str(links)]
+        words = ["serve", "--log", "7", "--streams", str(streams), "--port", str(self.port), "--links", str(links), *options]
         self.child = subprocess.Popen([PROGRAM, *words], stdout=subprocess.PIPE, stderr=subprocess.DEVNULL, text=True, env=page.environment())
         lines = queue.Queue()
         threading.Thread(target=lambda: lines.put(self.child.stdout.readline()), daemon=True).start()
@@ -347,14 +347,18 @@ CASES = [
     ("a front", [ALL], say.front()), ("a delta that is asked for", [ALL], say.delta(1)), ("a whole that is asked for", [LATE], say.full()),
     ("a get", [ALL], say.ask(3, say.get(1, 5))), ("a range", [ALL], say.ask(3, say.scan(1, 0, 9))), ("a tag", [ALL], say.ask(2, say.by_tag(1, 9))),
     ("a count", [ALL], say.ask(3, say.count(1)))]
+# The same of a node that tests each change first; of some items it has heard before.
+GUARDED = [
+    ("items to a guarded node", [LATE], say.items(E1, E2, E3, *MANY[3:20], say.mark(1, 20, 20), say.mark(1, 30, 30))),
+    ("a delta to a guarded node", [ALL], say.join_this(base=2, streams=[(4, 4, [6, 8], [(7, 9)])], facts=[row(5, 4), (1, 6, 3, None, 4), row(7, 6)]))]
 
 
 class Change:
-    """A request of CASES, with what it is told undisturbed, how many requests for memory that takes, and the states around it."""
+    """A request of CASES or GUARDED, to a node with these options, with what it is told undisturbed, how many requests for memory that takes, and the states around it."""
 
-    def __init__(self, setup, request):
-        self.setup, self.request = setup, request
-        with Node(1) as node, self.made(node) as link:
+    def __init__(self, setup, request, *options):
+        self.setup, self.request, self.options = setup, request, options
+        with Node(1, *options) as node, self.made(node) as link:
             self.before = state_of(link)
             node.page.arm(0)
             self.told = link.ask(request)
@@ -370,7 +374,7 @@ class Change:
 
     def disturbed(self, left):
         """How the request was told where one request for memory is refused, and what is wrong."""
-        with Node(2) as node:
+        with Node(2, *self.options) as node:
             with self.made(node) as link:
                 node.page.arm(left)
                 told = reply_to(link, self.request)
@@ -431,8 +435,8 @@ def refused_requests():
     """Each request for memory of a node's answer refused in turn: 90 and the node is as before, or 42 and the next change publishes
     what waits, or the link ends; and the request made again is told what it would have been told."""
     kinds = {}
-    for name, setup, request in CASES:
-        change = Change(setup, request)
+    for name, setup, request, *options in [*CASES, *((*it, "--guard") for it in GUARDED)]:
+        change = Change(setup, request, *options)
         problems, count = [], 0
         for kind, wrong in POOL.map(change.disturbed, range(1, change.count + 1)):
             problems += wrong

@@ -139,8 +139,8 @@ def read_reply(rest):
 class Link:
     """A link to a node, byte by byte, which no client of the package opens. Each wait for bytes has a limit."""
 
-    def __init__(self, port, limit=20):
-        self.socket = socket.create_connection(("127.0.0.1", port), timeout=limit)
+    def __init__(self, port, limit=20, address="127.0.0.1"):
+        self.socket = socket.create_connection((address, port), timeout=limit)
         self.socket.setsockopt(socket.IPPROTO_TCP, socket.TCP_NODELAY, 1)
 
     def send(self, data):

@@ -15,6 +15,7 @@ import tempfile
 import time
 
 from checks import differ, ended, is_built, report, skip
+from shown import of
 
 ROOT = pathlib.Path(__file__).resolve().parent.parent
 sys.dont_write_bytecode = True
@@ -23,6 +24,7 @@ from helped import helped, told  # noqa: E402
 
 VERSION = (ROOT / "VERSION").read_text(encoding="utf-8").strip()
 PAGE = (ROOT / "docs" / "RELEASE.md").read_text(encoding="utf-8")
+OF_PAGE = {it.text for it in of("package.py released")}
 WORK = pathlib.Path(tempfile.mkdtemp(prefix="package"))
 CLONE, BARE = WORK / "clone", WORK / "bare"
 DEB = CLONE / "dist" / f"vadungsil_{VERSION}_amd64.deb"
@@ -45,7 +47,8 @@ def run(command, **more):
 def steps(heading):
     """The lines that a part of the page sets in, with the present number."""
     part = re.search(rf"^## {heading}$(.*?)(?=^## |\Z)", PAGE, re.M | re.S)[1]
-    return [line.replace("NUMBER", VERSION) for line in re.findall(r"^    (\S.*)$", part, re.M)]
+    lines = re.findall(r"^    (\S.*)$", part, re.M)
+    return [line.replace("NUMBER", VERSION) for line in lines if line.partition("  # ")[0].rstrip() in OF_PAGE]
 
 
 def typed(lines):
@@ -164,15 +167,24 @@ def in_a_bare_root():
     lines = steps("A try, as a new user")
     said, status = dpkg(root, "-i", DEB)
     report("the Debian package is installed in a bare root", [said] if status or "error" in said else [])
-    port, first = free_port(), [line for line in lines if not re.match(r"dpkg |tar |vadungsil-|cd vad|make |rm ", line)]
-    wanted = [it for line in first for it in re.findall(r"# (.*)$", line)]
-    text = "\n".join(re.sub(r" *#.*$", "", line) for line in first).replace("47000", port).replace("&\n", "> /dev/null & node=$!\n" + WAIT.replace("PORT", port))
-    said, status = inside(root, text + "\nkill $node")
-    report("docs/RELEASE.md: from nothing but the package to a node's answer", differ([("prints", said.splitlines(), wanted), ("status", status, 0)]))
+    first = [line for line in lines if not re.match(r"dpkg |tar |vadungsil-|cd vad|make |rm ", line)]
+    report("docs/RELEASE.md: from nothing but the package to a node's answer", answered(root, first))
+    two = of("package.py two commands")
+    report("README.md: from nothing but the package to a node's answer in two commands", answered(root, [f"{two[1].text}  # {two[1].printed}"])
+           + ([] if len(two) == 2 and two[0].text == "dpkg -i vadungsil_*_amd64.deb" else [str(two)]))
     unit(root)
     said, status = dpkg(root, "--purge", "vadungsil")
     left = [str(it.relative_to(BARE)) for it in BARE.rglob("*") if re.search("hkrep|hekaton|vadungsil", it.name) and "var/lib/dpkg" not in str(it)]
     report("the package goes, and leaves nothing", ([said] if status else []) + left)
+
+
+def answered(root, lines):
+    """What is wrong with lines that are typed in the root, one of which starts a node that stays: examples/node tells on standard error which."""
+    port, wanted = free_port(), [it for line in lines for it in re.findall(r"# (.*)$", line)]
+    text = "\n".join(re.sub(r" *#.*$", "", line) for line in lines).replace("47100", port)
+    text = re.sub(r"^(\S*examples/node)$", rf'\1 {port} 2> /said; while read -r word node _; do [ "$word" = node ] && break; done < /said', text, flags=re.M)
+    said, status = inside(root, f"{text}\nkill $node")
+    return differ([("prints", said.splitlines(), wanted), ("status", status, 0)])
 
 
 # a shell that has nothing waits for a node so
@@ -294,10 +306,12 @@ int main(int count, char **words) {
 def over_c():
     """`make install` with DESTDIR, and a program in C that pkg-config finds the library for."""
     place = WORK / "destdir"
-    said, status = run(["make", "-s", "install", "PREFIX=/opt/vadungsil", f"DESTDIR={place}"], cwd=ROOT)
-    lib = place / "opt" / "vadungsil" / "lib"
-    report("make install puts all below DESTDIR", ([said] if status else []) + [it for it in ("bin/hkrep", "lib/libhekaton.so", "include/hekaton.h", "share/man/man1/hkrep.1") if not (lib.parent / it).exists()]
-           + [str(it) for it in place.iterdir() if it.name != "opt"])
+    line = sorted({it.text for it in of("package.py installed")})
+    said, status = run(f"{line[0]} -s DESTDIR='{place}'", cwd=ROOT)
+    lib = place / "usr" / "local" / "lib"
+    report("make install, as the pages have it, puts all below DESTDIR", ([said] if status or len(line) > 1 else []) + [
+        it for it in ("bin/hkrep", "lib/libhekaton.so", "include/hekaton.h", "share/man/man1/hkrep.1") if not (lib.parent / it).exists()]
+        + [str(it) for it in place.iterdir() if it.name != "usr"])
     if not shutil.which("gcc") or not shutil.which("pkg-config"):
         skip("gcc or pkg-config is not installed: no program is made over what was installed")
         return

@@ -1,6 +1,9 @@
 #!/usr/bin/env python3
 """What the pages show is what there is: listings are lines of files that the gate proves or runs, commands run and print
-what the page says, the pictures are what their scripts draw, and each link leads to a file. Needs bin/hkrep, or bin/hkrep-unproved."""
+what the page says, the pictures are what their scripts draw, and each link leads to a file. Each command and listing of a page has a
+check that types it (tests/shown.py), or stands below in UNTYPED with the reason. Needs bin/hkrep, or bin/hkrep-unproved."""
+import functools
+import os
 import pathlib
 import re
 import shutil
@@ -9,17 +12,34 @@ import subprocess
 import sys
 import tempfile
 
-from checks import ended, is_built, report, skip
+from checks import differ, ended, is_built, report, skip
+from shown import PAGES, all_shown, checker, of
 
 ROOT = pathlib.Path(__file__).resolve().parent.parent
 PROVED, UNPROVED = ROOT / "bin" / "hkrep", ROOT / "bin" / "hkrep-unproved"
 PROGRAM = PROVED if PROVED.exists() or not UNPROVED.exists() else UNPROVED
-STARTED = (ROOT / "docs" / "GETTING_STARTED.md").read_text()
-PAGES = [*ROOT.glob("*.md"), *(ROOT / "docs").glob("*.md"), *(ROOT / "bench").glob("*.md"), *(ROOT / "uses").glob("*.md"),
-         *(ROOT / "examples").glob("*.md"), *(ROOT / "examples").glob("world/*.md")]
+
+# What the gate doesn't type, and why; what begins so. Of each of these a check sees that it is there.
+UNTYPED = {
+    "rt check": "proves a crate: minutes, and the gate's `rt ci` does the same",
+    "rt ci": "tests/cost runs it, for an hour; of one crate for minutes",
+    "rt lib": "as rt check",
+    "rt try": "builds a crate with the compiler's checks of memory: half a minute each",
+    "rt must-fail": "a part of rt ci",
+    "rt plant": "runs for hours, by hand",
+    "make quick": "two minutes of the compiler; a program that is proved is what the gate has",
+    "make lib": "proves anew what tests/library --gate took from the gate",
+    "make test": "is the gate",
+    "make": "proves what the gate has proved",
+    "bench/core": "proves a dozen crates, by hand",
+    "bench/node": "needs what bench/core builds",
+    "debootstrap": "fetches a Debian; tests/package.py makes a root of what is here",
+    "systemctl": "needs a machine that systemd runs; tests/package.py types the unit's own command line",
+}
 
 # What stands in a command of a page for something of the reader's own; a port is a free one.
-STAND_INS = {"FRAMES": "examples/first.bin", "NAME": "half_fed", "47000": None, "47110": None}
+STAND_INS = {"FRAMES": "examples/first.bin", "NAME": "half_fed", "TIME": "1"}
+PORTS = r"\b(47000|47110|(?<=--port )P|(?<=--port )Q)\b"
 
 
 def sources():
@@ -27,16 +47,12 @@ def sources():
 
 
 def listings():
-    """What a page lists in Rattle stands in a source; listings in Python are run by tests/python_client.py, or stand in an example."""
-    texts = [path.read_text() for path in sources()]
-    blocks = [(page.name, block) for page in PAGES if page.parent.name in ("uses", "examples")
-              for block in re.findall(r"```(?:rust|python)\n(.*?)\n```", page.read_text(), re.S)]
-    problems = [f"{name}: {block.splitlines()[0]}" for name, block in blocks if not any(block in text for text in texts)]
-    texts = [path.read_text() for path in (ROOT / "crates" / "hk_node").glob("**/*") if path.suffix in (".rt", ".antt", ".edit")]
-    changed = re.findall(r"```(?:rust|antt|)\n((?:    |file|--|effect|abbrev).*?)\n```", (ROOT / "docs" / "CONTRIBUTING.md").read_text(), re.S)
-    problems += [f"CONTRIBUTING.md: {block.splitlines()[0]}" for block in changed if not any(block in text for text in texts)]
-    problems += [] if len(blocks) >= 3 and len(changed) >= 4 else [f"{len(blocks)} and {len(changed)} listings"]
-    report("what uses/README.md and docs/CONTRIBUTING.md list are lines of files", problems)
+    """What uses/README.md and docs/CONTRIBUTING.md list stands in a source."""
+    texts = {"uses/README.md": [path.read_text() for path in sources()],
+             "docs/CONTRIBUTING.md": [path.read_text() for path in (ROOT / "crates" / "hk_node").glob("**/*") if path.suffix in (".rt", ".antt", ".edit")]}
+    mine = of("pages.py listings")
+    problems = [f"{it.page}: {it.text.splitlines()[0]}" for it in mine if not any(it.text.removesuffix("\n") in text for text in texts[it.page])]
+    report(f"what uses/README.md and docs/CONTRIBUTING.md list are lines of files ({len(mine)})", problems)
 
 
 def pictures():
@@ -51,7 +67,7 @@ def calling():
 
 
 def commands():
-    listed = re.findall(r"^hkrep (\w+) ", STARTED[STARTED.index("## All commands"):], re.M)
+    listed = re.findall(r"^hkrep (\w+) ", of("pages.py commands")[0].text, re.M)
     got = subprocess.run([PROGRAM, "--help"], stdout=subprocess.PIPE, text=True, check=False)
     known = [line.split()[0] for line in got.stdout.splitlines() if re.match(r"  [a-z]+ ", line) and line.split()[0] != "help"]
     report("GETTING_STARTED lists each command", [] if sorted(listed) == sorted(known) else [f"{listed}, and --help has {known}"])
@@ -68,24 +84,12 @@ def asked_node():
     port = free_port()
     node = subprocess.Popen([PROGRAM, "serve", "--log", "7", "--streams", "1", "--port", port, "--links", "1"], stdout=subprocess.PIPE, text=True)
     node.stdout.readline()
-    got = subprocess.run([sys.executable, ROOT / "examples" / "links" / "ask.py", port], stdout=subprocess.PIPE, stderr=subprocess.STDOUT,
-                         text=True, timeout=60, check=False)
+    words = of("pages.py asked node")[0].text.replace("47000", port).split()
+    got = subprocess.run([sys.executable, *words], cwd=ROOT, stdout=subprocess.PIPE, stderr=subprocess.STDOUT, text=True, timeout=60, check=False)
     ended, _ = node.communicate(timeout=60)
     wanted = "front 01 21 00 00 00 00 00 00 00 00 00 00 00 00 00 00 00 01\ntag 9 body 41\n"
     problems = [] if got.stdout == wanted and ended == "ended 0\n" and node.returncode == 0 else [got.stdout + ended]
     report("examples/links/ask.py asks a node", problems)
-
-
-def shown():
-    """The commands of the pages that can be run as they stand: page, command, and what a comment behind it says."""
-    for page in PAGES:
-        text = page.read_text()
-        for line in re.findall(r"^    ((?:bin/)?hkrep .*)$", text, re.M):
-            command, _, said = line.partition("#")
-            yield page, command.strip(), said.strip()
-        for command in re.findall(r"`((?:bin/)?hkrep [^`]+)`", text):
-            if re.search(r" < | explain| help |--help|--version|--log ", command):
-                yield page, command, ""
 
 
 def bash(command):
@@ -107,44 +111,98 @@ def serving(port):
     return node
 
 
+@functools.cache
+def whole_of_a_node():
+    """What `save` writes of a node that took the first items."""
+    port = free_port()
+    node = serving(port)
+    bash(f"bin/hkrep feed --port {port} < examples/first.bin")
+    saved = subprocess.run([PROGRAM, "save", "--port", port], stdout=subprocess.PIPE, timeout=60, check=False).stdout
+    node.kill()
+    node.communicate(timeout=60)
+    return saved
+
+
+def started_node(command, port):
+    """A command of a page that starts a node: what it printed once links can be opened, and status 0."""
+    node = subprocess.Popen(["bash", "-c", f"exec {command.removesuffix('&')}"], cwd=ROOT, stdout=subprocess.PIPE, text=True)
+    line = node.stdout.readline()
+    node.kill()
+    node.communicate(timeout=60)
+    return line, 0 if line == f"listening {port}\n" else 1
+
+
+def asked_of_nodes(command, port):
+    """A command of a page that asks a node, which took the first items but for `push`, `feed` and `load`; another one beside it took them."""
+    other = free_port()
+    nodes = [serving(port), serving(other)]
+    for at in [other] if re.search(r" (push|feed|load) ", command) else [port, other]:
+        bash(f"bin/hkrep feed --port {at} < examples/first.bin")
+    command = re.sub(r"(?<=--from )Q\b", other, command)
+    with tempfile.NamedTemporaryFile() as saved:
+        saved.write(whole_of_a_node())
+        saved.flush()
+        got = bash(f"{command} < {saved.name}" if " load " in command else command)
+    for node in nodes:
+        node.kill()
+        node.communicate(timeout=60)
+    return got
+
+
+def typed_command(text):
+    """A command of a page, with what stands for the reader's own: what was typed, what it printed, and its status."""
+    port = free_port()
+    command = re.sub(PORTS, port, text)
+    for word, stands_for in STAND_INS.items():
+        command = re.sub(rf"\b{word}\b", stands_for, command)
+    command = command if command.startswith("bin/") else f"bin/{command}"
+    if " serve " in command:
+        return command, *started_node(command.replace("bin/hkrep", str(PROGRAM)), port)
+    if " --log " in command and " < " not in command:
+        command += " < examples/first.bin"
+    return command, *(asked_of_nodes(command, port) if " --port " in command else bash(command))
+
+
 def shown_commands():
-    """Each command that a page shows runs, and prints what the page says; those with a port ask a node that took the first items, `push` and `feed` one that took none."""
-    problems, count = [], 0
-    for page, command, said in shown():
-        count, port = count + 1, free_port()
-        for word, stands_for in STAND_INS.items():
-            command = command.replace(word, stands_for or port)
-        if not command.startswith("bin/"):
-            command = f"bin/{command}"
-        if " serve " in command:
+    """Each command with hkrep that a page shows runs, and prints what the page says."""
+    problems, commands_shown = [], {(it.text, it.printed): it.page for it in of("pages.py typed")}
+    for (text, printed), page in commands_shown.items():
+        command, got, status = typed_command(text)
+        is_refused = bool(re.search(r"^refused", got, re.M))
+        if status != is_refused or not got or not as_said(got, printed):
+            problems.append(f"{page}: {command}: status {status}, printed {got[:200]!r}")
+    report(f"each command with hkrep that a page shows runs and prints what the page says ({len(commands_shown)})", problems)
+
+
+def names():
+    """What is named without words behind it is a command of hkrep, and an option that is named is one of it."""
+    problems = []
+    for it in of("pages.py names"):
+        if it.text.startswith("python3"):
+            place = ROOT / "clients" / "python" / it.text.split()[-1].replace(".", "/")
+            problems += [] if place.is_dir() or place.with_suffix(".py").is_file() else [it.text]
             continue
-        if " --log " in command and " < " not in command:
-            command += " < examples/first.bin"
-        if " --port " in command:
-            node = serving(port)
-            if " push " not in command and " feed " not in command:
-                bash(f"bin/hkrep feed --port {port} < examples/first.bin")
-            printed, status = bash(command)
-            node.kill()
-            node.communicate(timeout=60)
+        command, *options = [word for word in it.text.split()[1:] if word != ".."]
+        helped, status = bash(f"bin/hkrep help {command}")
+        problems += [f"{it.page}: {it.text}"] if status or any(word.startswith("--") and word not in helped for word in options) else []
+    report("each command of hkrep that a page names is there", problems)
+
+
+def typed_here():
+    """The listings of docs/GETTING_STARTED.md, each with what it has to print; a line that starts a node is followed by a wait for it."""
+    waits = r"\1\nfor _ in $(seq 100); do grep -q listening \2 && break; sleep 0.1; done"
+    listed = []
+    for it in of("pages.py started"):
+        if it.how == "sh":
+            listed.append([re.sub(r"^(hkrep serve .* > (\S+) &)$", waits, it.text, flags=re.M), ""])
         else:
-            printed, status = bash(command)
-        is_refused = bool(re.search(r"^refused", printed, re.M))
-        if status != is_refused or not printed or not as_said(printed, said):
-            problems.append(f"{page.name}: {command}: status {status}, printed {printed[:200]!r}")
-    report("each command that a page shows runs and prints what the page says", problems or ([] if count >= 10 else [f"only {count} commands"]))
-
-
-def typed(text):
-    """The listings of a page for one shell, each with what it has to print; a line that starts a node is followed by a wait for it."""
-    for block, said in re.findall(r"^```sh\n(.*?)^```(?:\n+```text\n(.*?)^```)?", text, re.M | re.S):
-        waits = r"\1\nfor _ in $(seq 100); do grep -q listening \2 && break; sleep 0.1; done"
-        yield re.sub(r"^(hkrep serve .* > (\S+) &)$", waits, block, flags=re.M), said
+            listed[-1][1] = it.text
+    return listed
 
 
 def started():
     """docs/GETTING_STARTED.md from its first line to its last, in one shell, with free ports for its nodes."""
-    listed = list(typed(STARTED))
+    listed = typed_here()
     script = "".join(f"{block}\necho '<end {number}>'\n" for number, (block, _) in enumerate(listed))
     for port in sorted(set(re.findall(r"\b4700\d\b", script))):
         script = script.replace(port, free_port())
@@ -164,6 +222,10 @@ def examples_of(command):
 
 def run_example(line, ports, folder):
     """Runs a line of an example, with free ports for those that it names and in a folder for what it writes."""
+    if line.endswith("&"):
+        port = free_port()
+        line = line.replace("47110", port).replace("47111", free_port()).replace("hkrep", str(PROGRAM), 1)
+        return line, started_node(line, port)
     for named, port in ports.items():
         line = line.replace(named, port)
     line = re.sub(r"\bhkrep\b", "bin/hkrep", line).replace("second.bin", f"{folder}/second.bin").replace("whole.bin", f"{folder}/whole.bin")
@@ -181,7 +243,7 @@ def helped():
         bash(f"bin/hkrep feed --port {ports['47110']} < examples/first.bin")
         with tempfile.TemporaryDirectory() as folder:
             for command in sorted(known, key=lambda it: (it == "prune", it == "load", it)):
-                lines = [line for line in examples_of(command) if not line.endswith("&")]
+                lines = examples_of(command)
                 problems += [] if lines else [f"{command} has no example"]
                 for line in lines:
                     line, (printed, status) = run_example(line, ports, folder)
@@ -194,27 +256,236 @@ def helped():
     report("each command's help has an example, and it runs", problems or ([] if len(known) >= 10 else [f"only {known}"]))
 
 
+def untyped(text):
+    """What of UNTYPED a line is, or None: its first two words, or the tool where that has no commands of its own."""
+    words = text.removeprefix("NEED_ALL=1 ").split()
+    first, two = words[0], " ".join(words[:2])
+    return two if two in UNTYPED else first if first in UNTYPED and first not in ("make", "rt") else None
+
+
+# what runs the recipe of a target that a page names
+RUNS = {"try": "pages.py", "demo": "pages.py", "serve-demo": "program.py", "look": "web.py", "redis-demo": "connectors.py", "package": "package.py",
+        "install": "package.py", "compare": "all", "bench": "benches.py"}
+
+
+def recipe(target):
+    """The last line of what make would run, if all that it stands on were new."""
+    return bash(f"make --no-print-directory -n -o bin/hkrep -o bin/hkrep-unproved {target}")[0].splitlines()[-1]
+
+
+def runs_recipe(target):
+    """Whether the check that RUNS names has the recipe's program, or reads the recipe off the Makefile."""
+    if target not in RUNS:
+        return False
+    check, word = (ROOT / "tests" / RUNS[target]).read_text(), recipe(target).split()[0].split("/")[-1]
+    return RUNS[target] == "pages.py" or word in check or f"^{target}:" in check
+
+
 def made():
-    """Each `make` that a page names is one of the Makefile's."""
-    known = set(re.findall(r"^([a-z-]+):", (ROOT / "Makefile").read_text(), re.M))
-    named = {word for page in PAGES for word in re.findall(r"(?:`|^)make ([a-z-]+)", page.read_text(), re.M)}
-    problems = sorted(named - known)
-    problems += [word for word in sorted(named & known) if bash(f"make -n {word}")[1] != 0]
-    demo, status = bash(re.search(r"^demo:.*\n\t(.*)$", (ROOT / "Makefile").read_text(), re.M)[1])
-    report("each make of a page is in the Makefile, and the demo prints its answer", problems + ([] if (demo, status) == ("9 41\n", 0) else [demo]))
+    """Each `make` that a page names is in the Makefile, and a check types its recipe."""
+    lines = [line.partition("#")[0].removeprefix("NEED_ALL=1 ").split() for it in of("pages.py made") for line in it.text.splitlines()]
+    targets, problems = sorted({"try", *(words[1] if len(words) > 1 else "" for words in lines)}), []
+    for target in targets:
+        problems += [f"make {target} is none"] if bash(f"make -n {target}")[1] else []
+        problems += [] if untyped(f"make {target}".strip()) or runs_recipe(target) else [f"nothing runs make {target}"]
+    for target in ("try", "demo"):
+        got = bash(re.sub(r"bin/hkrep(-unproved)?", "bin/hkrep", recipe(target)))
+        problems += differ([(f"make {target}", got, ("9 41\n", 0))])
+    report(f"each make of a page is in the Makefile, and its recipe is typed ({len(targets)})", problems)
+
+
+def formatted():
+    """`rt fmt` in a copy of a crate leaves it as it is."""
+    with tempfile.TemporaryDirectory() as folder:
+        copy = pathlib.Path(folder) / "crates" / "hk_reasons"
+        shutil.copytree(ROOT / "crates" / "hk_reasons", copy, ignore=shutil.ignore_patterns("out"))
+        for name in ("crates.txt", "HANDLES"):
+            shutil.copy(ROOT / name, folder)
+        ran = subprocess.run(["rt", "fmt"], cwd=copy, stdout=subprocess.PIPE, stderr=subprocess.STDOUT, text=True, timeout=60, check=False)
+        changed = [str(it.relative_to(copy)) for it in copy.rglob("*") if it.is_file() and it.read_bytes() != (ROOT / "crates" / "hk_reasons" / it.relative_to(copy)).read_bytes()]
+    return ([ran.stdout] if ran.returncode else []) + [f"rt fmt changes {it}" for it in changed]
 
 
 def toolchain():
-    """Each command of the toolchain that a page names is one that `rt help` has, and a kit that a page names is the one here."""
+    """Each command of the toolchain that a page names is one that `rt help` has; those that cost little are typed."""
     if not shutil.which("rt"):
         skip("no toolchain is here: its commands in the pages are not looked for")
         return
-    said = bash("rt help 2>&1")[0]
-    named = {word for page in PAGES for word in re.findall(r"(?:`|^    )rt ([a-z-]+)", page.read_text(), re.M)}
-    problems = sorted(word for word in named if not re.search(rf"\b(?:rt |\|){word}\b", said))
+    said, problems = bash("rt help 2>&1")[0], []
+    for text in sorted({it.text for it in of("pages.py toolchain")}):
+        word = text.split()[1]
+        problems += [] if re.search(rf"\b(?:rt |\|){word}\b", said) else [f"{text} is no command"]
+        problems += [] if word in ("version", "doc", "fmt") or untyped(text) else [f"nothing types {text}"]
+        problems += [word for word in re.findall(r" (--\w+)", text) if word not in said]
     kits = {kit for page in PAGES for kit in re.findall(r"`(rattle-kit-\S+ logic \w+)`", page.read_text())}
-    problems += [kit for kit in kits if kit not in bash("rt version 2>&1")[0]]
-    report("each rt of a page is one of the toolchain's, and the kit is this one", problems if len(named) >= 5 else [*problems, f"only {named}"])
+    problems += [kit for kit in kits if kit not in bash("rt version 2>&1")[0]] + ([] if pathlib.Path(bash("rt doc")[0].strip()).is_file() else ["rt doc names no page"])
+    report("each rt of a page is one of the toolchain's, and the kit is this one", problems + formatted())
+
+
+def installed_by_pip(lines):
+    """What is wrong with lines of `pip install`, typed with a folder of their own and without a network."""
+    pip = "pip" if shutil.which("pip") else f"{sys.executable} -m pip"
+    if bash(f"{pip} --version")[1]:
+        skip("pip is not installed: what it is told in the pages isn't typed", needed=False)
+        return []
+    problems = []
+    for line in lines:
+        with tempfile.TemporaryDirectory() as folder:
+            environment = {**os.environ, "PIP_TARGET": folder, "PIP_NO_INDEX": "1", "PIP_DISABLE_PIP_VERSION_CHECK": "1"}
+            ran = subprocess.run(["bash", "-c", line.replace("pip", f"{pip} -q", 1)], cwd=ROOT, env=environment, stdout=subprocess.PIPE, stderr=subprocess.STDOUT,
+                                 text=True, timeout=60, check=False)
+            problems += [] if ran.returncode == 0 and (pathlib.Path(folder) / "vadungsil" / "__init__.py").exists() else [f"{line}: {ran.stdout[-300:]}"]
+    return problems
+
+
+def known_to_apt(lines):
+    """What is wrong with lines of `apt-get install`: what they name stands in tests/packages, and apt says what it would do."""
+    known, problems = (ROOT / "tests" / "packages").read_text().split(), []
+    for line in lines:
+        wanted = bash(f"echo {line.removeprefix('apt-get install ')}")[0].split()
+        problems += [f"{line}: {name} isn't in tests/packages" for name in wanted if name not in known]
+        said, status = bash(f"{line.replace('apt-get', 'apt-get --simulate', 1)} 2>&1") if shutil.which("apt-get") else ("Unable to locate", 1)
+        if "Unable to locate" in said:
+            skip(f"apt knows no packages here: {line}", needed=False)
+        else:
+            problems += [f"{line}: {said[-300:]}"] if status else []
+    return problems
+
+
+def packages():
+    """What the pages tell pip and apt-get to install."""
+    lines = sorted({it.text for it in of("pages.py packages")})
+    problems = installed_by_pip([it for it in lines if it.startswith("pip install .")]) + known_to_apt([it for it in lines if it.startswith("apt-get ")])
+    report(f"what pip and apt-get are told to install ({len(lines)})", problems)
+
+
+def history():
+    """The change that CONTRIBUTING goes through is in the history, of the size that it says; where the history is here."""
+    commit = of("pages.py history")[0].text.split()[-1]
+    said, status = bash(f"git -c safe.directory='*' show --shortstat --format= {commit}")
+    if status:
+        skip(f"no commit {commit} is here: the change that docs/CONTRIBUTING.md tells isn't looked at", needed=False)
+        return
+    numbers = re.findall(r"\d+", said)
+    page = re.search(r"touched (\d+) files: (\d+) lines came, (\d+) went", (ROOT / "docs" / "CONTRIBUTING.md").read_text())
+    report("the change that docs/CONTRIBUTING.md tells", differ([("its size", numbers, list(page.groups()) if page else [])]))
+
+
+# the check that runs a script which tests/all doesn't run itself
+RUN_BY = {"docs/calling": "pages.py", "docs/streams": "pages.py", "docs/pictures": "pages.py", "examples/make": "pages.py", "examples/node": "package.py",
+          "examples/links/two_feeders.py": "program.py", "examples/kafka/try.py": "connectors.py", "connectors/redis/publish": "connectors.py",
+          "tests/make_vectors.py": "python_client.py"}
+
+
+def is_run(script):
+    """Whether tests/all runs a script, or the check that RUN_BY names has its name."""
+    if script == "tests/all" or script in (ROOT / "tests" / "all").read_text():
+        return True
+    return script in RUN_BY and script.split("/")[-1] in (ROOT / "tests" / RUN_BY[script]).read_text()
+
+
+def scripts():
+    """Each script of the tree that a page names is run by a check, or stands in UNTYPED; examples/make writes what is there."""
+    named = sorted({it.text.removeprefix("python3 ").split()[0] for it in of("pages.py scripts")})
+    problems = [f"nothing runs {name}" for name in named if not untyped(name) and not is_run(name)]
+    with tempfile.TemporaryDirectory() as folder:
+        shutil.copytree(ROOT / "examples", f"{folder}/examples", ignore=shutil.ignore_patterns("*.bin"))
+        subprocess.run([sys.executable, f"{folder}/examples/make"], timeout=60, check=True)
+        made_here = {it.relative_to(folder): it.read_bytes() for it in pathlib.Path(folder).rglob("*.bin")}
+    problems += [f"{name} isn't what examples/make writes" for name, data in made_here.items() if (ROOT / name).read_bytes() != data]
+    report(f"each script that a page names is run by a check ({len(named)})", problems if made_here else [*problems, "examples/make writes nothing"])
+
+
+def crates():
+    """The map has each crate."""
+    drawn = of("pages.py crates")[0].text
+    there = re.findall(r"^([a-z]\w*)[ :]", (ROOT / "crates.txt").read_text(), re.M)
+    report("the map of docs/ARCHITECTURE.md has each crate", [name for name in there if not re.search(rf"\b{name}\b", drawn)] if len(there) > 20 else ["no crates"])
+
+
+def drawn_paths():
+    """The programs of a drawing of a page are there."""
+    paths = {path for it in of("pages.py drawn") for path in re.findall(r"\w+(?:/\w+)+", it.text)}
+    report("what docs/CONNECTORS.md draws is there", [path for path in paths if not (ROOT / path).is_file()] if paths else ["no path"])
+
+
+def digits(line):
+    """The bytes at the beginning of a line, up to its words."""
+    return bytes.fromhex(re.match(r"((?:[0-9a-f]{2})+ ?)*", line.strip())[0])
+
+
+def messages(lines):
+    """The messages of a listing, one after the other: each begins at the margin."""
+    found = []
+    for line in lines:
+        if not line.startswith(" "):
+            found.append(b"")
+        found[-1] += digits(line)
+    return found
+
+
+def bytes_shown():
+    """Frames that FORMATS lists are read as items; the exchange that PROTOCOL lists is had with a node, whole and cut off."""
+    frames = [digits(it.text) for it in of("pages.py bytes") if it.page == "docs/FORMATS.md"]
+    told = subprocess.run([PROGRAM, "items"], input=b"".join(frames), stdout=subprocess.PIPE, timeout=60, check=False).stdout.decode().splitlines()
+    commit, mark = "commit log 7 stream 1 number {0} time {0} ends {1} rows 1", "mark log 7 stream 1 n 1 m 1"
+    pairs = [("the frames of docs/FORMATS.md", told, [commit.format(1, 0), commit.format(1, 0), mark, mark, commit.format(2, 1)])]
+    *requests, done, answer, cut = messages([it.text for it in of("pages.py bytes") if it.page == "docs/PROTOCOL.md"])
+    sent = b"".join(requests)
+    pairs.append(("examples/links/first.bin", sent, (ROOT / "examples" / "links" / "first.bin").read_bytes()))
+    for count, wanted in ((len(sent), done + answer), (100, done + cut)):
+        port = free_port()
+        node = serving(port)
+        with socket.create_connection(("127.0.0.1", int(port)), timeout=60) as link, link.makefile("rb") as replies:
+            link.sendall(sent[:count])
+            link.shutdown(socket.SHUT_WR)
+            pairs.append((f"the replies to {count} bytes", replies.read(), wanted))
+        node.kill()
+        node.communicate(timeout=60)
+    report("the bytes of docs/FORMATS.md and docs/PROTOCOL.md", differ(pairs))
+
+
+def messages_shown():
+    """Each message of the table in docs/FORMATS.md is read by the Python client, and written by it as it stands there."""
+    sys.path.insert(0, str(ROOT / "clients" / "python"))
+    from vadungsil import messages as them
+    rows = re.findall(r"^\| ([A-Z].*) \| `([0-9a-f]{8} 01 [0-9a-f ]+)` \|$", (ROOT / "docs" / "FORMATS.md").read_text(), re.M)
+    pairs = []
+    for name, text in rows:
+        data = bytes.fromhex(text)
+        decode, encode = (them.decode_request, them.encode_request) if data[5] < 32 else (them.decode_reply, them.encode_reply)
+        pairs.append((name, encode(decode(data)).hex(), data.hex()))
+    report(f"the messages of docs/FORMATS.md ({len(pairs)})", differ(pairs) + ([] if len(pairs) >= 10 else ["too few"]))
+
+
+# the forms of what standard error says, as docs/FORMATS.md shows them, and what fits each
+FORMS = {"PLACE: refused NUMBER: WHAT WAS REFUSED; WHAT TO DO": r"(.+: )?refused \d+: .+; .+",
+         "line N: THE LINE: WHAT IS WRONG; expected: THE FORM": r"line \d+: .+: .+; expected: .+"}
+
+
+def words_shown():
+    """What docs/FORMATS.md shows of standard error is what is said there, and has the forms that stand above it."""
+    *forms, late, bad = [it.text for it in of("pages.py words")]
+    entry = (ROOT / "examples" / "first.bin").read_bytes()[:53]
+    pairs = [("the forms", forms, list(FORMS))]
+    for words, data, wanted, form in (("at --log 7 --streams 1 1 1 5", entry, late, forms[0]), ("world", b"world 7 1 1\nbegin 1\ncommit 1 t\n", bad, forms[-1])):
+        ran = subprocess.run([PROGRAM, *words.split()], input=data, stderr=subprocess.PIPE, stdout=subprocess.DEVNULL, timeout=60, check=False)
+        said = ran.stderr.decode().strip()
+        pairs += [(words, said, wanted), (f"the form of {words}", bool(re.fullmatch(FORMS.get(form, ""), said)), True)]
+    report("what docs/FORMATS.md shows of standard error", differ(pairs))
+
+
+def accounted():
+    """Nothing that a page shows is left over, no row of what the gate doesn't type is stale, and each other check asks for what is its own."""
+    everything = all_shown()
+    problems = [f"{it.page}: {it.text.splitlines()[0]}" for it in everything if checker(it) is None and not untyped(it.text)]
+    problems += [f"no page shows {kind}" for kind in UNTYPED if not any(untyped(line) == kind for it in everything for line in it.text.splitlines() if line)]
+    for check in sorted({checker(it) for it in everything} - {None}):
+        name = check.split()[0]
+        problems += [] if f'of("{check}")' in (ROOT / "tests" / name).read_text() else [f"tests/{name} doesn't ask for its {check.partition(' ')[2]}"]
+        problems += [] if f"tests/{name}" in (ROOT / "tests" / "all").read_text() else [f"tests/all doesn't run {name}"]
+    left = sorted({it.text.splitlines()[0] for it in everything if untyped(it.text)})
+    report(f"each of {len(everything)} commands and listings is typed or looked at by a check, but for {len(UNTYPED)} kinds ({len(left)} lines)", problems)
 
 
 def links():
@@ -226,13 +497,15 @@ def links():
     report("each link of a page leads to a file", problems)
 
 
-def main():
+def main(words):
     if not is_built(PROGRAM):
         return ended()
-    for check in (listings, pictures, calling, commands, shown_commands, started, helped, made, toolchain, asked_node, links):
-        check()
+    for check in (accounted, listings, pictures, calling, commands, crates, drawn_paths, bytes_shown, messages_shown, words_shown, names, shown_commands, started, helped,
+                  made, toolchain, packages, history, scripts, asked_node, links):
+        if not words or check.__name__ in words:
+            check()
     return ended()
 
 
 if __name__ == "__main__":
-    sys.exit(main())
+    sys.exit(main(sys.argv[1:]))

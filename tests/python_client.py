@@ -31,6 +31,7 @@ sys.path.insert(0, str(PACKAGE))
 import reference
 import vadungsil as va
 from checks import differ, ended, is_built, report
+from shown import of
 from client import Node as Served
 from client import PROGRAM, free_port
 
@@ -773,12 +774,22 @@ def syntax():
     report("the package is typed, Python 3.9, and of the standard library alone", problems)
 
 
+def listings_of(page):
+    """The listings of a page, each with what has to be printed."""
+    found = []
+    for it in of("python_client.py listings"):
+        if it.page == page and it.how == "python":
+            found.append([it.text, ""])
+        elif it.page == page:
+            found[-1][1] = it.text
+    return found
+
+
 def page():
     """docs/PYTHON.md and README.md: each listing runs, one after the other of a page, and prints what stands below it."""
     problems, count = [], 0
     for name in ("docs/PYTHON.md", "README.md"):
-        text = (ROOT / name).read_text(encoding="utf-8")
-        blocks = re.findall(r"```python\n(.*?)```(?:\n+```text\n(.*?)```)?", text, re.S)
+        blocks = listings_of(name)
         with Served(20) as served, tempfile.TemporaryDirectory() as folder:
             state = {}
             for block, said in blocks:
@@ -793,10 +804,11 @@ def page():
                     problems += differ([(block, out.getvalue(), said)])
                 elif "# prints " in block:
                     problems += differ([(block, out.getvalue().splitlines(), re.findall(r"# prints (.*)", block))])
-            for line, printed in re.findall(r"^    python3 -m vadungsil (.*?)(?:  +# (.*))?$", text, re.M):
+            for it in [it for it in of("python_client.py commands") if it.page == name]:
                 count += 1
-                got = command([word if not word.startswith("report") else f"{folder}/{word}" for word in line.replace("47000", str(served.port)).split()])
-                problems += differ([(line, got[0].strip(), printed)])
+                words = it.text.removeprefix("python3 -m vadungsil ").replace("47000", str(served.port)).split()
+                got = command([f"{folder}/{word}" if word.startswith("report") else word for word in words])
+                problems += differ([(it.text, got[0].strip(), it.printed)])
     report(f"the listings and commands of docs/PYTHON.md and of README.md ({count})", problems + ([] if count >= 8 else ["too few"]))
 
 

@@ -36,6 +36,7 @@ except ImportError:
 import web_parts
 import checks
 from checks import differ, ended, is_built, skip
+from shown import of
 from client import PROGRAM
 from web_parts import (FRAMES, KEYS, LAST, LIMIT, PACKAGE, ROOT, STREAMS, Served, Web, breaks, changes_of, fed, log_of, nodes, parsed_metrics,
                        quiet_port, rows_at, va, waited, web_of)
@@ -556,22 +557,20 @@ def served_until_interrupted(words):
 
 def page():
     """Each command and address that docs/LOOKING.md shows works as it stands there, on other ports."""
-    text, problems = (ROOT / "docs" / "LOOKING.md").read_text(), []
+    problems, shown = [], of("web.py commands")
     with nodes(2) as two, tempfile.TemporaryDirectory() as folder, web_of([it.port for it in two]) as web:
         ports = {"47000": str(two[0].port), "47001": str(two[1].port), "8080": str(web.port), "picture.svg": f"{folder}/picture.svg"}
-        shown = re.findall(r"^    (python3 -m vadungsil\.\w+ .*|curl .*)$", text, re.M)
-        shown += [f"{it} --http 127.0.0.1:8080" for it in re.findall(r"`(python3 -m vadungsil\.web [^`]+)`", (ROOT / "README.md").read_text())]
         for line in shown:
-            words, _, said = line.partition("  # ")
+            words, said = line.text if ".web" not in line.text or "--http" in line.text else f"{line.text} --http 127.0.0.1:8080", line.printed
             for word, stands_for in ports.items():
                 words = words.replace(word, stands_for)
             words = words.replace("python3", sys.executable)
             if "vadungsil.web" in words:
-                problems += differ([(line, served_until_interrupted(words.replace(str(web.port), "0")), (True, 0))])
+                problems += differ([(line.text, served_until_interrupted(words.replace(str(web.port), "0")), (True, 0))])
                 continue
             got = run(["bash", "-c", words], cwd=ROOT)
-            if got.returncode or (said and said.strip() not in got.stdout.decode()):
-                problems.append(f"{line}: status {got.returncode}, {got.stdout[-200:]!r}, {got.stderr[-200:]!r}")
+            if got.returncode or (said and said not in got.stdout.decode()):
+                problems.append(f"{line.text}: status {got.returncode}, {got.stdout[-200:]!r}, {got.stderr[-200:]!r}")
         problems += [] if len(shown) >= 5 else [f"only {len(shown)} commands"]
     report(f"the commands of docs/LOOKING.md ({len(shown)})", problems)
 

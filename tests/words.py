@@ -12,7 +12,6 @@ import sys
 
 # an old word, as a part of a name or in a sentence, and the word to use
 OLD = [
-    (r"contradict\w*", "conflict"),
     (r"clash\w*", "conflict"),
     (r"disput\w*", "conflict"),
     (r"disagree\w*", "conflict"),
@@ -23,7 +22,7 @@ OLD = [
     (r"IsFront", "IsPrefixOf"),
     (r"Talk\w*|talks?", "Transcript"),
     (r"Spoke|farewell|hear", "SessionStep, closing_bytes, handle_piece"),
-    (r"FragmentTold|StreamTold|is_told|IsTold", "WireFragment, WireStream, adds_nothing, IsEncodable"),
+    (r"FragmentTold|StreamTold|is_told", "WireFragment, WireStream, adds_nothing, IsEncodable"),
     (r"spell\w*|spelt", "encoding"),
     (r"lent|push_lent", "borrowed"),
     (r"takers?|givers?", "target, source"),

@@ -2,11 +2,13 @@
 
 use crate::calls::call_of;
 use crate::forms::{FORMS, Form, Number, QUERIES, form_named, numbers_of, with_forms};
+use crate::stay::{stay_call, with_stay};
 use clap::error::ErrorKind;
 use clap::{Arg, ArgAction, ArgMatches, Command, Error, value_parser};
 use hk_model::Query;
 use hk_types::{Config, Key, Links, Table, Time};
 use std::alloc::{AllocError, Global};
+use std::net::Ipv4Addr;
 
 /// What the program is asked to do.
 #[derive(Clone, Copy)]
@@ -56,6 +58,23 @@ pub enum Call<'a> {
         config: Config,
         port: u16,
         links: Links,
+        /// Whether each change is tested before it is added.
+        is_guarded: bool,
+    },
+    /// Start a node, and serve links to it without an end.
+    Stay {
+        config: Config,
+        address: Ipv4Addr,
+        port: u16,
+        links: Links,
+        /// The port for links that only read, and how many of them are served at once.
+        reading: Option<(u16, Links)>,
+        /// How many seconds a read inside a frame is waited for; 0 is no limit.
+        read_seconds: u64,
+        /// Whether each change is tested before it is added.
+        is_guarded: bool,
+        /// Whether only faults are told on standard error.
+        is_quiet: bool,
     },
     /// Have the node on a port do something.
     Node {
@@ -115,28 +134,49 @@ them in any order, late or twice, and answers at a past time with exactly the pr
 that time, or with a numbered refusal.
 
 Answers and refusals go to standard output, and why something was refused, in words, to standard \
-error; 'hkrep explain' lists all refusals. The status is 0; 1 where a line 'refused' was printed; 2 \
-for a bad command line.";
+error; 'hkrep explain' lists all refusals. The status is 0; 1 where a line 'refused', 'line N: bad \
+command' or 'ended N' with N above 0 was printed, where 'frames', 'rewrite' or 'save' was stopped, \
+which standard error alone tells, or where a write failed; 2 for a bad command line.";
 
 /// The program's version, and the kit that it is proved with.
 const VERSION: &str = "0.1.0 (rattle-kit-13f logic dac8208d650f15bf)";
 
-const SERVE_ABOUT: &str = "Start a node, and serve links to it on a port of 127.0.0.1";
+const SERVE_ABOUT: &str =
+    "Start a node, and serve links to it on a port of 127.0.0.1; with --stay without an end";
 
 const LINKS_EXAMPLE: &str = "Example, a node and a feeder:
   hkrep serve --log 7 --streams 1 --port 47110 --links 1 &
   hkrep push --port 47110 < examples/links/first.bin
 The node prints 'listening 47110' once links can be opened. The feeder sends two items and asks \
 for a row: it prints 'done 2' and '9 41'. When the links have ended, the node prints 'ended 0' for \
-each, or the number of what ended it.";
+each, or the number of what ended it.
+
+A node that stays, with a port of its own for readers:
+  hkrep serve --stay --log 7 --streams 1 --port 47110 --links 40 --read-port 47111 --read-links 20 &";
 
 const SERVE_LONG_ABOUT: &str = "Start a node, and serve links to it on a port of 127.0.0.1.
 
 It serves as many links as --links says, side by side, and ends when all have ended. It prints \
-'refused 93' where the port can't be listened to. docs/PROTOCOL.md says what goes over a link.";
+'refused 93' where the port can't be listened to. docs/PROTOCOL.md says what goes over a link.
+
+With --guard a change that contradicts what the node holds is refused 23 and changes nothing, where \
+else it damages the node for good.
+
+With --stay it serves links without an end, --links of them at once: a further link waits until one ends. \
+It prints 'ended' and a number as each link ends. --read-port opens a second port, whose links may \
+ask and not change. NOTHING IS ENCRYPTED OR AUTHENTICATED: whoever reaches the port may write. Give \
+--address only behind a proxy that does both (docs/OPERATING.md).";
 
 /// The names of the numbers of `serve`.
-const SERVE_NUMBERS: [&str; 4] = ["log", "streams", "port", "links"];
+const SERVE_NUMBERS: [&str; 7] = [
+    "log",
+    "streams",
+    "port",
+    "links",
+    "read-port",
+    "read-links",
+    "read-seconds",
+];
 
 /// An argument that has to be given.
 fn wanted<'a>(alloc: Global, name: &'a str, value: &'a str, help: &'a str) -> Arg<'a> {
@@ -168,7 +208,12 @@ fn with_port<'a>(alloc: Global, command: Command<'a>) -> Result<Command<'a>, All
 }
 
 fn with_links<'a>(alloc: Global, command: Command<'a>) -> Result<Command<'a>, AllocError> {
-    let links = wanted(alloc, "links", "N", "How many links are served: 1 to 64");
+    let links = wanted(
+        alloc,
+        "links",
+        "N",
+        "How many links are served, with --stay at once: 1 to 64",
+    );
     command.arg(
         links
             .long("links")
@@ -181,7 +226,8 @@ fn serve_command<'a>(alloc: Global) -> Result<Command<'a>, AllocError> {
     let command = with_log(alloc, command)?;
     let command = with_streams(alloc, command)?;
     let command = with_port(alloc, command)?;
-    with_links(alloc, command)
+    let command = with_links(alloc, command)?;
+    with_stay(alloc, command)
 }
 
 pub(crate) fn plain<'a>(
@@ -246,6 +292,9 @@ pub(crate) fn config_of(matches: &ArgMatches<'_>) -> Option<Config> {
 
 /// The call that the arguments of `serve` make, where each of them is in its range.
 fn serve_call<'a>(matches: &ArgMatches<'a>) -> Option<Call<'a>> {
+    if matches.get_flag("stay") {
+        return stay_call(matches);
+    }
     let log = matches.get_one::<u64>("log")?;
     let streams = matches.get_one::<u16>("streams")?;
     let links = matches.get_one::<u16>("links")?;
@@ -253,6 +302,7 @@ fn serve_call<'a>(matches: &ArgMatches<'a>) -> Option<Call<'a>> {
         config: Config::new(log, streams).ok()?,
         port: matches.get_one::<u16>("port")?,
         links: Links::new(links)?,
+        is_guarded: matches.get_flag("guard"),
     })
 }
 

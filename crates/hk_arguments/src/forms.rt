@@ -14,6 +14,8 @@ pub(crate) enum Need {
     NoPort,
     /// The same, and with a port it may not be.
     NotWithPort,
+    /// It need not, and with it these have to be.
+    With(&'static [&'static str]),
     Never,
 }
 
@@ -202,6 +204,36 @@ const REFUSAL: Number = Number {
     is_option: false,
     need: Need::Never,
 };
+
+const READ_SECONDS: Number = Number {
+    name: "read-seconds",
+    value: "N",
+    help: "End a link where inside a frame nothing comes for so long: 0 (never) to 86400",
+    range: Some((0, 86_400)),
+    is_option: true,
+    need: Need::With(&["stay"]),
+};
+
+const READ_PORT: Number = Number {
+    name: "read-port",
+    value: "P2",
+    help: "A second port, whose links may only read: 1 to 65535",
+    range: Some((1, 65_535)),
+    is_option: true,
+    need: Need::With(&["stay", "read-links"]),
+};
+
+const READ_LINKS: Number = Number {
+    name: "read-links",
+    value: "M",
+    help: "How many links that only read are served at once: 1 to 63, and 64 with the others",
+    range: Some((1, 63)),
+    is_option: true,
+    need: Need::With(&["stay", "read-port"]),
+};
+
+/// The numbers of `serve` that are of a node that stays.
+pub(crate) const STAY_NUMBERS: [Number; 3] = [READ_SECONDS, READ_PORT, READ_LINKS];
 
 /// The commands, in the order of the help.
 pub(crate) const FORMS: [Form; 16] = [
@@ -396,11 +428,21 @@ fn parser_of<'a>(range: Option<(i64, i64)>) -> ValueParser<'a> {
     }
 }
 
+/// An argument with which these have to be given.
+fn with_others<'a>(arg: Arg<'a>, names: &[&'static str]) -> Result<Arg<'a>, AllocError> {
+    let mut arg = arg;
+    for name in names {
+        arg = arg.requires_arg(*name)?;
+    }
+    Ok(arg)
+}
+
 fn with_need<'a>(arg: Arg<'a>, need: Need) -> Result<Arg<'a>, AllocError> {
     match need {
         Need::Always => Ok(arg.required(true)),
         Need::NoPort => arg.required_unless_present("port"),
         Need::NotWithPort => arg.required_unless_present("port")?.conflicts_with("port"),
+        Need::With(names) => with_others(arg, names),
         Need::Never => Ok(arg),
     }
 }
@@ -417,7 +459,7 @@ fn number_arg<'a>(alloc: Global, number: &Number) -> Result<Arg<'a>, AllocError>
     with_need(arg, number.need)
 }
 
-fn with_numbers<'a>(
+pub(crate) fn with_numbers<'a>(
     alloc: Global,
     command: Command<'a>,
     numbers: &[Number],

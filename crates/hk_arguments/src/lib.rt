@@ -4,6 +4,7 @@
 mod arguments;
 mod calls;
 mod forms;
+mod stay;
 mod texts;
 
 pub use arguments::{Call, Order, read_call};

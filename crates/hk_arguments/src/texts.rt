@@ -10,7 +10,8 @@ It prints 'none' where there is no such row, and 'refused 26 readable R' where t
 be read up to R only.";
 
 pub(crate) const ASK_ABOUT: &str =
-    "Absorb the item frames of standard input, and print the answer to a query at a time";
+    "Absorb the item frames of standard input, or ask a node that runs \
+(--port), and print the answer to a query at a time";
 
 pub(crate) const ASK_EXAMPLE: &str = "Example:
   hkrep ask --log 7 --streams 1 1 range 1 0 9 < examples/first.bin
@@ -30,7 +31,8 @@ pub(crate) const TAG_ABOUT: &str =
 pub(crate) const COUNT_ABOUT: &str = "How many rows there are: prints 'count COUNT'";
 
 pub(crate) const FRONT_ABOUT: &str =
-    "Absorb the item frames of standard input, and print from where to where can be read";
+    "Absorb the item frames of standard input, or ask a node that runs \
+(--port), and print from where to where can be read";
 
 pub(crate) const FRONT_EXAMPLE: &str = "Example:
   hkrep front --log 7 --streams 1 < examples/first.bin
@@ -38,7 +40,8 @@ prints 'front horizon 0 readable 1': times from 0 to 1 can be read. Of a node th
   hkrep front --port 47110";
 
 pub(crate) const STATUS_ABOUT: &str =
-    "Absorb the item frames of standard input, and print how far each stream is";
+    "Absorb the item frames of standard input, or ask a node that runs \
+(--port), and print how far each stream is";
 
 pub(crate) const STATUS_EXAMPLE: &str = "Example:
   hkrep status --log 7 --streams 2 < examples/first.bin
@@ -58,7 +61,8 @@ pub(crate) const EXPLAIN_EXAMPLE: &str = "Example:
 prints the number, the name, the meaning and what to do. Without a number it lists all. A number that \
 no refusal has ends with status 2.";
 
-pub(crate) const ITEMS_ABOUT: &str = "Print each item of the frames of standard input";
+pub(crate) const ITEMS_ABOUT: &str =
+    "Print the head of each item of the frames of standard input, and how much is in it";
 
 pub(crate) const ITEMS_EXAMPLE: &str = "Example:
   hkrep items < examples/first.bin

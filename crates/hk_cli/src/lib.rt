@@ -3,6 +3,8 @@
 
 mod notice;
 mod serve;
+mod stay;
+mod telling;
 
 pub use hk_commands::{
     Form, run_ask, run_at, run_explain, run_frames, run_front, run_items, run_rewrite, run_status,
@@ -11,4 +13,5 @@ pub use hk_commands::{
 pub use hk_lines::{Printed, line_of};
 pub use hk_remote::{Order, run_order};
 pub use hk_types::Links;
-pub use serve::run_serve;
+pub use serve::{run_guarded, run_serve};
+pub use stay::{ReadPort, Stay, run_stay};

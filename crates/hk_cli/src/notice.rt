@@ -10,6 +10,8 @@ use std::alloc::{AllocError, Global};
 pub(crate) enum Notice {
     /// Links can be opened to this port.
     Listening(u16),
+    /// Links that only read can be opened to this port.
+    Reading(u16),
     /// A link ended, with this number.
     Ended(u8),
 }
@@ -20,6 +22,7 @@ impl Printed for Notice {
     fn print_to(&self, _alloc: Global, out: &mut String) -> Result<(), AllocError> {
         match self {
             Notice::Listening(port) => writeln!(out, "listening {port}"),
+            Notice::Reading(port) => writeln!(out, "reading {port}"),
             Notice::Ended(number) => writeln!(out, "ended {number}"),
         }
     }

@@ -4,7 +4,7 @@ ghost use Rattle.std.specs.Prelude.{◌≡◌, ◌≤◌, IfOk};
 
 use crate::notice::Notice;
 use hk_commands::{Output, Stop};
-use hk_net::{NetFault, serve_links};
+use hk_net::{NetFault, guard_links, serve_links};
 use hk_node::{NewList, NodeName, start};
 use hk_reasons::Place;
 use hk_session::Ended;
@@ -17,7 +17,7 @@ use std::sync::Wait;
 use std::thread::Threads;
 
 /// Why the command stops where serving did.
-fn stop_of(fault: NetFault) -> Stop {
+pub(crate) fn stop_of(fault: NetFault) -> Stop {
     match fault {
         NetFault::Memory => Stop::Refused(Refusal::Memory),
         NetFault::Socket => Stop::NetFault,
@@ -52,6 +52,7 @@ fn serve_list<
     port: u16,
     list: NewList,
     links: Links,
+    is_guarded: bool,
     output: &mut Output<'_, W, E>,
 ) -> Result<u8, Stop>
     requires { list ≡ (J.book, J.config) }
@@ -64,8 +65,36 @@ fn serve_list<
     let (node, seats) = start::<J, &R>(rt, alloc, list, links.count())?;
     output.print(&Notice::Listening(port))?;
     output.flush()?;
-    let ends = serve_links(rt, alloc, &listener, &node, seats).map_err(stop_of)?;
+    let served = if is_guarded {
+        guard_links(rt, alloc, &listener, &node, seats)
+    } else {
+        serve_links(rt, alloc, &listener, &node, seats)
+    };
+    let ends = served.map_err(stop_of)?;
     print_ends(&ends, output)
+}
+
+/// Serves the links to a new node of a log, and gives the status.
+fn serve_new<
+    R: Net<Listener = TcpListener, Stream = TcpStream> + Threads + Wait + Sync,
+    W: Write,
+    E: Write,
+>(
+    rt: &R,
+    alloc: Global,
+    port: u16,
+    config: Config,
+    links: Links,
+    is_guarded: bool,
+    output: &mut Output<'_, W, E>,
+) -> u8
+    ensures { result ≤ 1 }
+{
+    let list = NewList::new(config);
+    match serve_list::<Brand, R, W, E>(rt, alloc, port, list, links, is_guarded, output) {
+        Ok(status) => status,
+        Err(stop) => output.stop(stop),
+    }
 }
 
 /// Starts a node of a log, and serves links to it on a port of 127.0.0.1, until so many were opened and all have ended.
@@ -95,9 +124,26 @@ pub fn run_serve<
     ensures { result ≤ 1 }
 {
     let mut output = Output::new(alloc, writer, errors);
-    let list = NewList::new(config);
-    match serve_list::<Brand, R, W, E>(rt, alloc, port, list, links, &mut output) {
-        Ok(status) => status,
-        Err(stop) => output.stop(stop),
-    }
+    serve_new(rt, alloc, port, config, links, false, &mut output)
+}
+
+/// As `run_serve`, but each change that a link asks for is tested before it is added: what contradicts is refused 23 with
+/// nothing changed, so that no link damages the node. Cost: that of `start` and of `guard_links`.
+pub fn run_guarded<
+    R: Net<Listener = TcpListener, Stream = TcpStream> + Threads + Wait + Sync,
+    W: Write,
+    E: Write,
+>(
+    rt: &R,
+    alloc: Global,
+    port: u16,
+    config: Config,
+    links: Links,
+    writer: &mut W,
+    errors: &mut E,
+) -> u8
+    ensures { result ≤ 1 }
+{
+    let mut output = Output::new(alloc, writer, errors);
+    serve_new(rt, alloc, port, config, links, true, &mut output)
 }

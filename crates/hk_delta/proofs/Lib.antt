@@ -6,3 +6,6 @@ pub mod FactsInTurn
 pub mod GatheredWhole
 pub mod MergeInputs
 pub mod UnionOfLists
+pub mod StreamsInTurn
+pub mod MapsInConflict
+pub mod AgreedItems

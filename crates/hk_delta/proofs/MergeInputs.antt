@@ -1,29 +1,11 @@
 -- What a merge is handed of a fragment is the fragment, and a join of it does what is promised.
-use Rattle.std.proofs.Common.{◌≡◌, refl, sym, ap, ◌∙◌, subst, ℕ, Bool, not, ◌==◌, length, ◌++◌, ◌<◌, ◌≤◌, max, Result, Ok, Err, IfOk, IfErr, true, false, cond, ◌||◌, ◌⊎◌, inl, inr, Some, None, is_some, List, [], ◌∷◌, map, All, T, Option}
-use Rattle.std.proofs.lemmas.List.Elements.{All-nil, All-cons}
-use Rattle.std.specs.declared.cmp.Ordering.{Ordering}
-use Rattle.std.specs.declared.cmp.Ordering.TheVariants.{Less, Equal}
-use Rattle.std.specs.Ordering.{eq_by_cmp, is_lt, is_eq}
-use Rattle.std.specs.Cmp.{Equal-is, tied_itself}
-use Rattle.std.specs.List.{AllByRecursion, list_any}
-use Rattle.std.specs.List.Sorted.{IsStrictlySortedBy}
-use Rattle.std.specs.FinMap as finmap
-use Rattle.std.specs.FinMap.Entries.{find, is_sorted, below_all}
-use Rattle.hk_types.specs.declared.version_key.VersionKey.{VersionKey}
-use Rattle.hk_log.specs.Versions.{VersionValue}
-use Rattle.hk_model.specs.History.Rows.{version_key_cmp}
+use Rattle.std.proofs.Common.{◌≡◌, refl, sym, ap, ◌∙◌, subst, ℕ, length, ◌++◌, ◌<◌, ◌≤◌, max, Result, Ok, Err, IfOk, IfErr, ◌⊎◌, inl, inr, List}
+use Rattle.std.specs.List.{list_any}
 use Rattle.hk_model.specs.Replica.Content.{Content, readable}
-use Rattle.hk_model.proofs.Maps.{version_key_total, version_key_same}
-use Rattle.hk_model.proofs.Members.{In}
-use Rattle.hk_model.proofs.Visible.{T_both, less}
-use Rattle.hk_store.specs.Facts.{known_at}
 use Rattle.hk_store.specs.Reads.{facts_of_content}
-use Rattle.hk_store.specs.Versions.{AreVersions}
-use Rattle.hk_store.specs.Drops.{is_among}
 use Rattle.hk_types.specs.Values.{ConfigValue}
 use Rattle.hk_types.specs.declared.faults.Refusal.{Refusal}
-use Rattle.hk_types.specs.declared.faults.Refusal.TheVariants.{ForeignLog, WrongStreams, Memory, Gap}
-use Rattle.hk_model.specs.Replica.Streams.{StreamContent}
+use Rattle.hk_types.specs.declared.faults.Refusal.TheVariants.{Memory, Gap}
 use Rattle.hk_model.specs.Replica.Fragments.{FragmentValue}
 use Rattle.hk_model.specs.Replica.Rules.{contents_conflict, join_result}
 use Rattle.hk_store.specs.Versions.{value_conflicts_at}
@@ -40,9 +22,8 @@ use Rattle.hk_model.proofs.Laws.{represents_both}
 use Rattle.hk_delta.proofs.WrongLogs.{count_streams}
 use Rattle.hk_delta.specs.Joins.{JoinsOf}
 use Rattle.hk_fragment.specs.Parts.{Known, versions_listed}
-use Rattle.hk_fragment.proofs.ListedVersions.{listed_of, pairs}
 use Rattle.hk_state.proofs.Represented.{inside, has_conflict_with}
-use Rattle.hk_fragment.proofs.FoundVersions.{find_listed, versions_are, each_found, below_In, all_from}
+use Rattle.hk_fragment.proofs.FoundVersions.{versions_are}
 
 -- the list conflicts where the content does
 pub listed_conflicts : (t c : Content) (xs : List Known) → xs ≡ versions_listed c → list_any (λ e. value_conflicts_at (facts_of_content t) e.0 e.1) xs ≡ contents_conflict t c

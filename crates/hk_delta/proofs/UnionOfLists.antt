@@ -2,9 +2,7 @@
 use Rattle.std.proofs.Common.{◌≡◌, refl, sym, ap, ◌∙◌, Bool, true, false, cond, not, ◌&&◌, ◌||◌, ◌==◌, Option, Some, None, List, ◌++◌, All, inl, inr, Result, Ok, Err, true≢false, OnOk, OnErr, IfErr}
 use Rattle.std.proofs.lemmas.List.Elements.{All-append}
 use Rattle.std.proofs.lemmas.Bool.{eqb-true, or_parts, not-false}
-use Rattle.std.specs.Cmp.{tied_itself}
 use Rattle.std.specs.List.{list_any}
-use Rattle.std.specs.Ordering.{eq_by_cmp, is_eq}
 use Rattle.std.specs.FinMap as finmap
 use Rattle.std.specs.FinMap.Entries.{find}
 use Rattle.hk_types.specs.Values.{ConfigValue, same_row}
@@ -106,7 +104,7 @@ gave config items f e = by (first_wrong_log config items) (have_conflict items) 
     by None false m a e = record { fits = m; agree = a; is = same f (part config items 0 0) (sym e ∙ gathered_ok config items m a) }
 
 -- all that items say is their fragment
-part_is : (config : ConfigValue) (items : List Item) → All IsItem items → part config items 0 0 ≡ record { base = 0; content = record { log = config.log; horizon = 0; rows = rows_of items; ends = ends_of items; streams = streams_of config.streams items } }
+pub part_is : (config : ConfigValue) (items : List Item) → All IsItem items → part config items 0 0 ≡ record { base = 0; content = record { log = config.log; horizon = 0; rows = rows_of items; ends = ends_of items; streams = streams_of config.streams items } }
 part_is config items all =
     sym (whole_is (content_of config items 0) (whole_lawful config items all))
     ∙ (λ i. record { base = 0; content = record { log = config.log; horizon = 0; rows = all_kept config items all (rows_of items) i; ends = all_kept config items all (ends_of items) i; streams = streams_of config.streams items } })

@@ -96,7 +96,7 @@ fn put_items(alloc: Global, facts: &mut Facts, items: &[Item]) -> Result<(), Ref
 }
 
 /// Notes the number of an entry, or a mark.
-fn note_item(got: &mut Got, config: Config, item: &Item) -> Result<(), Refusal>
+pub(crate) fn note_item(got: &mut Got, config: Config, item: &Item) -> Result<(), Refusal>
     requires many { length got.old ≡ config.streams }
     requires fits { items_spec.wrong_log config.log config.streams item.now ≡ None }
     ensures ok { OnOk result (got.new ≡ all_together got.old (streams_of (length got.old) (item.now ∷ []))) }

@@ -1,1 +1,3 @@
 mod JoinRequests
+mod Seen
+mod GuardedReplies

@@ -1,16 +1,17 @@
 -- What a host over a node and a seat of it may reply.
-use Rattle.std.specs.Prelude.{ℕ, ◌≡◌, ◌⊎◌, ◌≤◌, true, List, length, take, Option, Some, None, Result, Ok, Err}
+use Rattle.std.specs.Prelude.{◌≡◌, ◌⊎◌, ◌≤◌, true, List, length, take, Some, Result, Ok, Err}
 use mathlib.Core.List.{IsPrefix}
 use Rattle.hk_types.specs.Values.{ConfigValue}
 use Rattle.hk_types.specs.declared.faults.Refusal.{Refusal}
 use Rattle.hk_types.specs.declared.faults.Refusal.TheVariants as refusals
+use Rattle.hk_types.specs.declared.faults.FormFault.TheVariants.{BadKind}
 use Rattle.hk_model.specs.declared.front.Front.{Front as FrontMarks}
 use Rattle.hk_model.specs.Replica.Fragments.{FragmentValue}
 use Rattle.hk_model.specs.Replica.Rules.{gather_result}
 use Rattle.hk_wire.specs.declared.reply.Reply.{Reply}
 use Rattle.hk_wire.specs.declared.request.Request.{Request}
 use Rattle.hk_wire.specs.declared.request.Request.TheVariants as asked
-use Rattle.hk_wire.specs.Replies.{ReplyValue, Done, Front, Fragment, Answer, Refused, reply_seen}
+use Rattle.hk_wire.specs.Replies.{ReplyValue, Done, Front, Refused, reply_seen}
 use Rattle.hk_session.specs.Steps.{query_reply, fragment_reply}
 use Rattle.hk_node.specs.declared.op.Op.{Op}
 use Rattle.hk_node.specs.declared.op.Op.TheVariants.{Join, Prune as PruneTo}
@@ -55,3 +56,22 @@ IsReplyTo config old new (asked.Prune horizon) reply = IsChangeReply config old 
 -- what a host over a node of this log may do: its seat's list is legal and begins with the one before, and the reply is so
 abbrev pub MayReply : ConfigValue → List Op → Request → Reply → List Op → Type 0
 MayReply config old request answer new = (is_legal new ≡ true) × IsPrefix old new × IsReplyTo config old new request (reply_seen answer)
+
+-- the reply to a change by a host that only reads: its kind has no meaning there, and the seat's list is as before
+abbrev pub IsNoChange : List Op → List Op → ReplyValue → Type 0
+IsNoChange old new reply = (reply ≡ Refused (refusals.Form BadKind)) × (new ≡ old)
+
+-- what is replied to a request by a host that only reads
+abbrev pub IsReading : List Op → List Op → Request → ReplyValue → Type 0
+IsReading old new asked.Front reply = IsOrOutOfMemory (front_reply (node_front (replay new))) reply
+IsReading old new (asked.Delta base) reply = IsOrOutOfMemory (fragment_reply (node_delta (replay new) base)) reply
+IsReading old new asked.Full reply = IsOrOutOfMemory (fragment_reply (node_whole (replay new))) reply
+IsReading old new (asked.Ask t query) reply = IsOrOutOfMemory (query_reply (node_reply (replay new) t query)) reply
+IsReading old new (asked.Items items) reply = IsNoChange old new reply
+IsReading old new (asked.JoinThis fragment) reply = IsNoChange old new reply
+IsReading old new (asked.MergeThis fragment) reply = IsNoChange old new reply
+IsReading old new (asked.Prune horizon) reply = IsNoChange old new reply
+
+-- what a host over a seat alone may do: its list is legal and begins with the one before, and the reply is so
+abbrev pub MayOnlyRead : List Op → Request → Reply → List Op → Type 0
+MayOnlyRead old request answer new = (is_legal new ≡ true) × IsPrefix old new × IsReading old new request (reply_seen answer)

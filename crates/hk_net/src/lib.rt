@@ -5,9 +5,21 @@
 #![tactic(auto)]
 
 mod fault;
+mod frame_watch;
+mod guarded_host;
+mod link_events;
+mod link_reader;
 mod links;
 mod node_host;
+mod seat_host;
+mod seats;
+mod staying;
 
 pub use fault::NetFault;
-pub use links::serve_links;
+pub use guarded_host::GuardedHost;
+pub use link_events::{LinkEvent, Watch};
+pub use links::{guard_links, serve_links};
 pub use node_host::NodeHost;
+pub use seat_host::SeatHost;
+pub use seats::{guard_on_seat, read_on_seat, serve_on_seat};
+pub use staying::{Door, serve_forever};

@@ -3,6 +3,7 @@
 ghost use Rattle.std.specs.Prelude.{◌≡◌, length, IfOk};
 
 use crate::fault::NetFault;
+use crate::guarded_host::GuardedHost;
 use crate::node_host::NodeHost;
 use hk_node::{Node, NodeName, ReaderSeat};
 use hk_session::{Counted, Ended, serve};
@@ -15,41 +16,56 @@ use std::thread::Threads;
 use std::time::Duration;
 
 /// How many pieces of what a peer still sends are read once its session has ended.
-const LAST_PIECES: u32 = 1024;
+const LAST_PIECES: u32 = 100;
 
-/// How many seconds the next piece is waited for.
-const LAST_WAIT: u64 = 1;
+/// How many milliseconds the first of them is waited for.
+const FIRST_WAIT: u64 = 250;
+
+/// How many milliseconds each next one is waited for. The system may wait for a few more.
+const NEXT_WAIT: u64 = 10;
 
 /// Lets the peer read the last reply. A link that is closed over bytes that nobody read is cut off, and the peer could
-/// lose what was written; so what it still sends is read and dropped, up to a bound.
-fn drain(stream: &TcpStream) {
-    let wait = Duration::from_secs(LAST_WAIT);
-    if stream.shutdown(Shutdown::Write).is_err() || stream.set_read_timeout(Some(wait)).is_err() {
+/// lose what was written; so what it still sends is read and dropped, for less than two seconds whatever it sends.
+pub(crate) fn drain(stream: &TcpStream) {
+    if stream.shutdown(Shutdown::Write).is_err() {
         return;
     }
-    let mut piece = [0u8; 4096];
+    let mut piece = [0u8; 16_384];
+    let mut wait = FIRST_WAIT;
     for _ in 0..LAST_PIECES {
+        if stream
+            .set_read_timeout(Some(Duration::from_millis(wait)))
+            .is_err()
+        {
+            return;
+        }
         match (&mut &*stream).read(&mut piece) {
             Ok(0) | Err(_) => return,
-            Ok(_) => {}
+            Ok(_) => wait = NEXT_WAIT,
         }
     }
 }
 
-/// Runs the session of a link to its end.
+/// Runs the session of a link to its end; where it is guarded, each change is tested before it is added.
 fn serve_link<J: NodeName, N: Wait + Drop, R: Threads + Wait + Sync>(
     rt: &R,
     alloc: Global,
     node: &Node<J, N>,
+    is_guarded: bool,
     seat: ReaderSeat<J>,
     stream: TcpStream,
 ) -> Ended {
     // A reply is sent at once; where that can't be had, replies come later.
     let _at_once = stream.set_nodelay(true);
-    let mut host = NodeHost::new(rt, alloc, node, seat);
     let mut reader = Counted::new(&stream);
     let mut writer = Counted::new(&stream);
-    let ended = serve(alloc, &mut reader, &mut writer, &mut host);
+    let ended = if is_guarded {
+        let mut host = GuardedHost::new(rt, node, seat);
+        serve(alloc, &mut reader, &mut writer, &mut host)
+    } else {
+        let mut host = NodeHost::new(rt, alloc, node, seat);
+        serve(alloc, &mut reader, &mut writer, &mut host)
+    };
     drain(&stream);
     ended
 }
@@ -73,6 +89,38 @@ pub fn serve_links<
 ) -> Result<Vec<Ended>, NetFault>
     ensures { IfOk result (λ ends. length ends.items ≡ length seats.items) }
 {
+    serve_each(rt, alloc, listener, node, false, seats)
+}
+
+/// As `serve_links`, but each change that a link asks for is tested before it is added (`GuardedHost`): what contradicts
+/// is refused `Conflict` with nothing changed, so that no link damages the node. Cost: that of the sessions.
+pub fn guard_links<
+    J: NodeName + Send + Sync,
+    N: Wait + Drop + Send + Sync,
+    R: Threads + Wait + Sync,
+>(
+    rt: &R,
+    alloc: Global,
+    listener: &TcpListener,
+    node: &Node<J, N>,
+    seats: Vec<ReaderSeat<J>>,
+) -> Result<Vec<Ended>, NetFault>
+    ensures { IfOk result (λ ends. length ends.items ≡ length seats.items) }
+{
+    serve_each(rt, alloc, listener, node, true, seats)
+}
+
+/// Serves a link on each seat.
+fn serve_each<J: NodeName + Send + Sync, N: Wait + Drop + Send + Sync, R: Threads + Wait + Sync>(
+    rt: &R,
+    alloc: Global,
+    listener: &TcpListener,
+    node: &Node<J, N>,
+    is_guarded: bool,
+    seats: Vec<ReaderSeat<J>>,
+) -> Result<Vec<Ended>, NetFault>
+    ensures { IfOk result (λ ends. length ends.items ≡ length seats.items) }
+{
     let count = seats.len();
     let mut ends = Vec::with_capacity(alloc, count)?;
     let mut links = Vec::with_capacity(alloc, count)?;
@@ -87,7 +135,7 @@ pub fn serve_links<
                 match listener.accept() {
                     Ok((stream, _address)) => {
                         let link = scope
-                            .spawn(move || serve_link(rt, alloc, node, seat, stream))
+                            .spawn(move || serve_link(rt, alloc, node, is_guarded, seat, stream))
                             .ok();
                         if links.push(link).is_err() {
                             fault = Some(NetFault::Memory);

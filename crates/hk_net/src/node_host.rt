@@ -6,14 +6,16 @@ ghost use mathlib.Core.List.{IsPrefix};
 ghost use Rattle.hk_model.specs.Replica.Rules.{gather_result};
 ghost use Rattle.hk_delta.specs.Gathers.{Gathers};
 ghost use Rattle.hk_wire.specs.Replies.{reply_seen};
-ghost use Rattle.hk_session.specs.Steps.{query_reply, fragment_reply};
 ghost use Rattle.hk_node.specs.declared.op.Op.{Op};
 ghost use Rattle.hk_node.specs.declared.op.Op.TheVariants.{Join, Prune as PruneTo};
 ghost use Rattle.hk_node.specs.Lists.{last_of};
+ghost use Rattle.hk_session.specs.Steps.{query_reply, fragment_reply};
 ghost use Rattle.hk_node.specs.Replay.{is_legal, replay};
 ghost use Rattle.hk_node.specs.Replies.{node_delta, node_front, node_reply, node_whole};
 ghost use Rattle.hk_net.specs.Replying.{IsChangeReply, IsItemsReply, IsOrOutOfMemory, MayReply, front_reply};
 
+use crate::link_events::{LinkEvent, Teller};
+use crate::seat_host::SeatHost;
 use hk_batch::{OpenGate, build};
 use hk_delta::{Fragment, fragment_of};
 use hk_log::Item;
@@ -52,7 +54,9 @@ pub struct NodeHost<'a, J: NodeName, N: Wait + Drop, R: Threads + Wait + Sync> {
     rt: &'a R,
     alloc: Global,
     node: &'a Node<J, N>,
-    seat: ReaderSeat<J>,
+    reads: SeatHost<J>,
+    /// Who is told of refused changes, if anyone is.
+    teller: Option<&'a Teller>,
 }
 
 impl<'a, J: NodeName, N: Wait + Drop, R: Threads + Wait + Sync> Model for NodeHost<'a, J, N, R> {
@@ -66,9 +70,9 @@ impl<'a, J: NodeName, N: Wait + Drop, R: Threads + Wait + Sync> Model for NodeHo
 
     ghost coded = { coded_list op.the_row.coded };
 
-    ghost view = { λ h. h.seat };
+    ghost view = { λ h. h.reads };
 
-    ghost invariant = { λ h. is_legal h.seat ≡ true };
+    ghost invariant = { λ h. is_legal h.reads ≡ true };
 }
 
 impl<'a, J: NodeName, N: Wait + Drop, R: Threads + Wait + Sync> NodeHost<'a, J, N, R> {
@@ -81,13 +85,39 @@ impl<'a, J: NodeName, N: Wait + Drop, R: Threads + Wait + Sync> NodeHost<'a, J, 
     ) -> NodeHost<'a, J, N, R>
         ensures { result ≡ seat }
     {
-        let _legal = seat.seen();
         NodeHost {
             rt,
             alloc,
             node,
-            seat,
+            reads: SeatHost::new(seat),
+            teller: None,
         }
+    }
+
+    /// The same, of which each refused change is told.
+    pub(crate) fn telling(
+        rt: &'a R,
+        alloc: Global,
+        node: &'a Node<J, N>,
+        seat: ReaderSeat<J>,
+        teller: &'a Teller,
+    ) -> NodeHost<'a, J, N, R>
+        ensures { result ≡ seat }
+    {
+        NodeHost {
+            rt,
+            alloc,
+            node,
+            reads: SeatHost::new(seat),
+            teller: Some(teller),
+        }
+    }
+
+    /// Gives the seat back, with all that it has seen or was told of.
+    pub fn into_seat(self) -> ReaderSeat<J>
+        ensures { result ≡ self.entry }
+    {
+        self.reads.into_seat()
     }
 
     /// Takes in the receipt of a change.
@@ -97,9 +127,15 @@ impl<'a, J: NodeName, N: Wait + Drop, R: Threads + Wait + Sync> NodeHost<'a, J, 
         ensures told { (op : Op) → last_of receipt ≡ Some op → IsChangeReply J.config self.old self.new op (reply_seen result) }
     {
         let ops = receipt.ops();
-        self.seat.learn(receipt);
-        let _legal = self.seat.seen();
+        self.reads.learn(receipt);
         Reply::Done { ops }
+    }
+
+    /// Tells that a change was refused.
+    fn tell_refused(&self, why: &Refusal) {
+        if let Some(teller) = self.teller {
+            teller.tell(self.rt, LinkEvent::Refused(why.number()));
+        }
     }
 
     /// The one fragment that items make. A long list is gathered by several workers, which are waited for.
@@ -107,7 +143,7 @@ impl<'a, J: NodeName, N: Wait + Drop, R: Threads + Wait + Sync> NodeHost<'a, J, 
         ensures legal { is_legal self.now ≡ true }
         ensures gives { Gathers J.config items.now result }
     {
-        let config = self.seat.config();
+        let config = self.reads.config();
         if items.len() < LONG_LIST {
             return fragment_of(self.alloc, config, items);
         }
@@ -121,7 +157,10 @@ impl<'a, J: NodeName, N: Wait + Drop, R: Threads + Wait + Sync> NodeHost<'a, J, 
     {
         match self.gather(items) {
             Ok(fragment) => self.join(fragment),
-            Err(why) => Reply::Refused(why),
+            Err(why) => {
+                self.tell_refused(&why);
+                Reply::Refused(why)
+            }
         }
     }
 
@@ -132,7 +171,10 @@ impl<'a, J: NodeName, N: Wait + Drop, R: Threads + Wait + Sync> NodeHost<'a, J, 
     {
         match self.node.join(self.rt, fragment) {
             Ok(receipt) => self.learn(receipt),
-            Err(why) => Reply::Refused(why),
+            Err(why) => {
+                self.tell_refused(&why);
+                Reply::Refused(why)
+            }
         }
     }
 
@@ -143,7 +185,10 @@ impl<'a, J: NodeName, N: Wait + Drop, R: Threads + Wait + Sync> NodeHost<'a, J, 
     {
         match self.node.prune(self.rt, horizon) {
             Ok((_, receipt)) => self.learn(receipt),
-            Err(why) => Reply::Refused(why),
+            Err(why) => {
+                self.tell_refused(&why);
+                Reply::Refused(why)
+            }
         }
     }
 
@@ -152,10 +197,7 @@ impl<'a, J: NodeName, N: Wait + Drop, R: Threads + Wait + Sync> NodeHost<'a, J, 
         ensures seen { IsPrefix self.old self.new }
         ensures told { IsOrOutOfMemory (front_reply (node_front (replay self.new))) (reply_seen result) }
     {
-        match self.seat.front() {
-            Ok(front) => Reply::Front(front),
-            Err(why) => Reply::Refused(why),
-        }
+        self.reads.front()
     }
 
     fn delta(&mut self, base: Time) -> Reply
@@ -163,10 +205,7 @@ impl<'a, J: NodeName, N: Wait + Drop, R: Threads + Wait + Sync> NodeHost<'a, J, 
         ensures seen { IsPrefix self.old self.new }
         ensures told { IsOrOutOfMemory (fragment_reply (node_delta (replay self.new) base)) (reply_seen result) }
     {
-        match self.seat.delta_since(base) {
-            Ok(fragment) => Reply::Fragment(fragment),
-            Err(why) => Reply::Refused(why),
-        }
+        self.reads.delta(base)
     }
 
     fn whole(&mut self) -> Reply
@@ -174,10 +213,7 @@ impl<'a, J: NodeName, N: Wait + Drop, R: Threads + Wait + Sync> NodeHost<'a, J, 
         ensures seen { IsPrefix self.old self.new }
         ensures told { IsOrOutOfMemory (fragment_reply (node_whole (replay self.new))) (reply_seen result) }
     {
-        match self.seat.whole() {
-            Ok(fragment) => Reply::Fragment(fragment),
-            Err(why) => Reply::Refused(why),
-        }
+        self.reads.whole()
     }
 
     fn ask(&mut self, time: Time, query: &Query) -> Reply
@@ -185,10 +221,7 @@ impl<'a, J: NodeName, N: Wait + Drop, R: Threads + Wait + Sync> NodeHost<'a, J, 
         ensures seen { IsPrefix self.old self.new }
         ensures told { IsOrOutOfMemory (query_reply (node_reply (replay self.new) time query.now)) (reply_seen result) }
     {
-        match self.seat.ask(time, query) {
-            Ok(answer) => Reply::Answer(answer),
-            Err(why) => Reply::Refused(why),
-        }
+        self.reads.ask(time, query)
     }
 }
 

@@ -8,3 +8,4 @@ pub mod RefusalTests
 pub mod Carries
 pub mod HoldsBack
 pub mod WaitingHold
+pub mod GuardedChanges

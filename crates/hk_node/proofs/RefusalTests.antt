@@ -32,7 +32,7 @@ or_tested : (o p : Option Refusal) → AreTested o → AreTested p → AreTested
 or_tested None p t u = u
 or_tested (Some e) p t u = t
 
-full_tested : (c : NodeContent) → AreTested (full_refusal c)
+pub full_tested : (c : NodeContent) → AreTested (full_refusal c)
 full_tested c = go (nat_lt c.op_count (2 ^ 62))
   where
     go : (b : Bool) → AreTested (if b then None else Some NodeFull)
@@ -43,7 +43,7 @@ passed_tested : (n : ℕ) (o : Option Hold) → AreTested (passed_hold n o)
 passed_tested n None = tt
 passed_tested n (Some h) = if_tested (nat_lt h.at n) (Held h.reader h.at) None refl tt
 
-held_tested : (c : NodeContent) (n : ℕ) → AreTested (held_refusal c n)
+pub held_tested : (c : NodeContent) (n : ℕ) → AreTested (held_refusal c n)
 held_tested c n = go (nat_lt c.content.horizon n)
   where
     go : (b : Bool) → AreTested (if b then passed_hold n (least_hold c.holds) else None)

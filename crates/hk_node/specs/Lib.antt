@@ -5,5 +5,6 @@ pub mod Lists
 pub mod Book
 pub mod Published
 pub mod Changes
+pub mod Guarded
 pub mod Replies
 pub mod Carried

@@ -8,10 +8,12 @@ ghost use Rattle.hk_node.specs.declared.op.Op.TheVariants.{Prune as PruneTo, Hol
 ghost use Rattle.hk_node.specs.Replay as spec;
 ghost use Rattle.std.specs.List.{list_any};
 ghost use Rattle.hk_node.specs.Replay.{is_hold, content_after_op, start_content, effect, full_refusal, held_refusal, join_refusal, refusal_of};
+ghost use Rattle.hk_node.specs.Guarded.{AgreesWith, agreed_refusal, conflict_refusal};
 ghost use Rattle.hk_node.specs.Replies.{Answers, GivesOrMemory, node_delta, node_front, node_reply, node_whole};
 
 use crate::op::{Hold, Op};
-use hk_delta::{Fragment, delta_since, join, whole_of};
+use hk_delta::{Fragment, agreed, conflicts_with, delta_since, join, whole_of};
+use hk_log::Item;
 use hk_merge::wrong_log;
 use hk_model::{Answer, Front, Query};
 use hk_query::ask;
@@ -167,6 +169,56 @@ impl Body {
         ensures { result ≡ spec.join_refused self.now fragment.now }
     {
         self.join_refusal(fragment.config(), fragment.base(), fragment.horizon())
+    }
+
+    fn conflict_refusal(&self, fragment: &Fragment) -> Option<Refusal>
+        ensures { result ≡ conflict_refusal self.now.content fragment.now }
+    {
+        if conflicts_with(&self.state, fragment) {
+            return Some(Refusal::Conflict);
+        }
+        None
+    }
+
+    fn held_conflict_or_full(&self, fragment: &Fragment) -> Option<Refusal>
+        ensures { result ≡ or_else (held_refusal self.now fragment.now.content.horizon)
+            (or_else (conflict_refusal self.now.content fragment.now) (full_refusal self.now)) }
+    {
+        if let Some(why) = self.held_refusal(fragment.horizon()) {
+            return Some(why);
+        }
+        match self.conflict_refusal(fragment) {
+            Some(why) => Some(why),
+            None => self.full_refusal(),
+        }
+    }
+
+    /// Why a fragment is not joined, where a conflict is a refusal too. It takes no memory.
+    pub fn agreed_refusal(&self, fragment: &Fragment) -> Option<Refusal>
+        ensures { result ≡ agreed_refusal self.now fragment.now }
+    {
+        if self.damaged {
+            return Some(Refusal::Damaged);
+        }
+        if let Some(why) = wrong_log(&self.state, fragment.config()) {
+            return Some(why);
+        }
+        let base = fragment.base();
+        let readable = self.state.readable();
+        if readable < base {
+            return Some(Refusal::Gap { base, readable });
+        }
+        self.held_conflict_or_full(fragment)
+    }
+
+    /// The fragment of what items tell that is new, where they agree with what is held and with each other.
+    pub fn agreed(&self, alloc: Global, items: &[Item]) -> Result<Fragment, Refusal>
+        ensures { AgreesWith self.now items.now result }
+    {
+        if self.damaged {
+            return Err(Refusal::Damaged);
+        }
+        agreed(alloc, &self.state, items)
     }
 
     fn prune_refused(&self, time: Time) -> Option<Refusal>

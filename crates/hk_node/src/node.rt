@@ -3,17 +3,20 @@
 ghost use Rattle.std.specs.Prelude.{◌≡◌, ◌∷◌, [], ◌<◌, ◌≤◌, List, All, Some, true, length, Ok, Err, IfOk, IfErr, MatchResult, vec_len};
 ghost use Rattle.hk_types.specs.declared.faults.Refusal.TheVariants.{Memory};
 ghost use Rattle.hk_node.specs.Changes.{ChangesSome, IsGiven, IsHandedBack, IsRefusedHold, PublishesSome};
+ghost use Rattle.hk_node.specs.Guarded.{JoinsAgreedSome, TakesSome};
 ghost use Rattle.hk_model.specs.Replica.Fragments.{cut};
 ghost use Rattle.hk_node.specs.declared.op.Op.TheVariants.{Start as StartOf, Join as JoinOf, Merge as MergeOf, Prune as PruneTo, Hold as HoldAt, Release};
 ghost use Rattle.hk_node.specs.Lists.{last_of};
 ghost use Rattle.hk_node.specs.Replay.{is_legal, replay};
 
 use crate::book::{NewList, NodeName};
+use crate::guarding::{join_agreed, take_agreed};
 use crate::laws::{change, hold_at, merge_whole, prune_to, publish_waiting, release_hold};
 use crate::op::{Hold, Op};
 use crate::publisher::{Publisher, Receipt, copies_of};
 use crate::seat::{ReaderSeat, seats_of};
 use hk_delta::{Fragment, whole_of};
+use hk_log::Item;
 use hk_state::ReplicaState;
 use hk_types::{Refusal, Time};
 use std::alloc::Global;
@@ -78,6 +81,38 @@ impl<J: NodeName, R: Wait + Drop> Node<J, R> {
     {
         let mut publisher = self.publisher.lock(rt);
         change(&mut *publisher, Op::Join(fragment))
+    }
+
+    /// Joins a fragment, unless it conflicts with the state, which is tested before its operation is added: the node is
+    /// damaged after the call only where it was before.
+    ///
+    /// Refusals in order: `Damaged`; `ForeignLog`, `WrongStreams`, `Gap` and `Held` as `join`; `Conflict` where fragment and
+    /// state conflict with each other, and nothing changed; `NodeFull`; `Memory`; `Unpublished`. The fragment is dropped
+    /// with a refusal. Cost: that of `join`, and O(c · log n + b) for the test under the lock, c versions of the fragment,
+    /// n facts of the state, b bytes of bodies compared.
+    pub fn join_if_agreed<W: Wait>(&self, rt: &W, fragment: Fragment) -> Result<Receipt<J>, Refusal>
+        ensures legal { IfOk result (λ list. is_legal list ≡ true) }
+        ensures join { JoinsAgreedSome J.config fragment result }
+        ensures last { IfOk result (λ list. last_of list ≡ Some (JoinOf fragment)) }
+    {
+        let mut publisher = self.publisher.lock(rt);
+        join_agreed(&mut *publisher, fragment)
+    }
+
+    /// Takes items, all or nothing: the node holds then what absorbing them one after the other gives, by one join of those
+    /// that tell something new. They are tested before that join is added: the node is damaged after the call only where it
+    /// was before.
+    ///
+    /// Refusals in order: `Damaged`; the refusal of the first item that an absorb would refuse, as `ForeignLog`,
+    /// `WrongStreams`, or `Conflict` with the state, with an item before it, or with the closed time of its stream;
+    /// `NodeFull`; `Memory`, which comes before the refusal of an item where memory ran out while the items were tested;
+    /// `Unpublished`. Cost: that of `join` of what is new, and that of `hk_delta::agreed` under the lock.
+    pub fn take<W: Wait>(&self, rt: &W, items: &[Item]) -> Result<Receipt<J>, Refusal>
+        ensures legal { IfOk result (λ list. is_legal list ≡ true) }
+        ensures take { TakesSome J.config items.now result }
+    {
+        let mut publisher = self.publisher.lock(rt);
+        take_agreed(&mut *publisher, self.alloc, items)
     }
 
     /// Merges a state, as the join of the whole of it, with the refusals of `join`. The whole is copied before the lock

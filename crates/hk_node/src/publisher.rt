@@ -5,6 +5,7 @@ ghost use Rattle.left_right.specs.Sides.{view as known};
 ghost use Rattle.hk_node.specs.declared.op.Op.TheVariants.{Start as StartOf};
 ghost use Rattle.hk_types.specs.declared.faults.Refusal.TheVariants.{Memory};
 ghost use Rattle.hk_node.specs.Replay.{config_of, start_content, is_legal, join_refusal, refusal_of, replay, IsListOf};
+ghost use Rattle.hk_node.specs.Guarded.{AgreesWith, agreed_refusal};
 ghost use Rattle.hk_node.specs.Published.{IsReady, IsReplay, next, queue};
 
 use crate::book::{Counter, NodeName, Prefix};
@@ -12,6 +13,8 @@ use crate::op::Op;
 use crate::replica::{Logged, Replica};
 use core::mem::replace_with;
 use crossbeam_utils::rule::{Outcome, Protocol};
+use hk_delta::Fragment;
+use hk_log::Item;
 use hk_types::{Config, Refusal, Time};
 use left_right::reader::{Reader, Reading};
 use left_right::writer::Writer;
@@ -291,6 +294,22 @@ impl<J: NodeName, R: Wait + Drop> Publisher<J, R> {
         ensures { result ≡ join_refusal (replay self.now.0) config.log config.streams base horizon }
     {
         self.published().body.join_refusal(config, base, horizon)
+    }
+
+    /// Why a fragment is not joined after the published list, where a conflict is a refusal too. Cost: O(s + h) and that
+    /// of the test for a conflict, s streams, h holds that stand.
+    pub fn agreed_refusal(&self, fragment: &Fragment) -> Option<Refusal>
+        ensures { result ≡ agreed_refusal (replay self.now.0) fragment.now }
+    {
+        self.published().body.agreed_refusal(fragment)
+    }
+
+    /// The fragment of what items tell that is new after the published list, where they agree with it and with each
+    /// other.
+    pub fn agreed(&self, alloc: Global, items: &[Item]) -> Result<Fragment, Refusal>
+        ensures { AgreesWith (replay self.now.0) items.now result }
+    {
+        self.published().body.agreed(alloc, items)
     }
 
     /// The published list with one operation more, which the node's list has from now on.

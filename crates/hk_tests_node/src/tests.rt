@@ -24,24 +24,31 @@ fn config() -> Result<Config, Fail> {
     Ok(Config::new(7, 1)?)
 }
 
-/// Items by their numbers: 1 to 3 are entries, 4 is the mark of all three, and 9 is like 1 with another body.
+/// Items by their numbers: 1 to 3 are entries, 4 is the mark of all three, 7 ends
+/// what 2 ended at another time, 8 is a mark that closes the stream behind 1 up to 9, and 9 is like 1 with another body.
 fn item(alloc: Global, number: u64) -> Result<Item, Fail> {
     let item = match number {
         1 => entry(alloc, 7, (1, 1, 1), (None, Some((5, &[0, 0x41])))),
         2 => entry(alloc, 7, (1, 2, 2), (Some((5, 1)), Some((5, &[0, 0x42])))),
         3 => entry(alloc, 7, (1, 3, 3), (None, Some((6, &[0, 0x43])))),
+        7 => entry(alloc, 7, (1, 4, 4), (Some((5, 1)), None)),
+        8 => mark(1, 1, 9),
         9 => entry(alloc, 7, (1, 1, 1), (None, Some((5, &[0, 0x99])))),
         _ => mark(1, 3, 3),
     };
     Ok(item?)
 }
 
-fn fragment(alloc: Global, numbers: &[u64]) -> Result<Fragment, Fail> {
+fn items(alloc: Global, numbers: &[u64]) -> Result<Vec<Item>, Fail> {
     let mut items = Vec::new(alloc);
     for number in numbers {
         items.push(item(alloc, *number)?)?;
     }
-    Ok(fragment_of(alloc, config()?, &items)?)
+    Ok(items)
+}
+
+fn fragment(alloc: Global, numbers: &[u64]) -> Result<Fragment, Fail> {
+    Ok(fragment_of(alloc, config()?, &items(alloc, numbers)?)?)
 }
 
 fn get(key: u64) -> Query {

@@ -6,8 +6,8 @@ mod watched;
 use crate::watched::Watched;
 use hk_arguments::{Call, Order as Asked, read_call};
 use hk_cli::{
-    Form, Order, run_ask, run_at, run_explain, run_frames, run_front, run_items, run_order,
-    run_rewrite, run_serve, run_status, run_world,
+    Form, Links, Order, ReadPort, Stay, run_ask, run_at, run_explain, run_frames, run_front,
+    run_guarded, run_items, run_order, run_rewrite, run_serve, run_status, run_stay, run_world,
 };
 use std::alloc::Global;
 use std::fs::Files;
@@ -137,6 +137,14 @@ fn run_script<R: Files + Alloc<A = Global>, I: Read, W: Write, E: Write>(
     }
 }
 
+/// The port for links that only read, as the command takes it.
+fn reading_of(reading: Option<(u16, Links)>) -> Option<ReadPort> {
+    match reading {
+        Some((port, links)) => Some(ReadPort { port, links }),
+        None => None,
+    }
+}
+
 /// The status of a call over standard output and these.
 fn run<R, I: Read, E: Write>(
     rt: &R,
@@ -155,7 +163,35 @@ where
             config,
             port,
             links,
-        } => run_serve(rt, rt.alloc(), *port, *config, *links, &mut output, errors),
+            is_guarded,
+        } => {
+            if *is_guarded {
+                run_guarded(rt, rt.alloc(), *port, *config, *links, &mut output, errors)
+            } else {
+                run_serve(rt, rt.alloc(), *port, *config, *links, &mut output, errors)
+            }
+        }
+        Call::Stay {
+            config,
+            address,
+            port,
+            links,
+            reading,
+            read_seconds,
+            is_guarded,
+            is_quiet,
+        } => {
+            let stay = Stay {
+                address: *address,
+                port: *port,
+                links: *links,
+                reading: reading_of(*reading),
+                read_seconds: *read_seconds,
+                is_guarded: *is_guarded,
+                is_quiet: *is_quiet,
+            };
+            run_stay(rt, rt.alloc(), *config, &stay, &mut output, errors)
+        }
         Call::Node { port, order } => {
             let order = order_of(*order);
             run_order(

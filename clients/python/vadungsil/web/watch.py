@@ -1,6 +1,6 @@
 """One node as the web server sees it: one link, shared by all who ask, and what the node told last.
 
-A node gives out each of its links once, so the link is kept; where it breaks it is opened anew after a pause."""
+A node without --stay gives out each of its links once, so the link is kept; where it breaks it is opened anew after a pause."""
 from __future__ import annotations
 
 import threading

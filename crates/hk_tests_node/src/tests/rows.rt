@@ -9,6 +9,8 @@ use super::*;
 enum Does<'a> {
     /// Items by their numbers.
     Join(&'a [u64]),
+    JoinAgreed(&'a [u64]),
+    Take(&'a [u64]),
     /// A state with all items, pruned to a time.
     Merge(u64),
     /// The whole of such a state.
@@ -167,6 +169,20 @@ impl<J: NodeName, S: Wait + Drop> Game<J, S> {
         told(joined)
     }
 
+    fn join_agreed<R: Wait>(&mut self, rt: &R, fragment: Fragment) -> Tells {
+        refuse(self.alloc, self.number);
+        let joined = self.node.join_if_agreed(rt, fragment);
+        refuse(self.alloc, 0);
+        told(joined)
+    }
+
+    fn take<R: Wait>(&mut self, rt: &R, items: &[Item]) -> Tells {
+        refuse(self.alloc, self.number);
+        let taken = self.node.take(rt, items);
+        refuse(self.alloc, 0);
+        told(taken)
+    }
+
     fn merge<R: Wait>(&mut self, rt: &R, state: &ReplicaState) -> Tells {
         refuse(self.alloc, self.number);
         let merged = self.node.merge(rt, state);
@@ -188,6 +204,8 @@ impl<J: NodeName, S: Wait + Drop> Game<J, S> {
     fn play<R: Wait>(&mut self, rt: &R, does: Does) -> Result<Tells, Fail> {
         match does {
             Does::Join(numbers) => Ok(self.join(rt, fragment(self.alloc, numbers)?)),
+            Does::JoinAgreed(numbers) => Ok(self.join_agreed(rt, fragment(self.alloc, numbers)?)),
+            Does::Take(numbers) => Ok(self.take(rt, &items(self.alloc, numbers)?)),
             Does::Merge(to) => Ok(self.merge(rt, &state_of(self.alloc, to)?)),
             Does::JoinPruned(to) => Ok(self.join(rt, pruned(self.alloc, to)?)),
             Does::Prune(to) => Ok(self.prune(rt, time(to)?)),
@@ -312,10 +330,43 @@ const DAMAGE: [(Does, Tells); 11] = [
     (Does::Publish, (0, 4, 4)),
 ];
 
+/// What contradicts is refused and damages nothing, and of a list that is refused nothing is kept: 7 ends a version at
+/// another time than 2, and 9 has a number that is taken.
+const GUARDED: [(Does, Tells); 12] = [
+    (Does::Take(&[1, 2]), (0, 2, 0)),
+    (Does::Take(&[9]), (0, 3, 0)),
+    (Does::JoinAgreed(&[9]), (23, 0, 0)),
+    (Does::Take(&[3, 7]), (23, 0, 0)),
+    (Does::Take(&[4]), (0, 4, 0)),
+    (Does::Front, (0, 0, 0)),
+    (Does::Take(&[3]), (0, 5, 0)),
+    (Does::Front, (0, 0, 3)),
+    (Does::Get(5, 3), (0, 0x42, 0)),
+    (Does::JoinAgreed(&ALL), (0, 6, 0)),
+    (Does::Take(&[]), (0, 7, 0)),
+    (Does::Publish, (0, 7, 7)),
+];
+
+/// The mark 8 closes the stream before the entry 2 comes.
+const CLOSED: [(Does, Tells); 5] = [
+    (Does::Take(&[1, 8, 2]), (23, 0, 0)),
+    (Does::Front, (0, 0, 0)),
+    (Does::Take(&[1, 8]), (0, 2, 0)),
+    (Does::Take(&[2]), (23, 0, 0)),
+    (Does::Front, (0, 0, 9)),
+];
+
 #[test]
 fn one_day(rt: HostRuntime) -> Result<(), Fail> {
     let alloc = rt.alloc();
-    for rows in [A_HOLD.as_slice(), &HOLDS, &AGAIN, &DAMAGE] {
+    for rows in [
+        A_HOLD.as_slice(),
+        &HOLDS,
+        &AGAIN,
+        &DAMAGE,
+        &GUARDED,
+        &CLOSED,
+    ] {
         steps::<Brand, _>(&rt, alloc, NewList::new(config()?), rows)?;
     }
     for number in 0..=MOST_REQUESTS {

@@ -1,7 +1,6 @@
-use Rattle.std.proofs.Common.{◌≡◌, ap, ◌∙◌, map}
+use Rattle.std.proofs.Common.{◌∙◌, map}
 use Rattle.hk_store.specs.Versions.{borrowed}
 use Rattle.hk_fragment.specs.Parts.{fragment_seen, fragment_fault}
-use Rattle.hk_delta.specs.Cuts.{all_left}
 use Rattle.hk_delta.proofs.CutLists.{parts_faultless, cut_is}
 use Rattle.hk_delta.proofs.cutting.fragment_from.Goals as goal
 

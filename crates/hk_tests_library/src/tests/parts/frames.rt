@@ -1,12 +1,11 @@
-//! The worked frames, in version 1 where nothing else is said.
+//! The worked frames, in version 1. What frames of version 2 are, and the faults of both, tests/program.py shows.
 
-use hk_codec::{encode, encode_old};
+use hk_codec::encode_old;
 use hk_decode::decode_all;
 use hk_log::Item;
 use hk_tests_values::{entry, mark};
 use std::alloc::Global;
 use std::test::*;
-use std::thread::Threads;
 
 /// Log 7, stream 1, number 1, time 1: inserts key 5 of table 1, tag 9, body 41.
 const E1: [u8; 53] = [
@@ -25,12 +24,6 @@ const E2: [u8; 71] = [
 const MARK_2: [u8; 32] = [
     0, 0, 0, 0x1c, 1, 2, 0, 0, 0, 0, 0, 0, 0, 7, 0, 1, 0, 0, 0, 0, 0, 0, 0, 2, 0, 0, 0, 0, 0, 0, 0,
     2,
-];
-
-/// E1 in version 2: no group of ends, and one group of rows, of table 1.
-const NEW_E1: [u8; 55] = [
-    0, 0, 0, 0x33, 2, 1, 0, 0, 0, 0, 0, 0, 0, 7, 0, 1, 0, 0, 0, 0, 0, 0, 0, 1, 0, 0, 0, 0, 0, 0, 0,
-    1, 0, 0, 0, 1, 0, 1, 0, 1, 0, 0, 0, 0, 0, 0, 0, 5, 0, 0, 0, 9, 0, 1, 0x41,
 ];
 
 /// The items by their numbers: the first entry, the second one, and the mark of both.
@@ -70,62 +63,5 @@ fn encodes_and_reads_the_worked_frames(rt: HostRuntime) -> Result<(), Fail> {
     }
     assert!(rt; bytes == stream(alloc)?);
     assert!(rt; decode_all(&rt, alloc, &bytes)? == items);
-    Ok(())
-}
-
-#[test]
-fn encodes_in_version_2(rt: HostRuntime) -> Result<(), Fail> {
-    let mut bytes = Vec::new(rt.alloc());
-    encode(&item(rt.alloc(), 1)?, &mut bytes)?;
-    assert!(rt; bytes.as_slice() == NEW_E1.as_slice());
-    Ok(())
-}
-
-/// Two inserts at time 1, of key 6 and then of key 5.
-const FALLING_KEYS: [u8; 70] = [
-    0, 0, 0, 0x42, 1, 1, 0, 0, 0, 0, 0, 0, 0, 7, 0, 1, 0, 0, 0, 0, 0, 0, 0, 1, 0, 0, 0, 0, 0, 0, 0,
-    1, 0, 0, 0, 2, 0, 1, 0, 0, 0, 0, 0, 0, 0, 6, 0, 0, 0, 9, 0, 1, 0x41, 0, 1, 0, 0, 0, 0, 0, 0, 0,
-    5, 0, 0, 0, 9, 0, 1, 0x41,
-];
-
-/// A length above the greatest, and one below the least.
-const TOO_LONG: [u8; 4] = [0, 0x40, 0x98, 0x21];
-
-const TOO_SHORT: [u8; 4] = [0, 0, 0, 0x1b];
-
-/// E1 with a body of so many bytes.
-fn frame_of_body(alloc: Global, length: u16) -> Result<Vec<u8>, Fail> {
-    let mut bytes = Vec::new(alloc);
-    bytes.extend_from_slice(&(48 + u32::from(length)).to_be_bytes())?;
-    bytes.extend_from_slice(&E1[4..50])?;
-    bytes.extend_from_slice(&length.to_be_bytes())?;
-    for _ in 0..length {
-        bytes.push(0x41)?;
-    }
-    Ok(bytes)
-}
-
-/// 0, or the number of the refusal with which all of the bytes are read.
-fn told(rt: &(impl Threads + Sync), alloc: Global, bytes: &[u8]) -> u8 {
-    match decode_all(rt, alloc, bytes) {
-        Ok(_items) => 0,
-        Err(why) => why.number(),
-    }
-}
-
-#[test]
-fn tells_the_faults_of_frames(rt: HostRuntime) -> Result<(), Fail> {
-    let alloc = rt.alloc();
-    let mut cut = stream(alloc)?;
-    cut.pop();
-    let told = [
-        told(&rt, alloc, &cut),
-        told(&rt, alloc, &frame_of_body(alloc, 4_096)?),
-        told(&rt, alloc, &frame_of_body(alloc, 4_097)?),
-        told(&rt, alloc, &TOO_LONG),
-        told(&rt, alloc, &TOO_SHORT),
-        told(&rt, alloc, &FALLING_KEYS),
-    ];
-    assert_eq!(rt; told, [1, 0, 9, 2, 10, 7]);
     Ok(())
 }

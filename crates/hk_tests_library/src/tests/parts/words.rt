@@ -60,7 +60,7 @@ fn refusal_of(number: u8) -> Result<Refusal, Fail> {
 const REFUSALS: [(u8, &str); 31] = [
     (1, "the input ends inside a frame"),
     (2, "the length is above its limit"),
-    (3, "the version is not 1"),
+    (3, "the version is unknown"),
     (4, "the kind has no meaning here"),
     (5, "a stream is outside 1 to 64"),
     (6, "a number is outside its range"),

@@ -1,0 +1,85 @@
+//! The options of `serve` for a node that stays, and for one that tests each change.
+
+use crate::arguments::{Call, config_of};
+use crate::forms::{STAY_NUMBERS, with_numbers};
+use clap::{Arg, ArgAction, ArgMatches, Command};
+use hk_types::Links;
+use std::alloc::{AllocError, Global};
+use std::net::Ipv4Addr;
+
+const STAY_HELP: &str = "Serve links without an end, so many at once";
+
+const QUIET_HELP: &str = "Tell standard error of faults alone, and not of each link";
+
+const GUARD_HELP: &str =
+    "Test each change first: what contradicts is refused 23, and changes nothing";
+
+const ADDRESS_HELP: &str =
+    "Where the ports are opened, in place of 127.0.0.1. Nothing is encrypted or authenticated";
+
+/// How many links a node serves at once at most, of both kinds.
+const MOST_LINKS: u16 = 64;
+
+/// A command with the options of a node that stays, and of one that tests each change.
+pub(crate) fn with_stay<'a>(
+    alloc: Global,
+    command: Command<'a>,
+) -> Result<Command<'a>, AllocError> {
+    let stay = Arg::new(alloc, "stay")
+        .long("stay")
+        .help(STAY_HELP)
+        .action(ArgAction::SetTrue);
+    let quiet = Arg::new(alloc, "quiet")
+        .short('q')
+        .long("quiet")
+        .help(QUIET_HELP)
+        .action(ArgAction::SetTrue)
+        .requires_arg("stay")?;
+    let guard = Arg::new(alloc, "guard")
+        .long("guard")
+        .help(GUARD_HELP)
+        .action(ArgAction::SetTrue);
+    let address = Arg::new(alloc, "address")
+        .long("address")
+        .value_name("A")
+        .help(ADDRESS_HELP)
+        .action(ArgAction::Set)
+        .requires_arg("stay")?;
+    let command = command.arg(stay)?.arg(guard)?.arg(quiet)?.arg(address)?;
+    with_numbers(alloc, command, &STAY_NUMBERS)
+}
+
+/// The port for links that only read and how many they are, where they and the others are not too many.
+fn reading_of(matches: &ArgMatches<'_>, links: u16) -> Option<Option<(u16, Links)>> {
+    let Some(port) = matches.get_one::<u16>("read-port") else {
+        return Some(None);
+    };
+    let reading = matches.get_one::<u16>("read-links")?;
+    if reading > MOST_LINKS.saturating_sub(links) {
+        return None;
+    }
+    Some(Some((port, Links::new(reading)?)))
+}
+
+/// The address that is named, or that of this machine alone.
+fn address_of(matches: &ArgMatches<'_>) -> Option<Ipv4Addr> {
+    match matches.get_str("address") {
+        None => Some(Ipv4Addr::LOCALHOST),
+        Some(word) => word.parse::<Ipv4Addr>().ok(),
+    }
+}
+
+/// The call that `serve --stay` makes, where each argument is in its range.
+pub(crate) fn stay_call<'a>(matches: &ArgMatches<'a>) -> Option<Call<'a>> {
+    let links = matches.get_one::<u16>("links")?;
+    Some(Call::Stay {
+        config: config_of(matches)?,
+        address: address_of(matches)?,
+        port: matches.get_one::<u16>("port")?,
+        links: Links::new(links)?,
+        reading: reading_of(matches, links)?,
+        read_seconds: matches.get_one::<u64>("read-seconds").unwrap_or(0),
+        is_guarded: matches.get_flag("guard"),
+        is_quiet: matches.get_flag("quiet"),
+    })
+}

@@ -1,0 +1,159 @@
+//! The command `serve` of a node that stays.
+
+ghost use Rattle.std.specs.Prelude.{◌≡◌, ◌<◌, ◌≤◌};
+
+use crate::notice::Notice;
+use crate::serve::stop_of;
+use crate::telling::Telling;
+use hk_commands::{Output, Stop};
+use hk_net::{Door, serve_forever};
+use hk_node::{NewList, Node, NodeName, ReaderSeat, start};
+use hk_types::{Config, Links, Refusal};
+use std::alloc::Global;
+use std::io::Write;
+use std::marker::Brand;
+use std::net::{Ipv4Addr, Net, TcpListener, TcpStream};
+use std::rt::Clock;
+use std::sync::Wait;
+use std::thread::Threads;
+
+/// A second port of a node that stays: its links only read.
+#[derive(Clone, Copy, Debug, PartialEq, Eq)]
+pub struct ReadPort {
+    /// The port.
+    pub port: u16,
+    /// How many links to it are served at once.
+    pub links: Links,
+}
+
+/// How a node that stays serves its links.
+#[derive(Clone, Copy, Debug)]
+pub struct Stay {
+    /// The address that its ports are opened at.
+    pub address: Ipv4Addr,
+    /// The port for links of every kind.
+    pub port: u16,
+    /// How many links to that port are served at once.
+    pub links: Links,
+    /// The port for links that only read, if there is one.
+    pub reading: Option<ReadPort>,
+    /// How many seconds a read inside a frame is waited for; 0 is no limit.
+    pub read_seconds: u64,
+    /// Whether each change is tested before it is added, so that none damages the node.
+    pub is_guarded: bool,
+    /// Whether links that open, or end without a fault, are told to nobody.
+    pub is_quiet: bool,
+}
+
+/// Listens to a port of an address.
+fn listener_of<R: Net<Listener = TcpListener, Stream = TcpStream>, W: Write, E: Write>(
+    rt: &R,
+    address: Ipv4Addr,
+    port: u16,
+    output: &mut Output<'_, W, E>,
+) -> Result<TcpListener, Stop> {
+    match TcpListener::bind(rt, (address, port)) {
+        Ok(listener) => Ok(listener),
+        Err(error) => Err(output.net_fault("listen on", port, &error)),
+    }
+}
+
+/// The listener of the links that only read, if there are any.
+fn reading_listener<R: Net<Listener = TcpListener, Stream = TcpStream>, W: Write, E: Write>(
+    rt: &R,
+    stay: &Stay,
+    output: &mut Output<'_, W, E>,
+) -> Result<Option<TcpListener>, Stop> {
+    match stay.reading {
+        None => Ok(None),
+        Some(reading) => {
+            let listener = listener_of(rt, stay.address, reading.port, output)?;
+            Ok(Some(listener))
+        }
+    }
+}
+
+/// A place for each seat: the first of them behind the open door, the others behind the reading one.
+fn places_of<'d, J: NodeName, N: Wait + Drop>(
+    alloc: Global,
+    node: &'d Node<J, N>,
+    seats: Vec<ReaderSeat<J>>,
+    stay: &Stay,
+    listener: &'d TcpListener,
+    reading: &'d Option<TcpListener>,
+) -> Result<Vec<(Door<'d, J, N>, ReaderSeat<J>)>, Refusal> {
+    let mut places = Vec::with_capacity(alloc, seats.len())?;
+    for seat in seats {
+        let door = match reading {
+            Some(listener) if places.len() >= stay.links.count() => {
+                Door::reading(listener, stay.read_seconds)
+            }
+            _ if stay.is_guarded => Door::guarded(listener, node, stay.read_seconds),
+            _ => Door::open(listener, node, stay.read_seconds),
+        };
+        places.push((door, seat))?;
+    }
+    Ok(places)
+}
+
+/// How many places a node has for its links, of both kinds: as many as it may have at most.
+fn places_wanted(stay: &Stay) -> usize
+    ensures { (0 < result) × (result ≤ 64) }
+{
+    let reading = match stay.reading {
+        Some(reading) => reading.links.count(),
+        None => 0,
+    };
+    (stay.links.count() + reading).min(64)
+}
+
+/// Serves links to a new node of this list without an end.
+fn stay_list<
+    J: NodeName + Send + Sync,
+    R: Net<Listener = TcpListener, Stream = TcpStream> + Threads + Wait + Clock + Sync,
+    W: Write,
+    E: Write,
+>(
+    rt: &R,
+    alloc: Global,
+    stay: &Stay,
+    list: NewList,
+    output: &mut Output<'_, W, E>,
+) -> Result<(), Stop>
+    requires { list ≡ (J.book, J.config) }
+{
+    let listener = listener_of(rt, stay.address, stay.port, output)?;
+    let reading = reading_listener(rt, stay, output)?;
+    let (node, seats) = start::<J, &R>(rt, alloc, list, places_wanted(stay))?;
+    let places = places_of(alloc, &node, seats, stay, &listener, &reading)?;
+    output.print(&Notice::Listening(stay.port))?;
+    if let Some(reading) = stay.reading {
+        output.print(&Notice::Reading(reading.port))?;
+    }
+    output.flush()?;
+    let mut telling = Telling::new(alloc, output, stay.is_quiet);
+    serve_forever(rt, alloc, places, &mut telling).map_err(stop_of)
+}
+
+/// Starts a node of a log, and serves links to it without an end: a place is given back when its link ends. Prints `listening`
+/// and the port once links can be opened, `reading` and the other port where there is one, and `ended` and its number for
+/// each link when it ends.
+///
+/// It ends, and the status is 1, only where one of these happens: `refused 93` where a port can't be listened to,
+/// `refused 90` where memory ran out for the node or its threads, and no line where those first lines can't be written.
+/// Later lines that can't be written are lost, and the node serves on. Each link that opens and ends, each change that is
+/// refused, and each accept that failed is told to `errors` in words. Cost: that of `start` and of `serve_forever`.
+pub fn run_stay<
+    R: Net<Listener = TcpListener, Stream = TcpStream> + Threads + Wait + Clock + Sync,
+    W: Write,
+    E: Write,
+>(rt: &R, alloc: Global, config: Config, stay: &Stay, writer: &mut W, errors: &mut E) -> u8
+    ensures { result ≤ 1 }
+{
+    let mut output = Output::new(alloc, writer, errors);
+    let list = NewList::new(config);
+    match stay_list::<Brand, R, W, E>(rt, alloc, stay, list, &mut output) {
+        Ok(()) => 0,
+        Err(stop) => output.stop(stop),
+    }
+}

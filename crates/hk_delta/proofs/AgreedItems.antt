@@ -1,0 +1,359 @@
+-- Items absorbed one after the other: what is learnt of them, and what a join of their fragment leaves.
+use Rattle.std.proofs.Common.{◌≡◌, refl, sym, ap, ◌∙◌, subst, ℕ, ◌-◌, Bool, true, false, cond, not, ◌&&◌, ◌||◌, ◌==◌, Option, Some, None, List, [], ◌∷◌, ◌++◌, length, get_or, zero, suc, ◌<◌, ◌≤◌, max, arith, nat_le, nat_lt, Result, Ok, Err, ◌⊎◌, inl, inr, true≢false, leb-false, eq-eqb}
+use Rattle.std.proofs.lemmas.Bool.{lt-leb, lt-ltb, or_parts, eqb-true}
+use Rattle.std.proofs.lemmas.List.{append-nil, append_assoc}
+use Rattle.std.proofs.lemmas.List.Elements.{All-nil, All-cons, All-append}
+use Rattle.std.specs.FinMap as finmap
+use Rattle.hk_types.specs.Values.{RowValue, ConfigValue, same_row}
+use Rattle.hk_types.specs.declared.faults.Refusal.{Refusal}
+use Rattle.hk_types.specs.declared.faults.Refusal.TheVariants.{ForeignLog, WrongStreams, Gap, Conflict, Memory}
+use Rattle.hk_types.specs.declared.version_key.VersionKey.{VersionKey}
+use Rattle.hk_log.specs.Items.{EntryValue}
+use Rattle.hk_log.specs.declared.item.Item.{Item}
+use Rattle.hk_log.specs.declared.item.Item.TheVariants.{Commit, Closed}
+use Rattle.hk_model.specs.declared.took.Took.{Took}
+use Rattle.hk_model.specs.declared.took.Took.TheVariants.{Taken, Repeated}
+use Rattle.hk_model.specs.History.Facts.{rows_of, ends_of}
+use Rattle.hk_model.specs.History.Rows.{version_key_cmp}
+use Rattle.hk_model.specs.Replica.Content.{Content, readable, least_closed, at_most, ended_by, without_ended}
+use Rattle.hk_model.specs.Replica.Fragments.{FragmentValue, part}
+use Rattle.hk_model.specs.Replica.Items.{wrong_log}
+use Rattle.hk_model.specs.Replica.Lawful.{IsItem, IsLawful}
+use Rattle.hk_model.specs.Replica.Maps.{values_conflict, union, maps_conflict}
+use Rattle.hk_model.specs.Replica.Replicas.{content_after_take}
+use Rattle.hk_model.specs.Replica.Rules.{took, take_result, take_result_unless, absorb_result, entry_conflicts, with_items, join_result, content_after_join, contents_conflict}
+use Rattle.hk_model.specs.Replica.Streams.{StreamContent, stream_at, streams_of, all_together, unknown}
+use Rattle.hk_model.proofs.Changes.{no_more_facts, same_if_outcome}
+use Rattle.hk_model.proofs.Lawful.{taken_keeps, fits_within}
+use Rattle.hk_model.proofs.Logs.{fact_row, fact_end, row_born, end_dead, row_found, end_found}
+use Rattle.hk_model.proofs.Maps.{version_key_total, version_key_same, get-retain, get-without_ended, no_entry_conflict}
+use Rattle.hk_model.proofs.Members.{In}
+use Rattle.hk_model.proofs.Sets.{all_together-streams_of}
+use Rattle.hk_model.proofs.Streams.{as_many_together, no_gap_at_0}
+use Rattle.hk_model.proofs.Writes.{All_In}
+use Rattle.hk_store.proofs.SameRows.{same_value}
+use Rattle.hk_delta.specs.declared.agreeing.News.{News}
+use Rattle.hk_delta.specs.Agreeing.{content_taken, then_take, take_all, absorb_all, if_taken, taken_items, fragment_of_taken, tells_nothing, contradicts, learnt, Learns, IsAbove, DoAgree, IsLearnt}
+use Rattle.hk_delta.proofs.MapsInConflict.{union_assoc, still_agrees, union_conflicts, rows_both, ends_both}
+use Rattle.hk_delta.proofs.StreamsInTurn.{streams_after, streams_none}
+use Rattle.hk_delta.proofs.UnionOfLists.{part_is}
+use Rattle.hk_delta.proofs.WrongLogs.{count_streams}
+
+-- ---- one after the other
+
+pub take_all-append : (r : Result Content Refusal) (xs ys : List Item) → take_all r (xs ++ ys) ≡ take_all (take_all r xs) ys
+take_all-append r [] ys = refl
+take_all-append r (x ∷ xs) ys = take_all-append (then_take r x) xs ys
+
+pub stays_refused : (why : Refusal) (xs : List Item) → take_all (Err why) xs ≡ Err why
+stays_refused why [] = refl
+stays_refused why (x ∷ xs) = stays_refused why xs
+
+refusal_is_none : (why : Refusal) (d : Content) → ◌≡◌ {A = Result Content Refusal} (Err why) (Ok d) → ⊥
+refusal_is_none why d e = cc
+
+same_content : (c d : Content) → ◌≡◌ {A = Result Content Refusal} (Ok c) (Ok d) → c ≡ d
+same_content c d e = cc
+
+-- the items taken of a list with one item more
+pub taken_more : (xs : List Item) (c d : Content) (x : Item) → absorb_all c xs ≡ Ok d → taken_items c (xs ++ x ∷ []) ≡ taken_items c xs ++ if_taken (took d x) x
+taken_more [] c d x e = append-nil (if_taken (took c x) x) ∙ ap (λ (k : Content). if_taken (took k x) x) (same_content c d e)
+taken_more (y ∷ ys) c d x e = by (take_result c y) refl (λ h. taken_more ys (content_after_take c (take_result c y)) d x h)
+  where
+    by : (r : Result (Took × Content) Refusal) → take_result c y ≡ r → (absorb_all (content_after_take c (take_result c y)) ys ≡ Ok d → taken_items (content_after_take c (take_result c y)) (ys ++ x ∷ []) ≡ taken_items (content_after_take c (take_result c y)) ys ++ if_taken (took d x) x)
+        → taken_items c (y ∷ ys ++ x ∷ []) ≡ taken_items c (y ∷ ys) ++ if_taken (took d x) x
+    by (Ok told) is more =
+        let rest = more (ap (λ (r : Result (Took × Content) Refusal). take_all (Ok (content_after_take c r)) ys) is ∙ sym (ap (λ (r : Result (Took × Content) Refusal). take_all (content_taken r) ys) is) ∙ e) in
+        ap (λ l. if_taken (took c y) y ++ l) rest
+        ∙ sym (append_assoc (if_taken (took c y) y) (taken_items (content_after_take c (take_result c y)) ys) (if_taken (took d x) x))
+    by (Err why) is more = absurd (refusal_is_none why d (sym (stays_refused why ys) ∙ sym (ap (λ (r : Result (Took × Content) Refusal). take_all (content_taken r) ys) is) ∙ e))
+
+-- ---- what is learnt
+
+took_is : (c : Content) (x : Item) → took c x ≡ cond (tells_nothing c.streams x) Repeated Taken
+took_is c (Commit e) = refl
+took_is c (Closed m) = refl
+
+shuffled : (a b p q f : Bool) → (((a || b) || (p || q)) || f) ≡ ((a || p) || ((b || q) || f))
+shuffled true b p q f = refl
+shuffled false true true q f = refl
+shuffled false true false q f = refl
+shuffled false false true q f = refl
+shuffled false false false q f = refl
+
+-- the readable mark is no later than the closed time of a stream
+least_at : (streams : List StreamContent) (i : ℕ) → i < length streams → least_closed streams ≤ (get_or streams i unknown).closed
+least_at [] i l = absurd (omega arith)
+least_at (s ∷ []) zero l = omega arith
+least_at (s ∷ []) (suc i) l = absurd (omega arith)
+least_at (s ∷ t ∷ more) zero l = omega arith
+least_at (s ∷ t ∷ more) (suc i) l = let rest = least_at (t ∷ more) i (omega arith) in omega arith
+
+module _ (c : Content) (lawful : IsLawful c) where
+  abbrev after : List Item → Content
+  after items = with_items c items
+
+  pub as_many : (items : List Item) → length (after items).streams ≡ length c.streams
+  as_many items = as_many_together c.streams (streams_of (length c.streams) items) (count_streams (length c.streams) items)
+
+  -- items beside what was taken of others
+  pub with_more : (p q : List Item) → with_items (after p) q ≡ after (p ++ q)
+  with_more p q = λ i. record {
+    log = c.log;
+    horizon = c.horizon;
+    rows = (union_assoc c.rows (rows_of p) (rows_of q) ∙ ap (union c.rows) (rows_both p q)) i;
+    ends = (union_assoc c.ends (ends_of p) (ends_of q) ∙ ap (union c.ends) (ends_both p q)) i;
+    streams = (ap (λ n. all_together (after p).streams (streams_of n q)) (as_many p) ∙ streams_after c.streams lawful.streams p q) i;
+  }
+
+  pub with_none : after [] ≡ c
+  with_none = λ i. record { log = c.log; horizon = c.horizon; rows = no_more_facts c.rows i; ends = no_more_facts c.ends i; streams = streams_none c.streams lawful.streams i }
+
+  pub none_agree : DoAgree c []
+  none_agree = record {
+    each = All-nil IsItem;
+    late = All-nil (IsAbove c.horizon);
+    rows = no_conflict_with_none same_row c.rows;
+    ends = no_conflict_with_none (λ a b. a == b) c.ends;
+  }
+    where
+      no_conflict_with_none : {X : Type 0} (same : X → X → Bool) (m : finmap.FinMap version_key_cmp X) → maps_conflict same m (finmap.from_entries []) ≡ false
+      no_conflict_with_none same m = no_entry_conflict version_key_total version_key_same same m (finmap.from_entries []) (λ v.
+          ap (values_conflict same (finmap.get m v)) (finmap.get-from_entries version_key_total [] v) ∙ with_nothing same (finmap.get m v))
+        where
+          with_nothing : {X : Type 0} (same : X → X → Bool) (o : Option X) → values_conflict same o None ≡ false
+          with_nothing same None = refl
+          with_nothing same (Some x) = refl
+
+  -- with items that agree, and what was learnt of them
+  module _ (items : List Item) (agree : DoAgree c items) (own : IsLawful (after items)) (n : News) (facts : n.facts ≡ record { rows = rows_of items; ends = ends_of items }) (all : n.all ≡ (after items).streams) where
+    conflicts_same : (e : EntryValue) → entry_conflicts (after items) e ≡ contradicts c n (Commit e)
+    conflicts_same e =
+        let late = λ (s : List StreamContent). nat_le e.time (stream_at s e.stream).closed in
+        let rows = rows_of (Commit e ∷ []) in
+        let ends = ends_of (Commit e ∷ []) in
+        (λ i. union_conflicts same_row same_value c.rows (rows_of items) rows agree.rows i || union_conflicts (λ a b. a == b) eqb-true c.ends (ends_of items) ends agree.ends i || late (after items).streams)
+        ∙ shuffled (maps_conflict same_row c.rows rows) (maps_conflict same_row (rows_of items) rows) (maps_conflict (λ a b. a == b) c.ends ends) (maps_conflict (λ a b. a == b) (ends_of items) ends) (late (after items).streams)
+        ∙ (λ i. (maps_conflict same_row c.rows rows || maps_conflict (λ a b. a == b) c.ends ends) || ((maps_conflict same_row (sym facts i).rows rows || maps_conflict (λ a b. a == b) (sym facts i).ends ends) || late (sym all i)))
+
+    module _ (x : Item) (fits : wrong_log c.log (length c.streams) x ≡ None) where
+      fits_here : wrong_log c.log (length (after items).streams) x ≡ None
+      fits_here = ap (λ k. wrong_log c.log k x) (as_many items) ∙ fits
+
+      absorbs : take_result (after items) x ≡ absorb_result (after items) x
+      absorbs = ap (take_result_unless (after items) x) fits_here
+
+      pub repeats : IsItem x → tells_nothing n.all x ≡ true → take_result (after items) x ≡ Ok (Repeated, after items)
+      repeats w told = absorbs ∙ by x w fits_here (ap (λ s. tells_nothing s x) (sym all) ∙ told)
+        where
+          by : (x : Item) → IsItem x → wrong_log c.log (length (after items).streams) x ≡ None → tells_nothing (after items).streams x ≡ true → absorb_result (after items) x ≡ Ok (Repeated, after items)
+          by (Commit e) w f t = ap (λ b. cond b (Ok (Repeated, after items)) (cond (entry_conflicts (after items) e) (Err Conflict) (Ok (Taken, with_items (after items) (Commit e ∷ []))))) t
+          by (Closed m) w f t =
+              let above = w.stream_least in
+              let within = fits_within c.log (length (after items).streams) (Closed m) f in
+              λ i. Ok (cond (t i) Repeated Taken, same_if_outcome (after items) own m (omega arith) within t i)
+
+      pub takes : tells_nothing n.all x ≡ false → contradicts c n x ≡ false → take_result (after items) x ≡ Ok (Taken, with_items (after items) (x ∷ []))
+      takes new clear = absorbs ∙ by x (ap (λ s. tells_nothing s x) (sym all) ∙ new) clear
+        where
+          by : (x : Item) → tells_nothing (after items).streams x ≡ false → contradicts c n x ≡ false → absorb_result (after items) x ≡ Ok (Taken, with_items (after items) (x ∷ []))
+          by (Commit e) t clear =
+              (λ i. cond (t i) (Ok (Repeated, after items)) (cond (entry_conflicts (after items) e) (Err Conflict) (Ok (Taken, with_items (after items) (Commit e ∷ [])))))
+              ∙ ap (λ b. cond b (Err Conflict) (Ok (Taken, with_items (after items) (Commit e ∷ [])))) (conflicts_same e ∙ clear)
+          by (Closed m) t clear = ap (λ b. Ok (cond b Repeated Taken, with_items (after items) (Closed m ∷ []))) t
+
+      pub refuses : tells_nothing n.all x ≡ false → contradicts c n x ≡ true → take_result (after items) x ≡ Err Conflict
+      refuses new clear = absorbs ∙ by x (ap (λ s. tells_nothing s x) (sym all) ∙ new) clear
+        where
+          by : (x : Item) → tells_nothing (after items).streams x ≡ false → contradicts c n x ≡ true → absorb_result (after items) x ≡ Err Conflict
+          by (Commit e) t clear =
+              (λ i. cond (t i) (Ok (Repeated, after items)) (cond (entry_conflicts (after items) e) (Err Conflict) (Ok (Taken, with_items (after items) (Commit e ∷ [])))))
+              ∙ ap (λ b. cond b (Err Conflict) (Ok (Taken, with_items (after items) (Commit e ∷ [])))) (conflicts_same e ∙ clear)
+          by (Closed m) t clear = absurd (true≢false (sym clear))
+
+      -- an entry that is taken is above the horizon
+      is_above : IsItem x → contradicts c n x ≡ false → IsAbove c.horizon x
+      is_above w clear = by x w fits_here clear
+        where
+          by : (x : Item) → IsItem x → wrong_log c.log (length (after items).streams) x ≡ None → contradicts c n x ≡ false → IsAbove c.horizon x
+          by (Closed m) w f clear = tt
+          by (Commit e) w f clear =
+              let test = (or_parts (maps_conflict same_row (after items).rows (rows_of (Commit e ∷ [])) || maps_conflict (λ a b. a == b) (after items).ends (ends_of (Commit e ∷ []))) (nat_le e.time (stream_at (after items).streams e.stream).closed) (conflicts_same e ∙ clear)).1 in
+              let late = leb-false e.time (stream_at (after items).streams e.stream).closed test in
+              let first = w.stream_least in
+              let within = fits_within c.log (length (after items).streams) (Commit e) f in
+              let least = least_at (after items).streams (e.stream - 1) (omega arith) in
+              let reach = own.in_reach in
+              omega arith
+
+      -- it agrees with the content, as the others do
+      pub one_agrees : IsItem x → contradicts c n x ≡ false → DoAgree c (items ++ x ∷ [])
+      one_agrees w clear =
+          let now = facts_agree x clear in
+          record {
+            each = All-append IsItem items (x ∷ []) agree.each (All-cons IsItem x [] w (All-nil IsItem));
+            late = All-append (IsAbove c.horizon) items (x ∷ []) agree.late (All-cons (IsAbove c.horizon) x [] (is_above w clear) (All-nil (IsAbove c.horizon)));
+            rows = ap (maps_conflict same_row c.rows) (sym (rows_both items (x ∷ []))) ∙ still_agrees same_row c.rows (rows_of items) (rows_of (x ∷ [])) agree.rows now.0;
+            ends = ap (maps_conflict (λ a b. a == b) c.ends) (sym (ends_both items (x ∷ []))) ∙ still_agrees (λ a b. a == b) c.ends (ends_of items) (ends_of (x ∷ [])) agree.ends now.1;
+          }
+        where
+          facts_agree : (x : Item) → contradicts c n x ≡ false → (maps_conflict same_row c.rows (rows_of (x ∷ [])) ≡ false) × (maps_conflict (λ a b. a == b) c.ends (ends_of (x ∷ [])) ≡ false)
+          facts_agree (Closed m) clear = (none_agree.rows, none_agree.ends)
+          facts_agree (Commit e) clear = or_parts (maps_conflict same_row c.rows (rows_of (Commit e ∷ []))) (maps_conflict (λ a b. a == b) c.ends (ends_of (Commit e ∷ []))) (or_parts (maps_conflict same_row c.rows (rows_of (Commit e ∷ [])) || maps_conflict (λ a b. a == b) c.ends (ends_of (Commit e ∷ []))) _ clear).0
+
+  -- ---- the loop
+
+  pub nothing_learnt : (n : News) → n.facts ≡ record { rows = finmap.from_entries []; ends = finmap.from_entries [] } → n.got ≡ streams_of (length c.streams) [] → n.all ≡ c.streams → IsLearnt c [] n
+  nothing_learnt n facts got all = record {
+    absorbed = ap Ok (sym with_none);
+    before = lawful;
+    lawful = subst IsLawful (sym with_none) lawful;
+    agree = none_agree;
+    facts = facts;
+    got = got;
+    all = all ∙ sym (streams_none c.streams lawful.streams);
+  }
+
+  pub one_learnt : (items : List Item) (n m : News) (x : Item) → IsLearnt c items n → Learns c n m x (Ok tt) → IsLearnt c (items ++ x ∷ []) m
+  one_learnt items n m x l s = elim s.2 [ inl k ↦ again k.0 k.1 | inr k ↦ new k.0 k.1 k.2 ]
+    where
+      own : List Item
+      own = taken_items c items
+
+      all_here : absorb_all c (items ++ x ∷ []) ≡ content_taken (take_result (after (taken_items c items)) x)
+      all_here = take_all-append (Ok c) items (x ∷ []) ∙ ap (λ r. take_all r (x ∷ [])) l.absorbed
+
+      took_here : took (after (taken_items c items)) x ≡ cond (tells_nothing n.all x) Repeated Taken
+      took_here = took_is (after (taken_items c items)) x ∙ ap (λ s. cond (tells_nothing s x) Repeated Taken) (sym l.all)
+
+      again : tells_nothing n.all x ≡ true → m ≡ n → IsLearnt c (items ++ x ∷ []) m
+      again told same =
+          let kept : taken_items c (items ++ x ∷ []) ≡ taken_items c items = taken_more items c (after (taken_items c items)) x l.absorbed ∙ ap (λ t. taken_items c items ++ if_taken t x) (took_here ∙ ap (λ b. cond b Repeated Taken) told) ∙ append-nil (taken_items c items) in
+          let left : absorb_all c (items ++ x ∷ []) ≡ Ok (after (taken_items c items)) = all_here ∙ ap content_taken (repeats (taken_items c items) l.agree l.lawful n l.facts l.all x s.0 s.1 told) in
+          record {
+            absorbed = left ∙ ap (λ k. Ok (after k)) (sym kept);
+            before = lawful;
+            lawful = subst (λ k. IsLawful (after k)) (sym kept) l.lawful;
+            agree = subst (DoAgree c) (sym kept) l.agree;
+            facts = ap (λ (k : News). k.facts) same ∙ l.facts ∙ (λ i. record { rows = rows_of (sym kept i); ends = ends_of (sym kept i) });
+            got = ap (λ (k : News). k.got) same ∙ l.got ∙ ap (streams_of (length c.streams)) (sym kept);
+            all = ap (λ (k : News). k.all) same ∙ l.all ∙ ap (λ k. all_together c.streams (streams_of (length c.streams) k)) (sym kept);
+          }
+
+      new : tells_nothing n.all x ≡ false → contradicts c n x ≡ false → m ≡ learnt n x → IsLearnt c (items ++ x ∷ []) m
+      new told clear same =
+          let kept : taken_items c (items ++ x ∷ []) ≡ taken_items c items ++ x ∷ [] = taken_more items c (after (taken_items c items)) x l.absorbed ∙ ap (λ t. taken_items c items ++ if_taken t x) (took_here ∙ ap (λ b. cond b Repeated Taken) told) in
+          let gave = takes (taken_items c items) l.agree l.lawful n l.facts l.all x s.0 told clear in
+          let left : absorb_all c (items ++ x ∷ []) ≡ Ok (after (taken_items c items ++ x ∷ [])) = all_here ∙ ap content_taken gave ∙ ap Ok (with_more (taken_items c items) (x ∷ [])) in
+          let still : IsLawful (after (taken_items c items ++ x ∷ [])) = subst IsLawful (with_more (taken_items c items) (x ∷ [])) (taken_keeps (after (taken_items c items)) x l.lawful s.1 Taken (with_items (after (taken_items c items)) (x ∷ [])) gave) in
+          let many : length n.got ≡ length c.streams = ap length l.got ∙ count_streams (length c.streams) (taken_items c items) in
+          let many_all : length n.all ≡ length c.streams = ap length l.all ∙ as_many (taken_items c items) in
+          record {
+            absorbed = left ∙ ap (λ k. Ok (after k)) (sym kept);
+            before = lawful;
+            lawful = subst (λ k. IsLawful (after k)) (sym kept) still;
+            agree = subst (DoAgree c) (sym kept) (one_agrees (taken_items c items) l.agree l.lawful n l.facts l.all x s.0 s.1 clear);
+            facts = ap (λ (k : News). k.facts) same
+                ∙ (λ i. record { rows = union (l.facts i).rows (rows_of (x ∷ [])); ends = union (l.facts i).ends (ends_of (x ∷ [])) })
+                ∙ (λ i. record { rows = rows_both (taken_items c items) (x ∷ []) i; ends = ends_both (taken_items c items) (x ∷ []) i })
+                ∙ (λ i. record { rows = rows_of (sym kept i); ends = ends_of (sym kept i) });
+            got = ap (λ (k : News). k.got) same
+                ∙ (λ i. all_together (l.got i) (streams_of (many i) (x ∷ [])))
+                ∙ all_together-streams_of (length c.streams) (taken_items c items) (x ∷ [])
+                ∙ ap (streams_of (length c.streams)) (sym kept);
+            all = ap (λ (k : News). k.all) same
+                ∙ (λ i. all_together (l.all i) (streams_of (many_all i) (x ∷ [])))
+                ∙ streams_after c.streams lawful.streams (taken_items c items) (x ∷ [])
+                ∙ ap (λ k. all_together c.streams (streams_of (length c.streams) k)) (sym kept);
+          }
+
+  pub one_refused : (items more : List Item) (n m : News) (x : Item) (why : Refusal) → IsLearnt c items n → Learns c n m x (Err why) → (absorb_all c (items ++ x ∷ more) ≡ Err why) ⊎ (why ≡ Memory)
+  one_refused items more n m x why l s =
+      elim s [
+        | inl e ↦ inl (refused (ap (take_result_unless (after (taken_items c items)) x) (ap (λ k. wrong_log c.log k x) (as_many (taken_items c items)) ∙ e)))
+        | inr k ↦ elim k [
+          | inl f ↦ inl (refused (refuses (taken_items c items) l.agree l.lawful n l.facts l.all x f.0 f.1 f.2 ∙ ap Err (sym f.3)))
+          | inr g ↦ inr g
+        ]
+      ]
+    where
+      refused : take_result (after (taken_items c items)) x ≡ Err why → absorb_all c (items ++ x ∷ more) ≡ Err why
+      refused e = take_all-append (Ok c) items (x ∷ more) ∙ ap (λ r. take_all r (x ∷ more)) l.absorbed ∙ ap (λ r. take_all (content_taken r) more) e ∙ stays_refused why more
+
+  -- ---- the join
+
+  kept_all : {X : Type 0} (b : Bool) (o : Option X) → ((x : X) → o ≡ Some x → b ≡ true) → cond b o None ≡ o
+  kept_all true o f = refl
+  kept_all false None f = refl
+  kept_all false (Some x) f = absurd (true≢false (sym (f x refl)))
+
+  -- no end at most a time that all of them are above
+  none_ended : (h : ℕ) (o : Option ℕ) → ((d : ℕ) → o ≡ Some d → h < d) → not (at_most h o) ≡ true
+  none_ended h None f = refl
+  none_ended h (Some d) f = ap not (lt-leb d h (f d refl))
+
+  all_left : (h : ℕ) (ends : finmap.FinMap version_key_cmp ℕ) → ((v : VersionKey) (d : ℕ) → finmap.get ends v ≡ Some d → h < d) → without_ended ends h ends ≡ ends
+  all_left h ends later = finmap.same_map version_key_total version_key_same _ _ (λ v. get-without_ended ends h ends v ∙ ap (λ b. cond b (finmap.get ends v) None) (none_ended h (finmap.get ends v) (later v)))
+
+  abbrev config : ConfigValue
+  config = record { log = c.log; streams = length c.streams }
+
+  module _ (items : List Item) (agree : DoAgree c items) where
+    late : (e : EntryValue) → In (Commit e) items → c.horizon < e.time
+    late e i = All_In (IsAbove c.horizon) items agree.late (Commit e) i
+
+    late_row : (v : VersionKey) (r : RowValue) → finmap.get (rows_of items) v ≡ Some r → c.horizon < v.born
+    late_row v r e = let f = fact_row v r items (row_found items v r e) in let b = row_born v r f.0 f.2 in let l = late f.0 f.1 in omega arith
+
+    late_end : (v : VersionKey) (d : ℕ) → finmap.get (ends_of items) v ≡ Some d → c.horizon < d
+    late_end v d e = let f = fact_end v d items (end_found items v d e) in let b = end_dead v d f.0 f.2 in let l = late f.0 f.1 in omega arith
+
+    abbrev sent : FragmentValue
+    sent = record { base = 0; content = record { log = c.log; horizon = 0; rows = rows_of items; ends = ends_of items; streams = streams_of (length c.streams) items } }
+
+    no_rise : max c.horizon 0 ≡ c.horizon
+    no_rise = omega arith
+
+    own_rows : finmap.retain_keys c.rows (λ v. nat_lt (max c.horizon 0) v.born || (((c.horizon == max c.horizon 0) || nat_lt 0 0) && not (ended_by c.ends (max c.horizon 0) v))) ≡ c.rows
+    own_rows = finmap.same_map version_key_total version_key_same _ _ (λ v.
+        get-retain version_key_total version_key_same c.rows (λ v. nat_lt (max c.horizon 0) v.born || (((c.horizon == max c.horizon 0) || nat_lt 0 0) && not (ended_by c.ends (max c.horizon 0) v))) v
+        ∙ ap (λ b. cond b (finmap.get c.rows v) None) (stays (nat_lt (max c.horizon 0) v.born) (c.horizon == max c.horizon 0) (not (ended_by c.ends (max c.horizon 0) v)) (eq-eqb c.horizon (max c.horizon 0) (sym no_rise)) (none_ended (max c.horizon 0) (finmap.get c.ends v) (λ d e. let a = lawful.end_above v d e in omega arith))))
+      where
+        stays : (a s k : Bool) → s ≡ true → k ≡ true → (a || ((s || nat_lt 0 0) && k)) ≡ true
+        stays true s k e f = refl
+        stays false true true e f = refl
+        stays false true false e f = f
+        stays false false k e f = absurd (true≢false (sym e))
+
+    sent_rows : finmap.retain_keys (rows_of items) (λ v. nat_lt (max c.horizon 0) v.born || ((0 == 0) && (0 == max c.horizon 0))) ≡ rows_of items
+    sent_rows = finmap.same_map version_key_total version_key_same _ _ (λ v.
+        get-retain version_key_total version_key_same (rows_of items) (λ v. nat_lt (max c.horizon 0) v.born || ((0 == 0) && (0 == max c.horizon 0))) v
+        ∙ kept_all (nat_lt (max c.horizon 0) v.born || ((0 == 0) && (0 == max c.horizon 0))) (finmap.get (rows_of items) v) (λ r e.
+        let l = late_row v r e in
+        let above : max c.horizon 0 < v.born = omega arith in
+        ap (λ b. b || ((0 == 0) && (0 == max c.horizon 0))) (lt-ltb (max c.horizon 0) v.born above)))
+
+    joined : content_after_join c sent ≡ after items
+    joined = λ i. record {
+      log = c.log;
+      horizon = no_rise i;
+      rows = union (own_rows i) (sent_rows i);
+      ends = union (all_left (max c.horizon 0) c.ends (λ v d e. let a = lawful.end_above v d e in omega arith) i) (all_left (max c.horizon 0) (ends_of items) (λ v d e. let a = late_end v d e in omega arith) i);
+      streams = all_together c.streams (streams_of (length c.streams) items);
+    }
+
+    no_conflict : contents_conflict c sent.content ≡ false
+    no_conflict = λ i. agree.rows i || agree.ends i
+
+    sent_joins : join_result c sent ≡ Ok (after items)
+    sent_joins = λ i.
+        cond (not (eq-eqb c.log c.log refl i)) (Err ForeignLog)
+        (cond (not (eq-eqb (length (streams_of (length c.streams) items)) (length c.streams) (count_streams (length c.streams) items) i)) (Err WrongStreams)
+        (cond (no_gap_at_0 (readable c) i) (Err (Gap 0 (readable c)))
+        (cond (no_conflict i) (Err Conflict) (Ok (joined i)))))
+
+    pub joins : join_result c (part config items 0 0) ≡ Ok (after items)
+    joins = ap (join_result c) (part_is config items agree.each) ∙ sent_joins
+
+  pub all_agree : (items : List Item) (n : News) (f : FragmentValue) → IsLearnt c items n → f ≡ fragment_of_taken c items → (f ≡ fragment_of_taken c items) × ((d : Content) × (absorb_all c items ≡ Ok d) × (join_result c f ≡ Ok d))
+  all_agree items n f l is = (is, (after (taken_items c items), l.absorbed, ap (join_result c) is ∙ joins (taken_items c items) l.agree))

@@ -1,0 +1,149 @@
+//! Items that agree with a state, as a fragment of what is new.
+
+ghost use Rattle.std.specs.Prelude.{◌≡◌, ◌≤◌, length, None, OnOk, IfErr};
+ghost use Rattle.std.specs.List.{list_any};
+ghost use Rattle.hk_types.specs.declared.faults.Refusal.TheVariants.{Memory};
+ghost use Rattle.hk_model.specs.Replica.Items.{stream_no};
+ghost use Rattle.hk_model.specs.Replica.Lawful.{IsItem};
+ghost use Rattle.hk_model.specs.Replica.Rules.{contents_conflict};
+ghost use Rattle.hk_store.specs.Versions.{value_conflicts_at};
+ghost use Rattle.hk_delta.specs.Agreeing as spec;
+ghost use Rattle.hk_delta.specs.Agreeing.{Agrees, Learns, LearnsAll, facts_with};
+
+use crate::Fragment;
+use crate::cutting::left_of;
+use crate::gathering::note_item;
+use hk_log::{Item, Version};
+use hk_marks::Got;
+use hk_state::{ReplicaState, wrong_log};
+use hk_store::Facts;
+use hk_types::{Refusal, Time, VersionKey};
+use std::alloc::Global;
+
+/// What items tell a state that is new, with the numbers and marks of both together.
+#[derive(Drop)]
+pub struct News {
+    /// The rows and ends of the new items.
+    pub facts: Facts,
+    /// The numbers and marks of the new items.
+    pub got: Got,
+    /// The numbers and marks of the state with those of the new items.
+    pub all: Got,
+}
+
+/// Whether an item tells these streams nothing new.
+fn tells_nothing(all: &Got, item: &Item) -> bool
+    requires { stream_no item.now ≤ length all.now }
+    ensures value { result ≡ spec.tells_nothing all.now item.now }
+    ensures lawful { IsItem item.now }
+{
+    match item {
+        Item::Commit(entry) => all.has(entry.stream(), entry.number()),
+        Item::Closed(mark) => all.adds_nothing(mark.stream(), mark.n(), mark.m()),
+    }
+}
+
+/// Whether an item gives a version another row or another end than the state or the news, or is an entry whose time is
+/// at most the closed time of its stream.
+fn contradicts(state: &ReplicaState, news: &News, item: &Item) -> bool
+    requires { stream_no item.now ≤ length news.now.all }
+    ensures { result ≡ spec.contradicts state.now news.now item.now }
+{
+    match item {
+        Item::Commit(entry) => {
+            state.facts().conflicts_with_entry(entry)
+                || news.facts.conflicts_with_entry(entry)
+                || entry.time() <= news.all.closed(entry.stream())
+        }
+        Item::Closed(_) => false,
+    }
+}
+
+/// Adds the rows and ends of an item.
+fn add_facts(facts: &mut Facts, item: &Item) -> Result<(), Refusal>
+    ensures ok { OnOk result (facts.new ≡ facts_with facts.old item.now) }
+    ensures err { IfErr result (λ why. why ≡ Memory) }
+{
+    match item {
+        Item::Commit(entry) => facts.add_entry(entry),
+        Item::Closed(_) => Ok(()),
+    }
+}
+
+/// Learns an item, after it was tested as an absorb tests it.
+fn learn(state: &ReplicaState, news: &mut News, item: &Item) -> Result<(), Refusal>
+    requires got { length news.old.got ≡ length state.now.streams }
+    requires all { length news.old.all ≡ length state.now.streams }
+    ensures { Learns state.now news.old news.new item.now result }
+{
+    let config = state.config();
+    if let Some(why) = wrong_log(config, item) {
+        return Err(why);
+    }
+    if tells_nothing(&news.all, item) {
+        return Ok(());
+    }
+    if contradicts(state, news, item) {
+        return Err(Refusal::Conflict);
+    }
+    add_facts(&mut news.facts, item)?;
+    note_item(&mut news.got, config, item)?;
+    note_item(&mut news.all, config, item)?;
+    Ok(())
+}
+
+/// Learns items, one after the other, up to the first refusal.
+fn learn_all(alloc: Global, state: &ReplicaState, items: &[Item]) -> Result<News, Refusal>
+    ensures { LearnsAll state.now items.now result }
+{
+    // Its clause says that the state is lawful.
+    state.horizon();
+    let mut news = News {
+        facts: Facts::new(alloc),
+        got: Got::new(alloc, state.config())?,
+        all: state.got().copy(alloc)?,
+    };
+    for item in items {
+        if let Err(why) = learn(state, &mut news, item) {
+            return Err(why);
+        }
+    }
+    Ok(news)
+}
+
+/// The fragment of those of the items that tell a state something new, with base 0 and horizon 0. Joining it leaves what
+/// absorbing the items one after the other leaves.
+///
+/// The first item that an absorb would refuse is refused as there: of another log `ForeignLog`, of a stream above the
+/// configured number `WrongStreams`, and one that contradicts the state or an item before it `Conflict`. `Memory` comes
+/// where a growth was refused, also before an item that would be refused. The state is only read.
+///
+/// Cost: O(s + (e + i + w) · log n + b), s streams, e extra numbers and waiting marks of the state, i items, w their
+/// writes, n all these and the facts of the state, b bytes of bodies compared, or copied twice.
+pub fn agreed(alloc: Global, state: &ReplicaState, items: &[Item]) -> Result<Fragment, Refusal>
+    ensures { Agrees state.now items.now result }
+{
+    let News { facts, got, .. } = learn_all(alloc, state, items)?;
+    let versions = facts.versions(alloc)?;
+    let left = left_of(alloc, Time::zero(), &versions)?;
+    let beginning = Time::zero();
+    let horizon = beginning;
+    Ok(Fragment::of_parts(state.config(), beginning, horizon, got, left))
+}
+
+/// Whether there is another row, or another end, of one of these versions.
+fn has_conflict(own: &Facts, facts: &[(VersionKey, Version)]) -> bool
+    ensures { result ≡ list_any (λ e. value_conflicts_at own.now e.0 e.1) facts.now }
+{
+    facts
+        .iter()
+        .any(|(version, known)| own.value_conflicts_at(version, known))
+}
+
+/// Whether a fragment gives a version another row or another end than a state. It takes no memory. Cost:
+/// O(c · log n + b), c versions of the fragment, n facts of the state, b bytes of bodies compared.
+pub fn conflicts_with(state: &ReplicaState, fragment: &Fragment) -> bool
+    ensures { result ≡ contents_conflict state.now fragment.now.content }
+{
+    has_conflict(state.facts(), fragment.facts())
+}

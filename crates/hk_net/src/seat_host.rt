@@ -1,0 +1,147 @@
+//! A host over one seat of a node, which can't change the node.
+
+ghost use Rattle.std.specs.Prelude.{◌≡◌, true};
+ghost use mathlib.Core.List.{IsPrefix};
+ghost use Rattle.hk_types.specs.declared.faults.FormFault.TheVariants.{BadKind};
+ghost use Rattle.hk_types.specs.declared.faults.Refusal.TheVariants.{Form};
+ghost use Rattle.hk_wire.specs.Replies.{Refused, reply_seen};
+ghost use Rattle.hk_session.specs.Steps.{query_reply, fragment_reply};
+ghost use Rattle.hk_node.specs.Replay.{is_legal, replay};
+ghost use Rattle.hk_node.specs.Replies.{node_delta, node_front, node_reply, node_whole};
+ghost use Rattle.hk_net.specs.Replying.{IsOrOutOfMemory, MayOnlyRead, front_reply};
+
+use hk_model::Query;
+use hk_node::{NodeName, ReaderSeat, Receipt};
+use hk_session::Host;
+use hk_types::{Config, FormFault, Refusal, Time};
+use hk_wire::{Reply, Request};
+use std::marker::Model;
+
+/// A host over one seat of a node, with no way to the node itself. Contracts see it as the list of operations that
+/// the seat has seen or was told of.
+///
+/// Front, Delta, Full and Ask are answered by the seat, and take no lock. Each other request is refused with 4, as a
+/// kind that has no meaning here, and nothing changed. Cost: that of the seat's calls.
+#[derive(Drop)]
+pub struct SeatHost<J: NodeName> {
+    seat: ReaderSeat<J>,
+}
+
+impl<J: NodeName> Model for SeatHost<J> {
+    ghost use Rattle.std.specs.Prelude.{◌≡◌, true, List};
+    ghost use Rattle.hk_node.specs.declared.op.Op.{Op};
+    ghost use Rattle.hk_node.specs.Replay.{is_legal};
+    ghost use Rattle.std.specs.Coded.{coded_list};
+    ghost use Rattle.hk_node.specs.contracts.op.Op as op;
+
+    ghost Value = { List Op };
+
+    ghost coded = { coded_list op.the_row.coded };
+
+    ghost view = { λ h. h.seat };
+
+    ghost invariant = { λ h. is_legal h.seat ≡ true };
+}
+
+impl<J: NodeName> SeatHost<J> {
+    /// A host over a seat.
+    pub fn new(seat: ReaderSeat<J>) -> SeatHost<J>
+        ensures { result ≡ seat }
+    {
+        let _legal = seat.seen();
+        SeatHost { seat }
+    }
+
+    /// Gives the seat back, with all that it has seen or was told of.
+    pub fn into_seat(self) -> ReaderSeat<J>
+        ensures { result ≡ self }
+    {
+        self.seat
+    }
+
+    /// The log that the node is of.
+    pub(crate) fn config(&self) -> Config
+        ensures { result ≡ J.config }
+    {
+        self.seat.config()
+    }
+
+    /// Takes in the receipt of a change.
+    pub(crate) fn learn(&mut self, receipt: Receipt<J>)
+        ensures legal { is_legal self.new ≡ true }
+        ensures seen { IsPrefix self.old self.new }
+        ensures told { IsPrefix receipt self.new }
+    {
+        self.seat.learn(receipt);
+        let _legal = self.seat.seen();
+    }
+
+    /// The reply to a change, which is let go.
+    fn no_kind<C: Drop>(&self, _change: C) -> Reply
+        ensures legal { is_legal self.now ≡ true }
+        ensures told { reply_seen result ≡ Refused (Form BadKind) }
+    {
+        let _legal = self.seat.seen();
+        Reply::Refused(Refusal::Form(FormFault::BadKind))
+    }
+
+    pub(crate) fn front(&mut self) -> Reply
+        ensures legal { is_legal self.new ≡ true }
+        ensures seen { IsPrefix self.old self.new }
+        ensures told { IsOrOutOfMemory (front_reply (node_front (replay self.new))) (reply_seen result) }
+    {
+        match self.seat.front() {
+            Ok(front) => Reply::Front(front),
+            Err(why) => Reply::Refused(why),
+        }
+    }
+
+    pub(crate) fn delta(&mut self, base: Time) -> Reply
+        ensures legal { is_legal self.new ≡ true }
+        ensures seen { IsPrefix self.old self.new }
+        ensures told { IsOrOutOfMemory (fragment_reply (node_delta (replay self.new) base)) (reply_seen result) }
+    {
+        match self.seat.delta_since(base) {
+            Ok(fragment) => Reply::Fragment(fragment),
+            Err(why) => Reply::Refused(why),
+        }
+    }
+
+    pub(crate) fn whole(&mut self) -> Reply
+        ensures legal { is_legal self.new ≡ true }
+        ensures seen { IsPrefix self.old self.new }
+        ensures told { IsOrOutOfMemory (fragment_reply (node_whole (replay self.new))) (reply_seen result) }
+    {
+        match self.seat.whole() {
+            Ok(fragment) => Reply::Fragment(fragment),
+            Err(why) => Reply::Refused(why),
+        }
+    }
+
+    pub(crate) fn ask(&mut self, time: Time, query: &Query) -> Reply
+        ensures legal { is_legal self.new ≡ true }
+        ensures seen { IsPrefix self.old self.new }
+        ensures told { IsOrOutOfMemory (query_reply (node_reply (replay self.new) time query.now)) (reply_seen result) }
+    {
+        match self.seat.ask(time, query) {
+            Ok(answer) => Reply::Answer(answer),
+            Err(why) => Reply::Refused(why),
+        }
+    }
+}
+
+impl<J: NodeName> Host for SeatHost<J> {
+    ghost may = { MayOnlyRead };
+
+    fn answer(&mut self, request: Request) -> Reply {
+        match request {
+            Request::Front => self.front(),
+            Request::Delta { base } => self.delta(base),
+            Request::Full => self.whole(),
+            Request::Ask { t, query } => self.ask(t, &query),
+            Request::Items(items) => self.no_kind(items),
+            Request::JoinThis(fragment) | Request::MergeThis(fragment) => self.no_kind(fragment),
+            Request::Prune { horizon } => self.no_kind(horizon),
+        }
+    }
+}

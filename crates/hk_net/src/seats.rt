@@ -1,0 +1,141 @@
+//! One session on a seat, which is given back.
+
+ghost use Rattle.std.specs.Prelude.{◌≡◌, ℕ, List};
+ghost use Rattle.std.specs.Thread.{IsSync};
+ghost use Rattle.std.specs.Io.KnownBytes.{Consumes};
+ghost use mathlib.Core.List.{IsPrefix};
+ghost use Rattle.hk_session.specs.Transcript.{Ends, SessionStep};
+ghost use Rattle.hk_net.specs.Guarded.{MayReplyGuarded};
+ghost use Rattle.hk_net.specs.Replying.{MayOnlyRead, MayReply};
+
+use crate::guarded_host::GuardedHost;
+use crate::node_host::NodeHost;
+use crate::seat_host::SeatHost;
+use hk_node::{Node, NodeName, ReaderSeat};
+use hk_session::{Counted, Ended, serve};
+use std::alloc::Global;
+use std::io::{Read, Write};
+use std::sync::Wait;
+use std::thread::Threads;
+
+/// Runs one session over a host of a node, and gives how it ended with the host's seat.
+pub(crate) fn serve_host<
+    J: NodeName,
+    N: Wait + Drop,
+    R: Threads + Wait + Sync,
+    I: Read + Drop,
+    O: Write + Drop,
+>(
+    alloc: Global,
+    host: NodeHost<'_, J, N, R>,
+    reader: &mut Counted<I>,
+    writer: &mut Counted<O>,
+) -> (Ended, ReaderSeat<J>)
+    requires reader { reader.old.faults ≡ 0 }
+    requires writer { writer.old.faults ≡ 0 }
+    requires ready { IsSync R.row }
+    ensures seen { IsPrefix host.entry result.1 }
+    // The bytes read, and what was done and written for them.
+    ensures transcript { (bytes : List ℕ)
+        × Consumes (I.remaining reader.old.device) (I.remaining reader.new.device) bytes
+        × SessionStep (MayReply J.config) host.entry result.1
+        (O.contents writer.old.device) (O.contents writer.new.device) bytes (Ends result.0) }
+{
+    let mut served = host;
+    let ended = serve(alloc, reader, writer, &mut served);
+    (ended, served.into_seat())
+}
+
+/// Runs one session on a seat, as `serve` over a `NodeHost`, and gives how it ended with the seat, which knows then all
+/// that it knew before and what the session added. The next session on it begins there. Cost: that of the session.
+pub fn serve_on_seat<
+    J: NodeName,
+    N: Wait + Drop,
+    R: Threads + Wait + Sync,
+    I: Read + Drop,
+    O: Write + Drop,
+>(
+    rt: &R,
+    alloc: Global,
+    node: &Node<J, N>,
+    seat: ReaderSeat<J>,
+    reader: &mut Counted<I>,
+    writer: &mut Counted<O>,
+) -> (Ended, ReaderSeat<J>)
+    requires reader { reader.old.faults ≡ 0 }
+    requires writer { writer.old.faults ≡ 0 }
+    requires ready { IsSync R.row }
+    ensures seen { IsPrefix seat result.1 }
+    // The bytes read, and what was done and written for them.
+    ensures transcript { (bytes : List ℕ)
+        × Consumes (I.remaining reader.old.device) (I.remaining reader.new.device) bytes
+        × SessionStep (MayReply J.config) seat result.1
+        (O.contents writer.old.device) (O.contents writer.new.device) bytes (Ends result.0) }
+{
+    serve_host(alloc, NodeHost::new(rt, alloc, node, seat), reader, writer)
+}
+
+/// Runs one session on a seat that only reads, as `serve` over a `SeatHost`: the node is not there to be changed. Gives
+/// how it ended with the seat, which knows then all that it knew before. Cost: that of the session.
+pub fn read_on_seat<J: NodeName, I: Read + Drop, O: Write + Drop>(
+    alloc: Global,
+    seat: ReaderSeat<J>,
+    reader: &mut Counted<I>,
+    writer: &mut Counted<O>,
+) -> (Ended, ReaderSeat<J>)
+    requires reader { reader.old.faults ≡ 0 }
+    requires writer { writer.old.faults ≡ 0 }
+    ensures seen { IsPrefix seat result.1 }
+    // The bytes read, and what was done and written for them.
+    ensures transcript { (bytes : List ℕ)
+        × Consumes (I.remaining reader.old.device) (I.remaining reader.new.device) bytes
+        × SessionStep MayOnlyRead seat result.1
+        (O.contents writer.old.device) (O.contents writer.new.device) bytes (Ends result.0) }
+{
+    let mut host = SeatHost::new(seat);
+    let ended = serve(alloc, reader, writer, &mut host);
+    (ended, host.into_seat())
+}
+
+/// Runs one session over a host of a node that tests changes first, and gives how it ended with the host's seat.
+pub(crate) fn serve_guarded<J: NodeName, N: Wait + Drop, R: Wait, I: Read + Drop, O: Write + Drop>(
+    alloc: Global,
+    host: GuardedHost<'_, J, N, R>,
+    reader: &mut Counted<I>,
+    writer: &mut Counted<O>,
+) -> (Ended, ReaderSeat<J>)
+    requires reader { reader.old.faults ≡ 0 }
+    requires writer { writer.old.faults ≡ 0 }
+    ensures seen { IsPrefix host.entry result.1 }
+    // The bytes read, and what was done and written for them.
+    ensures transcript { (bytes : List ℕ)
+        × Consumes (I.remaining reader.old.device) (I.remaining reader.new.device) bytes
+        × SessionStep (MayReplyGuarded J.config) host.entry result.1
+        (O.contents writer.old.device) (O.contents writer.new.device) bytes (Ends result.0) }
+{
+    let mut guarded = host;
+    let ended = serve(alloc, reader, writer, &mut guarded);
+    (ended, guarded.into_seat())
+}
+
+/// Runs one session on a seat, as `serve` over a `GuardedHost`, so that nothing that it asks damages the node. Gives how it
+/// ended with the seat, which knows then all that it knew before and what the session added. Cost: that of the session.
+pub fn guard_on_seat<J: NodeName, N: Wait + Drop, R: Wait, I: Read + Drop, O: Write + Drop>(
+    rt: &R,
+    alloc: Global,
+    node: &Node<J, N>,
+    seat: ReaderSeat<J>,
+    reader: &mut Counted<I>,
+    writer: &mut Counted<O>,
+) -> (Ended, ReaderSeat<J>)
+    requires reader { reader.old.faults ≡ 0 }
+    requires writer { writer.old.faults ≡ 0 }
+    ensures seen { IsPrefix seat result.1 }
+    // The bytes read, and what was done and written for them.
+    ensures transcript { (bytes : List ℕ)
+        × Consumes (I.remaining reader.old.device) (I.remaining reader.new.device) bytes
+        × SessionStep (MayReplyGuarded J.config) seat result.1
+        (O.contents writer.old.device) (O.contents writer.new.device) bytes (Ends result.0) }
+{
+    serve_guarded(alloc, GuardedHost::new(rt, node, seat), reader, writer)
+}

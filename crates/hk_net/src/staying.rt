@@ -1,0 +1,225 @@
+//! Links over TCP to a node that stays: each seat is given back for the next link.
+
+ghost use Rattle.std.specs.Prelude.{◌≡◌};
+ghost use Rattle.std.specs.Thread.{IsSend, IsSync};
+ghost use mathlib.Core.List.{IsPrefix};
+
+use crate::fault::NetFault;
+use crate::guarded_host::GuardedHost;
+use crate::link_events::{EVENTS, LinkEvent, Teller, Watch, hand_on};
+use crate::link_reader::LinkReader;
+use crate::links::drain;
+use crate::node_host::NodeHost;
+use crate::seats::{read_on_seat, serve_guarded, serve_host};
+use crossbeam_channel::{Sender, bounded};
+use hk_node::{Node, NodeName, ReaderSeat};
+use hk_session::{Counted, Ended};
+use std::alloc::{AllocError, Global};
+use std::net::{TcpListener, TcpStream};
+use std::rt::Clock;
+use std::sync::Wait;
+use std::thread;
+use std::thread::{Scope, Threads};
+use std::time::Duration;
+
+/// How many links a seat serves: nobody gets there.
+const MOST_LINKS: u64 = 1 << 62;
+
+/// How many milliseconds pass before an accept that failed is tried again.
+const ACCEPT_PAUSE: u64 = 100;
+
+/// Where links come in, and what they may do.
+#[derive(Drop)]
+pub struct Door<'a, J: NodeName, N: Wait + Drop> {
+    listener: &'a TcpListener,
+    node: Option<&'a Node<J, N>>,
+    is_guarded: bool,
+    read_seconds: u64,
+}
+
+impl<'a, J: NodeName, N: Wait + Drop> Door<'a, J, N> {
+    /// Links of this listener answer every request. A link ends where inside a frame a read brings nothing for so many
+    /// seconds, or where the frame took more reads than its length explains; 0 seconds are no limit.
+    pub fn open(
+        listener: &'a TcpListener,
+        node: &'a Node<J, N>,
+        read_seconds: u64,
+    ) -> Door<'a, J, N> {
+        Door {
+            listener,
+            node: Some(node),
+            is_guarded: false,
+            read_seconds,
+        }
+    }
+
+    /// The same, but each change is tested before it is added: what contradicts is refused 23 with nothing changed, so that
+    /// no link damages the node.
+    pub fn guarded(
+        listener: &'a TcpListener,
+        node: &'a Node<J, N>,
+        read_seconds: u64,
+    ) -> Door<'a, J, N> {
+        Door {
+            listener,
+            node: Some(node),
+            is_guarded: true,
+            read_seconds,
+        }
+    }
+
+    /// Links of this listener answer Front, Delta, Full and Ask; another request is refused with 4 as a kind that has no
+    /// meaning there, and ends the link.
+    pub fn reading(listener: &'a TcpListener, read_seconds: u64) -> Door<'a, J, N> {
+        Door {
+            listener,
+            node: None,
+            is_guarded: false,
+            read_seconds,
+        }
+    }
+}
+
+/// Runs the session of a link to its end, and gives the seat back.
+fn serve_stream<J: NodeName, N: Wait + Drop, R: Threads + Wait + Sync>(
+    rt: &R,
+    alloc: Global,
+    door: &Door<'_, J, N>,
+    seat: ReaderSeat<J>,
+    stream: &TcpStream,
+    teller: &Teller,
+) -> (Ended, ReaderSeat<J>)
+    ensures { IsPrefix seat result.1 }
+{
+    // A reply is sent at once; where that can't be had, replies come later.
+    let _at_once = stream.set_nodelay(true);
+    let only_readings = door.node.is_none();
+    let mut reader = Counted::new(LinkReader::new(stream, door.read_seconds, only_readings));
+    let mut writer = Counted::new(stream);
+    match door.node {
+        Some(node) if door.is_guarded => {
+            let host = GuardedHost::telling(rt, node, seat, teller);
+            serve_guarded(alloc, host, &mut reader, &mut writer)
+        }
+        Some(node) => {
+            let host = NodeHost::telling(rt, alloc, node, seat, teller);
+            serve_host(alloc, host, &mut reader, &mut writer)
+        }
+        None => read_on_seat(alloc, seat, &mut reader, &mut writer),
+    }
+}
+
+/// Serves the next link on a seat, and gives the seat back.
+fn serve_next<J: NodeName, N: Wait + Drop, R: Threads + Wait + Clock + Sync>(
+    rt: &R,
+    alloc: Global,
+    door: &Door<'_, J, N>,
+    seat: ReaderSeat<J>,
+    teller: &Teller,
+) -> ReaderSeat<J>
+    ensures { IsPrefix seat result }
+{
+    match door.listener.accept() {
+        Ok((stream, _address)) => {
+            teller.tell(rt, LinkEvent::Opened);
+            let (ended, back) = serve_stream(rt, alloc, door, seat, &stream, teller);
+            drain(&stream);
+            drop(stream);
+            teller.tell(rt, LinkEvent::Ended(ended));
+            back
+        }
+        Err(_error) => {
+            teller.tell(rt, LinkEvent::NotAccepted);
+            thread::sleep(rt, Duration::from_millis(ACCEPT_PAUSE));
+            seat
+        }
+    }
+}
+
+/// Serves one link after the other on a seat.
+fn serve_place<J: NodeName, N: Wait + Drop, R: Threads + Wait + Clock + Sync>(
+    rt: &R,
+    alloc: Global,
+    door: Door<'_, J, N>,
+    seat: ReaderSeat<J>,
+    teller: Teller,
+) -> ReaderSeat<J>
+    ensures { IsPrefix seat result }
+{
+    let mut seat = seat;
+    for _ in 0..MOST_LINKS {
+        seat = serve_next(rt, alloc, &door, seat, &teller);
+    }
+    seat
+}
+
+/// Starts the thread of a place, which serves its links. Gives false where it can't be started.
+fn start_place<
+    's,
+    E,
+    J: NodeName + Send + Sync,
+    N: Wait + Drop + Send + Sync,
+    R: Threads + Wait + Clock + Sync,
+>(
+    scope: &Scope<'s, E>,
+    rt: &'s R,
+    alloc: Global,
+    door: Door<'s, J, N>,
+    seat: ReaderSeat<J>,
+    teller: Result<Teller, AllocError>,
+) -> bool {
+    match teller {
+        Ok(teller) => scope
+            .spawn(move || serve_place(rt, alloc, door, seat, teller))
+            .is_ok(),
+        Err(_error) => false,
+    }
+}
+
+/// Serves links without an end, each place in a thread of its own: the thread accepts a link of the place's door, runs its
+/// session on the place's seat, and takes the seat back for the next link, so that at most as many links are served at
+/// once as there are places, and a further one waits to be accepted. No list grows with the links.
+///
+/// `watch` is told of each link that opens and ends and of each change that is refused, with the number of its place in
+/// `places`, in the order in which that is seen; links wait where it is slow. A failed accept is told, and
+/// tried again after a tenth of a second; it ends nothing. `Memory` comes where the threads can't be prepared, or none
+/// of them could be started. It returns otherwise only after 2^62 links of each place. Cost: that of the sessions.
+pub fn serve_forever<
+    'd,
+    J: NodeName + Send + Sync,
+    N: Wait + Drop + Send + Sync,
+    R: Threads + Wait + Clock + Sync,
+    T: Watch,
+>(
+    rt: &'d R,
+    alloc: Global,
+    places: Vec<(Door<'d, J, N>, ReaderSeat<J>)>,
+    watch: &mut T,
+) -> Result<(), NetFault> {
+    let (events, told) = bounded::<(usize, LinkEvent), _>(alloc, EVENTS)?;
+    thread::scope(
+        thread::scope_env(),
+        rt,
+        |scope| -> Result<(), NetFault>
+            requires { IsSend J.row × IsSync J.row × IsSend N.row × IsSync N.row × IsSync R.row }
+        {
+            let mut started = false;
+            let mut place = 0usize;
+            for (door, seat) in places {
+                let teller = Teller::new(place, &events);
+                if start_place(scope, rt, alloc, door, seat, teller) {
+                    started = true;
+                } else {
+                    watch.told(place, LinkEvent::NotStarted);
+                }
+                place = place.saturating_add(1);
+            }
+            drop(events);
+            if !started {
+                return Err(NetFault::Memory);
+            }
+            hand_on(rt, &told, watch);
+            Ok(())
+        },
+    )
+}

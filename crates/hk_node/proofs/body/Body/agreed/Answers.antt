@@ -1,0 +1,11 @@
+use Rattle.std.proofs.Common.{subst}
+use Rattle.hk_node.specs.NodeContent.{NodeContent}
+use Rattle.hk_node.specs.Guarded.{AgreesWith}
+use Rattle.hk_node.proofs.GuardedChanges.{agrees_whole}
+use Rattle.hk_node.proofs.body.Body.agreed.Goals as goal
+
+pub returns : goal.returns
+returns c =
+    let b = c.self.inside in
+    let now : NodeContent = record { content = b.state; holds = b.holds.items; damaged = b.damaged; hold_count = b.hold_count; op_count = b.op_count } in
+    subst (λ (n : NodeContent). AgreesWith n c.args.items.now c.agreed.result) c.self.view_is (agrees_whole now c.args.items.now c.agreed.result c.if-self.false c.agreed.ensures)
