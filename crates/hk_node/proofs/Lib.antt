@@ -9,3 +9,4 @@ pub mod Carries
 pub mod HoldsBack
 pub mod WaitingHold
 pub mod GuardedChanges
+pub mod TakenItems

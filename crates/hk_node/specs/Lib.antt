@@ -6,5 +6,6 @@ pub mod Book
 pub mod Published
 pub mod Changes
 pub mod Guarded
+pub mod Taken
 pub mod Replies
 pub mod Carried

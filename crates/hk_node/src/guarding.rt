@@ -6,6 +6,7 @@ ghost use Rattle.hk_node.specs.Changes.{all_of};
 ghost use Rattle.hk_node.specs.Guarded.{JoinsAgreed, TakesItems};
 ghost use Rattle.hk_node.specs.Lists.{last_of};
 ghost use Rattle.hk_node.specs.Replay.{is_legal, IsListOf};
+ghost use Rattle.hk_node.specs.Taken.{TakeLaw};
 
 use crate::book::NodeName;
 use crate::laws::change;
@@ -56,3 +57,9 @@ pub fn take_agreed<J: NodeName, R: Wait + Drop>(
         Err(why) => Err(why),
     }
 }
+
+/// Items of the history that a node's content represents are taken without a refusal, but for want of room for one
+/// operation more or of memory, and what the node then holds represents them too.
+pub fn take_law()
+    ensures { TakeLaw }
+{}
