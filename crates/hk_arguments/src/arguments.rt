@@ -75,6 +75,10 @@ pub enum Call<'a> {
         is_guarded: bool,
         /// Whether only faults are told on standard error.
         is_quiet: bool,
+        /// Whether each change that takes effect is told there too.
+        is_verbose: bool,
+        /// After how many changes the front is told there each time; 0 is never.
+        report_changes: u64,
     },
     /// Have the node on a port do something.
     Node {
@@ -168,7 +172,7 @@ ask and not change. NOTHING IS ENCRYPTED OR AUTHENTICATED: whoever reaches the p
 --address only behind a proxy that does both (docs/OPERATING.md).";
 
 /// The names of the numbers of `serve`.
-const SERVE_NUMBERS: [&str; 7] = [
+const SERVE_NUMBERS: [&str; 8] = [
     "log",
     "streams",
     "port",
@@ -176,6 +180,7 @@ const SERVE_NUMBERS: [&str; 7] = [
     "read-port",
     "read-links",
     "read-seconds",
+    "report-changes",
 ];
 
 /// An argument that has to be given.

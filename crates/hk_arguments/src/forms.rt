@@ -214,6 +214,15 @@ const READ_SECONDS: Number = Number {
     need: Need::With(&["stay"]),
 };
 
+const REPORT_CHANGES: Number = Number {
+    name: "report-changes",
+    value: "N",
+    help: "Tell standard error the front after each N changes, 1 to 1000000000; takes one of the 64 places",
+    range: Some((1, 1_000_000_000)),
+    is_option: true,
+    need: Need::With(&["stay"]),
+};
+
 const READ_PORT: Number = Number {
     name: "read-port",
     value: "P2",
@@ -233,7 +242,7 @@ const READ_LINKS: Number = Number {
 };
 
 /// The numbers of `serve` that are of a node that stays.
-pub(crate) const STAY_NUMBERS: [Number; 3] = [READ_SECONDS, READ_PORT, READ_LINKS];
+pub(crate) const STAY_NUMBERS: [Number; 4] = [READ_SECONDS, READ_PORT, READ_LINKS, REPORT_CHANGES];
 
 /// The commands, in the order of the help.
 pub(crate) const FORMS: [Form; 16] = [

@@ -11,6 +11,8 @@ const STAY_HELP: &str = "Serve links without an end, so many at once";
 
 const QUIET_HELP: &str = "Tell standard error of faults alone, and not of each link";
 
+const VERBOSE_HELP: &str = "Tell standard error of each change that takes effect, too";
+
 const GUARD_HELP: &str =
     "Test each change first: what contradicts is refused 23, and changes nothing";
 
@@ -35,6 +37,13 @@ pub(crate) fn with_stay<'a>(
         .help(QUIET_HELP)
         .action(ArgAction::SetTrue)
         .requires_arg("stay")?;
+    let verbose = Arg::new(alloc, "verbose")
+        .short('v')
+        .long("verbose")
+        .help(VERBOSE_HELP)
+        .action(ArgAction::SetTrue)
+        .requires_arg("stay")?
+        .conflicts_with("quiet")?;
     let guard = Arg::new(alloc, "guard")
         .long("guard")
         .help(GUARD_HELP)
@@ -45,17 +54,18 @@ pub(crate) fn with_stay<'a>(
         .help(ADDRESS_HELP)
         .action(ArgAction::Set)
         .requires_arg("stay")?;
-    let command = command.arg(stay)?.arg(guard)?.arg(quiet)?.arg(address)?;
+    let command = command.arg(stay)?.arg(guard)?.arg(quiet)?;
+    let command = command.arg(verbose)?.arg(address)?;
     with_numbers(alloc, command, &STAY_NUMBERS)
 }
 
-/// The port for links that only read and how many they are, where they and the others are not too many.
-fn reading_of(matches: &ArgMatches<'_>, links: u16) -> Option<Option<(u16, Links)>> {
+/// The port for links that only read and how many they are, where they and these seats are not too many.
+fn reading_of(matches: &ArgMatches<'_>, seats: u16) -> Option<Option<(u16, Links)>> {
     let Some(port) = matches.get_one::<u16>("read-port") else {
         return Some(None);
     };
     let reading = matches.get_one::<u16>("read-links")?;
-    if reading > MOST_LINKS.saturating_sub(links) {
+    if reading > MOST_LINKS.saturating_sub(seats) {
         return None;
     }
     Some(Some((port, Links::new(reading)?)))
@@ -72,14 +82,21 @@ fn address_of(matches: &ArgMatches<'_>) -> Option<Ipv4Addr> {
 /// The call that `serve --stay` makes, where each argument is in its range.
 pub(crate) fn stay_call<'a>(matches: &ArgMatches<'a>) -> Option<Call<'a>> {
     let links = matches.get_one::<u16>("links")?;
+    let report_changes = matches.get_one::<u64>("report-changes").unwrap_or(0);
+    let telling = u16::from(report_changes > 0);
+    if telling > MOST_LINKS.saturating_sub(links) {
+        return None;
+    }
     Some(Call::Stay {
         config: config_of(matches)?,
         address: address_of(matches)?,
         port: matches.get_one::<u16>("port")?,
         links: Links::new(links)?,
-        reading: reading_of(matches, links)?,
+        reading: reading_of(matches, links.saturating_add(telling))?,
         read_seconds: matches.get_one::<u64>("read-seconds").unwrap_or(0),
         is_guarded: matches.get_flag("guard"),
         is_quiet: matches.get_flag("quiet"),
+        is_verbose: matches.get_flag("verbose"),
+        report_changes,
     })
 }

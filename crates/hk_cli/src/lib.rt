@@ -15,3 +15,4 @@ pub use hk_remote::{Order, run_order};
 pub use hk_types::Links;
 pub use serve::{run_guarded, run_serve};
 pub use stay::{ReadPort, Stay, run_stay};
+pub use telling::Level;

@@ -4,7 +4,7 @@ ghost use Rattle.std.specs.Prelude.{◌≡◌, ◌<◌, ◌≤◌};
 
 use crate::notice::Notice;
 use crate::serve::stop_of;
-use crate::telling::Telling;
+use crate::telling::{Level, Reports, Telling};
 use hk_commands::{Output, Stop};
 use hk_net::{Door, serve_forever};
 use hk_node::{NewList, Node, NodeName, ReaderSeat, start};
@@ -41,8 +41,10 @@ pub struct Stay {
     pub read_seconds: u64,
     /// Whether each change is tested before it is added, so that none damages the node.
     pub is_guarded: bool,
-    /// Whether links that open, or end without a fault, are told to nobody.
-    pub is_quiet: bool,
+    /// What is told of links.
+    pub level: Level,
+    /// After how many changes the node's front is told each time; 0 is never.
+    pub report_changes: u64,
 }
 
 /// Listens to a port of an address.
@@ -91,20 +93,28 @@ fn places_of<'d, J: NodeName, N: Wait + Drop>(
             _ if stay.is_guarded => Door::guarded(listener, node, stay.read_seconds),
             _ => Door::open(listener, node, stay.read_seconds),
         };
+        let tells_changes = stay.report_changes > 0 || stay.level == Level::Changes;
+        let door = if tells_changes {
+            door.with_changes()
+        } else {
+            door
+        };
         places.push((door, seat))?;
     }
     Ok(places)
 }
 
-/// How many places a node has for its links, of both kinds: as many as it may have at most.
-fn places_wanted(stay: &Stay) -> usize
+/// How many seats a node has: one for each of its links, of both kinds, and one for what is told of its front; at most as many
+/// as it may have.
+fn seats_wanted(stay: &Stay) -> usize
     ensures { (0 < result) × (result ≤ 64) }
 {
     let reading = match stay.reading {
         Some(reading) => reading.links.count(),
         None => 0,
     };
-    (stay.links.count() + reading).min(64)
+    let telling = if stay.report_changes == 0 { 0 } else { 1 };
+    (stay.links.count() + reading + telling).min(64)
 }
 
 /// Serves links to a new node of this list without an end.
@@ -124,14 +134,18 @@ fn stay_list<
 {
     let listener = listener_of(rt, stay.address, stay.port, output)?;
     let reading = reading_listener(rt, stay, output)?;
-    let (node, seats) = start::<J, &R>(rt, alloc, list, places_wanted(stay))?;
+    let (node, mut seats) = start::<J, &R>(rt, alloc, list, seats_wanted(stay))?;
+    let reports = match stay.report_changes {
+        0 => None,
+        every => seats.pop().map(|seat| Reports::new(seat, every)),
+    };
     let places = places_of(alloc, &node, seats, stay, &listener, &reading)?;
     output.print(&Notice::Listening(stay.port))?;
     if let Some(reading) = stay.reading {
         output.print(&Notice::Reading(reading.port))?;
     }
     output.flush()?;
-    let mut telling = Telling::new(alloc, output, stay.is_quiet);
+    let mut telling = Telling::new(alloc, output, stay.level, reports);
     serve_forever(rt, alloc, places, &mut telling).map_err(stop_of)
 }
 
@@ -142,7 +156,8 @@ fn stay_list<
 /// It ends, and the status is 1, only where one of these happens: `refused 93` where a port can't be listened to,
 /// `refused 90` where memory ran out for the node or its threads, and no line where those first lines can't be written.
 /// Later lines that can't be written are lost, and the node serves on. Each link that opens and ends, each change that is
-/// refused, and each accept that failed is told to `errors` in words. Cost: that of `start` and of `serve_forever`.
+/// refused, and each accept that failed is told to `errors` in words, as the level has it, and the node's front after so many
+/// changes. What tells it has one of the 64 seats. Cost: that of `start` and of `serve_forever`.
 pub fn run_stay<
     R: Net<Listener = TcpListener, Stream = TcpStream> + Threads + Wait + Clock + Sync,
     W: Write,

@@ -29,7 +29,7 @@ pub struct GuardedHost<'a, J: NodeName, N: Wait + Drop, R: Wait> {
     rt: &'a R,
     node: &'a Node<J, N>,
     reads: SeatHost<J>,
-    /// Who is told of refused changes, if anyone is.
+    /// Who is told of changes, if anyone is.
     teller: Option<&'a Teller>,
 }
 
@@ -62,7 +62,7 @@ impl<'a, J: NodeName, N: Wait + Drop, R: Wait> GuardedHost<'a, J, N, R> {
         }
     }
 
-    /// The same, of which each refused change is told.
+    /// The same, of which each refused change is told, and where the teller wants it each that takes effect.
     pub(crate) fn telling(
         rt: &'a R,
         node: &'a Node<J, N>,
@@ -95,7 +95,15 @@ impl<'a, J: NodeName, N: Wait + Drop, R: Wait> GuardedHost<'a, J, N, R> {
     {
         let ops = receipt.ops();
         self.reads.learn(receipt);
+        self.tell_changed(ops);
         Reply::Done { ops }
+    }
+
+    /// Tells that a change took effect.
+    fn tell_changed(&self, ops: u64) {
+        if let Some(teller) = self.teller {
+            teller.tell_changed(self.rt, ops);
+        }
     }
 
     /// Tells that a change was refused.

@@ -15,6 +15,8 @@ pub enum LinkEvent {
     Opened,
     /// A change that came over a link was refused with this number.
     Refused(u8),
+    /// A change that came over a link took effect; the node's list of operations that ends with it has so many.
+    Changed(u64),
     /// A link ended so, and its seat waits for the next one.
     Ended(Ended),
     /// A link could not be accepted, as where no descriptor is left; it is tried again.
@@ -33,6 +35,8 @@ pub trait Watch {
 #[derive(Drop)]
 pub(crate) struct Teller {
     place: usize,
+    /// Whether changes that took effect are told too.
+    tells_changes: bool,
     events: Sender<(usize, LinkEvent)>,
 }
 
@@ -40,16 +44,28 @@ impl Teller {
     /// A further teller on the way of these events.
     pub(crate) fn new(
         place: usize,
+        tells_changes: bool,
         events: &Sender<(usize, LinkEvent)>,
     ) -> Result<Teller, AllocError> {
         let events = events.clone()?;
-        Ok(Teller { place, events })
+        Ok(Teller {
+            place,
+            tells_changes,
+            events,
+        })
     }
 
     /// Tells an event. It waits where many were not taken in yet.
     pub(crate) fn tell<R: Wait>(&self, rt: &R, event: LinkEvent) {
         // Where nobody takes events in any more there is nobody to tell.
         let _sent = self.events.send(rt, (self.place, event));
+    }
+
+    /// Tells that a change took effect, where that is wanted.
+    pub(crate) fn tell_changed<R: Wait>(&self, rt: &R, ops: u64) {
+        if self.tells_changes {
+            self.tell(rt, LinkEvent::Changed(ops));
+        }
     }
 }
 

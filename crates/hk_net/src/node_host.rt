@@ -55,7 +55,7 @@ pub struct NodeHost<'a, J: NodeName, N: Wait + Drop, R: Threads + Wait + Sync> {
     alloc: Global,
     node: &'a Node<J, N>,
     reads: SeatHost<J>,
-    /// Who is told of refused changes, if anyone is.
+    /// Who is told of changes, if anyone is.
     teller: Option<&'a Teller>,
 }
 
@@ -94,7 +94,7 @@ impl<'a, J: NodeName, N: Wait + Drop, R: Threads + Wait + Sync> NodeHost<'a, J, 
         }
     }
 
-    /// The same, of which each refused change is told.
+    /// The same, of which each refused change is told, and where the teller wants it each that takes effect.
     pub(crate) fn telling(
         rt: &'a R,
         alloc: Global,
@@ -128,7 +128,15 @@ impl<'a, J: NodeName, N: Wait + Drop, R: Threads + Wait + Sync> NodeHost<'a, J, 
     {
         let ops = receipt.ops();
         self.reads.learn(receipt);
+        self.tell_changed(ops);
         Reply::Done { ops }
+    }
+
+    /// Tells that a change took effect.
+    fn tell_changed(&self, ops: u64) {
+        if let Some(teller) = self.teller {
+            teller.tell_changed(self.rt, ops);
+        }
     }
 
     /// Tells that a change was refused.

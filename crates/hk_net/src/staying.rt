@@ -34,6 +34,7 @@ pub struct Door<'a, J: NodeName, N: Wait + Drop> {
     listener: &'a TcpListener,
     node: Option<&'a Node<J, N>>,
     is_guarded: bool,
+    tells_changes: bool,
     read_seconds: u64,
 }
 
@@ -49,6 +50,7 @@ impl<'a, J: NodeName, N: Wait + Drop> Door<'a, J, N> {
             listener,
             node: Some(node),
             is_guarded: false,
+            tells_changes: false,
             read_seconds,
         }
     }
@@ -64,6 +66,7 @@ impl<'a, J: NodeName, N: Wait + Drop> Door<'a, J, N> {
             listener,
             node: Some(node),
             is_guarded: true,
+            tells_changes: false,
             read_seconds,
         }
     }
@@ -75,8 +78,16 @@ impl<'a, J: NodeName, N: Wait + Drop> Door<'a, J, N> {
             listener,
             node: None,
             is_guarded: false,
+            tells_changes: false,
             read_seconds,
         }
+    }
+
+    /// The same door, of whose links each change that takes effect is told too.
+    pub fn with_changes(self) -> Door<'a, J, N> {
+        let mut door = self;
+        door.tells_changes = true;
+        door
     }
 }
 
@@ -180,8 +191,9 @@ fn start_place<
 /// session on the place's seat, and takes the seat back for the next link, so that at most as many links are served at
 /// once as there are places, and a further one waits to be accepted. No list grows with the links.
 ///
-/// `watch` is told of each link that opens and ends and of each change that is refused, with the number of its place in
-/// `places`, in the order in which that is seen; links wait where it is slow. A failed accept is told, and
+/// `watch` is told of each link that opens and ends, of each change that is refused, and through a door that wants it of each
+/// that takes effect, with the number of its place in `places`, in the order in which that is seen; links wait where it is
+/// slow. A failed accept is told, and
 /// tried again after a tenth of a second; it ends nothing. `Memory` comes where the threads can't be prepared, or none
 /// of them could be started. It returns otherwise only after 2^62 links of each place. Cost: that of the sessions.
 pub fn serve_forever<
@@ -206,7 +218,7 @@ pub fn serve_forever<
             let mut started = false;
             let mut place = 0usize;
             for (door, seat) in places {
-                let teller = Teller::new(place, &events);
+                let teller = Teller::new(place, door.tells_changes, &events);
                 if start_place(scope, rt, alloc, door, seat, teller) {
                     started = true;
                 } else {

@@ -6,7 +6,7 @@ mod watched;
 use crate::watched::Watched;
 use hk_arguments::{Call, Order as Asked, read_call};
 use hk_cli::{
-    Form, Links, Order, ReadPort, Stay, run_ask, run_at, run_explain, run_frames, run_front,
+    Form, Level, Links, Order, ReadPort, Stay, run_ask, run_at, run_explain, run_frames, run_front,
     run_guarded, run_items, run_order, run_rewrite, run_serve, run_status, run_stay, run_world,
 };
 use std::alloc::Global;
@@ -145,6 +145,17 @@ fn reading_of(reading: Option<(u16, Links)>) -> Option<ReadPort> {
     }
 }
 
+/// What a node that stays tells of its links.
+fn level_of(is_quiet: bool, is_verbose: bool) -> Level {
+    if is_quiet {
+        Level::Faults
+    } else if is_verbose {
+        Level::Changes
+    } else {
+        Level::Links
+    }
+}
+
 /// The status of a call over standard output and these.
 fn run<R, I: Read, E: Write>(
     rt: &R,
@@ -180,6 +191,8 @@ where
             read_seconds,
             is_guarded,
             is_quiet,
+            is_verbose,
+            report_changes,
         } => {
             let stay = Stay {
                 address: *address,
@@ -188,7 +201,8 @@ where
                 reading: reading_of(*reading),
                 read_seconds: *read_seconds,
                 is_guarded: *is_guarded,
-                is_quiet: *is_quiet,
+                level: level_of(*is_quiet, *is_verbose),
+                report_changes: *report_changes,
             };
             run_stay(rt, rt.alloc(), *config, &stay, &mut output, errors)
         }
