@@ -255,6 +255,29 @@ def what_is_told():
     report("what a node that stays tells on standard error", problems)
 
 
+def changes_are_told():
+    """With -v each change that takes effect is told, with --report-changes the front after so many; a refused one counts for neither."""
+    first, later = ["link 1: refused 24: ", "after 2 changes: front 0 5"], ["after 4 changes: front 1 5", "link 1: ended 0"]
+    wanted = {"-v": ["link 1: opened", "link 1: done 2", first[0], *(f"link 1: done {at}" for at in (3, 4, 5)), later[1]],
+              "-q --report-changes 2": first + later[:1],
+              "--report-changes 2 --guard -v": ["link 1: opened", "link 1: done 2", first[0], "link 1: done 3", first[1], "link 1: done 4", "link 1: done 5", *later]}
+    problems = []
+    for options, told in wanted.items():
+        with Staying(1, *options.split()) as node:
+            with node.link() as link:
+                pairs = [("a push", link.ask(PUSHED), ("done", 2)), ("a prune that is refused", link.ask(say.prune(9))[:2], ("refused", 24)), ("a row", link.ask(GET), ROW)]
+                for at, change in enumerate((say.items(say.mark(1, 1, 5)), say.prune(1), PUSHED), 3):
+                    pairs.append((f"change {at}", link.ask(change), ("done", at)))
+            pairs.append(("its end", node.line(), "ended 0"))
+            until = time.monotonic() + 10
+            while len(node.words) < len(told) and time.monotonic() < until:
+                time.sleep(0.01)
+        words = [line.removesuffix("\n") for line in node.words]
+        pairs += [("how many lines", len(words), len(told))] + [("a line", word[:len(start)], start) for word, start in zip(words, told)]
+        problems += [f"{options}: {problem}" for problem in differ(pairs)]
+    report("what is told of changes, and of the front after so many", problems)
+
+
 def changes_are_guarded():
     """With --guard what contradicts is refused 23 and nothing changed, on each link; without it the node is damaged."""
     conflicts = say.items(say.entry(2, 2, [(1, 6, 9, b"\x42")]), say.entry(3, 3, ends=[(1, 5, 1)]), say.entry(4, 4, ends=[(1, 5, 1)]))
@@ -283,7 +306,9 @@ def addresses_and_bad_lines():
     plain = ["--log", "7", "--streams", "1", "--port", "47999", "--links"]
     for words in (["1", "--address", "127.0.0.1"], ["1", "--read-seconds", "3"], ["1", "--read-port", "47998", "--read-links", "1"],
                   ["1", "--stay", "--read-port", "47998"], ["1", "--stay", "--read-links", "1"], ["64", "--stay", "--read-port", "47998", "--read-links", "1"],
-                  ["1", "--stay", "--address", "node"], ["1", "--stay", "--read-seconds", "86401"], ["1", "--stay", "--read-seconds", "+1"], ["1", "-q"]):
+                  ["1", "--stay", "--address", "node"], ["1", "--stay", "--read-seconds", "86401"], ["1", "--stay", "--read-seconds", "+1"], ["1", "-q"], ["1", "-v"], ["1", "--stay", "-q", "-v"],
+                  ["1", "--report-changes", "2"], ["1", "--stay", "--report-changes", "0"], ["64", "--stay", "--report-changes", "2"],
+                  ["63", "--stay", "--report-changes", "2", "--read-port", "47998", "--read-links", "1"]):
         done = subprocess.run([str(PROGRAM), "serve", *plain, *words], capture_output=True, text=True, timeout=30, check=False)
         pairs.append((" ".join(words), (done.returncode, done.stdout), (2, "")))
     with socket.create_server(("127.0.0.1", 0)) as taken:
@@ -298,7 +323,7 @@ def main():
     if not is_built(PROGRAM):
         return ended()
     start = time.monotonic()
-    for check in (places_are_given_back, ends_soon_after_a_fault, limits_of_time, links_that_only_read, no_more_files, signals, what_is_told, changes_are_guarded, addresses_and_bad_lines, bad_peers):
+    for check in (places_are_given_back, ends_soon_after_a_fault, limits_of_time, links_that_only_read, no_more_files, signals, what_is_told, changes_are_told, changes_are_guarded, addresses_and_bad_lines, bad_peers):
         if sys.argv[1:] and check.__name__ not in sys.argv[1:]:
             continue
         try:
