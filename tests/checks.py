@@ -1,6 +1,10 @@
 """What a script of checks says: a line for each check, and at the end 'N passed, M failed'. Standard library only."""
 
 import os
+import signal
+
+# Who runs the checks in the background may have Ctrl-C ignored, which each program that they start would take over.
+signal.signal(signal.SIGINT, signal.default_int_handler)
 
 passed, failed, skipped = 0, 0, 0
 

@@ -2,7 +2,6 @@
 import pathlib
 import queue
 import resource
-import signal
 import socket
 import subprocess
 import threading
@@ -24,8 +23,6 @@ class Staying:
 
     def __init__(self, links, *options, streams=1, reading=0, address="127.0.0.1", **limits):
         def restrict():
-            # who runs the tests in the background may have had this ignored
-            signal.signal(signal.SIGINT, signal.SIG_DFL)
             for name, limit in limits.items():
                 resource.setrlimit(getattr(resource, name), (limit, limit))
 
