@@ -20,9 +20,9 @@ timed_code = code_by (ℕ × VersionKey) (coded× coded_ℕ version_key_code) (�
 abbrev pub versions_where : set.FinSet timed_cmp → (ℕ → Bool) → set.FinSet version_key_cmp
 versions_where index test = set.from_list (map (λ t. t.version) (set.items (set.retain index (λ t. test t.time))))
 
--- where the versions with times above one begin
-abbrev pub first_after : ℕ → TimedVersion
-first_after time = record { time = time + 1; version = record { table = 0; key = 0; born = 0 } }
+-- the least timed version of a time
+abbrev pub first_at : ℕ → TimedVersion
+first_at time = record { time = time; version = record { table = 0; key = 0; born = 0 } }
 
 -- whether there is a time, and it is this one
 abbrev pub is_at : ℕ → Option ℕ → Bool

@@ -14,7 +14,9 @@ use Rattle.hk_model.proofs.Maps.{version_key_total}
 use Rattle.hk_index.specs.Tagged.{tagged_cmp}
 use Rattle.hk_index.specs.declared.timed.TimedVersion.{TimedVersion}
 use Rattle.hk_index.specs.Timed.{timed_cmp, is_at, AreTimed, passes_at, versions_where}
-use Rattle.hk_index.proofs.StoredTimes.{timed_total, tied_parts, timed_where}
+use Rattle.hk_index.proofs.Named.{tied_parts}
+use Rattle.hk_index.proofs.Order.{timed_total}
+use Rattle.hk_index.proofs.StoredTimes.{timed_where}
 use Rattle.hk_facts.specs.declared.fact.Fact.TheVariants.{Row, End}
 use Rattle.hk_facts.specs.declared.fact.Part.{Part}
 use Rattle.hk_facts.specs.declared.fact.Part.TheVariants.{Row as RowPart, End as EndPart, Whole}
@@ -25,10 +27,10 @@ use Rattle.hk_store.proofs.StoredFacts.{tied, key_tied}
 use Rattle.hk_store.proofs.ChangedChains.{get-added, get-without, tied_is}
 use Rattle.hk_store.proofs.Indexed.{part_gone, part_rowless}
 
-abbrev Times : Type 0
+abbrev pub Times : Type 0
 Times = set.FinSet timed_cmp
 
-abbrev at_time : ℕ → VersionKey → TimedVersion
+abbrev pub at_time : ℕ → VersionKey → TimedVersion
 at_time time v = record { time = time; version = v }
 
 tied_at : (t n : ℕ) (q v : VersionKey) → eq_by_cmp timed_cmp (at_time t q) (at_time n v) ≡ ((t == n) && tied q v)

@@ -2,10 +2,14 @@
 
 ghost use Rattle.std.specs.Prelude.{◌≡◌, OnOk, OnErr, IfErr};
 ghost use Rattle.hk_types.specs.declared.faults.Refusal.TheVariants.{Memory};
+ghost use Rattle.hk_index.specs.Timed.{AreTimed};
 ghost use Rattle.hk_store.specs.Drops.{without_all, pruned_facts};
+ghost use Rattle.hk_store.specs.Indexed.{AreTagged, born_at};
 
-use crate::facts::Facts;
+use crate::chains::Chains;
+use crate::facts::{Facts, forget_birth};
 use hk_facts::Part;
+use hk_index::{TagIndex, TimeIndex};
 use hk_types::{Refusal, Time, VersionKey};
 
 impl Facts {
@@ -27,7 +31,27 @@ impl Facts {
         ensures kept { OnErr result (self.new ≡ self.old) }
     {
         let ended = self.ended(self.allocator(), until)?;
-        self.drop_all(&ended);
+        forget_all(&mut self.chains, &mut self.tags, &mut self.births, &ended);
+        self.deaths.drop_until(until);
         Ok(())
+    }
+}
+
+/// Drops all that is known of these versions, out of the chains and the indexes of those whose row is known.
+fn forget_all(
+    chains: &mut Chains,
+    tags: &mut TagIndex,
+    births: &mut TimeIndex,
+    versions: &[VersionKey],
+)
+    requires tagged { AreTagged chains.old tags.old }
+    requires born { AreTimed (born_at chains.old) births.old }
+    ensures left { chains.new ≡ without_all chains.old versions.now }
+    ensures tagged { AreTagged chains.new tags.new }
+    ensures born { AreTimed (born_at chains.new) births.new }
+{
+    for version in versions {
+        let lost = chains.forget(version, Part::Whole);
+        forget_birth(tags, births, version, lost.tag);
     }
 }

@@ -230,7 +230,12 @@ fn add_birth(
 }
 
 /// Takes a version out of the indexes of those whose row is known, where a row goes that has this tag.
-fn forget_birth(tags: &mut TagIndex, births: &mut TimeIndex, version: &VersionKey, tag: Option<Tag>)
+pub(crate) fn forget_birth(
+    tags: &mut TagIndex,
+    births: &mut TimeIndex,
+    version: &VersionKey,
+    tag: Option<Tag>,
+)
     ensures tags { tags.new ≡ tags_without tags.old version.now tag }
     ensures births { births.new ≡ times_without births.old version.now (option_map (λ t. version.now.born) tag) }
 {

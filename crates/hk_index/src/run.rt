@@ -1,0 +1,218 @@
+//! Members in order, in one list.
+
+ghost use Rattle.std.specs.Prelude.{◌≡◌, ◌∷◌, ◌++◌, [], ◌<◌, ◌≤◌, drop, filter, nat_le, nat_lt, vec_len, IfOk, OnOk, OnErr};
+ghost use Rattle.std.specs.Bool.{OnTrue, OnFalse};
+ghost use Rattle.std.specs.FinSet as set;
+ghost use Rattle.std.specs.List.Sorted.{IsStrictlySortedBy};
+ghost use Rattle.hk_index.specs.Timed.{timed_cmp};
+ghost use Rattle.hk_index.specs.Entries.{entry_cmp, live_members, marked, shown};
+
+use crate::entry::Entry;
+use crate::merge::merge_into;
+use crate::search::{after, comes_last, count_below, count_until, place_of};
+use crate::timed::TimedVersion;
+use std::alloc::{AllocError, Global};
+use std::marker::Model;
+
+/// A sorted list of entries, of which those before `start` are there no more, and some of the others are marked so.
+#[derive(Drop)]
+pub(crate) struct Run {
+    entries: Vec<Entry>,
+    start: usize,
+    dead: usize,
+}
+
+impl Model for Run {
+    ghost use Rattle.std.specs.Prelude.{◌≤◌, drop, vec_len};
+    ghost use Rattle.std.specs.FinSet as set;
+    ghost use Rattle.std.specs.List.Sorted.{IsStrictlySortedBy};
+    ghost use Rattle.hk_index.specs.Timed.{timed_cmp, timed_code};
+    ghost use Rattle.hk_index.specs.Entries.{entry_cmp, shown};
+
+    ghost Value = { set.FinSet timed_cmp };
+
+    ghost coded = { set.code timed_code };
+
+    ghost view = { λ a. shown (drop a.start a.entries.items) };
+
+    ghost invariant = { λ a. (a.start ≤ vec_len a.entries) × IsStrictlySortedBy entry_cmp (drop a.start a.entries.items) };
+}
+
+impl Run {
+    /// No members.
+    pub(crate) fn new(alloc: Global) -> Run
+        ensures { result ≡ set.empty }
+    {
+        Run {
+            entries: Vec::new(alloc),
+            start: 0,
+            dead: 0,
+        }
+    }
+
+    /// How many entries stand from a member on; the count promises nothing. Cost: O(log n).
+    pub(crate) fn len_from(&self, member: TimedVersion) -> usize {
+        self.entries[self.start..].len() - count_below(after(&self.entries, self.start), member)
+    }
+
+    /// Adds a member above all, or answers `false`.
+    ///
+    /// The only error is out of memory; then nothing is changed. Cost: O(1), amortized.
+    pub(crate) fn add_last(&mut self, member: TimedVersion) -> Result<bool, AllocError>
+        ensures added { IfOk result (λ added. OnTrue added (self.new ≡ set.insert self.old member)) }
+        ensures passed { IfOk result (λ added. OnFalse added (self.new ≡ self.old)) }
+        ensures kept { OnErr result (self.new ≡ self.old) }
+    {
+        let asked = member;
+        if !comes_last(after(&self.entries, self.start), asked) {
+            return Ok(false);
+        }
+        self.entries.push(Entry { member, live: true })?;
+        Ok(true)
+    }
+
+    /// Removes a member, where it is there. Cost: O(log n), amortized.
+    pub(crate) fn remove(&mut self, member: TimedVersion)
+        ensures { self.new ≡ set.remove self.old member }
+    {
+        match place_of(after(&self.entries, self.start), member) {
+            Some(place) => {
+                mark(&mut self.entries, self.start + place);
+                self.dead = self.dead.saturating_add(1);
+            }
+            None => {}
+        }
+    }
+
+    /// Lets the marked entries go, where they are more than half. Cost: O(1), amortized.
+    pub(crate) fn tidy(&mut self)
+        ensures { self.new ≡ self.old }
+    {
+        if self.dead > self.entries.len() / 2 {
+            self.sweep();
+        } else if self.start > self.entries.len() / 2 {
+            self.cut();
+        }
+    }
+
+    fn cut(&mut self)
+        ensures { self.new ≡ self.old }
+    {
+        cut_front(&mut self.entries, self.start);
+        self.start = 0;
+    }
+
+    fn sweep(&mut self)
+        ensures { self.new ≡ self.old }
+    {
+        keep_live(&mut self.entries, self.start);
+        self.start = 0;
+        self.dead = 0;
+    }
+
+    /// Removes the members with a time up to this one. Cost: O(log n).
+    pub(crate) fn drop_until(&mut self, time: u64)
+        ensures { self.new ≡ set.retain self.old (λ m. nat_lt time m.time) }
+    {
+        let count = count_until(after(&self.entries, self.start), time);
+        self.start += count;
+    }
+
+    /// The members with a time up to this one.
+    ///
+    /// The only error is out of memory. Cost: O(log n + k), k of them.
+    pub(crate) fn until(&self, alloc: Global, time: u64) -> Result<Vec<TimedVersion>, AllocError>
+        ensures { IfOk result (λ found. set.from_list found.items ≡ set.retain self.now (λ m. nat_le m.time time)) }
+    {
+        let found = list_until(alloc, after(&self.entries, self.start), time)?;
+        Ok(found)
+    }
+
+    /// The members with a time above this one.
+    ///
+    /// The only error is out of memory. Cost: O(log n + k), k of them.
+    pub(crate) fn above(&self, alloc: Global, time: u64) -> Result<Vec<TimedVersion>, AllocError>
+        ensures { IfOk result (λ found. set.from_list found.items ≡ set.retain self.now (λ m. nat_lt time m.time)) }
+    {
+        let found = list_above(alloc, after(&self.entries, self.start), time)?;
+        Ok(found)
+    }
+
+    /// Takes in a sorted run.
+    ///
+    /// The only error is out of memory; then nothing is changed. Cost: O(log n + k + m), amortized, for the k entries
+    /// that stand behind the first of the m that come.
+    pub(crate) fn absorb(&mut self, alloc: Global, newer: &[Entry]) -> Result<(), AllocError>
+        requires { IsStrictlySortedBy entry_cmp newer.now }
+        ensures ok { OnOk result (self.new ≡ set.union self.old (shown newer.now)) }
+        ensures kept { OnErr result (self.new ≡ self.old) }
+    {
+        merge_into(alloc, &mut self.entries, self.start, newer)?;
+        Ok(())
+    }
+
+    /// The same members again. The only error is out of memory. Cost: O(n).
+    pub(crate) fn copy(&self, alloc: Global) -> Result<Run, AllocError>
+        ensures { IfOk result (λ run. run ≡ self.now) }
+    {
+        let entries = Vec::from_slice(alloc, after(&self.entries, self.start))?;
+        Ok(Run {
+            entries,
+            start: 0,
+            dead: self.dead,
+        })
+    }
+}
+
+fn mark(entries: &mut Vec<Entry>, place: usize)
+    requires { place < vec_len entries.old }
+    ensures len { vec_len entries.new ≡ vec_len entries.old }
+    ensures items { entries.new.items ≡ marked entries.old.items place }
+{
+    entries[place].live = false;
+}
+
+fn cut_front(entries: &mut Vec<Entry>, count: usize)
+    requires { count ≤ vec_len entries.old }
+    ensures { entries.new.items ≡ drop count entries.old.items }
+{
+    let rest = entries.len() - count;
+    entries.copy_within(count.., 0);
+    entries.truncate(rest);
+}
+
+fn keep_live(entries: &mut Vec<Entry>, start: usize)
+    requires { start ≤ vec_len entries.old }
+    ensures { entries.new.items ≡ filter (λ e. e.live) (drop start entries.old.items) }
+{
+    cut_front(entries, start);
+    entries.retain(|entry| entry.live);
+}
+
+fn list_until(alloc: Global, entries: &[Entry], time: u64) -> Result<Vec<TimedVersion>, AllocError>
+    requires { IsStrictlySortedBy entry_cmp entries.now }
+    ensures { IfOk result (λ found. found.items ≡ live_members (filter (λ e. nat_le e.member.time time) entries.now)) }
+{
+    let end = count_until(entries, time);
+    list_live(alloc, &entries[..end])
+}
+
+fn list_above(alloc: Global, entries: &[Entry], time: u64) -> Result<Vec<TimedVersion>, AllocError>
+    requires { IsStrictlySortedBy entry_cmp entries.now }
+    ensures { IfOk result (λ found. found.items ≡ live_members (filter (λ e. nat_lt time e.member.time) entries.now)) }
+{
+    let first = count_until(entries, time);
+    list_live(alloc, after(entries, first))
+}
+
+fn list_live(alloc: Global, entries: &[Entry]) -> Result<Vec<TimedVersion>, AllocError>
+    ensures { IfOk result (λ found. found.items ≡ live_members entries.now) }
+{
+    let mut found = Vec::with_capacity(alloc, entries.len())?;
+    for entry in entries {
+        if entry.live {
+            found.push(entry.member)?;
+        }
+    }
+    Ok(found)
+}

@@ -1,0 +1,152 @@
+//! Members by time.
+
+ghost use Rattle.std.specs.Prelude.{◌≡◌, nat_le, nat_lt, IfOk, OnOk, OnErr};
+ghost use Rattle.std.specs.FinSet as set;
+ghost use Rattle.hk_index.specs.Timed.{timed_cmp};
+
+use crate::loose::Loose;
+use crate::run::Run;
+use crate::timed::TimedVersion;
+use std::alloc::{AllocError, Global};
+use std::marker::Model;
+
+/// After so many loose members a merge is thought of.
+const FEW: usize = 64;
+
+/// A set of members with times: those that came in order lie in one list, the others in a small ordered set. That is merged
+/// into the end of the list, from its least member on, once it has half as many as stand there.
+#[derive(Drop)]
+pub struct TimeRuns {
+    alloc: Global,
+    run: Run,
+    loose: Loose,
+}
+
+impl Model for TimeRuns {
+    ghost use Rattle.std.specs.FinSet as set;
+    ghost use Rattle.hk_index.specs.Timed.{timed_cmp, timed_code};
+
+    ghost Value = { set.FinSet timed_cmp };
+
+    ghost coded = { set.code timed_code };
+
+    ghost view = { λ a. set.union a.run a.loose };
+}
+
+impl TimeRuns {
+    /// No members.
+    pub fn new(alloc: Global) -> TimeRuns
+        ensures { result ≡ set.empty }
+    {
+        TimeRuns {
+            alloc,
+            run: Run::new(alloc),
+            loose: Loose::new(alloc),
+        }
+    }
+
+    /// Adds a member. One that is there already changes nothing.
+    ///
+    /// The only error is out of memory; then nothing is changed. Cost: O(1) in the order of time and O(log n) out of
+    /// order, both amortized, n members in the set.
+    pub fn add(&mut self, member: TimedVersion) -> Result<(), AllocError>
+        ensures ok { OnOk result (self.new ≡ set.insert self.old member) }
+        ensures kept { OnErr result (self.new ≡ self.old) }
+    {
+        let late = member;
+        let added = self.run.add_last(member)?;
+        if added {
+            return Ok(());
+        }
+        self.loose.add(late)?;
+        self.settle();
+        Ok(())
+    }
+
+    /// Removes a member, where it is there. Cost: O(log n), amortized.
+    pub fn remove(&mut self, member: TimedVersion)
+        ensures { self.new ≡ set.remove self.old member }
+    {
+        let late = member;
+        self.run.remove(member);
+        self.run.tidy();
+        self.loose.remove(late);
+    }
+
+    /// Removes the members with a time up to this one. Cost: O(log n) and O(log l) for each of the loose that goes, both
+    /// amortized. It takes no memory.
+    pub fn drop_until(&mut self, time: u64)
+        ensures { self.new ≡ set.retain self.old (λ m. nat_lt time m.time) }
+    {
+        self.run.drop_until(time);
+        self.run.tidy();
+        self.loose.drop_until(time);
+    }
+
+    /// The members with a time up to this one.
+    ///
+    /// The only error is out of memory. Cost: O(log n + k), n members in the set, k of them given.
+    pub fn until(&self, alloc: Global, time: u64) -> Result<Vec<TimedVersion>, AllocError>
+        ensures { IfOk result (λ found. set.from_list found.items ≡ set.retain self.now (λ m. nat_le m.time time)) }
+    {
+        let mut found = self.run.until(alloc, time)?;
+        self.loose.list_until(&mut found, time)?;
+        Ok(found)
+    }
+
+    /// The members with a time above this one.
+    ///
+    /// The only error is out of memory. Cost: O(log n + k), n members in the set, k of them given.
+    pub fn above(&self, alloc: Global, time: u64) -> Result<Vec<TimedVersion>, AllocError>
+        ensures { IfOk result (λ found. set.from_list found.items ≡ set.retain self.now (λ m. nat_lt time m.time)) }
+    {
+        let mut found = self.run.above(alloc, time)?;
+        self.loose.list_above(&mut found, time)?;
+        Ok(found)
+    }
+
+    /// The same set again.
+    ///
+    /// The only error is out of memory. Cost: O(n), and O(l · log l) for the l that are loose.
+    pub fn copy(&self, alloc: Global) -> Result<TimeRuns, AllocError>
+        ensures { IfOk result (λ runs. runs ≡ self.now) }
+    {
+        let run = self.run.copy(alloc)?;
+        let loose = self.loose.copy(alloc)?;
+        Ok(TimeRuns { alloc, run, loose })
+    }
+
+    /// Merges the loose members into the list, where that is worth it and there is memory for it.
+    fn settle(&mut self)
+        ensures { self.new ≡ self.old }
+    {
+        if !is_worth(&self.run, &self.loose) {
+            return;
+        }
+        if let Ok(()) = absorb(self.alloc, &mut self.run, &self.loose) {
+            self.loose = Loose::new(self.alloc);
+        }
+    }
+}
+
+/// Whether the loose members are half as many as those of the list that a merge moves. It asks only where their number is a
+/// multiple of `FEW`.
+fn is_worth(run: &Run, loose: &Loose) -> bool {
+    let many = loose.len();
+    if many % FEW != 0 {
+        return false;
+    }
+    match loose.first() {
+        Some(first) => run.len_from(first) / 2 <= many,
+        None => false,
+    }
+}
+
+fn absorb(alloc: Global, run: &mut Run, loose: &Loose) -> Result<(), AllocError>
+    ensures ok { OnOk result (run.new ≡ set.union run.old loose.now) }
+    ensures kept { OnErr result (run.new ≡ run.old) }
+{
+    let newer = loose.entries(alloc)?;
+    run.absorb(alloc, &newer)?;
+    Ok(())
+}
