@@ -132,6 +132,70 @@ def tags():
             lambda count: rows_of_tags(random.Random(7).sample(range(2 ** 32), count)), 10_000)
 
 
+def one_tag():
+    compare("one tag on all keys", at, lambda count: rows_of_tags([9] * count),
+            lambda count: rows_of_tags(random.Random(7).sample(range(2 ** 32), count)), 25_000)
+
+
+# ---------------------------------------------------------------- orders of keys, times and births
+
+def rising(count):
+    return range(1, count + 1)
+
+
+def falling(count):
+    return range(count, 0, -1)
+
+
+def drawn(count):
+    return random.Random(7).sample(range(1, count + 1), count)
+
+
+def in_order(make):
+    """Input of a count, beside the order of its numbers."""
+    return lambda order: lambda count: make(order(count))
+
+
+def rows_of_keys(keys):
+    return entries_of([(1, key, 9, b"") for key in keys])
+
+
+def rows_of_times(times):
+    return b"".join(say.entry(n, time_of, [(1, n, 9, b"")]) for n, time_of in enumerate(times, 1))
+
+
+def rows_of_one_key(births):
+    return b"".join(say.entry(n, n, [(1, 5, 9, b"")]) for n in births)
+
+
+def ends_of_times(times):
+    """Rows, 1,024 in an entry, and an entry for each row that ends it."""
+    times = list(times)
+    born = entries_of([(1, key, 9, b"") for key in range(len(times))])
+    return born + b"".join(say.entry(1000 + key, 1000 + time_of, [], [(1, key, key // 1024 + 1)]) for key, time_of in enumerate(times))
+
+
+def orders(name, make, size):
+    for order in (rising, falling):
+        compare(f"{name} in {order.__name__} order", at, in_order(make)(order), in_order(make)(drawn), size)
+
+
+def orders_of_keys():
+    orders("keys", rows_of_keys, 25_000)
+
+
+def orders_of_times():
+    orders("times of entries", rows_of_times, 10_000)
+
+
+def orders_of_ends():
+    orders("times of ends", ends_of_times, 10_000)
+
+
+def orders_of_births():
+    orders("versions of one key", rows_of_one_key, 25_000)
+
+
 # ---------------------------------------------------------------- numbers and marks
 
 def marks():
@@ -269,8 +333,9 @@ def open_counts():
             fronts, 1_000)
 
 
-GATE = (tags, marks, covered_marks, numbers_, numbers_with_gaps, streams, chains, contradictions, all_contradict, endless_line, empty_lines,
-        endless_frame, prunes, deltas, rising_joins, lone_ends, small_joins)
+GATE = (tags, one_tag, orders_of_keys, orders_of_times, orders_of_ends, orders_of_births, marks, covered_marks, numbers_, numbers_with_gaps,
+        streams, chains, contradictions, all_contradict, endless_line, empty_lines, endless_frame, prunes, deltas, rising_joins, lone_ends,
+        small_joins)
 OPEN = (open_counts,)
 
 

@@ -13,11 +13,20 @@ use hk_state::{ReplicaState, front_of};
 use hk_types::{Config, Key, Table, Time};
 use std::alloc::Global;
 use std::io::{Read, Write};
+use std::mem;
 
 /// A replica that absorbs what it is handed.
 #[derive(Drop)]
 struct Absorber {
     state: ReplicaState,
+}
+
+impl Absorber {
+    /// Leaves the replica's memory to the system, which takes all of a process at its end: to give it back piece by piece
+    /// would cost a walk over all that is held.
+    fn leave(self) {
+        mem::forget(self);
+    }
 }
 
 impl Sink for Absorber {
@@ -44,7 +53,9 @@ fn answer_at<I: Read>(
     query: &Query,
 ) -> Result<Answer, Stop> {
     let absorber = absorbed(alloc, input, config)?;
-    match ask(alloc, &absorber.state, time, query) {
+    let answered = ask(alloc, &absorber.state, time, query);
+    absorber.leave();
+    match answered {
         Ok(answer) => Ok(answer),
         Err(refusal) => Err(Stop::RefusedAt(
             refusal,
@@ -56,7 +67,8 @@ fn answer_at<I: Read>(
     }
 }
 
-/// Absorbs the item frames of the input, and prints the answer to a query at a time, in a form. Where a frame has a fault, an item
+/// Absorbs the item frames of the input, and prints the answer to a query at a time, in a form. The replica's memory is left
+/// to the system (so with each of these commands): a process calls one of them and ends. Where a frame has a fault, an item
 /// is refused or the query is, the one that comes first is printed and no answer, and is told to `errors` in words. The
 /// status: 0, or 1 where a line `refused` was printed or a write failed. Cost: O(n · log n), n bytes of the input, and
 /// that of the query.
@@ -112,7 +124,11 @@ pub fn run_front<I: Read, W: Write, E: Write>(
 {
     let mut output = Output::of_form(alloc, form, writer, errors);
     let printed = match absorbed(alloc, input, config) {
-        Ok(absorber) => output.show_front(front_of(&absorber.state)),
+        Ok(absorber) => {
+            let front = front_of(&absorber.state);
+            absorber.leave();
+            output.show_front(front)
+        }
         Err(stop) => Err(stop),
     };
     ended(printed, &mut output)
@@ -132,7 +148,12 @@ pub fn run_status<I: Read, W: Write, E: Write>(
 {
     let mut output = Output::of_form(alloc, form, writer, errors);
     let printed = match absorbed(alloc, input, config) {
-        Ok(absorber) => put_status(absorber.state.got(), front_of(&absorber.state), &mut output),
+        Ok(absorber) => {
+            let front = front_of(&absorber.state);
+            let put = put_status(absorber.state.got(), front, &mut output);
+            absorber.leave();
+            put
+        }
         Err(stop) => Err(stop),
     };
     ended(printed, &mut output)

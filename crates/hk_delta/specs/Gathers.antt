@@ -1,6 +1,6 @@
 -- What items say of versions, fact by fact, and what gathering them answers.
 use Rattle.std.specs.Prelude.{◌≡◌, ◌⊎◌, ℕ, Bool, not, ◌&&◌, ◌||◌, ◌==◌, List, [], ◌∷◌, ◌++◌, Result, Ok, Err, IfOk, IfErr}
-use Rattle.std.specs.List.{flat_map}
+use Rattle.std.specs.List.{flat_map, list_any}
 use Rattle.std.specs.Ordering.{eq_by_cmp}
 use Rattle.hk_types.specs.Values.{ConfigValue, RowValue, same_row}
 use Rattle.hk_types.specs.declared.version_key.VersionKey.{VersionKey}
@@ -21,6 +21,13 @@ use Rattle.hk_store.specs.Facts.{FactsValue, facts_put}
 abbrev pub facts_conflict : {X : Type 0} → (X → X → Bool) → VersionKey × X → VersionKey × X → Bool
 facts_conflict same e f = eq_by_cmp version_key_cmp e.0 f.0 && not (same e.1 f.1)
 
+-- of two rows, or of two ends
+abbrev pub rows_conflict : VersionKey × RowValue → VersionKey × RowValue → Bool
+rows_conflict = facts_conflict same_row
+
+abbrev pub ends_conflict : VersionKey × ℕ → VersionKey × ℕ → Bool
+ends_conflict = facts_conflict (λ a b. a == b)
+
 -- whether two of the items give a version different rows or different ends
 abbrev pub have_conflict : List Item → Bool
 have_conflict items = conflict same_row (row_facts items) || conflict (λ a b. a == b) (end_facts items)
@@ -33,6 +40,13 @@ inserted_rows (Closed m) = []
 abbrev pub stated_ends : Item → List (VersionKey × ℕ)
 stated_ends (Commit e) = entry_ends e
 stated_ends (Closed m) = []
+
+-- whether one of the items gives the version another row, or another end
+abbrev pub conflicts_in_row : List Item → VersionKey × RowValue → Bool
+conflicts_in_row items e = list_any (λ item. list_any (rows_conflict e) (inserted_rows item)) items
+
+abbrev pub conflicts_in_end : List Item → VersionKey × ℕ → Bool
+conflicts_in_end items e = list_any (λ item. list_any (ends_conflict e) (stated_ends item)) items
 
 -- a fact on a version
 abbrev pub FactOn : Type 0

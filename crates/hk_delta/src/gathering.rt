@@ -17,7 +17,7 @@ use hk_facts::Fact;
 use hk_log::Item;
 use hk_marks::Got;
 use hk_state::wrong_log;
-use hk_store::Facts;
+use hk_store::Chains;
 use hk_types::{Config, Key, Refusal, Row, Table, Time, VersionKey};
 use std::alloc::Global;
 
@@ -36,7 +36,7 @@ fn first_wrong_log(config: Config, items: &[Item]) -> Option<Refusal>
 /// Puts the rows of an entry of a time.
 fn put_rows(
     alloc: Global,
-    facts: &mut Facts,
+    facts: &mut Chains,
     rows: &[(Table, Key, Row)],
     time: Time,
 ) -> Result<(), Refusal>
@@ -57,7 +57,7 @@ fn put_rows(
 }
 
 /// Puts the ends of an entry of a time.
-fn put_ends(facts: &mut Facts, ends: &[VersionKey], time: Time) -> Result<(), Refusal>
+fn put_ends(facts: &mut Chains, ends: &[VersionKey], time: Time) -> Result<(), Refusal>
     ensures { Puts facts.old facts.new (flat_map (end_fact time) ends.now) result }
 {
     for version in ends {
@@ -69,7 +69,7 @@ fn put_ends(facts: &mut Facts, ends: &[VersionKey], time: Time) -> Result<(), Re
 }
 
 /// Puts all that an item says of versions.
-fn put_item(alloc: Global, facts: &mut Facts, item: &Item) -> Result<(), Refusal>
+fn put_item(alloc: Global, facts: &mut Chains, item: &Item) -> Result<(), Refusal>
     ensures { Puts facts.old facts.new (item_facts item.now) result }
 {
     match item {
@@ -84,7 +84,7 @@ fn put_item(alloc: Global, facts: &mut Facts, item: &Item) -> Result<(), Refusal
 }
 
 /// Puts all that items say of versions.
-fn put_items(alloc: Global, facts: &mut Facts, items: &[Item]) -> Result<(), Refusal>
+fn put_items(alloc: Global, facts: &mut Chains, items: &[Item]) -> Result<(), Refusal>
     ensures { Puts facts.old facts.new (flat_map item_facts items.now) result }
 {
     for item in items {
@@ -132,7 +132,7 @@ fn gather(alloc: Global, config: Config, items: &[Item]) -> Result<Fragment, Ref
     ensures lawful { OnOk result (All IsItem items.now) }
     ensures err { IfErr result (λ why. (why ≡ Memory) ⊎ ((why ≡ ConflictRefusal) × (have_conflict items.now ≡ true))) }
 {
-    let mut facts = Facts::new(alloc);
+    let mut facts = Chains::new(alloc);
     if let Err(why) = put_items(alloc, &mut facts, items) {
         return Err(why);
     }

@@ -1,8 +1,8 @@
 -- What joins and merges leave and answer.
-use Rattle.std.specs.Prelude.{◌≡◌, ◌⊎◌, ◌++◌, ℕ, max, List, Result, Ok, Err, IfOk, IfErr}
+use Rattle.std.specs.Prelude.{◌≡◌, ◌⊎◌, ◌==◌, ◌++◌, ℕ, max, not, if◌then◌else◌, length, List, Option, Some, None, Result, Ok, Err, IfOk, IfErr}
 use Rattle.hk_types.specs.Values.{ConfigValue}
 use Rattle.hk_types.specs.declared.faults.Refusal.{Refusal}
-use Rattle.hk_types.specs.declared.faults.Refusal.TheVariants.{Memory}
+use Rattle.hk_types.specs.declared.faults.Refusal.TheVariants.{ForeignLog, Memory, WrongStreams}
 use Rattle.hk_log.specs.declared.item.Item.{Item}
 use Rattle.hk_model.specs.Replica.Content.{Content}
 use Rattle.hk_model.specs.Replica.Fragments.{FragmentValue, cut}
@@ -26,3 +26,9 @@ abbrev pub MergesOf : Content → Content → Content → Result (Unit {0}) Refu
 MergesOf old new peer result =
     (config : ConfigValue) (history : History) (own others : List Item) (g h : ℕ) → IsHistory config history → Represents config history own g old → Represents config history others h peer
     → IfOk result (λ done. Represents config history (own ++ others) (max g h) new) × IfErr result (λ why. why ≡ Memory)
+
+-- why what is of a log is none of the target's, if it is none: of another log, or with another number of streams
+abbrev pub wrong_log_of : Content → ConfigValue → Option Refusal
+wrong_log_of target config =
+    if not (config.log == target.log) then Some ForeignLog
+    else if not (config.streams == length target.streams) then Some WrongStreams else None

@@ -1,3 +1,4 @@
 pub mod Calls
-pub mod Sent
+pub mod Growing
 pub mod Plans
+pub mod Sent

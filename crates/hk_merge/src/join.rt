@@ -1,16 +1,11 @@
 //! Joining what is sent.
 
-ghost use Rattle.std.specs.Prelude.{◌≡◌, ◌==◌, ◌||◌, ◌&&◌, max, length, IfOk, IfErr, OnOk, OnErr, false};
-ghost use Rattle.std.specs.FinMap.{find};
+ghost use Rattle.std.specs.Prelude.{◌≡◌, max, length, IfOk, IfErr, OnOk, OnErr, false};
 ghost use Rattle.hk_types.specs.declared.faults.Refusal.TheVariants.{Memory};
-ghost use Rattle.hk_types.specs.declared.version_key.VersionKey.{VersionKey};
-ghost use Rattle.hk_model.specs.History.Rows.{version_key_cmp};
-ghost use Rattle.hk_model.specs.Replica.Maps.{or_else};
 ghost use Rattle.hk_model.specs.Replica.Rules.{contents_conflict, content_after_join};
 ghost use Rattle.hk_model.specs.Replica.Lawful.{IsLawful};
-ghost use Rattle.hk_store.specs.Drops.{is_among};
-ghost use Rattle.hk_state.specs.Changes.{content_after_change};
 ghost use Rattle.hk_merge.specs.Sent.{fragment_sent};
+ghost use Rattle.hk_merge.specs.Growing.{AddsDrops, AddsEnds, AddsRows, IsJoinOf, after_change, has_horizon};
 ghost use Rattle.hk_merge.specs.Plans.{gone_at, row_back_at, end_back_at};
 ghost use Rattle.hk_merge.specs.Calls.{Joins, Merges, MergesOf};
 
@@ -87,9 +82,9 @@ fn join_agreed(target: &mut ReplicaState, sent: &Sent) -> Result<(), Refusal>
 
 /// Adds to a change what becomes of the target's own versions, where the horizon rises.
 fn rise(change: &mut Change, target: &ReplicaState, sent: &Sent) -> Result<(), Refusal>
-    ensures drops { OnOk result ((q : VersionKey) → is_among change.new.drops.items q ≡ (is_among change.old.drops.items q || gone_at target.now (fragment_sent sent.now) q)) }
-    ensures rows { OnOk result ((q : VersionKey) → find version_key_cmp q change.new.rows.items ≡ or_else (find version_key_cmp q change.old.rows.items) (row_back_at target.now (fragment_sent sent.now) q)) }
-    ensures ends { OnOk result ((q : VersionKey) → find version_key_cmp q change.new.ends.items ≡ or_else (find version_key_cmp q change.old.ends.items) (end_back_at target.now (fragment_sent sent.now) q)) }
+    ensures drops { OnOk result (AddsDrops change.old change.new (gone_at target.now (fragment_sent sent.now))) }
+    ensures rows { OnOk result (AddsRows change.old change.new (row_back_at target.now (fragment_sent sent.now))) }
+    ensures ends { OnOk result (AddsEnds change.old change.new (end_back_at target.now (fragment_sent sent.now))) }
     ensures horizon { change.new.horizon ≡ change.old.horizon }
     ensures err { IfErr result (λ why. why ≡ Memory) }
 {
@@ -113,8 +108,8 @@ fn rise(change: &mut Change, target: &ReplicaState, sent: &Sent) -> Result<(), R
 fn work_out(target: &ReplicaState, sent: &Sent) -> Result<Change, Refusal>
     requires as_many { length (fragment_sent sent.now).content.streams ≡ length target.now.streams }
     requires agree { contents_conflict target.now (fragment_sent sent.now).content ≡ false }
-    ensures ok { IfOk result (λ change. content_after_change target.now change (fragment_sent sent.now).content.streams ≡ content_after_join target.now (fragment_sent sent.now)) }
-    ensures lawful { IfOk result (λ change. IsLawful (content_after_change target.now change (fragment_sent sent.now).content.streams)) }
+    ensures ok { IfOk result (IsJoinOf target.now (fragment_sent sent.now)) }
+    ensures lawful { IfOk result (λ change. IsLawful (after_change target.now (fragment_sent sent.now) change)) }
     ensures err { IfErr result (λ why. why ≡ Memory) }
 {
     let alloc = target.allocator();
@@ -133,7 +128,7 @@ fn work_out(target: &ReplicaState, sent: &Sent) -> Result<Change, Refusal>
 
 /// How what is sent fares at a horizon.
 fn coming(sent: &Sent, horizon: Time) -> Coming
-    ensures old { result.old ≡ (((fragment_sent sent.now).base == 0) && ((fragment_sent sent.now).content.horizon == horizon)) }
+    ensures old { result.old ≡ has_horizon (fragment_sent sent.now) horizon }
     ensures horizon { result.horizon ≡ horizon }
 {
     Coming {

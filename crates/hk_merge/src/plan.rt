@@ -1,18 +1,18 @@
 //! What a join changes.
 
-ghost use Rattle.std.specs.Prelude.{◌≡◌, ◌++◌, ◌∷◌, [], map, is_some, OnOk, IfOk, IfErr, if◌then◌else◌};
+ghost use Rattle.std.specs.Prelude.{◌≡◌, ◌++◌, map, is_some, OnOk, IfOk, IfErr};
 ghost use Rattle.std.specs.Option.{option_copied};
-ghost use Rattle.std.specs.FinMap.{find};
 ghost use Rattle.std.specs.FinSet as set;
 ghost use Rattle.hk_types.specs.declared.faults.Refusal.TheVariants.{Memory};
 ghost use Rattle.hk_types.specs.declared.version_key.VersionKey.{VersionKey};
-ghost use Rattle.hk_model.specs.History.Rows.{version_key_cmp};
-ghost use Rattle.hk_model.specs.Replica.Maps.{or_else};
 ghost use Rattle.hk_facts.specs.Facts.{died_of};
 ghost use Rattle.hk_store.specs.Facts.{entry_if};
 ghost use Rattle.hk_store.specs.Versions.{borrowed};
-ghost use Rattle.hk_merge.specs.Plans.{stays, goes, row_back, end_back, all_gone, rows_back, ends_back, row_comes, end_comes, row_coming, end_coming, may_go};
-ghost use Rattle.hk_merge.specs.Sent.{fragment_sent, sends_row};
+ghost use Rattle.hk_merge.specs.Growing.{AddsEnds, AddsRows, GainsDrops, GainsEnds, GainsRows};
+ghost use Rattle.hk_merge.specs.Growing.{drop_of, drops_of, end_back_of, end_of_coming, ends_back_of, goes_of};
+ghost use Rattle.hk_merge.specs.Growing.{row_back_of, row_of_coming, rows_back_of, stays_of};
+ghost use Rattle.hk_merge.specs.Plans.{end_coming, may_go, row_coming};
+ghost use Rattle.hk_merge.specs.Sent.{fragment_sent};
 
 use crate::sent::{Sent, has_row};
 use hk_facts::ended_by;
@@ -47,7 +47,7 @@ pub(crate) struct Coming {
 impl Leaving<'_> {
     /// Whether a row of the target's own stays.
     fn keeps_row(&self, version: &VersionKey, own: &Version) -> bool
-        ensures { result ≡ stays self.now.whole self.now.horizon (sends_row self.now.sent.now) version.now own.now }
+        ensures { result ≡ stays_of self.now version.now own.now }
     {
         if self.horizon < version.born {
             return true;
@@ -61,7 +61,7 @@ impl Leaving<'_> {
 
     /// Whether a row or an end of the target's own goes.
     fn goes(&self, version: &VersionKey, own: &Version) -> bool
-        ensures { result ≡ goes self.now.whole self.now.horizon (sends_row self.now.sent.now) version.now own.now }
+        ensures { result ≡ goes_of self.now version.now own.now }
     {
         ended_by(own, self.horizon) || (own.row().is_some() && !self.keeps_row(version, own))
     }
@@ -75,9 +75,9 @@ fn leave_version(
     version: &VersionKey,
     own: &Version,
 ) -> Result<(), AllocError>
-    ensures drops { OnOk result (change.new.drops.items ≡ change.old.drops.items ++ (if goes leaving.now.whole leaving.now.horizon (sends_row leaving.now.sent.now) version.now own.now then version.now ∷ [] else [])) }
-    ensures rows { OnOk result (change.new.rows.items ≡ change.old.rows.items ++ entry_if version.now (row_back leaving.now.whole leaving.now.horizon (sends_row leaving.now.sent.now) version.now own.now)) }
-    ensures ends { OnOk result (change.new.ends.items ≡ change.old.ends.items ++ entry_if version.now (end_back leaving.now.whole leaving.now.horizon (sends_row leaving.now.sent.now) version.now own.now)) }
+    ensures drops { OnOk result (GainsDrops change.old change.new (drop_of leaving.now version.now own.now)) }
+    ensures rows { OnOk result (GainsRows change.old change.new (row_back_of leaving.now version.now own.now)) }
+    ensures ends { OnOk result (GainsEnds change.old change.new (end_back_of leaving.now version.now own.now)) }
     ensures horizon { change.new.horizon ≡ change.old.horizon }
 {
     if !leaving.goes(version, own) {
@@ -129,9 +129,9 @@ pub(crate) fn leave(
     leaving: &Leaving,
     own: &[(VersionKey, &Version)],
 ) -> Result<(), AllocError>
-    ensures drops { OnOk result (change.new.drops.items ≡ change.old.drops.items ++ all_gone leaving.now.whole leaving.now.horizon (sends_row leaving.now.sent.now) (map borrowed own.now)) }
-    ensures rows { OnOk result (change.new.rows.items ≡ change.old.rows.items ++ rows_back leaving.now.whole leaving.now.horizon (sends_row leaving.now.sent.now) (map borrowed own.now)) }
-    ensures ends { OnOk result (change.new.ends.items ≡ change.old.ends.items ++ ends_back leaving.now.whole leaving.now.horizon (sends_row leaving.now.sent.now) (map borrowed own.now)) }
+    ensures drops { OnOk result (GainsDrops change.old change.new (drops_of leaving.now (map borrowed own.now))) }
+    ensures rows { OnOk result (GainsRows change.old change.new (rows_back_of leaving.now (map borrowed own.now))) }
+    ensures ends { OnOk result (GainsEnds change.old change.new (ends_back_of leaving.now (map borrowed own.now))) }
     ensures horizon { change.new.horizon ≡ change.old.horizon }
 {
     for (version, known) in own {
@@ -149,8 +149,8 @@ fn take_version(
     version: &VersionKey,
     sent: &Version,
 ) -> Result<(), AllocError>
-    ensures rows { OnOk result (change.new.rows.items ≡ change.old.rows.items ++ entry_if version.now (row_comes own.now coming.now.old coming.now.horizon version.now sent.now)) }
-    ensures ends { OnOk result (change.new.ends.items ≡ change.old.ends.items ++ entry_if version.now (end_comes own.now coming.now.old coming.now.horizon version.now sent.now)) }
+    ensures rows { OnOk result (GainsRows change.old change.new (row_of_coming own.now coming.now version.now sent.now)) }
+    ensures ends { OnOk result (GainsEnds change.old change.new (end_of_coming own.now coming.now version.now sent.now)) }
     ensures drops { change.new.drops.items ≡ change.old.drops.items }
     ensures horizon { change.new.horizon ≡ change.old.horizon }
 {
@@ -182,8 +182,8 @@ fn take_part(
     own: &Facts,
     fragment: &Fragment,
 ) -> Result<(), AllocError>
-    ensures rows { OnOk result ((q : VersionKey) → find version_key_cmp q change.new.rows.items ≡ or_else (find version_key_cmp q change.old.rows.items) (row_coming own.now coming.now.old coming.now.horizon fragment.now.content q)) }
-    ensures ends { OnOk result ((q : VersionKey) → find version_key_cmp q change.new.ends.items ≡ or_else (find version_key_cmp q change.old.ends.items) (end_coming own.now coming.now.old coming.now.horizon fragment.now.content q)) }
+    ensures rows { OnOk result (AddsRows change.old change.new (row_coming own.now coming.now.old coming.now.horizon fragment.now.content)) }
+    ensures ends { OnOk result (AddsEnds change.old change.new (end_coming own.now coming.now.old coming.now.horizon fragment.now.content)) }
     ensures drops { change.new.drops.items ≡ change.old.drops.items }
     ensures horizon { change.new.horizon ≡ change.old.horizon }
 {
@@ -202,8 +202,8 @@ fn take_whole(
     own: &Facts,
     state: &ReplicaState,
 ) -> Result<(), AllocError>
-    ensures rows { OnOk result ((q : VersionKey) → find version_key_cmp q change.new.rows.items ≡ or_else (find version_key_cmp q change.old.rows.items) (row_coming own.now coming.now.old coming.now.horizon state.now q)) }
-    ensures ends { OnOk result ((q : VersionKey) → find version_key_cmp q change.new.ends.items ≡ or_else (find version_key_cmp q change.old.ends.items) (end_coming own.now coming.now.old coming.now.horizon state.now q)) }
+    ensures rows { OnOk result (AddsRows change.old change.new (row_coming own.now coming.now.old coming.now.horizon state.now)) }
+    ensures ends { OnOk result (AddsEnds change.old change.new (end_coming own.now coming.now.old coming.now.horizon state.now)) }
     ensures drops { change.new.drops.items ≡ change.old.drops.items }
     ensures horizon { change.new.horizon ≡ change.old.horizon }
 {
@@ -221,8 +221,8 @@ pub(crate) fn take(
     own: &Facts,
     sent: &Sent,
 ) -> Result<(), AllocError>
-    ensures rows { OnOk result ((q : VersionKey) → find version_key_cmp q change.new.rows.items ≡ or_else (find version_key_cmp q change.old.rows.items) (row_coming own.now coming.now.old coming.now.horizon (fragment_sent sent.now).content q)) }
-    ensures ends { OnOk result ((q : VersionKey) → find version_key_cmp q change.new.ends.items ≡ or_else (find version_key_cmp q change.old.ends.items) (end_coming own.now coming.now.old coming.now.horizon (fragment_sent sent.now).content q)) }
+    ensures rows { OnOk result (AddsRows change.old change.new (row_coming own.now coming.now.old coming.now.horizon (fragment_sent sent.now).content)) }
+    ensures ends { OnOk result (AddsEnds change.old change.new (end_coming own.now coming.now.old coming.now.horizon (fragment_sent sent.now).content)) }
     ensures drops { change.new.drops.items ≡ change.old.drops.items }
     ensures horizon { change.new.horizon ≡ change.old.horizon }
 {

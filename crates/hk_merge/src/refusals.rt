@@ -1,7 +1,7 @@
 //! Why a state does not take what is sent.
 
-ghost use Rattle.std.specs.Prelude.{◌≡◌, ◌==◌, not, length, if◌then◌else◌, Some, None};
-ghost use Rattle.hk_types.specs.declared.faults.Refusal.TheVariants.{ForeignLog as Foreign, WrongStreams as Wrong};
+ghost use Rattle.std.specs.Prelude.{◌≡◌};
+ghost use Rattle.hk_merge.specs.Calls.{wrong_log_of};
 
 use hk_state::ReplicaState;
 use hk_types::{Config, Refusal};
@@ -9,8 +9,7 @@ use hk_types::{Config, Refusal};
 /// Why what is of this log is none of the target's, if it is none: `ForeignLog` for another log, and then
 /// `WrongStreams` for another number of streams. It takes no memory.
 pub fn wrong_log(target: &ReplicaState, config: Config) -> Option<Refusal>
-    ensures { result ≡ (if not (config.log == target.now.log) then Some Foreign
-        else if not (config.streams == length target.now.streams) then Some Wrong else None) }
+    ensures { result ≡ wrong_log_of target.now config }
 {
     if config.log() != target.config().log() {
         return Some(Refusal::ForeignLog);

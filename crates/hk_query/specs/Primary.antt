@@ -1,5 +1,5 @@
--- An answer beside the primary's rows.
-use Rattle.std.specs.Prelude.{◌≡◌, ◌≤◌, ℕ, List, Result, IfOk, IfErr}
+-- An answer beside its definition, and beside the primary's rows.
+use Rattle.std.specs.Prelude.{◌≡◌, ◌⊎◌, ◌≤◌, ℕ, List, Result, Ok, Err, IfOk, IfErr, MatchResult}
 use Rattle.hk_types.specs.Values.{ConfigValue}
 use Rattle.hk_types.specs.declared.faults.Refusal.{Refusal}
 use Rattle.hk_types.specs.declared.faults.Refusal.TheVariants.{Memory}
@@ -9,7 +9,7 @@ use Rattle.hk_model.specs.declared.query.Query.{Query}
 use Rattle.hk_model.specs.Replica.Content.{Content, readable}
 use Rattle.hk_model.specs.History.Histories.{History, commits, IsHistory, table_at}
 use Rattle.hk_model.specs.Replica.Replicas.{Represents}
-use Rattle.hk_model.specs.Replica.Answers.{answer, answer_seen}
+use Rattle.hk_model.specs.Replica.Answers.{answer, answer_seen, reply, visible}
 
 -- where the content represents items of a history, from its horizon to its readable mark the answer is that
 -- on the primary's rows at that time, unless memory ran out
@@ -17,3 +17,9 @@ abbrev pub IsOfPrimary : Content → ℕ → Query → Result Answer Refusal →
 IsOfPrimary c t query result =
     (config : ConfigValue) (history : History) (items : List Item) (horizon : ℕ) → IsHistory config history → Represents config history items horizon c → horizon ≤ t → t ≤ readable c
     → IfOk result (λ a. answer_seen a ≡ answer (table_at (commits history) t) query) × IfErr result (λ why. why ≡ Memory)
+
+-- the reply is the definition's, or memory ran out where that is an answer
+abbrev pub Replies : Content → ℕ → Query → Result Answer Refusal → Type 0
+Replies c t query result =
+    MatchResult result (λ a. reply c t query ≡ Ok (answer_seen a))
+    (λ why. (reply c t query ≡ Err why) ⊎ ((why ≡ Memory) × (reply c t query ≡ Ok (answer (visible c t) query))))

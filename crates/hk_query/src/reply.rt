@@ -1,10 +1,10 @@
 //! Asking a state.
 
-ghost use Rattle.std.specs.Prelude.{◌≡◌, ◌⊎◌, ◌≢◌, ℕ, Ok, Err, None, IsOk, IfErr, MatchResult};
+ghost use Rattle.std.specs.Prelude.{◌≡◌, ◌≢◌, ℕ, Ok, None, IsOk, IfErr};
 ghost use Rattle.hk_types.specs.declared.faults.Refusal.TheVariants.{Memory};
 ghost use Rattle.hk_model.specs.declared.query.Query.TheVariants.{Count};
-ghost use Rattle.hk_query.specs.Primary.{IsOfPrimary};
-ghost use Rattle.hk_model.specs.Replica.Answers.{One, answer, answer_seen, reply, visible};
+ghost use Rattle.hk_query.specs.Primary.{IsOfPrimary, Replies};
+ghost use Rattle.hk_model.specs.Replica.Answers.{One, reply};
 
 use crate::answers::answer_at;
 use hk_model::{Answer, Query};
@@ -26,10 +26,7 @@ pub fn ask(
     time: Time,
     query: &Query,
 ) -> Result<Answer, Refusal>
-    ensures gives { MatchResult result (λ a. reply state.now time query.now ≡ Ok (answer_seen a))
-        (λ why. (reply state.now time query.now ≡ Err why)
-        ⊎ ((why ≡ Memory)
-        × (reply state.now time query.now ≡ Ok (answer (visible state.now time) query.now)))) }
+    ensures gives { Replies state.now time query.now result }
     ensures primary { IsOfPrimary state.now time query.now result }
 
     // A count takes no memory.

@@ -145,7 +145,7 @@ impl Chains {
     }
 
     /// Takes a part of a version back, where it is known, and says what went. Cost: O(log n), n facts.
-    pub fn forget(&mut self, version: &VersionKey, part: Part) -> Lost
+    pub(crate) fn forget(&mut self, version: &VersionKey, part: Part) -> Lost
         ensures left { self.new ≡ facts_without self.old version.now part }
         ensures tag { result.tag ≡ tag_lost self.old version.now part }
         ensures died { result.died ≡ end_lost self.old version.now part }

@@ -16,6 +16,7 @@ mod stated;
 mod versions;
 mod walk;
 
+pub use chains::Chains;
 pub use facts::Facts;
 pub use key_index::KeyIndex;
 pub use replace::meets;

@@ -12,12 +12,23 @@ ghost use Rattle.hk_store.specs.Facts.{known_at};
 ghost use Rattle.hk_store.specs.Reads.{with_facts};
 ghost use Rattle.hk_store.specs.Versions.{AreVersions, AreVersionsOf, borrowed, value_conflicts_at};
 
+use crate::chains::Chains;
 use crate::facts::Facts;
 use crate::walk::Walk;
 use hk_index::VersionSet;
 use hk_log::Version;
 use hk_types::VersionKey;
 use std::alloc::{AllocError, Global};
+
+impl Chains {
+    /// All versions of which anything is known, in rising order. The only error is out of memory.
+    /// Cost: that of a walk over them.
+    pub fn versions(&self, alloc: Global) -> Result<Vec<(VersionKey, &Version)>, AllocError>
+        ensures { IfOk result (λ versions. AreVersions self.now (map borrowed versions.items)) }
+    {
+        self.walk().collect(alloc)
+    }
+}
 
 impl Facts {
     /// What is known of a version. Cost: O(log n), n facts.
@@ -41,7 +52,7 @@ impl Facts {
     pub fn versions(&self, alloc: Global) -> Result<Vec<(VersionKey, &Version)>, AllocError>
         ensures { IfOk result (λ versions. AreVersions self.now (map borrowed versions.items)) }
     {
-        self.walk().collect(alloc)
+        self.chains.versions(alloc)
     }
 
     /// Those of a set's versions of which anything is known, in rising order. The only error is out of
