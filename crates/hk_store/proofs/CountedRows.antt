@@ -10,8 +10,6 @@ use Rattle.std.specs.Map.{keys_of}
 use Rattle.std.specs.Option.{option_and_then, is_some}
 use Rattle.std.specs.Ordering.{eq_by_cmp, is_lt, ordering_then}
 use Rattle.std.specs.Cmp.{nat_cmp_total, tied_itself}
-use Rattle.std.specs.BTreeMap.{BTreeMap}
-use Rattle.std.specs.BTreeMap as tree
 use Rattle.std.specs.FinMap as finmap
 use Rattle.std.specs.FinMap.Entries.{find, is_sorted, below_all, same_entries}
 use Rattle.hk_types.specs.Values.{RowValue}
@@ -22,7 +20,7 @@ use Rattle.hk_model.proofs.Maps.{row_key_total, row_key_same}
 use Rattle.hk_model.proofs.Visible.{T_both}
 use Rattle.hk_index.proofs.StoredKeys.{no_greater}
 use Rattle.hk_facts.specs.Chains.{ChainValue, row_at}
-use Rattle.hk_facts.proofs.StoredTrees.{and_T, entries_tree}
+use Rattle.hk_facts.proofs.StoredTrees.{and_T}
 use Rattle.hk_store.specs.Facts.{ChainsValue, stored_version, known_at, facts_of, AllKnown}
 use Rattle.hk_store.specs.Reads.{with_facts}
 use Rattle.hk_store.proofs.StoredFacts.{find_flat, known_stored}
@@ -167,12 +165,26 @@ pub from_start : (b : Bool) → (b && true) ≡ b
 from_start true = refl
 from_start false = refl
 
--- the rows of a table that the chains of a stored tree have at t, counted from where the table begins
-pub counted_from : (m : BTreeMap RowKey ChainValue) → AllKnown (finmap.from_entries m.entries) → tree.IsOrdered row_key_cmp m → (table t : ℕ)
-    → length (filter (λ (e : RowKey × ChainValue). is_some (row_at e.1 t)) (take_while (λ (e : RowKey × ChainValue). e.0.table == table) (filter (λ (e : RowKey × ChainValue). is_from table e.0) m.entries)))
-    ≡ length (rows_where (λ k row. k.table == table) (visible (with_facts (facts_of (finmap.from_entries m.entries))) t))
-counted_from m known ordered table t =
-    ap (λ (es : List (RowKey × ChainValue)). length (filter (λ (e : RowKey × ChainValue). is_some (row_at e.1 t)) es)) (while_own table m.entries ordered)
-    ∙ ap length (filter_twice (λ (e : RowKey × ChainValue). e.0.table == table) (λ (e : RowKey × ChainValue). is_some (row_at e.1 t)) m.entries)
-    ∙ ap (λ (es : List (RowKey × ChainValue)). length (filter (λ (e : RowKey × ChainValue). (e.0.table == table) && is_some (row_at e.1 t)) es)) (sym (entries_tree row_key_total row_key_same m ordered))
-    ∙ chains_counted t (with_facts (facts_of (finmap.from_entries m.entries))) (finmap.from_entries m.entries) (λ k born. known_stored (finmap.from_entries m.entries) known (version_of k born)) table
+-- the keys of sorted entries rise
+each_below : {X : Type 0} (k : RowKey) (es : List (RowKey × X)) → T (below_all row_key_cmp k es) → AllByRecursion (λ y. row_key_cmp k y ≡ Less) (keys_of es)
+each_below k [] t = tt
+each_below k (e ∷ es) t = let both = T_both (is_lt (row_key_cmp k e.0)) (below_all row_key_cmp k es) t in (less (row_key_cmp k e.0) both.0, each_below k es both.1)
+  where
+    less : (o : Ordering) → T (is_lt o) → o ≡ Less
+    less Less t = refl
+    less Equal t = absurd t
+    less Greater t = absurd t
+
+pub keys_rise : {X : Type 0} (es : List (RowKey × X)) → T (is_sorted row_key_cmp es) → IsStrictlySortedBy row_key_cmp (keys_of es)
+unfolding IsStrictlySortedBy
+keys_rise [] t = tt
+keys_rise (e ∷ es) t = let both = T_both (below_all row_key_cmp e.0 es) (is_sorted row_key_cmp es) t in (each_below e.0 es both.0, keys_rise es both.1)
+
+-- the rows of a table that stored chains have at t, counted from where the table begins
+pub counted_from : (m : ChainsValue) → AllKnown m → (table t : ℕ)
+    → length (filter (λ (e : RowKey × ChainValue). is_some (row_at e.1 t)) (take_while (λ (e : RowKey × ChainValue). e.0.table == table) (filter (λ (e : RowKey × ChainValue). is_from table e.0) (finmap.entries m))))
+    ≡ length (rows_where (λ k row. k.table == table) (visible (with_facts (facts_of m)) t))
+counted_from m known table t =
+    ap (λ (es : List (RowKey × ChainValue)). length (filter (λ (e : RowKey × ChainValue). is_some (row_at e.1 t)) es)) (while_own table (finmap.entries m) (keys_rise (finmap.entries m) (finmap.entries_sorted m)))
+    ∙ ap length (filter_twice (λ (e : RowKey × ChainValue). e.0.table == table) (λ (e : RowKey × ChainValue). is_some (row_at e.1 t)) (finmap.entries m))
+    ∙ chains_counted t (with_facts (facts_of m)) m (λ k born. known_stored m known (version_of k born)) table

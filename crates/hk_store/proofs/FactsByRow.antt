@@ -1,9 +1,7 @@
--- The facts of a stored tree of chains, and what becomes of them.
-use Rattle.std.proofs.Common.{◌≡◌, refl, sym, ap, ◌∙◌, subst, ℕ, zero, suc, ◌<◌, Bool, true, false, cond, Option, Some, None, Result, Ok, Err, OnOk, OnErr, IfErr, IfSome, IsSome, ◌⊎◌, inl, inr, nat_cmp, Bor, [], arith}
+-- The facts of stored chains, and what becomes of them.
+use Rattle.std.proofs.Common.{◌≡◌, refl, sym, ap, ◌∙◌, subst, ℕ, zero, suc, ◌<◌, Bool, true, false, cond, Option, Some, None, Result, Ok, Err, OnOk, OnErr, IfErr, IfSome, IsSome, ◌⊎◌, inl, inr, nat_cmp, Bor, arith}
 use Rattle.std.specs.Option.{option_copied, option_and_then, option_map, IfNone}
 use Rattle.std.specs.Ordering.{eq_by_cmp}
-use Rattle.std.specs.BTreeMap.{BTreeMap}
-use Rattle.std.specs.BTreeMap as tree
 use Rattle.std.specs.FinMap as finmap
 use Rattle.hk_types.specs.Values.{RowValue}
 use Rattle.hk_types.specs.declared.version_key.VersionKey.{VersionKey}
@@ -17,22 +15,25 @@ use Rattle.hk_facts.specs.declared.fact.Part.TheVariants.{Row as RowPart, End as
 use Rattle.hk_facts.specs.Facts.{row_of, died_of, without}
 use Rattle.hk_facts.specs.Chains.{ChainValue, chain_put, chain_forget}
 use Rattle.hk_facts.proofs.ForgottenParts.{nothing_left}
-use Rattle.hk_facts.proofs.StoredTrees.{get_tree, get_updated, is_there, set_at_same, IfErr_map}
+use Rattle.hk_facts.proofs.StoredTrees.{is_there, set_at_same, IfErr_map}
+use Rattle.hk_slots.specs.SlotMaps.{Slots, map_of, IsWritten}
 use Rattle.hk_store.specs.Facts.{ChainsValue, stored_version, facts_of, no_facts, known_at, AreStored, facts_put, facts_without}
 use Rattle.hk_store.specs.Indexed.{tag_lost, end_lost, tag_of_part, end_of_part}
 use Rattle.hk_store.proofs.StoredFacts.{get_row, get_end, known_stored, nothing_known}
 use Rattle.hk_store.proofs.ChangedChains.{IsChainOf, IsChanged, row_is, same_facts, put_some, facts_put_ok, facts_put_err, known_put, facts_forgotten, known_forgotten}
 
-abbrev pub seen : BTreeMap RowKey ChainValue → ChainsValue
-seen m = finmap.from_entries m.entries
+abbrev pub seen : Slots RowKey ChainValue → ChainsValue
+seen m = map_of row_key_cmp m
+
+-- the chains with this one in the place of a row's chain, or with none there
+abbrev pub Updates : Slots RowKey ChainValue → Slots RowKey ChainValue → RowKey → Option ChainValue → Type 0
+Updates m n k (Some c) = seen n ≡ finmap.insert (seen m) k c
+Updates m n k None = seen n ≡ finmap.remove (seen m) k
 
 -- ---- no chains
 
 stored_nothing : (q : VersionKey) → stored_version finmap.empty q ≡ None
 stored_nothing q = ap (option_and_then (λ c. finmap.get c q.born)) (finmap.get-empty row_key_cmp (row_key_of q))
-
-pub nothing_seen : (m : BTreeMap RowKey ChainValue) → m.entries ≡ [] → finmap.empty ≡ seen m
-nothing_seen m is = sym (ap (λ es. finmap.from_entries {R = row_key_cmp} es) is)
 
 pub nothing_stored : AreStored finmap.empty
 nothing_stored = record {
@@ -47,21 +48,22 @@ empty_facts = same_facts (facts_of finmap.empty) no_facts
 
 -- ---- what is looked up
 
-found : (m : BTreeMap RowKey ChainValue) (k : RowKey) (x : Option ChainValue) → x ≡ tree.get row_key_cmp m k → x ≡ finmap.get (seen m) k
-found m k x has = has ∙ sym (get_tree row_key_total m k)
+get_updated : (m n : Slots RowKey ChainValue) (k : RowKey) (w : Option ChainValue) → Updates m n k w → IsChanged (seen m) (seen n) k w
+get_updated m n k (Some c) u q = ap (λ x. finmap.get x q) u ∙ finmap.get-insert row_key_total (seen m) k c q
+get_updated m n k None u q = ap (λ x. finmap.get x q) u ∙ finmap.get-remove row_key_total (seen m) k q
 
-module _ (m : BTreeMap RowKey ChainValue) (stored : AreStored (seen m)) (k : RowKey) where
-  pub chain_some : (r : Option (Bor ChainValue)) → option_copied r ≡ tree.get row_key_cmp m k → IfSome r (λ c. (born : ℕ) → finmap.get c.now born ≡ known_at (facts_of (seen m)) (version_of k born))
+module _ (m : Slots RowKey ChainValue) (stored : AreStored (seen m)) (k : RowKey) where
+  pub chain_some : (r : Option (Bor ChainValue)) → option_copied r ≡ finmap.get (seen m) k → IfSome r (λ c. (born : ℕ) → finmap.get c.now born ≡ known_at (facts_of (seen m)) (version_of k born))
   chain_some None has = tt
-  chain_some (Some c) has = λ born. ap (option_and_then (λ d. finmap.get d born)) (found m k (Some c.now) has) ∙ sym (known_stored (seen m) stored.known (version_of k born))
+  chain_some (Some c) has = λ born. ap (option_and_then (λ d. finmap.get d born)) has ∙ sym (known_stored (seen m) stored.known (version_of k born))
 
-  pub chain_none : (r : Option (Bor ChainValue)) → option_copied r ≡ tree.get row_key_cmp m k → IfNone r ((born : ℕ) → known_at (facts_of (seen m)) (version_of k born) ≡ None)
-  chain_none None has = λ born. nothing_known (seen m) (version_of k born) (ap (option_and_then (λ d. finmap.get d born)) (sym (found m k None has)))
+  pub chain_none : (r : Option (Bor ChainValue)) → option_copied r ≡ finmap.get (seen m) k → IfNone r ((born : ℕ) → known_at (facts_of (seen m)) (version_of k born) ≡ None)
+  chain_none None has = λ born. nothing_known (seen m) (version_of k born) (ap (option_and_then (λ d. finmap.get d born)) (sym has))
   chain_none (Some c) has = tt
 
-  pub chain_filled : (r : Option (Bor ChainValue)) → option_copied r ≡ tree.get row_key_cmp m k → IfSome r (λ c. 0 < finmap.len c.now)
+  pub chain_filled : (r : Option (Bor ChainValue)) → option_copied r ≡ finmap.get (seen m) k → IfSome r (λ c. 0 < finmap.len c.now)
   chain_filled None has = tt
-  chain_filled (Some c) has = stored.filled k c.now (sym (found m k (Some c.now) has))
+  chain_filled (Some c) has = stored.filled k c.now (sym has)
 
 -- ---- what goes with a part
 
@@ -107,56 +109,56 @@ some_filled d above c e = let same : d ≡ c = cc in subst (λ (x : ChainValue).
 none_filled : (c : ChainValue) → None ≡ Some c → 0 < finmap.len c
 none_filled c e = cc
 
-module _ (m : BTreeMap RowKey ChainValue) (k : RowKey) (v : VersionKey) (at : k ≡ row_key_of v) where
-  pub chain_there : (c : ChainValue) → Some c ≡ tree.get row_key_cmp m k → IsChainOf (seen m) (row_key_of v) c
-  chain_there c has born = ap (option_and_then (λ d. finmap.get d born)) (found m k (Some c) has ∙ ap (finmap.get (seen m)) at)
+module _ (m : Slots RowKey ChainValue) (k : RowKey) (v : VersionKey) (at : k ≡ row_key_of v) where
+  pub chain_there : (c : ChainValue) → Some c ≡ finmap.get (seen m) k → IsChainOf (seen m) (row_key_of v) c
+  chain_there c has born = ap (option_and_then (λ d. finmap.get d born)) (has ∙ ap (finmap.get (seen m)) at)
 
-  pub chain_absent : None ≡ tree.get row_key_cmp m k → IsChainOf (seen m) (row_key_of v) finmap.empty
-  chain_absent none born = finmap.get-empty nat_cmp born ∙ ap (option_and_then (λ d. finmap.get d born)) (found m k None none ∙ ap (finmap.get (seen m)) at)
+  pub chain_absent : None ≡ finmap.get (seen m) k → IsChainOf (seen m) (row_key_of v) finmap.empty
+  chain_absent none born = finmap.get-empty nat_cmp born ∙ ap (option_and_then (λ d. finmap.get d born)) (none ∙ ap (finmap.get (seen m)) at)
 
-  changed : (n : BTreeMap RowKey ChainValue) (w : Option ChainValue) → tree.Updates row_key_cmp m n k w → IsChanged (seen m) (seen n) (row_key_of v) w
-  changed n w u = subst (λ (r : RowKey). IsChanged (seen m) (seen n) r w) at (get_updated row_key_total m n k w u)
+  changed : (n : Slots RowKey ChainValue) (w : Option ChainValue) → Updates m n k w → IsChanged (seen m) (seen n) (row_key_of v) w
+  changed n w u = subst (λ (r : RowKey). IsChanged (seen m) (seen n) r w) at (get_updated m n k w u)
 
-  nothing_at : None ≡ tree.get row_key_cmp m k → None ≡ stored_version (seen m) v
+  nothing_at : None ≡ finmap.get (seen m) k → None ≡ stored_version (seen m) v
   nothing_at none = sym (finmap.get-empty nat_cmp v.born) ∙ chain_absent none v.born
 
-  pub absent_known : None ≡ tree.get row_key_cmp m k → known_at (facts_of (seen m)) v ≡ None
+  pub absent_known : None ≡ finmap.get (seen m) k → known_at (facts_of (seen m)) v ≡ None
   absent_known none = nothing_known (seen m) v (sym (nothing_at none))
 
   -- ---- a fact that is put in
 
   module _ (fact : Fact) where
-    put_stored : (n : BTreeMap RowKey ChainValue) (c d : ChainValue) → IsChainOf (seen m) (row_key_of v) c → chain_put c v.born fact ≡ Ok d → tree.Updates row_key_cmp m n k (Some d) → AreStored (seen m) → AreStored (seen n)
+    put_stored : (n : Slots RowKey ChainValue) (c d : ChainValue) → IsChainOf (seen m) (row_key_of v) c → chain_put c v.born fact ≡ Ok d → Updates m n k (Some d) → AreStored (seen m) → AreStored (seen n)
     put_stored n c d of put u stored = record {
       filled = filled_changed (seen m) (seen n) (row_key_of v) (Some d) (changed n (Some d) u) (some_filled d (filled_by d (put_some fact (seen m) v c of d put))) stored;
       known = known_put fact (seen m) v c of (seen n) d put (changed n (Some d) u) stored.known;
     }
 
-    pub put_new : (n : BTreeMap RowKey ChainValue) (d : ChainValue) → None ≡ tree.get row_key_cmp m k → chain_put finmap.empty v.born fact ≡ Ok d → tree.Updates row_key_cmp m n k (Some d) → facts_put (facts_of (seen m)) v fact ≡ Ok (facts_of (seen n))
+    pub put_new : (n : Slots RowKey ChainValue) (d : ChainValue) → None ≡ finmap.get (seen m) k → chain_put finmap.empty v.born fact ≡ Ok d → Updates m n k (Some d) → facts_put (facts_of (seen m)) v fact ≡ Ok (facts_of (seen n))
     put_new n d none put u = facts_put_ok fact (seen m) v finmap.empty (chain_absent none) (seen n) d put (changed n (Some d) u)
 
-    pub new_stored : (n : BTreeMap RowKey ChainValue) (d : ChainValue) → None ≡ tree.get row_key_cmp m k → chain_put finmap.empty v.born fact ≡ Ok d → tree.Updates row_key_cmp m n k (Some d) → AreStored (seen m) → AreStored (seen n)
+    pub new_stored : (n : Slots RowKey ChainValue) (d : ChainValue) → None ≡ finmap.get (seen m) k → chain_put finmap.empty v.born fact ≡ Ok d → Updates m n k (Some d) → AreStored (seen m) → AreStored (seen n)
     new_stored n d none put u stored = put_stored n finmap.empty d (chain_absent none) put u stored
 
   -- ---- a chain that is there
 
-  module _ (c : ChainValue) (has : Some c ≡ tree.get row_key_cmp m k) where
-    module _ (n : BTreeMap RowKey ChainValue) (d : ChainValue) (u : IsSome (tree.get row_key_cmp m k) → tree.Updates row_key_cmp m n k (Some d)) where
+  module _ (c : ChainValue) (has : Some c ≡ finmap.get (seen m) k) where
+    module _ (n : Slots RowKey ChainValue) (d : ChainValue) (u : IsSome (finmap.get (seen m) k) → IsWritten row_key_cmp m k d n) where
       changed_there : IsChanged (seen m) (seen n) (row_key_of v) (Some d)
-      changed_there = changed n (Some d) (u (is_there _ c has))
+      changed_there = changed n (Some d) (u (is_there _ c has)).map
 
       pub write_back : d ≡ c → seen n ≡ seen m
       write_back same = finmap.same_map row_key_total row_key_same (seen n) (seen m) (λ q. changed_there q ∙ here q (eq_by_cmp row_key_cmp q (row_key_of v)) refl)
         where
           here : (q : RowKey) (b : Bool) → eq_by_cmp row_key_cmp q (row_key_of v) ≡ b → cond b (Some d) (finmap.get (seen m) q) ≡ finmap.get (seen m) q
-          here q true e = ap Some same ∙ found m k (Some c) has ∙ ap (finmap.get (seen m)) (at ∙ sym (row_is q (row_key_of v) e))
+          here q true e = ap Some same ∙ has ∙ ap (finmap.get (seen m)) (at ∙ sym (row_is q (row_key_of v) e))
           here q false e = refl
 
       pub put_there : (fact : Fact) → chain_put c v.born fact ≡ Ok d → facts_put (facts_of (seen m)) v fact ≡ Ok (facts_of (seen n))
       put_there fact put = facts_put_ok fact (seen m) v c (chain_there c has) (seen n) d put changed_there
 
       pub there_stored : {A : Type 0} (fact : Fact) (r : Result A Refusal) → OnOk r (chain_put c v.born fact ≡ Ok d) → OnErr r (d ≡ c) → AreStored (seen m) → AreStored (seen n)
-      there_stored fact (Ok a) ok err stored = put_stored fact n c d (chain_there c has) ok (u (is_there _ c has)) stored
+      there_stored fact (Ok a) ok err stored = put_stored fact n c d (chain_there c has) ok (u (is_there _ c has)).map stored
       there_stored fact (Err why) ok err stored = subst (λ (s : ChainsValue). AreStored s) (sym (write_back err)) stored
 
       module _ (part : Part) (is : d ≡ chain_forget c v.born part) where
@@ -171,10 +173,10 @@ module _ (m : BTreeMap RowKey ChainValue) (k : RowKey) (v : VersionKey) (at : k 
         }
 
         -- an empty chain goes
-        module _ (r : BTreeMap RowKey ChainValue) (gone : tree.Updates row_key_cmp n r k None) (none : d ≡ finmap.empty) where
+        module _ (r : Slots RowKey ChainValue) (gone : Updates n r k None) (none : d ≡ finmap.empty) where
           changed_gone : IsChanged (seen m) (seen r) (row_key_of v) None
           changed_gone q =
-              subst (λ (s : RowKey). IsChanged (seen n) (seen r) s None) at (get_updated row_key_total n r k None gone) q
+              subst (λ (s : RowKey). IsChanged (seen n) (seen r) s None) at (get_updated n r k None gone) q
               ∙ ap (cond (eq_by_cmp row_key_cmp q (row_key_of v)) None) (changed_there q)
               ∙ twice (eq_by_cmp row_key_cmp q (row_key_of v)) (finmap.get (seen m) q)
             where
@@ -211,18 +213,18 @@ module _ (m : BTreeMap RowKey ChainValue) (k : RowKey) (v : VersionKey) (at : k 
         either {why} (inr is) = inr (is.0, nothing_known (seen m) v (sym (chain_there c has v.born) ∙ is.1))
 
   -- nothing is taken back of what is not there
-  pub forgot_absent : (part : Part) → None ≡ tree.get row_key_cmp m k → facts_of (seen m) ≡ facts_without (facts_of (seen m)) v part
+  pub forgot_absent : (part : Part) → None ≡ finmap.get (seen m) k → facts_of (seen m) ≡ facts_without (facts_of (seen m)) v part
   forgot_absent part none =
       facts_forgotten part (seen m) (seen m) v finmap.empty None (chain_absent none)
       (λ q. here q (eq_by_cmp row_key_cmp q (row_key_of v)) refl)
       (λ born. sym (ap (λ x. finmap.get x born) (set_at_same finmap.empty v.born _ (finmap.get-empty nat_cmp v.born ∙ sym (ap (without part) (finmap.get-empty nat_cmp v.born) ∙ nothing_left part))) ∙ finmap.get-empty nat_cmp born))
     where
       here : (q : RowKey) (b : Bool) → eq_by_cmp row_key_cmp q (row_key_of v) ≡ b → finmap.get (seen m) q ≡ cond b None (finmap.get (seen m) q)
-      here q true e = ap (finmap.get (seen m)) (row_is q (row_key_of v) e ∙ sym at) ∙ sym (found m k None none)
+      here q true e = ap (finmap.get (seen m)) (row_is q (row_key_of v) e ∙ sym at) ∙ sym (none)
       here q false e = refl
 
-  pub tag_absent : (part : Part) → None ≡ tree.get row_key_cmp m k → None ≡ tag_lost (facts_of (seen m)) v part
+  pub tag_absent : (part : Part) → None ≡ finmap.get (seen m) k → None ≡ tag_lost (facts_of (seen m)) v part
   tag_absent part none = no_tag part ∙ ap (λ o. tag_of_part o part) (nothing_at none) ∙ tag_stored (seen m) v part
 
-  pub end_absent : (part : Part) → None ≡ tree.get row_key_cmp m k → None ≡ end_lost (facts_of (seen m)) v part
+  pub end_absent : (part : Part) → None ≡ finmap.get (seen m) k → None ≡ end_lost (facts_of (seen m)) v part
   end_absent part none = no_end part ∙ ap (λ o. end_of_part o part) (nothing_at none) ∙ end_stored (seen m) v part

@@ -4,6 +4,7 @@ pub mod ChangedChains
 pub mod FactsByRow
 pub mod JournalUndone
 mod NewFacts
+pub mod CopiedChains
 pub mod Conflicts
 pub mod EntryConflicts
 pub mod TimedFacts

@@ -3,8 +3,6 @@ use Rattle.std.proofs.Common.{◌≡◌, refl, sym, ap, ◌∙◌, Bool, true, f
 use Rattle.std.specs.Bool.{OnTrue, OnFalse}
 use Rattle.std.specs.Option.{is_some}
 use Rattle.std.specs.Ordering.{nat_cmp}
-use Rattle.std.specs.BTreeMap.{BTreeMap}
-use Rattle.std.specs.BTreeMap as tree
 use Rattle.std.specs.FinMap as finmap
 use Rattle.hk_types.specs.declared.version_key.VersionKey.{VersionKey}
 use Rattle.hk_types.specs.declared.faults.Refusal.{Refusal}
@@ -15,10 +13,11 @@ use Rattle.hk_facts.specs.declared.fact.Fact.{Fact}
 use Rattle.hk_facts.specs.declared.fact.Fact.TheVariants.{Row, End}
 use Rattle.hk_facts.specs.Facts.{row_of, died_of}
 use Rattle.hk_facts.specs.Chains.{ChainValue, chain_put}
+use Rattle.hk_slots.specs.SlotMaps.{Slots, IsWritten}
 use Rattle.hk_store.specs.Facts.{ChainsValue, stored_version, facts_of, has_like, with_fact_at, AreStored}
 use Rattle.hk_store.specs.Indexed.{IsNew}
 use Rattle.hk_store.proofs.StoredFacts.{get_row, get_end}
-use Rattle.hk_store.proofs.FactsByRow.{seen, chain_there, chain_absent, put_new, put_there, there_stored, write_back}
+use Rattle.hk_store.proofs.FactsByRow.{seen, Updates, chain_there, chain_absent, put_new, put_there, there_stored, write_back}
 use Rattle.hk_store.proofs.Indexed.{put_is}
 use Rattle.hk_store.proofs.JournalUndone.{added_again, ended_again}
 
@@ -41,16 +40,16 @@ turned : (b c : Bool) → b ≡ not c → c ≡ not b
 turned b true e = ap not (sym e)
 turned b false e = ap not (sym e)
 
-module _ (m : BTreeMap RowKey ChainValue) (k : RowKey) (v : VersionKey) (at : k ≡ row_key_of v) (fact : Fact) where
+module _ (m : Slots RowKey ChainValue) (k : RowKey) (v : VersionKey) (at : k ≡ row_key_of v) (fact : Fact) where
   -- ---- a chain that is there
 
-  module _ (c : ChainValue) (has : Some c ≡ tree.get row_key_cmp m k) where
+  module _ (c : ChainValue) (has : Some c ≡ finmap.get (seen m) k) where
     pub there_new : (r : Result Bool Refusal) → IfOk r (λ is. is ≡ not (has_like (finmap.get c v.born) fact)) → IfOk r (λ is. OnTrue is (IsNew (facts_of (seen m)) v fact))
     there_new (Ok true) told = new_to (seen m) v (finmap.get c v.born) (chain_there m k v at c has v.born) fact (turned true _ told)
     there_new (Ok false) told = tt
     there_new (Err why) told = tt
 
-    module _ (n : BTreeMap RowKey ChainValue) (d : ChainValue) (u : IsSome (tree.get row_key_cmp m k) → tree.Updates row_key_cmp m n k (Some d)) where
+    module _ (n : Slots RowKey ChainValue) (d : ChainValue) (u : IsSome (finmap.get (seen m) k) → IsWritten row_key_cmp m k d n) where
       pub there_kept : (r : Result Bool Refusal) → IfOk r (λ is. OnTrue is (chain_put c v.born fact ≡ Ok d)) → IfOk r (λ is. OnFalse is (d ≡ c)) → OnErr r (d ≡ c) → AreStored (seen m) → AreStored (seen n)
       there_kept (Ok true) new known kept stored = there_stored m k v at c has n d u {A = Bool} fact (Ok true) new tt stored
       there_kept (Ok false) new known kept stored = there_stored m k v at c has n d u {A = Bool} fact (Err Memory) tt known stored
@@ -71,7 +70,7 @@ module _ (m : BTreeMap RowKey ChainValue) (k : RowKey) (v : VersionKey) (at : k 
 
   -- ---- no chain
 
-  module _ (none : None ≡ tree.get row_key_cmp m k) where
+  module _ (none : None ≡ finmap.get (seen m) k) where
     pub absent_new : IsNew (facts_of (seen m)) v fact
     absent_new = new_to (seen m) v None (sym (finmap.get-empty nat_cmp v.born) ∙ chain_absent m k v at none v.born) fact (no_like fact)
       where
@@ -79,5 +78,5 @@ module _ (m : BTreeMap RowKey ChainValue) (k : RowKey) (v : VersionKey) (at : k 
         no_like (Row row) = refl
         no_like (End died) = refl
 
-    pub absent_with : (n : BTreeMap RowKey ChainValue) (d : ChainValue) → chain_put finmap.empty v.born fact ≡ Ok d → tree.Updates row_key_cmp m n k (Some d) → facts_of (seen n) ≡ with_fact_at (facts_of (seen m)) v fact
+    pub absent_with : (n : Slots RowKey ChainValue) (d : ChainValue) → chain_put finmap.empty v.born fact ≡ Ok d → Updates m n k (Some d) → facts_of (seen n) ≡ with_fact_at (facts_of (seen m)) v fact
     absent_with n d put u = put_is (facts_of (seen m)) (facts_of (seen n)) v fact (put_new m k v at fact n d none put u)

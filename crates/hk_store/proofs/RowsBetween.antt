@@ -2,18 +2,14 @@
 use Rattle.std.proofs.Common.{◌≡◌, refl, sym, ap, ◌∙◌, ℕ, ◌<◌, Bool, true, false, cond, ◌&&◌, ◌==◌, Option, Some, None, List, [], ◌∷◌, ◌++◌, map, filter, not, nat_le, nat_cmp, Ordering, Less, Equal, Greater, is_le, arith}
 use Rattle.std.specs.Ordering.{is_lt, ordering_then}
 use Rattle.std.proofs.lemmas.Bool.Decides.{nat_tests}
-use Rattle.std.specs.BTreeMap.{BTreeMap}
-use Rattle.std.specs.BTreeMap as tree
 use Rattle.std.specs.BTreeMap.Range.{entries_between, range_contains}
 use Rattle.std.specs.declared.ops.Bound.TheVariants.{Included}
 use Rattle.std.specs.FinMap as finmap
 use Rattle.hk_types.specs.Values.{RowValue}
 use Rattle.hk_model.specs.History.Rows.{RowKey, row_key_cmp, version_of}
 use Rattle.hk_model.specs.Replica.Answers.{visible, rows_where}
-use Rattle.hk_model.proofs.Maps.{row_key_total, row_key_same}
 use Rattle.hk_facts.specs.Chains.{ChainValue, row_at}
-use Rattle.hk_facts.proofs.StoredTrees.{entries_tree}
-use Rattle.hk_store.specs.Facts.{facts_of, AllKnown}
+use Rattle.hk_store.specs.Facts.{ChainsValue, facts_of, AllKnown}
 use Rattle.hk_store.specs.Reads.{keyed_if, rows_at, with_facts}
 use Rattle.hk_store.proofs.StoredFacts.{known_stored}
 use Rattle.hk_store.proofs.CountedRows.{row_if, rows_of, same_rows}
@@ -79,13 +75,12 @@ module _ (table low high : ℕ) where
       by Greater h = sym (ap (λ b. b && nat_le low k.key && nat_le k.key high) (greater_differs table k.table h))
 
   -- the visible rows there, where low is not above high
-  pub shown_between : (m : BTreeMap RowKey ChainValue) → AllKnown (finmap.from_entries m.entries) → tree.IsOrdered row_key_cmp m → (t : ℕ)
-      → rows_at t (entries_between row_key_cmp (Included lowest) (Included highest) m.entries)
-      ≡ rows_where (λ k row. (k.table == table) && nat_le low k.key && nat_le k.key high) (visible (with_facts (facts_of (finmap.from_entries m.entries))) t)
-  shown_between m known ordered t =
-      picked_rows t (range_contains row_key_cmp (Included lowest) (Included highest)) is_between between m.entries
-      ∙ ap (λ (es : List (RowKey × ChainValue)). map {B = ℕ × RowValue} (λ e. (e.0.key, e.1)) (filter (λ e. is_between e.0) (rows_of t es))) (sym (entries_tree row_key_total row_key_same m ordered))
-      ∙ ap (λ (rows : List (RowKey × RowValue)). map {B = ℕ × RowValue} (λ e. (e.0.key, e.1)) (filter (λ e. is_between e.0) rows)) (same_rows t (with_facts (facts_of (finmap.from_entries m.entries))) (finmap.from_entries m.entries) (λ k born. known_stored (finmap.from_entries m.entries) known (version_of k born)))
+  pub shown_between : (m : ChainsValue) → AllKnown m → (t : ℕ)
+      → rows_at t (entries_between row_key_cmp (Included lowest) (Included highest) (finmap.entries m))
+      ≡ rows_where (λ k row. (k.table == table) && nat_le low k.key && nat_le k.key high) (visible (with_facts (facts_of m)) t)
+  shown_between m known t =
+      picked_rows t (range_contains row_key_cmp (Included lowest) (Included highest)) is_between between (finmap.entries m)
+      ∙ ap (λ (rows : List (RowKey × RowValue)). map {B = ℕ × RowValue} (λ e. (e.0.key, e.1)) (filter (λ e. is_between e.0) rows)) (same_rows t (with_facts (facts_of m)) m (λ k born. known_stored m known (version_of k born)))
 
   -- none where it is
   pub none_between : high < low → (tables : finmap.FinMap row_key_cmp RowValue) → [] ≡ rows_where (λ k row. (k.table == table) && nat_le low k.key && nat_le k.key high) tables

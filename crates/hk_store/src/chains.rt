@@ -3,7 +3,6 @@
 ghost use Rattle.std.specs.Prelude.{◌≡◌, ◌==◌, ◌&&◌, nat_le, filter, length, is_some, not, ◌⊎◌, ◌↔◌, ◌<◌, IsTrue, OnOk, OnErr, IfErr, IfOk, IfSome, IfNone, Ok, Err, Some, None, ℕ};
 ghost use Rattle.std.specs.Bool.{OnTrue, OnFalse};
 ghost use Rattle.std.specs.Option.{option_copied};
-ghost use Rattle.std.specs.BTreeMap.{IsOrdered, Updates};
 ghost use Rattle.std.specs.FinMap as finmap;
 ghost use Rattle.std.specs.List.{take_while};
 ghost use Rattle.std.specs.Ordering.{is_le};
@@ -12,6 +11,7 @@ ghost use Rattle.hk_types.specs.declared.version_key.VersionKey.{VersionKey};
 ghost use Rattle.hk_model.specs.History.Rows.{row_key_cmp};
 ghost use Rattle.hk_model.specs.Replica.Answers.{visible, rows_where};
 ghost use Rattle.hk_facts.specs.Chains.{row_at, chain_put};
+ghost use Rattle.hk_slots.specs.SlotMaps.{map_of};
 ghost use Rattle.hk_store.specs.Reads.{with_facts};
 ghost use Rattle.hk_store.specs.Facts.{no_facts, known_at, has_like, with_fact_at, facts_put, facts_without};
 ghost use Rattle.hk_store.specs.Indexed.{IsNew, tag_lost, end_lost, tag_of_part, end_of_part};
@@ -20,30 +20,31 @@ use crate::ranges::rows_in_range;
 use crate::row_key::RowKey;
 use hk_facts::{Chain, Fact, Part};
 use hk_log::Version;
+use hk_slots::SlotMap;
 use hk_types::{Key, Refusal, Row, Table, Tag, Time, VersionKey};
 use std::alloc::{AllocError, Global};
-use std::collections::BTreeMap;
 use std::marker::Model;
 
 /// The rows and the ends of all versions: for each row the chain of its versions. No chain is empty, and of
 /// each version something is known.
 #[derive(Drop)]
 pub struct Chains {
-    pub(crate) chains: BTreeMap<RowKey, Chain>,
+    pub(crate) chains: SlotMap<RowKey, Chain>,
     alloc: Global,
 }
 
 impl Model for Chains {
-    ghost use Rattle.std.specs.FinMap as finmap;
+    ghost use Rattle.hk_model.specs.History.Rows.{row_key_cmp};
+    ghost use Rattle.hk_slots.specs.SlotMaps.{map_of};
     ghost use Rattle.hk_store.specs.Facts.{FactsValue, facts_code, facts_of, AreStored};
 
     ghost Value = { FactsValue };
 
     ghost coded = { facts_code };
 
-    ghost view = { λ a. facts_of (finmap.from_entries a.chains.entries) };
+    ghost view = { λ a. facts_of (map_of row_key_cmp a.chains) };
 
-    ghost invariant = { λ a. AreStored (finmap.from_entries a.chains.entries) };
+    ghost invariant = { λ a. AreStored (map_of row_key_cmp a.chains) };
 }
 
 /// What goes with a part of a version, where it was known: the tag of the row, and the end.
@@ -59,7 +60,7 @@ impl Chains {
         ensures { result ≡ no_facts }
     {
         Chains {
-            chains: BTreeMap::new(alloc),
+            chains: SlotMap::new(alloc),
             alloc,
         }
     }
@@ -77,7 +78,7 @@ impl Chains {
             known_at self.now (record { table = table; key = key; born = born }) ≡ None) }
         ensures filled { IfSome result (λ chain. 0 < finmap.len chain.now) }
     {
-        self.chains.get(&RowKey::new(table, key))
+        self.chains.get(RowKey::new(table, key))
     }
 
     /// The row of a version, where it is known. Cost: O(log n), n facts.
@@ -118,11 +119,11 @@ impl Chains {
         ensures kept { OnErr result (self.new ≡ self.old) }
     {
         let row = RowKey::of_version(version);
-        if let Some(chain) = self.chains.get_mut(&row) {
+        if let Some(chain) = self.chains.get_mut(row) {
             return chain.put(version.born, fact);
         }
         let chain = Chain::of_fact(self.alloc, version.born, fact)?;
-        insert(&mut self.chains, row, chain)?;
+        self.chains.insert(row, chain)?;
         Ok(())
     }
 
@@ -136,11 +137,11 @@ impl Chains {
         ensures kept { OnErr result (self.new ≡ self.old) }
     {
         let row = RowKey::of_version(version);
-        if let Some(chain) = self.chains.get_mut(&row) {
+        if let Some(chain) = self.chains.get_mut(row) {
             return put_where_new(chain, version.born, fact);
         }
         let chain = Chain::of_fact(self.alloc, version.born, fact)?;
-        insert(&mut self.chains, row, chain)?;
+        self.chains.insert(row, chain)?;
         Ok(true)
     }
 
@@ -151,7 +152,7 @@ impl Chains {
         ensures died { result.died ≡ end_lost self.old version.now part }
     {
         let row = RowKey::of_version(version);
-        let Some(chain) = self.chains.get_mut(&row) else {
+        let Some(chain) = self.chains.get_mut(row) else {
             return Lost {
                 tag: None,
                 died: None,
@@ -162,7 +163,7 @@ impl Chains {
         if !chain.is_empty() {
             return lost;
         }
-        self.chains.remove(&row);
+        self.chains.remove(row);
         lost
     }
 
@@ -204,9 +205,9 @@ impl Chains {
     pub fn copy(&self, alloc: Global) -> Result<Chains, AllocError>
         ensures { IfOk result (λ facts. facts ≡ self.now) }
     {
-        let mut chains = BTreeMap::new(alloc);
-        for (row, chain) in &self.chains {
-            insert(&mut chains, *row, chain.copy(alloc)?)?;
+        let mut chains = SlotMap::new(alloc);
+        for (row, chain) in self.chains.iter() {
+            chains.insert(*row, chain.copy(alloc)?)?;
         }
         Ok(Chains { chains, alloc })
     }
@@ -246,24 +247,15 @@ fn end_in(version: &Version, part: Part) -> Option<Time>
 }
 
 /// How many chains of a table have a row at a time, of those from a row on.
-fn count_from(chains: &BTreeMap<RowKey, Chain>, first: RowKey, time: Time) -> usize
-    ensures value { result ≡ length (filter (λ e. is_some (row_at e.1 time)) (take_while (λ e. e.0.table == first.table)
-        (filter (λ e. is_le (row_key_cmp first e.0)) chains.now.entries))) }
-    ensures ordered { IsOrdered row_key_cmp chains.now }
+fn count_from(chains: &SlotMap<RowKey, Chain>, first: RowKey, time: Time) -> usize
+    ensures { result ≡ length (filter (λ e. is_some (row_at e.1 time)) (take_while (λ e. e.0.table == first.table)
+        (filter (λ e. is_le (row_key_cmp first e.0)) (finmap.entries (map_of row_key_cmp chains.now))))) }
 {
     chains
         .range(first..)
         .take_while(|(row, _chain)| row.table == first.table)
         .filter(|(_row, chain)| chain.at(time).is_some())
         .count()
-}
-
-fn insert(chains: &mut BTreeMap<RowKey, Chain>, row: RowKey, chain: Chain) -> Result<(), AllocError>
-    ensures ok { OnOk result (Updates row_key_cmp chains.old chains.new row (Some chain)) }
-    ensures err { OnErr result (chains.new.entries ≡ chains.old.entries) }
-{
-    chains.insert(row, chain)?;
-    Ok(())
 }
 
 /// Adds a fact where nothing like it is known of the version that was born then, and says whether it did.

@@ -10,8 +10,8 @@ use crate::chains::Chains;
 use crate::row_key::RowKey;
 use hk_facts::Chain;
 use hk_log::Version;
+use hk_slots::Range;
 use hk_types::{Key, Table, Time, VersionKey};
-use std::collections::btree_map::Range;
 use std::marker::Model;
 use std::ops::Bound;
 

@@ -1,10 +1,10 @@
 use Rattle.std.proofs.Common.{sym, ap, subst, ◌∙◌}
 use Rattle.hk_store.specs.Facts.{ChainsValue, facts_of, AreStored}
-use Rattle.hk_store.proofs.FactsByRow.{nothing_seen, nothing_stored, empty_facts}
+use Rattle.hk_store.proofs.FactsByRow.{nothing_stored, empty_facts}
 use Rattle.hk_store.proofs.chains.Chains.new.Goals as goal
 
 pub invariant_of-result : goal.invariant_of-result
-invariant_of-result c = subst (λ (m : ChainsValue). AreStored m) (nothing_seen c.new.result c.new.ensures.empty) nothing_stored
+invariant_of-result c = subst (λ (m : ChainsValue). AreStored m) (sym c.new.ensures.map) nothing_stored
 
 pub returns : goal.returns
-returns c = ap facts_of (sym (nothing_seen c.new.result c.new.ensures.empty)) ∙ empty_facts
+returns c = ap facts_of c.new.ensures.map ∙ empty_facts

@@ -1,8 +1,10 @@
 use Rattle.std.proofs.Common.{◌∙◌, sym}
 use Rattle.std.proofs.lemmas.Result.{IfOk-weaker}
+use Rattle.std.specs.FinMap as finmap
 use Rattle.std.specs.BTreeMap.Range.{entries_between}
 use Rattle.std.specs.declared.ops.Bound.TheVariants.{Included}
 use Rattle.hk_model.specs.History.Rows.{row_key_cmp}
+use Rattle.hk_slots.specs.SlotMaps.{map_of}
 use Rattle.hk_store.specs.Reads.{rows_at}
 use Rattle.hk_store.proofs.RowsBetween.{below, shown_between, none_between}
 use Rattle.hk_store.proofs.chains.Chains.rows_between.Goals as goal
@@ -12,9 +14,9 @@ returns-then-lt c = c.new.ensures.items ∙ none_between c.args.table c.args.low
 
 pub returns : goal.returns
 returns c =
-    let m = c.self.inside.chains in
+    let m = map_of row_key_cmp c.self.inside.chains in
     let first = c.new-first.ensures in
     let last = c.new-last.ensures in
     rw (← c.self.view_is) (IfOk-weaker c.rows_in_range.result _ _
-    (λ rows e. e ∙ (λ i. rows_at c.args.time (entries_between row_key_cmp (Included (first i)) (Included (last i)) m.entries)) ∙ shown_between c.args.table c.args.low c.args.high m c.self.invariant.known c.rows_in_range.ensures.ordered c.args.time)
-    c.rows_in_range.ensures.rows)
+    (λ rows e. e ∙ (λ i. rows_at c.args.time (entries_between row_key_cmp (Included (first i)) (Included (last i)) (finmap.entries m))) ∙ shown_between c.args.table c.args.low c.args.high m c.self.invariant.known c.args.time)
+    c.rows_in_range.ensures)

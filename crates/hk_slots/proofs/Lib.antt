@@ -1,0 +1,5 @@
+pub mod ChangedSlots
+pub mod Listed
+pub mod Matched
+pub mod SeenSlots
+pub mod Tied

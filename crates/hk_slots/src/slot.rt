@@ -1,0 +1,59 @@
+//! The places of values.
+
+ghost use Rattle.std.specs.Prelude.{◌≡◌, IfOk};
+
+use std::alloc::AllocError;
+use std::marker::Model;
+
+/// The place of a value in a `SlotMap`: a number of 32 bits.
+#[derive(Clone, Copy)]
+pub struct Slot {
+    number: u32,
+}
+
+impl Model for Slot {
+    ghost use Rattle.std.specs.Prelude.{ℕ, ◌<◌, ◌^◌};
+
+    ghost Value = { ℕ };
+
+    ghost view = { λ a. a.number };
+
+    ghost invariant = { λ a. a.number < 2 ^ 32 };
+
+    ghost inverse = { λ n. record { number = n } };
+}
+
+impl Slot {
+    /// The slot with this number.
+    pub(crate) fn new(number: u32) -> Slot
+        ensures { result ≡ number }
+    {
+        Slot { number }
+    }
+
+    /// The number of the slot.
+    pub(crate) fn number(self) -> u32
+        ensures { result ≡ self }
+    {
+        self.number
+    }
+
+    /// Where the slot lies among all of them.
+    pub(crate) fn index(self) -> usize
+        ensures { result ≡ self }
+    {
+        self.number as usize
+    }
+
+    /// The slot at an index. The only error is that no number of 32 bits is left for it.
+    pub(crate) fn at(index: usize) -> Result<Slot, AllocError>
+        ensures { IfOk result (λ slot. slot ≡ index) }
+    {
+        if index > u32::MAX as usize {
+            return Err(AllocError);
+        }
+        Ok(Slot {
+            number: index as u32,
+        })
+    }
+}
