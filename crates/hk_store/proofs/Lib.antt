@@ -6,6 +6,7 @@ pub mod JournalUndone
 mod NewFacts
 pub mod Conflicts
 pub mod EntryConflicts
+pub mod EntryPut
 pub mod TimedFacts
 pub mod DroppedVersions
 pub mod Indexed
