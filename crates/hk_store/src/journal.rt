@@ -2,7 +2,6 @@
 
 ghost use Rattle.std.specs.Prelude.{◌≡◌, ◌++◌, ◌∷◌, [], map, true, false, OnOk, OnErr, IfOk, IfErr, if◌then◌else◌};
 ghost use Rattle.std.specs.Bool.{OnTrue, OnFalse};
-ghost use Rattle.std.specs.List.{list_any};
 ghost use Rattle.std.specs.FinMap as finmap;
 ghost use Rattle.hk_types.specs.declared.faults.Refusal.TheVariants.{Conflict, Memory};
 ghost use Rattle.hk_log.specs.Items.{rise, end_place, row_place};
@@ -11,7 +10,7 @@ ghost use Rattle.hk_model.specs.History.Facts.{inserted_version};
 ghost use Rattle.hk_facts.specs.declared.fact.Fact.TheVariants.{Row as RowFact, End as EndFact};
 ghost use Rattle.hk_store.specs.Facts.{FactsValue, with_fact_at, with_entry, conflicts_at, conflicts_with_entry, facts_without};
 ghost use Rattle.hk_store.specs.Indexed.{IsNew};
-ghost use Rattle.hk_store.specs.Journal.{part_of, without_journal};
+ghost use Rattle.hk_store.specs.Journal.{part_of, rows_conflict, ends_conflict, without_journal};
 
 use crate::facts::Facts;
 use hk_facts::{Fact, Part};
@@ -148,8 +147,8 @@ impl Facts {
         time: Time,
     ) -> Result<bool, Refusal>
         requires { rise (map row_place rows.items) ≡ true }
-        ensures agrees { OnOk result (list_any (λ r. conflicts_at self.old (inserted_version time r).0 (RowFact r.2)) rows.items ≡ false) }
-        ensures err { IfErr result (λ why. (why ≡ Conflict) × (list_any (λ r. conflicts_at self.old (inserted_version time r).0 (RowFact r.2)) rows.items ≡ true)) }
+        ensures agrees { OnOk result (rows_conflict self.old time rows.items ≡ false) }
+        ensures err { IfErr result (λ why. (why ≡ Conflict) × (rows_conflict self.old time rows.items ≡ true)) }
         ensures put { IfOk result (λ lasts. OnTrue lasts (self.new.rows ≡ union self.old.rows (finmap.from_entries (map (inserted_version time) rows.items)))) }
         ensures ends { self.new.ends ≡ self.old.ends }
         ensures back { without_journal journal.new.items self.new ≡ without_journal journal.old.items self.old }
@@ -175,8 +174,8 @@ impl Facts {
         lasts: bool,
     ) -> Result<bool, Refusal>
         requires { rise (map end_place ends.now) ≡ true }
-        ensures agrees { OnOk result (list_any (λ v. conflicts_at self.old v (EndFact time)) ends.now ≡ false) }
-        ensures err { IfErr result (λ why. (why ≡ Conflict) × (list_any (λ v. conflicts_at self.old v (EndFact time)) ends.now ≡ true)) }
+        ensures agrees { OnOk result (ends_conflict self.old time ends.now ≡ false) }
+        ensures err { IfErr result (λ why. (why ≡ Conflict) × (ends_conflict self.old time ends.now ≡ true)) }
         ensures put { IfOk result (λ still. OnTrue still ((lasts ≡ true) × (self.new.ends ≡ union self.old.ends (finmap.from_entries (map (λ v. (v, time)) ends.now))))) }
         ensures rows { self.new.rows ≡ self.old.rows }
         ensures back { without_journal journal.new.items self.new ≡ without_journal journal.old.items self.old }

@@ -1,11 +1,11 @@
 use Rattle.std.proofs.Common.{◌≡◌, refl, sym, ap, ◌∙◌, subst, Some, ◌==◌, ◌+◌, List, ℕ, true, false, map, take, drop, arith}
 use Rattle.std.specs.Bool.{OnTrue}
-use Rattle.std.specs.List.{list_any}
 use Rattle.std.specs.FinMap as finmap
 use Rattle.hk_types.specs.declared.version_key.VersionKey.{VersionKey}
 use Rattle.hk_model.specs.Replica.Maps.{union, values_conflict}
 use Rattle.hk_facts.specs.declared.fact.Fact.TheVariants.{End}
 use Rattle.hk_store.specs.Facts.{conflicts_at}
+use Rattle.hk_store.specs.Journal.{ends_conflict}
 use Rattle.hk_store.proofs.JournalUndone.{union_none}
 use Rattle.hk_store.proofs.EntryConflicts.{ends_sorted}
 use Rattle.hk_store.proofs.EntryPut.{IsOutside, walked, walked_more, any_one_more, any_found, outside_at, outside_more, all_put, lasted, end_put, ends_kept, rows_stay, passed_on, on_true_to, itself, through}
@@ -47,7 +47,7 @@ loop-version-preserved c =
       same = subst (λ (xs : List VersionKey). IsOutside f m new.ends xs) more (outside_more f m l.self.ends new.ends (take i all) v b added (ends_kept l.self new v l.room b e.kept) l.invariant.same);
       lasted = through (c.args.lasts ≡ true) l.room b still l.invariant.lasted;
       put = subst (λ (xs : List VersionKey). OnTrue b (new.ends ≡ union m (finmap.from_entries (map f xs)))) more (all_put f m l.self.ends new.ends (take i all) v l.room b still added l.invariant.put);
-      agrees = subst (λ (xs : List VersionKey). list_any (λ v. conflicts_at c.args.self.now v (End c.args.time)) xs ≡ false) more
+      agrees = subst (λ (xs : List VersionKey). ends_conflict c.args.self.now c.args.time xs ≡ false) more
           (any_one_more (λ v. conflicts_at c.args.self.now v (End c.args.time)) (take i all) v l.invariant.agrees (ap (λ o. values_conflict (λ a b. a == b) o (Some c.args.time)) (sym at) ∙ e.agrees));
       rows = rows_stay l.self new v l.room b c.args.time e.put e.kept ∙ l.invariant.rows;
       back = e.back ∙ l.invariant.back;

@@ -1,11 +1,8 @@
 use Rattle.std.proofs.Common.{◌≡◌, true, false, map, take}
 use Rattle.std.specs.Bool.{OnTrue}
-use Rattle.std.specs.List.{list_any}
 use Rattle.std.specs.FinMap as finmap
 use Rattle.hk_model.specs.Replica.Maps.{union}
-use Rattle.hk_facts.specs.declared.fact.Fact.TheVariants.{End}
-use Rattle.hk_store.specs.Facts.{conflicts_at}
-use Rattle.hk_store.specs.Journal.{without_journal}
+use Rattle.hk_store.specs.Journal.{ends_conflict, without_journal}
 use Rattle.hk_store.proofs.EntryPut.{IsOutside}
 use Rattle.hk_store.proofs.facts.Facts.put_ends.Given as goal
 
@@ -14,7 +11,7 @@ invariant-loop-version l = record {
   same : IsOutside (λ v. (v, l.fn.time)) l.initial.self.ends l.self.ends (take l.version-index l.ends);
   lasted : OnTrue l.room (l.fn.lasts ≡ true);
   put : OnTrue l.room (l.self.ends ≡ union l.initial.self.ends (finmap.from_entries (map (λ v. (v, l.fn.time)) (take l.version-index l.ends))));
-  agrees : list_any (λ v. conflicts_at l.initial.self v (End l.fn.time)) (take l.version-index l.ends) ≡ false;
+  agrees : ends_conflict l.initial.self l.fn.time (take l.version-index l.ends) ≡ false;
   rows : l.self.rows ≡ l.initial.self.rows;
   back : without_journal l.journal.items l.self ≡ without_journal l.initial.journal.items l.initial.self;
 }
