@@ -92,11 +92,17 @@ module _ {A X : Type 0} (alike : X → X → Bool) (m : finmap.FinMap version_ke
       same = same_entries version_key_cmp version_key_total version_key_same (finmap.entries (finmap.from_entries (map f xs))) (map f xs) (finmap.entries_sorted (finmap.from_entries (map f xs))) s
           (λ q. sym (finmap.get-entries (finmap.from_entries (map f xs)) q) ∙ finmap.get-from_entries version_key_total (map f xs) q)
 
+pub rows_sorted : (t : ℕ) (rows : List (ℕ × ℕ × RowValue)) → rise_after None (map row_place rows) ≡ true → T (is_sorted version_key_cmp (map (inserted_version t) rows))
+rows_sorted t rows rise = sorted_after (inserted_version t) row_place (λ a b h. before_less a.0 a.1 b.0 b.1 t t h) None rows rise
+
+pub ends_sorted : (t : ℕ) (ends : List VersionKey) → rise_after None (map end_place ends) ≡ true → T (is_sorted version_key_cmp (map (λ (v : VersionKey). (v, t)) ends))
+ends_sorted t ends rise = sorted_after (λ v. (v, t)) end_place (λ a b h. before_less a.table a.key b.table b.key a.born b.born h) None ends rise
+
 pub rows_listed : (m : finmap.FinMap version_key_cmp RowValue) (e : EntryValue) → rise_after None (map row_place e.rows) ≡ true → maps_conflict same_row m (rows_of (Commit e ∷ [])) ≡ list_any (λ r. values_conflict same_row (finmap.get m (inserted_version e.time r).0) (Some r.2)) e.rows
-rows_listed m e rise = listed same_row m (inserted_version e.time) e.rows (sorted_after (inserted_version e.time) row_place (λ a b h. before_less a.0 a.1 b.0 b.1 e.time e.time h) None e.rows rise)
+rows_listed m e rise = listed same_row m (inserted_version e.time) e.rows (rows_sorted e.time e.rows rise)
 
 pub ends_listed : (m : finmap.FinMap version_key_cmp ℕ) (e : EntryValue) → rise_after None (map end_place e.ends) ≡ true → maps_conflict (λ a b. a == b) m (ends_of (Commit e ∷ [])) ≡ list_any (λ v. values_conflict (λ a b. a == b) (finmap.get m v) (Some e.time)) e.ends
-ends_listed m e rise = listed (λ a b. a == b) m (λ v. (v, e.time)) e.ends (sorted_after (λ v. (v, e.time)) end_place (λ a b h. before_less a.table a.key b.table b.key a.born b.born h) None e.ends rise)
+ends_listed m e rise = listed (λ a b. a == b) m (λ v. (v, e.time)) e.ends (ends_sorted e.time e.ends rise)
 
 pub row_conflict : (m : finmap.FinMap version_key_cmp RowValue) (e : EntryValue) (rows : List (ℕ × ℕ × RowValue)) (t : ℕ) (b : Bool) → rise_after None (map row_place e.rows) ≡ true → rows ≡ e.rows → t ≡ e.time → b ≡ list_any (λ r. values_conflict same_row (finmap.get m (inserted_version t r).0) (Some r.2)) rows → b ≡ maps_conflict same_row m (rows_of (Commit e ∷ []))
 row_conflict m e rows t b rise is at found = found ∙ (λ i. list_any (λ r. values_conflict same_row (finmap.get m (inserted_version (at i) r).0) (Some r.2)) (is i)) ∙ sym (rows_listed m e rise)

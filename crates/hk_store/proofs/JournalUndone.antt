@@ -1,6 +1,7 @@
 -- Facts that are added under a journal, and taken back.
 use Rattle.std.proofs.Common.{◌≡◌, refl, sym, ap, ◌∙◌, ℕ, Bool, true, false, cond, Option, Some, None, List, [], ◌∷◌, ◌++◌, map, ◌+◌, ◌<◌, take, length, get_or}
 use Rattle.std.proofs.lemmas.List.{take_more, map_push}
+use Rattle.std.specs.Bool.{OnTrue, OnFalse}
 use Rattle.std.specs.Option.{is_some}
 use Rattle.std.specs.FinMap as finmap
 use Rattle.std.specs.FinMap.{find}
@@ -12,10 +13,9 @@ use Rattle.hk_model.proofs.Maps.{version_key_total, version_key_same, find-appen
 use Rattle.hk_facts.specs.declared.fact.Fact.{Fact}
 use Rattle.hk_facts.specs.declared.fact.Fact.TheVariants.{Row, End}
 use Rattle.hk_facts.specs.declared.fact.Part.{Part}
-use Rattle.hk_facts.specs.declared.fact.Part.TheVariants.{Row as RowPart, End as EndPart}
 use Rattle.hk_store.specs.Facts.{FactsValue, with_added, with_fact_at, facts_without}
 use Rattle.hk_store.specs.Indexed.{IsNew}
-use Rattle.hk_store.specs.Journal.{without_journal}
+use Rattle.hk_store.specs.Journal.{part_of, without_journal}
 use Rattle.hk_store.proofs.StoredFacts.{tied, key_tied, or_none}
 use Rattle.hk_store.proofs.ChangedChains.{get-added, get-without, tied_is}
 
@@ -35,10 +35,6 @@ module _ {X : Type 0} (m : finmap.FinMap version_key_cmp X) (v : VersionKey) (no
       here q true t = sym (ap (finmap.get m) (tied_is q v t) ∙ none)
       here q false t = refl
 
-abbrev pub part_of : Fact → Part
-part_of (Row row) = RowPart
-part_of (End died) = EndPart
-
 without_new : (f : FactsValue) (v : VersionKey) (fact : Fact) → IsNew f v fact → facts_without (with_fact_at f v fact) v (part_of fact) ≡ f
 without_new f v (Row row) none = ap (λ m. record { rows = m; ends = f.ends }) (remove_added f.rows v none row)
 without_new f v (End died) none = ap (λ m. record { rows = f.rows; ends = m }) (remove_added f.ends v none died)
@@ -51,6 +47,22 @@ module _ (f g : FactsValue) (v : VersionKey) (fact : Fact) (free : IsNew f v fac
 
   pub noted_back : (js ks : List (VersionKey × Part)) → ks ≡ js ++ (v, part_of fact) ∷ [] → without_journal ks g ≡ without_journal js f
   noted_back js ks noted = ap (λ l. without_journal l g) noted ∙ undone_push js v (part_of fact) g ∙ ap (without_journal js) (taken_back _ refl)
+
+  -- it is named, or taken back
+  module _ (part : Part) (of : part ≡ part_of fact) (named : Bool) (h : FactsValue) (js ks : List (VersionKey × Part)) where
+    pub kept_unnamed : OnFalse named (h ≡ facts_without g v part) → OnFalse named (h ≡ f)
+    kept_unnamed = each named
+      where
+        each : (b : Bool) → OnFalse b (h ≡ facts_without g v part) → OnFalse b (h ≡ f)
+        each true e = tt
+        each false e = taken_back h (e ∙ ap (facts_without g v) of)
+
+    pub named_or_back : OnTrue named (ks ≡ js ++ (v, part) ∷ []) → OnTrue named (h ≡ g) → OnFalse named (ks ≡ js) → OnFalse named (h ≡ facts_without g v part) → without_journal ks h ≡ without_journal js f
+    named_or_back = each named
+      where
+        each : (b : Bool) → OnTrue b (ks ≡ js ++ (v, part) ∷ []) → OnTrue b (h ≡ g) → OnFalse b (ks ≡ js) → OnFalse b (h ≡ facts_without g v part) → without_journal ks h ≡ without_journal js f
+        each true noted stays same back = ap (without_journal ks) stays ∙ noted_back js ks (noted ∙ ap (λ p. js ++ (v, p) ∷ []) of)
+        each false noted stays same back = λ i. without_journal (same i) (taken_back h (back ∙ ap (facts_without g v) of) i)
 
 -- what is known already is not added again
 pub added_again : (f : FactsValue) (v : VersionKey) (row : RowValue) → is_some (finmap.get f.rows v) ≡ true → f ≡ with_fact_at f v (Row row)

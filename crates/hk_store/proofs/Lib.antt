@@ -7,6 +7,7 @@ mod NewFacts
 pub mod CopiedChains
 pub mod Conflicts
 pub mod EntryConflicts
+pub mod EntryPut
 pub mod TimedFacts
 pub mod DroppedVersions
 pub mod Indexed

@@ -68,6 +68,14 @@ module _ (m : Slots RowKey ChainValue) (k : RowKey) (v : VersionKey) (at : k ≡
           ∙ known_to (seen m) v (finmap.get c v.born) (chain_there m k v at c has v.born) fact (turned false _ told)
       there_with (Err why) told new known = tt
 
+      -- what agrees with what is known changes nothing
+      pub there_same : (r : Result Bool Refusal) → IfOk r (λ is. is ≡ not (has_like (finmap.get c v.born) fact)) → OnOk r (chain_put c v.born fact ≡ Ok d) → IfOk r (λ is. OnFalse is (facts_of (seen n) ≡ facts_of (seen m)))
+      there_same (Ok true) told ok = tt
+      there_same (Ok false) told ok =
+          put_is (facts_of (seen m)) (facts_of (seen n)) v fact (put_there m k v at c has n d u fact ok)
+          ∙ sym (known_to (seen m) v (finmap.get c v.born) (chain_there m k v at c has v.born) fact (turned false _ told))
+      there_same (Err why) told ok = tt
+
   -- ---- no chain
 
   module _ (none : None ≡ finmap.get (seen m) k) where

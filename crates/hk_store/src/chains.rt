@@ -145,6 +145,24 @@ impl Chains {
         Ok(true)
     }
 
+    /// Adds a fact on a version as `put` does, and says whether nothing like it was known: one that is known
+    /// already changes nothing. Cost: that of `put`.
+    pub(crate) fn insert_fact(&mut self, version: &VersionKey, fact: Fact) -> Result<bool, Refusal>
+        ensures ok { OnOk result (facts_put self.old version.now fact ≡ Ok self.new) }
+        ensures new { IfOk result (λ is. OnTrue is (IsNew self.old version.now fact)) }
+        ensures known { IfOk result (λ is. OnFalse is (self.new ≡ self.old)) }
+        ensures err { IfErr result (λ why. (facts_put self.old version.now fact ≡ Err why) ⊎ ((why ≡ Memory) × (known_at self.old version.now ≡ None))) }
+        ensures kept { OnErr result (self.new ≡ self.old) }
+    {
+        let row = RowKey::of_version(version);
+        if let Some(chain) = self.chains.get_mut(&row) {
+            return insert_in_chain(chain, version.born, fact);
+        }
+        let chain = Chain::of_fact(self.alloc, version.born, fact)?;
+        insert(&mut self.chains, row, chain)?;
+        Ok(true)
+    }
+
     /// Takes a part of a version back, where it is known, and says what went. Cost: O(log n), n facts.
     pub(crate) fn forget(&mut self, version: &VersionKey, part: Part) -> Lost
         ensures left { self.new ≡ facts_without self.old version.now part }
@@ -271,6 +289,18 @@ fn put_where_new(chain: &mut Chain, born: Time, fact: Fact) -> Result<bool, Refu
     }
     chain.put(born, fact)?;
     Ok(true)
+}
+
+/// Adds a fact on the version that was born then, and says whether nothing like it was known.
+fn insert_in_chain(chain: &mut Chain, born: Time, fact: Fact) -> Result<bool, Refusal>
+    ensures told { IfOk result (λ is. is ≡ not (has_like (finmap.get chain.old born) fact)) }
+    ensures ok { OnOk result (chain_put chain.old born fact ≡ Ok chain.new) }
+    ensures err { IfErr result (λ why. (chain_put chain.old born fact ≡ Err why) ⊎ ((why ≡ Memory) × (finmap.get chain.old born ≡ None))) }
+    ensures kept { OnErr result (chain.new ≡ chain.old) }
+{
+    let known = has_like(chain.version(born), &fact);
+    chain.put(born, fact)?;
+    Ok(!known)
 }
 
 /// Whether a row is known of a version, where the fact is one, or an end, where it is one.

@@ -6,9 +6,10 @@ ghost use Rattle.std.specs.FinMap as finmap;
 ghost use Rattle.hk_types.specs.Values.{same_row};
 ghost use Rattle.hk_model.specs.Replica.Maps.{values_conflict};
 ghost use Rattle.hk_model.specs.History.Facts.{inserted_version};
-ghost use Rattle.hk_store.specs.Facts.{conflicts_with_entry};
+ghost use Rattle.hk_store.specs.Facts.{conflicts_at, conflicts_with_entry};
 
 use crate::facts::Facts;
+use hk_facts::Fact;
 use hk_log::Entry;
 use hk_types::{Key, Row, Table, Time, VersionKey};
 
@@ -40,6 +41,17 @@ impl Facts {
     {
         ends.iter()
             .any(|version| self.has_conflicting_end(version, time))
+    }
+
+    /// Whether another row, or another end, than the fact says is known of a version. Cost: O(log n + b), n facts,
+    /// b bytes of a body that is compared.
+    pub(crate) fn has_conflicting(&self, version: &VersionKey, fact: &Fact) -> bool
+        ensures { result ≡ conflicts_at self.now version.now fact.now }
+    {
+        match fact {
+            Fact::Row(row) => self.has_conflicting_row(version, row),
+            Fact::End(died) => self.has_conflicting_end(version, *died),
+        }
     }
 
     /// Whether another row than this is known of a version. Cost: O(log n + b), n facts, b bytes of a

@@ -126,22 +126,59 @@ impl Facts {
             ⊎ ((why ≡ Memory) × IsNew self.old version.now fact)) }
         ensures kept { OnErr result (self.new ≡ self.old) }
     {
+        self.insert_fact(version, fact)?;
+        Ok(())
+    }
+
+    /// Adds a fact on a version as `put` does, and says whether nothing like it was known: one that is known
+    /// already changes nothing. Cost: that of `put`.
+    pub(crate) fn insert_fact(&mut self, version: &VersionKey, fact: Fact) -> Result<bool, Refusal>
+        ensures ok { OnOk result (facts_put self.old version.now fact ≡ Ok self.new) }
+        ensures new { IfOk result (λ is. OnTrue is (IsNew self.old version.now fact)) }
+        ensures known { IfOk result (λ is. OnFalse is (self.new ≡ self.old)) }
+        ensures err { IfErr result (λ why. (facts_put self.old version.now fact ≡ Err why) ⊎ ((why ≡ Memory) × IsNew self.old version.now fact)) }
+        ensures kept { OnErr result (self.new ≡ self.old) }
+    {
         match fact {
-            Fact::Row(row) => self.put_row(version, row),
-            Fact::End(died) => self.put_end(version, died),
+            Fact::Row(row) => self.insert_row(version, row),
+            Fact::End(died) => self.insert_end(version, died),
         }
     }
 
-    fn put_row(&mut self, version: &VersionKey, row: Row) -> Result<(), Refusal>
+    fn insert_row(&mut self, version: &VersionKey, row: Row) -> Result<bool, Refusal>
         ensures ok { OnOk result (facts_put self.old version.now (RowFact row) ≡ Ok self.new) }
+        ensures new { IfOk result (λ is. OnTrue is (IsNew self.old version.now (RowFact row))) }
+        ensures known { IfOk result (λ is. OnFalse is (self.new ≡ self.old)) }
         ensures err { IfErr result (λ why. (facts_put self.old version.now (RowFact row) ≡ Err why) ⊎ ((why ≡ Memory) × IsNew self.old version.now (RowFact row))) }
         ensures kept { OnErr result (self.new ≡ self.old) }
     {
-        if self.chains.row_at(version).is_some() {
-            return self.chains.put(version, Fact::Row(row));
+        let tag = row.tag();
+        if !self.chains.insert_fact(version, Fact::Row(row))? {
+            return Ok(false);
         }
-        self.put_new_row(version, row)?;
-        Ok(())
+        let indexed = add_birth(&mut self.tags, &mut self.births, version, tag);
+        if let Err(why) = indexed {
+            self.chains.forget(version, Part::Row);
+            return Err(why);
+        }
+        Ok(true)
+    }
+
+    fn insert_end(&mut self, version: &VersionKey, died: Time) -> Result<bool, Refusal>
+        ensures ok { OnOk result (facts_put self.old version.now (EndFact died) ≡ Ok self.new) }
+        ensures new { IfOk result (λ is. OnTrue is (IsNew self.old version.now (EndFact died))) }
+        ensures known { IfOk result (λ is. OnFalse is (self.new ≡ self.old)) }
+        ensures err { IfErr result (λ why. (facts_put self.old version.now (EndFact died) ≡ Err why) ⊎ ((why ≡ Memory) × IsNew self.old version.now (EndFact died))) }
+        ensures kept { OnErr result (self.new ≡ self.old) }
+    {
+        if !self.chains.insert_fact(version, Fact::End(died))? {
+            return Ok(false);
+        }
+        if let Err(why) = self.deaths.add(died, *version) {
+            self.chains.forget(version, Part::End);
+            return Err(why);
+        }
+        Ok(true)
     }
 
     /// Adds a row where none is known of the version, and says whether it did. The only refusal is
@@ -162,18 +199,6 @@ impl Facts {
             return Err(why);
         }
         Ok(true)
-    }
-
-    fn put_end(&mut self, version: &VersionKey, died: Time) -> Result<(), Refusal>
-        ensures ok { OnOk result (facts_put self.old version.now (EndFact died) ≡ Ok self.new) }
-        ensures err { IfErr result (λ why. (facts_put self.old version.now (EndFact died) ≡ Err why) ⊎ ((why ≡ Memory) × IsNew self.old version.now (EndFact died))) }
-        ensures kept { OnErr result (self.new ≡ self.old) }
-    {
-        if self.chains.end_at(version).is_some() {
-            return self.chains.put(version, Fact::End(died));
-        }
-        self.put_new_end(version, died)?;
-        Ok(())
     }
 
     /// Adds an end where none is known of the version, and says whether it did. The only refusal is

@@ -1,16 +1,19 @@
 //! Many facts at once, added all or none.
 
-ghost use Rattle.std.specs.Prelude.{◌≡◌, ◌++◌, ◌∷◌, [], map, OnOk, OnErr, IfErr};
+ghost use Rattle.std.specs.Prelude.{◌≡◌, ◌++◌, ◌∷◌, [], map, true, false, OnOk, OnErr, IfOk, IfErr, if◌then◌else◌};
+ghost use Rattle.std.specs.Bool.{OnTrue, OnFalse};
 ghost use Rattle.std.specs.FinMap as finmap;
-ghost use Rattle.hk_types.specs.declared.faults.Refusal.TheVariants.{Memory};
+ghost use Rattle.hk_types.specs.declared.faults.Refusal.TheVariants.{Conflict, Memory};
+ghost use Rattle.hk_log.specs.Items.{rise, end_place, row_place};
 ghost use Rattle.hk_model.specs.Replica.Maps.{union};
 ghost use Rattle.hk_model.specs.History.Facts.{inserted_version};
 ghost use Rattle.hk_facts.specs.declared.fact.Fact.TheVariants.{Row as RowFact, End as EndFact};
-ghost use Rattle.hk_store.specs.Facts.{FactsValue, with_fact_at, with_entry};
-ghost use Rattle.hk_store.specs.Journal.{without_journal};
+ghost use Rattle.hk_store.specs.Facts.{FactsValue, with_fact_at, with_entry, conflicts_at, conflicts_with_entry, facts_without};
+ghost use Rattle.hk_store.specs.Indexed.{IsNew};
+ghost use Rattle.hk_store.specs.Journal.{part_of, rows_conflict, ends_conflict, without_journal};
 
 use crate::facts::Facts;
-use hk_facts::Part;
+use hk_facts::{Fact, Part};
 use hk_log::Entry;
 use hk_types::{Key, Refusal, Row, Table, Time, VersionKey};
 use std::alloc::AllocError;
@@ -25,6 +28,16 @@ pub(crate) fn note(
 {
     journal.push((*version, part))?;
     Ok(())
+}
+
+/// The part of a version that a fact is.
+fn part_of(fact: &Fact) -> Part
+    ensures { result ≡ part_of fact.now }
+{
+    match fact {
+        Fact::Row(_row) => Part::Row,
+        Fact::End(_died) => Part::End,
+    }
 }
 
 impl Facts {
@@ -97,6 +110,148 @@ impl Facts {
             self.add_end(journal, version, time)?;
         }
         Ok(())
+    }
+
+    /// Adds the rows and ends of an entry, each that is new named in the journal. An entry that gives a version
+    /// another row, or another end, than is known is refused `Conflict`, and any other only for `Memory`; what
+    /// was added until then stays, and is named in the journal. Cost: O(w · log n + b), w writes, n facts,
+    /// b bytes of bodies that are compared: those that are new are moved.
+    pub fn put_writes(
+        &mut self,
+        journal: &mut Vec<(VersionKey, Part)>,
+        entry: Entry,
+    ) -> Result<(), Refusal>
+        ensures ok { OnOk result (self.new ≡ with_entry self.old entry) }
+        ensures agrees { OnOk result (conflicts_with_entry self.old entry ≡ false) }
+        ensures err { IfErr result (λ why.
+            why ≡ (if conflicts_with_entry self.old entry then Conflict else Memory)) }
+        ensures back { without_journal journal.new.items self.new
+            ≡ without_journal journal.old.items self.old }
+    {
+        let _rising = entry.rows();
+        let time = entry.time();
+        let (ends, rows) = entry.into_writes();
+        let room = self.put_rows(journal, rows, time)?;
+        if !self.put_ends(journal, &ends, time, room)? {
+            return Err(Refusal::Memory);
+        }
+        Ok(())
+    }
+
+    /// Adds rows while memory lasts, each that is new named in the journal, and says whether it lasted. The only
+    /// refusal is `Conflict`.
+    fn put_rows(
+        &mut self,
+        journal: &mut Vec<(VersionKey, Part)>,
+        rows: Vec<(Table, Key, Row)>,
+        time: Time,
+    ) -> Result<bool, Refusal>
+        requires { rise (map row_place rows.items) ≡ true }
+        ensures agrees { OnOk result (rows_conflict self.old time rows.items ≡ false) }
+        ensures err { IfErr result (λ why. (why ≡ Conflict) × (rows_conflict self.old time rows.items ≡ true)) }
+        ensures put { IfOk result (λ lasts. OnTrue lasts (self.new.rows ≡ union self.old.rows (finmap.from_entries (map (inserted_version time) rows.items)))) }
+        ensures ends { self.new.ends ≡ self.old.ends }
+        ensures back { without_journal journal.new.items self.new ≡ without_journal journal.old.items self.old }
+    {
+        let mut room = true;
+        for (table, key, row) in rows {
+            let version = VersionKey {
+                table,
+                key,
+                born: time,
+            };
+            room = self.put_while(room, journal, &version, Fact::Row(row))?;
+        }
+        Ok(room)
+    }
+
+    /// Adds ends while memory lasts, as `put_rows` does rows.
+    fn put_ends(
+        &mut self,
+        journal: &mut Vec<(VersionKey, Part)>,
+        ends: &[VersionKey],
+        time: Time,
+        lasts: bool,
+    ) -> Result<bool, Refusal>
+        requires { rise (map end_place ends.now) ≡ true }
+        ensures agrees { OnOk result (ends_conflict self.old time ends.now ≡ false) }
+        ensures err { IfErr result (λ why. (why ≡ Conflict) × (ends_conflict self.old time ends.now ≡ true)) }
+        ensures put { IfOk result (λ still. OnTrue still ((lasts ≡ true) × (self.new.ends ≡ union self.old.ends (finmap.from_entries (map (λ v. (v, time)) ends.now))))) }
+        ensures rows { self.new.rows ≡ self.old.rows }
+        ensures back { without_journal journal.new.items self.new ≡ without_journal journal.old.items self.old }
+    {
+        let mut room = lasts;
+        for version in ends {
+            room = self.put_while(room, journal, version, Fact::End(time))?;
+        }
+        Ok(room)
+    }
+
+    /// Adds a fact where memory lasted so far, as `put_noted` does, and else only compares it.
+    fn put_while(
+        &mut self,
+        room: bool,
+        journal: &mut Vec<(VersionKey, Part)>,
+        version: &VersionKey,
+        fact: Fact,
+    ) -> Result<bool, Refusal>
+        ensures agrees { OnOk result (conflicts_at self.old version.now fact ≡ false) }
+        ensures err { IfErr result (λ why. (why ≡ Conflict) × (conflicts_at self.old version.now fact ≡ true)) }
+        ensures put { IfOk result (λ lasts. OnTrue lasts ((room ≡ true) × (self.new ≡ with_fact_at self.old version.now fact))) }
+        ensures kept { IfOk result (λ lasts. OnFalse lasts (self.new ≡ self.old)) }
+        ensures refused { OnErr result (self.new ≡ self.old) }
+        ensures back { without_journal journal.new.items self.new ≡ without_journal journal.old.items self.old }
+    {
+        if room {
+            return self.put_noted(journal, version, fact);
+        }
+        if self.has_conflicting(version, &fact) {
+            return Err(Refusal::Conflict);
+        }
+        Ok(false)
+    }
+
+    /// Adds a fact, and names it in the journal where it is new. Says whether memory lasted: where it did not,
+    /// nothing changed. The only refusal is `Conflict`.
+    fn put_noted(
+        &mut self,
+        journal: &mut Vec<(VersionKey, Part)>,
+        version: &VersionKey,
+        fact: Fact,
+    ) -> Result<bool, Refusal>
+        ensures agrees { OnOk result (conflicts_at self.old version.now fact ≡ false) }
+        ensures err { IfErr result (λ why. (why ≡ Conflict) × (conflicts_at self.old version.now fact ≡ true)) }
+        ensures put { IfOk result (λ lasts. OnTrue lasts (self.new ≡ with_fact_at self.old version.now fact)) }
+        ensures kept { IfOk result (λ lasts. OnFalse lasts (self.new ≡ self.old)) }
+        ensures refused { OnErr result (self.new ≡ self.old) }
+        ensures back { without_journal journal.new.items self.new ≡ without_journal journal.old.items self.old }
+    {
+        let part = part_of(&fact);
+        match self.insert_fact(version, fact) {
+            Ok(true) => Ok(self.note_new(journal, version, part)),
+            Ok(false) => Ok(true),
+            Err(Refusal::Memory) => Ok(false),
+            Err(why) => Err(why),
+        }
+    }
+
+    /// Names a fact in the journal, or takes it back where memory for its name was refused. Says which.
+    fn note_new(
+        &mut self,
+        journal: &mut Vec<(VersionKey, Part)>,
+        version: &VersionKey,
+        part: Part,
+    ) -> bool
+        ensures noted { OnTrue result (journal.new.items ≡ journal.old.items ++ (version.now, part) ∷ []) }
+        ensures stays { OnTrue result (self.new ≡ self.old) }
+        ensures same { OnFalse result (journal.new.items ≡ journal.old.items) }
+        ensures back { OnFalse result (self.new ≡ facts_without self.old version.now part) }
+    {
+        if note(journal, version, part).is_err() {
+            self.forget(version, part);
+            return false;
+        }
+        true
     }
 
     /// Adds a row where none is known, and names it in the journal. The only refusal is
