@@ -155,11 +155,11 @@ impl Chains {
         ensures kept { OnErr result (self.new ≡ self.old) }
     {
         let row = RowKey::of_version(version);
-        if let Some(chain) = self.chains.get_mut(&row) {
+        if let Some(chain) = self.chains.get_mut(row) {
             return insert_in_chain(chain, version.born, fact);
         }
         let chain = Chain::of_fact(self.alloc, version.born, fact)?;
-        insert(&mut self.chains, row, chain)?;
+        self.chains.insert(row, chain)?;
         Ok(true)
     }
 
