@@ -1,12 +1,10 @@
 //! Reading a state at a time.
 
-ghost use Rattle.std.specs.Prelude.{◌≡◌, ◌<◌, IfSome, IfNone, None, ◌==◌, ◌||◌, ℕ, is_some, length};
+ghost use Rattle.std.specs.Prelude.{◌≡◌, ◌<◌, IfSome, IfNone, ◌==◌, length};
 ghost use Rattle.std.specs.FinMap as finmap;
-ghost use Rattle.std.specs.FinSet as set;
-ghost use Rattle.hk_types.specs.declared.version_key.VersionKey.{VersionKey};
 ghost use Rattle.hk_model.specs.Replica.Answers.{visible, rows_where};
-ghost use Rattle.hk_store.specs.Indexed.{is_tagged};
-ghost use Rattle.hk_store.specs.Facts.{known_at};
+ghost use Rattle.hk_store.specs.Facts.{IsChainAt, IsUnknown};
+ghost use Rattle.hk_store.specs.Indexed.{AreKeyed, AreTagged};
 ghost use Rattle.hk_store.specs.Reads.{facts_of_content};
 
 use crate::replica::ReplicaState;
@@ -28,10 +26,8 @@ impl ReplicaState {
     /// `None` where nothing is known of the key. It takes no memory. Cost: O(log k), k keys
     /// of all tables.
     pub fn chain(&self, table: Table, key: Key) -> Option<&Chain>
-        ensures some { IfSome result (λ chain. (born : ℕ) → finmap.get chain.now born
-            ≡ known_at (facts_of_content self.now) (record { table = table; key = key; born = born })) }
-        ensures none { IfNone result ((born : ℕ) →
-            known_at (facts_of_content self.now) (record { table = table; key = key; born = born }) ≡ None) }
+        ensures some { IfSome result (λ chain. IsChainAt (facts_of_content self.now) table key chain.now) }
+        ensures none { IfNone result (IsUnknown (facts_of_content self.now) table key) }
         ensures filled { IfSome result (λ chain. 0 < finmap.len chain.now) }
     {
         self.facts.chain(table, key)
@@ -39,16 +35,14 @@ impl ReplicaState {
 
     /// The versions whose row is known, by tag.
     pub fn tags(&self) -> &TagIndex
-        ensures { (tag : ℕ) (v : VersionKey) → set.contains result.now (record { tag = tag; version = v })
-            ≡ is_tagged tag (finmap.get self.now.rows v) }
+        ensures { AreTagged (facts_of_content self.now) result.now }
     {
         self.facts.tags()
     }
 
     /// The versions of which a row or an end is known, by table and key.
     pub fn keys(&self) -> KeyIndex<'_>
-        ensures { (v : VersionKey) → set.contains result v
-            ≡ (is_some (finmap.get self.now.rows v) || is_some (finmap.get self.now.ends v)) }
+        ensures { AreKeyed (facts_of_content self.now) result }
     {
         self.facts.keys()
     }

@@ -74,6 +74,14 @@ pub record AreStored (chains : ChainsValue) : Type 0 where
 abbrev pub known_at : FactsValue → VersionKey → Option VersionValue
 known_at f v = if_known (record { row = finmap.get f.rows v; died = finmap.get f.ends v })
 
+-- the chain has what is known of each version of a key of a table
+abbrev pub IsChainAt : FactsValue → ℕ → ℕ → ChainValue → Type 0
+IsChainAt f table key chain = (born : ℕ) → finmap.get chain born ≡ known_at f (record { table = table; key = key; born = born })
+
+-- nothing is known of a key of a table
+abbrev pub IsUnknown : FactsValue → ℕ → ℕ → Type 0
+IsUnknown f table key = (born : ℕ) → known_at f (record { table = table; key = key; born = born }) ≡ None
+
 -- whether a row is known of a version, where the fact is one, or an end, where it is one
 abbrev pub has_like : Option VersionValue → Fact → Bool
 has_like v (Row row) = is_some (row_of v)

@@ -13,7 +13,7 @@ ghost use Rattle.hk_model.specs.Replica.Answers.{visible, rows_where};
 ghost use Rattle.hk_facts.specs.Chains.{row_at, chain_put};
 ghost use Rattle.hk_slots.specs.SlotMaps.{map_of};
 ghost use Rattle.hk_store.specs.Reads.{with_facts};
-ghost use Rattle.hk_store.specs.Facts.{no_facts, known_at, has_like, with_fact_at, facts_put, facts_without};
+ghost use Rattle.hk_store.specs.Facts.{IsChainAt, IsUnknown, no_facts, known_at, has_like, with_fact_at, facts_put, facts_without};
 ghost use Rattle.hk_store.specs.Indexed.{IsNew, tag_lost, end_lost, tag_of_part, end_of_part};
 
 use crate::ranges::rows_in_range;
@@ -72,10 +72,8 @@ impl Chains {
 
     /// The chain of a key of a table. Cost: O(log k), k keys of all tables.
     pub fn chain(&self, table: Table, key: Key) -> Option<&Chain>
-        ensures some { IfSome result (λ chain. (born : ℕ) → finmap.get chain.now born
-            ≡ known_at self.now (record { table = table; key = key; born = born })) }
-        ensures none { IfNone result ((born : ℕ) →
-            known_at self.now (record { table = table; key = key; born = born }) ≡ None) }
+        ensures some { IfSome result (λ chain. IsChainAt self.now table key chain.now) }
+        ensures none { IfNone result (IsUnknown self.now table key) }
         ensures filled { IfSome result (λ chain. 0 < finmap.len chain.now) }
     {
         self.chains.get(RowKey::new(table, key))

@@ -10,7 +10,7 @@ ghost use Rattle.hk_types.specs.declared.version_key.VersionKey.{VersionKey};
 ghost use Rattle.hk_facts.specs.declared.fact.Fact.TheVariants.{Row as RowFact, End as EndFact};
 ghost use Rattle.hk_model.specs.Replica.Answers.{visible, rows_where};
 ghost use Rattle.hk_store.specs.Reads.{with_facts};
-ghost use Rattle.hk_store.specs.Facts.{no_facts, known_at, with_fact_at, facts_put, facts_without};
+ghost use Rattle.hk_store.specs.Facts.{IsChainAt, IsUnknown, no_facts, known_at, with_fact_at, facts_put, facts_without};
 ghost use Rattle.hk_store.specs.Indexed.{AreTagged, AreKeyed, IsNew, tags_without, times_without};
 
 use crate::chains::Chains;
@@ -78,10 +78,8 @@ impl Facts {
 
     /// The chain of a key of a table. Cost: O(log k), k keys of all tables.
     pub fn chain(&self, table: Table, key: Key) -> Option<&Chain>
-        ensures some { IfSome result (λ chain. (born : ℕ) → finmap.get chain.now born
-            ≡ known_at self.now (record { table = table; key = key; born = born })) }
-        ensures none { IfNone result ((born : ℕ) →
-            known_at self.now (record { table = table; key = key; born = born }) ≡ None) }
+        ensures some { IfSome result (λ chain. IsChainAt self.now table key chain.now) }
+        ensures none { IfNone result (IsUnknown self.now table key) }
         ensures filled { IfSome result (λ chain. 0 < finmap.len chain.now) }
     {
         self.chains.chain(table, key)
@@ -117,21 +115,9 @@ impl Facts {
         self.chains.count_at(table, time) as u64
     }
 
-    /// Adds a fact on a version. One that is known already changes nothing, and one that differs from what
-    /// is known is a conflict. `Memory` comes only where nothing like it is known of the version. A
-    /// refusal changes nothing. Cost: O(log n + b), n facts, b bytes of a body that is compared.
-    pub fn put(&mut self, version: &VersionKey, fact: Fact) -> Result<(), Refusal>
-        ensures ok { OnOk result (facts_put self.old version.now fact ≡ Ok self.new) }
-        ensures err { IfErr result (λ why. (facts_put self.old version.now fact ≡ Err why)
-            ⊎ ((why ≡ Memory) × IsNew self.old version.now fact)) }
-        ensures kept { OnErr result (self.new ≡ self.old) }
-    {
-        self.insert_fact(version, fact)?;
-        Ok(())
-    }
-
-    /// Adds a fact on a version as `put` does, and says whether nothing like it was known: one that is known
-    /// already changes nothing. Cost: that of `put`.
+    /// Adds a fact on a version, and says whether nothing like it was known. One that is known already changes
+    /// nothing, and one that differs from what is known is a conflict. `Memory` comes only where nothing like it is
+    /// known of the version. A refusal changes nothing. Cost: O(log n + b), n facts, b bytes of a body that is compared.
     pub(crate) fn insert_fact(&mut self, version: &VersionKey, fact: Fact) -> Result<bool, Refusal>
         ensures ok { OnOk result (facts_put self.old version.now fact ≡ Ok self.new) }
         ensures new { IfOk result (λ is. OnTrue is (IsNew self.old version.now fact)) }
