@@ -1,5 +1,5 @@
 -- What absorbing an item makes of a state's parts.
-use Rattle.std.proofs.Common.{◌≡◌, refl, sym, ap, ◌∙◌, subst, ℕ, true, false, cond, ◌||◌, Some, None, List, [], ◌∷◌, Result, Ok, Err, inl, inr, OnOk, OnErr, IfOk, IfErr, nat_le, length, arith}
+use Rattle.std.proofs.Common.{◌≡◌, refl, sym, ap, ◌∙◌, subst, ℕ, Bool, true, false, cond, ◌||◌, Some, None, List, [], ◌∷◌, Result, Ok, Err, inl, inr, ◌⊎◌, OnOk, OnErr, IfOk, IfErr, nat_le, length, arith}
 use Rattle.std.specs.FinSet as set
 use Rattle.hk_types.specs.Values.{ConfigValue}
 use Rattle.hk_types.specs.declared.faults.Refusal.{Refusal}
@@ -55,17 +55,37 @@ module _ (config : ConfigValue) (h : ℕ) (facts : FactsValue) (got : List Strea
     pub entry_conflict : wrong_log config.log (length got) (Commit e) ≡ None → set.contains (stream_at got e.stream).taken e.number ≡ false → (conflicts_with_entry facts e || nat_le e.time (stream_at got e.stream).closed) ≡ true → Absorbs here here (Commit e) (Err Conflict)
     entry_conflict m new c = (refl, inl (unrepeated m new ∙ ap (λ b. cond b (Err Conflict) (Ok (Taken, with_items here (Commit e ∷ [])))) c))
 
-    pub entry_result : wrong_log config.log (length got) (Commit e) ≡ None → set.contains (stream_at got e.stream).taken e.number ≡ false → (conflicts_with_entry facts e || nat_le e.time (stream_at got e.stream).closed) ≡ false
-        → (r : Result Took Refusal) (facts' : FactsValue) (got' : List StreamContent) → IfOk r (λ took. took ≡ Taken) → OnOk r (facts' ≡ with_entry facts e) → OnOk r (got' ≡ all_together got (streams_of (length got) (Commit e ∷ []))) → IfErr r (λ why. why ≡ Memory) → OnErr r (facts' ≡ facts) → OnErr r (got' ≡ got)
-        → Absorbs here (content_of_parts config h facts' got') (Commit e) r × IsReplica config h facts' got'
-    entry_result m new agrees (Ok took) facts' got' told f g err sf sg =
-        let t : take_result here (Commit e) ≡ Ok (Taken, with_items here (Commit e ∷ [])) = unrepeated m new ∙ ap (λ b. cond b (Err Conflict) (Ok (Taken, with_items here (Commit e ∷ [])))) agrees in
-        let left : with_items here (Commit e ∷ []) ≡ content_of_parts config h facts' got' = λ i. content_of_parts config h (sym f i) (sym g i) in
-        let all : take_result here (Commit e) ≡ Ok (took, content_of_parts config h facts' got') = t ∙ (λ i. Ok (sym told i, left i)) in
-        (all, keeps (Commit e) took facts' got' w all)
-    entry_result m new agrees (Err why) facts' got' told f g err sf sg =
-        let t : take_result here (Commit e) ≡ Ok (Taken, with_items here (Commit e ∷ [])) = unrepeated m new ∙ ap (λ b. cond b (Err Conflict) (Ok (Taken, with_items here (Commit e ∷ [])))) agrees in
-        (((λ i. content_of_parts config h (sf i) (sg i)), inr (err, (with_items here (Commit e ∷ []), t))), subst (λ (x : FactsValue). IsReplica config h x got') (sym sf) (subst (IsReplica config h facts) (sym sg) is))
+    pub entry_late : wrong_log config.log (length got) (Commit e) ≡ None → set.contains (stream_at got e.stream).taken e.number ≡ false → nat_le e.time (stream_at got e.stream).closed ≡ true → Absorbs here here (Commit e) (Err Conflict)
+    entry_late m new late = entry_conflict m new (ap (λ b. conflicts_with_entry facts e || b) late ∙ either (conflicts_with_entry facts e))
+      where
+        either : (b : Bool) → (b || true) ≡ true
+        either true = refl
+        either false = refl
+
+    module _ (m : wrong_log config.log (length got) (Commit e) ≡ None) (new : set.contains (stream_at got e.stream).taken e.number ≡ false) (timely : nat_le e.time (stream_at got e.stream).closed ≡ false) where
+      agreed : conflicts_with_entry facts e ≡ false → take_result here (Commit e) ≡ Ok (Taken, with_items here (Commit e ∷ []))
+      agreed agrees = unrepeated m new ∙ ap (λ b. cond b (Err Conflict) (Ok (Taken, with_items here (Commit e ∷ [])))) (λ i. agrees i || timely i)
+
+      -- a refusal is a conflict, where there is one, and else out of memory
+      failed : (why : Refusal) → why ≡ cond (conflicts_with_entry facts e) Conflict Memory → (take_result here (Commit e) ≡ Err why) ⊎ ((why ≡ Memory) × ((c : Content) × (take_result here (Commit e) ≡ Ok (Taken, c))))
+      failed why err = each (conflicts_with_entry facts e) refl err
+        where
+          each : (b : Bool) → conflicts_with_entry facts e ≡ b → why ≡ cond b Conflict Memory → (take_result here (Commit e) ≡ Err why) ⊎ ((why ≡ Memory) × ((c : Content) × (take_result here (Commit e) ≡ Ok (Taken, c))))
+          each true is err = inl (unrepeated m new ∙ ap (λ b. cond b (Err Conflict) (Ok (Taken, with_items here (Commit e ∷ [])))) (λ i. is i || nat_le e.time (stream_at got e.stream).closed) ∙ ap Err (sym err))
+          each false is err = inr (err, (with_items here (Commit e ∷ []), agreed is))
+
+      pub entry_refused : (why : Refusal) → why ≡ cond (conflicts_with_entry facts e) Conflict Memory → Absorbs here here (Commit e) (Err why)
+      entry_refused why err = (refl, failed why err)
+
+      pub entry_result : (r : Result Took Refusal) (facts' : FactsValue) (got' : List StreamContent) → IfOk r (λ took. took ≡ Taken) → OnOk r (facts' ≡ with_entry facts e) → OnOk r (got' ≡ all_together got (streams_of (length got) (Commit e ∷ []))) → OnOk r (conflicts_with_entry facts e ≡ false)
+          → IfErr r (λ why. why ≡ cond (conflicts_with_entry facts e) Conflict Memory) → OnErr r (facts' ≡ facts) → OnErr r (got' ≡ got)
+          → Absorbs here (content_of_parts config h facts' got') (Commit e) r × IsReplica config h facts' got'
+      entry_result (Ok took) facts' got' told f g agrees err sf sg =
+          let left : with_items here (Commit e ∷ []) ≡ content_of_parts config h facts' got' = λ i. content_of_parts config h (sym f i) (sym g i) in
+          let all : take_result here (Commit e) ≡ Ok (took, content_of_parts config h facts' got') = agreed agrees ∙ (λ i. Ok (sym told i, left i)) in
+          (all, keeps (Commit e) took facts' got' w all)
+      entry_result (Err why) facts' got' told f g agrees err sf sg =
+          (((λ i. content_of_parts config h (sf i) (sg i)), failed why err), subst (λ (x : FactsValue). IsReplica config h x got') (sym sf) (subst (IsReplica config h facts) (sym sg) is))
 
   -- ---- marks
 

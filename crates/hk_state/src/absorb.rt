@@ -1,17 +1,17 @@
 //! Absorbing items.
 
-ghost use Rattle.std.specs.Prelude.{◌≡◌, ◌≤◌, ◌∷◌, [], length, None, OnOk, OnErr, IfOk, IfErr};
+ghost use Rattle.std.specs.Prelude.{◌≡◌, ◌≤◌, ◌∷◌, [], nat_le, length, None, false, OnOk, OnErr, IfOk, IfErr, IfSome, IfNone, if◌then◌else◌};
 ghost use Rattle.std.specs.FinSet as set;
-ghost use Rattle.hk_types.specs.declared.faults.Refusal.TheVariants.{Memory};
+ghost use Rattle.hk_types.specs.declared.faults.Refusal.TheVariants.{Conflict, Memory};
 ghost use Rattle.hk_log.specs.Items.{IsEntry};
 ghost use Rattle.hk_log.specs.declared.item.Item.TheVariants.{Commit, Closed};
 ghost use Rattle.hk_model.specs.declared.took.Took.TheVariants.{Taken};
 ghost use Rattle.hk_model.specs.Replica.Items as spec;
-ghost use Rattle.hk_model.specs.Replica.Rules.{entry_conflicts};
 ghost use Rattle.hk_model.specs.Replica.Streams.{all_together, stream_at, streams_of};
 ghost use Rattle.hk_state.specs.Calls.{Absorbs, AbsorbsOf};
-ghost use Rattle.hk_store.specs.Facts.{with_entry};
+ghost use Rattle.hk_store.specs.Facts.{with_entry, conflicts_with_entry};
 ghost use Rattle.hk_store.specs.Journal.{without_journal};
+ghost use Rattle.hk_store.specs.Reads.{facts_of_content};
 
 use crate::replica::ReplicaState;
 use hk_facts::Part;
@@ -40,7 +40,8 @@ pub fn wrong_log(config: Config, item: &Item) -> Option<Refusal>
     None
 }
 
-/// Adds an entry's rows, ends and number, each fact named in the journal.
+/// Adds an entry's rows, ends and number, each fact that is new named in the journal, unless it conflicts with what
+/// is known.
 fn take_noted(
     facts: &mut Facts,
     got: &mut Got,
@@ -50,17 +51,19 @@ fn take_noted(
     requires { entry.stream ≤ length got.old }
     ensures facts { OnOk result (facts.new ≡ with_entry facts.old entry) }
     ensures got { OnOk result (got.new ≡ all_together got.old (streams_of (length got.old) (Commit entry ∷ []))) }
-    ensures err { IfErr result (λ why. why ≡ Memory) }
+    ensures agrees { OnOk result (conflicts_with_entry facts.old entry ≡ false) }
+    ensures err { IfErr result (λ why. why ≡ (if conflicts_with_entry facts.old entry then Conflict else Memory)) }
     ensures kept { OnErr result (got.new ≡ got.old) }
     ensures back { without_journal journal.new.items facts.new ≡ without_journal journal.old.items facts.old }
 {
     let stream = entry.stream();
     let number = entry.number();
-    facts.add_writes(journal, entry)?;
+    facts.put_writes(journal, entry)?;
     got.add_number(stream, number)
 }
 
-/// Adds an entry's rows, ends and number, or nothing of it. Its bodies are moved.
+/// Adds an entry's rows, ends and number, or nothing of it: `Conflict` where it conflicts with what is known, and
+/// else `Memory`. Its bodies are moved.
 fn take_entry(
     alloc: Global,
     facts: &mut Facts,
@@ -71,7 +74,8 @@ fn take_entry(
     ensures told { IfOk result (λ took. took ≡ Taken) }
     ensures facts { OnOk result (facts.new ≡ with_entry facts.old entry) }
     ensures got { OnOk result (got.new ≡ all_together got.old (streams_of (length got.old) (Commit entry ∷ []))) }
-    ensures err { IfErr result (λ why. why ≡ Memory) }
+    ensures agrees { OnOk result (conflicts_with_entry facts.old entry ≡ false) }
+    ensures err { IfErr result (λ why. why ≡ (if conflicts_with_entry facts.old entry then Conflict else Memory)) }
     ensures same_facts { OnErr result (facts.new ≡ facts.old) }
     ensures same_got { OnErr result (got.new ≡ got.old) }
 {
@@ -105,26 +109,53 @@ impl ReplicaState {
         self.got.has(entry.stream(), entry.number())
     }
 
-    /// Whether an entry conflicts with what is held: with a row, an end, or the closed time of its stream.
-    fn conflicts_with(&self, entry: &Entry) -> bool
+    /// Whether the time of an entry is at most the closed time of its stream.
+    fn is_late(&self, entry: &Entry) -> bool
         requires { spec.wrong_log self.now.log (length self.now.streams) (Commit entry.now) ≡ None }
-        ensures { result ≡ entry_conflicts self.now entry.now }
+        ensures { result ≡ nat_le entry.now.time (stream_at self.now.streams entry.now.stream).closed }
     {
-        self.facts.conflicts_with_entry(entry) || entry.time() <= self.got.closed(entry.stream())
+        entry.time() <= self.got.closed(entry.stream())
     }
 
-    /// Absorbs an entry of the log, of which it copies what it keeps.
+    /// What comes of an entry whose number is taken, or that is late. Such an entry changes nothing, and none of
+    /// its rows and ends is looked at.
+    fn outcome_at_once(&self, entry: &Entry) -> Option<Result<Took, Refusal>>
+        requires { spec.wrong_log self.now.log (length self.now.streams) (Commit entry.now) ≡ None }
+        ensures some { IfSome result (λ outcome. Absorbs self.now self.now (Commit entry.now) outcome) }
+        ensures new { IfNone result (set.contains (stream_at self.now.streams entry.now.stream).taken entry.now.number ≡ false) }
+        ensures timely { IfNone result (nat_le entry.now.time (stream_at self.now.streams entry.now.stream).closed ≡ false) }
+        ensures lawful { IsEntry entry.now }
+    {
+        if self.has_taken(entry) {
+            return Some(Ok(Took::Repeated));
+        }
+        if self.is_late(entry) {
+            return Some(Err(Refusal::Conflict));
+        }
+        None
+    }
+
+    /// Why an entry is not taken for which memory was refused.
+    fn refusal_without_memory(&self, entry: &Entry) -> Refusal
+        ensures { result ≡ (if conflicts_with_entry (facts_of_content self.now) entry.now then Conflict else Memory) }
+    {
+        if self.facts.conflicts_with_entry(entry) {
+            return Refusal::Conflict;
+        }
+        Refusal::Memory
+    }
+
+    /// Absorbs an entry of the log, which it copies.
     fn absorb_entry(&mut self, entry: &Entry) -> Result<Took, Refusal>
         requires { spec.wrong_log self.old.log (length self.old.streams) (Commit entry.now) ≡ None }
         ensures { Absorbs self.old self.new (Commit entry.now) result }
     {
-        if self.has_taken(entry) {
-            return Ok(Took::Repeated);
+        if let Some(outcome) = self.outcome_at_once(entry) {
+            return outcome;
         }
-        if self.conflicts_with(entry) {
-            return Err(Refusal::Conflict);
-        }
-        let copied = entry.copy(self.alloc)?;
+        let Ok(copied) = entry.copy(self.alloc) else {
+            return Err(self.refusal_without_memory(entry));
+        };
         take_entry(self.alloc, &mut self.facts, &mut self.got, copied)
     }
 
@@ -133,11 +164,8 @@ impl ReplicaState {
         requires { spec.wrong_log self.old.log (length self.old.streams) (Commit entry) ≡ None }
         ensures { Absorbs self.old self.new (Commit entry) result }
     {
-        if self.has_taken(&entry) {
-            return Ok(Took::Repeated);
-        }
-        if self.conflicts_with(&entry) {
-            return Err(Refusal::Conflict);
+        if let Some(outcome) = self.outcome_at_once(&entry) {
+            return outcome;
         }
         take_entry(self.alloc, &mut self.facts, &mut self.got, entry)
     }

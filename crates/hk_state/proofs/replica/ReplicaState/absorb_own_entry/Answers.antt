@@ -1,7 +1,6 @@
-use Rattle.std.proofs.Common.{◌≡◌, sym, ◌∙◌, subst, None, false, length}
+use Rattle.std.proofs.Common.{◌≡◌, sym, subst, None, false, nat_le, length}
 use Rattle.std.specs.FinSet as set
 use Rattle.hk_model.specs.Replica.Content.{Content}
-use Rattle.hk_model.specs.Replica.Rules.{entry_conflicts}
 use Rattle.hk_model.specs.Replica.Streams.{stream_at}
 use Rattle.hk_model.specs.Replica.Items.{wrong_log}
 use Rattle.hk_log.specs.declared.item.Item.TheVariants.{Commit}
@@ -16,9 +15,9 @@ invariant_of-self c =
     let e = c.args.entry in
     let t = c.take_entry.ensures in
     let none : wrong_log a.config.log (length a.got) (Commit e) ≡ None = subst (λ (x : Content). wrong_log x.log (length x.streams) (Commit e) ≡ None) (sym c.self.view_is) c.requires in
-    let new : set.contains (stream_at a.got e.stream).taken e.number ≡ false = subst (λ (x : Content). set.contains (stream_at x.streams e.stream).taken e.number ≡ false) (sym c.self.view_is) (sym c.has_taken.ensures.value ∙ c.if-has_taken.false) in
-    let agrees : entry_conflicts (content_of_parts a.config a.horizon a.facts a.got) e ≡ false = subst (λ (x : Content). entry_conflicts x e ≡ false) (sym c.self.view_is) (sym c.conflicts_with.ensures ∙ c.if-conflicts_with.false) in
-    (entry_result a.config a.horizon a.facts a.got c.self.invariant e c.has_taken.ensures.lawful none new agrees c.take_entry.result c.take_entry.new.facts c.take_entry.new.got t.told t.facts t.got t.err t.same_facts t.same_got).1
+    let new : set.contains (stream_at a.got e.stream).taken e.number ≡ false = subst (λ (x : Content). set.contains (stream_at x.streams e.stream).taken e.number ≡ false) (sym c.self.view_is) c.in_default.ensures.new in
+    let timely : nat_le e.time (stream_at a.got e.stream).closed ≡ false = subst (λ (x : Content). nat_le e.time (stream_at x.streams e.stream).closed ≡ false) (sym c.self.view_is) c.in_default.ensures.timely in
+    (entry_result a.config a.horizon a.facts a.got c.self.invariant e c.in_default.ensures.lawful none new timely c.take_entry.result c.take_entry.new.facts c.take_entry.new.got t.told t.facts t.got t.agrees t.err t.same_facts t.same_got).1
 
 pub returns : goal.returns
 returns c =
@@ -26,8 +25,8 @@ returns c =
     let e = c.args.entry in
     let t = c.take_entry.ensures in
     let none : wrong_log a.config.log (length a.got) (Commit e) ≡ None = subst (λ (x : Content). wrong_log x.log (length x.streams) (Commit e) ≡ None) (sym c.self.view_is) c.requires in
-    let new : set.contains (stream_at a.got e.stream).taken e.number ≡ false = subst (λ (x : Content). set.contains (stream_at x.streams e.stream).taken e.number ≡ false) (sym c.self.view_is) (sym c.has_taken.ensures.value ∙ c.if-has_taken.false) in
-    let agrees : entry_conflicts (content_of_parts a.config a.horizon a.facts a.got) e ≡ false = subst (λ (x : Content). entry_conflicts x e ≡ false) (sym c.self.view_is) (sym c.conflicts_with.ensures ∙ c.if-conflicts_with.false) in
+    let new : set.contains (stream_at a.got e.stream).taken e.number ≡ false = subst (λ (x : Content). set.contains (stream_at x.streams e.stream).taken e.number ≡ false) (sym c.self.view_is) c.in_default.ensures.new in
+    let timely : nat_le e.time (stream_at a.got e.stream).closed ≡ false = subst (λ (x : Content). nat_le e.time (stream_at x.streams e.stream).closed ≡ false) (sym c.self.view_is) c.in_default.ensures.timely in
     let after : Content = content_of_parts a.config a.horizon c.take_entry.new.facts c.take_entry.new.got in
     subst (λ (x : Content). Absorbs x after (Commit e) c.take_entry.result) c.self.view_is
-    (entry_result a.config a.horizon a.facts a.got c.self.invariant e c.has_taken.ensures.lawful none new agrees c.take_entry.result c.take_entry.new.facts c.take_entry.new.got t.told t.facts t.got t.err t.same_facts t.same_got).0
+    (entry_result a.config a.horizon a.facts a.got c.self.invariant e c.in_default.ensures.lawful none new timely c.take_entry.result c.take_entry.new.facts c.take_entry.new.got t.told t.facts t.got t.agrees t.err t.same_facts t.same_got).0
