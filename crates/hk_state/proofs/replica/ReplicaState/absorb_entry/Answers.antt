@@ -3,7 +3,6 @@ use Rattle.std.specs.FinSet as set
 use Rattle.hk_model.specs.Replica.Content.{Content}
 use Rattle.hk_model.specs.Replica.Streams.{stream_at, all_together, streams_of}
 use Rattle.hk_model.specs.Replica.Items.{wrong_log}
-use Rattle.hk_types.specs.declared.faults.Refusal.{Refusal}
 use Rattle.hk_types.specs.declared.faults.Refusal.TheVariants.{Conflict, Memory}
 use Rattle.hk_log.specs.Items.{EntryValue}
 use Rattle.hk_log.specs.declared.item.Item.TheVariants.{Commit}
