@@ -132,6 +132,24 @@ def tags():
             lambda count: rows_of_tags(random.Random(7).sample(range(2 ** 32), count)), 10_000)
 
 
+# ---------------------------------------------------------------- keys
+
+TABLE_FACTOR = 0xd6e8feb86659fd93
+
+
+def crowded_keys(count):
+    """Keys of table 1 whose hashes all begin with 28 zeros, so that the guesses at their slots fall in one group."""
+    undone = pow(MULTIPLIER, -1, 2 ** 64)
+    for number in range(count):
+        mixed = (number << 18) * undone & MASK
+        yield (mixed ^ mixed >> 32) ^ TABLE_FACTOR
+
+
+def keys():
+    compare("keys whose guesses fall together", at, lambda count: rows_of_keys(crowded_keys(count)),
+            lambda count: rows_of_keys(random.Random(7).sample(range(2 ** 63), count)), 25_000)
+
+
 def one_tag():
     compare("one tag on all keys", at, lambda count: rows_of_tags([9] * count),
             lambda count: rows_of_tags(random.Random(7).sample(range(2 ** 32), count)), 25_000)
@@ -333,7 +351,7 @@ def open_counts():
             fronts, 1_000)
 
 
-GATE = (tags, one_tag, orders_of_keys, orders_of_times, orders_of_ends, orders_of_births, marks, covered_marks, numbers_, numbers_with_gaps,
+GATE = (tags, keys, one_tag, orders_of_keys, orders_of_times, orders_of_ends, orders_of_births, marks, covered_marks, numbers_, numbers_with_gaps,
         streams, chains, contradictions, all_contradict, endless_line, empty_lines, endless_frame, prunes, deltas, rising_joins, lone_ends,
         small_joins)
 OPEN = (open_counts,)
