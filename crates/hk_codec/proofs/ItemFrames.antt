@@ -1,31 +1,29 @@
 -- Items are a format: their frames are read and encoded in one way in each version.
-use Rattle.std.proofs.Common.{◌≡◌, ℕ, ◌≤◌, ◌⊎◌, List, [], ◌∷◌, ◌++◌, length, map, Option, Result, Ok, Err, refl, sym, ap, ◌∙◌, append-nil, append_assoc, arith}
-use Rattle.std.specs.List.{flat_map}
+use Rattle.std.proofs.Common.{◌≡◌, ℕ, ◌⊎◌, List, [], ◌∷◌, ◌++◌, map, Result, Ok, refl, sym, ap, ◌∙◌, arith}
 use Rattle.std.proofs.lemmas.List.{map-append}
 use Rattle.hk_types.specs.declared.faults.FormFault.{FormFault}
-use Rattle.hk_types.specs.declared.faults.Refusal.{Refusal}
 use Rattle.hk_log.specs.declared.item.Item.{Item}
 use Rattle.hk_codec.specs.Encoding.{WrittenItem, rest_text, IsEncodableItem, IsWritten}
 use Rattle.hk_codec.specs.Reading.{item_at}
-use Rattle.hk_codec.specs.Frames.{frame_text, encoding_of, Reads, Adds}
+use Rattle.hk_codec.specs.Frames.{frame_text, encoding_of, item_format, Reads, Adds}
 use Rattle.hk_codec.proofs.ReadItems.{item_takes}
 use Rattle.hk_codec.proofs.Lengths.{rest_least, rest_most}
 use Rattle.hk_codec.proofs.ReadAgain.{item_again}
-use Rattle.hk_frames.specs.Framing.{IsFormat, AddsValues, Feeds}
-use Rattle.hk_frames.proofs.FrameStream.{one_encoding_only, one_reading_only, pieces_join_up, one_value_begins, feeds_so}
+use Rattle.hk_frames.specs.Framing.{IsFormat, AddsBy}
+use Rattle.hk_frames.proofs.FrameStream.{one_encoding_only, one_reading_only, pieces_join_up, one_value_begins}
 
-pub item_format : IsFormat 28 4233248 item_at rest_text IsWritten
-item_format = record { takes = λ bytes w fits most e. item_takes bytes w fits e; again = item_again; at_least = λ w h. rest_least w.version w.item; at_most = λ w h. rest_most w.version w.item h.0 h.1; in_width = omega arith }
+pub items_are_sound : IsFormat 28 4233248 item_at rest_text IsWritten
+items_are_sound = record { takes = λ bytes w fits most e. item_takes bytes w fits e; again = item_again; at_least = λ w h. rest_least w.version w.item; at_most = λ w h. rest_most w.version w.item h.0 h.1; in_width = omega arith }
 
 pub items_encode : (i j : WrittenItem) (a b : List ℕ) → IsWritten i → IsWritten j → frame_text i ++ a ≡ frame_text j ++ b → (i ≡ j) × (a ≡ b)
-items_encode = one_encoding_only 28 4233248 item_at rest_text IsWritten item_format
+items_encode = one_encoding_only 28 4233248 item_at rest_text IsWritten items_are_sound
 
 abbrev items_of : List WrittenItem → List Item
 items_of ws = map (λ w. w.item) ws
 
 pub items_read : (text : List ℕ) (xs ys : List Item) (l r : Result (List ℕ) FormFault) → Reads text xs l → Reads text ys r → (xs ≡ ys) × (l ≡ r)
 items_read text xs ys l r h k =
-    let one = one_reading_only 28 4233248 item_at rest_text IsWritten item_format text h.0 k.0 l r h.2 k.2 in
+    let one = one_reading_only 28 4233248 item_at rest_text IsWritten items_are_sound text h.0 k.0 l r h.2 k.2 in
     (h.1 ∙ ap items_of one.0 ∙ sym k.1, one.1)
 
 pub items_join : (text more left : List ℕ) (xs ys : List Item) (r : Result (List ℕ) FormFault) → Reads text xs (Ok left) → Reads (left ++ more) ys r → Reads (text ++ more) (xs ++ ys) r
@@ -44,8 +42,5 @@ same_items : (xs : List Item) → map (λ (i : Item). i) xs ≡ xs
 same_items [] = refl
 same_items (x ∷ xs) = ap (λ (l : List Item). x ∷ l) (same_items xs)
 
-pub items_added : (before after : List Item) (text : List ℕ) (left : Result (List ℕ) FormFault) → AddsValues (λ (i : Item). i) (λ (w : WrittenItem). w.item) 28 4233248 item_at rest_text IsWritten before after text left → Adds before after text left
+pub items_added : (before after : List Item) (text : List ℕ) (left : Result (List ℕ) FormFault) → AddsBy item_format before after text left → Adds before after text left
 items_added before after text left h = (h.0, h.1, (h.2.0, sym (same_items h.0) ∙ h.2.1, h.2.2))
-
-pub items_fed : (old new : Result (List ℕ) FormFault) (before after : List Item) (piece : List ℕ) (result : Result (Unit {0}) Refusal) → Feeds (AddsValues (λ (i : Item). i) (λ (w : WrittenItem). w.item) 28 4233248 item_at rest_text IsWritten) old new before after piece result → Feeds Adds old new before after piece result
-items_fed old new before after piece result h = feeds_so (AddsValues (λ (i : Item). i) (λ (w : WrittenItem). w.item) 28 4233248 item_at rest_text IsWritten) Adds items_added old new before after piece result h

@@ -1,6 +1,6 @@
 -- What loops over the lists of an entry know.
-use Rattle.std.proofs.Common.{◌≡◌, ◌≢◌, ℕ, zero, suc, ◌-◌, ◌+◌, ◌≤◌, ◌<◌, List, [], ◌∷◌, ◌++◌, All, length, take, drop, get_or, Option, Some, None, Result, Ok, Err, refl, sym, ap, subst, ◌∙◌, append_assoc, append-nil, add-one, arith}
-use Rattle.std.specs.List.{flat_map, slice_get, AllByRecursion}
+use Rattle.std.proofs.Common.{◌≡◌, ◌≢◌, ℕ, zero, suc, ◌-◌, ◌+◌, ◌≤◌, ◌<◌, List, [], ◌∷◌, ◌++◌, All, length, take, drop, get_or, Option, Some, None, Result, Ok, Err, refl, sym, ap, subst, ◌∙◌, append_assoc, append-nil, arith}
+use Rattle.std.specs.List.{flat_map, slice_get}
 use Rattle.std.proofs.lemmas.List.{take-append-drop, length-take, length-drop}
 use Rattle.std.proofs.lemmas.List.Concat.{flat_map-cons}
 use Rattle.std.proofs.lemmas.List.Elements.{recursion_from_All}
@@ -8,7 +8,7 @@ use Rattle.std.proofs.Math.Seq.{drop-cons}
 use Rattle.hk_types.specs.declared.faults.FormFault.{FormFault}
 use Rattle.hk_frames.specs.declared.cursor.ReadError.{ReadError}
 use Rattle.hk_frames.specs.declared.cursor.ReadError.TheVariants.{Memory, Fault}
-use Rattle.hk_frames.specs.Fields.{◌>>=◌, Fails}
+use Rattle.hk_frames.specs.Fields.{Fails}
 use Rattle.hk_frames.proofs.Prefix.{kept_both}
 use Rattle.hk_codec.specs.Lists.{groups_of, group_text, last_place, group_at, groups_at, StartsOther, IsFirstGroup}
 use Rattle.hk_codec.proofs.LongestRuns.{OneOf, run_then}

@@ -1,20 +1,19 @@
 -- Groups of elements of one table: what they were made of, what is read of them, and how it is read again.
-use Rattle.std.proofs.Common.{◌≡◌, ◌≢◌, ℕ, zero, suc, ◌+◌, ◌*◌, ◌^◌, ◌<◌, ◌≤◌, Bool, true, false, cond, eqb, ltb, ◌||◌, ◌&&◌, List, [], ◌∷◌, ◌++◌, length, map, take, drop, Option, Some, None, Result, Ok, refl, sym, ap, subst, ◌∙◌, append_assoc, arith, inl, inr}
+use Rattle.std.proofs.Common.{◌≡◌, ◌≢◌, ℕ, zero, suc, ◌+◌, ◌^◌, ◌<◌, ◌≤◌, Bool, true, false, cond, eqb, ltb, ◌||◌, ◌&&◌, List, [], ◌∷◌, ◌++◌, length, map, Option, Some, None, Result, Ok, refl, sym, ap, subst, ◌∙◌, append_assoc, arith, inl, inr}
 use Rattle.std.specs.Int.{w16}
 use Rattle.std.specs.List.{flat_map, AllByRecursion}
-use Rattle.std.proofs.lemmas.Bool.{ltb-true, ltb-false, lt-ltb, le-ltb, eqb-true, eq-eqb, and_from}
+use Rattle.std.proofs.lemmas.Bool.{ltb-true, ltb-false, le-ltb, eqb-true, eq-eqb, and_from}
 use Rattle.std.proofs.lemmas.List.{append-nil, length-append}
 use Rattle.std.proofs.lemmas.List.Concat.{flat_map-cons}
-use Rattle.std.proofs.lemmas.Grind.{flat_map-append}
 use Rattle.hk_types.specs.declared.faults.FormFault.{FormFault}
 use Rattle.hk_types.specs.declared.faults.FormFault.TheVariants.{BadOrder, BadCount}
 use Rattle.hk_log.specs.Items.{is_before, is_after, rise_after}
 use Rattle.hk_frames.specs.Fields.{IsBytes, ◌>>=◌, check, number, number_at, list_at}
-use Rattle.hk_codec.specs.Lists.{before_groups, groups_of, group_text, grouped_text, last_place, is_above, elements_at, group_at, groups_at, StartsOther}
+use Rattle.hk_codec.specs.Lists.{before_groups, groups_of, group_text, last_place, is_above, elements_at, group_at, groups_at, StartsOther}
 use Rattle.hk_frames.proofs.ReadingLoop.{One}
 use Rattle.hk_frames.proofs.ReadingSteps.{bind_ok, check_ok, ok_is, passes, neither, both, either, Takes, Takes-then}
 use Rattle.hk_frames.proofs.Numbers.{wide16, number_takes, number_again}
-use Rattle.hk_codec.proofs.ListsRead.{ListIs, list_takes, list_again}
+use Rattle.hk_codec.proofs.ListsRead.{list_takes, list_again}
 
 -- ---- the elements of groups
 

@@ -1,16 +1,15 @@
 -- What is encoded so is read again, whatever follows it.
-use Rattle.std.proofs.Common.{◌≡◌, ℕ, suc, ◌+◌, ◌^◌, ◌<◌, ◌≤◌, true, false, eqb, ltb, ◌||◌, ◌&&◌, ◌⊎◌, List, [], ◌∷◌, ◌++◌, length, map, Option, Some, None, Ok, refl, sym, ap, subst, ◌∙◌, append_assoc, arith, inl, inr}
+use Rattle.std.proofs.Common.{◌≡◌, ℕ, ◌+◌, ◌^◌, ◌<◌, ◌≤◌, true, false, eqb, ltb, ◌||◌, ◌⊎◌, List, [], ◌∷◌, ◌++◌, length, map, Option, None, Ok, refl, sym, ap, subst, ◌∙◌, append_assoc, arith, inl, inr}
 use Rattle.std.specs.Int.{w16, w32, w64}
 use Rattle.std.specs.List.{flat_map, list_all, AllByRecursion}
 use Rattle.std.proofs.lemmas.Bool.{ltb-true, le-ltb}
 use Rattle.std.proofs.lemmas.List.{take_at, drop_at, append-nil, length-append}
-use Rattle.std.proofs.lemmas.List.Concat.{flat_map-cons}
 use Rattle.hk_types.specs.Values.{RowValue}
 use Rattle.hk_types.specs.declared.version_key.VersionKey.{VersionKey}
-use Rattle.hk_log.specs.Items.{EntryValue, MarkValue, IsEntry, IsMark, end_place, row_place, is_after, rise_after, was_born}
+use Rattle.hk_log.specs.Items.{EntryValue, MarkValue, IsMark, end_place, row_place, is_after, rise_after, was_born}
 use Rattle.hk_log.specs.declared.item.Item.{Item}
 use Rattle.hk_log.specs.declared.item.Item.TheVariants.{Commit, Closed}
-use Rattle.hk_frames.specs.Fields.{number, byte_at, number_at, bytes_at, body_at, list_at}
+use Rattle.hk_frames.specs.Fields.{number, byte_at, number_at, bytes_at, body_at}
 use Rattle.hk_codec.specs.Encoding.{WrittenItem, keyed_end_text, keyed_row_text, ends_text, rows_text, head_text, entry_text, mark_text, version_text, rest_text, EndFits, RowFits, IsEncodableItem, IsWritten}
 use Rattle.hk_codec.specs.Lists.{tabled_text, counted_text, groups_of, group_text, grouped_text, list_text, groups_at}
 use Rattle.hk_codec.specs.Reading.{HeadValue, keyed_end_at, keyed_row_at, end_at, row_at, moment_at, counted_ends_at, counted_rows_at, grouped_ends_at, grouped_rows_at, ends_of_version, rows_of_version, entry_at, mark_at, head_at, kind_at, item_at}

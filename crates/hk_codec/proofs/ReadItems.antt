@@ -1,17 +1,16 @@
 -- Lists, entries and items: what is read is encoded so.
-use Rattle.std.proofs.Common.{◌≡◌, ℕ, zero, suc, ◌+◌, ◌^◌, ◌<◌, ◌≤◌, Bool, true, false, cond, eqb, ltb, ◌||◌, ◌&&◌, ◌⊎◌, List, [], ◌∷◌, ◌++◌, length, map, Option, Some, None, Ok, refl, sym, ap, subst, ◌∙◌, append_assoc, arith, inl, inr}
+use Rattle.std.proofs.Common.{◌≡◌, ℕ, ◌+◌, ◌^◌, ◌<◌, ◌≤◌, true, cond, eqb, ltb, ◌||◌, ◌⊎◌, List, [], ◌∷◌, ◌++◌, length, map, None, Ok, refl, sym, ap, subst, ◌∙◌, append_assoc, arith, inl, inr}
 use Rattle.std.specs.Int.{w16, w64}
 use Rattle.std.specs.List.{flat_map, list_all, AllByRecursion}
 use Rattle.std.proofs.lemmas.Bool.{ltb-false, lt-ltb, and_from}
 use Rattle.std.proofs.lemmas.List.{append-nil, nil_from_length}
-use Rattle.std.proofs.lemmas.List.Concat.{flat_map-cons}
 use Rattle.hk_types.specs.Values.{RowValue}
 use Rattle.hk_types.specs.declared.version_key.VersionKey.{VersionKey}
 use Rattle.hk_types.specs.declared.faults.FormFault.TheVariants.{BadNumber, BadCount, WrongLength}
-use Rattle.hk_log.specs.Items.{EntryValue, IsEntry, end_place, row_place, is_after, rise_after, rise, was_born}
+use Rattle.hk_log.specs.Items.{EntryValue, IsEntry, end_place, row_place, rise, was_born}
 use Rattle.hk_log.specs.declared.item.Item.{Item}
 use Rattle.hk_log.specs.declared.item.Item.TheVariants.{Commit, Closed}
-use Rattle.hk_frames.specs.Fields.{IsBytes, ◌>>=◌, check, number, number_at, list_at}
+use Rattle.hk_frames.specs.Fields.{IsBytes, ◌>>=◌, check, number, number_at}
 use Rattle.hk_codec.specs.Encoding.{WrittenItem, keyed_end_text, keyed_row_text, ends_text, rows_text, head_text, entry_text, mark_text, version_text, rest_text, EndFits, RowFits, IsEncodableItem, IsWritten}
 use Rattle.hk_codec.specs.Lists.{tabled_text, counted_text, groups_of, group_text, grouped_text, list_text, groups_at}
 use Rattle.hk_codec.specs.Reading.{HeadValue, keyed_end_at, keyed_row_at, end_at, row_at, ends_at, rows_at, moment_at, counted_ends_at, counted_rows_at, grouped_ends_at, grouped_rows_at, ends_of_version, rows_of_version, entry_at, mark_at, head_at, kind_at, item_at}

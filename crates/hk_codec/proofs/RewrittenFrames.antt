@@ -1,12 +1,11 @@
 -- Frames that are written anew as they are read.
-use Rattle.std.proofs.Common.{◌≡◌, ℕ, ◌-◌, ◌+◌, ◌≤◌, ◌<◌, ◌⊎◌, List, [], ◌∷◌, ◌++◌, length, take, drop, Option, Some, None, Result, Ok, Err, refl, sym, ap, subst, ◌∙◌, append_assoc, append-nil, arith, inl, inr}
+use Rattle.std.proofs.Common.{◌≡◌, ℕ, ◌+◌, ◌≤◌, ◌<◌, List, [], ◌∷◌, ◌++◌, length, take, drop, Option, Some, None, Result, Ok, Err, refl, sym, ap, subst, ◌∙◌, append_assoc, append-nil, arith}
 use Rattle.std.specs.List.{flat_map}
 use Rattle.std.proofs.lemmas.Grind.{flat_map-append}
 use Rattle.std.proofs.lemmas.List.{length-drop, nil_from_length}
 use Rattle.std.proofs.lemmas.List.Concat.{flat_map-cons}
 use Rattle.hk_types.specs.declared.faults.FormFault.{FormFault}
 use Rattle.hk_types.specs.declared.faults.FormFault.TheVariants.{Truncated}
-use Rattle.hk_types.specs.declared.faults.Refusal.{Refusal}
 use Rattle.hk_types.specs.declared.faults.Refusal.TheVariants as refusals
 use Rattle.hk_log.specs.declared.item.Item.{Item}
 use Rattle.hk_frames.specs.Fields.{IsBytes, mapped}
@@ -16,8 +15,7 @@ use Rattle.hk_frames.proofs.FrameStream.{SoFar, OneMore, at_start, from_place, v
 use Rattle.hk_codec.specs.Encoding.{WrittenItem, rest_text, IsWritten}
 use Rattle.hk_codec.specs.Reading.{item_at}
 use Rattle.hk_codec.specs.Frames.{encoding_of, Reads, IsRefused}
-use Rattle.hk_codec.specs.Rewriting.{HasRewritten}
-use Rattle.hk_codec.proofs.ItemFrames.{item_format, items_added}
+use Rattle.hk_codec.proofs.ItemFrames.{items_are_sound, items_added}
 
 abbrev plain : Item → Item
 plain i = i
@@ -43,7 +41,7 @@ module _ (text old out : List ℕ) (used : ℕ) (r : Rewritten text old out used
   used_fits = r.so_far.fits
 
   more_read : (i : Item) (n : ℕ) → IsBytes text → next_at text used ≡ Ok (Some (i, n)) → OneMore plain item_of rest_text IsWritten text [] (r.items ++ i ∷ []) used n
-  more_read i n bytes e = value_more plain item_of 28 4233248 item_at rest_text IsWritten item_format text [] r.items used i n bytes r.so_far e
+  more_read i n bytes e = value_more plain item_of 28 4233248 item_at rest_text IsWritten items_are_sound text [] r.items used i n bytes r.so_far e
 
   pub more_fits : (i : Item) (n : ℕ) → IsBytes text → next_at text used ≡ Ok (Some (i, n)) → (used + n ≤ length text) × (4 ≤ n)
   more_fits i n bytes e = let m = more_read i n bytes e in (m.so_far.fits, m.least)
@@ -66,7 +64,7 @@ module _ (text old out : List ℕ) (used : ℕ) (r : Rewritten text old out used
 
   reads_left : next_at text used ≡ Ok None → Reads text r.items (Ok (drop used text))
   reads_left e =
-      let a = items_added [] r.items text (Ok (drop used text)) (values_stop plain item_of 28 4233248 item_at rest_text IsWritten item_format text [] r.items used r.so_far e) in
+      let a = items_added [] r.items text (Ok (drop used text)) (values_stop plain item_of 28 4233248 item_at rest_text IsWritten items_are_sound text [] r.items used r.so_far e) in
       subst (λ (l : List Item). Reads text l (Ok (drop used text))) (sym a.1) a.2
 
   pub all_rewritten : next_at text used ≡ Ok None → length text ≤ used → (items : List Item) × Reads text items (Ok []) × (out ≡ old ++ flat_map (encoding_of 2) items)
@@ -83,5 +81,5 @@ module _ (text old out : List ℕ) (used : ℕ) (r : Rewritten text old out used
 
   pub faulty : (f : FormFault) → next_at text used ≡ Err f → IsRefused text (refusals.Form f)
   faulty f e =
-      let a = items_added [] r.items text (Err f) (values_fault plain item_of 28 4233248 item_at rest_text IsWritten item_format text [] r.items used f r.so_far e) in
+      let a = items_added [] r.items text (Err f) (values_fault plain item_of 28 4233248 item_at rest_text IsWritten items_are_sound text [] r.items used f r.so_far e) in
       (r.items, Err f, subst (λ (l : List Item). Reads text l (Err f)) (sym a.1) a.2, refl)

@@ -6,8 +6,8 @@ use Rattle.hk_types.specs.declared.faults.FormFault.{FormFault}
 use Rattle.hk_types.specs.declared.faults.Refusal.{Refusal}
 use Rattle.hk_types.specs.declared.faults.Refusal.TheVariants as refusals
 use Rattle.hk_log.specs.declared.item.Item.{Item}
-use Rattle.hk_frames.specs.Framing.{framed, encoded, Begins}
-pub use Rattle.hk_frames.specs.Framing.{rest_of, answer, last_answer, Feeds, KeepsFault, KeepsOnMemory}
+use Rattle.hk_frames.specs.Framing.{framed, encoded, Begins, FormatOf}
+pub use Rattle.hk_frames.specs.Framing.{rest_of, rest_from, answer, last_answer, Feeds, KeepsFault, KeepsOnMemory}
 use Rattle.hk_codec.specs.Encoding.{WrittenItem, rest_text, IsWritten}
 use Rattle.hk_codec.specs.Reading.{item_at}
 
@@ -29,6 +29,10 @@ frame_at bytes = framed 28 4233248 item_at bytes
 -- left, or bytes with this fault.
 abbrev pub Reads : List ℕ → List Item → Result (List ℕ) FormFault → Type 0
 Reads text items left = (written : List WrittenItem) × (items ≡ map (λ w. w.item) written) × Begins 28 4233248 item_at rest_text IsWritten text written left
+
+-- how items stand in rests
+abbrev pub item_format : FormatOf Item 28 4233248
+item_format = record { Told = WrittenItem; Seen = Item; seen = λ item. item; meant = λ w. w.item; read = item_at; rest_text = rest_text; IsEncodable = IsWritten }
 
 -- what is added to a list where this text is read so far
 abbrev pub Adds : List Item → List Item → List ℕ → Result (List ℕ) FormFault → Type 0

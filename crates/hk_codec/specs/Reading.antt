@@ -9,6 +9,7 @@ use Rattle.hk_log.specs.Items.{EntryValue, MarkValue, end_place, row_place, is_a
 use Rattle.hk_log.specs.declared.item.Item.{Item}
 use Rattle.hk_log.specs.declared.item.Item.TheVariants.{Commit, Closed}
 use Rattle.hk_frames.specs.Fields.{◌>>=◌, check, byte_at, number_at, body_at, list_at}
+use Rattle.hk_codec.specs.declared.reading.Head.{Head}
 use Rattle.hk_codec.specs.Encoding.{WrittenItem}
 use Rattle.hk_codec.specs.Lists.{groups_at}
 
@@ -116,6 +117,14 @@ pub record HeadValue : Type 0 where
   pub kind : ℕ
   pub log : ℕ
   pub stream : ℕ
+
+-- what is seen of a head
+abbrev pub head_seen : Head → HeadValue
+head_seen head = record { version = head.version; kind = head.kind; log = head.log; stream = head.stream }
+
+-- what an entry has behind this head
+abbrev pub entry_behind : HeadValue → List ℕ → Result (EntryValue × List ℕ) FormFault
+entry_behind head bytes = entry_at head.version head.log head.stream bytes
 
 -- version 1 or 2, then a kind that has a meaning, the log, and a stream of 1 to 64
 unfoldable pub head_at : List ℕ → Result (HeadValue × List ℕ) FormFault

@@ -3,6 +3,7 @@
 ghost use Rattle.std.specs.Prelude.{◌≡◌, ◌≤◌, ◌+◌, None, [], length};
 ghost use Rattle.hk_frames.specs.Fields.{GivesOrRunsOut};
 ghost use Rattle.hk_codec.specs.Lists as spec;
+ghost use Rattle.hk_codec.specs.Lists.{elements_at, group_at, groups_at, Leaves};
 
 use crate::elements::Elements;
 use crate::lists::Before;
@@ -44,7 +45,7 @@ fn read_elements<E: Elements>(
     count: u16,
     elements: &mut Vec<E::Value>,
 ) -> Result<(), ReadError>
-    ensures { GivesOrRunsOut (λ _. (elements.new.items, cursor.new)) result (spec.elements_at E.place (E.read time) table count elements.old.items cursor.old) }
+    ensures { Leaves (elements_at E.place (E.read time) table count elements.old.items cursor.old) elements.new cursor.new result }
 {
     let mut before = last_place::<E>(elements);
     for _ in 0..count {
@@ -84,7 +85,7 @@ fn read_group<E: Elements>(
     groups: u16,
     elements: &mut Vec<E::Value>,
 ) -> Result<(), ReadError>
-    ensures { GivesOrRunsOut (λ _. (elements.new.items, cursor.new)) result (spec.group_at E.place (E.read time) elements.old.items cursor.old) }
+    ensures { Leaves (group_at E.place (E.read time) elements.old.items cursor.old) elements.new cursor.new result }
 {
     let table = Table::new(cursor.u16()?);
     if !is_above(last_place::<E>(elements), table) {
@@ -105,7 +106,7 @@ pub(crate) fn read_groups<E: Elements>(
     time: Time,
     groups: u16,
 ) -> Result<Vec<E::Value>, ReadError>
-    ensures { GivesOrRunsOut (λ x. (x.items, cursor.new)) result (spec.groups_at E.place (E.read time) groups [] cursor.old) }
+    ensures { GivesOrRunsOut (λ x. (x.items, cursor.new)) result (groups_at E.place (E.read time) groups [] cursor.old) }
 {
     let mut elements = Vec::new(alloc);
     for passed in 0..groups {

@@ -152,7 +152,7 @@ struct Head {
 
 #[tactic(auto, unfolding(crate::specs::Reading::head_at))]
 fn read_head(cursor: &mut Cursor) -> Result<Head, FormFault>
-    ensures { GivesValue (λ x. (record { version = x.version; kind = x.kind; log = x.log; stream = x.stream }, cursor.new)) result (spec.head_at cursor.old) }
+    ensures { GivesValue (λ x. (spec.head_seen x, cursor.new)) result (spec.head_at cursor.old) }
 {
     let version = cursor.u8()?;
     if version != VERSION_1 && version != VERSION_2 {
@@ -176,7 +176,7 @@ fn read_head(cursor: &mut Cursor) -> Result<Head, FormFault>
 fn read_entry(alloc: Global, cursor: &mut Cursor, head: Head) -> Result<Entry, ReadError>
     requires bytes { IsBytes cursor.old }
     requires version { (head.version ≡ 1) ⊎ (head.version ≡ 2) }
-    ensures { GivesOrRunsOut (λ x. (x, cursor.new)) result (spec.entry_at head.version head.log head.stream cursor.old) }
+    ensures { GivesOrRunsOut (λ x. (x, cursor.new)) result (spec.entry_behind (spec.head_seen head) cursor.old) }
 {
     let (number, time) = read_moment(cursor)?;
     let ends = read_version_ends(alloc, cursor, head.version, time)?;
@@ -190,7 +190,7 @@ fn read_entry(alloc: Global, cursor: &mut Cursor, head: Head) -> Result<Entry, R
 fn read_kind(alloc: Global, cursor: &mut Cursor, head: Head) -> Result<Item, ReadError>
     requires bytes { IsBytes cursor.old }
     requires version { (head.version ≡ 1) ⊎ (head.version ≡ 2) }
-    ensures { GivesOrRunsOut (λ x. (x, cursor.new)) result (spec.kind_at (record { version = head.version; kind = head.kind; log = head.log; stream = head.stream }) cursor.old) }
+    ensures { GivesOrRunsOut (λ x. (x, cursor.new)) result (spec.kind_at (spec.head_seen head) cursor.old) }
 {
     if head.kind == ENTRY_KIND {
         let entry = read_entry(alloc, cursor, head)?;
@@ -218,12 +218,11 @@ pub(crate) fn read_item(alloc: Global, rest: &[u8]) -> Result<Item, ReadError>
 
 /// The format of items. The least rest is a mark's. The greatest is that in version 2 of an entry with 1,024 ends and
 /// 1,024 rows of full bodies, each in a table of its own.
+#[derive(Debug, Drop)]
 pub struct ItemFormat;
 
 impl Format for ItemFormat {
-    ghost use Rattle.hk_log.specs.declared.item.Item.{Item};
-    ghost use Rattle.hk_codec.specs.Encoding.{WrittenItem, rest_text, IsWritten};
-    ghost use Rattle.hk_codec.specs.Reading.{item_at};
+    ghost use Rattle.hk_codec.specs.Frames.{item_format, Adds};
 
     type Value = Item;
 
@@ -231,19 +230,9 @@ impl Format for ItemFormat {
 
     ghost MOST_BYTES = { 4233248 };
 
-    ghost Told = { WrittenItem };
+    ghost format = { item_format };
 
-    ghost Seen = { Item };
-
-    ghost seen = { λ x. x };
-
-    ghost meant = { λ w. w.item };
-
-    ghost read = { item_at };
-
-    ghost rest_text = { rest_text };
-
-    ghost IsEncodable = { IsWritten };
+    ghost Adds = { Adds };
 
     const LEAST_BYTES: usize = 28;
 
@@ -252,4 +241,6 @@ impl Format for ItemFormat {
     fn read_rest(alloc: Global, rest: &[u8]) -> Result<Item, ReadError> {
         read_item(alloc, rest)
     }
+
+    fn laws() {}
 }

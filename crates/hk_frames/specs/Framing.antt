@@ -1,12 +1,13 @@
 -- Frames of values of any kind: a length of four bytes, and then as many bytes, the rest.
-use Rattle.std.specs.Prelude.{◌≡◌, ℕ, ◌+◌, ◌^◌, ◌<◌, ◌≤◌, ◌⊎◌, nat_lt, if◌then◌else◌, List, [], ◌∷◌, ◌++◌, length, map, take, drop, Option, Some, None, Result, Ok, Err}
+use Rattle.std.specs.Prelude.{◌≡◌, ℕ, ◌+◌, ◌^◌, ◌<◌, ◌≤◌, ◌⊎◌, nat_lt, if◌then◌else◌, List, [], ◌∷◌, ◌++◌, length, map, take, drop, Option, Some, None, Result, Ok, Err, IfOk}
 use Rattle.std.specs.List.{flat_map, AllByRecursion}
+use Rattle.std.specs.Option.{option_map}
 use Rattle.std.specs.Int.{w32, from_be_bytes}
 use Rattle.hk_types.specs.declared.faults.FormFault.{FormFault}
 use Rattle.hk_types.specs.declared.faults.FormFault.TheVariants.{TooLong, WrongLength, Truncated}
 use Rattle.hk_types.specs.declared.faults.Refusal.{Refusal}
 use Rattle.hk_types.specs.declared.faults.Refusal.TheVariants as refusals
-use Rattle.hk_frames.specs.Fields.{IsBytes, number, ◌>>=◌}
+use Rattle.hk_frames.specs.Fields.{IsBytes, number, mapped, ◌>>=◌}
 
 -- the length field
 abbrev pub len_of : List ℕ → ℕ
@@ -69,10 +70,53 @@ pub record IsFormat {X : Type 0} (least most : ℕ) (read : List ℕ → Result 
   pub at_most : (x : X) → IsValue x → length (rest_text x) ≤ most
   pub in_width : most < 2 ^ 32
 
+-- How values stand in rests of at least `least` and at most `most` bytes.
+pub record FormatOf (X : Type 0) (least most : ℕ) : Type 1 where
+  -- what the bytes of a rest tell: a value, and how it is written, where that can be done in several ways
+  pub Told : Type 0
+  -- what is seen of a value, and which that is, also of the value that is told
+  pub Seen : Type 0
+  pub seen : X → Seen
+  pub meant : Told → Seen
+  -- what a rest tells, or its first fault
+  pub read : List ℕ → Result Told FormFault
+  -- the bytes that tell this, and what can be told
+  pub rest_text : Told → List ℕ
+  pub IsEncodable : Told → Type 0
+
+-- reading and encoding undo each other, and each rest is in its limits
+abbrev pub IsSound : {X : Type 0} {least most : ℕ} → FormatOf X least most → Type 0
+IsSound {least = least} {most = most} f = IsFormat least most f.read f.rest_text f.IsEncodable
+
+-- the value at the front as it is seen, and how many bytes its frame has, or none where a whole frame isn't there yet
+abbrev pub frame_seen : {X : Type 0} {least most : ℕ} → (f : FormatOf X least most) → List ℕ → Result (Option (f.Seen × ℕ)) FormFault
+frame_seen {least = least} {most = most} f bytes = framed least most (λ rest. mapped f.meant (f.read rest)) bytes
+
+-- what is seen of a value beside its length
+abbrev pub seen_with_len : {X Y : Type 0} → (X → Y) → Option (X × ℕ) → Option (Y × ℕ)
+seen_with_len seen value = option_map (λ x. (seen x.0, x.1)) value
+
+-- what frames of this format add to a list of values where this text is read so far
+abbrev pub AddsBy : {X : Type 0} {least most : ℕ} → FormatOf X least most → List X → List X → List ℕ → Result (List ℕ) FormFault → Type 0
+AddsBy {least = least} {most = most} f before after text left =
+    AddsValues f.seen f.meant least most f.read f.rest_text f.IsEncodable before after text left
+
+-- what frames of this format add is said so too
+abbrev pub AddsSo : {X : Type 0} {least most : ℕ} → FormatOf X least most → (List X → List X → List ℕ → Result (List ℕ) FormFault → Type 0) → Type 0
+AddsSo {X = X} f Adds = (before after : List X) (text : List ℕ) (left : Result (List ℕ) FormFault) → AddsBy f before after text left → Adds before after text left
+
 -- what a feeder holds: less than a frame, or the fault that it met
 abbrev pub rest_of : List ℕ → Option FormFault → Result (List ℕ) FormFault
 rest_of left None = Ok left
 rest_of left (Some fault) = Err fault
+
+-- the same of the bytes from a place on
+abbrev pub rest_from : ℕ → List ℕ → Option FormFault → Result (List ℕ) FormFault
+rest_from used bytes fault = rest_of (drop used bytes) fault
+
+-- a piece was read behind what was held, as far as the new bytes and the fault say
+abbrev pub AddsBehind : {X E : Type 0} {least most : ℕ} → FormatOf X least most → List ℕ → List ℕ → List X → List X → List ℕ → Result (Option FormFault) E → Type 0
+AddsBehind f held piece before after left result = IfOk result (λ fault. AddsBy f before after (held ++ piece) (rest_of left fault))
 
 -- what a feeder with this state answers
 abbrev pub answer : Result (List ℕ) FormFault → Result (Unit {0}) Refusal

@@ -10,6 +10,7 @@ pub trait Format {
     ghost use Rattle.std.specs.Prelude.{ℕ, List, Result};
     ghost use Rattle.hk_types.specs.declared.faults.FormFault.{FormFault};
     ghost use Rattle.hk_frames.specs.Fields.{GivesOrRunsOut, mapped};
+    ghost use Rattle.hk_frames.specs.Framing.{FormatOf, IsSound, AddsSo};
 
     /// What stands in a frame.
     type Value: Drop;
@@ -20,26 +21,11 @@ pub trait Format {
     /// The most.
     ghost MOST_BYTES: { ℕ };
 
-    /// What the bytes of a rest tell: a value, and how it is written, where that can be done in several ways.
-    ghost Told: { Type 0 };
+    /// How values stand in rests.
+    ghost format: { FormatOf Self.Value LEAST_BYTES MOST_BYTES };
 
-    /// What is seen of a value.
-    ghost Seen: { Type 0 };
-
-    /// What is seen of this value.
-    ghost seen: { Self.Value → Seen };
-
-    /// What is seen of the value that is told.
-    ghost meant: { Told → Seen };
-
-    /// What a rest tells, or its first fault.
-    ghost read: { List ℕ → Result Told FormFault };
-
-    /// The bytes that tell this.
-    ghost rest_text: { Told → List ℕ };
-
-    /// What can be told.
-    ghost IsEncodable: { Told → Type 0 };
+    /// What is added to a list of values where this text is read so far.
+    ghost Adds: { List Self.Value → List Self.Value → List ℕ → Result (List ℕ) FormFault → Type 0 };
 
     /// The fewest bytes of a rest.
     const LEAST_BYTES: usize;
@@ -49,5 +35,10 @@ pub trait Format {
 
     /// The value that is all of the rest, or its first fault; `Memory` where memory runs out.
     fn read_rest(alloc: Global, rest: &[u8]) -> Result<Self::Value, ReadError>
-        ensures { GivesOrRunsOut seen result (mapped meant (read rest.now)) };
+        ensures { GivesOrRunsOut format.seen result (mapped format.meant (format.read rest.now)) };
+
+    /// Does nothing: reading and encoding undo each other, and what frames of the format add is what `Adds` says.
+    fn laws()
+        ensures sound { IsSound format }
+        ensures adds { AddsSo format Adds };
 }

@@ -3,24 +3,25 @@
 ghost use Rattle.std.specs.Prelude.{◌≡◌, ◌≤◌, ◌++◌, ◌⊎◌, List, [], ℕ, length, take, drop, IfOk, OnOk, OnErr};
 ghost use Rattle.hk_types.specs.declared.faults.FormFault.{FormFault};
 ghost use Rattle.hk_types.specs.declared.faults.Refusal.TheVariants as refusals;
-ghost use Rattle.hk_frames.specs.Framing.{IsWhole, IsFormat, AddsValues, Feeds, KeepsFault, KeepsOnMemory, rest_of, last_answer};
+ghost use Rattle.hk_frames.specs.Framing.{IsWhole, IsSound, AddsBy, AddsBehind, Feeds, KeepsFault, KeepsOnMemory, rest_of, last_answer};
 
 use crate::format::Format;
 use crate::frames::{LENGTH_BYTES, length_of, take_frames};
 use hk_types::{FormFault, Refusal};
 use std::alloc::{AllocError, Global};
-use std::marker::Model;
+use std::marker::{Model, PhantomData};
 
 /// Reads values from a stream of frames that comes in pieces. It holds less than a frame, or the fault that
 /// it met.
 #[derive(Debug, Drop)]
-pub struct FrameFeeder {
+pub struct FrameFeeder<F: Format> {
     alloc: Global,
     rest: Vec<u8>,
     fault: Option<FormFault>,
+    of: PhantomData<F>,
 }
 
-impl Model for FrameFeeder {
+impl<F: Format> Model for FrameFeeder<F> {
     ghost use Rattle.std.specs.Prelude.{List, ℕ, Result};
     ghost use Rattle.hk_types.specs.declared.faults.FormFault.{FormFault};
     ghost use Rattle.hk_frames.specs.Framing.{rest_of};
@@ -30,15 +31,16 @@ impl Model for FrameFeeder {
     ghost view = { λ a. rest_of a.rest.items a.fault };
 }
 
-impl FrameFeeder {
+impl<F: Format> FrameFeeder<F> {
     /// A feeder at the start of a stream. It allocates nothing yet.
-    pub fn new(alloc: Global) -> FrameFeeder
+    pub fn new(alloc: Global) -> FrameFeeder<F>
         ensures { result ≡ Ok [] }
     {
         FrameFeeder {
             alloc,
             rest: Vec::new(alloc),
             fault: None,
+            of: PhantomData,
         }
     }
 
@@ -47,17 +49,15 @@ impl FrameFeeder {
     /// out, which is `Memory`, the feeder and the list are as before. Cost: that of `Format::read_rest` for
     /// each frame that is whole now, and O(n), n bytes of the piece, of which those that are left are
     /// copied.
-    pub fn feed<F: Format>(&mut self, piece: &[u8], out: &mut Vec<F::Value>) -> Result<(), Refusal>
-        requires { IsFormat F.LEAST_BYTES F.MOST_BYTES F.read F.rest_text F.IsEncodable }
+    pub fn feed(&mut self, piece: &[u8], out: &mut Vec<F::Value>) -> Result<(), Refusal>
         // What is held and the piece begin with the encodings of the added values. What follows them is held.
-        ensures reads { Feeds
-            (AddsValues F.seen F.meant F.LEAST_BYTES F.MOST_BYTES F.read F.rest_text F.IsEncodable)
-            self.old self.new out.old.items out.new.items piece.now result }
+        ensures reads { Feeds F.Adds self.old self.new out.old.items out.new.items piece.now result }
         // A fault stays.
         ensures fault { KeepsFault self.old self.new out.old.items out.new.items result }
         // Where memory runs out nothing changes.
         ensures memory { KeepsOnMemory self.old self.new out.old.items out.new.items result }
     {
+        F::laws();
         if let Some(fault) = self.fault {
             return Err(Refusal::Form(fault));
         }
@@ -102,9 +102,9 @@ fn fresh_frames<F: Format>(
     piece: &[u8],
     out: &mut Vec<F::Value>,
 ) -> Result<Option<FormFault>, AllocError>
-    requires format { IsFormat F.LEAST_BYTES F.MOST_BYTES F.read F.rest_text F.IsEncodable }
+    requires sound { IsSound F.format }
     requires empty { rest.old.items ≡ [] }
-    ensures read { IfOk result (λ fault. AddsValues F.seen F.meant F.LEAST_BYTES F.MOST_BYTES F.read F.rest_text F.IsEncodable out.old.items out.new.items piece.now (rest_of rest.new.items fault)) }
+    ensures read { IfOk result (λ f. AddsBy F.format out.old.items out.new.items piece.now (rest_of rest.new.items f)) }
     ensures kept { OnErr result (take (length out.old.items) out.new.items ≡ out.old.items) }
     ensures err { OnErr result (rest.new.items ≡ rest.old.items) }
 {
@@ -120,8 +120,8 @@ fn more_frames<F: Format>(
     piece: &[u8],
     out: &mut Vec<F::Value>,
 ) -> Result<Option<FormFault>, AllocError>
-    requires { IsFormat F.LEAST_BYTES F.MOST_BYTES F.read F.rest_text F.IsEncodable }
-    ensures read { IfOk result (λ fault. AddsValues F.seen F.meant F.LEAST_BYTES F.MOST_BYTES F.read F.rest_text F.IsEncodable out.old.items out.new.items (rest.old.items ++ piece.now) (rest_of rest.new.items fault)) }
+    requires { IsSound F.format }
+    ensures read { AddsBehind F.format rest.old.items piece.now out.old.items out.new.items rest.new.items result }
     ensures kept { OnErr result (take (length out.old.items) out.new.items ≡ out.old.items) }
     ensures err { OnErr result (rest.new.items ≡ rest.old.items) }
 {
@@ -141,8 +141,8 @@ fn topped_frames<F: Format>(
     piece: &[u8],
     out: &mut Vec<F::Value>,
 ) -> Result<Option<FormFault>, AllocError>
-    requires { IsFormat F.LEAST_BYTES F.MOST_BYTES F.read F.rest_text F.IsEncodable }
-    ensures read { IfOk result (λ fault. AddsValues F.seen F.meant F.LEAST_BYTES F.MOST_BYTES F.read F.rest_text F.IsEncodable out.old.items out.new.items (rest.old.items ++ piece.now) (rest_of rest.new.items fault)) }
+    requires { IsSound F.format }
+    ensures read { AddsBehind F.format rest.old.items piece.now out.old.items out.new.items rest.new.items result }
     ensures kept { OnErr result (take (length out.old.items) out.new.items ≡ out.old.items) }
     ensures front { OnErr result (take (length rest.old.items) rest.new.items ≡ rest.old.items) }
 {

@@ -1,9 +1,9 @@
 //! Frames on a stream.
 
-ghost use Rattle.std.specs.Prelude.{◌≡◌, ◌≤◌, ◌<◌, ◌^◌, length, take, drop, IfOk, OnErr};
-ghost use Rattle.std.specs.Option.{option_copied, option_map};
-ghost use Rattle.hk_frames.specs.Fields.{GivesValue, GivesOrRunsOut, mapped};
-ghost use Rattle.hk_frames.specs.Framing.{len_of, rest_at, framed, AddsValues, IsFormat, rest_of};
+ghost use Rattle.std.specs.Prelude.{◌≡◌, ◌≤◌, ◌<◌, ◌^◌, length, take, IfOk, OnErr};
+ghost use Rattle.std.specs.Option.{option_copied};
+ghost use Rattle.hk_frames.specs.Fields.{GivesValue, GivesOrRunsOut};
+ghost use Rattle.hk_frames.specs.Framing.{len_of, rest_at, seen_with_len, frame_seen, IsSound, AddsBy, rest_from};
 
 use crate::cursor::ReadError;
 use crate::format::Format;
@@ -53,8 +53,7 @@ pub fn next_frame<F: Format>(
     alloc: Global,
     bytes: &[u8],
 ) -> Result<Option<(F::Value, usize)>, ReadError>
-    ensures { GivesOrRunsOut (option_map (λ x. (F.seen x.0, x.1))) result
-        (framed F.LEAST_BYTES F.MOST_BYTES (λ rest. mapped F.meant (F.read rest)) bytes.now) }
+    ensures { GivesOrRunsOut (seen_with_len F.format.seen) result (frame_seen F.format bytes.now) }
 {
     match frame_rest(bytes, F::LEAST_BYTES, F::MOST_BYTES)? {
         None => Ok(None),
@@ -79,11 +78,10 @@ pub fn take_frames<F: Format>(
     bytes: &[u8],
     out: &mut Vec<F::Value>,
 ) -> Result<Progress, AllocError>
-    requires { IsFormat F.LEAST_BYTES F.MOST_BYTES F.read F.rest_text F.IsEncodable }
+    requires { IsSound F.format }
     ensures used { IfOk result (λ p. p.used ≤ length bytes.now) }
-    ensures read { IfOk result (λ p. AddsValues F.seen F.meant F.LEAST_BYTES F.MOST_BYTES F.read
-        F.rest_text F.IsEncodable out.old.items out.new.items bytes.now
-        (rest_of (drop p.used bytes.now) p.fault)) }
+    ensures read { IfOk result (λ p.
+        AddsBy F.format out.old.items out.new.items bytes.now (rest_from p.used bytes.now p.fault)) }
     ensures kept { OnErr result (take (length out.old.items) out.new.items ≡ out.old.items) }
 {
     let mut used = 0;

@@ -1,4 +1,4 @@
-use Rattle.std.proofs.Common.{◌≡◌, length, ap, arith}
+use Rattle.std.proofs.Common.{length, ap, arith}
 use Rattle.hk_codec.proofs.LongestRuns.{groups_no_more}
 use Rattle.hk_codec.proofs.list_encoding.group_count.Goals as goal
 

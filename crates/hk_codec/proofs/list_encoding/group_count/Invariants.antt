@@ -1,4 +1,4 @@
-use Rattle.std.proofs.Common.{◌≡◌, ◌+◌, ◌≤◌, length}
+use Rattle.std.proofs.Common.{◌≡◌, ◌+◌, length}
 use Rattle.hk_codec.specs.Lists.{groups_of}
 use Rattle.hk_codec.proofs.list_encoding.group_count.Given as goal
 

@@ -1,4 +1,4 @@
-use Rattle.hk_codec.proofs.ListLoops.{write_more, write_stops, written}
+use Rattle.hk_codec.proofs.ListLoops.{written}
 use Rattle.hk_codec.proofs.list_encoding.put_groups.Goals as goal
 
 pub returns-in-None-clause-ok : goal.returns-in-None-clause-ok

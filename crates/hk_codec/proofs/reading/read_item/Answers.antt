@@ -1,4 +1,4 @@
-use Rattle.std.proofs.Common.{◌≡◌, Ok, arith}
+use Rattle.std.proofs.Common.{arith}
 use Rattle.hk_frames.specs.Fields.{IsBytes}
 use Rattle.hk_codec.proofs.ReadFields.{head_takes}
 use Rattle.hk_codec.proofs.reading.read_item.Goals as goal

@@ -1,7 +1,7 @@
-use Rattle.std.proofs.Common.{◌≡◌, Some, Ok, arith, refl, inl, inr}
+use Rattle.std.proofs.Common.{arith, refl, inl, inr}
 use Rattle.std.proofs.lemmas.Result.{err_from_is_err_and}
 use Rattle.hk_frames.specs.Fields.{IsBytes}
-use Rattle.hk_codec.proofs.RewrittenFrames.{next_at, nothing_yet, more_fits, more_rewritten, out_kept, stops_short, all_rewritten, cut_off, faulty}
+use Rattle.hk_codec.proofs.RewrittenFrames.{nothing_yet, more_fits, more_rewritten, out_kept, stops_short, cut_off, faulty}
 use Rattle.hk_codec.proofs.rewriting.rewrite_frames.Goals as goal
 
 pub frames-init : goal.frames-init

@@ -8,7 +8,7 @@ use Rattle.hk_frames.proofs.frame_feeder.topped_frames.Goals as goal
 pub returns-then-is_some-clause-read : goal.returns-then-is_some-clause-read
 returns-then-is_some-clause-read g c =
     let parts : c.split_at.result.0.now ++ c.split_at.result.1.now ≡ c.args.piece.now = rw (c.split_at.ensures.front, c.split_at.ensures.back) (take-append-drop c.lacking.result c.args.piece.now) in
-    fault_first g.F.Format.seen g.F.Format.meant g.F.Format.LEAST_BYTES g.F.Format.MOST_BYTES g.F.Format.read g.F.Format.rest_text g.F.Format.IsEncodable c.args.out.now.items c.take_frames.new.out.items c.args.rest.now.items c.args.piece.now c.split_at.result.0.now c.split_at.result.1.now c.deref-2.result.now _ c.extend_from_slice.new.self.items c.in_ok-progress.progress.fault parts (c.deref-2.ensures.value ∙ c.in_ok-extend_from_slice.ensures.items) (sym c.is_some.ensures ∙ c.if-is_some.true) c.in_ok-progress.ensures.read
+    fault_first g.F.Format.format.seen g.F.Format.format.meant g.F.Format.LEAST_BYTES g.F.Format.MOST_BYTES g.F.Format.format.read g.F.Format.format.rest_text g.F.Format.format.IsEncodable c.args.out.now.items c.take_frames.new.out.items c.args.rest.now.items c.args.piece.now c.split_at.result.0.now c.split_at.result.1.now c.deref-2.result.now _ c.extend_from_slice.new.self.items c.in_ok-progress.progress.fault parts (c.deref-2.ensures.value ∙ c.in_ok-extend_from_slice.ensures.items) (sym c.is_some.ensures ∙ c.if-is_some.true) c.in_ok-progress.ensures.read
 
 pub returns-then-is_empty-clause-read : goal.returns-then-is_empty-clause-read
 returns-then-is_empty-clause-read g c =
@@ -16,7 +16,7 @@ returns-then-is_empty-clause-read g c =
     let text : c.deref-2.result.now ≡ c.args.rest.now.items ++ c.split_at.result.0.now = c.deref-2.ensures.value ∙ c.in_ok-extend_from_slice.ensures.items in
     let none : length c.split_at.result.1.now ≡ 0 = eqb-true _ _ (sym c.is_empty.ensures ∙ c.if-is_empty.true) in
     let left : c.drop_front.new.bytes.items ≡ drop c.in_ok-progress.progress.used c.deref-2.result.now = c.drop_front.ensures ∙ ap (drop c.in_ok-progress.progress.used) (sym c.deref-2.ensures.value) in
-    piece_read g.F.Format.seen g.F.Format.meant g.F.Format.LEAST_BYTES g.F.Format.MOST_BYTES g.F.Format.read g.F.Format.rest_text g.F.Format.IsEncodable c.args.out.now.items c.take_frames.new.out.items c.args.rest.now.items c.args.piece.now c.split_at.result.0.now c.split_at.result.1.now c.deref-2.result.now _ c.drop_front.new.bytes.items c.in_ok-progress.progress.fault parts text (nil_from_length c.split_at.result.1.now none) (sym c.is_some.ensures ∙ c.if-is_some.false) left c.in_ok-progress.ensures.read
+    piece_read g.F.Format.format.seen g.F.Format.format.meant g.F.Format.LEAST_BYTES g.F.Format.MOST_BYTES g.F.Format.format.read g.F.Format.format.rest_text g.F.Format.format.IsEncodable c.args.out.now.items c.take_frames.new.out.items c.args.rest.now.items c.args.piece.now c.split_at.result.0.now c.split_at.result.1.now c.deref-2.result.now _ c.drop_front.new.bytes.items c.in_ok-progress.progress.fault parts text (nil_from_length c.split_at.result.1.now none) (sym c.is_some.ensures ∙ c.if-is_some.false) left c.in_ok-progress.ensures.read
 
 pub returns-clause-read : goal.returns-clause-read
 returns-clause-read g c =
@@ -30,4 +30,4 @@ returns-clause-read g c =
       | inr one ↦ rw (text, c.split_at.ensures.front, ← c.deref.ensures.value) one
     ] in
     rw (c.in_ok-replace.ensures.ok, tail_is c.in_ok-behind.behind.used c.split_at.result.1.now)
-    (whole_first g.F.Format.seen g.F.Format.meant g.F.Format.LEAST_BYTES g.F.Format.MOST_BYTES g.F.Format.read g.F.Format.rest_text g.F.Format.IsEncodable c.requires c.args.out.now.items c.take_frames.new.out.items c.take_frames-2.new.out.items c.args.rest.now.items c.args.piece.now c.split_at.result.0.now c.split_at.result.1.now c.deref-2.result.now _ c.in_ok-progress.progress.fault _ parts text (sym c.is_some.ensures ∙ c.if-is_some.false) whole c.in_ok-progress.ensures.read c.in_ok-behind.ensures.read)
+    (whole_first g.F.Format.format.seen g.F.Format.format.meant g.F.Format.LEAST_BYTES g.F.Format.MOST_BYTES g.F.Format.format.read g.F.Format.format.rest_text g.F.Format.format.IsEncodable c.requires c.args.out.now.items c.take_frames.new.out.items c.take_frames-2.new.out.items c.args.rest.now.items c.args.piece.now c.split_at.result.0.now c.split_at.result.1.now c.deref-2.result.now _ c.in_ok-progress.progress.fault _ parts text (sym c.is_some.ensures ∙ c.if-is_some.false) whole c.in_ok-progress.ensures.read c.in_ok-behind.ensures.read)
