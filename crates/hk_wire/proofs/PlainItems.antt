@@ -1,5 +1,5 @@
 -- Items and requests that are read for what is seen of them alone.
-use Rattle.std.proofs.Common.{◌≡◌, ℕ, zero, suc, Bool, true, false, ltb, List, [], ◌∷◌, length, map, Option, Some, None, Result, Ok, Err, refl, sym, ap, ◌∙◌}
+use Rattle.std.proofs.Common.{◌≡◌, ℕ, zero, suc, Bool, true, false, ltb, List, ◌∷◌, length, map, Option, Some, None, Result, Ok, Err, refl, sym, ap, ◌∙◌}
 use Rattle.hk_types.specs.declared.faults.FormFault.{FormFault}
 use Rattle.hk_types.specs.declared.faults.FormFault.TheVariants.{WrongLength}
 use Rattle.hk_log.specs.declared.item.Item.{Item}
@@ -11,9 +11,8 @@ use Rattle.hk_frames.proofs.OneFrame.{frame_seen, framed_seen}
 use Rattle.hk_codec.specs.Encoding.{WrittenItem}
 use Rattle.hk_codec.specs.Reading.{item_at}
 use Rattle.hk_codec.specs.Frames.{frame_at}
-use Rattle.hk_wire.specs.Readers.{Reader}
 use Rattle.hk_wire.specs.Messages.{head_at, message_at}
-use Rattle.hk_wire.specs.Requests.{WrittenRequest, RequestValue, Items, request_meant, frame_taken, item_frame_at, item_count_at, no_place, items_at, plain_frame_at, plain_items_at, request_of, request_at, plain_request_of, plain_request_at}
+use Rattle.hk_wire.specs.Requests.{WrittenRequest, Items, request_meant, frame_taken, item_frame_at, item_count_at, no_place, items_at, plain_frame_at, plain_items_at, request_of, request_at, plain_request_of, plain_request_at}
 
 abbrev item_of : WrittenItem → Item
 item_of w = w.item
