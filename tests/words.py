@@ -56,20 +56,37 @@ def places(root, pattern):
                     yield "%s:%d: %s" % (path.relative_to(root), number, line.strip()[:100])
 
 
+def exported(crate):
+    """The names that a crate's lib.rt hands on: only what has one of these is public, whatever `pub` stands before it."""
+    path = crate / "src" / "lib.rt"
+    text = path.read_text(encoding="utf-8") if path.is_file() else ""
+    return {name for use in re.findall(r"^pub use ([^;]*);", text, re.M) for name in re.findall(r"\w+", use)}
+
+
 def wide_clauses(root):
     """The lines of clauses of public functions that are wider than 110 columns."""
-    for path in sorted(root.glob("crates/*/src/**/*.rt")):
-        is_public = False
-        depth = 0
-        for number, line in enumerate(path.read_text(encoding="utf-8").split("\n"), 1):
-            function = re.match(r"\s*(pub(?:\([a-z]+\))? )?(const )?fn ", line)
-            if function:
-                is_public = function.group(1) == "pub "
-            starts = re.match(r"\s*(requires|ensures)\b", line)
-            if (starts or depth > 0) and is_public and len(line) > MOST_COLUMNS:
-                yield "%s:%d: %d columns" % (path.relative_to(root), number, len(line))
-            if starts or depth > 0:
-                depth += line.count("{") - line.count("}")
+    for crate in sorted(root.glob("crates/*")):
+        names = exported(crate)
+        for path in sorted(crate.glob("src/**/*.rt")):
+            yield from wide_clauses_of(root, path, names)
+
+
+def wide_clauses_of(root, path, names):
+    owner, is_public, depth = "", False, 0
+    for number, line in enumerate(path.read_text(encoding="utf-8").split("\n"), 1):
+        head = re.match(r"(?:pub )?(?:impl\b(?:<.*?>)?(?: .* for)? (\w+)|trait (\w+))", line)
+        if head:
+            owner = head.group(1) or head.group(2)
+        elif line.startswith("}"):
+            owner = ""
+        function = re.match(r"\s*(pub(?:\([a-z]+\))? )?(?:const )?fn (\w+)", line)
+        if function:
+            is_public = function.group(1) == "pub " and (owner or function.group(2)) in names
+        starts = re.match(r"\s*(requires|ensures)\b", line)
+        if (starts or depth > 0) and is_public and len(line) > MOST_COLUMNS:
+            yield "%s:%d: %d columns" % (path.relative_to(root), number, len(line))
+        if starts or depth > 0:
+            depth += line.count("{") - line.count("}")
 
 
 def main():
