@@ -3,19 +3,18 @@ use Rattle.std.proofs.Common.{◌≡◌, refl, sym, ap, subst, ◌∙◌, ℕ, l
 use Rattle.std.specs.List.{flat_map, AllByRecursion}
 use Rattle.std.proofs.lemmas.List.{length-map, map-append}
 use Rattle.std.proofs.lemmas.List.Folds.{flat_map-map}
-use Rattle.hk_types.specs.declared.faults.Refusal.{Refusal}
 use Rattle.hk_log.specs.declared.item.Item.{Item}
 use Rattle.hk_codec.specs.Encoding.{WrittenItem, IsEncodableItem, IsWritten}
 use Rattle.hk_codec.specs.Frames.{frame_text, encoding_of}
 use Rattle.hk_types.specs.declared.faults.FormFault.{FormFault}
-use Rattle.hk_frames.specs.Framing.{Begins, AddsValues, Feeds}
-use Rattle.hk_frames.proofs.FrameStream.{one_value_begins, one_reading_only, one_reading_as, pieces_join_up, feeds_so}
+use Rattle.hk_frames.specs.Framing.{Begins, AddsBy}
+use Rattle.hk_frames.proofs.FrameStream.{one_value_begins, one_reading_only, one_reading_as, pieces_join_up}
 use Rattle.hk_wire.specs.declared.request.Request.{Request}
 use Rattle.hk_wire.specs.declared.reply.Reply.{Reply}
 use Rattle.hk_wire.specs.Requests.{RequestValue, Items, Front, Delta, Full, Ask, JoinThis, MergeThis, Prune, new_items, newly_written, keeps_rules, request_seen, request_meant, as_written, request_at, request_rest, IsRequest, ReadsRequests, ReadsBack}
-use Rattle.hk_wire.specs.Replies.{ReplyValue, reply_seen, reply_at, reply_rest, reply_text, IsReply, ReadsReplies, AddsReplies}
-use Rattle.hk_wire.proofs.RequestsReadAgain.{request_format}
-use Rattle.hk_wire.proofs.RepliesReadAgain.{reply_format}
+use Rattle.hk_wire.specs.Replies.{ReplyValue, reply_seen, reply_at, reply_rest, reply_text, IsReply, ReadsReplies, AddsReplies, reply_format}
+use Rattle.hk_wire.proofs.RequestsReadAgain.{requests_are_sound}
+use Rattle.hk_wire.proofs.RepliesReadAgain.{replies_are_sound}
 
 -- ---- messages by their values
 
@@ -68,7 +67,7 @@ pub request_begins : (r : Request) → IsRequest (as_written r) → ReadsBack r
 request_begins r h = (as_written r ∷ [], one_seen r, one_value_begins 2 268435456 request_at request_rest IsRequest (as_written r) h)
 
 pub requests_read : (text : List ℕ) (xs ys : List Request) (l r : Result (List ℕ) FormFault) → ReadsRequests text xs l → ReadsRequests text ys r → (map request_seen xs ≡ map request_seen ys) × (l ≡ r)
-requests_read = one_reading_as request_seen request_meant 2 268435456 request_at request_rest IsRequest request_format
+requests_read = one_reading_as request_seen request_meant 2 268435456 request_at request_rest IsRequest requests_are_sound
 
 -- ---- replies
 
@@ -77,20 +76,14 @@ reply_begins r h = one_value_begins 2 268435456 reply_at reply_rest IsReply (rep
 
 pub replies_read : (text : List ℕ) (xs ys : List Reply) (l r : Result (List ℕ) FormFault) → ReadsReplies text xs l → ReadsReplies text ys r → (map reply_seen xs ≡ map reply_seen ys) × (l ≡ r)
 replies_read text xs ys l r h k =
-    one_reading_only 2 268435456 reply_at reply_rest IsReply reply_format text (map reply_seen xs) (map reply_seen ys) l r h k
+    one_reading_only 2 268435456 reply_at reply_rest IsReply replies_are_sound text (map reply_seen xs) (map reply_seen ys) l r h k
 
 pub replies_join : (text more left : List ℕ) (xs ys : List Reply) (r : Result (List ℕ) FormFault) → ReadsReplies text xs (Ok left) → ReadsReplies (left ++ more) ys r → ReadsReplies (text ++ more) (xs ++ ys) r
 replies_join text more left xs ys r h k =
     subst (λ (l : List ReplyValue). Begins 2 268435456 reply_at reply_rest IsReply (text ++ more) l r) (sym (map-append reply_seen xs ys))
     (pieces_join_up 2 268435456 reply_at reply_rest IsReply text more left (map reply_seen xs) (map reply_seen ys) r h k)
 
-abbrev AddsSeen : List Reply → List Reply → List ℕ → Result (List ℕ) FormFault → Type 0
-AddsSeen before after text left = AddsValues reply_seen (λ (v : ReplyValue). v) 2 268435456 reply_at reply_rest IsReply before after text left
-
-replies_added : (before after : List Reply) (text : List ℕ) (left : Result (List ℕ) FormFault) → AddsSeen before after text left → AddsReplies before after text left
+pub replies_added : (before after : List Reply) (text : List ℕ) (left : Result (List ℕ) FormFault) → AddsBy reply_format before after text left → AddsReplies before after text left
 replies_added before after text left h =
     let told : h.2.0 ≡ map reply_seen h.0 = sym (same_list h.2.0) ∙ sym h.2.1 in
     (h.0, h.1, subst (λ (l : List ReplyValue). Begins 2 268435456 reply_at reply_rest IsReply text l left) told h.2.2)
-
-pub replies_fed : (old new : Result (List ℕ) FormFault) (before after : List Reply) (piece : List ℕ) (result : Result (Unit {0}) Refusal) → Feeds AddsSeen old new before after piece result → Feeds AddsReplies old new before after piece result
-replies_fed old new before after piece result h = feeds_so AddsSeen AddsReplies replies_added old new before after piece result h

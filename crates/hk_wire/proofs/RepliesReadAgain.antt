@@ -115,9 +115,9 @@ reply_again (Fragment f) rest h = made_again fragment_of fragment_at _ _ fragmen
 reply_again (Answer a) rest h = made_again answered_of answer_at _ _ answer_field a rest h
 reply_again (Refused why) rest h = made_again refused_of refusal_at _ _ refusal_field why rest h
 
-pub reply_format : IsFormat 2 268435456 reply_at reply_rest IsReply
+pub replies_are_sound : IsFormat 2 268435456 reply_at reply_rest IsReply
 unfolding reply_at reply_rest
-reply_format =
+replies_are_sound =
     same_format 2 268435456 (message_at reply_of) _ (λ r. Keeps r × (leb (length (1 ∷ reply_kind r ∷ reply_body r)) 268435456 ≡ true)) IsReply
     (λ r h. (h.0.0, and_from (keeps_rules r) _ h.0.1 h.1))
     (λ r h. let b = both_true (keeps_rules r) (leb (length (1 ∷ reply_kind r ∷ reply_body r)) 268435456) h.1 in ((h.0, b.0), b.1))

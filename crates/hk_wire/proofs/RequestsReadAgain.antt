@@ -17,7 +17,7 @@ use Rattle.hk_codec.specs.Frames.{frame_text, frame_at}
 use Rattle.hk_frames.proofs.ReadingSteps.{IsBytes-drop, bind_ok, ok_is, Takes, both as both_true}
 use Rattle.hk_frames.proofs.Numbers.{guard_ok}
 use Rattle.hk_frames.proofs.OneFrame.{frame_takes, frame_again}
-use Rattle.hk_codec.proofs.ItemFrames.{item_format}
+use Rattle.hk_codec.proofs.ItemFrames.{items_are_sound}
 use Rattle.hk_wire.specs.Readers.{both, fault_where, list_by, time_at, Chained}
 use Rattle.hk_wire.specs.Messages.{message_at}
 use Rattle.hk_wire.specs.Queries.{query_kind, query_fields, query_text, QueryFits, query_of, query_at}
@@ -113,11 +113,11 @@ frame_field =
       takes = λ bytes x fits e.
           let a = bind_ok (frame_at bytes) (λ frame. frame_taken frame bytes) x e in
           let b = frame_is a.0 bytes x a.2 in
-          let f = frame_takes 28 4233248 item_at rest_text IsWritten item_format bytes x.0 b.0 fits (a.1 ∙ ap (λ (o : Option (WrittenItem × ℕ)). Ok o) b.1) in
+          let f = frame_takes 28 4233248 item_at rest_text IsWritten items_are_sound bytes x.0 b.0 fits (a.1 ∙ ap (λ (o : Option (WrittenItem × ℕ)). Ok o) b.1) in
           (record { parts = f.parts ∙ ap (λ (t : List ℕ). frame_text x.0 ++ t) (sym b.2); rest_fits = subst IsBytes (sym b.2) (IsBytes-drop b.0 bytes fits) }, f.value);
       again = λ x rest h.
           let long : ltb (length (frame_text x ++ rest)) (length (frame_text x)) ≡ false = le-ltb _ _ (omega (arith, length-append (frame_text x) rest)) in
-          ap (λ (r : Result (Option (WrittenItem × ℕ)) FormFault). r >>= λ frame. frame_taken frame (frame_text x ++ rest)) (frame_again 28 4233248 item_at rest_text IsWritten item_format x rest h)
+          ap (λ (r : Result (Option (WrittenItem × ℕ)) FormFault). r >>= λ frame. frame_taken frame (frame_text x ++ rest)) (frame_again 28 4233248 item_at rest_text IsWritten items_are_sound x rest h)
           ∙ rw (long, drop_at (frame_text x) rest (length (frame_text x)) refl) refl;
     }
 
@@ -205,9 +205,9 @@ request_again (JoinThis fragment) rest h = made_again join_of fragment_at _ _ fr
 request_again (MergeThis fragment) rest h = made_again merge_of whole_at _ _ whole_field fragment rest h
 request_again (Prune horizon) rest h = made_again prune_of time_at _ _ time_field horizon rest h.0
 
-pub request_format : IsFormat 2 268435456 request_at request_rest IsRequest
+pub requests_are_sound : IsFormat 2 268435456 request_at request_rest IsRequest
 unfolding request_at request_rest
-request_format =
+requests_are_sound =
     same_format 2 268435456 (message_at request_of) _ (λ r. Keeps r × (leb (length (1 ∷ request_kind r ∷ request_body r)) 268435456 ≡ true)) IsRequest
     (λ r h. (h.0.0, and_from (keeps_rules r) _ h.0.1 h.1))
     (λ r h. let b = both_true (keeps_rules r) (leb (length (1 ∷ request_kind r ∷ request_body r)) 268435456) h.1 in ((h.0, b.0), b.1))

@@ -7,8 +7,13 @@ use Rattle.hk_model.specs.Replica.Streams.{StreamContent, covers}
 use Rattle.hk_marks.specs.Seen.{up_to}
 use Rattle.hk_fragment.specs.Parts.{Known}
 use Rattle.hk_frames.specs.Fields.{list_at}
+use Rattle.hk_wire.specs.declared.fragment_reading.Head.{Head}
 use Rattle.hk_wire.specs.Readers.{Reader, Chained}
 use Rattle.hk_wire.specs.Fragments.{WireStream, extra_at, waiting_at, stream_at, fact_at, no_stream, ExtraFits, WaitingFits}
+
+-- what is seen of a head: the log, the number of its streams, the base and the horizon
+abbrev pub head_seen : Head → ℕ × (ℕ × (ℕ × ℕ))
+head_seen head = (head.config.log, (head.config.streams, (head.base, head.horizon)))
 
 -- the stream of which this is told: the numbers up to the prefix and the extra ones are taken, and the marks wait
 abbrev pub stream_made : WireStream → StreamContent

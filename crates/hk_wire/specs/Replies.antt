@@ -1,11 +1,11 @@
 -- Replies: their encoding and their reading.
-use Rattle.std.specs.Prelude.{◌≡◌, ℕ, ◌^◌, ◌<◌, ◌≤◌, Bool, true, ◌&&◌, ◌||◌, nat_le, nat_lt, ◌==◌, if◌then◌else◌, List, ◌++◌, length, Result, Err, ◌⊎◌, false, [], ◌∷◌, Ok, map}
+use Rattle.std.specs.Prelude.{◌≡◌, ℕ, ◌^◌, ◌<◌, ◌≤◌, Bool, true, ◌&&◌, ◌||◌, nat_le, nat_lt, ◌==◌, if◌then◌else◌, List, ◌++◌, length, Option, MatchOption, Result, Err, ◌⊎◌, false, [], ◌∷◌, Ok, map}
 use Rattle.std.specs.Int.{w64}
 use Rattle.hk_types.specs.declared.faults.FormFault.{FormFault}
 use Rattle.hk_types.specs.declared.faults.Refusal.TheVariants as refusals
 use Rattle.hk_types.specs.declared.faults.FormFault.TheVariants.{BadKind, BadNumber, TooLong}
 use Rattle.hk_frames.specs.Fields.{number, number_at}
-use Rattle.hk_frames.specs.Framing.{encoded, Begins}
+use Rattle.hk_frames.specs.Framing.{encoded, Begins, FormatOf}
 use Rattle.hk_wire.specs.declared.reply.Reply.{Reply}
 use Rattle.hk_wire.specs.declared.reply.Reply.TheVariants as replied
 use Rattle.hk_types.specs.declared.faults.Refusal.{Refusal}
@@ -107,9 +107,17 @@ reply_at bytes = message_at reply_of bytes
 abbrev pub ReadsReplies : List ℕ → List Reply → Result (List ℕ) FormFault → Type 0
 ReadsReplies text replies left = Begins 2 268435456 reply_at reply_rest IsReply text (map reply_seen replies) left
 
+-- how replies stand in rests
+abbrev pub reply_format : FormatOf Reply 2 268435456
+reply_format = record { Told = ReplyValue; Seen = ReplyValue; seen = reply_seen; meant = λ x. x; read = reply_at; rest_text = reply_rest; IsEncodable = IsReply }
+
 -- what is added to a list where this text is read so far
 abbrev pub AddsReplies : List Reply → List Reply → List ℕ → Result (List ℕ) FormFault → Type 0
 AddsReplies before after text left = (replies : List Reply) × (after ≡ before ++ replies) × ReadsReplies text replies left
+
+-- how many bytes the rest of its frame has, where it has an encoding
+abbrev pub IsLength : Reply → Option ℕ → Type 0
+IsLength reply len = MatchOption len (is_encodable (reply_seen reply) ≡ false) (λ n. (is_encodable (reply_seen reply) ≡ true) × (n ≡ length (reply_rest (reply_seen reply))))
 
 -- a reply was added at the end, as its encoding
 abbrev pub Encodes : Reply → List ℕ → List ℕ → Type 0

@@ -1,5 +1,5 @@
 -- Requests: their encoding and their reading.
-use Rattle.std.specs.Prelude.{◌≡◌, ℕ, ◌^◌, ◌≤◌, Bool, true, not, ◌&&◌, nat_le, nat_lt, ◌==◌, if◌then◌else◌, List, [], ◌++◌, length, map, Option, Some, None, Result, Ok, Err, ◌⊎◌, false, ◌∷◌}
+use Rattle.std.specs.Prelude.{◌≡◌, ℕ, ◌^◌, ◌≤◌, Bool, true, not, ◌&&◌, nat_le, nat_lt, ◌==◌, if◌then◌else◌, List, [], ◌++◌, length, map, Option, Some, None, MatchOption, Result, Ok, Err, ◌⊎◌, false, ◌∷◌}
 use Rattle.std.specs.List.{flat_map, AllByRecursion}
 use Rattle.std.specs.Int.{w32, w64}
 use Rattle.hk_types.specs.declared.faults.FormFault.{FormFault}
@@ -12,7 +12,7 @@ use Rattle.hk_frames.specs.Fields.{◌>>=◌, mapped, number, number_at, bytes_a
 use Rattle.hk_codec.specs.Encoding.{WrittenItem, IsEncodableItem, IsWritten}
 use Rattle.hk_codec.specs.Reading.{item_at}
 use Rattle.hk_codec.specs.Frames.{frame_text, frame_at}
-use Rattle.hk_frames.specs.Framing.{encoded, framed, BeginsAs, AddsValues}
+use Rattle.hk_frames.specs.Framing.{encoded, framed, BeginsAs, AddsValues, FormatOf}
 use Rattle.hk_wire.specs.declared.request.Request.{Request}
 use Rattle.hk_wire.specs.declared.request.Request.TheVariants as asked
 use Rattle.hk_wire.specs.Readers.{Reader, both, fault_where, mapped_value, nothing, list_by, time_at}
@@ -57,6 +57,10 @@ request_meant r = with_items (λ w. w.item) r
 -- these items with frames of version 2
 abbrev pub new_items : List Item → List WrittenItem
 new_items items = map (λ item. record { version = 2; item = item }) items
+
+-- their bytes, behind their count
+abbrev pub items_text : List Item → List ℕ
+items_text items = number w32 (length (new_items items)) ++ flat_map frame_text (new_items items)
 
 -- the request with all of its item frames in version 2
 abbrev pub newly_written : RequestValue → WrittenRequest
@@ -201,6 +205,10 @@ plain_request_at bytes = message_at plain_request_of bytes
 abbrev pub ReadsRequests : List ℕ → List Request → Result (List ℕ) FormFault → Type 0
 ReadsRequests text requests left = BeginsAs request_seen request_meant 2 268435456 request_at request_rest IsRequest text requests left
 
+-- how requests stand in rests
+abbrev pub request_format : FormatOf Request 2 268435456
+request_format = record { Told = WrittenRequest; Seen = RequestValue; seen = request_seen; meant = request_meant; read = request_at; rest_text = request_rest; IsEncodable = IsRequest }
+
 -- what is added to a list where this text is read so far
 abbrev pub AddsRequests : List Request → List Request → List ℕ → Result (List ℕ) FormFault → Type 0
 AddsRequests before after text left = AddsValues request_seen request_meant 2 268435456 request_at request_rest IsRequest before after text left
@@ -208,6 +216,17 @@ AddsRequests before after text left = AddsValues request_seen request_meant 2 26
 -- the request, with its item frames in version 2, as `encode_request` writes it
 abbrev pub as_written : Request → WrittenRequest
 as_written request = newly_written (request_seen request)
+
+-- the bytes of its encoding, and how many its rest has
+abbrev pub text_of : Request → List ℕ
+text_of request = request_text (as_written request)
+
+abbrev pub rest_length : Request → ℕ
+rest_length request = length (request_rest (as_written request))
+
+-- how many bytes the rest of its frame has, where it has an encoding
+abbrev pub IsLength : Request → Option ℕ → Type 0
+IsLength request len = MatchOption len (is_encodable (as_written request) ≡ false) (λ n. (is_encodable (as_written request) ≡ true) × (n ≡ rest_length request))
 
 -- a request was added at the end, as its encoding with item frames of version 2
 abbrev pub Encodes : Request → List ℕ → List ℕ → Type 0

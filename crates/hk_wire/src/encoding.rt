@@ -63,7 +63,7 @@ fn rest_len(request: &Request) -> u64
 /// How many bytes the rest of a request's frame has, or `None` where it has no encoding.
 #[tactic(auto, using(crate::proofs::EncodedMessages::keeps_same))]
 fn request_len(request: &Request) -> Option<u32>
-    ensures len { MatchOption result (requests.is_encodable (requests.as_written request.now) ≡ false) (λ len. (requests.is_encodable (requests.as_written request.now) ≡ true) × (len ≡ length (requests.request_rest (requests.as_written request.now)))) }
+    ensures len { requests.IsLength request.now result }
     ensures rules { IfSome result (λ _. requests.keeps_rules (requests.request_seen request.now) ≡ true) }
     ensures request { IfSome result (λ _. requests.IsRequest (requests.as_written request.now)) }
 {
@@ -80,9 +80,9 @@ fn request_len(request: &Request) -> Option<u32>
 /// Adds a request's frame, whose rest has so many bytes.
 #[tactic(auto, using(std::proofs::Common::append_assoc, hk_frames::proofs::Prefix::kept_all, hk_frames::proofs::Prefix::kept_before, hk_frames::proofs::Prefix::kept_both), unfolding(hk_frames::specs::Framing::encoded, crate::specs::Requests::request_rest))]
 fn put_request(out: &mut Vec<u8>, request: &Request, rest: u32) -> Result<(), AllocError>
-    requires len { rest ≡ length (requests.request_rest (requests.as_written request.now)) }
+    requires len { rest ≡ requests.rest_length request.now }
     requires rules { requests.keeps_rules (requests.request_seen request.now) ≡ true }
-    ensures ok { OnOk result (out.new.items ≡ out.old.items ++ requests.request_text (requests.as_written request.now)) }
+    ensures ok { OnOk result (out.new.items ≡ out.old.items ++ requests.text_of request.now) }
     ensures kept { OnErr result (take (length out.old.items) out.new.items ≡ out.old.items) }
 {
     match request {
@@ -116,8 +116,8 @@ fn put_request(out: &mut Vec<u8>, request: &Request, rest: u32) -> Result<(), Al
     }
 }
 
-/// Adds a request's encoding whose item frames are all of version 2 at the end. A request without that encoding is refused `Form(TooLong)`: more
-/// than 65,536 items, a fragment with more than 2^32 - 1 of a counted thing, a fragment to merge whose base is
+/// Adds a request's encoding whose item frames are all of version 2 at the end. A request without that encoding is
+/// refused `Form(TooLong)`: more than 65,536 items, a fragment with more than 2^32 - 1 of a counted thing, a fragment to merge whose base is
 /// not 0, and a rest of more than 2^28 bytes. After that comes `Memory`. On a refusal the output is as before.
 /// Cost: O(n), n bytes of the encoding: the whole frame is reserved at once, so the output grows once at most;
 /// one pass over the request tests it, one counts its bytes and one writes them.

@@ -53,7 +53,7 @@ fn read_bounds(cursor: &mut Cursor) -> Result<(Time, Time), FormFault>
 /// Reads the log, the number of its streams, the base and the horizon.
 #[tactic(auto, unfolding(crate::specs::Fragments::stream_count_at))]
 fn read_fragment_head(cursor: &mut Cursor) -> Result<Head, FormFault>
-    ensures read { GivesValue (λ x. ((x.config.log, (x.config.streams, (x.base, x.horizon))), cursor.new)) result (spec.fragment_head_at cursor.old) }
+    ensures read { GivesValue (λ x. (steps.head_seen x, cursor.new)) result (spec.fragment_head_at cursor.old) }
     ensures above { IfOk result (λ x. ((x.base == 0) || nat_le x.horizon x.base) ≡ true) }
 {
     let log = cursor.u64()?;

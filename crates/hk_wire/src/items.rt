@@ -86,7 +86,7 @@ pub(crate) fn items_len(items: &[Item]) -> u64
 #[tactic(auto, using(std::proofs::Common::append_assoc, hk_frames::proofs::Prefix::kept_all, hk_frames::proofs::Prefix::kept_before, hk_frames::proofs::Prefix::kept_both))]
 pub(crate) fn put_items(out: &mut Vec<u8>, items: &[Item]) -> Result<(), AllocError>
     requires { length items.now ≤ 65536 }
-    ensures ok { OnOk result (out.new.items ≡ out.old.items ++ (number w32 (length (spec.new_items items.now)) ++ flat_map frame_text (spec.new_items items.now))) }
+    ensures ok { OnOk result (out.new.items ≡ out.old.items ++ spec.items_text items.now) }
     ensures kept { OnErr result (take (length out.old.items) out.new.items ≡ out.old.items) }
 {
     put_u32(out, items.len() as u32)?;

@@ -9,7 +9,6 @@
 
 mod answer;
 mod encoding;
-mod feeder;
 mod field_len;
 mod fragment_encoding;
 mod fragment_reading;
@@ -20,16 +19,13 @@ mod query;
 mod refusal;
 mod reply;
 mod reply_encoding;
-mod reply_feeder;
 mod request;
 
 pub use encoding::encode_request;
-pub use feeder::RequestFeeder;
 pub use laws::{
     one_reply_encoding, one_reply_reading, one_request_encoding, one_request_reading,
     one_wire_fragment, reply_pieces_join, request_pieces_join,
 };
-pub use reply::Reply;
+pub use reply::{Reply, ReplyFeeder, ReplyFormat};
 pub use reply_encoding::encode_reply;
-pub use reply_feeder::ReplyFeeder;
-pub use request::Request;
+pub use request::{Request, RequestFeeder, RequestFormat};

@@ -8,7 +8,7 @@ use crate::fragment_reading::read_fragment;
 use crate::head::{read_end, read_head, read_time};
 use crate::refusal::read_refusal;
 use hk_fragment::Fragment;
-use hk_frames::{Cursor, Format, ReadError};
+use hk_frames::{Cursor, Format, FrameFeeder, ReadError};
 use hk_model::{Answer, Front};
 use hk_types::{FormFault, LAST_TIME, Refusal};
 use std::alloc::Global;
@@ -107,10 +107,11 @@ fn read_reply(alloc: Global, rest: &[u8]) -> Result<Reply, ReadError>
 }
 
 /// The format of replies.
-pub(crate) struct ReplyFormat;
+#[derive(Debug, Drop)]
+pub struct ReplyFormat;
 
 impl Format for ReplyFormat {
-    ghost use Rattle.hk_wire.specs.Replies.{ReplyValue, reply_seen, reply_at, reply_rest, IsReply};
+    ghost use Rattle.hk_wire.specs.Replies.{reply_format, AddsReplies};
 
     type Value = Reply;
 
@@ -118,19 +119,9 @@ impl Format for ReplyFormat {
 
     ghost MOST_BYTES = { 268435456 };
 
-    ghost Told = { ReplyValue };
+    ghost format = { reply_format };
 
-    ghost Seen = { ReplyValue };
-
-    ghost seen = { reply_seen };
-
-    ghost meant = { λ x. x };
-
-    ghost read = { reply_at };
-
-    ghost rest_text = { reply_rest };
-
-    ghost IsEncodable = { IsReply };
+    ghost Adds = { AddsReplies };
 
     const LEAST_BYTES: usize = 2;
 
@@ -139,4 +130,11 @@ impl Format for ReplyFormat {
     fn read_rest(alloc: Global, rest: &[u8]) -> Result<Reply, ReadError> {
         read_reply(alloc, rest)
     }
+
+    fn laws() {}
 }
+
+/// Reads replies from a stream that comes in pieces. It holds less than a frame, or the fault that it met; a request's kind is `BadKind`.
+/// Cost of `feed`: O(n · log n), n bytes of the piece and of the frames that are whole now: one pass over those frames,
+/// where a fragment's numbers and marks take the logarithm, and one copy of the bytes that are left.
+pub type ReplyFeeder = FrameFeeder<ReplyFormat>;

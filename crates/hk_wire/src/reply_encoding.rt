@@ -48,7 +48,7 @@ fn rest_len(reply: &Reply) -> u64
 /// How many bytes the rest of a reply's frame has, or `None` where it has no encoding.
 fn reply_len(reply: &Reply) -> Option<u32>
     ensures reply { IfSome result (λ _. replies.IsReply (replies.reply_seen reply.now)) }
-    ensures len { MatchOption result (replies.is_encodable (replies.reply_seen reply.now) ≡ false) (λ len. (replies.is_encodable (replies.reply_seen reply.now) ≡ true) × (len ≡ length (replies.reply_rest (replies.reply_seen reply.now)))) }
+    ensures len { replies.IsLength reply.now result }
 {
     if !keeps_rules(reply) {
         return None;

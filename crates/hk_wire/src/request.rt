@@ -8,7 +8,7 @@ use crate::head::{read_end, read_head, read_time};
 use crate::items::read_items;
 use crate::query::read_query;
 use hk_fragment::Fragment;
-use hk_frames::{Cursor, Format, ReadError};
+use hk_frames::{Cursor, Format, FrameFeeder, ReadError};
 use hk_log::Item;
 use hk_model::Query;
 use hk_types::{FormFault, Time};
@@ -102,10 +102,11 @@ fn read_request(alloc: Global, rest: &[u8]) -> Result<Request, ReadError>
 }
 
 /// The format of requests.
-pub(crate) struct RequestFormat;
+#[derive(Debug, Drop)]
+pub struct RequestFormat;
 
 impl Format for RequestFormat {
-    ghost use Rattle.hk_wire.specs.Requests.{RequestValue, WrittenRequest, request_seen, request_meant, request_at, request_rest, IsRequest};
+    ghost use Rattle.hk_wire.specs.Requests.{request_format, AddsRequests};
 
     type Value = Request;
 
@@ -113,19 +114,9 @@ impl Format for RequestFormat {
 
     ghost MOST_BYTES = { 268435456 };
 
-    ghost Told = { WrittenRequest };
+    ghost format = { request_format };
 
-    ghost Seen = { RequestValue };
-
-    ghost seen = { request_seen };
-
-    ghost meant = { request_meant };
-
-    ghost read = { request_at };
-
-    ghost rest_text = { request_rest };
-
-    ghost IsEncodable = { IsRequest };
+    ghost Adds = { AddsRequests };
 
     const LEAST_BYTES: usize = 2;
 
@@ -134,4 +125,11 @@ impl Format for RequestFormat {
     fn read_rest(alloc: Global, rest: &[u8]) -> Result<Request, ReadError> {
         read_request(alloc, rest)
     }
+
+    fn laws() {}
 }
+
+/// Reads requests from a stream that comes in pieces. It holds less than a frame, or the fault that it met; a reply's kind is `BadKind`.
+/// Cost of `feed`: O(n · log n), n bytes of the piece and of the frames that are whole now: one pass over those frames,
+/// where a fragment's numbers and marks take the logarithm, and one copy of the bytes that are left.
+pub type RequestFeeder = FrameFeeder<RequestFormat>;
