@@ -1,8 +1,9 @@
 -- What a host over a state answers, and what state it is left in.
-use Rattle.std.specs.Prelude.{ℕ, ◌≡◌, ◌⊎◌, ◌+◌, ◌^◌, ◌&&◌, Bool, true, false, length, nat_lt, is_ok, if◌then◌else◌, Option, Some, None, Result, Ok, Err}
+use Rattle.std.specs.Prelude.{ℕ, ◌≡◌, ◌⊎◌, ◌+◌, ◌^◌, ◌&&◌, Bool, true, false, List, length, nat_lt, is_ok, if◌then◌else◌, Option, Some, None, Result, Ok, Err}
 use Rattle.hk_types.specs.Values.{ConfigValue}
 use Rattle.hk_types.specs.declared.faults.Refusal.{Refusal}
 use Rattle.hk_types.specs.declared.faults.Refusal.TheVariants as refusals
+use Rattle.hk_log.specs.declared.item.Item.{Item}
 use Rattle.hk_model.specs.Replica.Answers.{AnswerValue, One, Rows, Number, reply}
 use Rattle.hk_model.specs.Replica.Content.{Content, readable}
 use Rattle.hk_model.specs.Replica.Fragments.{FragmentValue, cut}
@@ -97,3 +98,32 @@ Step old request answer new = IsGiven (may_lack old request) old (answer_step ol
 abbrev pub Changes : Bool → Content → Content → Result Content Refusal → Result (Unit {0}) Refusal → Type 0
 Changes may old new given (Ok done) = given ≡ Ok new
 Changes may old new given (Err why) = (new ≡ old) × ((given ≡ Err why) ⊎ ((why ≡ refusals.Memory) × (may ≡ true)))
+
+-- what items make of this host's content: a fragment, and the content with it
+abbrev pub gathered : HostValue → List Item → Result FragmentValue Refusal
+gathered h items = gather_result (config_of h.content) items
+
+abbrev pub with_items : HostValue → List Item → Result Content Refusal
+with_items h items = joined_if h.content (gathered h items)
+
+-- the host made this change, or it says why not; `made` tells whether memory is taken
+abbrev pub GivesChange : {X : Type 0} → HostValue → Result X Refusal → Result Content Refusal → Reply → HostValue → Type 0
+GivesChange old made outcome answer new = IsGiven (has_room_for old made) old (change_step old outcome) answer new
+
+-- the same where the change itself tells that
+abbrev pub Takes : HostValue → Result Content Refusal → Reply → HostValue → Type 0
+Takes old outcome answer new = GivesChange old outcome outcome answer new
+
+-- the host handed this fragment out, or says why not, and is as before
+abbrev pub HandsOut : HostValue → Result FragmentValue Refusal → Reply → Type 0
+HandsOut h given answer = IsGiven (is_ok given) h (fragment_reply given, h) answer h
+
+-- the host gave this answer, or says why not, and is as before
+abbrev pub GivesAnswer : HostValue → Result AnswerValue Refusal → Reply → Type 0
+GivesAnswer h given answer = IsGiven (asking_may_lack given) h (query_reply given, h) answer h
+
+-- whatever call on the content before gave this outcome, the host counted and answered it
+abbrev pub Settles : HostValue → HostValue → Result (Unit {0}) Refusal → Reply → Type 0
+Settles old new outcome answer =
+    (may : Bool) (before : Content) (given : Result Content Refusal) → Changes may before old.content given outcome
+    → IsGiven may (record old { content = before }) (change_reply (record old { content = before }) given) answer new

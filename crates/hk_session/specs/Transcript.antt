@@ -202,3 +202,18 @@ IsStopped (Fault f) = ⊥
 IsStopped Memory = Unit {0}
 IsStopped ReadFault = ⊥
 IsStopped WriteFault = Unit {0}
+
+-- the requests were all answered in order, and the replies written
+abbrev pub AnswersAll : {H : Type 0} → (H → Request → Reply → H → Type 0) → H → H → Option (List ℕ) → Option (List ℕ) → List Request → Type 0
+AnswersAll may old new before after requests = (replies : List Reply) × Answers may old requests replies new × Appends before after (replies_bytes replies)
+
+-- a front of the text was written and not all
+abbrev pub CutsOff : List ℕ → Option (List ℕ) → Option (List ℕ) → Type 0
+CutsOff text before after = (part : List ℕ) × IsProperPrefixOf part text × Appends before after part
+
+-- what was read was answered by the whole transcript of it; by that of a front of it; or by one step that ended so
+abbrev pub WritesAll : {H : Type 0} → (H → Request → Reply → H → Type 0) → H → H → Option (List ℕ) → Option (List ℕ) → List ℕ → Type 0
+WritesAll may old new before after bytes = (text : List ℕ) × Appends before after text × Transcript may old new bytes text
+
+abbrev pub WritesPart : {H : Type 0} → (H → Request → Reply → H → Type 0) → H → H → Option (List ℕ) → Option (List ℕ) → List ℕ → Type 0
+WritesPart may old new before after bytes = (part : List ℕ) × Appends before after part × PartialTranscript may old new bytes part

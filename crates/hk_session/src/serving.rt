@@ -7,7 +7,7 @@ ghost use Rattle.hk_wire.specs.declared.request.Request.{Request};
 ghost use Rattle.hk_wire.specs.declared.reply.Reply.{Reply};
 ghost use Rattle.hk_wire.specs.Requests.{ReadsRequests};
 ghost use Rattle.hk_session.specs.declared.ended.Ended.TheVariants as ends;
-ghost use Rattle.hk_session.specs.Transcript.{Answers, reply_bytes, Sends, replies_bytes, fault_met, Refuses, Stops, SessionStep, GoesOn, Ends, IsMidway, IsDone, IsStopped, Transcript, PartialTranscript};
+ghost use Rattle.hk_session.specs.Transcript.{Answers, AnswersAll, WritesAll, WritesPart, reply_bytes, Sends, replies_bytes, fault_met, Refuses, Stops, SessionStep, GoesOn, Ends, IsMidway, IsDone, IsStopped, Transcript, PartialTranscript};
 
 use crate::counted::Counted;
 use crate::ended::Ended;
@@ -50,8 +50,8 @@ fn answer_all<W: Write, H: Host>(
 ) -> Option<Ended>
     requires quiet { writer.old.faults ≡ 0 }
     requires ready { H.ready host.old }
-    ensures all { IfNone result ((replies : List Reply) × Answers H.may host.old requests.items replies host.new
-        × Appends (W.contents writer.old.device) (W.contents writer.new.device) (replies_bytes replies)) }
+    ensures all { IfNone result
+        (AnswersAll H.may host.old host.new (W.contents writer.old.device) (W.contents writer.new.device) requests.items) }
     ensures part { IfSome result (Stops H.may host.old host.new (W.contents writer.old.device) (W.contents writer.new.device) requests.items) }
     ensures ready { H.ready host.new }
     ensures quiet { result ≢ Some ends.WriteFault → writer.new.faults ≡ 0 }
@@ -300,14 +300,12 @@ pub fn serve_bytes<W: Write, H: Host>(
     requires writer { writer.old.faults ≡ 0 }
     requires ready { H.ready host.old }
     // What was written is the transcript of the bytes.
-    ensures whole { IsDone result → (text : List ℕ)
-        × Appends (W.contents writer.old.device) (W.contents writer.new.device) text
-        × Transcript H.may host.old host.new bytes.now text }
+    ensures whole { IsDone result →
+        WritesAll H.may host.old host.new (W.contents writer.old.device) (W.contents writer.new.device) bytes.now }
     // What was written is the transcript of a front of the bytes, of whole requests or of all of them: all of it, or
     // cut off in its last replies. Nothing but that front was executed.
-    ensures stopped { IsStopped result → (part : List ℕ)
-        × Appends (W.contents writer.old.device) (W.contents writer.new.device) part
-        × PartialTranscript H.may host.old host.new bytes.now part }
+    ensures stopped { IsStopped result →
+        WritesPart H.may host.old host.new (W.contents writer.old.device) (W.contents writer.new.device) bytes.now }
     ensures ready { H.ready host.new }
     ensures write_fault { result ≡ ends.WriteFault → 0 < writer.new.faults }
     ensures writes { result ≢ ends.WriteFault → writer.new.faults ≡ 0 }
