@@ -31,22 +31,22 @@ MOST_GROWTH = 2.0
 # What a run takes that reads nothing, and what is too little to be measured.
 LEAST_SECONDS = 0.1
 
-def processor_seconds(child):
+def processor_seconds(child, statuses=(0, 1)):
     """What an ended child took."""
     _, status, used = os.wait4(child.pid, 0)
     child.returncode = os.waitstatus_to_exitcode(status)
-    if child.returncode not in (0, 1):
+    if child.returncode not in statuses:
         raise RuntimeError(f"status {child.returncode}")
     return used.ru_utime + used.ru_stime
 
 
-def run_seconds(args, data):
+def run_seconds(args, data, statuses=(0, 1)):
     """The processor seconds of a run over this input; its output goes nowhere."""
     with tempfile.TemporaryFile() as it:
         it.write(data)
         it.seek(0)
         child = subprocess.Popen([PROGRAM, *args], stdin=it, stdout=subprocess.DEVNULL, stderr=subprocess.DEVNULL)
-        return processor_seconds(child)
+        return processor_seconds(child, statuses)
 
 
 def serve_seconds(data):
@@ -86,7 +86,8 @@ def compare(name, measure, dear, honest, size):
 
 
 def at(data):
-    return run_seconds(["at", "--log", "7", "--streams", "64", "0", "1", "5"], data)
+    """Of `at` over items that are all taken."""
+    return run_seconds(["at", "--log", "7", "--streams", "64", "0", "1", "5"], data, (0,))
 
 
 def entries_of(rows, each=1024):
@@ -147,12 +148,12 @@ def crowded_keys(count):
 
 def keys():
     compare("keys whose guesses fall together", at, lambda count: rows_of_keys(crowded_keys(count)),
-            lambda count: rows_of_keys(random.Random(7).sample(range(2 ** 63), count)), 25_000)
+            lambda count: rows_of_keys(random.Random(7).sample(range(2 ** 62), count)), 10_000)
 
 
 def one_tag():
     compare("one tag on all keys", at, lambda count: rows_of_tags([9] * count),
-            lambda count: rows_of_tags(random.Random(7).sample(range(2 ** 32), count)), 25_000)
+            lambda count: rows_of_tags(random.Random(7).sample(range(2 ** 32), count)), 10_000)
 
 
 # ---------------------------------------------------------------- orders of keys, times and births
@@ -175,11 +176,13 @@ def in_order(make):
 
 
 def rows_of_keys(keys):
-    return entries_of([(1, key, 9, b"") for key in keys])
+    return entries_of([(1, key, 9, b"") for key in keys], 1)
 
 
 def rows_of_times(times):
-    return b"".join(say.entry(n, time_of, [(1, n, 9, b"")]) for n, time_of in enumerate(times, 1))
+    """An entry for each; no number is above a time."""
+    times = list(times)
+    return b"".join(say.entry(n, len(times) + time_of, [(1, n, 9, b"")]) for n, time_of in enumerate(times, 1))
 
 
 def rows_of_one_key(births):
@@ -190,7 +193,8 @@ def ends_of_times(times):
     """Rows, 1,024 in an entry, and an entry for each row that ends it."""
     times = list(times)
     born = entries_of([(1, key, 9, b"") for key in range(len(times))])
-    return born + b"".join(say.entry(1000 + key, 1000 + time_of, [], [(1, key, key // 1024 + 1)]) for key, time_of in enumerate(times))
+    ended = ((1000 + key, 1000 + len(times) + time_of, (1, key, key // 1024 + 1)) for key, time_of in enumerate(times))
+    return born + b"".join(say.entry(number, time_of, [], [version]) for number, time_of, version in ended)
 
 
 def orders(name, make, size):
@@ -199,7 +203,7 @@ def orders(name, make, size):
 
 
 def orders_of_keys():
-    orders("keys", rows_of_keys, 25_000)
+    orders("keys", rows_of_keys, 10_000)
 
 
 def orders_of_times():
@@ -211,7 +215,7 @@ def orders_of_ends():
 
 
 def orders_of_births():
-    orders("versions of one key", rows_of_one_key, 25_000)
+    orders("versions of one key", rows_of_one_key, 10_000)
 
 
 # ---------------------------------------------------------------- numbers and marks
