@@ -57,21 +57,25 @@ def places(root, pattern):
 
 
 def exported(crate):
-    """The names that a crate's lib.rt hands on: only what has one of these is public, whatever `pub` stands before it."""
+    """The names and the modules that a crate's lib.rt hands on: only what has one of these names, or stands in one of these
+    modules, is public, whatever `pub` stands before it."""
     path = crate / "src" / "lib.rt"
     text = path.read_text(encoding="utf-8") if path.is_file() else ""
-    return {name for use in re.findall(r"^pub use ([^;]*);", text, re.M) for name in re.findall(r"\w+", use)}
+    names = {name for use in re.findall(r"^pub use ([^;]*);", text, re.M) for name in re.findall(r"\w+", use)}
+    return names, set(re.findall(r"^pub mod (\w+);", text, re.M))
 
 
 def wide_clauses(root):
     """The lines of clauses of public functions that are wider than 110 columns."""
     for crate in sorted(root.glob("crates/*")):
-        names = exported(crate)
+        names, modules = exported(crate)
         for path in sorted(crate.glob("src/**/*.rt")):
-            yield from wide_clauses_of(root, path, names)
+            is_whole = not modules.isdisjoint(path.relative_to(crate / "src").with_suffix("").parts)
+            yield from wide_clauses_of(root, path, None if is_whole else names)
 
 
 def wide_clauses_of(root, path, names):
+    """Those of a file, of the functions that have one of these names, or stand with a type or trait that has; None stands for all."""
     owner, is_public, depth = "", False, 0
     for number, line in enumerate(path.read_text(encoding="utf-8").split("\n"), 1):
         head = re.match(r"(?:pub )?(?:impl\b(?:<.*?>)?(?: .* for)? (\w+)|trait (\w+))", line)
@@ -81,7 +85,7 @@ def wide_clauses_of(root, path, names):
             owner = ""
         function = re.match(r"\s*(pub(?:\([a-z]+\))? )?(?:const )?fn (\w+)", line)
         if function:
-            is_public = function.group(1) == "pub " and (owner or function.group(2)) in names
+            is_public = function.group(1) == "pub " and (names is None or (owner or function.group(2)) in names)
         starts = re.match(r"\s*(requires|ensures)\b", line)
         if (starts or depth > 0) and is_public and len(line) > MOST_COLUMNS:
             yield "%s:%d: %d columns" % (path.relative_to(root), number, len(line))
