@@ -3,3 +3,4 @@ pub mod Numbers
 pub mod FaultNumbers
 pub mod SameRows
 pub mod Orders
+pub mod OrMemory
