@@ -1,5 +1,5 @@
 -- The version that a chain shows at a time, in the words of look-ups.
-use Rattle.std.proofs.Common.{◌≡◌, refl, sym, ap, ◌∙◌, subst, ℕ, ◌<◌, ◌≤◌, Bool, true, false, cond, ◌&&◌, T, Option, Some, None, List, [], ◌∷◌, nat_cmp, is_lt, leb, arith}
+use Rattle.std.proofs.Common.{◌≡◌, refl, sym, ap, ◌∙◌, subst, ℕ, ◌<◌, ◌≤◌, Bool, true, false, true≢false, cond, not, ◌&&◌, T, Option, Some, None, List, [], ◌∷◌, nat_cmp, nat_le, nat_lt, is_lt, leb, arith}
 use Rattle.std.specs.Cmp.{first_so, second_so}
 use Rattle.std.proofs.lemmas.Bool.Decides.{nat_tests}
 use Rattle.std.specs.Option.{is_some}
@@ -10,7 +10,8 @@ use Rattle.std.specs.FinMap.Entries.{is_sorted, below_all}
 use Rattle.hk_log.specs.Versions.{VersionValue}
 use Rattle.hk_model.specs.Replica.Maps.{or_else}
 use Rattle.hk_model.proofs.Visible.{T_both}
-use Rattle.hk_facts.specs.Chains.{ChainValue, last_where}
+use Rattle.hk_facts.specs.Chains.{ChainValue, latest_at, last_where}
+use Rattle.hk_facts.specs.Parted.{later_of, is_later}
 use Rattle.hk_facts.proofs.StoredTrees.{tied_self, tied_same}
 use Rattle.hk_facts.proofs.LastOfList.{has_row}
 
@@ -104,3 +105,51 @@ newest c t e is =
 -- where there is none, no version born by t has a row
 pub no_newest : (c : ChainValue) (t : ℕ) → last_where (λ e. leb e.0 t && has_row e) (finmap.entries c) ≡ None → (b : ℕ) (w : VersionValue) → finmap.get c b ≡ Some w → leb b t ≡ true → is_some w.row ≡ true → ⊥
 no_newest c t is b w f g h = none_passes (λ e. leb e.0 t && has_row e) (finmap.entries c) is b w (sym (finmap.get-entries c b) ∙ f) (ap (λ x. x && is_some w.row) g ∙ h)
+
+-- ---- the latest at a time
+
+module _ (t : ℕ) where
+  abbrev shows : ℕ × VersionValue → Bool
+  shows e = nat_le e.0 t && is_some e.1.row
+
+  -- what the latest is, in the words of look-ups
+  abbrev pub IsLatest : ChainValue → Option (ℕ × VersionValue) → Type 0
+  IsLatest c None = (b : ℕ) (w : VersionValue) → finmap.get c b ≡ Some w → shows (b, w) ≡ true → ⊥
+  IsLatest c (Some e) = (finmap.get c e.0 ≡ Some e.1) × ((shows e ≡ true) × ((b : ℕ) (w : VersionValue) → finmap.get c b ≡ Some w → shows (b, w) ≡ true → b ≤ e.0))
+
+  pub is_latest : (c : ChainValue) → IsLatest c (latest_at c t)
+  is_latest c = by (latest_at c t) refl
+    where
+      by : (o : Option (ℕ × VersionValue)) → last_where shows (finmap.entries c) ≡ o → IsLatest c o
+      by None e = λ b w g p. none_passes shows (finmap.entries c) e b w (sym (finmap.get-entries c b) ∙ g) p
+      by (Some f) e =
+          let l = last_passes shows (finmap.entries c) f (finmap.entries_sorted c) e in
+          (finmap.get-entries c f.0 ∙ l.found, (l.passes, λ b w g p. l.last b w (sym (finmap.get-entries c b) ∙ g) p))
+
+  pub one_latest : (c : ChainValue) (x y : Option (ℕ × VersionValue)) → IsLatest c x → IsLatest c y → x ≡ y
+  one_latest c None None p q = refl
+  one_latest c None (Some f) p q = absurd (p f.0 f.1 q.0 q.1.0)
+  one_latest c (Some e) None p q = absurd (q e.0 e.1 p.0 p.1.0)
+  one_latest c (Some e) (Some f) p q =
+      let up : e.0 ≤ f.0 = q.1.1 e.0 e.1 p.0 p.1.0 in
+      let down : f.0 ≤ e.0 = p.1.1 f.0 f.1 q.0 q.1.0 in
+      let born : e.0 ≡ f.0 = omega arith in
+      let value = inside (sym p.0 ∙ ap (finmap.get c) born ∙ q.0) in
+      λ i. Some (born i, value i)
+    where
+      inside : ◌≡◌ {A = Option VersionValue} (Some e.1) (Some f.1) → e.1 ≡ f.1
+      inside same = cc
+
+  pub wins : (x y : Option (ℕ × VersionValue)) → later_of x y ≡ cond (is_later x y) x y
+  wins None y = refl
+  wins (Some e) None = refl
+  wins (Some e) (Some f) = by (nat_lt e.0 f.0) (nat_le f.0 e.0) (turned e.0 f.0)
+    where
+      turned : (a b : ℕ) → nat_le b a ≡ not (nat_lt a b)
+      turned a b = grind (arith, nat_tests)
+
+      by : (a b : Bool) → b ≡ not a → cond a (Some f) (Some e) ≡ cond b (Some e) (Some f)
+      by true true e = absurd (true≢false e)
+      by true false e = refl
+      by false true e = refl
+      by false false e = absurd (true≢false (sym e))

@@ -11,10 +11,8 @@ use Rattle.std.specs.FinMap as finmap
 use Rattle.hk_log.specs.Versions.{VersionValue}
 use Rattle.hk_model.specs.Replica.Maps.{or_else}
 use Rattle.hk_facts.specs.Chains.{ChainValue, FirstBorn, IsEarliest, is_after}
-use Rattle.hk_facts.specs.FirstOfChain.{FirstValue, with_first, first_at, first_next, is_earlier}
-use Rattle.hk_facts.specs.Parted.{both}
+use Rattle.hk_facts.specs.Parted.{both, is_earlier}
 use Rattle.hk_facts.proofs.StoredTrees.{seen, get_seen, seen_none}
-use Rattle.hk_facts.proofs.FirstOfChains.{get_first}
 use Rattle.hk_facts.proofs.PartedChains.{get_both}
 
 abbrev Found : Type 0
@@ -191,65 +189,3 @@ module _ (test : ℕ → Bool) (rows ends : ChainValue) where
   -- as it is chosen
   pub both_chosen : (x y : Option Found) → FirstBorn rows test x → FirstBorn ends test y → (chosen : Bool) → chosen ≡ is_earlier x y → (chosen ≡ true → Whole x) × (chosen ≡ false → Whole y)
   both_chosen x y l r chosen is = (λ e. subst (λ b. Whole (cond b x y)) (sym is ∙ e) (next_both x y l r), λ e. subst (λ b. Whole (cond b x y)) (sym is ∙ e) (next_both x y l r))
-
--- ---- the first one apart
-
-module _ (after : Option ℕ) (first : FirstValue) (more : ChainValue) where
-  abbrev test : ℕ → Bool
-  test born = is_after after born
-
-  abbrev All : Option Found → Type 0
-  All o = FirstBorn (with_first first more) test o
-
-  -- the first one is the only one of its part
-  next_is : (o : FirstValue) → IsNext (first_at o) test (first_next after o)
-  next_is None = λ q t. refl
-  next_is (Some e) = by (is_after after e.0) refl
-    where
-      equal : (x y : ℕ) → (x == y) ≡ true → x ≡ y
-      equal x y s = grind (arith, nat_tests)
-
-      itself : (x : ℕ) → (x == x) ≡ true
-      itself x = grind (arith, nat_tests)
-
-      there : (q : ℕ) (b : Bool) → (e.0 == q) ≡ b → is_some (cond b (Some e.1) None) ≡ true → e.0 ≤ q
-      there q true s t = let same = equal e.0 q s in omega arith
-      there q false s t = absurd (true≢false (sym t))
-
-      gone : (q : ℕ) (b : Bool) → (e.0 == q) ≡ b → is_after after e.0 ≡ false → is_after after q ≡ true → cond b (Some e.1) None ≡ None
-      gone q true s out t = absurd (true≢false (sym t ∙ ap (is_after after) (sym (equal e.0 q s)) ∙ out))
-      gone q false s out t = refl
-
-      by : (b : Bool) → is_after after e.0 ≡ b → IsNext (first_at (Some e)) test (cond b (Some e) None)
-      by true is = record { known = ap (λ b. cond b (Some e.1) None) (itself e.0); passes = is; least = λ q t s. there q (e.0 == q) refl s }
-      by false is = λ q t. gone q (e.0 == q) refl is t
-
-  more_alone : first_next after first ≡ None → (o : Option Found) → FirstBorn more test o → All o
-  more_alone none o n = to_chain _ test o (no_a test (first_at first) (finmap.get more) (finmap.get (with_first first more)) (get_first first more) o (subst (λ x. IsNext (first_at first) test x) none (next_is first)) (of_chain more test o n))
-
-  first_alone : (e : Found) → first_next after first ≡ Some e → FirstBorn more test None → All (first_next after first)
-  first_alone e is r = subst All (sym is) (to_chain _ test (Some e) (no_b test (first_at first) (finmap.get more) (finmap.get (with_first first more)) (get_first first more) e (subst (λ x. IsNext (first_at first) test x) is (next_is first)) r))
-
-  first_before : (e f : Found) → first_next after first ≡ Some e → IsEarliest more test f → nat_le e.0 f.0 ≡ true → All (first_next after first)
-  first_before e f is r below = subst All (sym is) (to_chain _ test (Some e) (a_first test (first_at first) (finmap.get more) (finmap.get (with_first first more)) (get_first first more) e f (subst (λ x. IsNext (first_at first) test x) is (next_is first)) (of_chain more test (Some f) r) (at_most e.0 f.0 below)))
-
-  more_before : (e f : Found) → first_next after first ≡ Some e → IsEarliest more test f → nat_le e.0 f.0 ≡ false → (o : Option Found) → FirstBorn more test o → All o
-  more_before e f is r below o n = to_chain _ test o (b_wins test (first_at first) (finmap.get more) (finmap.get (with_first first more)) (get_first first more) e f o (subst (λ x. IsNext (first_at first) test x) is (next_is first)) (of_chain more test (Some f) r) (under e.0 f.0 below) (of_chain more test o n))
-
-  next_with : (o : Option Found) → FirstBorn more test o → All (cond (is_earlier (first_next after first) o) (first_next after first) o)
-  next_with = by (first_next after first) refl
-    where
-      two : (e f : Found) → first_next after first ≡ Some e → IsEarliest more test f → (b : Bool) → nat_le e.0 f.0 ≡ b → All (cond b (Some e) (Some f))
-      two e f x n true is = subst All x (first_before e f x n is)
-      two e f x n false is = more_before e f x n is (Some f) n
-
-      by : (x : Option Found) → first_next after first ≡ x → (o : Option Found) → FirstBorn more test o → All (cond (is_earlier x o) x o)
-      by None x o n = more_alone x o n
-      by (Some e) x None n = subst All x (first_alone e x n)
-      by (Some e) x (Some f) n = two e f x n (nat_le e.0 f.0) refl
-
-  -- as it is chosen
-  pub next_chosen : (x o : Option Found) → x ≡ first_next after first → FirstBorn more test o → (chosen : Bool) → chosen ≡ is_earlier x o → (chosen ≡ true → All x) × (chosen ≡ false → All o)
-  next_chosen x o same n chosen is =
-      let whole = subst (λ y. All (cond (is_earlier y o) y o)) (sym same) (next_with o n) in
-      (λ e. subst (λ b. All (cond b x o)) (sym is ∙ e) whole, λ e. subst (λ b. All (cond b x o)) (sym is ∙ e) whole)

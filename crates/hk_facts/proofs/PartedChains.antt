@@ -1,5 +1,5 @@
 -- A chain whose versions with a row stand apart from the others is the chain of both.
-use Rattle.std.proofs.Common.{option_map, ◌≡◌, refl, sym, ap, ◌∙◌, subst, ℕ, ◌≤◌, Bool, true, false, cond, not, true≢false, ◌&&◌, ◌||◌, nat_le, nat_lt, nat_cmp, Option, Some, None, Result, Ok, Err, OnOk, OnErr, ◌⊎◌, inl, inr, arith}
+use Rattle.std.proofs.Common.{◌≡◌, refl, sym, ap, ◌∙◌, subst, ℕ, ◌≤◌, Bool, true, false, cond, not, true≢false, ◌&&◌, ◌||◌, nat_le, nat_lt, nat_cmp, Option, Some, None, Result, Ok, Err, OnOk, OnErr, ◌⊎◌, inl, inr, arith}
 use Rattle.std.proofs.lemmas.Bool.Decides.{nat_tests}
 use Rattle.std.specs.Option.{is_some}
 use Rattle.std.specs.Result.{is_ok}
@@ -18,12 +18,11 @@ use Rattle.hk_facts.specs.declared.fact.Fact.TheVariants.{End as EndFact}
 use Rattle.hk_facts.specs.declared.fact.Part.{Part}
 use Rattle.hk_facts.specs.declared.fact.Part.TheVariants.{Row as RowPart, End as EndPart, Whole}
 use Rattle.hk_facts.specs.Facts.{put_result, without, row_of, died_of, fact_conflicts, with_fact}
-use Rattle.hk_facts.specs.Chains.{ChainValue, set_at, put_at, chain_put, chain_forget, chain_until, latest_at, or_empty}
-use Rattle.hk_facts.specs.FirstOfChain.{later_of, is_later}
-use Rattle.hk_facts.proofs.ForgottenParts.{nothing_left}
-use Rattle.hk_facts.specs.Parted.{both, AreApart, NoRows, IsParted, lone_end}
+use Rattle.hk_facts.specs.Chains.{ChainValue, set_at, put_at, chain_put, chain_forget, chain_until, latest_at}
+use Rattle.hk_facts.specs.Parted.{both, AreApart, NoRows, IsParted, lone_end, later_of, is_later}
 use Rattle.hk_facts.proofs.StoredTrees.{tied_same, get-set_at, same_at_all, set_at_same}
-use Rattle.hk_facts.proofs.FirstOfChains.{until_at, IsLatest, is_latest, one_latest, wins}
+use Rattle.hk_facts.proofs.DroppedEnds.{until_at}
+use Rattle.hk_facts.proofs.LatestVersion.{IsLatest, is_latest, one_latest, wins}
 
 abbrev tied : ℕ → ℕ → Bool
 tied q k = eq_by_cmp nat_cmp q k
@@ -439,24 +438,3 @@ parted_mixed rows ends fact born r new none ok kept apart = record { apart = put
 pub was_ok : {A E P : Type 0} (r : Result A E) → is_ok r ≡ true → OnOk r P → P
 was_ok (Ok a) e p = p
 was_ok (Err why) e p = absurd (true≢false (sym e))
-
--- ---- no box
-
-pub unboxed : {B : Type 0} (value : B → ChainValue) (o : Option B) → o ≡ None → or_empty (option_map value o) ≡ finmap.empty
-unboxed value o none = ap (λ x. or_empty (option_map value x)) none
-
-pub none_there : (m : ChainValue) (born : ℕ) → m ≡ finmap.empty → finmap.get m born ≡ None
-none_there m born none = ap (λ c. finmap.get c born) none ∙ finmap.get-empty nat_cmp born
-
-pub none_forgotten : (m : ChainValue) (born : ℕ) (part : Part) → m ≡ finmap.empty → m ≡ chain_forget m born part
-none_forgotten m born part none = sym (set_at_same m born (without part (finmap.get m born)) (none_there m born none ∙ sym (ap (without part) (none_there m born none) ∙ nothing_left part)))
-
-pub none_until : (m : ChainValue) (h : ℕ) → m ≡ finmap.empty → m ≡ chain_until m h
-none_until m h none = same_at_all _ _ (λ q. none_there m q none ∙ sym (until_at m h q ∙ ap (λ x. cond (not (at_most h (died_of x))) x None) (none_there m q none) ∙ either (not (at_most h None))))
-  where
-    either : (b : Bool) → cond {A = Option VersionValue} b None None ≡ None
-    either true = refl
-    either false = refl
-
-pub none_shown : (m : ChainValue) (t : ℕ) → m ≡ finmap.empty → None ≡ latest_at m t
-none_shown m t none = sym (none_latest t m (λ q. ap row_of (none_there m q none)))

@@ -1,6 +1,7 @@
 -- A write to a stored tree is a write to the map that it is seen as.
-use Rattle.std.proofs.Common.{◌≡◌, refl, sym, ap, ◌∙◌, subst, ℕ, Bool, true, false, cond, Option, Some, None, List, [], ◌∷◌, ◌&&◌, T, nat_cmp, is_eq, is_lt, length, Result, Ok, Err, IfErr, IsSome, ◌⊎◌, inr, Ordering, Less, arith}
+use Rattle.std.proofs.Common.{◌≡◌, refl, sym, ap, ◌∙◌, subst, ℕ, Bool, true, false, true≢false, cond, option_map, Option, Some, None, List, [], ◌∷◌, ◌&&◌, T, nat_cmp, is_eq, is_lt, length, Result, Ok, Err, IfErr, IsSome, ◌⊎◌, inr, Ordering, Less, arith}
 use Rattle.std.proofs.lemmas.Bool.Decides.{nat_tests}
+use Rattle.std.specs.Option.{is_some}
 use Rattle.std.specs.Cmp.{IsTotalOrder, nat_cmp_total, tied_itself, eq_by_cmp_equiv}
 use Rattle.std.specs.Ordering.{eq_by_cmp}
 use Rattle.std.specs.List.{AllByRecursion}
@@ -25,6 +26,9 @@ tied_same q k e = grind (arith, nat_tests)
 pub tied_self : (k : ℕ) → eq_by_cmp nat_cmp k k ≡ true
 tied_self k = ap is_eq (tied_itself nat_cmp_total k)
 
+pub tied_flip : (q k : ℕ) → eq_by_cmp nat_cmp k q ≡ eq_by_cmp nat_cmp q k
+tied_flip q k = (eq_by_cmp_equiv nat_cmp_total).symm k q
+
 -- ---- outcomes
 
 pub IfErr_map : {A E : Type 0} {P Q : E → Type 0} (r : Result A E) → ((e : E) → P e → Q e) → IfErr r P → IfErr r Q
@@ -38,6 +42,14 @@ out_of_memory P (Err why) e n = inr (e, n)
 
 pub is_there : {X : Type 0} (x : Option X) (v : X) → Some v ≡ x → IsSome x
 is_there x v e = subst IsSome e refl
+
+pub none_at : {X Y : Type 0} (now : Y → X) (r : Option Y) (x : Option X) → option_map now r ≡ x → is_some r ≡ false → x ≡ None
+none_at now None x is e = sym is
+none_at now (Some v) x is e = absurd (true≢false e)
+
+pub some_at : {X Y : Type 0} (now : Y → X) (r : Option Y) (x : Option X) → option_map now r ≡ x → is_some r ≡ true → is_some x ≡ true
+some_at now None x is e = absurd (true≢false (sym e))
+some_at now (Some v) x is e = ap is_some (sym is)
 
 -- ---- entries in order
 
@@ -54,7 +66,7 @@ module _ {K X : Type 0} (R : K → K → Ordering) where
   sorted_entries [] h = tt
   sorted_entries (e ∷ es) h = and_T _ _ (below_from_sorted e.0 es (sorted_head R e.0 (keys_of es) h)) (sorted_entries es (sorted_tail R e.0 (keys_of es) h))
 
-  find_lookup : (q : K) (es : List (K × X)) → find R q es ≡ lookup (tree.is_at (R q)) es
+  pub find_lookup : (q : K) (es : List (K × X)) → find R q es ≡ lookup (tree.is_at (R q)) es
   find_lookup q [] = refl
   find_lookup q (e ∷ es) = ap (cond (eq_by_cmp R q e.0) (Some e.1)) (find_lookup q es)
 
@@ -67,11 +79,17 @@ module _ {K X : Type 0} {R : K → K → Ordering} (total : IsTotalOrder R) wher
   pub get_updated : (m n : BTreeMap K X) (k : K) (w : Option X) → tree.Updates R m n k w → (q : K) → finmap.get (finmap.from_entries {R = R} n.entries) q ≡ cond (eq_by_cmp R q k) w (finmap.get (finmap.from_entries {R = R} m.entries) q)
   get_updated m n k w u q = get_tree n q ∙ u.0 q ∙ (λ i. cond ((eq_by_cmp_equiv total).symm k q i) w (sym (get_tree m q) i))
 
+  pub entries_sorted : finmap.IsAntisymmetric R → (es : List (K × X)) → IsStrictlySortedBy R (keys_of es) → finmap.entries (finmap.from_entries {R = R} es) ≡ es
+  entries_sorted same es h = same_entries R total same (finmap.entries (finmap.from_entries {R = R} es)) es (finmap.entries_sorted (finmap.from_entries {R = R} es)) (sorted_entries R es h)
+      (λ q. sym (finmap.get-entries (finmap.from_entries {R = R} es) q) ∙ finmap.get-from_entries total es q)
+
   pub entries_tree : finmap.IsAntisymmetric R → (m : BTreeMap K X) → tree.IsOrdered R m → finmap.entries (finmap.from_entries {R = R} m.entries) ≡ m.entries
-  entries_tree same m h = same_entries R total same (finmap.entries (finmap.from_entries {R = R} m.entries)) m.entries (finmap.entries_sorted (finmap.from_entries {R = R} m.entries)) (sorted_entries R m.entries h)
-      (λ q. sym (finmap.get-entries (finmap.from_entries {R = R} m.entries) q) ∙ finmap.get-from_entries total m.entries q)
+  entries_tree same m h = entries_sorted same m.entries h
 
 module _ {X : Type 0} where
+  pub get_entries : (es : List (ℕ × X)) (q : ℕ) → finmap.get (finmap.from_entries {R = nat_cmp} es) q ≡ lookup (tree.is_at (nat_cmp q)) es
+  get_entries es q = finmap.get-from_entries nat_cmp_total es q ∙ find_lookup nat_cmp q es
+
   -- ---- what is changed at one key
 
   pub get-set_at : (m : finmap.FinMap nat_cmp X) (k : ℕ) (w : Option X) (q : ℕ) → finmap.get (set_at m k w) q ≡ cond (eq_by_cmp nat_cmp q k) w (finmap.get m q)

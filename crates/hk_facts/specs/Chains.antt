@@ -16,11 +16,6 @@ abbrev pub ChainValue : Type 0
 ChainValue = finmap.FinMap nat_cmp VersionValue
 
 module _ {X : Type 0} where
-  -- the map that there is, or an empty one
-  abbrev pub or_empty : Option (finmap.FinMap nat_cmp X) → finmap.FinMap nat_cmp X
-  or_empty None = finmap.empty
-  or_empty (Some m) = m
-
   -- the map with this at the key, or with nothing there
   abbrev pub set_at : finmap.FinMap nat_cmp X → ℕ → Option X → finmap.FinMap nat_cmp X
   set_at m k None = finmap.remove m k

@@ -1,4 +1,5 @@
 pub mod Facts
 pub mod Chains
-pub mod FirstOfChain
+pub mod Listed
+pub mod Forms
 pub mod Parted

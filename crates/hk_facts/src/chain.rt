@@ -6,23 +6,21 @@ ghost use Rattle.std.specs.FinMap as finmap;
 ghost use Rattle.hk_types.specs.declared.faults.Refusal.TheVariants.{Memory};
 ghost use Rattle.hk_facts.specs.declared.fact.Fact.TheVariants.{Row as RowFact, End as EndFact};
 ghost use Rattle.hk_facts.specs.Chains.{chain_put, chain_forget, chain_until, latest_at, row_at, is_after, FirstBorn};
-ghost use Rattle.hk_facts.specs.FirstOfChain.{first_at, first_put, first_without, first_until, first_latest, first_next};
 
-use crate::fact::{Fact, Part, join, take_back, version_of};
-use crate::more::More;
-use crate::order::{is_earlier, is_later};
+use crate::fact::{Fact, Part, version_of};
+use crate::form::Form;
 use crate::versions::ended_by;
 use hk_log::Version;
 use hk_types::{Refusal, Row, Time};
 use std::alloc::{AllocError, Global};
 use std::marker::Model;
 
-/// What is known of the versions of one key, by the time at which each was born. One of them stands in the chain
-/// itself, so that a key with one version needs no map.
+/// What is known of the versions of one key, by the time at which each was born. A lone one stands in the chain
+/// itself, a few stand in a sorted list, and more than that in ordered maps.
 #[derive(Drop)]
 pub struct Chain {
-    first: Option<(Time, Version)>,
-    more: More,
+    form: Form,
+    alloc: Global,
 }
 
 impl Model for Chain {
@@ -31,15 +29,13 @@ impl Model for Chain {
     ghost use Rattle.std.specs.FinMap as finmap;
     ghost use Rattle.hk_log.specs.Versions.{version_code};
     ghost use Rattle.hk_facts.specs.Chains.{ChainValue};
-    ghost use Rattle.hk_facts.specs.FirstOfChain.{with_first, IsApart};
+    ghost use Rattle.hk_facts.specs.Forms.{stored};
 
     ghost Value = { ChainValue };
 
     ghost coded = { finmap.code coded_ℕ version_code };
 
-    ghost view = { λ a. with_first a.first a.more };
-
-    ghost invariant = { λ a. IsApart a.first a.more };
+    ghost view = { λ a. stored a.form };
 }
 
 impl Chain {
@@ -48,8 +44,8 @@ impl Chain {
         ensures { result ≡ finmap.empty }
     {
         Chain {
-            first: None,
-            more: More::new(alloc),
+            form: Form::One(None),
+            alloc,
         }
     }
 
@@ -57,9 +53,10 @@ impl Chain {
     pub fn of_fact(alloc: Global, born: Time, fact: Fact) -> Result<Chain, AllocError>
         ensures { IfOk result (λ chain. chain_put finmap.empty born fact ≡ Ok chain) }
     {
+        let first = (born, version_of(fact));
         Ok(Chain {
-            first: Some((born, version_of(fact))),
-            more: More::new(alloc),
+            form: Form::One(Some(first)),
+            alloc,
         })
     }
 
@@ -73,14 +70,7 @@ impl Chain {
             ⊎ ((why ≡ Memory) × (finmap.get self.old born ≡ None))) }
         ensures kept { OnErr result (self.new ≡ self.old) }
     {
-        if at(&self.first, born).is_some() {
-            return join_first(&mut self.first, fact);
-        }
-        if self.first.is_none() && self.more.is_empty() {
-            self.first = Some((born, version_of(fact)));
-            return Ok(());
-        }
-        self.more.put(born, fact)
+        self.form.put(self.alloc, born, fact)
     }
 
     /// Adds a row, as `put` does. Cost: that of `put`.
@@ -108,11 +98,7 @@ impl Chain {
     pub fn forget(&mut self, born: Time, part: Part)
         ensures { self.new ≡ chain_forget self.old born part }
     {
-        if at(&self.first, born).is_some() {
-            forget_first(&mut self.first, part);
-            return;
-        }
-        self.more.forget(born, part);
+        self.form.forget(born, part);
     }
 
     /// Drops what is known of a version. Cost: O(log n), n versions.
@@ -127,8 +113,7 @@ impl Chain {
     pub fn drop_until(&mut self, until: Time)
         ensures { self.new ≡ chain_until self.old until }
     {
-        drop_first(&mut self.first, until);
-        self.more.drop_until(until);
+        self.form.drop_until(until);
     }
 
     /// Of the versions that have a row and were born at a time or before, the one born last, with the time
@@ -138,13 +123,7 @@ impl Chain {
     pub fn latest(&self, time: Time) -> Option<(Time, &Version)>
         ensures { option_map (λ p. (p.0, p.1.now)) result ≡ latest_at self.now time }
     {
-        let first = latest_first(&self.first, time);
-        let other = self.more.latest(time);
-        if is_later(&first, &other) {
-            first
-        } else {
-            other
-        }
+        self.form.latest(time)
     }
 
     /// The row at a time: that of the latest version with a row, unless its end is known and at most that
@@ -162,10 +141,7 @@ impl Chain {
     pub fn version(&self, born: Time) -> Option<&Version>
         ensures { option_copied result ≡ finmap.get self.now born }
     {
-        if let Some(version) = at(&self.first, born) {
-            return Some(version);
-        }
-        self.more.version(born)
+        self.form.version(born)
     }
 
     /// The version born first, or the one born next after a time, with the time of its birth. It takes no
@@ -173,19 +149,13 @@ impl Chain {
     pub fn next(&self, after: Option<Time>) -> Option<(Time, &Version)>
         ensures { FirstBorn self.now (is_after after) (option_map (λ p. (p.0, p.1.now)) result) }
     {
-        let first = next_first(&self.first, &after);
-        let other = self.more.next(&after);
-        if is_earlier(&first, &other) {
-            first
-        } else {
-            other
-        }
+        self.form.next(&after)
     }
 
     pub fn is_empty(&self) -> bool
         ensures { IsTrue result ↔ (self.now ≡ finmap.empty) }
     {
-        self.first.is_none() && self.more.is_empty()
+        self.form.is_empty()
     }
 
     /// The same chain again. The only error is out of memory. Cost: O(n · log n + b), n versions, b bytes
@@ -193,92 +163,7 @@ impl Chain {
     pub fn copy(&self, alloc: Global) -> Result<Chain, AllocError>
         ensures { IfOk result (λ chain. chain ≡ self.now) }
     {
-        let first = match &self.first {
-            Some((born, version)) => Some((*born, version.copy(alloc)?)),
-            None => None,
-        };
-        let more = self.more.copy(alloc)?;
-        Ok(Chain { first, more })
-    }
-}
-
-/// The first version, where it was born then.
-fn at(first: &Option<(Time, Version)>, born: Time) -> Option<&Version>
-    ensures { option_copied result ≡ first_at first.now born }
-{
-    match first {
-        Some((time, version)) if *time == born => Some(version),
-        _ => None,
-    }
-}
-
-/// Adds a fact to the first version, where there is one.
-fn join_first(first: &mut Option<(Time, Version)>, fact: Fact) -> Result<(), Refusal>
-    ensures ok { OnOk result (first_put fact first.old ≡ Ok first.new) }
-    ensures err { IfErr result (λ why. first_put fact first.old ≡ Err why) }
-    ensures kept { OnErr result (first.new ≡ first.old) }
-{
-    match first {
-        Some((_born, version)) => join(version, fact),
-        None => Ok(()),
-    }
-}
-
-/// Takes a part of the first version back.
-fn forget_first(first: &mut Option<(Time, Version)>, part: Part)
-    ensures { first.new ≡ first_without part first.old }
-{
-    let left = match first {
-        Some((_born, version)) => take_back(version, part),
-        None => false,
-    };
-    if !left {
-        *first = None;
-    }
-}
-
-/// Drops the first version, where it ended by then.
-fn drop_first(first: &mut Option<(Time, Version)>, until: Time)
-    ensures { first.new ≡ first_until until first.old }
-{
-    let ended = match first {
-        Some((_born, version)) => ended_by(version, until),
-        None => false,
-    };
-    if ended {
-        *first = None;
-    }
-}
-
-/// The first version, where it has a row and was born by then.
-fn latest_first(first: &Option<(Time, Version)>, time: Time) -> Option<(Time, &Version)>
-    ensures { option_map (λ p. (p.0, p.1.now)) result ≡ first_latest time first.now }
-{
-    match first {
-        Some((born, version)) if *born <= time && version.row().is_some() => Some((*born, version)),
-        _ => None,
-    }
-}
-
-/// The first version, where it was born after a time, if there is a time.
-fn next_first<'a>(
-    first: &'a Option<(Time, Version)>,
-    after: &Option<Time>,
-) -> Option<(Time, &'a Version)>
-    ensures { option_map (λ p. (p.0, p.1.now)) result ≡ first_next after.now first.now }
-{
-    match first {
-        Some((born, version)) if is_after(*after, *born) => Some((*born, version)),
-        _ => None,
-    }
-}
-
-/// Whether a version was born after a time, if there is a time.
-fn is_after(after: Option<Time>, born: Time) -> bool
-    ensures { result ≡ is_after after born }
-{
-    match after {
-        Some(time) => time < born,
-        None => true,
+        let form = self.form.copy(alloc)?;
+        Ok(Chain { form, alloc })
     }
 }

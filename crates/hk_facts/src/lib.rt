@@ -3,7 +3,9 @@
 
 mod chain;
 mod fact;
-mod more;
+mod few;
+mod form;
+mod list;
 mod order;
 mod others;
 mod versions;

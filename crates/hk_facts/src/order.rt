@@ -2,7 +2,7 @@
 
 ghost use Rattle.std.specs.Prelude.{◌≡◌};
 ghost use Rattle.std.specs.Option.{option_map};
-ghost use Rattle.hk_facts.specs.FirstOfChain.{is_earlier, is_later};
+ghost use Rattle.hk_facts.specs.Parted.{is_earlier, is_later};
 
 use hk_log::Version;
 use hk_types::Time;

@@ -6,6 +6,7 @@ ghost use Rattle.std.specs.FinMap as finmap;
 ghost use Rattle.hk_types.specs.declared.faults.Refusal.TheVariants.{Memory};
 ghost use Rattle.hk_facts.specs.declared.fact.Fact.TheVariants.{Row as RowFact, End as EndFact};
 ghost use Rattle.hk_facts.specs.Chains.{chain_put, chain_forget, chain_until, latest_at, is_after, FirstBorn};
+ghost use Rattle.hk_facts.specs.Listed.{listed, AreByBirth};
 ghost use Rattle.hk_facts.specs.Parted.{both, AreApart, NoRows, lone_end};
 
 use crate::fact::{Fact, Part};
@@ -43,15 +44,19 @@ impl Model for Others {
 }
 
 impl Others {
-    /// No versions. It takes no memory.
-    pub(crate) fn new(alloc: Global) -> Others
-        ensures { result ≡ finmap.empty }
+    /// The versions of a list, copied. The only error is out of memory. Cost: O(n · log n + b), n versions, b bytes
+    /// of bodies.
+    pub(crate) fn of_list(alloc: Global, list: &[(Time, Version)]) -> Result<Others, AllocError>
+        requires { AreByBirth list.now }
+        ensures { IfOk result (λ others. others ≡ listed list.now) }
     {
-        Others {
-            rows: Versions::new(alloc),
-            ends: Versions::new(alloc),
+        let rows = Versions::of_list(alloc, list, true)?;
+        let ends = Versions::of_list(alloc, list, false)?;
+        Ok(Others {
+            rows,
+            ends,
             mixed: false,
-        }
+        })
     }
 
     /// Adds a fact on the version that was born then. One that is known already changes nothing, and one

@@ -7,6 +7,7 @@ ghost use Rattle.std.specs.BTreeMap.{Updates};
 ghost use Rattle.std.specs.FinMap as finmap;
 ghost use Rattle.hk_types.specs.declared.faults.Refusal.TheVariants.{Memory};
 ghost use Rattle.hk_model.specs.Replica.Content.{at_most};
+ghost use Rattle.hk_facts.specs.Listed.{AreByBirth, IsPartOf};
 ghost use Rattle.hk_facts.specs.Chains.{chain_put, chain_forget, chain_until, latest_at, is_after, FirstBorn};
 
 use crate::fact::{Fact, Part, join, take_back, version_of};
@@ -38,13 +39,24 @@ impl Model for Versions {
 }
 
 impl Versions {
-    /// No versions. It takes no memory.
-    pub(crate) fn new(alloc: Global) -> Versions
-        ensures { result ≡ finmap.empty }
+    /// Those versions of a list that have a row, or those that have none, copied. The only error is out of memory.
+    /// Cost: O(n · log n + b), n versions, b bytes of bodies.
+    pub(crate) fn of_list(
+        alloc: Global,
+        list: &[(Time, Version)],
+        with_row: bool,
+    ) -> Result<Versions, AllocError>
+        requires { AreByBirth list.now }
+        ensures { IfOk result (IsPartOf with_row list.now) }
     {
-        Versions {
-            versions: BTreeMap::new(alloc),
+        let mut versions = BTreeMap::new(alloc);
+        for (born, version) in list {
+            if version.row().is_some() != with_row {
+                continue;
+            }
+            insert(&mut versions, *born, version.copy(alloc)?)?;
         }
+        Ok(Versions { versions })
     }
 
     /// Adds a fact on the version that was born then. One that is known already changes nothing, and one

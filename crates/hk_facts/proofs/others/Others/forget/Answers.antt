@@ -1,5 +1,5 @@
 use Rattle.std.proofs.Common.{sym}
-use Rattle.hk_facts.proofs.FirstOfChains.{none_at, some_at}
+use Rattle.hk_facts.proofs.StoredTrees.{none_at, some_at}
 use Rattle.hk_facts.proofs.PartedChains.{forget_rows, forget_ends, parted_rows_forgotten, parted_ends_forgotten}
 use Rattle.hk_facts.proofs.others.Others.forget.Goals as goal
 

@@ -1,5 +1,5 @@
 use Rattle.std.proofs.Common.{sym, ◌∙◌}
-use Rattle.hk_facts.specs.FirstOfChain.{is_later}
+use Rattle.hk_facts.specs.Parted.{is_later}
 use Rattle.hk_facts.proofs.PartedChains.{latest_rows, rows_win, ends_win}
 use Rattle.hk_facts.proofs.others.Others.latest.Goals as goal
 

@@ -1,8 +1,7 @@
 use Rattle.std.proofs.Common.{sym}
 use Rattle.std.proofs.lemmas.Result.{on_ok_weaker}
 use Rattle.hk_facts.specs.declared.fact.Fact.TheVariants.{End as EndFact}
-use Rattle.hk_facts.proofs.StoredTrees.{IfErr_map}
-use Rattle.hk_facts.proofs.FirstOfChains.{none_at, some_at}
+use Rattle.hk_facts.proofs.StoredTrees.{IfErr_map, none_at, some_at}
 use Rattle.hk_facts.proofs.PartedChains.{put_rows, put_ends, rows_refused, ends_refused, parted_rows_put, parted_end_put}
 use Rattle.hk_facts.proofs.others.Others.put_end.Goals as goal
 

@@ -4,8 +4,7 @@ use Rattle.std.proofs.lemmas.Result.{on_ok_weaker}
 use Rattle.hk_types.specs.declared.faults.Refusal.TheVariants.{Memory}
 use Rattle.hk_facts.specs.declared.fact.Fact.TheVariants.{Row as RowFact}
 use Rattle.hk_facts.specs.Chains.{ChainValue, chain_put}
-use Rattle.hk_facts.proofs.StoredTrees.{IfErr_map}
-use Rattle.hk_facts.proofs.FirstOfChains.{none_at, some_at}
+use Rattle.hk_facts.proofs.StoredTrees.{IfErr_map, none_at, some_at}
 use Rattle.hk_facts.proofs.PartedChains.{put_rows, put_ends, rows_refused, ends_refused, parted_rows_put, parted_mixed, not_in_rows}
 use Rattle.hk_facts.proofs.others.Others.put_row.Goals as goal
 

@@ -1,0 +1,90 @@
+//! Versions in a list, by rising birth.
+
+ghost use Rattle.std.specs.Prelude.{◌≡◌, ◌<◌, ◌≤◌, true, false, length, IfOk, IfErr};
+ghost use Rattle.std.specs.List.{AllWithin};
+ghost use Rattle.std.specs.Option.{option_copied, option_map};
+ghost use Rattle.std.specs.FinMap as finmap;
+ghost use Rattle.hk_facts.specs.Chains.{latest_at, is_after, FirstBorn};
+ghost use Rattle.hk_facts.specs.Listed.{listed, AreByBirth, StandsAt, FitsAt};
+
+use hk_log::Version;
+use hk_types::Time;
+
+/// Where the version that was born then stands, or where it would. Cost: O(log n), and O(1) behind the last.
+pub(crate) fn place_of(list: &[(Time, Version)], born: Time) -> Result<usize, usize>
+    requires { AreByBirth list.now }
+    ensures found { IfOk result (StandsAt list.now born) }
+    ensures within { IfErr result (λ i. i ≤ length list.now) }
+    ensures between { IfErr result (FitsAt list.now born) }
+{
+    list.binary_search_by(|entry| entry.0.cmp(&born))
+}
+
+/// How many versions were born at a time or before; the others stand behind them. Cost: O(log n), and O(1) where all
+/// were.
+pub(crate) fn count_until(list: &[(Time, Version)], time: Time) -> usize
+    requires { AreByBirth list.now }
+    ensures within { result ≤ length list.now }
+    ensures front { AllWithin (λ e. e.0 ≤ time) list.now 0 result }
+    ensures back { AllWithin (λ e. time < e.0) list.now result (length list.now) }
+{
+    list.partition_point(|entry| entry.0 <= time)
+}
+
+/// What is known of the version that was born then. Cost: O(log n).
+pub(crate) fn version_in(list: &[(Time, Version)], born: Time) -> Option<&Version>
+    requires { AreByBirth list.now }
+    ensures { option_copied result ≡ finmap.get (listed list.now) born }
+{
+    match place_of(list, born) {
+        Ok(place) => Some(&list[place].1),
+        Err(_place) => None,
+    }
+}
+
+/// Of the versions that have a row and were born at a time or before, the one born last, with the time of its
+/// birth. It takes no memory. Cost: O(n), n versions.
+pub(crate) fn latest_in(list: &[(Time, Version)], time: Time) -> Option<(Time, &Version)>
+    requires { AreByBirth list.now }
+    ensures { option_map (λ p. (p.0, p.1.now)) result ≡ latest_at (listed list.now) time }
+{
+    let mut end = count_until(list, time);
+    while end > 0 {
+        end -= 1;
+        let (born, version) = &list[end];
+        if version.row().is_some() {
+            return Some((*born, version));
+        }
+    }
+    None
+}
+
+/// The version born first, or the one born next after a time, with the time of its birth. It takes no memory.
+/// Cost: O(log n).
+pub(crate) fn next_in<'a>(
+    list: &'a [(Time, Version)],
+    after: &Option<Time>,
+) -> Option<(Time, &'a Version)>
+    requires { AreByBirth list.now }
+    ensures { FirstBorn (listed list.now) (is_after after.now) (option_map (λ p. (p.0, p.1.now)) result) }
+{
+    let first = count_before(list, after);
+    if first == list.len() {
+        return None;
+    }
+    let (born, version) = &list[first];
+    Some((*born, version))
+}
+
+/// How many versions were not born after a time, if there is a time; the others stand behind them.
+fn count_before(list: &[(Time, Version)], after: &Option<Time>) -> usize
+    requires { AreByBirth list.now }
+    ensures within { result ≤ length list.now }
+    ensures front { AllWithin (λ e. is_after after.now e.0 ≡ false) list.now 0 result }
+    ensures back { AllWithin (λ e. is_after after.now e.0 ≡ true) list.now result (length list.now) }
+{
+    match after {
+        Some(time) => count_until(list, *time),
+        None => 0,
+    }
+}
