@@ -1,19 +1,18 @@
 //! What is known of all streams of a log.
 
-ghost use Rattle.std.specs.Prelude.{◌≡◌, ◌≤◌, ◌<◌, ◌^◌, ◌-◌, ◌∷◌, ◌==◌, [], ℕ, All, min, nat_le, length, replicate, slice_set, IsOk, IfOk, OnOk, OnErr, IfErr};
+ghost use Rattle.std.specs.Prelude.{◌≡◌, ◌≤◌, ◌<◌, ◌^◌, ◌-◌, ◌==◌, ℕ, All, min, length, replicate, slice_set, IsOk, IfOk, OnOk, OnErr, IfErr};
 ghost use Rattle.std.specs.FinMap as finmap;
 ghost use Rattle.std.specs.FinSet as set;
 ghost use Rattle.std.specs.List.Sorted.{IsStrictlyIncreasing};
 ghost use Rattle.std.specs.Map.{keys_of};
 ghost use Rattle.std.specs.Map.Iter.{ShowsInOrder, deref, deref_pair};
 ghost use Rattle.hk_types.specs.declared.faults.Refusal.TheVariants.{Memory};
-ghost use Rattle.hk_log.specs.Items.{EntryValue, MarkValue};
-ghost use Rattle.hk_log.specs.declared.item.Item.TheVariants.{Commit, Closed};
 ghost use Rattle.hk_model.specs.Replica.Content.{least_closed};
 ghost use Rattle.hk_model.specs.Replica.Lawful.{IsLawfulStream};
-ghost use Rattle.hk_model.specs.Replica.Streams.{StreamContent, all_together, covers, adds_nothing, stream_at, streams_of, unknown};
+ghost use Rattle.hk_model.specs.Replica.Streams.{all_together, covers, adds_nothing, stream_at, unknown};
 ghost use Rattle.hk_marks.specs.Seen.{IsNumbered};
-ghost use Rattle.hk_marks.specs.Steps.{with_number, with_mark, with_prefix, extra_numbers};
+ghost use Rattle.hk_marks.specs.Parts.{HasPrefix};
+ghost use Rattle.hk_marks.specs.Steps.{with_number, with_mark, with_prefix, extra_numbers, TakesEntry, TakesMark};
 
 use crate::stream::{Stream, join_streams};
 use hk_types::{Config, LAST_TIME, Refusal, StreamNo, Time};
@@ -93,8 +92,7 @@ impl Got {
             ≡ slice_set self.old (s - 1) (with_number (stream_at self.old s) number)) }
 
         // It takes what an entry of this number tells.
-        ensures entry { OnOk result ((e : EntryValue) → e.stream ≡ s → e.number ≡ number
-            → self.new ≡ all_together self.old (streams_of (length self.old) (Commit e ∷ []))) }
+        ensures entry { OnOk result (TakesEntry self.old s number self.new) }
         ensures err { IfErr result (λ why. why ≡ Memory) }
         ensures kept { OnErr result (self.new ≡ self.old) }
     {
@@ -113,8 +111,7 @@ impl Got {
             ≡ slice_set self.old (s - 1) (with_mark (stream_at self.old s) n m)) }
 
         // It takes what such a mark tells.
-        ensures mark { OnOk result ((mark : MarkValue) → mark.stream ≡ s → mark.count ≡ n → mark.upto ≡ m
-            → self.new ≡ all_together self.old (streams_of (length self.old) (Closed mark ∷ []))) }
+        ensures mark { OnOk result (TakesMark self.old s n m self.new) }
         ensures err { IfErr result (λ why. why ≡ Memory) }
         ensures kept { OnErr result (self.new ≡ self.old) }
     {
@@ -187,7 +184,7 @@ impl Got {
     /// The greatest number up to which all are taken, at most 2^62.
     pub fn prefix(&self, s: StreamNo) -> u64
         requires { s ≤ length self.now }
-        ensures value { (n : ℕ) → covers (stream_at self.now s).taken n ≡ nat_le n result }
+        ensures value { HasPrefix (stream_at self.now s).taken result }
         ensures most { result ≤ 2 ^ 62 }
     {
         self.streams[place(s)].prefix()

@@ -1,6 +1,6 @@
 //! What is known of one stream.
 
-ghost use Rattle.std.specs.Prelude.{◌≡◌, ◌≤◌, ◌<◌, ◌^◌, ◌+◌, ℕ, true, max, nat_le, is_some, Some, IsSome, IfSome, IfNone, IfOk, OnOk, OnErr};
+ghost use Rattle.std.specs.Prelude.{◌≡◌, ◌≤◌, ◌<◌, ◌^◌, ◌+◌, ℕ, true, max, is_some, IsSome, IfSome, IfNone, IfOk, OnOk, OnErr};
 ghost use Rattle.std.specs.Bool.{OnTrue, OnFalse};
 ghost use Rattle.std.specs.List.Sorted.{IsStrictlyIncreasing};
 ghost use Rattle.std.specs.Map.{keys_of};
@@ -10,10 +10,10 @@ ghost use Rattle.std.specs.BTreeMap as tree;
 ghost use Rattle.std.specs.BTreeSet as sorted;
 ghost use Rattle.std.specs.FinSet as set;
 ghost use Rattle.std.specs.Map.Iter.{ShowsInOrder, deref, deref_pair};
-ghost use Rattle.hk_model.specs.Replica.Streams.{StreamContent, covers, stream_with, unknown, adds_nothing};
+ghost use Rattle.hk_model.specs.Replica.Streams.{covers, unknown, adds_nothing};
 ghost use Rattle.hk_model.specs.Replica.Lawful.{IsLawfulStream};
-ghost use Rattle.hk_marks.specs.Seen.{up_to, taken_seen, waiting_seen, IsExtra, WaitsAbove};
-ghost use Rattle.hk_model.proofs.Streams.{later, told};
+ghost use Rattle.hk_marks.specs.Seen.{up_to, taken_seen, IsExtra, WaitsAbove};
+ghost use Rattle.hk_marks.specs.Parts.{HasPrefix, Settles, AddsMark, SameNumbers};
 ghost use Rattle.hk_marks.specs.Steps.{with_number, with_mark, with_prefix, extra_numbers};
 
 mod join;
@@ -118,8 +118,7 @@ fn close_up_to(closed: &mut Time, upto: Time)
 
 /// Forgets the marks that the prefix covers, and closes up to their times.
 fn settle(prefix: u64, closed: &mut Time, waiting: &mut BTreeMap<u64, Time>)
-    ensures settles { (taken : set.FinSet nat_cmp) → ((n : ℕ) → covers taken n ≡ nat_le n prefix)
-        → stream_with taken closed.old (finmap.entries (waiting_seen waiting.old)) ≡ record { taken = taken; closed = closed.new; waiting = waiting_seen waiting.new } }
+    ensures settles { Settles prefix closed.old closed.new waiting.old waiting.new }
     ensures waits { WaitsAbove prefix waiting.new }
 {
     while let Some(count) = first_covered(prefix, waiting) {
@@ -132,7 +131,7 @@ fn settle(prefix: u64, closed: &mut Time, waiting: &mut BTreeMap<u64, Time>)
 /// Gives a mark that waits the greater time. Answers whether a mark of this count waits.
 fn raise_waiting(waiting: &mut BTreeMap<u64, Time>, count: u64, upto: Time) -> bool
     ensures test { result ≡ is_some (tree.get nat_cmp waiting.old count) }
-    ensures found { OnTrue result ((q : ℕ) → tree.get nat_cmp waiting.new q ≡ later (told (count, upto) q) (tree.get nat_cmp waiting.old q)) }
+    ensures found { OnTrue result (AddsMark count upto waiting.old waiting.new) }
     ensures absent { OnFalse result (waiting.new.entries ≡ waiting.old.entries) }
 {
     if let Some(there) = waiting.get_mut(&count) {
@@ -144,7 +143,7 @@ fn raise_waiting(waiting: &mut BTreeMap<u64, Time>, count: u64, upto: Time) -> b
 
 /// Lets a mark wait, the greatest time for each count.
 fn wait(waiting: &mut BTreeMap<u64, Time>, count: u64, upto: Time) -> Result<(), AllocError>
-    ensures ok { OnOk result ((q : ℕ) → tree.get nat_cmp waiting.new q ≡ later (told (count, upto) q) (tree.get nat_cmp waiting.old q)) }
+    ensures ok { OnOk result (AddsMark count upto waiting.old waiting.new) }
     ensures err { OnErr result (waiting.new.entries ≡ waiting.old.entries) }
 {
     if !raise_waiting(waiting, count, upto) {
@@ -226,7 +225,7 @@ impl Stream {
 
     /// The greatest number up to which all are taken.
     pub fn prefix(&self) -> u64
-        ensures value { (n : ℕ) → covers self.now.taken n ≡ nat_le n result }
+        ensures value { HasPrefix self.now.taken result }
         ensures most { result ≤ 2 ^ 62 }
         ensures lawful { IsLawfulStream self.now }
     {
@@ -284,7 +283,7 @@ impl Stream {
 }
 
 fn copy_numbers(numbers: &BTreeSet<u64>, alloc: Global) -> Result<BTreeSet<u64>, AllocError>
-    ensures { IfOk result (λ copied. (q : ℕ) → sorted.contains nat_cmp copied q ≡ sorted.contains nat_cmp numbers.now q) }
+    ensures { IfOk result (λ copied. SameNumbers copied numbers.now) }
 {
     numbers.iter().copied().collect(alloc)
 }

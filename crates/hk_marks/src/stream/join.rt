@@ -3,14 +3,15 @@
 //! All growth comes first, on the way into the streams. What can't fail comes after it, on the way
 //! out. Where a growth is refused, the way out takes back what was grown.
 
-ghost use Rattle.std.specs.Prelude.{◌≡◌, ◌≤◌, ◌<◌, ◌^◌, ◌+◌, ◌&&◌, ◌++◌, ℕ, true, false, cond, not, nat_le, nat_lt, filter, length, take, drop, is_some, Some, None, IfOk, OnOk, OnErr};
+ghost use Rattle.std.specs.Prelude.{◌≡◌, ◌≤◌, ◌<◌, ◌^◌, ◌+◌, ℕ, true, false, length, None, IfOk, OnOk, OnErr};
 ghost use Rattle.std.specs.Ordering.{nat_cmp};
-ghost use Rattle.std.specs.FinMap as finmap;
 ghost use Rattle.std.specs.FinSet as set;
 ghost use Rattle.std.specs.BTreeMap as tree;
 ghost use Rattle.std.specs.BTreeSet as sorted;
-ghost use Rattle.hk_model.specs.Replica.Streams.{all_together, covers, stream_with, together};
-ghost use Rattle.hk_marks.specs.Seen.{taken_seen, waiting_seen, IsExtra};
+ghost use Rattle.hk_model.specs.Replica.Streams.{all_together, covers, together};
+ghost use Rattle.hk_marks.specs.Seen.{taken_seen, IsExtra};
+ghost use Rattle.hk_marks.specs.Parts.{AddsCounts, AddsNumbers, HasCounts, HasNumbers, RaisesMarks, RemovesCounts, RemovesNumbers, SameNumbers, lacking_counts, lacking_numbers};
+ghost use Rattle.hk_marks.specs.Steps.{joined_from};
 ghost use Rattle.hk_marks.specs.Room.{has_number, HasRoom, Widens, Without};
 
 use super::{Stream, close_up_to, raise_waiting, settle, take_up_to};
@@ -33,7 +34,7 @@ fn missing_numbers(
     others: &BTreeSet<u64>,
 ) -> Result<Vec<u64>, AllocError>
     requires { prefix ≤ 2 ^ 62 }
-    ensures { IfOk result (λ numbers. numbers.items ≡ filter (λ q. nat_lt (prefix + 1) q && not (sorted.contains nat_cmp extra.now q)) others.now.keys) }
+    ensures { IfOk result (λ numbers. numbers.items ≡ lacking_numbers prefix extra.now others.now.keys) }
 {
     others
         .iter()
@@ -49,7 +50,7 @@ fn missing_counts(
     waiting: &BTreeMap<u64, Time>,
     others: &BTreeMap<u64, Time>,
 ) -> Result<Vec<u64>, AllocError>
-    ensures { IfOk result (λ counts. counts.items ≡ filter (λ q. nat_lt prefix q && not (is_some (tree.get nat_cmp waiting.now q))) (tree.keys others.now)) }
+    ensures { IfOk result (λ counts. counts.items ≡ lacking_counts prefix waiting.now (tree.keys others.now)) }
 {
     others
         .keys()
@@ -59,7 +60,7 @@ fn missing_counts(
 }
 
 fn remove_numbers(extra: &mut BTreeSet<u64>, numbers: &[u64])
-    ensures { (q : ℕ) → sorted.contains nat_cmp extra.new q ≡ cond (has_number numbers.now q) false (sorted.contains nat_cmp extra.old q) }
+    ensures { RemovesNumbers numbers.now extra.old extra.new }
 {
     for number in numbers {
         extra.remove(number);
@@ -69,8 +70,8 @@ fn remove_numbers(extra: &mut BTreeSet<u64>, numbers: &[u64])
 /// Inserts all of these new numbers, or none.
 fn insert_numbers(extra: &mut BTreeSet<u64>, numbers: &[u64]) -> Result<(), AllocError>
     requires { (q : ℕ) → has_number numbers.now q ≡ true → sorted.contains nat_cmp extra.old q ≡ false }
-    ensures ok { OnOk result ((q : ℕ) → sorted.contains nat_cmp extra.new q ≡ cond (has_number numbers.now q) true (sorted.contains nat_cmp extra.old q)) }
-    ensures err { OnErr result ((q : ℕ) → sorted.contains nat_cmp extra.new q ≡ sorted.contains nat_cmp extra.old q) }
+    ensures ok { OnOk result (AddsNumbers numbers.now extra.old extra.new) }
+    ensures err { OnErr result (SameNumbers extra.new extra.old) }
 {
     for number in numbers {
         if extra.insert(*number).is_err() {
@@ -82,7 +83,7 @@ fn insert_numbers(extra: &mut BTreeSet<u64>, numbers: &[u64]) -> Result<(), Allo
 }
 
 fn remove_counts(waiting: &mut BTreeMap<u64, Time>, counts: &[u64])
-    ensures { (q : ℕ) → tree.get nat_cmp waiting.new q ≡ cond (has_number counts.now q) None (tree.get nat_cmp waiting.old q) }
+    ensures { RemovesCounts counts.now waiting.old waiting.new }
 {
     for count in counts {
         waiting.remove(count);
@@ -92,7 +93,7 @@ fn remove_counts(waiting: &mut BTreeMap<u64, Time>, counts: &[u64])
 /// Inserts a mark of time 0 for each of these new counts, or none.
 fn insert_counts(waiting: &mut BTreeMap<u64, Time>, counts: &[u64]) -> Result<(), AllocError>
     requires { (q : ℕ) → has_number counts.now q ≡ true → tree.get nat_cmp waiting.old q ≡ None }
-    ensures ok { OnOk result ((q : ℕ) → tree.get nat_cmp waiting.new q ≡ cond (has_number counts.now q) (Some 0) (tree.get nat_cmp waiting.old q)) }
+    ensures ok { OnOk result (AddsCounts counts.now waiting.old waiting.new) }
     ensures err { OnErr result ((q : ℕ) → tree.get nat_cmp waiting.new q ≡ tree.get nat_cmp waiting.old q) }
 {
     for count in counts {
@@ -111,7 +112,7 @@ fn take_numbers(prefix: &mut u64, extra: &mut BTreeSet<u64>, upto: u64, others: 
     requires prefix_most { prefix.old ≤ 2 ^ 62 }
     requires others { IsExtra upto others.now }
     requires most { upto ≤ 2 ^ 62 }
-    requires near { (q : ℕ) → sorted.contains nat_cmp others.now q ≡ true → (q ≤ prefix.old + 1 → ⊥) → sorted.contains nat_cmp extra.old q ≡ true }
+    requires near { HasNumbers prefix.old extra.old others.now }
     ensures taken { taken_seen prefix.new extra.new ≡ set.union (taken_seen prefix.old extra.old) (taken_seen upto others.now) }
     ensures extras { IsExtra prefix.new extra.new }
     ensures prefix_most { prefix.new ≤ 2 ^ 62 }
@@ -131,9 +132,8 @@ fn raise_marks(
     waiting: &mut BTreeMap<u64, Time>,
     marks: &BTreeMap<u64, Time>,
 )
-    requires { (q : ℕ) → is_some (tree.get nat_cmp marks.now q) ≡ true → prefix < q → is_some (tree.get nat_cmp waiting.old q) ≡ true }
-    ensures settles { (taken : set.FinSet nat_cmp) → ((n : ℕ) → covers taken n ≡ nat_le n prefix)
-        → stream_with taken closed.new (finmap.entries (waiting_seen waiting.new)) ≡ stream_with taken closed.old (finmap.entries (waiting_seen waiting.old) ++ marks.now.entries) }
+    requires { HasCounts prefix waiting.old marks.now }
+    ensures settles { RaisesMarks prefix closed.old closed.new waiting.old waiting.new marks.now.entries }
     ensures rising { tree.IsOrdered nat_cmp marks.now }
 {
     for (count, upto) in marks {
@@ -201,7 +201,7 @@ fn join_from(
 ) -> Result<(), AllocError>
     requires same { length streams.old ≡ length others.now }
     requires within { place ≤ length streams.old }
-    ensures ok { OnOk result (streams.new ≡ take place streams.old ++ all_together (drop place streams.old) (drop place others.now)) }
+    ensures ok { OnOk result (streams.new ≡ joined_from place streams.old others.now) }
     ensures err { OnErr result (streams.new ≡ streams.old) }
 {
     if place == streams.len() {

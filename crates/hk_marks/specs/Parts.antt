@@ -1,0 +1,71 @@
+-- What calls do to the stored parts of a stream: its prefix, its extra numbers, its closed time and its waiting marks.
+use Rattle.std.specs.Prelude.{◌≡◌, ℕ, ◌+◌, ◌<◌, ◌≤◌, ◌++◌, ◌&&◌, true, false, not, cond, filter, is_some, nat_le, nat_lt, List, Some, None}
+use Rattle.std.specs.Ordering.{nat_cmp}
+use Rattle.std.specs.FinMap as finmap
+use Rattle.std.specs.FinSet as set
+use Rattle.std.specs.BTreeMap as tree
+use Rattle.std.specs.BTreeSet as sorted
+use Rattle.std.specs.BTreeMap.{BTreeMap}
+use Rattle.std.specs.BTreeSet.{BTreeSet}
+use Rattle.hk_model.specs.Replica.Streams.{covers, stream_with}
+use Rattle.hk_model.proofs.Streams.{later, told}
+use Rattle.hk_marks.specs.Seen.{waiting_seen}
+use Rattle.hk_marks.specs.Room.{has_number}
+
+-- the numbers 1 to the prefix are all taken, and the next one is not
+abbrev pub HasPrefix : set.FinSet nat_cmp → ℕ → Type 0
+HasPrefix taken prefix = (n : ℕ) → covers taken n ≡ nat_le n prefix
+
+-- the marks that the prefix covers were forgotten, and it is closed at least up to their times
+abbrev pub Settles : ℕ → ℕ → ℕ → BTreeMap ℕ ℕ → BTreeMap ℕ ℕ → Type 0
+Settles prefix before after old new =
+    (taken : set.FinSet nat_cmp) → HasPrefix taken prefix
+    → stream_with taken before (finmap.entries (waiting_seen old)) ≡ record { taken = taken; closed = after; waiting = waiting_seen new }
+
+-- these marks were taken too: with a prefix that covers some the stream is closed up to their times, the others wait
+abbrev pub RaisesMarks : ℕ → ℕ → ℕ → BTreeMap ℕ ℕ → BTreeMap ℕ ℕ → List (ℕ × ℕ) → Type 0
+RaisesMarks prefix before after old new marks =
+    (taken : set.FinSet nat_cmp) → HasPrefix taken prefix
+    → stream_with taken after (finmap.entries (waiting_seen new)) ≡ stream_with taken before (finmap.entries (waiting_seen old) ++ marks)
+
+-- this mark waits too, and of two of its count the later one
+abbrev pub AddsMark : ℕ → ℕ → BTreeMap ℕ ℕ → BTreeMap ℕ ℕ → Type 0
+AddsMark count upto old new = (q : ℕ) → tree.get nat_cmp new q ≡ later (told (count, upto) q) (tree.get nat_cmp old q)
+
+-- the two sets have the same numbers
+abbrev pub SameNumbers : BTreeSet ℕ → BTreeSet ℕ → Type 0
+SameNumbers some others = (q : ℕ) → sorted.contains nat_cmp some q ≡ sorted.contains nat_cmp others q
+
+-- these numbers were added
+abbrev pub AddsNumbers : List ℕ → BTreeSet ℕ → BTreeSet ℕ → Type 0
+AddsNumbers numbers old new = (q : ℕ) → sorted.contains nat_cmp new q ≡ cond (has_number numbers q) true (sorted.contains nat_cmp old q)
+
+-- these numbers were removed
+abbrev pub RemovesNumbers : List ℕ → BTreeSet ℕ → BTreeSet ℕ → Type 0
+RemovesNumbers numbers old new = (q : ℕ) → sorted.contains nat_cmp new q ≡ cond (has_number numbers q) false (sorted.contains nat_cmp old q)
+
+-- a mark of time 0 waits for each of these counts
+abbrev pub AddsCounts : List ℕ → BTreeMap ℕ ℕ → BTreeMap ℕ ℕ → Type 0
+AddsCounts counts old new = (q : ℕ) → tree.get nat_cmp new q ≡ cond (has_number counts q) (Some 0) (tree.get nat_cmp old q)
+
+-- no mark waits for these counts, and the others wait as before
+abbrev pub RemovesCounts : List ℕ → BTreeMap ℕ ℕ → BTreeMap ℕ ℕ → Type 0
+RemovesCounts counts old new = (q : ℕ) → tree.get nat_cmp new q ≡ cond (has_number counts q) None (tree.get nat_cmp old q)
+
+-- of these numbers, those that neither follow the prefix nor are reached by it nor stand among the extra ones
+abbrev pub lacking_numbers : ℕ → BTreeSet ℕ → List ℕ → List ℕ
+lacking_numbers prefix extra numbers = filter (λ q. nat_lt (prefix + 1) q && not (sorted.contains nat_cmp extra q)) numbers
+
+-- of these counts, those that the prefix does not cover, and for which no mark waits
+abbrev pub lacking_counts : ℕ → BTreeMap ℕ ℕ → List ℕ → List ℕ
+lacking_counts prefix waiting counts = filter (λ q. nat_lt prefix q && not (is_some (tree.get nat_cmp waiting q))) counts
+
+-- the others' numbers that neither follow the prefix nor are reached by it stand among the extra ones
+abbrev pub HasNumbers : ℕ → BTreeSet ℕ → BTreeSet ℕ → Type 0
+HasNumbers prefix extra others =
+    (q : ℕ) → sorted.contains nat_cmp others q ≡ true → (q ≤ prefix + 1 → ⊥) → sorted.contains nat_cmp extra q ≡ true
+
+-- a mark waits already for each count of these marks that the prefix does not cover
+abbrev pub HasCounts : ℕ → BTreeMap ℕ ℕ → BTreeMap ℕ ℕ → Type 0
+HasCounts prefix waiting marks =
+    (q : ℕ) → is_some (tree.get nat_cmp marks q) ≡ true → prefix < q → is_some (tree.get nat_cmp waiting q) ≡ true
