@@ -1,5 +1,5 @@
 -- What contracts see of a version.
-use Rattle.std.specs.Prelude.{ℕ, Bool, ◌||◌, Option, refl, is_some, List}
+use Rattle.std.specs.Prelude.{◌≡◌, ℕ, Bool, true, false, ◌||◌, Option, Some, None, refl, is_some, List}
 use Rattle.std.specs.Coded.{Coded, code_by, coded×, coded_ℕ, coded_list, coded_option}
 use Rattle.hk_types.specs.Values.{RowValue}
 
@@ -17,3 +17,8 @@ row_code = code_by (ℕ × List ℕ) (coded× coded_ℕ (coded_list coded_ℕ)) 
 
 abbrev pub version_code : Coded VersionValue
 version_code = code_by (Option RowValue × Option ℕ) (coded× (coded_option row_code) (coded_option coded_ℕ)) (λ v. (v.row, v.died)) (λ p. record { row = p.0; died = p.1 }) (λ _. refl)
+
+-- the version of this row and this end; or none, where neither is there
+abbrev pub IsVersionOf : Option RowValue → Option ℕ → Option VersionValue → Type 0
+IsVersionOf row died None = is_known (record { row = row; died = died }) ≡ false
+IsVersionOf row died (Some v) = (v ≡ record { row = row; died = died }) × (is_known v ≡ true)

@@ -1,7 +1,7 @@
 //! An entry.
 
 ghost use Rattle.std.specs.Prelude.{◌≡◌, IfOk};
-ghost use Rattle.hk_log.specs.Items.{checked_entry, IsEntry};
+ghost use Rattle.hk_log.specs.Items.{checked_entry, entry_value, IsEntry};
 
 use crate::places::{MOST_WRITES, ends_rise, rows_rise, were_born};
 use hk_types::{FormFault, Key, Row, StreamNo, Table, Time, VersionKey};
@@ -48,14 +48,7 @@ impl Entry {
         ends: Vec<VersionKey>,
         rows: Vec<(Table, Key, Row)>,
     ) -> Result<Entry, FormFault>
-        ensures { result ≡ checked_entry (record {
-          log = log;
-          stream = stream;
-          number = number;
-          time = time;
-          ends = ends.items;
-          rows = rows.items;
-        }) }
+        ensures { result ≡ checked_entry (entry_value log stream number time ends.items rows.items) }
     {
         if number < 1 || number > time.number() {
             return Err(FormFault::BadNumber);
@@ -92,22 +85,8 @@ impl Entry {
         ends: Vec<VersionKey>,
         rows: Vec<(Table, Key, Row)>,
     ) -> Entry
-        requires { IsEntry (record {
-          log = log;
-          stream = stream;
-          number = number;
-          time = time;
-          ends = ends.items;
-          rows = rows.items;
-        }) }
-        ensures { result ≡ record {
-          log = log;
-          stream = stream;
-          number = number;
-          time = time;
-          ends = ends.items;
-          rows = rows.items;
-        } }
+        requires { IsEntry (entry_value log stream number time ends.items rows.items) }
+        ensures { result ≡ entry_value log stream number time ends.items rows.items }
     {
         Entry {
             log,

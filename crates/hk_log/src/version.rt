@@ -1,8 +1,8 @@
 //! What is known of one version.
 
-ghost use Rattle.std.specs.Prelude.{◌≡◌, ◌||◌, true, false, Some, None, IfOk, IsSome, is_some, MatchOption};
+ghost use Rattle.std.specs.Prelude.{◌≡◌, ◌||◌, true, false, Some, None, IfOk, IsSome, is_some};
 ghost use Rattle.std.specs.Option.{option_copied};
-ghost use Rattle.hk_log.specs.Versions.{VersionValue, is_known};
+ghost use Rattle.hk_log.specs.Versions.{IsVersionOf, VersionValue, is_known};
 
 use hk_types::{Row, Time};
 use std::alloc::{AllocError, Global};
@@ -32,8 +32,7 @@ impl Model for Version {
 impl Version {
     /// The version of this row and this end, or `None` where neither is there.
     pub fn new(row: Option<Row>, died: Option<Time>) -> Option<Version>
-        ensures { MatchOption result (is_known (record { row = row; died = died }) ≡ false)
-            (λ v. (v ≡ record { row = row; died = died }) × (is_known v ≡ true)) }
+        ensures { IsVersionOf row died result }
     {
         if row.is_none() && died.is_none() {
             return None;
