@@ -1,5 +1,6 @@
 -- The union of two fragments of base 0 and horizon 0, and how two rising lists of versions are merged into one.
 use Rattle.std.specs.Prelude.{◌≡◌, ◌⊎◌, List, [], ◌∷◌, ◌++◌, Option, Some, None}
+use Rattle.std.specs.FinMap.{find}
 use Rattle.std.specs.declared.cmp.Ordering.{Ordering}
 use Rattle.std.specs.declared.cmp.Ordering.TheVariants.{Less, Equal, Greater}
 use Rattle.hk_types.specs.declared.version_key.VersionKey.{VersionKey}
@@ -37,6 +38,10 @@ abbrev pub known_in_either : Option VersionValue → Option VersionValue → Opt
 known_in_either None y = y
 known_in_either (Some x) None = Some x
 known_in_either (Some x) (Some y) = Some (both_known x y)
+
+-- the list says of each version what either of two lists says
+abbrev pub SaysBoth : List Known → List Known → List Known → Type 0
+SaysBoth own coming both = (v : VersionKey) → find version_key_cmp v both ≡ known_in_either (find version_key_cmp v own) (find version_key_cmp v coming)
 
 -- the last version of a list, where it has one, comes before this one
 abbrev pub EndsBefore : List Known → VersionKey → Type 0

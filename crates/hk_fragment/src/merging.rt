@@ -1,13 +1,10 @@
 //! Two rising lists of versions, merged into one.
 
 ghost use Rattle.std.specs.Prelude.{◌≡◌, ◌≤◌, ◌<◌, ◌+◌, ◌++◌, ◌∷◌, [], None};
-ghost use Rattle.std.specs.FinMap.{find};
 ghost use Rattle.std.specs.Vec.{vec_capacity, vec_len};
-ghost use Rattle.hk_types.specs.declared.version_key.VersionKey.{VersionKey as VersionKeyValue};
-ghost use Rattle.hk_model.specs.History.Rows.{version_key_cmp};
 ghost use Rattle.hk_fragment.specs.Parts.{facts_fault};
 ghost use Rattle.hk_fragment.specs.Merging as spec;
-ghost use Rattle.hk_fragment.specs.Merging.{known_in_either, ComparesLast, TakesGreatest};
+ghost use Rattle.hk_fragment.specs.Merging.{ComparesLast, SaysBoth, TakesGreatest};
 
 use hk_log::Version;
 use hk_types::VersionKey;
@@ -78,7 +75,7 @@ pub(crate) fn merged(
     requires own { facts_fault 0 0 None own.items ≡ None }
     requires coming { facts_fault 0 0 None coming.items ≡ None }
     ensures faultless { facts_fault 0 0 None result.items ≡ None }
-    ensures found { (v : VersionKeyValue) → find version_key_cmp v result.items ≡ known_in_either (find version_key_cmp v own.items) (find version_key_cmp v coming.items) }
+    ensures found { SaysBoth own.items coming.items result.items }
 {
     let mut own = own;
     let mut coming = coming;
