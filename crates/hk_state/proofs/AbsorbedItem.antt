@@ -46,21 +46,8 @@ module _ (config : ConfigValue) (h : ℕ) (facts : FactsValue) (got : List Strea
     fitting : wrong_log config.log (length got) (Commit e) ≡ None → take_result here (Commit e) ≡ absorb_result here (Commit e)
     fitting m = ap (take_result_unless here (Commit e)) m
 
-    pub entry_repeated : wrong_log config.log (length got) (Commit e) ≡ None → set.contains (stream_at got e.stream).taken e.number ≡ true → Absorbs here here (Commit e) (Ok Repeated)
-    entry_repeated m old = fitting m ∙ ap (λ b. cond b (Ok (Repeated, here)) (cond (entry_conflicts here e) (Err Conflict) (Ok (Taken, with_items here (Commit e ∷ []))))) old
-
     unrepeated : wrong_log config.log (length got) (Commit e) ≡ None → set.contains (stream_at got e.stream).taken e.number ≡ false → take_result here (Commit e) ≡ cond (entry_conflicts here e) (Err Conflict) (Ok (Taken, with_items here (Commit e ∷ [])))
     unrepeated m new = fitting m ∙ ap (λ b. cond b (Ok (Repeated, here)) (cond (entry_conflicts here e) (Err Conflict) (Ok (Taken, with_items here (Commit e ∷ []))))) new
-
-    pub entry_conflict : wrong_log config.log (length got) (Commit e) ≡ None → set.contains (stream_at got e.stream).taken e.number ≡ false → (conflicts_with_entry facts e || nat_le e.time (stream_at got e.stream).closed) ≡ true → Absorbs here here (Commit e) (Err Conflict)
-    entry_conflict m new c = (refl, inl (unrepeated m new ∙ ap (λ b. cond b (Err Conflict) (Ok (Taken, with_items here (Commit e ∷ [])))) c))
-
-    pub entry_late : wrong_log config.log (length got) (Commit e) ≡ None → set.contains (stream_at got e.stream).taken e.number ≡ false → nat_le e.time (stream_at got e.stream).closed ≡ true → Absorbs here here (Commit e) (Err Conflict)
-    entry_late m new late = entry_conflict m new (ap (λ b. conflicts_with_entry facts e || b) late ∙ either (conflicts_with_entry facts e))
-      where
-        either : (b : Bool) → (b || true) ≡ true
-        either true = refl
-        either false = refl
 
     module _ (m : wrong_log config.log (length got) (Commit e) ≡ None) (new : set.contains (stream_at got e.stream).taken e.number ≡ false) (timely : nat_le e.time (stream_at got e.stream).closed ≡ false) where
       agreed : conflicts_with_entry facts e ≡ false → take_result here (Commit e) ≡ Ok (Taken, with_items here (Commit e ∷ []))

@@ -1,5 +1,6 @@
 -- What calls on a state leave and answer.
 use Rattle.std.specs.Prelude.{◌≡◌, ◌⊎◌, ◌∷◌, ◌≤◌, ℕ, max, List, Result, Ok, Err, IfOk, IfErr}
+use Rattle.hk_types.specs.OrMemory.{ChangesOrMemory}
 use Rattle.hk_types.specs.Values.{ConfigValue}
 use Rattle.hk_types.specs.declared.faults.Refusal.{Refusal}
 use Rattle.hk_types.specs.declared.faults.Refusal.TheVariants.{Memory}
@@ -19,8 +20,7 @@ Absorbs old new item (Err why) = (new ≡ old) × ((take_result old item ≡ Err
 
 -- a prune left what pruning gives, or it changed nothing: it was refused so, or memory ran out
 abbrev pub Prunes : Content → Content → ℕ → Result (Unit {0}) Refusal → Type 0
-Prunes old new h (Ok done) = prune_result old h ≡ Ok new
-Prunes old new h (Err why) = (new ≡ old) × ((prune_result old h ≡ Err why) ⊎ ((why ≡ Memory) × ((c : Content) × (prune_result old h ≡ Ok c))))
+Prunes old new h result = ChangesOrMemory old new (prune_result old h) result
 
 -- where the old state represents items of a history and the item is another, the new state represents them
 -- all, unless memory ran out

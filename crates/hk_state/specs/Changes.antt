@@ -3,12 +3,17 @@ use Rattle.std.specs.Prelude.{List}
 use Rattle.hk_model.specs.Replica.Content.{Content}
 use Rattle.hk_model.specs.Replica.Streams.{StreamContent, all_together}
 use Rattle.hk_store.specs.Changes.{facts_after_replace}
+use Rattle.hk_store.specs.Facts.{FactsValue}
 use Rattle.hk_store.specs.Reads.{facts_of_content}
 use Rattle.hk_state.specs.declared.apply.Change.{Change}
+
+-- the facts after a change
+abbrev pub facts_after_change : FactsValue → Change → FactsValue
+facts_after_change f change = facts_after_replace f change.drops.items change.rows.items change.ends.items
 
 -- the content after a change: the drops go first, then the rows and ends come, the horizon is replaced, and the
 -- streams that are given are joined
 abbrev pub content_after_change : Content → Change → List StreamContent → Content
 content_after_change c change given =
-    let f = facts_after_replace (facts_of_content c) change.drops.items change.rows.items change.ends.items in
+    let f = facts_after_change (facts_of_content c) change in
     record { log = c.log; horizon = change.horizon; rows = f.rows; ends = f.ends; streams = all_together c.streams given }

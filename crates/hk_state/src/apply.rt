@@ -4,8 +4,8 @@ ghost use Rattle.std.specs.Prelude.{◌≡◌, length, OnOk, OnErr, IfErr};
 ghost use Rattle.hk_types.specs.declared.faults.Refusal.TheVariants.{Memory};
 ghost use Rattle.hk_model.specs.Replica.Lawful.{IsLawful};
 ghost use Rattle.hk_model.specs.Replica.Streams.{all_together};
-ghost use Rattle.hk_state.specs.Changes.{content_after_change};
-ghost use Rattle.hk_store.specs.Changes.{with_listed, facts_after_replace};
+ghost use Rattle.hk_state.specs.Changes.{content_after_change, facts_after_change};
+ghost use Rattle.hk_store.specs.Changes.{with_listed};
 ghost use Rattle.hk_store.specs.Journal.{without_journal};
 
 use crate::replica::ReplicaState;
@@ -82,7 +82,7 @@ fn grow_on_a_copy(
     given: &Got,
 ) -> Result<(), Refusal>
     requires { length got.old ≡ length given.now }
-    ensures facts { OnOk result (facts.new ≡ facts_after_replace facts.old change.drops.items change.rows.items change.ends.items) }
+    ensures facts { OnOk result (facts.new ≡ facts_after_change facts.old change) }
     ensures got { OnOk result (got.new ≡ all_together got.old given.now) }
     ensures err { IfErr result (λ why. why ≡ Memory) }
     ensures same_facts { OnErr result (facts.new ≡ facts.old) }
@@ -109,7 +109,7 @@ fn take_change(
     given: &Got,
 ) -> Result<(), Refusal>
     requires { length got.old ≡ length given.now }
-    ensures facts { OnOk result (facts.new ≡ facts_after_replace facts.old change.drops.items change.rows.items change.ends.items) }
+    ensures facts { OnOk result (facts.new ≡ facts_after_change facts.old change) }
     ensures got { OnOk result (got.new ≡ all_together got.old given.now) }
     ensures err { IfErr result (λ why. why ≡ Memory) }
     ensures same_facts { OnErr result (facts.new ≡ facts.old) }

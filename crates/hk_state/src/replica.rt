@@ -1,14 +1,14 @@
 //! The state of a replica.
 
-ghost use Rattle.std.specs.Prelude.{◌≡◌, ℕ, ◌<◌, ◌≤◌, length, IfOk, IfErr, IfSome, IfNone, Some, None, nat_le, if◌then◌else◌, MatchOption};
+ghost use Rattle.std.specs.Prelude.{◌≡◌, ℕ, ◌<◌, ◌≤◌, length, IfOk, IfErr, IfSome, IfNone, MatchOption};
 ghost use Rattle.std.specs.Option.{option_copied};
 ghost use Rattle.std.specs.FinMap as finmap;
 ghost use Rattle.hk_types.specs.declared.faults.Refusal.TheVariants.{Memory};
 ghost use Rattle.hk_model.specs.History.Rows.{RowKey};
 ghost use Rattle.hk_model.specs.Replica.Content.{readable};
 ghost use Rattle.hk_model.specs.Replica.Lawful.{IsLawful};
-ghost use Rattle.hk_model.specs.Replica.Streams.{stream_at};
 ghost use Rattle.hk_model.specs.Replica.Replicas.{empty_content};
+ghost use Rattle.hk_state.specs.Replica.{closed_at};
 
 use hk_marks::Got;
 use hk_store::Facts;
@@ -85,8 +85,7 @@ impl ReplicaState {
     /// The time up to which a stream is closed, or `None` where the log has no such stream. It takes no
     /// memory.
     pub fn closed(&self, stream: StreamNo) -> Option<Time>
-        ensures { result ≡ (if nat_le stream (length self.now.streams)
-            then Some (stream_at self.now.streams stream).closed else None) }
+        ensures { result ≡ closed_at self.now.streams stream }
     {
         if stream.number() > self.config.streams() {
             return None;
