@@ -1,11 +1,10 @@
 //! Answers on facts, at a time.
 
 ghost use Rattle.std.specs.Prelude.{◌≡◌, ℕ, None, IfOk, IfErr, IsOk};
-ghost use Rattle.std.specs.FinMap as finmap;
 ghost use Rattle.hk_types.specs.declared.faults.Refusal.TheVariants.{Memory};
 ghost use Rattle.hk_model.specs.declared.query.Query.TheVariants.{Range, ByTag, Count};
-ghost use Rattle.hk_model.specs.Replica.Answers.{One, Rows, answer, answer_seen, visible};
-ghost use Rattle.hk_store.specs.Reads.{with_facts};
+ghost use Rattle.hk_model.specs.Replica.Answers.{One, Rows, answer_seen};
+ghost use Rattle.hk_query.specs.Rows.{answer_of, row_of};
 
 use crate::rows::shown_rows;
 use hk_model::{Answer, Query};
@@ -21,8 +20,8 @@ fn get(
     table: Table,
     key: Key,
 ) -> Result<Option<Row>, AllocError>
-    ensures ok { IfOk result (λ row. row ≡ finmap.get (visible (with_facts facts.now) time) (record { table = table; key = key })) }
-    ensures absent { finmap.get (visible (with_facts facts.now) time) (record { table = table; key = key }) ≡ None → IsOk result }
+    ensures ok { IfOk result (λ row. row ≡ row_of facts.now time table key) }
+    ensures absent { row_of facts.now time table key ≡ None → IsOk result }
 {
     match facts.shown_at(table, key, time) {
         Some(row) => Ok(Some(row.copy(alloc)?)),
@@ -39,7 +38,7 @@ fn range(
     low: Key,
     high: Key,
 ) -> Result<Vec<(Key, Row)>, Refusal>
-    ensures ok { IfOk result (λ rows. answer (visible (with_facts facts.now) time) (Range table low high) ≡ Rows rows.items) }
+    ensures ok { IfOk result (λ rows. answer_of facts.now time (Range table low high) ≡ Rows rows.items) }
     ensures err { IfErr result (λ why. why ≡ Memory) }
 {
     facts.rows_between(alloc, table, low, high, time)
@@ -53,7 +52,7 @@ fn by_tag(
     table: Table,
     tag: Tag,
 ) -> Result<Vec<(Key, Row)>, Refusal>
-    ensures ok { IfOk result (λ rows. answer (visible (with_facts facts.now) time) (ByTag table tag) ≡ Rows rows.items) }
+    ensures ok { IfOk result (λ rows. answer_of facts.now time (ByTag table tag) ≡ Rows rows.items) }
     ensures err { IfErr result (λ why. why ≡ Memory) }
 {
     let versions = facts.tags().list(alloc, table, tag)?;
@@ -67,10 +66,10 @@ fn by_tag(
 /// O(log n + k · log n + b), `ByTag` O(log n + v · log n + b), `Count` O(log n + k · log n), n facts, k keys of the
 /// range or of the table, v versions with the tag, b bytes of the bodies that are copied.
 pub fn answer_at(alloc: Global, facts: &Facts, time: Time, query: &Query) -> Result<Answer, Refusal>
-    ensures ok { IfOk result (λ a. answer_seen a ≡ answer (visible (with_facts facts.now) time) query.now) }
+    ensures ok { IfOk result (λ a. answer_seen a ≡ answer_of facts.now time query.now) }
     ensures err { IfErr result (λ why. why ≡ Memory) }
     ensures count { (table : ℕ) → query.now ≡ Count table → IsOk result }
-    ensures absent { answer (visible (with_facts facts.now) time) query.now ≡ One None → IsOk result }
+    ensures absent { answer_of facts.now time query.now ≡ One None → IsOk result }
 {
     match query {
         Query::Get { table, key } => Ok(Answer::One(get(alloc, facts, time, *table, *key)?)),
