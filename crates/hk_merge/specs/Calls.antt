@@ -1,5 +1,6 @@
 -- What joins and merges leave and answer.
 use Rattle.std.specs.Prelude.{◌≡◌, ◌⊎◌, ◌==◌, ◌++◌, ℕ, max, not, if◌then◌else◌, length, List, Option, Some, None, Result, Ok, Err, IfOk, IfErr}
+use Rattle.hk_types.specs.OrMemory.{ChangesOrMemory}
 use Rattle.hk_types.specs.Values.{ConfigValue}
 use Rattle.hk_types.specs.declared.faults.Refusal.{Refusal}
 use Rattle.hk_types.specs.declared.faults.Refusal.TheVariants.{ForeignLog, Memory, WrongStreams}
@@ -13,8 +14,7 @@ use Rattle.hk_model.specs.Replica.Rules.{join_result}
 -- a join left what joining gives, or it changed nothing: it was refused so, or memory ran out where joining
 -- gives a content
 abbrev pub Joins : Content → Content → FragmentValue → Result (Unit {0}) Refusal → Type 0
-Joins old new f (Ok done) = join_result old f ≡ Ok new
-Joins old new f (Err why) = (new ≡ old) × ((join_result old f ≡ Err why) ⊎ ((why ≡ Memory) × ((c : Content) × (join_result old f ≡ Ok c))))
+Joins old new f result = ChangesOrMemory old new (join_result old f) result
 
 -- a merge is the join of the whole
 abbrev pub Merges : Content → Content → Content → Result (Unit {0}) Refusal → Type 0

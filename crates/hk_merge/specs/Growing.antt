@@ -15,7 +15,7 @@ use Rattle.hk_store.specs.Drops.{is_among}
 use Rattle.hk_store.specs.Facts.{FactsValue, entry_if}
 use Rattle.hk_merge.specs.declared.plan.Coming.{Coming}
 use Rattle.hk_merge.specs.declared.plan.Leaving.{Leaving}
-use Rattle.hk_merge.specs.Plans.{stays, goes, row_back, end_back, all_gone, rows_back, ends_back, row_comes, end_comes}
+use Rattle.hk_merge.specs.Plans.{stays, goes, row_back, end_back, all_gone, rows_back, ends_back, row_comes, end_comes, row_coming, end_coming}
 use Rattle.hk_merge.specs.Sent.{sends_row}
 
 -- ---- by the lists: the new change has what the old one has, and then these
@@ -77,6 +77,13 @@ row_of_coming own coming v sent = entry_if v (row_comes own coming.old coming.ho
 
 abbrev pub end_of_coming : FactsValue → Coming → VersionKey → VersionValue → List (VersionKey × ℕ)
 end_of_coming own coming v sent = entry_if v (end_comes own coming.old coming.horizon v sent)
+
+-- the same of a content that is sent, at a version
+abbrev pub row_from : FactsValue → Coming → Content → VersionKey → Option RowValue
+row_from own coming sent = row_coming own coming.old coming.horizon sent
+
+abbrev pub end_from : FactsValue → Coming → Content → VersionKey → Option ℕ
+end_from own coming sent = end_coming own coming.old coming.horizon sent
 
 -- whether a fragment is a whole, and of this horizon
 abbrev pub has_horizon : FragmentValue → ℕ → Bool

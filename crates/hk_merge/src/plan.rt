@@ -11,8 +11,9 @@ ghost use Rattle.hk_store.specs.Versions.{borrowed};
 ghost use Rattle.hk_merge.specs.Growing.{AddsEnds, AddsRows, GainsDrops, GainsEnds, GainsRows};
 ghost use Rattle.hk_merge.specs.Growing.{drop_of, drops_of, end_back_of, end_of_coming, ends_back_of, goes_of};
 ghost use Rattle.hk_merge.specs.Growing.{row_back_of, row_of_coming, rows_back_of, stays_of};
-ghost use Rattle.hk_merge.specs.Plans.{end_coming, may_go, row_coming};
-ghost use Rattle.hk_merge.specs.Sent.{fragment_sent};
+ghost use Rattle.hk_merge.specs.Growing.{end_from, row_from};
+ghost use Rattle.hk_merge.specs.Plans.{may_go};
+ghost use Rattle.hk_merge.specs.Sent.{content_sent};
 
 use crate::sent::{Sent, has_row};
 use hk_facts::ended_by;
@@ -182,8 +183,8 @@ fn take_part(
     own: &Facts,
     fragment: &Fragment,
 ) -> Result<(), AllocError>
-    ensures rows { OnOk result (AddsRows change.old change.new (row_coming own.now coming.now.old coming.now.horizon fragment.now.content)) }
-    ensures ends { OnOk result (AddsEnds change.old change.new (end_coming own.now coming.now.old coming.now.horizon fragment.now.content)) }
+    ensures rows { OnOk result (AddsRows change.old change.new (row_from own.now coming.now fragment.now.content)) }
+    ensures ends { OnOk result (AddsEnds change.old change.new (end_from own.now coming.now fragment.now.content)) }
     ensures drops { change.new.drops.items ≡ change.old.drops.items }
     ensures horizon { change.new.horizon ≡ change.old.horizon }
 {
@@ -202,8 +203,8 @@ fn take_whole(
     own: &Facts,
     state: &ReplicaState,
 ) -> Result<(), AllocError>
-    ensures rows { OnOk result (AddsRows change.old change.new (row_coming own.now coming.now.old coming.now.horizon state.now)) }
-    ensures ends { OnOk result (AddsEnds change.old change.new (end_coming own.now coming.now.old coming.now.horizon state.now)) }
+    ensures rows { OnOk result (AddsRows change.old change.new (row_from own.now coming.now state.now)) }
+    ensures ends { OnOk result (AddsEnds change.old change.new (end_from own.now coming.now state.now)) }
     ensures drops { change.new.drops.items ≡ change.old.drops.items }
     ensures horizon { change.new.horizon ≡ change.old.horizon }
 {
@@ -221,8 +222,8 @@ pub(crate) fn take(
     own: &Facts,
     sent: &Sent,
 ) -> Result<(), AllocError>
-    ensures rows { OnOk result (AddsRows change.old change.new (row_coming own.now coming.now.old coming.now.horizon (fragment_sent sent.now).content)) }
-    ensures ends { OnOk result (AddsEnds change.old change.new (end_coming own.now coming.now.old coming.now.horizon (fragment_sent sent.now).content)) }
+    ensures rows { OnOk result (AddsRows change.old change.new (row_from own.now coming.now (content_sent sent.now))) }
+    ensures ends { OnOk result (AddsEnds change.old change.new (end_from own.now coming.now (content_sent sent.now))) }
     ensures drops { change.new.drops.items ≡ change.old.drops.items }
     ensures horizon { change.new.horizon ≡ change.old.horizon }
 {
