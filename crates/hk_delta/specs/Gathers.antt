@@ -2,6 +2,7 @@
 use Rattle.std.specs.Prelude.{◌≡◌, ◌⊎◌, ℕ, Bool, not, ◌&&◌, ◌||◌, ◌==◌, List, [], ◌∷◌, ◌++◌, Result, Ok, Err, IfOk, IfErr}
 use Rattle.std.specs.List.{flat_map, list_any}
 use Rattle.std.specs.Ordering.{eq_by_cmp}
+use Rattle.hk_types.specs.OrMemory.{GivesOrMemory}
 use Rattle.hk_types.specs.Values.{ConfigValue, RowValue, same_row}
 use Rattle.hk_types.specs.declared.version_key.VersionKey.{VersionKey}
 use Rattle.hk_types.specs.declared.faults.Refusal.{Refusal}
@@ -81,8 +82,7 @@ Puts old new facts (Err why) = (all_put (Ok old) facts ≡ Err why) ⊎ (why ≡
 
 -- what gathering gives, or it was refused so, or memory ran out where there is a fragment
 abbrev pub Gathers : ConfigValue → List Item → Result FragmentValue Refusal → Type 0
-Gathers config items (Ok f) = gather_result config items ≡ Ok f
-Gathers config items (Err why) = (gather_result config items ≡ Err why) ⊎ ((why ≡ Memory) × ((f : FragmentValue) × (gather_result config items ≡ Ok f)))
+Gathers config items result = GivesOrMemory (gather_result config items) result
 
 -- items of a history are gathered to the part of base and horizon 0, unless memory ran out
 abbrev pub GathersOf : ConfigValue → List Item → Result FragmentValue Refusal → Type 0
