@@ -1,11 +1,11 @@
 -- What a change does to the published list and to what waits.
-use Rattle.std.specs.Prelude.{◌≡◌, ◌≢◌, ℕ, ◌+◌, ◌<◌, ◌⊎◌, true, false, List, [], ◌∷◌, ◌++◌, length, Option, Some, None, Result, Ok, Err}
+use Rattle.std.specs.Prelude.{◌≡◌, ◌≢◌, ℕ, ◌+◌, ◌<◌, ◌⊎◌, true, false, List, [], ◌∷◌, ◌++◌, length, Option, Some, None, Result, Ok, Err, MatchResult}
 use Rattle.hk_types.specs.Values.{ConfigValue}
 use Rattle.hk_types.specs.declared.faults.Refusal.{Refusal}
 use Rattle.hk_types.specs.declared.faults.Refusal.TheVariants.{Conflict, Unpublished, Memory}
 use Rattle.hk_node.specs.declared.op.Op.{Op}
 use Rattle.hk_node.specs.declared.op.Hold.{Hold}
-use Rattle.hk_node.specs.declared.op.Op.TheVariants.{Hold as HoldAt}
+use Rattle.hk_node.specs.declared.op.Op.TheVariants.{Hold as HoldAt, Prune as PruneTo, Release}
 use Rattle.hk_node.specs.Lists.{hold_times, last_of}
 use Rattle.hk_node.specs.Replay.{replay, refusal_of, is_legal, IsListOf}
 
@@ -74,3 +74,27 @@ IsRefusedHold config time hold why = (old : Lists) × (new : Lists) × IsListOf 
 abbrev pub IsHandedBack : Hold → Option Hold → Refusal → Type 0
 IsHandedBack hold (Some back) why = (back ≡ hold) × ((n : ℕ) → why ≢ Unpublished n)
 IsHandedBack hold None why = (n : ℕ) × (why ≡ Unpublished n)
+
+-- a prune to this time, which gives the horizon with the receipt
+abbrev pub Prunes : Lists → ℕ → Result (ℕ × List Op) Refusal → Lists → Type 0
+Prunes old time result new = MatchResult result (λ t. Changes old (PruneTo time) (Ok t.1) new) (λ why. Changes old (PruneTo time) (Err why) new)
+
+-- a hold at this time, which gives the hold with the receipt, or with the refusal
+abbrev pub HoldsAt : Lists → ℕ → Result (Hold × List Op) (Option Hold × Refusal) → Lists → Type 0
+HoldsAt old time result new = MatchResult result (λ t. Changes old (HoldAt time) (Ok t.1) new) (λ e. Changes old (HoldAt time) (Err e.1) new)
+
+-- a release of this hold, which may give it back with the refusal
+abbrev pub ReleasesHold : Lists → Hold → Result (List Op) (Option Hold × Refusal) → Lists → Type 0
+ReleasesHold old hold result new =
+    MatchResult result (λ list. Changes old (Release hold.reader hold.at) (Ok list) new) (λ e. Changes old (Release hold.reader hold.at) (Err e.1) new)
+
+-- the same at some legal list of this log
+abbrev pub PrunesSome : ConfigValue → ℕ → Result (ℕ × List Op) Refusal → Type 0
+PrunesSome config time result = MatchResult result (λ t. ChangesSome config (PruneTo time) (Ok t.1)) (λ why. ChangesSome config (PruneTo time) (Err why))
+
+abbrev pub HoldsSome : ConfigValue → ℕ → Result (Hold × List Op) (Option Hold × Refusal) → Type 0
+HoldsSome config time result = MatchResult result (λ t. ChangesSome config (HoldAt time) (Ok t.1)) (λ e. IsRefusedHold config time e.0 e.1)
+
+abbrev pub ReleasesSome : ConfigValue → Hold → Result (List Op) (Option Hold × Refusal) → Type 0
+ReleasesSome config hold result =
+    MatchResult result (λ list. ChangesSome config (Release hold.reader hold.at) (Ok list)) (λ e. ChangesSome config (Release hold.reader hold.at) (Err e.1))

@@ -21,14 +21,19 @@ damage_refusal c = if c.damaged then Some Damaged else None
 abbrev pub conflict_refusal : Content → FragmentValue → Option Refusal
 conflict_refusal c f = if contents_conflict c f.content then Some Conflict else None
 
--- why a fragment is not joined, where a conflict is a refusal too: after the hold, before the room for one operation more
+-- why a fragment is not joined that fits the node, where a conflict is a refusal too: a hold, a conflict, or no room for one
+-- operation more
+abbrev pub fitting_refusal : NodeContent → FragmentValue → Option Refusal
+fitting_refusal c f = or_else (held_refusal c f.content.horizon) (or_else (conflict_refusal c.content f) (full_refusal c))
+
+-- why a fragment is not joined, where a conflict is a refusal too
 abbrev pub agreed_refusal : NodeContent → FragmentValue → Option Refusal
 agreed_refusal c f =
     if c.damaged then Some Damaged
     else if not (f.content.log == c.content.log) then Some ForeignLog
     else if not (length f.content.streams == length c.content.streams) then Some WrongStreams
     else if nat_lt (readable c.content) f.base then Some (Gap f.base (readable c.content))
-    else or_else (held_refusal c f.content.horizon) (or_else (conflict_refusal c.content f) (full_refusal c))
+    else fitting_refusal c f
 
 abbrev pub refusal_in : Result Content Refusal → Option Refusal
 refusal_in (Ok c) = None

@@ -1,8 +1,11 @@
 -- The rule of the published copy, and what lies under the writer's lock.
-use Rattle.std.specs.Prelude.{◌≡◌, ℕ, ◌<◌, ◌≤◌, true, List, [], ◌∷◌, ◌++◌, length, map, fold, Option, Some, None}
+use Rattle.std.specs.Prelude.{◌≡◌, ℕ, ◌<◌, ◌≤◌, true, List, [], ◌∷◌, ◌++◌, length, map, drop, fold, Option, Some, None, Result, MatchResult}
 use mathlib.Core.Option.{some}
 use mathlib.Core.List.{IsPrefix}
 use lib.ListN.{get_elem?}
+use Rattle.left_right.specs.Sides.{view as known}
+use Rattle.left_right.specs.declared.Absorb.{Ghosts}
+use Rattle.left_right.specs.declared.writer.Writer.{Writer}
 use Rattle.logbook.specs.Pages.{Book}
 use Rattle.hk_types.specs.Values.{ConfigValue}
 use Rattle.hk_node.specs.declared.op.Op.{Op}
@@ -45,6 +48,37 @@ queue pending (Some o) = pending ++ o ∷ []
 
 abbrev pub ops_of : List Logged → List Op
 ops_of waiting = map (λ o. o.op) waiting
+
+module _ {T O V P A S : Type 0} {g : Ghosts T O S} where
+  -- the copy that readers take
+  abbrev pub shown : Writer T O V P A S g → T
+  shown w = w.desk.shown.value
+
+  -- the operations that it lacks
+  abbrev pub pending : Writer T O V P A S g → List O
+  pending w = drop w.behind w.log.items
+
+  -- what is shown, what waits and what the writer knows are as before
+  abbrev pub KeepsShown : Writer T O V P A S g → Writer T O V P A S g → Type 0
+  KeepsShown old new = (new.desk.shown ≡ old.desk.shown) × (new.log ≡ old.log) × (new.behind ≡ old.behind) × (known new.desk.place ≡ known old.desk.place)
+
+module _ {V P A S : Type 0} {g : Ghosts Replica Logged S} where
+  -- what waits with the writer or beside it
+  abbrev pub waiting : Writer Replica Logged V P A S g → Option Logged → List Logged
+  waiting w late = queue (pending w) late
+
+  -- all that waited is shown, and nothing waits; or what is shown and what waits are as before
+  abbrev pub ShowsAll : {E : Type 0} → Writer Replica Logged V P A S g → Writer Replica Logged V P A S g → Result (Unit {0}) E → Type 0
+  ShowsAll old new result =
+      MatchResult result (λ _. (shown new ≡ fold next (shown old) (pending old)) × (pending new ≡ [])) (λ _. (shown new ≡ shown old) × (pending new ≡ pending old))
+
+-- the copy that is shown is the one before with all that waited, or the one before
+abbrev pub IsShown : {E : Type 0} → Replica → List Logged → Replica → Result (Unit {0}) E → Type 0
+IsShown old queued new result = MatchResult result (λ _. new ≡ fold next old queued) (λ _. new ≡ old)
+
+-- nothing waits, or what waited
+abbrev pub IsEmptied : {E : Type 0} → List Logged → List Logged → Result (Unit {0}) E → Type 0
+IsEmptied old new result = MatchResult result (λ _. new ≡ []) (λ _. new ≡ old)
 
 -- the copy with what waits may be published next
 pub record IsReady (shown : Replica) (waiting : List Logged) : Type 0 where

@@ -3,12 +3,11 @@
 ghost use Rattle.std.specs.Prelude.{◌≡◌, ◌<◌, ◌≤◌, ◌^◌, None, IfOk, IfErr, MatchResult};
 ghost use Rattle.hk_types.specs.declared.faults.Refusal.TheVariants.{Memory};
 ghost use Rattle.hk_model.specs.Replica.Maps.{or_else};
-ghost use Rattle.hk_model.specs.Replica.Rules.{join_result};
-ghost use Rattle.hk_node.specs.declared.op.Op.TheVariants.{Prune as PruneTo, Hold as HoldAt, Release};
+ghost use Rattle.hk_node.specs.declared.op.Op.TheVariants.{Join as JoinOf, Prune as PruneTo, Hold as HoldAt, Release};
 ghost use Rattle.hk_node.specs.Replay as spec;
 ghost use Rattle.std.specs.List.{list_any};
 ghost use Rattle.hk_node.specs.Replay.{is_hold, content_after_op, start_content, effect, full_refusal, held_refusal, join_refusal, refusal_of};
-ghost use Rattle.hk_node.specs.Guarded.{AgreesWith, agreed_refusal, conflict_refusal};
+ghost use Rattle.hk_node.specs.Guarded.{AgreesWith, agreed_refusal, conflict_refusal, fitting_refusal};
 ghost use Rattle.hk_node.specs.Replies.{Answers, GivesOrMemory, node_delta, node_front, node_reply, node_whole};
 
 use crate::op::{Hold, Op};
@@ -181,8 +180,7 @@ impl Body {
     }
 
     fn held_conflict_or_full(&self, fragment: &Fragment) -> Option<Refusal>
-        ensures { result ≡ or_else (held_refusal self.now fragment.now.content.horizon)
-            (or_else (conflict_refusal self.now.content fragment.now) (full_refusal self.now)) }
+        ensures { result ≡ fitting_refusal self.now fragment.now }
     {
         if let Some(why) = self.held_refusal(fragment.horizon()) {
             return Some(why);
@@ -276,7 +274,7 @@ impl Body {
 
     fn join(&mut self, fragment: &Fragment) -> Result<(), AllocError>
         requires { self.old.op_count < 2 ^ 62 }
-        ensures { MatchResult result (λ _. self.new ≡ spec.after_join self.old (join_result self.old.content fragment.now)) (λ _. self.new ≡ self.old) }
+        ensures { MatchResult result (λ _. self.new ≡ effect self.old (JoinOf fragment.now)) (λ _. self.new ≡ self.old) }
     {
         match join(&mut self.state, fragment) {
             Ok(()) => {}

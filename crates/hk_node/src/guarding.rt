@@ -9,7 +9,7 @@ ghost use Rattle.hk_node.specs.Replay.{is_legal, IsListOf};
 ghost use Rattle.hk_node.specs.Taken.{TakeLaw};
 
 use crate::book::NodeName;
-use crate::laws::change;
+use crate::change::change;
 use crate::op::Op;
 use crate::publisher::{Publisher, Receipt};
 use hk_delta::Fragment;

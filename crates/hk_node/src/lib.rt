@@ -3,6 +3,7 @@
 
 mod body;
 mod book;
+pub mod change;
 pub mod guarding;
 pub mod laws;
 mod node;

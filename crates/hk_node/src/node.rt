@@ -1,8 +1,8 @@
 //! The node: one writer under a lock, and readers that take none.
 
-ghost use Rattle.std.specs.Prelude.{◌≡◌, ◌∷◌, [], ◌<◌, ◌≤◌, List, All, Some, true, length, Ok, Err, IfOk, IfErr, MatchResult, vec_len};
+ghost use Rattle.std.specs.Prelude.{◌≡◌, ◌∷◌, [], ◌<◌, ◌≤◌, List, All, Some, true, length, IfOk, IfErr, vec_len};
 ghost use Rattle.hk_types.specs.declared.faults.Refusal.TheVariants.{Memory};
-ghost use Rattle.hk_node.specs.Changes.{ChangesSome, IsGiven, IsHandedBack, IsRefusedHold, PublishesSome};
+ghost use Rattle.hk_node.specs.Changes.{ChangesSome, HoldsSome, IsGiven, IsHandedBack, PrunesSome, PublishesSome, ReleasesSome};
 ghost use Rattle.hk_node.specs.Guarded.{JoinsAgreedSome, TakesSome};
 ghost use Rattle.hk_model.specs.Replica.Fragments.{cut};
 ghost use Rattle.hk_node.specs.declared.op.Op.TheVariants.{Start as StartOf, Join as JoinOf, Merge as MergeOf, Prune as PruneTo, Hold as HoldAt, Release};
@@ -10,8 +10,8 @@ ghost use Rattle.hk_node.specs.Lists.{last_of};
 ghost use Rattle.hk_node.specs.Replay.{is_legal, replay};
 
 use crate::book::{NewList, NodeName};
+use crate::change::{change, hold_at, merge_whole, prune_to, publish_waiting, release_hold};
 use crate::guarding::{join_agreed, take_agreed};
-use crate::laws::{change, hold_at, merge_whole, prune_to, publish_waiting, release_hold};
 use crate::op::{Hold, Op};
 use crate::publisher::{Publisher, Receipt, copies_of};
 use crate::seat::{ReaderSeat, seats_of};
@@ -135,8 +135,7 @@ impl<J: NodeName, R: Wait + Drop> Node<J, R> {
     /// front of a seat that learnt it has the horizon. Cost: that of pruning a state, and O(h), h holds that stand.
     pub fn prune<W: Wait>(&self, rt: &W, time: Time) -> Result<(Time, Receipt<J>), Refusal>
         ensures legal { IfOk result (λ t. is_legal t.1 ≡ true) }
-        ensures change { MatchResult result (λ t. ChangesSome J.config (PruneTo time) (Ok t.1))
-            (λ why. ChangesSome J.config (PruneTo time) (Err why)) }
+        ensures change { PrunesSome J.config time result }
         ensures last { IfOk result (λ t. last_of t.1 ≡ Some (PruneTo time)) }
         ensures horizon { IfOk result (λ t. t.0 ≡ (replay t.1).content.horizon) }
     {
@@ -155,8 +154,7 @@ impl<J: NodeName, R: Wait + Drop> Node<J, R> {
         time: Time,
     ) -> Result<(Hold, Receipt<J>), (Option<Hold>, Refusal)>
         ensures legal { IfOk result (λ t. is_legal t.1 ≡ true) }
-        ensures change { MatchResult result (λ t. ChangesSome J.config (HoldAt time) (Ok t.1))
-            (λ e. IsRefusedHold J.config time e.0 e.1) }
+        ensures change { HoldsSome J.config time result }
         ensures last { IfOk result (λ t. last_of t.1 ≡ Some (HoldAt time)) }
         ensures hold { IfOk result (λ t. IsGiven t.0 time t.1) }
     {
@@ -174,9 +172,7 @@ impl<J: NodeName, R: Wait + Drop> Node<J, R> {
         hold: Hold,
     ) -> Result<Receipt<J>, (Option<Hold>, Refusal)>
         ensures legal { IfOk result (λ list. is_legal list ≡ true) }
-        ensures change { MatchResult result
-            (λ list. ChangesSome J.config (Release hold.reader hold.at) (Ok list))
-            (λ e. ChangesSome J.config (Release hold.reader hold.at) (Err e.1)) }
+        ensures change { ReleasesSome J.config hold result }
         ensures last { IfOk result (λ list. last_of list ≡ Some (Release hold.reader hold.at)) }
         ensures back { IfErr result (λ e. IsHandedBack hold e.0 e.1) }
     {

@@ -1,12 +1,12 @@
 //! What lies under the writer's lock: the copies, and the operation that waits.
 
-ghost use Rattle.std.specs.Prelude.{◌≡◌, ◌++◌, ◌∷◌, [], drop, fold, length, None, true, MatchResult, IfOk, IfErr, IfSome, IsTrue, OnErr, ◌<◌, ◌≤◌, ◌^◌};
+ghost use Rattle.std.specs.Prelude.{◌≡◌, ◌++◌, ◌∷◌, [], fold, length, None, true, MatchResult, IfOk, IfErr, IfSome, IsTrue, OnErr, ◌<◌, ◌≤◌, ◌^◌};
 ghost use Rattle.left_right.specs.Sides.{view as known};
 ghost use Rattle.hk_node.specs.declared.op.Op.TheVariants.{Start as StartOf};
 ghost use Rattle.hk_types.specs.declared.faults.Refusal.TheVariants.{Memory};
 ghost use Rattle.hk_node.specs.Replay.{config_of, start_content, is_legal, join_refusal, refusal_of, replay, IsListOf};
 ghost use Rattle.hk_node.specs.Guarded.{AgreesWith, agreed_refusal};
-ghost use Rattle.hk_node.specs.Published.{IsReady, IsReplay, next, queue};
+ghost use Rattle.hk_node.specs.Published.{IsEmptied, IsReady, IsReplay, IsShown, ShowsAll, next, pending, shown, waiting};
 
 use crate::book::{Counter, NodeName, Prefix};
 use crate::op::Op;
@@ -50,9 +50,9 @@ pub type NodeReading = Reading<Replica, Prefix, Published>;
 
 /// Shows readers what waits in the writer's log.
 fn show<R: Wait>(writer: NodeWriter, rt: &R) -> (NodeWriter, Result<(), AllocError>)
-    requires { IsReady writer.desk.shown.value (drop writer.behind writer.log.items) }
-    ensures view { IfOk result.1 (λ _. known result.0.desk.place ≡ result.0.desk.shown.value.prefix) }
-    ensures values { MatchResult result.1 (λ _. (result.0.desk.shown.value ≡ fold next writer.desk.shown.value (drop writer.behind writer.log.items)) × (drop result.0.behind result.0.log.items ≡ [])) (λ _. (result.0.desk.shown.value ≡ writer.desk.shown.value) × (drop result.0.behind result.0.log.items ≡ drop writer.behind writer.log.items)) }
+    requires { IsReady (shown writer) (pending writer) }
+    ensures view { IfOk result.1 (λ _. known result.0.desk.place ≡ (shown result.0).prefix) }
+    ensures values { ShowsAll writer result.0 result.1 }
 {
     writer.publish_as::<Observes, R>(rt)
 }
@@ -63,10 +63,10 @@ fn publish_all<R: Wait>(
     late: &mut Option<Logged>,
     rt: &R,
 ) -> Result<(), AllocError>
-    requires { IsReady writer.old.desk.shown.value (queue (drop writer.old.behind writer.old.log.items) late.old) }
-    ensures shown { MatchResult result (λ _. writer.new.desk.shown.value ≡ fold next writer.old.desk.shown.value (queue (drop writer.old.behind writer.old.log.items) late.old)) (λ _. writer.new.desk.shown.value ≡ writer.old.desk.shown.value) }
-    ensures waits { OnErr result (0 < length (queue (drop writer.old.behind writer.old.log.items) late.old)) }
-    ensures queue { MatchResult result (λ _. queue (drop writer.new.behind writer.new.log.items) late.new ≡ []) (λ _. queue (drop writer.new.behind writer.new.log.items) late.new ≡ queue (drop writer.old.behind writer.old.log.items) late.old) }
+    requires { IsReady (shown writer.old) (waiting writer.old late.old) }
+    ensures shown { IsShown (shown writer.old) (waiting writer.old late.old) (shown writer.new) result }
+    ensures waits { OnErr result (0 < length (waiting writer.old late.old)) }
+    ensures queue { IsEmptied (waiting writer.old late.old) (waiting writer.new late.new) result }
 {
     if let Some(logged) = late.take() {
         if let Err(logged) = writer.append(logged) {
@@ -96,11 +96,11 @@ impl<R: Wait + Drop> Drop for Copies<R> {
 /// Makes the log's room, by an operation that changes nothing. No more than two are in it at a time, so later ones
 /// find it.
 fn make_room(writer: &mut NodeWriter, config: Config) -> bool
-    requires none { drop writer.old.behind writer.old.log.items ≡ [] }
-    requires replayed { IsReplay writer.old.desk.shown.value }
+    requires none { pending writer.old ≡ [] }
+    requires replayed { IsReplay (shown writer.old) }
     ensures desk { writer.new.desk ≡ writer.old.desk }
-    ensures ready { IsTrue result → IsReady writer.new.desk.shown.value (drop writer.new.behind writer.new.log.items) }
-    ensures same { IsTrue result → fold next writer.new.desk.shown.value (drop writer.new.behind writer.new.log.items) ≡ writer.old.desk.shown.value }
+    ensures ready { IsTrue result → IsReady (shown writer.new) (pending writer.new) }
+    ensures same { IsTrue result → fold next (shown writer.new) (pending writer.new) ≡ shown writer.old }
 {
     let prefix = writer.published().prefix.again();
     let blank = Logged {
@@ -120,8 +120,8 @@ pub(crate) fn copies_of<R: Wait + Drop>(
 ) -> Result<Copies<R>, Refusal>
     requires list { prefix.now.1 ≡ StartOf config ∷ [] }
     requires places { (0 < places) × (places ≤ 64) }
-    ensures shown { IfOk result (λ c. c.writer.desk.shown.value ≡ record { body = start_content config; prefix = prefix.now }) }
-    ensures none { IfOk result (λ c. drop c.writer.behind c.writer.log.items ≡ []) }
+    ensures shown { IfOk result (λ c. shown c.writer ≡ record { body = start_content config; prefix = prefix.now }) }
+    ensures none { IfOk result (λ c. pending c.writer ≡ []) }
     ensures view { IfOk result (λ c. known c.writer.desk.place ≡ prefix.now) }
     ensures err { IfErr result (λ why. why ≡ Memory) }
 {
@@ -191,7 +191,7 @@ pub struct Publisher<J: NodeName, R: Wait + Drop> {
 }
 
 impl<J: NodeName, R: Wait + Drop> Model for Publisher<J, R> {
-    ghost use Rattle.std.specs.Prelude.{List, drop};
+    ghost use Rattle.std.specs.Prelude.{List};
     ghost use Rattle.hk_node.specs.declared.op.Op.{Op};
     ghost use Rattle.std.specs.Coded.{coded×, coded_list};
     ghost use Rattle.hk_node.specs.contracts.op.Op as op;
@@ -200,21 +200,21 @@ impl<J: NodeName, R: Wait + Drop> Model for Publisher<J, R> {
 
     ghost coded = { coded× (coded_list op.the_row.coded) (coded_list op.the_row.coded) };
 
-    ghost use Rattle.hk_node.specs.Published.{queue, ops_of, IsPublisher};
+    ghost use Rattle.hk_node.specs.Published.{shown, waiting, ops_of, IsPublisher};
 
-    ghost view = { λ d. (d.copies.writer.desk.shown.value.prefix.1, ops_of (queue (drop d.copies.writer.behind d.copies.writer.log.items) d.late)) };
+    ghost view = { λ d. ((shown d.copies.writer).prefix.1, ops_of (waiting d.copies.writer d.late)) };
 
-    ghost invariant = { λ d. IsPublisher J.book J.config d.counter.word.book d.copies.writer.desk.shown.value (queue (drop d.copies.writer.behind d.copies.writer.log.items) d.late) };
+    ghost invariant = { λ d. IsPublisher J.book J.config d.counter.word.book (shown d.copies.writer) (waiting d.copies.writer d.late) };
 }
 
 impl<J: NodeName, R: Wait + Drop> Publisher<J, R> {
     /// What lies under the lock of a new node.
     pub(crate) fn new(copies: Copies<R>, counter: Counter, config: Config) -> Publisher<J, R>
         requires config { config ≡ J.config }
-        requires list { copies.writer.desk.shown.value.prefix.1 ≡ StartOf config ∷ [] }
-        requires body { copies.writer.desk.shown.value.body ≡ start_content config }
-        requires book { (copies.writer.desk.shown.value.prefix.0 ≡ J.book) × (counter.word.book ≡ J.book) }
-        requires none { drop copies.writer.behind copies.writer.log.items ≡ [] }
+        requires list { (shown copies.writer).prefix.1 ≡ StartOf config ∷ [] }
+        requires body { (shown copies.writer).body ≡ start_content config }
+        requires book { ((shown copies.writer).prefix.0 ≡ J.book) × (counter.word.book ≡ J.book) }
+        requires none { pending copies.writer ≡ [] }
         ensures { result ≡ (StartOf config ∷ [], []) }
     {
         Publisher {

@@ -6,7 +6,7 @@ ghost use mathlib.Core.List.{IsPrefix};
 ghost use Rattle.left_right.specs.Sides.{view as known};
 ghost use Rattle.hk_node.specs.Carried.{IsOfPrimary};
 ghost use Rattle.hk_node.specs.Holds.{HoldsBack};
-ghost use Rattle.hk_node.specs.Published.{IsOf, IsReplay};
+ghost use Rattle.hk_node.specs.Published.{IsOf, IsReplay, KeepsShown};
 ghost use Rattle.hk_node.specs.Replay.{config_of, is_legal, replay, IsListOf};
 ghost use Rattle.hk_node.specs.Replies.{Answers, GivesOrMemory, node_delta, node_front, node_reply, node_whole};
 
@@ -47,7 +47,7 @@ fn seat_of<J: NodeName>(
     requires node { IsOf J.book prefix.now }
     requires config { config_of prefix.now.1 ≡ J.config }
     ensures seat { IfOk result (λ seat. seat ≡ prefix.now.1) }
-    ensures kept { (writer.new.desk.shown ≡ writer.old.desk.shown) × (writer.new.log ≡ writer.old.log) × (writer.new.behind ≡ writer.old.behind) × (known writer.new.desk.place ≡ known writer.old.desk.place) }
+    ensures kept { KeepsShown writer.old writer.new }
 {
     let mut reader = writer.factory().reader()?;
     reader.learn::<Informs>(writer.tell::<Informs>());
@@ -65,7 +65,7 @@ pub(crate) fn seats_of<J: NodeName>(
     requires node { IsOf J.book prefix.now }
     requires config { config_of prefix.now.1 ≡ J.config }
     ensures seats { IfOk result (λ v. (vec_len v ≡ places) × All (λ seat. seat ≡ prefix.now.1) v.items) }
-    ensures kept { (writer.new.desk.shown ≡ writer.old.desk.shown) × (writer.new.log ≡ writer.old.log) × (writer.new.behind ≡ writer.old.behind) × (known writer.new.desk.place ≡ known writer.old.desk.place) }
+    ensures kept { KeepsShown writer.old writer.new }
 {
     let mut seats = Vec::new(alloc);
     for _i in 0..places {

@@ -1,6 +1,6 @@
 use Rattle.std.proofs.Common.{sym, ◌∙◌}
 use Rattle.hk_node.proofs.RefusalTests.{test_refuses}
-use Rattle.hk_node.proofs.laws.change.Goals as goal
+use Rattle.hk_node.proofs.change.change.Goals as goal
 
 pub returns-in-Some-clause-change : goal.returns-in-Some-clause-change
 returns-in-Some-clause-change g c = test_refuses c.args.publisher.now c.publish.new.self c.args.op c.in-Some.why c.in-Ok.ensures.lists (sym c.in-Some.is ∙ c.refusal.ensures)

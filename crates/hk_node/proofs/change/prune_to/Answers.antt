@@ -2,7 +2,7 @@ use Rattle.std.proofs.Common.{List, sym, ap, ◌∙◌}
 use Rattle.hk_node.specs.declared.op.Op.{Op}
 use Rattle.hk_node.specs.Replay.{replay}
 use Rattle.hk_node.specs.Changes.{Lists}
-use Rattle.hk_node.proofs.laws.prune_to.Goals as goal
+use Rattle.hk_node.proofs.change.prune_to.Goals as goal
 
 pub returns-clause-horizon : goal.returns-clause-horizon
 returns-clause-horizon g c =

@@ -6,7 +6,7 @@ use Rattle.hk_node.specs.Replay.{replay}
 use Rattle.hk_node.specs.Changes.{Lists, Refuses}
 use Rattle.hk_node.proofs.Holds.{replay_count}
 use Rattle.hk_node.proofs.WaitingHold.{hold_waits}
-use Rattle.hk_node.proofs.laws.hold_at.Goals as goal
+use Rattle.hk_node.proofs.change.hold_at.Goals as goal
 
 pub returns-in-Ok-clause-hold : goal.returns-in-Ok-clause-hold
 returns-in-Ok-clause-hold g c =

@@ -1,0 +1,175 @@
+//! How a change runs.
+
+ghost use Rattle.std.specs.Prelude.{◌≡◌, ◌≤◌, Some, true, length, IfOk, IfErr};
+ghost use Rattle.hk_model.specs.Replica.Fragments.{cut};
+ghost use Rattle.hk_node.specs.declared.op.Op.TheVariants.{Hold as HoldAt, Merge as MergeOf, Prune as PruneTo, Release};
+ghost use Rattle.hk_node.specs.Changes.{all_of, Changes, HoldsAt, IsGiven, IsHandedBack, IsHandedOut, Prunes, Publishes, Refuses, ReleasesHold};
+ghost use Rattle.hk_node.specs.Lists.{last_of};
+ghost use Rattle.hk_node.specs.Replay.{is_legal, replay, IsListOf};
+
+use crate::book::NodeName;
+use crate::op::{Hold, Op};
+use crate::publisher::{Publisher, Receipt};
+use hk_delta::Fragment;
+use hk_state::ReplicaState;
+use hk_types::{Refusal, Time};
+use std::sync::Wait;
+
+/// One change, at what lies under the writer's lock: every change of a node runs by this function.
+///
+/// What waits is published first; where that is refused, it is `Memory` and nothing changed: at no other time does
+/// `Memory` come before the tests, and at most one operation waits. Then the operation is
+/// tested after all others, and its refusal answered. Then it is added and published: `Memory` where it could not be
+/// added; `Unpublished` with its number where it could not be published, and then it waits, and the next publish shows
+/// it; `Conflict` where it met a conflict, which damages the node for good. Cost: that of the operation, and of what
+/// waits.
+#[tactic(auto, using(crate::proofs::LegalLists::last_snoc))]
+pub fn change<J: NodeName, R: Wait + Drop>(
+    publisher: &mut Publisher<J, R>,
+    op: Op,
+) -> Result<Receipt<J>, Refusal>
+    ensures change { Changes publisher.old op result publisher.new }
+    ensures few { length publisher.new.1 ≤ 1 }
+    ensures before { IsListOf J.config (all_of publisher.old) }
+    ensures legal { IfOk result (λ list. is_legal list ≡ true) }
+    ensures last { IfOk result (λ list. last_of list ≡ Some op) }
+{
+    let Ok(()) = publisher.publish() else {
+        return Err(Refusal::Memory);
+    };
+    if let Some(why) = publisher.refusal(&op) {
+        return Err(why);
+    }
+    let Some(prefix) = publisher.extended(&op) else {
+        return Err(Refusal::Memory);
+    };
+    let ops = prefix.len();
+    publisher.put(op, prefix);
+    if publisher.publish().is_err() {
+        return Err(Refusal::Unpublished { ops });
+    }
+    if publisher.is_damaged() {
+        return Err(Refusal::Conflict);
+    }
+    Ok(publisher.receipt())
+}
+
+/// A publish, at what lies under the writer's lock: what waits is published, and the receipt names the whole list. The
+/// only refusal is `Memory`, where something waits, and it changes nothing. Cost: that of what waits.
+pub fn publish_waiting<J: NodeName, R: Wait + Drop>(
+    publisher: &mut Publisher<J, R>,
+) -> Result<Receipt<J>, Refusal>
+    ensures publish { Publishes publisher.old result publisher.new }
+    ensures before { IsListOf J.config (all_of publisher.old) }
+    ensures legal { IfOk result (λ list. is_legal list ≡ true) }
+{
+    match publisher.publish() {
+        Ok(()) => Ok(publisher.receipt()),
+        Err(_) => Err(Refusal::Memory),
+    }
+}
+
+/// A merge of a state, at what lies under the writer's lock, with the whole of the state or the refusal of memory for
+/// it: it runs as `change`, also where the whole could not be made. Cost: that of `change`.
+pub fn merge_whole<J: NodeName, R: Wait + Drop>(
+    publisher: &mut Publisher<J, R>,
+    state: &ReplicaState,
+    whole: Result<Fragment, Refusal>,
+) -> Result<Receipt<J>, Refusal>
+    requires whole { IfOk whole (λ fragment. fragment ≡ cut state.now 0) }
+    ensures change { Changes publisher.old (MergeOf (cut state.now 0)) result publisher.new }
+    ensures before { IsListOf J.config (all_of publisher.old) }
+    ensures legal { IfOk result (λ list. is_legal list ≡ true) }
+    ensures last { IfOk result (λ list. last_of list ≡ Some (MergeOf (cut state.now 0))) }
+{
+    match whole {
+        Ok(whole) => change(publisher, Op::Merge(whole)),
+        Err(_) => Err(refusal_of_merge(publisher, state)),
+    }
+}
+
+/// What a merge is refused of whose whole could not be made.
+fn refusal_of_merge<J: NodeName, R: Wait + Drop>(
+    publisher: &mut Publisher<J, R>,
+    state: &ReplicaState,
+) -> Refusal
+    ensures refuses { Refuses publisher.old (MergeOf (cut state.now 0)) result publisher.new }
+    ensures before { IsListOf J.config (all_of publisher.old) }
+{
+    if publisher.publish().is_err() {
+        return Refusal::Memory;
+    }
+    match publisher.join_refusal(state.config(), Time::zero(), state.horizon()) {
+        Some(why) => why,
+        None => Refusal::Memory,
+    }
+}
+
+/// A prune to a time, at what lies under the writer's lock: it runs as `change`, and gives the horizon after it. Cost:
+/// that of `change`.
+pub fn prune_to<J: NodeName, R: Wait + Drop>(
+    publisher: &mut Publisher<J, R>,
+    time: Time,
+) -> Result<(Time, Receipt<J>), Refusal>
+    ensures change { Prunes publisher.old time result publisher.new }
+    ensures before { IsListOf J.config (all_of publisher.old) }
+    ensures legal { IfOk result (λ t. is_legal t.1 ≡ true) }
+    ensures last { IfOk result (λ t. last_of t.1 ≡ Some (PruneTo time)) }
+    ensures horizon { IfOk result (λ t. t.0 ≡ (replay t.1).content.horizon) }
+{
+    let receipt = change(publisher, Op::Prune(time))?;
+    let horizon = publisher.horizon();
+    Ok((horizon, receipt))
+}
+
+/// A hold at a time, at what lies under the writer's lock: it runs as `change`. Its number is that of the holds of the
+/// list, with it. Cost: that of `change`.
+pub fn hold_at<J: NodeName, R: Wait + Drop>(
+    publisher: &mut Publisher<J, R>,
+    time: Time,
+) -> Result<(Hold, Receipt<J>), (Option<Hold>, Refusal)>
+    ensures change { HoldsAt publisher.old time result publisher.new }
+    ensures before { IsListOf J.config (all_of publisher.old) }
+    ensures legal { IfOk result (λ t. is_legal t.1 ≡ true) }
+    ensures last { IfOk result (λ t. last_of t.1 ≡ Some (HoldAt time)) }
+    ensures hold { IfOk result (λ t. IsGiven t.0 time t.1) }
+    ensures waits { IfErr result (λ e. IsHandedOut (all_of publisher.new) time e.0 e.1) }
+{
+    match change(publisher, Op::Hold(time)) {
+        Ok(receipt) => {
+            let reader = publisher.hold_count();
+            Ok((Hold { reader, at: time }, receipt))
+        }
+        Err(Refusal::Unpublished { ops }) => {
+            let reader = publisher.hold_count() + 1;
+            Err((
+                Some(Hold { reader, at: time }),
+                Refusal::Unpublished { ops },
+            ))
+        }
+        Err(why) => Err((None, why)),
+    }
+}
+
+/// A release of a hold, at what lies under the writer's lock: it runs as `change`. It hands the hold back on every
+/// refusal but `Unpublished`. Cost: that of `change`.
+pub fn release_hold<J: NodeName, R: Wait + Drop>(
+    publisher: &mut Publisher<J, R>,
+    hold: Hold,
+) -> Result<Receipt<J>, (Option<Hold>, Refusal)>
+    ensures change { ReleasesHold publisher.old hold result publisher.new }
+    ensures before { IsListOf J.config (all_of publisher.old) }
+    ensures legal { IfOk result (λ list. is_legal list ≡ true) }
+    ensures last { IfOk result (λ list. last_of list ≡ Some (Release hold.reader hold.at)) }
+    ensures back { IfErr result (λ e. IsHandedBack hold e.0 e.1) }
+{
+    let op = Op::Release {
+        reader: hold.reader,
+        at: hold.at,
+    };
+    match change(publisher, op) {
+        Ok(receipt) => Ok(receipt),
+        Err(Refusal::Unpublished { ops }) => Err((None, Refusal::Unpublished { ops })),
+        Err(why) => Err((Some(hold), why)),
+    }
+}
