@@ -16,6 +16,10 @@ row_text row = number w32 row.tag ++ (number w16 (length row.body) ++ row.body)
 unfoldable pub keyed_text : ℕ × RowValue → List ℕ
 keyed_text e = number w64 e.0 ++ row_text e.1
 
+-- rows with their keys behind their count
+abbrev pub rows_text : List (ℕ × RowValue) → List ℕ
+rows_text rows = number w32 (length rows) ++ flat_map keyed_text rows
+
 -- whether there is a row, and the row
 abbrev pub presence : Option RowValue → ℕ
 presence None = 0
@@ -34,7 +38,7 @@ answer_kind (Number n) = 3
 -- what follows it
 abbrev pub answer_fields : AnswerValue → List ℕ
 answer_fields (One row) = presence row ∷ present_text row
-answer_fields (Rows rows) = number w32 (length rows) ++ flat_map keyed_text rows
+answer_fields (Rows rows) = rows_text rows
 answer_fields (Number n) = number w64 n
 
 -- the encoding of an answer

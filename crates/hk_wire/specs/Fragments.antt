@@ -9,7 +9,7 @@ use Rattle.hk_types.specs.Values.{RowValue}
 use Rattle.hk_types.specs.declared.version_key.VersionKey.{VersionKey}
 use Rattle.hk_types.specs.declared.faults.FormFault.TheVariants.{BadStream, BadNumber, BadOrder}
 use Rattle.hk_log.specs.Versions.{VersionValue}
-use Rattle.hk_model.specs.Replica.Streams.{StreamContent, covers}
+use Rattle.hk_model.specs.Replica.Streams.{StreamContent, covers, stream_at as content_at}
 use Rattle.hk_model.specs.Replica.Fragments.{FragmentValue}
 use Rattle.hk_marks.specs.Steps.{extra_numbers}
 use Rattle.hk_fragment.specs.Parts.{Known, versions_listed, follows, is_valid_end}
@@ -52,6 +52,10 @@ wire_stream_of s =
       waiting = finmap.entries s.waiting;
     }
 
+-- what is told of the stream of this number
+abbrev pub wire_stream_at : List StreamContent → ℕ → WireStream
+wire_stream_at streams s = wire_stream_of (content_at streams s)
+
 -- what is told of a fragment
 abbrev pub wire_fragment_of : FragmentValue → WireFragment
 wire_fragment_of f =
@@ -79,6 +83,10 @@ waits_text waiting = number w32 (length waiting) ++ flat_map mark_text waiting
 
 unfoldable pub stream_text : WireStream → List ℕ
 stream_text s = number w64 s.prefix ++ (number w64 s.closed ++ (extras_text s.extra ++ waits_text s.waiting))
+
+-- the streams one after the other
+abbrev pub streams_text : List StreamContent → List ℕ
+streams_text streams = flat_map stream_text (map wire_stream_of streams)
 
 -- 1 with a row, 2 with an end, 3 with both
 abbrev pub flags_of : Option RowValue → Option ℕ → ℕ
@@ -108,10 +116,14 @@ version_text v = number w16 v.table ++ (number w64 v.key ++ number w64 v.born)
 unfoldable pub fact_text : Known → List ℕ
 fact_text e = version_text e.0 ++ (known_flags e.1 ∷ known_parts e.1)
 
+-- facts behind their count
+abbrev pub facts_text : List Known → List ℕ
+facts_text facts = number w32 (length facts) ++ flat_map fact_text facts
+
 unfoldable pub fragment_text : WireFragment → List ℕ
 fragment_text f =
     number w64 f.log ++ (number w16 (length f.streams) ++ (number w64 f.base ++ (number w64 f.horizon
-    ++ (flat_map stream_text f.streams ++ (number w32 (length f.facts) ++ flat_map fact_text f.facts)))))
+    ++ (flat_map stream_text f.streams ++ facts_text f.facts))))
 
 -- ---- reading
 

@@ -1,9 +1,8 @@
 //! Answers as bytes.
 
 ghost use Rattle.std.specs.Prelude.{◌≡◌, ◌≤◌, ◌<◌, ◌*◌, ◌^◌, ◌+◌, ◌++◌, None, true, All, length, take, OnOk, OnErr};
-ghost use Rattle.std.specs.Int.{w32};
 ghost use Rattle.std.specs.List.{flat_map};
-ghost use Rattle.hk_frames.specs.Fields.{GivesValue, GivesOrRunsOut, number};
+ghost use Rattle.hk_frames.specs.Fields.{GivesValue, GivesOrRunsOut};
 ghost use Rattle.hk_model.specs.Replica.Answers.{answer_seen};
 ghost use Rattle.hk_wire.specs.Answers as spec;
 
@@ -235,7 +234,7 @@ fn put_keyed(out: &mut Vec<u8>, key: Key, row: &Row) -> Result<(), AllocError>
 #[tactic(auto, using(std::proofs::Common::append_assoc, hk_frames::proofs::Prefix::kept_all, hk_frames::proofs::Prefix::kept_before, hk_frames::proofs::Prefix::kept_both))]
 fn put_rows(out: &mut Vec<u8>, rows: &[(Key, Row)]) -> Result<(), AllocError>
     requires { length rows.now < 2 ^ 32 }
-    ensures ok { OnOk result (out.new.items ≡ out.old.items ++ (number w32 (length rows.now) ++ flat_map spec.keyed_text rows.now)) }
+    ensures ok { OnOk result (out.new.items ≡ out.old.items ++ spec.rows_text rows.now) }
     ensures kept { OnErr result (take (length out.old.items) out.new.items ≡ out.old.items) }
 {
     put_u32(out, rows.len() as u32)?;

@@ -1,11 +1,8 @@
 //! Fragments, written at the end of bytes.
 
 ghost use Rattle.std.specs.Prelude.{◌≡◌, ◌≤◌, ◌*◌, ◌++◌, ◌^◌, ◌<◌, None, true, All, length, map, take, OnOk, OnErr};
-ghost use Rattle.std.specs.Int.{w32};
 ghost use Rattle.std.specs.List.{flat_map};
-ghost use Rattle.hk_frames.specs.Fields.{number};
 ghost use Rattle.hk_types.specs.declared.version_key.VersionKey.{VersionKey};
-ghost use Rattle.hk_model.specs.Replica.Streams.{stream_at};
 ghost use Rattle.hk_wire.specs.Answers.{PresentFits};
 ghost use Rattle.hk_wire.specs.Fragments as spec;
 
@@ -21,7 +18,7 @@ use std::alloc::AllocError;
 /// How many numbers above the prefix are taken.
 fn extra_count(got: &Got, s: StreamNo) -> usize
     requires { s ≤ length got.now }
-    ensures { result ≡ length (spec.wire_stream_of (stream_at got.now s)).extra }
+    ensures { result ≡ length (spec.wire_stream_at got.now s).extra }
 {
     got.extra_numbers(s).len()
 }
@@ -29,7 +26,7 @@ fn extra_count(got: &Got, s: StreamNo) -> usize
 /// How many marks wait.
 fn waiting_count(got: &Got, s: StreamNo) -> usize
     requires { s ≤ length got.now }
-    ensures { result ≡ length (spec.wire_stream_of (stream_at got.now s)).waiting }
+    ensures { result ≡ length (spec.wire_stream_at got.now s).waiting }
 {
     got.waiting_marks(s).len()
 }
@@ -37,7 +34,7 @@ fn waiting_count(got: &Got, s: StreamNo) -> usize
 /// Whether the numbers and the marks of a stream can be counted.
 fn stream_is_counted(got: &Got, s: StreamNo) -> bool
     requires { s ≤ length got.now }
-    ensures { result ≡ spec.stream_is_counted (spec.wire_stream_of (stream_at got.now s)) }
+    ensures { result ≡ spec.stream_is_counted (spec.wire_stream_at got.now s) }
 {
     extra_count(got, s) < 4_294_967_296 && waiting_count(got, s) < 4_294_967_296
 }
@@ -68,8 +65,8 @@ pub(crate) fn is_counted(fragment: &Fragment) -> bool
 #[tactic(auto, using(crate::proofs::Lengths::stream_text_len))]
 fn stream_len(got: &Got, s: StreamNo) -> u64
     requires known { s ≤ length got.now }
-    requires counted { spec.stream_is_counted (spec.wire_stream_of (stream_at got.now s)) ≡ true }
-    ensures len { result ≡ length (spec.stream_text (spec.wire_stream_of (stream_at got.now s))) }
+    requires counted { spec.stream_is_counted (spec.wire_stream_at got.now s) ≡ true }
+    ensures len { result ≡ length (spec.stream_text (spec.wire_stream_at got.now s)) }
     ensures bound { result ≤ 2 ^ 37 }
 {
     24 + 8 * extra_count(got, s) as u64 + 16 * waiting_count(got, s) as u64
@@ -78,7 +75,7 @@ fn stream_len(got: &Got, s: StreamNo) -> u64
 /// How many bytes the streams have.
 fn streams_len(got: &Got) -> u64
     requires { spec.streams_are_counted (map spec.wire_stream_of got.now) ≡ true }
-    ensures len { result ≡ length (flat_map spec.stream_text (map spec.wire_stream_of got.now)) }
+    ensures len { result ≡ length (spec.streams_text got.now) }
     ensures bound { result ≤ 2 ^ 43 }
 {
     let mut total = 0;
@@ -177,8 +174,8 @@ pub(crate) fn fragment_len(fragment: &Fragment) -> u64
 #[tactic(auto, using(std::proofs::Common::append_assoc, hk_frames::proofs::Prefix::kept_all, hk_frames::proofs::Prefix::kept_before, hk_frames::proofs::Prefix::kept_both))]
 fn put_extras(out: &mut Vec<u8>, got: &Got, s: StreamNo) -> Result<(), AllocError>
     requires known { s ≤ length got.now }
-    requires counted { spec.stream_is_counted (spec.wire_stream_of (stream_at got.now s)) ≡ true }
-    ensures ok { OnOk result (out.new.items ≡ out.old.items ++ spec.extras_text (spec.wire_stream_of (stream_at got.now s)).extra) }
+    requires counted { spec.stream_is_counted (spec.wire_stream_at got.now s) ≡ true }
+    ensures ok { OnOk result (out.new.items ≡ out.old.items ++ spec.extras_text (spec.wire_stream_at got.now s).extra) }
     ensures kept { OnErr result (take (length out.old.items) out.new.items ≡ out.old.items) }
 {
     put_u32(out, extra_count(got, s) as u32)?;
@@ -202,8 +199,8 @@ fn put_mark(out: &mut Vec<u8>, count: u64, upto: Time) -> Result<(), AllocError>
 #[tactic(auto, using(std::proofs::Common::append_assoc, hk_frames::proofs::Prefix::kept_all, hk_frames::proofs::Prefix::kept_before, hk_frames::proofs::Prefix::kept_both))]
 fn put_waits(out: &mut Vec<u8>, got: &Got, s: StreamNo) -> Result<(), AllocError>
     requires known { s ≤ length got.now }
-    requires counted { spec.stream_is_counted (spec.wire_stream_of (stream_at got.now s)) ≡ true }
-    ensures ok { OnOk result (out.new.items ≡ out.old.items ++ spec.waits_text (spec.wire_stream_of (stream_at got.now s)).waiting) }
+    requires counted { spec.stream_is_counted (spec.wire_stream_at got.now s) ≡ true }
+    ensures ok { OnOk result (out.new.items ≡ out.old.items ++ spec.waits_text (spec.wire_stream_at got.now s).waiting) }
     ensures kept { OnErr result (take (length out.old.items) out.new.items ≡ out.old.items) }
 {
     put_u32(out, waiting_count(got, s) as u32)?;
@@ -216,7 +213,7 @@ fn put_waits(out: &mut Vec<u8>, got: &Got, s: StreamNo) -> Result<(), AllocError
 /// The number up to which all are taken.
 fn prefix(got: &Got, s: StreamNo) -> u64
     requires { s ≤ length got.now }
-    ensures { result ≡ (spec.wire_stream_of (stream_at got.now s)).prefix }
+    ensures { result ≡ (spec.wire_stream_at got.now s).prefix }
 {
     got.prefix(s)
 }
@@ -225,8 +222,8 @@ fn prefix(got: &Got, s: StreamNo) -> u64
 #[tactic(auto, using(std::proofs::Common::append_assoc, hk_frames::proofs::Prefix::kept_all, hk_frames::proofs::Prefix::kept_before, hk_frames::proofs::Prefix::kept_both), unfolding(crate::specs::Fragments::stream_text))]
 fn put_stream(out: &mut Vec<u8>, got: &Got, s: StreamNo) -> Result<(), AllocError>
     requires known { s ≤ length got.now }
-    requires counted { spec.stream_is_counted (spec.wire_stream_of (stream_at got.now s)) ≡ true }
-    ensures ok { OnOk result (out.new.items ≡ out.old.items ++ spec.stream_text (spec.wire_stream_of (stream_at got.now s))) }
+    requires counted { spec.stream_is_counted (spec.wire_stream_at got.now s) ≡ true }
+    ensures ok { OnOk result (out.new.items ≡ out.old.items ++ spec.stream_text (spec.wire_stream_at got.now s)) }
     ensures kept { OnErr result (take (length out.old.items) out.new.items ≡ out.old.items) }
 {
     put_u64(out, prefix(got, s))?;
@@ -239,7 +236,7 @@ fn put_stream(out: &mut Vec<u8>, got: &Got, s: StreamNo) -> Result<(), AllocErro
 #[tactic(auto, using(std::proofs::Common::append_assoc, hk_frames::proofs::Prefix::kept_all, hk_frames::proofs::Prefix::kept_before, hk_frames::proofs::Prefix::kept_both))]
 fn put_streams(out: &mut Vec<u8>, got: &Got) -> Result<(), AllocError>
     requires { spec.streams_are_counted (map spec.wire_stream_of got.now) ≡ true }
-    ensures ok { OnOk result (out.new.items ≡ out.old.items ++ flat_map spec.stream_text (map spec.wire_stream_of got.now)) }
+    ensures ok { OnOk result (out.new.items ≡ out.old.items ++ spec.streams_text got.now) }
     ensures kept { OnErr result (take (length out.old.items) out.new.items ≡ out.old.items) }
 {
     for index in 0..got.streams() {
@@ -304,7 +301,7 @@ fn put_fact(out: &mut Vec<u8>, version: VersionKey, known: &Version) -> Result<(
 #[tactic(auto, using(std::proofs::Common::append_assoc, hk_frames::proofs::Prefix::kept_all, hk_frames::proofs::Prefix::kept_before, hk_frames::proofs::Prefix::kept_both))]
 fn put_facts(out: &mut Vec<u8>, facts: &[(VersionKey, Version)]) -> Result<(), AllocError>
     requires { length facts.now ≤ 4294967295 }
-    ensures ok { OnOk result (out.new.items ≡ out.old.items ++ (number w32 (length facts.now) ++ flat_map spec.fact_text facts.now)) }
+    ensures ok { OnOk result (out.new.items ≡ out.old.items ++ spec.facts_text facts.now) }
     ensures kept { OnErr result (take (length out.old.items) out.new.items ≡ out.old.items) }
 {
     put_u32(out, facts.len() as u32)?;
