@@ -1,13 +1,16 @@
 -- A change that was settled, beside the host before it.
-use Rattle.std.proofs.Common.{◌≡◌, ◌^◌, ◌<◌, ◌⊎◌, Bool, ◌&&◌, is_ok, cond, Result, Ok, Err, sym, ap, subst, inl, inr}
+use Rattle.std.proofs.Common.{◌≡◌, ◌^◌, ◌<◌, ◌⊎◌, Bool, ◌&&◌, is_ok, cond, Result, Ok, Err, sym, ap, subst, inl, inr, ◌∙◌}
 use Rattle.std.proofs.lemmas.Bool.{lt-ltb}
+use Rattle.hk_types.specs.OrMemory.{ChangesOrMemory}
 use Rattle.hk_types.specs.declared.faults.Refusal.{Refusal}
 use Rattle.hk_types.specs.declared.faults.Refusal.TheVariants as refusals
 use Rattle.hk_model.specs.Replica.Content.{Content}
+use Rattle.hk_model.specs.Replica.Fragments.{FragmentValue}
+use Rattle.hk_model.specs.Replica.Rules.{join_result}
 use Rattle.hk_wire.specs.declared.reply.Reply.{Reply}
 use Rattle.hk_wire.specs.Replies.{Refused}
 use Rattle.hk_session.specs.Values.{HostValue}
-use Rattle.hk_session.specs.Steps.{change_reply, change_step, has_room_for, IsGiven, Changes}
+use Rattle.hk_session.specs.Steps.{change_reply, change_step, has_room_for, joined_if, IsGiven, Changes}
 
 -- the middle one is the host before, with another state
 pub settled_is : {X : Type 0} (made : Result X Refusal) (h mid : HostValue) (given : Result Content Refusal) (r : Reply) (new : HostValue) → h.ops < 2 ^ 62 → mid ≡ record h { content = mid.content }
@@ -18,16 +21,24 @@ settled_is made h mid given r new lt same told =
     subst (λ (b : Bool). IsGiven (b && is_ok made) h (cond b (change_reply h given) (Refused refusals.NodeFull, h)) r new) (sym (lt-ltb h.ops (2 ^ 62) lt)) held
 
 -- what a join or a prune leaves and answers
-abbrev Leaves : Content → Content → Result Content Refusal → Result (Unit {0}) Refusal → Type 0
-Leaves old new given (Ok done) = given ≡ Ok new
-Leaves old new given (Err why) = (new ≡ old) × ((given ≡ Err why) ⊎ ((why ≡ refusals.Memory) × ((c : Content) × (given ≡ Ok c))))
-
-pub left_so : (old new : Content) (given : Result Content Refusal) (r : Result (Unit {0}) Refusal) → Leaves old new given r → Changes (is_ok given) old new given r
+pub left_so : (old new : Content) (given : Result Content Refusal) (r : Result (Unit {0}) Refusal) → ChangesOrMemory old new given r → Changes (is_ok given) old new given r
 left_so old new given (Ok done) h = h
 left_so old new given (Err why) h = (
   h.0,
   elim h.1 [
     | inl e ↦ inl e
     | inr m ↦ inr (m.0, ap is_ok m.1.1)
+  ],
+)
+
+-- what a join of the fragment of items leaves and answers
+pub joined_so : (made : Result FragmentValue Refusal) (f : FragmentValue) (old new : Content) (r : Result (Unit {0}) Refusal) → made ≡ Ok f → ChangesOrMemory old new (join_result old f) r
+    → Changes (is_ok made) old new (joined_if old made) r
+joined_so made f old new (Ok done) e h = ap (joined_if old) e ∙ h
+joined_so made f old new (Err why) e h = (
+  h.0,
+  elim h.1 [
+    | inl w ↦ inl (ap (joined_if old) e ∙ w)
+    | inr m ↦ inr (m.0, ap is_ok e)
   ],
 )

@@ -1,4 +1,5 @@
 pub mod Endings
 pub mod Steps
 pub mod Transcript
+pub mod Serving
 pub mod Values

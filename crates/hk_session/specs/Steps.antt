@@ -1,8 +1,9 @@
 -- What a host over a state answers, and what state it is left in.
-use Rattle.std.specs.Prelude.{ℕ, ◌≡◌, ◌⊎◌, ◌+◌, ◌^◌, ◌&&◌, Bool, true, false, length, nat_lt, is_ok, if◌then◌else◌, Option, Some, None, Result, Ok, Err}
+use Rattle.std.specs.Prelude.{ℕ, ◌≡◌, ◌⊎◌, ◌+◌, ◌^◌, ◌&&◌, Bool, true, false, List, length, nat_lt, is_ok, if◌then◌else◌, Option, Some, None, Result, Ok, Err}
 use Rattle.hk_types.specs.Values.{ConfigValue}
 use Rattle.hk_types.specs.declared.faults.Refusal.{Refusal}
 use Rattle.hk_types.specs.declared.faults.Refusal.TheVariants as refusals
+use Rattle.hk_log.specs.declared.item.Item.{Item}
 use Rattle.hk_model.specs.Replica.Answers.{AnswerValue, One, Rows, Number, reply}
 use Rattle.hk_model.specs.Replica.Content.{Content, readable}
 use Rattle.hk_model.specs.Replica.Fragments.{FragmentValue, cut}
@@ -97,3 +98,37 @@ Step old request answer new = IsGiven (may_lack old request) old (answer_step ol
 abbrev pub Changes : Bool → Content → Content → Result Content Refusal → Result (Unit {0}) Refusal → Type 0
 Changes may old new given (Ok done) = given ≡ Ok new
 Changes may old new given (Err why) = (new ≡ old) × ((given ≡ Err why) ⊎ ((why ≡ refusals.Memory) × (may ≡ true)))
+
+-- what items make in this log: a fragment
+abbrev pub gathered : HostValue → List Item → Result FragmentValue Refusal
+gathered h items = gather_result (config_of h.content) items
+
+-- the content with what items make
+abbrev pub with_items : HostValue → List Item → Result Content Refusal
+with_items h items = joined_if h.content (gathered h items)
+
+-- the host's content took what items make, or it says why not; its operations are not counted yet
+abbrev pub JoinsItems : HostValue → HostValue → List Item → Result (Unit {0}) Refusal → Type 0
+JoinsItems old new items result = Changes (is_ok (gathered old items)) old.content new.content (with_items old items) result
+
+-- the host made this change, or it says why not; where `made` is no refusal memory may run out
+abbrev pub MakesChange : {X : Type 0} → HostValue → Result X Refusal → Result Content Refusal → Reply → HostValue → Type 0
+MakesChange old made changed answer new = IsGiven (has_room_for old made) old (change_step old changed) answer new
+
+-- the same of a change that tells this itself
+abbrev pub Takes : HostValue → Result Content Refusal → Reply → HostValue → Type 0
+Takes old changed answer new = MakesChange old changed changed answer new
+
+-- the host handed this fragment out, or it says why not
+abbrev pub HandsOut : HostValue → Result FragmentValue Refusal → Reply → Type 0
+HandsOut h given answer = IsGiven (is_ok given) h (fragment_reply given, h) answer h
+
+-- the host gave this answer, or it says why not
+abbrev pub GivesAnswer : HostValue → Result AnswerValue Refusal → Reply → Type 0
+GivesAnswer h given answer = IsGiven (asking_may_lack given) h (query_reply given, h) answer h
+
+-- whatever change of its content came out so, the host counted it and replied to it
+abbrev pub Counts : HostValue → HostValue → Result (Unit {0}) Refusal → Reply → Type 0
+Counts old new outcome answer =
+    (may : Bool) (before : Content) (given : Result Content Refusal) → Changes may before old.content given outcome
+    → IsGiven may (record old { content = before }) (change_reply (record old { content = before }) given) answer new

@@ -1,13 +1,11 @@
 //! A whole session.
 
-ghost use Rattle.std.specs.Prelude.{◌≡◌, ◌≢◌, ◌<◌, ◌≤◌, ◌+◌, ◌-◌, ◌^◌, ◌++◌, ◌⊎◌, ℕ, List, [], Result, Ok, Some, None, min, IfSome, IfNone, IfOk, OnErr};
-ghost use Rattle.std.specs.Io.KnownBytes.{Appends, Consumes, IsAtEnd};
+ghost use Rattle.std.specs.Prelude.{◌≡◌, ◌≢◌, ◌<◌, ◌≤◌, ◌+◌, ◌^◌, ℕ, List, [], Ok, Some, IfSome, IfNone, OnErr};
+ghost use Rattle.std.specs.Io.KnownBytes.{IsAtEnd};
 ghost use Rattle.hk_types.specs.declared.faults.FormFault.TheVariants as faults;
-ghost use Rattle.hk_wire.specs.declared.request.Request.{Request};
-ghost use Rattle.hk_wire.specs.declared.reply.Reply.{Reply};
-ghost use Rattle.hk_wire.specs.Requests.{ReadsRequests};
 ghost use Rattle.hk_session.specs.declared.ended.Ended.TheVariants as ends;
-ghost use Rattle.hk_session.specs.Transcript.{Answers, reply_bytes, Sends, replies_bytes, fault_met, Refuses, Stops, SessionStep, GoesOn, Ends, IsMidway, IsDone, IsStopped, Transcript, PartialTranscript};
+ghost use Rattle.hk_session.specs.Serving.{AnswersAll, AnswersOne, EndsCut, EndsWith, FailsToRead, GoesOnWith, RefusesBy, Serves, ServesAll, ServesPart, StepsBy, StopsBy, TakesPiece, WritesAll, WritesPart, Wrote};
+ghost use Rattle.hk_session.specs.Transcript.{Ends, IsDone, IsMidway, IsStopped};
 
 use crate::counted::Counted;
 use crate::ended::Ended;
@@ -31,8 +29,8 @@ fn answer_one<W: Write, H: Host>(
 ) -> Option<Ended>
     requires quiet { writer.old.faults ≡ 0 }
     requires ready { H.ready host.old }
-    ensures says { (reply : Reply) × H.may host.old request reply host.new
-        × Sends held.old.items (reply_bytes reply) most (W.contents writer.old.device) (W.contents writer.new.device) held.new.items result }
+    ensures says { AnswersOne H.may host.old host.new W.contents writer.old writer.new
+        request held.old.items most held.new.items result }
     ensures ready { H.ready host.new }
     ensures quiet { result ≢ Some ends.WriteFault → writer.new.faults ≡ 0 }
     ensures fault { result ≡ Some ends.WriteFault → 0 < writer.new.faults }
@@ -50,9 +48,8 @@ fn answer_all<W: Write, H: Host>(
 ) -> Option<Ended>
     requires quiet { writer.old.faults ≡ 0 }
     requires ready { H.ready host.old }
-    ensures all { IfNone result ((replies : List Reply) × Answers H.may host.old requests.items replies host.new
-        × Appends (W.contents writer.old.device) (W.contents writer.new.device) (replies_bytes replies)) }
-    ensures part { IfSome result (Stops H.may host.old host.new (W.contents writer.old.device) (W.contents writer.new.device) requests.items) }
+    ensures all { IfNone result (AnswersAll H.may host.old host.new W.contents writer.old writer.new requests.items) }
+    ensures part { IfSome result (StopsBy H.may host.old host.new W.contents writer.old writer.new requests.items) }
     ensures ready { H.ready host.new }
     ensures quiet { result ≢ Some ends.WriteFault → writer.new.faults ≡ 0 }
     ensures fault { result ≡ Some ends.WriteFault → 0 < writer.new.faults }
@@ -75,7 +72,7 @@ fn answer_all<W: Write, H: Host>(
 /// Says which fault the session ends with.
 fn refuse<W: Write>(alloc: Global, fault: FormFault, writer: &mut Counted<W>) -> Ended
     requires { writer.old.faults ≡ 0 }
-    ensures sends { Refuses fault (W.contents writer.old.device) (W.contents writer.new.device) result }
+    ensures sends { RefusesBy W.contents writer.old writer.new fault result }
     ensures quiet { result ≢ ends.WriteFault → writer.new.faults ≡ 0 }
     ensures fault { result ≡ ends.WriteFault → 0 < writer.new.faults }
 {
@@ -95,7 +92,7 @@ fn take_in(
     requests: &mut Vec<Request>,
 ) -> Result<Option<FormFault>, AllocError>
     requires { requests.old.items ≡ [] }
-    ensures reads { (left : List ℕ) → feeder.old ≡ Ok left → IfOk result (λ f. ReadsRequests (left ++ piece.now) requests.new.items feeder.new × (f ≡ fault_met feeder.new)) }
+    ensures reads { TakesPiece feeder.old feeder.new piece.now requests.new.items result }
     ensures err { OnErr result ((feeder.new ≡ feeder.old) × (requests.new.items ≡ requests.old.items)) }
 {
     match feeder.feed(piece, requests) {
@@ -118,10 +115,9 @@ fn handle_piece<W: Write, H: Host>(
     requires quiet { writer.old.faults ≡ 0 }
     requires open { (left : List ℕ) × (feeder.old ≡ Ok left) }
     requires ready { H.ready host.old }
-    ensures goes_on { (left : List ℕ) → feeder.old ≡ Ok left → IfNone result ((after : List ℕ) × (feeder.new ≡ Ok after)
-        × SessionStep H.may host.old host.new (W.contents writer.old.device) (W.contents writer.new.device) (left ++ piece.now) (GoesOn after)) }
-    ensures ends { (left : List ℕ) → feeder.old ≡ Ok left → IfSome result (λ e.
-        SessionStep H.may host.old host.new (W.contents writer.old.device) (W.contents writer.new.device) (left ++ piece.now) (Ends e)) }
+    ensures goes_on { GoesOnWith H.may host.old host.new W.contents writer.old writer.new
+        feeder.old feeder.new piece.now result }
+    ensures ends { EndsWith H.may host.old host.new W.contents writer.old writer.new feeder.old piece.now result }
     ensures midway { IfSome result IsMidway }
     ensures ready { H.ready host.new }
     ensures quiet { result ≢ Some ends.WriteFault → writer.new.faults ≡ 0 }
@@ -144,8 +140,8 @@ fn handle_piece<W: Write, H: Host>(
 /// Ends a session whose reader is at its end.
 fn finish<W: Write>(alloc: Global, feeder: RequestFeeder, writer: &mut Counted<W>) -> Ended
     requires quiet { writer.old.faults ≡ 0 }
-    ensures clean { feeder ≡ Ok [] → (result ≡ ends.Clean) × Appends (W.contents writer.old.device) (W.contents writer.new.device) [] }
-    ensures cut { (left : List ℕ) → feeder ≡ Ok left → left ≢ [] → Refuses faults.Truncated (W.contents writer.old.device) (W.contents writer.new.device) result }
+    ensures clean { feeder ≡ Ok [] → (result ≡ ends.Clean) × Wrote W.contents writer.old writer.new [] }
+    ensures cut { EndsCut W.contents writer.old writer.new feeder result }
     ensures quiet { result ≢ ends.WriteFault → writer.new.faults ≡ 0 }
     ensures fault { result ≡ ends.WriteFault → 0 < writer.new.faults }
 {
@@ -169,18 +165,15 @@ fn run<R: Read, W: Write, H: Host>(
     requires writer { writer.old.faults ≡ 0 }
     requires ready { H.ready host.old }
     // The bytes read, and what was done and written for them.
-    ensures transcript { (bytes : List ℕ)
-        × Consumes (R.remaining reader.old.device) (R.remaining reader.new.device) bytes
-        × SessionStep H.may host.old host.new (W.contents writer.old.device) (W.contents writer.new.device)
-        bytes (Ends result) }
+    ensures transcript { Serves H.may host.old host.new R.remaining reader.old reader.new
+        W.contents writer.old writer.new result }
     ensures ready { H.ready host.new }
     // All bytes were read.
     ensures clean { result ≡ ends.Clean → IsAtEnd (R.remaining reader.new.device) }
     ensures cut { result ≡ ends.Fault faults.Truncated → IsAtEnd (R.remaining reader.new.device) }
     // A session makes at most so many reads; and a read failed, or there were that many.
     ensures bound { reader.new.calls ≤ reader.old.calls + 2 ^ 32 }
-    ensures read_fault { result ≡ ends.ReadFault → (0 < reader.new.faults)
-        ⊎ (reader.new.calls ≡ min (reader.old.calls + 2 ^ 32) (2 ^ 64 - 1)) }
+    ensures read_fault { result ≡ ends.ReadFault → FailsToRead reader.old reader.new }
     ensures write_fault { result ≡ ends.WriteFault → 0 < writer.new.faults }
     // Else none failed.
     ensures reads { result ≢ ends.ReadFault → reader.new.faults ≡ 0 }
@@ -235,29 +228,24 @@ pub fn serve<R: Read, W: Write, H: Host>(
     requires writer { writer.old.faults ≡ 0 }
     requires ready { H.ready host.old }
     // What was written is the transcript of what was read.
-    ensures whole { IsDone result → (bytes text : List ℕ)
-        × Consumes (R.remaining reader.old.device) (R.remaining reader.new.device) bytes
-        × Appends (W.contents writer.old.device) (W.contents writer.new.device) text
-        × Transcript H.may host.old host.new bytes text }
+    ensures whole { IsDone result →
+        ServesAll H.may host.old host.new R.remaining reader.old reader.new
+        W.contents writer.old writer.new }
     // What was written is the transcript of a front of what was read, of whole requests or of all bytes: all of it, or
     // cut off in its last replies. Nothing but that front was executed.
-    ensures stopped { IsStopped result → (bytes part : List ℕ)
-        × Consumes (R.remaining reader.old.device) (R.remaining reader.new.device) bytes
-        × Appends (W.contents writer.old.device) (W.contents writer.new.device) part
-        × PartialTranscript H.may host.old host.new bytes part }
+    ensures stopped { IsStopped result →
+        ServesPart H.may host.old host.new R.remaining reader.old reader.new
+        W.contents writer.old writer.new }
     // The bytes read, and what was done and written for them.
-    ensures transcript { (bytes : List ℕ)
-        × Consumes (R.remaining reader.old.device) (R.remaining reader.new.device) bytes
-        × SessionStep H.may host.old host.new (W.contents writer.old.device) (W.contents writer.new.device)
-        bytes (Ends result) }
+    ensures transcript { Serves H.may host.old host.new R.remaining reader.old reader.new
+        W.contents writer.old writer.new result }
     ensures ready { H.ready host.new }
     // All bytes were read.
     ensures clean { result ≡ ends.Clean → IsAtEnd (R.remaining reader.new.device) }
     ensures cut { result ≡ ends.Fault faults.Truncated → IsAtEnd (R.remaining reader.new.device) }
     // A session makes at most so many reads; and a read failed, or there were that many.
     ensures bound { reader.new.calls ≤ reader.old.calls + 2 ^ 32 }
-    ensures read_fault { result ≡ ends.ReadFault → (0 < reader.new.faults)
-        ⊎ (reader.new.calls ≡ min (reader.old.calls + 2 ^ 32) (2 ^ 64 - 1)) }
+    ensures read_fault { result ≡ ends.ReadFault → FailsToRead reader.old reader.new }
     ensures write_fault { result ≡ ends.WriteFault → 0 < writer.new.faults }
     // Else none failed.
     ensures reads { result ≢ ends.ReadFault → reader.new.faults ≡ 0 }
@@ -275,8 +263,7 @@ fn run_bytes<W: Write, H: Host>(
 ) -> Ended
     requires writer { writer.old.faults ≡ 0 }
     requires ready { H.ready host.old }
-    ensures transcript { SessionStep H.may host.old host.new (W.contents writer.old.device) (W.contents writer.new.device)
-        bytes.now (Ends result) }
+    ensures transcript { StepsBy H.may host.old host.new W.contents writer.old writer.new bytes.now (Ends result) }
     ensures ready { H.ready host.new }
     ensures write_fault { result ≡ ends.WriteFault → 0 < writer.new.faults }
     ensures writes { result ≢ ends.WriteFault → writer.new.faults ≡ 0 }
@@ -300,14 +287,12 @@ pub fn serve_bytes<W: Write, H: Host>(
     requires writer { writer.old.faults ≡ 0 }
     requires ready { H.ready host.old }
     // What was written is the transcript of the bytes.
-    ensures whole { IsDone result → (text : List ℕ)
-        × Appends (W.contents writer.old.device) (W.contents writer.new.device) text
-        × Transcript H.may host.old host.new bytes.now text }
+    ensures whole { IsDone result →
+        WritesAll H.may host.old host.new W.contents writer.old writer.new bytes.now }
     // What was written is the transcript of a front of the bytes, of whole requests or of all of them: all of it, or
     // cut off in its last replies. Nothing but that front was executed.
-    ensures stopped { IsStopped result → (part : List ℕ)
-        × Appends (W.contents writer.old.device) (W.contents writer.new.device) part
-        × PartialTranscript H.may host.old host.new bytes.now part }
+    ensures stopped { IsStopped result →
+        WritesPart H.may host.old host.new W.contents writer.old writer.new bytes.now }
     ensures ready { H.ready host.new }
     ensures write_fault { result ≡ ends.WriteFault → 0 < writer.new.faults }
     ensures writes { result ≢ ends.WriteFault → writer.new.faults ≡ 0 }

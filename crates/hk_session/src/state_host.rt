@@ -1,13 +1,10 @@
 //! A host over the state of a replica.
 
-ghost use Rattle.std.specs.Prelude.{◌≡◌, ◌⊎◌, ◌<◌, ◌+◌, ◌^◌, ℕ, Ok, Err, Result, Bool, true, is_ok, nat_lt};
-ghost use Rattle.hk_types.specs.declared.faults.Refusal.{Refusal};
-ghost use Rattle.hk_types.specs.declared.faults.Refusal.TheVariants.{Memory};
-ghost use Rattle.hk_model.specs.Replica.Content.{Content};
+ghost use Rattle.std.specs.Prelude.{◌≡◌, ◌<◌, ◌+◌, ◌^◌, Ok, true, nat_lt};
 ghost use Rattle.hk_model.specs.Replica.Answers.{reply};
 ghost use Rattle.hk_model.specs.Replica.Fragments.{cut};
-ghost use Rattle.hk_model.specs.Replica.Rules.{gather_result, join_result, prune_result};
-ghost use Rattle.hk_session.specs.Steps.{config_of, joined_if, change_reply, change_step, query_reply, since, fragment_reply, has_room_for, asking_may_lack, IsGiven, Step, Changes};
+ghost use Rattle.hk_model.specs.Replica.Rules.{join_result, prune_result};
+ghost use Rattle.hk_session.specs.Steps.{since, fragment_reply, gathered, with_items, Counts, GivesAnswer, HandsOut, IsGiven, JoinsItems, MakesChange, Step, Takes};
 
 use crate::host::Host;
 use hk_delta::{Fragment, delta_since, fragment_of, join, whole_of};
@@ -81,8 +78,7 @@ impl StateHost {
     /// Counts a change that was accepted.
     fn settle(&mut self, outcome: Result<(), Refusal>) -> Reply
         requires { self.old.ops < 2 ^ 62 }
-        ensures { (may : Bool) (before : Content) (given : Result Content Refusal) → Changes may before self.old.content given outcome
-            → IsGiven may (record self.old { content = before }) (change_reply (record self.old { content = before }) given) result self.new }
+        ensures { Counts self.old self.new outcome result }
     {
         match outcome {
             Ok(()) => {
@@ -95,14 +91,14 @@ impl StateHost {
 
     fn join_items(&mut self, items: &[Item]) -> Result<(), Refusal>
         ensures ops { self.new ≡ record self.old { content = self.new.content } }
-        ensures gives { Changes (is_ok (gather_result (config_of self.old.content) items.now)) self.old.content self.new.content (joined_if self.old.content (gather_result (config_of self.old.content) items.now)) result }
+        ensures gives { JoinsItems self.old self.new items.now result }
     {
         let fragment = fragment_of(self.alloc, self.state.config(), items)?;
         join(&mut self.state, &fragment)
     }
 
     fn take_items(&mut self, items: &[Item]) -> Reply
-        ensures { IsGiven (has_room_for self.old (gather_result (config_of self.old.content) items.now)) self.old (change_step self.old (joined_if self.old.content (gather_result (config_of self.old.content) items.now))) result self.new }
+        ensures { MakesChange self.old (gathered self.old items.now) (with_items self.old items.now) result self.new }
     {
         if self.is_full() {
             return Reply::Refused(Refusal::NodeFull);
@@ -112,7 +108,7 @@ impl StateHost {
     }
 
     fn join_this(&mut self, fragment: &Fragment) -> Reply
-        ensures { IsGiven (has_room_for self.old (join_result self.old.content fragment.now)) self.old (change_step self.old (join_result self.old.content fragment.now)) result self.new }
+        ensures { Takes self.old (join_result self.old.content fragment.now) result self.new }
     {
         if self.is_full() {
             return Reply::Refused(Refusal::NodeFull);
@@ -122,7 +118,7 @@ impl StateHost {
     }
 
     fn prune(&mut self, horizon: Time) -> Reply
-        ensures { IsGiven (has_room_for self.old (prune_result self.old.content horizon)) self.old (change_step self.old (prune_result self.old.content horizon)) result self.new }
+        ensures { Takes self.old (prune_result self.old.content horizon) result self.new }
     {
         if self.is_full() {
             return Reply::Refused(Refusal::NodeFull);
@@ -141,7 +137,7 @@ impl StateHost {
     }
 
     fn delta(&self, base: Time) -> Reply
-        ensures { IsGiven (is_ok (since self.now.content base)) self.now (fragment_reply (since self.now.content base), self.now) result self.now }
+        ensures { HandsOut self.now (since self.now.content base) result }
     {
         match delta_since(self.alloc, &self.state, base) {
             Ok(fragment) => Reply::Fragment(fragment),
@@ -150,7 +146,7 @@ impl StateHost {
     }
 
     fn ask(&self, time: Time, query: &Query) -> Reply
-        ensures { IsGiven (asking_may_lack (reply self.now.content time query.now)) self.now (query_reply (reply self.now.content time query.now), self.now) result self.now }
+        ensures { GivesAnswer self.now (reply self.now.content time query.now) result }
     {
         match ask(self.alloc, &self.state, time, query) {
             Ok(answer) => Reply::Answer(answer),
