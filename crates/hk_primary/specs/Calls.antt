@@ -5,13 +5,15 @@ use Rattle.hk_types.specs.declared.faults.Refusal.{Refusal}
 use Rattle.hk_types.specs.declared.faults.Refusal.TheVariants.{Memory, NoStream, NotYet, Retired}
 use Rattle.hk_log.specs.declared.item.Item.{Item}
 use Rattle.hk_log.specs.declared.item.Item.TheVariants.{Commit, Closed}
-use Rattle.hk_log.specs.Items.{MarkValue}
+use Rattle.hk_log.specs.Items.{EntryValue, MarkValue}
 use Rattle.hk_types.specs.Values.{ConfigValue}
 use Rattle.hk_model.specs.History.Histories.Act.{Commits}
-use Rattle.hk_model.specs.History.Histories.{Transaction, commits, is_retired, entry_of, history_with_mark}
-use Rattle.hk_model.specs.World.Worlds.{readable_on_primary}
+use Rattle.hk_model.specs.History.Histories.{Transaction, commits, is_retired, entry_of, history_with_mark, table_at}
+use Rattle.hk_model.specs.Replica.Answers.{AnswerValue, answer}
+use Rattle.hk_model.specs.World.Worlds.{mark_now, readable_on_primary, retirement}
+use Rattle.hk_model.specs.declared.query.Query.{Query}
 use Rattle.hk_primary.specs.Log.{PrimaryValue, with_item, IsHonest}
-use Rattle.hk_primary.specs.Txns.{TxnValue}
+use Rattle.hk_primary.specs.Txns.{IsRefusal, TxnValue}
 use Rattle.hk_primary.specs.Verdicts.{committed_after}
 
 -- what a primary makes of a transaction on a stream
@@ -36,9 +38,13 @@ Tells (Ok (Some t)) (Err e) = e.1 ≡ Memory
 Tells (Err why) (Ok time) = ⊥
 Tells (Err why) (Err e) = e.1 ≡ why
 
+-- the entry of a transaction that comes next
+abbrev pub next_entry : PrimaryValue → Transaction → EntryValue
+next_entry p t = entry_of p.config (commits p.history) t
+
 -- an accepted transaction extends the history, and its entry the log
 abbrev pub with_transaction : PrimaryValue → Transaction → PrimaryValue
-with_transaction p t = with_item p (Commits t ∷ p.history) (Commit (entry_of p.config (commits p.history) t))
+with_transaction p t = with_item p (Commits t ∷ p.history) (Commit (next_entry p t))
 
 -- the primary after this verdict
 abbrev pub primary_after : PrimaryValue → Result (Option Transaction) Refusal → PrimaryValue
@@ -70,6 +76,18 @@ mark_refused p stream =
     else if is_retired p.history stream then Some (Retired stream)
     else None
 
+-- a mark of a stream was rightly refused: the primary emits none, or memory ran out
+abbrev pub NotMarked : PrimaryValue → ℕ → Refusal → Type 0
+NotMarked p stream why = IsRefusal (mark_refused p stream) why
+
+-- the mark of a stream that a primary emits
+abbrev pub mark_of : PrimaryValue → ℕ → MarkValue
+mark_of p stream = mark_now p.config p.history stream
+
+-- the mark with which a primary retires a stream
+abbrev pub last_mark_of : PrimaryValue → ℕ → MarkValue
+last_mark_of p stream = retirement p.config p.history stream
+
 -- the primary after a mark was emitted
 abbrev pub with_mark : PrimaryValue → MarkValue → PrimaryValue
 with_mark p m = with_item p (history_with_mark p.history m) (Closed m)
@@ -77,6 +95,14 @@ with_mark p m = with_item p (history_with_mark p.history m) (Closed m)
 -- the greatest time that may be read on a primary
 abbrev pub readable_on : PrimaryValue → ℕ
 readable_on p = readable_on_primary p.config p.history
+
+-- what a primary answers to a query on the rows that the commits up to a time left
+abbrev pub answer_on : PrimaryValue → ℕ → Query → AnswerValue
+answer_on p time query = answer (table_at (commits p.history) time) query
+
+-- a query at a time was rightly answered: the time may be read, and this is the answer
+abbrev pub IsAnswered : PrimaryValue → ℕ → Query → AnswerValue → Type 0
+IsAnswered p time query a = (a ≡ answer_on p time query) × (time ≤ readable_on p)
 
 -- a query at a time was rightly refused: the time is above what may be read, which is told, or memory ran out
 abbrev pub NotAnswered : PrimaryValue → ℕ → Refusal → Type 0

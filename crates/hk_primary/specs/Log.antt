@@ -95,3 +95,7 @@ no_commits config after = record { config = config; after = after; history = [];
 -- the primary after one more item, with this history
 abbrev pub with_item : PrimaryValue → History → Item → PrimaryValue
 with_item p history item = record { config = p.config; after = p.after; history = history; items = p.items ++ item ∷ [] }
+
+-- the primary after one more entry
+abbrev pub with_entry : PrimaryValue → EntryValue → PrimaryValue
+with_entry p e = with_item p (Commits (transaction_of e) ∷ p.history) (Commit e)

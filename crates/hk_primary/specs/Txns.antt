@@ -1,5 +1,5 @@
 -- What a transaction is that is being built.
-use Rattle.std.specs.Prelude.{◌≡◌, ℕ, ◌≤◌, Option, Some, None, if◌then◌else◌, nat_le, refl}
+use Rattle.std.specs.Prelude.{◌≡◌, ℕ, ◌≤◌, List, Option, Some, None, if◌then◌else◌, nat_le, refl}
 use Rattle.std.specs.Coded.{Coded, code_by, coded×, coded_ℕ, coded_option}
 use Rattle.std.specs.FinMap as finmap
 use Rattle.hk_types.specs.Values.{RowValue}
@@ -7,7 +7,7 @@ use Rattle.hk_types.specs.declared.faults.Refusal.{Refusal}
 use Rattle.hk_types.specs.declared.faults.Refusal.TheVariants.{TwiceWritten, TooManyWrites, Memory}
 use Rattle.hk_log.specs.Versions.{row_code}
 use Rattle.hk_model.specs.History.Rows.{RowKey, row_key_cmp}
-use Rattle.hk_model.specs.History.Histories.{written_key}
+use Rattle.hk_model.specs.History.Histories.{Transaction, written_key}
 use Rattle.hk_model.specs.declared.write_op.WriteOp.{WriteOp}
 use Rattle.hk_model.specs.declared.write_op.WriteOp.TheVariants.{Put, Remove}
 
@@ -46,6 +46,14 @@ pub record AreWrites (writes : finmap.FinMap row_key_cmp WriteOp) : Type 0 where
 -- a transaction with no writes
 abbrev pub no_writes : ℕ → TxnValue
 no_writes read_at = record { read_at = read_at; writes = finmap.empty }
+
+-- the writes of a transaction, by rising key
+abbrev pub writes_in : TxnValue → List WriteOp
+writes_in t = finmap.values t.writes
+
+-- the transaction that commits these writes on a stream at a time
+abbrev pub committed_at : TxnValue → ℕ → ℕ → Transaction
+committed_at t stream time = record { time = time; stream = stream; writes = writes_in t }
 
 -- why a write of this key is refused, if it is
 abbrev pub write_refused : TxnValue → RowKey → Option Refusal

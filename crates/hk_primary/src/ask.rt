@@ -2,10 +2,9 @@
 
 ghost use Rattle.std.specs.Prelude.{◌≡◌, ◌≤◌, ◌<◌, ℕ, None, IfErr, IfOk, IsOk, OnOk};
 ghost use Rattle.hk_types.specs.declared.faults.Refusal.TheVariants.{Memory, NotYet as Early};
-ghost use Rattle.hk_model.specs.Replica.Answers.{One, answer, answer_seen};
-ghost use Rattle.hk_model.specs.History.Histories.{commits, table_at};
+ghost use Rattle.hk_model.specs.Replica.Answers.{One, answer_seen};
 ghost use Rattle.hk_model.specs.declared.query.Query.TheVariants.{Count};
-ghost use Rattle.hk_primary.specs.Calls.{readable_on};
+ghost use Rattle.hk_primary.specs.Calls.{answer_on, readable_on};
 
 use crate::primary::Primary;
 use hk_query::{Answer, Query, answer_at};
@@ -20,7 +19,7 @@ impl Primary {
     /// index, k keys of the table, b bytes of the bodies that are copied.
     pub fn ask(&self, time: Time, query: &Query) -> Result<Answer, Refusal>
         ensures told { IfOk result
-            (λ a. answer_seen a ≡ answer (table_at (commits self.now.history) time) query.now) }
+            (λ a. answer_seen a ≡ answer_on self.now time query.now) }
         ensures known { OnOk result (time ≤ readable_on self.now) }
         ensures early { readable_on self.now < time → IfErr result
             (λ why. why ≡ Early (readable_on self.now)) }
@@ -31,7 +30,7 @@ impl Primary {
 
         // Nor does it to tell that there is no such row.
         ensures absent { time ≤ readable_on self.now
-            → answer (table_at (commits self.now.history) time) query.now ≡ One None → IsOk result }
+            → answer_on self.now time query.now ≡ One None → IsOk result }
     {
         let readable = self.readable();
         if readable < time {

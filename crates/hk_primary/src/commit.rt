@@ -1,14 +1,11 @@
 //! Commits.
 
-ghost use Rattle.std.specs.Prelude.{◌≡◌, ◌∷◌, IfErr, OnOk, OnErr};
-ghost use Rattle.std.specs.FinMap as finmap;
+ghost use Rattle.std.specs.Prelude.{◌≡◌, IfErr, OnOk, OnErr};
 ghost use Rattle.hk_types.specs.declared.faults.Refusal.TheVariants.{Memory};
-ghost use Rattle.hk_log.specs.declared.item.Item.TheVariants.{Commit};
-ghost use Rattle.hk_model.specs.History.Histories.Act.{Commits};
 ghost use Rattle.hk_model.specs.History.Histories.{MayCommit, commits};
 ghost use Rattle.hk_primary.specs.Calls.{Tells, with_transaction, primary_after, verdict_of, verdict_time};
-ghost use Rattle.hk_primary.specs.Log.{IsNext, transaction_of, with_item};
-ghost use Rattle.hk_primary.specs.Txns.{AreWrites};
+ghost use Rattle.hk_primary.specs.Log.{IsNext, with_entry};
+ghost use Rattle.hk_primary.specs.Txns.{AreWrites, committed_at};
 ghost use Rattle.hk_primary.specs.Verdicts.{clock};
 
 use crate::primary::Primary;
@@ -70,7 +67,7 @@ impl Primary {
     /// Emits an entry that may come next, and adds what it says to the tables.
     fn add(&mut self, entry: Entry) -> Result<(), Refusal>
         requires { IsNext self.old.config self.old.history entry }
-        ensures ok { OnOk result (self.new ≡ with_item self.old (Commits (transaction_of entry) ∷ self.old.history) (Commit entry)) }
+        ensures ok { OnOk result (self.new ≡ with_entry self.old entry) }
         ensures err { IfErr result (λ why. why ≡ Memory) }
         ensures kept { OnErr result (self.new ≡ self.old) }
     {
@@ -86,8 +83,8 @@ impl Primary {
 
     /// Emits the entry of an accepted transaction.
     fn store(&mut self, txn: &Txn, stream: StreamNo, time: Time) -> Result<(), Refusal>
-        requires { MayCommit self.old.config self.old.history (record { time = time; stream = stream; writes = finmap.values txn.now.writes }) }
-        ensures ok { OnOk result (self.new ≡ with_transaction self.old (record { time = time; stream = stream; writes = finmap.values txn.now.writes })) }
+        requires { MayCommit self.old.config self.old.history (committed_at txn.now stream time) }
+        ensures ok { OnOk result (self.new ≡ with_transaction self.old (committed_at txn.now stream time)) }
         ensures err { IfErr result (λ why. why ≡ Memory) }
         ensures kept { OnErr result (self.new ≡ self.old) }
     {

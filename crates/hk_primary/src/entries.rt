@@ -1,10 +1,11 @@
 //! The entries of transactions.
 
 ghost use Rattle.std.specs.Prelude.{◌≡◌, ◌++◌, ◌∷◌, [], IfOk, OnOk};
-ghost use Rattle.std.specs.FinMap as finmap;
 ghost use Rattle.std.specs.List.{filter_map};
-ghost use Rattle.hk_model.specs.History.Histories.{Follows, commits, entry_of, put_row};
+ghost use Rattle.hk_model.specs.History.Histories.{Follows, commits, put_row};
+ghost use Rattle.hk_primary.specs.Calls.{next_entry};
 ghost use Rattle.hk_primary.specs.Looks.{ended_by_all, version_born};
+ghost use Rattle.hk_primary.specs.Txns.{committed_at, writes_in};
 
 use crate::primary::Primary;
 use crate::txn::Txn;
@@ -44,7 +45,7 @@ fn push_row(
 
 /// Copies of the rows that a transaction puts in.
 fn rows_of(alloc: Global, txn: &Txn) -> Result<Vec<(Table, Key, Row)>, AllocError>
-    ensures { IfOk result (λ rows. rows.items ≡ filter_map put_row (finmap.values txn.now.writes)) }
+    ensures { IfOk result (λ rows. rows.items ≡ filter_map put_row (writes_in txn.now)) }
 {
     let mut rows = Vec::new(alloc);
     for write in txn.writes() {
@@ -56,7 +57,7 @@ fn rows_of(alloc: Global, txn: &Txn) -> Result<Vec<(Table, Key, Row)>, AllocErro
 impl Primary {
     /// The versions that a transaction ends.
     fn ends_of(&self, txn: &Txn) -> Result<Vec<VersionKey>, AllocError>
-        ensures { IfOk result (λ ends. ends.items ≡ ended_by_all (commits self.now.history) (finmap.values txn.now.writes)) }
+        ensures { IfOk result (λ ends. ends.items ≡ ended_by_all (commits self.now.history) (writes_in txn.now)) }
     {
         let mut ends = Vec::new(self.alloc);
         for write in txn.writes() {
@@ -73,8 +74,8 @@ impl Primary {
         stream: StreamNo,
         time: Time,
     ) -> Result<Entry, AllocError>
-        requires { Follows self.now.config (commits self.now.history) (record { time = time; stream = stream; writes = finmap.values txn.now.writes }) }
-        ensures { IfOk result (λ entry. entry ≡ entry_of self.now.config (commits self.now.history) (record { time = time; stream = stream; writes = finmap.values txn.now.writes })) }
+        requires { Follows self.now.config (commits self.now.history) (committed_at txn.now stream time) }
+        ensures { IfOk result (λ entry. entry ≡ next_entry self.now (committed_at txn.now stream time)) }
     {
         let ends = self.ends_of(txn)?;
         let rows = rows_of(self.alloc, txn)?;

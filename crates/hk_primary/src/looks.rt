@@ -1,11 +1,10 @@
 //! What a commit looks up.
 
 ghost use Rattle.std.specs.Prelude.{◌≡◌, unwrap_or};
-ghost use Rattle.std.specs.Option.{option_map};
-ghost use Rattle.std.specs.FinMap as finmap;
-ghost use Rattle.hk_model.specs.History.Commits.{first_absent, first_conflict, last_written};
+ghost use Rattle.hk_model.specs.History.Commits.{first_absent, last_written};
 ghost use Rattle.hk_model.specs.History.Histories.{commits, tables_of};
-ghost use Rattle.hk_primary.specs.Looks.{IsLatest, removes_none, put_time_of_row};
+ghost use Rattle.hk_primary.specs.Looks.{IsLatest, conflict_of, removes_none, put_time_of_row};
+ghost use Rattle.hk_primary.specs.Txns.{writes_in};
 
 use crate::primary::Primary;
 use crate::txn::Txn;
@@ -67,7 +66,7 @@ impl Primary {
     /// The first key that a transaction writes and that a later commit than its read time wrote, with the time
     /// of the last such commit.
     pub(crate) fn first_conflict(&self, txn: &Txn) -> Option<(RowKey, Time)>
-        ensures { result ≡ option_map (λ k. (k, last_written (commits self.now.history) k)) (first_conflict (commits self.now.history) txn.now.read_at (finmap.values txn.now.writes)) }
+        ensures { result ≡ conflict_of (commits self.now.history) txn.now }
     {
         let read_at = txn.read_at();
         for write in txn.writes() {
@@ -82,7 +81,7 @@ impl Primary {
 
     /// The first key that a transaction removes and that has no row.
     pub(crate) fn first_absent(&self, txn: &Txn) -> Option<RowKey>
-        ensures { result ≡ first_absent (tables_of (commits self.now.history)) (finmap.values txn.now.writes) }
+        ensures { result ≡ first_absent (tables_of (commits self.now.history)) (writes_in txn.now) }
     {
         for write in txn.writes() {
             if self.is_absent(write) {

@@ -4,10 +4,10 @@ ghost use Rattle.std.specs.Prelude.{◌≡◌, ◌⊎◌, false, ◌≤◌, ◌<
 ghost use Rattle.std.specs.List.{list_all, range_with_len};
 ghost use Rattle.hk_types.specs.declared.faults.Refusal.TheVariants.{Memory};
 ghost use Rattle.hk_model.specs.History.Histories.{commits, entries_in, is_retired, last};
-ghost use Rattle.hk_model.specs.World.Worlds.{mark_now, mark_upto, retirement};
-ghost use Rattle.hk_primary.specs.Calls.{mark_refused, readable_on, with_mark};
+ghost use Rattle.hk_model.specs.World.Worlds.{mark_upto};
+ghost use Rattle.hk_primary.specs.Calls.{NotMarked, last_mark_of, mark_of, readable_on, with_mark};
 ghost use Rattle.hk_primary.specs.Log.{IsHonest, IsNextMark, no_commits};
-ghost use Rattle.hk_primary.specs.Txns.{IsRefusal, no_writes};
+ghost use Rattle.hk_primary.specs.Txns.{no_writes};
 
 use crate::txn::Txn;
 use hk_log::{Item, Mark};
@@ -135,11 +135,11 @@ impl Primary {
     /// A stream above the configured number is refused `NoStream`, a retired one `Retired`, and then `Memory`
     /// comes where a growth was refused. A refusal changes nothing. It takes one place in the log.
     pub fn mark(&mut self, stream: StreamNo) -> Result<Mark, Refusal>
-        ensures told { IfOk result (λ mark. mark ≡ mark_now self.old.config self.old.history stream) }
+        ensures told { IfOk result (λ mark. mark ≡ mark_of self.old stream) }
         ensures done { IfOk result (λ mark. self.new ≡ with_mark self.old mark) }
         ensures known { OnOk result (stream ≤ self.old.config.streams) }
         ensures open { OnOk result (is_retired self.old.history stream ≡ false) }
-        ensures refused { IfErr result (λ why. IsRefusal (mark_refused self.old stream) why) }
+        ensures refused { IfErr result (λ why. NotMarked self.old stream why) }
         ensures kept { OnErr result (self.new ≡ self.old) }
         ensures honest { IsHonest self.old }
     {
@@ -153,11 +153,11 @@ impl Primary {
     /// A stream above the configured number is refused `NoStream`, one that is retired already `Retired`, and then
     /// `Memory` comes where a growth was refused. A refusal changes nothing. It takes one place in the log.
     pub fn retire(&mut self, stream: StreamNo) -> Result<Mark, Refusal>
-        ensures told { IfOk result (λ mark. mark ≡ retirement self.old.config self.old.history stream) }
+        ensures told { IfOk result (λ mark. mark ≡ last_mark_of self.old stream) }
         ensures done { IfOk result (λ mark. self.new ≡ with_mark self.old mark) }
         ensures known { OnOk result (stream ≤ self.old.config.streams) }
         ensures open { OnOk result (is_retired self.old.history stream ≡ false) }
-        ensures refused { IfErr result (λ why. IsRefusal (mark_refused self.old stream) why) }
+        ensures refused { IfErr result (λ why. NotMarked self.old stream why) }
         ensures kept { OnErr result (self.new ≡ self.old) }
         ensures honest { IsHonest self.old }
     {
@@ -172,7 +172,7 @@ impl Primary {
         ensures done { IfOk result (λ mark. self.new ≡ with_mark self.old mark) }
         ensures known { OnOk result (stream ≤ self.old.config.streams) }
         ensures open { OnOk result (is_retired self.old.history stream ≡ false) }
-        ensures refused { IfErr result (λ why. IsRefusal (mark_refused self.old stream) why) }
+        ensures refused { IfErr result (λ why. NotMarked self.old stream why) }
         ensures kept { OnErr result (self.new ≡ self.old) }
     {
         if stream.number() > self.config.streams() {

@@ -2,11 +2,10 @@
 
 ghost use Rattle.std.specs.Prelude.{◌≡◌, ◌≤◌, ◌<◌, ◌+◌, ◌-◌, drop, length, IfErr, IfOk, OnOk, OnErr};
 ghost use Rattle.hk_types.specs.declared.faults.Refusal.TheVariants.{Memory};
-ghost use Rattle.hk_model.specs.Replica.Answers.{answer, answer_seen};
-ghost use Rattle.hk_model.specs.History.Histories.{commits, last, table_at};
-ghost use Rattle.hk_model.specs.World.Worlds.{mark_now, retirement};
-ghost use Rattle.hk_primary.specs.Calls.{AtSome, NotAnswered, Tells, items_of, mark_refused, readable_on, verdict_of};
-ghost use Rattle.hk_primary.specs.Txns.{IsRefusal, no_writes};
+ghost use Rattle.hk_model.specs.Replica.Answers.{answer_seen};
+ghost use Rattle.hk_model.specs.History.Histories.{commits, last};
+ghost use Rattle.hk_primary.specs.Calls.{AtSome, IsAnswered, NotAnswered, NotMarked, Tells, items_of, last_mark_of, mark_of, readable_on, verdict_of};
+ghost use Rattle.hk_primary.specs.Txns.{no_writes};
 
 use crate::primary::Primary;
 use crate::txn::Txn;
@@ -76,9 +75,9 @@ impl<K: Naming> Held<K> {
     /// Emits a mark, and counts it.
     fn mark(&mut self, share: &mut Share<K>, stream: StreamNo) -> Result<Mark, Refusal>
         requires { 0 < share.old.parts }
-        ensures told { IfOk result (λ mark. AtSome K.config K.after share.old.amount (λ p. mark ≡ mark_now p.config p.history stream)) }
+        ensures told { IfOk result (λ mark. AtSome K.config K.after share.old.amount (λ p. mark ≡ mark_of p stream)) }
         ensures known { OnOk result (stream ≤ K.config.streams) }
-        ensures refused { IfErr result (λ why. AtSome K.config K.after share.old.amount (λ p. IsRefusal (mark_refused p stream) why)) }
+        ensures refused { IfErr result (λ why. AtSome K.config K.after share.old.amount (λ p. NotMarked p stream why)) }
         ensures parts { share.new.parts ≡ share.old.parts }
         ensures counted { OnOk result (share.new.amount ≡ share.old.amount + 1) }
         ensures kept { OnErr result (share.new.amount ≡ share.old.amount) }
@@ -93,9 +92,9 @@ impl<K: Naming> Held<K> {
     /// Retires a stream, and counts its last mark.
     fn retire(&mut self, share: &mut Share<K>, stream: StreamNo) -> Result<Mark, Refusal>
         requires { 0 < share.old.parts }
-        ensures told { IfOk result (λ mark. AtSome K.config K.after share.old.amount (λ p. mark ≡ retirement p.config p.history stream)) }
+        ensures told { IfOk result (λ mark. AtSome K.config K.after share.old.amount (λ p. mark ≡ last_mark_of p stream)) }
         ensures known { OnOk result (stream ≤ K.config.streams) }
-        ensures refused { IfErr result (λ why. AtSome K.config K.after share.old.amount (λ p. IsRefusal (mark_refused p stream) why)) }
+        ensures refused { IfErr result (λ why. AtSome K.config K.after share.old.amount (λ p. NotMarked p stream why)) }
         ensures parts { share.new.parts ≡ share.old.parts }
         ensures counted { OnOk result (share.new.amount ≡ share.old.amount + 1) }
         ensures kept { OnErr result (share.new.amount ≡ share.old.amount) }
@@ -248,10 +247,10 @@ impl<K: Naming> SharedPrimary<K> {
         requires { 0 < share.old.parts }
         ensures told { IfOk result
             (λ mark. AtSome K.config K.after share.old.amount
-            (λ p. mark ≡ mark_now p.config p.history stream)) }
+            (λ p. mark ≡ mark_of p stream)) }
         ensures known { OnOk result (stream ≤ K.config.streams) }
         ensures refused { IfErr result
-            (λ why. AtSome K.config K.after share.old.amount (λ p. IsRefusal (mark_refused p stream) why)) }
+            (λ why. AtSome K.config K.after share.old.amount (λ p. NotMarked p stream why)) }
         ensures parts { share.new.parts ≡ share.old.parts }
         ensures counted { OnOk result (share.new.amount ≡ share.old.amount + 1) }
         ensures kept { OnErr result (share.new.amount ≡ share.old.amount) }
@@ -269,10 +268,10 @@ impl<K: Naming> SharedPrimary<K> {
         requires { 0 < share.old.parts }
         ensures told { IfOk result
             (λ mark. AtSome K.config K.after share.old.amount
-            (λ p. mark ≡ retirement p.config p.history stream)) }
+            (λ p. mark ≡ last_mark_of p stream)) }
         ensures known { OnOk result (stream ≤ K.config.streams) }
         ensures refused { IfErr result
-            (λ why. AtSome K.config K.after share.old.amount (λ p. IsRefusal (mark_refused p stream) why)) }
+            (λ why. AtSome K.config K.after share.old.amount (λ p. NotMarked p stream why)) }
         ensures parts { share.new.parts ≡ share.old.parts }
         ensures counted { OnOk result (share.new.amount ≡ share.old.amount + 1) }
         ensures kept { OnErr result (share.new.amount ≡ share.old.amount) }
@@ -304,8 +303,7 @@ impl<K: Naming> SharedPrimary<K> {
     /// Answers a query at a time, as `Primary::ask` does. Cost: that of `Primary::ask`.
     pub fn ask<R: Wait>(&self, rt: &R, time: Time, query: &Query) -> Result<Answer, Refusal>
         ensures told { IfOk result (λ a. AtSome K.config K.after 0
-            (λ p. (answer_seen a ≡ answer (table_at (commits p.history) time) query.now)
-            × (time ≤ readable_on p))) }
+            (λ p. IsAnswered p time query.now (answer_seen a))) }
         ensures refused { IfErr result (λ why. AtSome K.config K.after 0 (λ p. NotAnswered p time why)) }
     {
         let held = self.held.lock(rt);
