@@ -9,8 +9,7 @@ ghost use Rattle.hk_store.specs.Reads.{facts_of_content};
 
 use crate::replica::ReplicaState;
 use hk_facts::Chain;
-use hk_index::TagIndex;
-use hk_store::{Facts, KeyIndex};
+use hk_store::{Facts, KeyIndex, TagIndex};
 use hk_types::{Key, Table, Time};
 
 impl ReplicaState {
@@ -34,8 +33,8 @@ impl ReplicaState {
     }
 
     /// The versions whose row is known, by tag.
-    pub fn tags(&self) -> &TagIndex
-        ensures { AreTagged (facts_of_content self.now) result.now }
+    pub fn tags(&self) -> TagIndex<'_>
+        ensures { AreTagged (facts_of_content self.now) result }
     {
         self.facts.tags()
     }

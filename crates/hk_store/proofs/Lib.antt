@@ -18,4 +18,6 @@ pub mod ListedVersions
 pub mod PickedVersions
 pub mod WalkedRows
 pub mod SameRows
+pub mod TaggedRows
+pub mod TaggedVersions
 pub mod WalkedChains

@@ -11,7 +11,6 @@ use Rattle.hk_model.specs.History.Rows.{version_key_cmp}
 use Rattle.hk_model.specs.Replica.Content.{at_most, ended_by}
 use Rattle.hk_model.specs.Replica.Maps.{or_else}
 use Rattle.hk_model.proofs.Maps.{version_key_total}
-use Rattle.hk_index.specs.Tagged.{tagged_cmp}
 use Rattle.hk_index.specs.declared.timed.TimedVersion.{TimedVersion}
 use Rattle.hk_index.specs.Timed.{timed_cmp, is_at, AreTimed, passes_at, versions_where}
 use Rattle.hk_index.proofs.Named.{tied_parts}
@@ -22,10 +21,9 @@ use Rattle.hk_facts.specs.declared.fact.Part.{Part}
 use Rattle.hk_facts.specs.declared.fact.Part.TheVariants.{Row as RowPart, End as EndPart, Whole}
 use Rattle.hk_store.specs.Facts.{FactsValue, with_fact_at, facts_without}
 use Rattle.hk_store.specs.Drops.{is_among}
-use Rattle.hk_store.specs.Indexed.{AreTagged, born_at, died_at, is_stated, tag_lost, end_lost, tags_without, times_without}
+use Rattle.hk_store.specs.Indexed.{born_at, died_at, is_stated, tag_lost, end_lost, times_without}
 use Rattle.hk_store.proofs.StoredFacts.{tied, key_tied}
 use Rattle.hk_store.proofs.ChangedChains.{get-added, get-without, tied_is}
-use Rattle.hk_store.proofs.Indexed.{part_gone, part_rowless}
 
 abbrev pub Times : Type 0
 Times = set.FinSet timed_cmp
@@ -129,13 +127,6 @@ module _ (f : FactsValue) (v : VersionKey) where
   deaths_left deaths are RowPart = are
   deaths_left deaths are Whole = time_lost (died_at f) deaths are v (finmap.get f.ends v) refl (died_at (facts_without f v Whole)) (get-without f.ends v)
   deaths_left deaths are EndPart = time_lost (died_at f) deaths are v (finmap.get f.ends v) refl (died_at (facts_without f v EndPart)) (get-without f.ends v)
-
-  pub tags_left : (tags : set.FinSet tagged_cmp) → AreTagged f tags → (part : Part) → AreTagged (facts_without f v part) (tags_without tags v (tag_lost f v part))
-  tags_left tags are part = by (tag_lost f v part) refl
-    where
-      by : (o : Option ℕ) → tag_lost f v part ≡ o → AreTagged (facts_without f v part) (tags_without tags v o)
-      by None e = part_rowless f tags are v part e
-      by (Some tag) e = part_gone f tags are v part tag e
 
 -- ---- what the indexes by time list
 

@@ -1,5 +1,6 @@
 -- What the indexes of facts hold.
-use Rattle.std.specs.Prelude.{◌≡◌, ℕ, Bool, false, ◌==◌, ◌||◌, ◌++◌, is_some, Option, Some, None}
+use Rattle.std.specs.Prelude.{◌≡◌, ℕ, Bool, true, false, ◌==◌, ◌||◌, ◌&&◌, ◌++◌, is_some, if◌then◌else◌, List, Option, Some, None}
+use Rattle.std.specs.List.{flat_map}
 use Rattle.std.specs.Option.{option_map}
 use Rattle.std.specs.FinMap as finmap
 use Rattle.std.specs.FinSet as set
@@ -7,7 +8,8 @@ use Rattle.hk_types.specs.Values.{RowValue}
 use Rattle.hk_types.specs.declared.version_key.VersionKey.{VersionKey}
 use Rattle.hk_log.specs.Versions.{VersionValue}
 use Rattle.hk_model.specs.History.Rows.{version_key_cmp}
-use Rattle.hk_index.specs.Tagged.{tagged_cmp}
+use Rattle.hk_model.specs.History.Histories.{Tables}
+use Rattle.hk_index.specs.Tags.{TagKeysValue, is_listed}
 use Rattle.hk_index.specs.Timed.{timed_cmp, AreTimed, passes_at}
 use Rattle.hk_facts.specs.declared.fact.Fact.{Fact}
 use Rattle.hk_facts.specs.declared.fact.Fact.TheVariants.{Row, End}
@@ -15,6 +17,7 @@ use Rattle.hk_facts.specs.declared.fact.Part.{Part}
 use Rattle.hk_facts.specs.declared.fact.Part.TheVariants.{Row as RowPart, End as EndPart, Whole}
 use Rattle.hk_facts.specs.Facts.{row_of, died_of}
 use Rattle.hk_store.specs.Facts.{FactsValue}
+use Rattle.hk_store.specs.Reads.{keyed_if}
 
 -- whether there is a row, and it has this tag
 abbrev pub is_tagged : ℕ → Option RowValue → Bool
@@ -25,9 +28,33 @@ is_tagged tag (Some row) = row.tag == tag
 abbrev pub has_tag : FactsValue → ℕ → VersionKey → Bool
 has_tag f tag v = is_tagged tag (finmap.get f.rows v)
 
+-- the rows of all versions
+abbrev pub RowsValue : Type 0
+RowsValue = finmap.FinMap version_key_cmp RowValue
+
 -- the index by tag has each version whose row is known, with the tag of that row, and no other
-abbrev pub AreTagged : FactsValue → set.FinSet tagged_cmp → Type 0
-AreTagged f tags = (tag : ℕ) (v : VersionKey) → set.contains tags (record { tag = tag; version = v }) ≡ has_tag f tag v
+abbrev pub AreTagged : FactsValue → RowsValue → Type 0
+AreTagged f index = (tag : ℕ) (v : VersionKey) → is_tagged tag (finmap.get index v) ≡ has_tag f tag v
+
+-- the versions of a table whose row has a tag
+abbrev pub with_tag : RowsValue → ℕ → ℕ → set.FinSet version_key_cmp
+with_tag index table tag = set.from_list (finmap.keys (finmap.retain_keys index (λ v. is_tagged tag (finmap.get index v) && (v.table == table))))
+
+-- each key of which a row is known is listed by the tag of that row
+abbrev pub AllListed : FactsValue → TagKeysValue → Type 0
+AllListed f keys = (v : VersionKey) (row : RowValue) → finmap.get f.rows v ≡ Some row → is_listed keys v.table row.tag v.key ≡ true
+
+-- the row, where it has the tag
+abbrev pub if_tagged : ℕ → Option RowValue → Option RowValue
+if_tagged tag row = if is_tagged tag row then row else None
+
+-- the row of a key of a table, where it has the tag
+abbrev pub tagged_row : Tables → ℕ → ℕ → ℕ → Option RowValue
+tagged_row tables table tag key = if_tagged tag (finmap.get tables (record { table = table; key = key }))
+
+-- the rows of some keys of a table that have a tag, with their keys
+abbrev pub rows_of_keys : Tables → ℕ → ℕ → List ℕ → List (ℕ × RowValue)
+rows_of_keys tables table tag keys = flat_map (λ key. keyed_if key (tagged_row tables table tag key)) keys
 
 -- whether a row or an end of a version is known
 abbrev pub has_fact : FactsValue → VersionKey → Bool
@@ -49,8 +76,8 @@ born_at f v = option_map (λ row. v.born) (finmap.get f.rows v)
 abbrev pub died_at : FactsValue → VersionKey → Option ℕ
 died_at f v = finmap.get f.ends v
 
-pub record AreIndexed (f : FactsValue) (tags : set.FinSet tagged_cmp) (births deaths : set.FinSet timed_cmp) : Type 0 where
-  pub tagged : AreTagged f tags
+pub record AreIndexed (f : FactsValue) (keys : TagKeysValue) (births deaths : set.FinSet timed_cmp) : Type 0 where
+  pub tagged : AllListed f keys
   pub born : AreTimed (born_at f) births
   pub dead : AreTimed (died_at f) deaths
 
@@ -86,11 +113,6 @@ abbrev pub end_of_part : Option VersionValue → Part → Option ℕ
 end_of_part known EndPart = died_of known
 end_of_part known RowPart = None
 end_of_part known Whole = died_of known
-
--- the index by tag without a version that has this tag
-abbrev pub tags_without : set.FinSet tagged_cmp → VersionKey → Option ℕ → set.FinSet tagged_cmp
-tags_without tags v None = tags
-tags_without tags v (Some tag) = set.remove tags (record { tag = tag; version = v })
 
 -- an index by time without a version that has this time
 abbrev pub times_without : set.FinSet timed_cmp → VersionKey → Option ℕ → set.FinSet timed_cmp

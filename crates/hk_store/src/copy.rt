@@ -4,6 +4,7 @@ ghost use Rattle.std.specs.Prelude.{◌≡◌, IfOk, IfErr};
 ghost use Rattle.hk_types.specs.declared.faults.Refusal.TheVariants.{Memory};
 
 use crate::facts::Facts;
+use crate::tagged::keys_by_tag;
 use hk_types::Refusal;
 use std::alloc::Global;
 
@@ -15,7 +16,7 @@ impl Facts {
         ensures err { IfErr result (λ why. why ≡ Memory) }
     {
         let chains = self.chains.copy(alloc)?;
-        let tags = self.tags.copy(alloc)?;
+        let tags = keys_by_tag(alloc, &chains)?;
         let births = self.births.copy(alloc)?;
         let deaths = self.deaths.copy(alloc)?;
         Ok(Facts {

@@ -4,12 +4,12 @@ ghost use Rattle.std.specs.Prelude.{◌≡◌, OnOk, OnErr, IfErr};
 ghost use Rattle.hk_types.specs.declared.faults.Refusal.TheVariants.{Memory};
 ghost use Rattle.hk_index.specs.Timed.{AreTimed};
 ghost use Rattle.hk_store.specs.Drops.{without_all, pruned_facts};
-ghost use Rattle.hk_store.specs.Indexed.{AreTagged, born_at};
+ghost use Rattle.hk_store.specs.Indexed.{AllListed, born_at};
 
 use crate::chains::Chains;
 use crate::facts::{Facts, forget_birth};
 use hk_facts::Part;
-use hk_index::{TagIndex, TimeIndex};
+use hk_index::{TagKeys, TimeIndex};
 use hk_types::{Refusal, Time, VersionKey};
 
 impl Facts {
@@ -33,6 +33,7 @@ impl Facts {
         let ended = self.ended(self.allocator(), until)?;
         forget_all(&mut self.chains, &mut self.tags, &mut self.births, &ended);
         self.deaths.drop_until(until);
+        self.tidy();
         Ok(())
     }
 }
@@ -40,14 +41,14 @@ impl Facts {
 /// Drops all that is known of these versions, out of the chains and the indexes of those whose row is known.
 fn forget_all(
     chains: &mut Chains,
-    tags: &mut TagIndex,
+    tags: &mut TagKeys,
     births: &mut TimeIndex,
     versions: &[VersionKey],
 )
-    requires tagged { AreTagged chains.old tags.old }
+    requires tagged { AllListed chains.old tags.old }
     requires born { AreTimed (born_at chains.old) births.old }
     ensures left { chains.new ≡ without_all chains.old versions.now }
-    ensures tagged { AreTagged chains.new tags.new }
+    ensures tagged { AllListed chains.new tags.new }
     ensures born { AreTimed (born_at chains.new) births.new }
 {
     for version in versions {

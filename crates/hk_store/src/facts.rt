@@ -1,6 +1,6 @@
 //! The facts of a replica, with the indexes of their versions.
 
-ghost use Rattle.std.specs.Prelude.{◌≡◌, ◌==◌, length, false, is_some, ◌⊎◌, ◌<◌, OnOk, OnErr, IfErr, IfOk, IfSome, IfNone, Ok, Err, Some, None, ℕ};
+ghost use Rattle.std.specs.Prelude.{◌≡◌, ◌==◌, length, true, is_some, ◌⊎◌, ◌<◌, OnOk, OnErr, IfErr, IfOk, IfSome, IfNone, Ok, Err, Some, None, ℕ};
 ghost use Rattle.std.specs.Bool.{OnTrue, OnFalse};
 ghost use Rattle.std.specs.Option.{option_copied, option_map};
 ghost use Rattle.std.specs.FinMap as finmap;
@@ -11,22 +11,25 @@ ghost use Rattle.hk_facts.specs.declared.fact.Fact.TheVariants.{Row as RowFact, 
 ghost use Rattle.hk_model.specs.Replica.Answers.{visible, rows_where};
 ghost use Rattle.hk_store.specs.Reads.{with_facts};
 ghost use Rattle.hk_store.specs.Facts.{IsChainAt, IsUnknown, no_facts, known_at, with_fact_at, facts_put, facts_without};
-ghost use Rattle.hk_store.specs.Indexed.{AreTagged, AreKeyed, IsNew, tags_without, times_without};
+ghost use Rattle.hk_index.specs.Tags.{StillListed, is_listed};
+ghost use Rattle.hk_store.specs.Indexed.{AreTagged, AreKeyed, IsNew, times_without};
 
 use crate::chains::Chains;
 use crate::key_index::KeyIndex;
+use crate::tag_index::TagIndex;
+use crate::tagged::keys_by_tag;
 use hk_facts::{Chain, Fact, Part};
-use hk_index::{TagIndex, TimeIndex};
+use hk_index::{TagKeys, TimeIndex};
 use hk_types::{Key, Refusal, Row, Table, Tag, Time, VersionKey};
 use std::alloc::Global;
 use std::marker::Model;
 
-/// The rows and the ends of all versions, with three indexes: by tag and by the time of birth those whose row is
-/// known, and by the time of death those whose end is known.
+/// The rows and the ends of all versions, with lists of the keys that have a row with a tag, and two indexes: by the time
+/// of birth of those whose row is known, and by the time of death of those whose end is known.
 #[derive(Drop)]
 pub struct Facts {
     pub(crate) chains: Chains,
-    pub(crate) tags: TagIndex,
+    pub(crate) tags: TagKeys,
     pub(crate) births: TimeIndex,
     pub(crate) deaths: TimeIndex,
 }
@@ -51,7 +54,7 @@ impl Facts {
     {
         Facts {
             chains: Chains::new(alloc),
-            tags: TagIndex::new(alloc),
+            tags: TagKeys::new(alloc),
             births: TimeIndex::new(alloc),
             deaths: TimeIndex::new(alloc),
         }
@@ -63,10 +66,10 @@ impl Facts {
     }
 
     /// The versions whose row is known, by tag.
-    pub fn tags(&self) -> &TagIndex
-        ensures { AreTagged self.now result.now }
+    pub fn tags(&self) -> TagIndex<'_>
+        ensures { AreTagged self.now result }
     {
-        &self.tags
+        TagIndex::of(&self.chains, &self.tags)
     }
 
     /// The versions of which a row or an end is known, by table and key.
@@ -206,52 +209,59 @@ impl Facts {
         Ok(true)
     }
 
-    /// Takes a part of a version back, where it is known. Cost: O(log n), n facts.
+    /// Takes a part of a version back, where it is known. Cost: O(log n), amortized, n facts.
     pub fn forget(&mut self, version: &VersionKey, part: Part)
         ensures { self.new ≡ facts_without self.old version.now part }
     {
         let lost = self.chains.forget(version, part);
         forget_birth(&mut self.tags, &mut self.births, version, lost.tag);
         forget_death(&mut self.deaths, version, lost.died);
+        self.tidy();
+    }
+
+    /// Lists the keys by tag anew, where many are listed in vain and there is memory for it.
+    pub(crate) fn tidy(&mut self)
+        ensures { self.new ≡ self.old }
+    {
+        if !self.tags.is_worn() {
+            return;
+        }
+        if let Ok(tags) = keys_by_tag(self.chains.allocator(), &self.chains) {
+            self.tags = tags;
+        }
     }
 }
 
-/// Adds a version to the indexes of those whose row is known, which have it not.
+/// Lists a version's key by its tag, and adds the version to those whose row is known.
 fn add_birth(
-    tags: &mut TagIndex,
+    tags: &mut TagKeys,
     births: &mut TimeIndex,
     version: &VersionKey,
     tag: Tag,
 ) -> Result<(), Refusal>
-    requires { set.contains tags.old (record { tag = tag; version = version.now }) ≡ false }
-    ensures tagged { OnOk result (tags.new
-        ≡ set.insert tags.old (record { tag = tag; version = version.now })) }
+    ensures listed { OnOk result (is_listed tags.new version.now.table tag version.now.key ≡ true) }
+    ensures kept { StillListed tags.old tags.new }
     ensures timed { OnOk result (births.new
         ≡ set.insert births.old (record { time = version.now.born; version = version.now })) }
     ensures err { IfErr result (λ why. why ≡ Memory) }
-    ensures untagged { OnErr result (tags.new ≡ tags.old) }
     ensures untimed { OnErr result (births.new ≡ births.old) }
 {
-    tags.add(tag, *version)?;
-    if let Err(why) = births.add(version.born, *version) {
-        tags.remove(tag, *version);
-        return Err(why);
-    }
-    Ok(())
+    tags.add(version.table, tag, version.key)?;
+    births.add(version.born, *version)
 }
 
-/// Takes a version out of the indexes of those whose row is known, where a row goes that has this tag.
+/// Takes a version out of the index of those whose row is known, where a row goes that has this tag.
 pub(crate) fn forget_birth(
-    tags: &mut TagIndex,
+    tags: &mut TagKeys,
     births: &mut TimeIndex,
     version: &VersionKey,
     tag: Option<Tag>,
 )
-    ensures tags { tags.new ≡ tags_without tags.old version.now tag }
+    ensures tags { tags.new ≡ tags.old }
     ensures births { births.new ≡ times_without births.old version.now (option_map (λ t. version.now.born) tag) }
 {
-    if let Some(tag) = tag {
-        tags.remove(tag, *version);
+    if tag.is_some() {
+        tags.note_gone();
         births.remove(version.born, *version);
     }
 }

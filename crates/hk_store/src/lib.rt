@@ -13,6 +13,8 @@ mod replace;
 mod row_key;
 mod shown;
 mod stated;
+mod tag_index;
+mod tagged;
 mod versions;
 mod walk;
 
@@ -21,5 +23,6 @@ pub use facts::Facts;
 pub use key_index::KeyIndex;
 pub use replace::meets;
 pub use row_key::RowKey;
+pub use tag_index::TagIndex;
 pub use versions::push_borrowed;
 pub use walk::Walk;

@@ -1,6 +1,0 @@
-use Rattle.std.proofs.Common.{◌∙◌, sym}
-use Rattle.hk_index.proofs.StoredTags.{contains-seen}
-use Rattle.hk_index.proofs.tag_index.TagIndex.has.Goals as goal
-
-pub returns : goal.returns
-returns c = c.contains.ensures ∙ rw (← c.self.view_is) (sym (contains-seen _ _))
