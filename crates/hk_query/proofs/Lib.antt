@@ -1,3 +1,2 @@
-pub mod ListedAnswers
 pub mod OfPrimary
 pub mod ReplyAtTime

@@ -6,7 +6,6 @@ ghost use Rattle.hk_model.specs.declared.query.Query.TheVariants.{Range, ByTag, 
 ghost use Rattle.hk_model.specs.Replica.Answers.{One, Rows, answer_seen};
 ghost use Rattle.hk_query.specs.Rows.{answer_of, row_of};
 
-use crate::rows::shown_rows;
 use hk_model::{Answer, Query};
 use hk_store::Facts;
 use hk_types::{Key, Refusal, Row, Table, Tag, Time};
@@ -55,16 +54,14 @@ fn by_tag(
     ensures ok { IfOk result (λ rows. answer_of facts.now time (ByTag table tag) ≡ Rows rows.items) }
     ensures err { IfErr result (λ why. why ≡ Memory) }
 {
-    let versions = facts.tags().list(alloc, table, tag)?;
-    let rows = shown_rows(alloc, facts, time, &versions)?;
-    Ok(rows)
+    facts.rows_tagged(alloc, table, tag, time)
 }
 
 /// The answer to a query on the rows that facts show at a time.
 ///
 /// The only refusal is `Memory`. A `Count` and a row that is not there take no memory. Cost: `Get` O(log n + b), `Range`
-/// O(log n + k · log n + b), `ByTag` O(log n + v · log n + b), `Count` O(log n + k · log n), n facts, k keys of the
-/// range or of the table, v versions with the tag, b bytes of the bodies that are copied.
+/// O(log n + k · log n + b), `ByTag` O(k · log n + b), `Count` O(log n + k · log n), n facts, k keys of the range, of the
+/// table, or that have or had a row with the tag, b bytes of the bodies that are copied.
 pub fn answer_at(alloc: Global, facts: &Facts, time: Time, query: &Query) -> Result<Answer, Refusal>
     ensures ok { IfOk result (λ a. answer_seen a ≡ answer_of facts.now time query.now) }
     ensures err { IfErr result (λ why. why ≡ Memory) }

@@ -3,7 +3,6 @@
 
 mod answers;
 mod reply;
-mod rows;
 
 pub use answers::answer_at;
 pub use hk_model::{Answer, Query};

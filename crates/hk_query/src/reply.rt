@@ -17,9 +17,8 @@ use std::alloc::Global;
 ///
 /// A time below the horizon is refused `TooOld` with the horizon, one above the readable mark `NotYet` with
 /// that, and then `Memory` comes where a growth was refused; a `Count` and a row that is not there take no
-/// memory. Cost: `Get` O(log n + b), `Range` and `ByTag` O(log n + v · log n + b), `Count`
-/// O(log n + k · log n), n facts, v versions that the index lists, k keys of the table, b bytes of the bodies
-/// that are copied.
+/// memory. Cost: `Get` O(log n + b), `Range` and `ByTag` O(log n + k · log n + b), `Count` O(log n + k · log n), n facts,
+/// k keys of the range, of the table, or that have or had a row with the tag, b bytes of the bodies that are copied.
 pub fn ask(
     alloc: Global,
     state: &ReplicaState,

@@ -1,16 +1,15 @@
 -- What chains tell of a state at a time.
-use Rattle.std.proofs.Common.{◌≡◌, refl, sym, ap, ◌∙◌, ℕ, Bool, true, false, cond, Option, Some, None}
+use Rattle.std.proofs.Common.{◌≡◌, refl, sym, ap, ◌∙◌, ℕ, Option, Some, None}
 use Rattle.std.specs.FinMap as finmap
 use Rattle.hk_types.specs.Values.{RowValue}
 use Rattle.hk_model.specs.History.Rows.{RowKey, version_of}
 use Rattle.hk_model.specs.Replica.Content.{Content}
-use Rattle.hk_model.specs.Replica.Answers.{visible, shows}
+use Rattle.hk_model.specs.Replica.Answers.{visible}
 use Rattle.hk_model.proofs.Shown.{none_visible}
-use Rattle.hk_facts.specs.Chains.{ChainValue, row_at, latest_at, picked}
+use Rattle.hk_facts.specs.Chains.{ChainValue, row_at}
 use Rattle.hk_facts.specs.Facts.{row_of, died_of}
-use Rattle.hk_facts.proofs.ShownRow.{IsChainOf, chain_visible, shown_by}
+use Rattle.hk_facts.proofs.ShownRow.{IsChainOf, chain_visible}
 use Rattle.hk_store.specs.Facts.{FactsValue, known_at}
-use Rattle.hk_store.specs.Reads.{row_shown}
 use Rattle.hk_store.proofs.StoredFacts.{known_row, known_end}
 
 abbrev pub facts_in : Content → FactsValue
@@ -34,13 +33,3 @@ module _ (c : Content) (k : RowKey) where
     where
       has_conflict_with : (r : RowValue) → ◌≡◌ {A = Option RowValue} None (Some r) → ⊥
       has_conflict_with r e = cc
-
-  pub none_shown : (t born : ℕ) → ((born : ℕ) → known_at (facts_in c) (version_of k born) ≡ None) → None ≡ row_shown c t (version_of k born)
-  none_shown t born none = either (shows c t (version_of k born)) ∙ ap (λ o. cond (shows c t (version_of k born)) o None) (sym (no_row born (none born)))
-    where
-      either : (b : Bool) → ◌≡◌ {A = Option RowValue} None (cond b None None)
-      either true = refl
-      either false = refl
-
-  pub picked_shown : (chain : ChainValue) (t born : ℕ) (r : Option RowValue) → ((born : ℕ) → finmap.get chain born ≡ known_at (facts_in c) (version_of k born)) → r ≡ picked t born (latest_at chain t) → r ≡ row_shown c t (version_of k born)
-  picked_shown chain t born r has is = is ∙ sym (shown_by c k chain (chain_of chain has) t born)

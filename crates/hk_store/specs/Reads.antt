@@ -1,18 +1,11 @@
 -- What is read of a state at a time.
-use Rattle.std.specs.Prelude.{ℕ, List, [], ◌∷◌, Option, Some, None, if◌then◌else◌}
+use Rattle.std.specs.Prelude.{ℕ, List, [], ◌∷◌, Option, Some, None}
 use Rattle.std.specs.List.{flat_map}
-use Rattle.std.specs.FinMap as finmap
 use Rattle.hk_types.specs.Values.{RowValue}
-use Rattle.hk_types.specs.declared.version_key.VersionKey.{VersionKey}
 use Rattle.hk_model.specs.History.Rows.{RowKey}
 use Rattle.hk_model.specs.Replica.Content.{Content}
-use Rattle.hk_model.specs.Replica.Answers.{shows}
 use Rattle.hk_facts.specs.Chains.{ChainValue, row_at}
 use Rattle.hk_store.specs.Facts.{FactsValue}
-
--- the row of a version, where the version shows at t
-abbrev pub row_shown : Content → ℕ → VersionKey → Option RowValue
-row_shown c t v = if shows c t v then finmap.get c.rows v else None
 
 -- a content with these facts
 abbrev pub with_facts : FactsValue → Content

@@ -5,12 +5,10 @@ ghost use Rattle.std.specs.Option.{option_copied};
 ghost use Rattle.std.specs.FinMap as finmap;
 ghost use Rattle.hk_types.specs.declared.faults.Refusal.TheVariants.{Memory};
 ghost use Rattle.hk_model.specs.Replica.Answers.{visible, rows_where};
-ghost use Rattle.hk_facts.specs.Chains.{latest_at, picked};
-ghost use Rattle.hk_store.specs.Reads.{with_facts, row_shown};
+ghost use Rattle.hk_store.specs.Reads.{with_facts};
 
 use crate::facts::Facts;
-use hk_facts::{Chain, ended_by};
-use hk_types::{Key, Refusal, Row, Table, Time, VersionKey};
+use hk_types::{Key, Refusal, Row, Table, Time};
 use std::alloc::Global;
 
 impl Facts {
@@ -44,29 +42,5 @@ impl Facts {
     {
         let rows = self.chains.rows_between(alloc, table, low, high, time)?;
         Ok(rows)
-    }
-
-    /// The row of a version, where the version shows at a time. It takes no memory. Cost: O(log n),
-    /// n facts, and no look at them where the version was born later.
-    pub fn row_shown(&self, version: &VersionKey, time: Time) -> Option<&Row>
-        ensures { option_copied result ≡ row_shown (with_facts self.now) time version.now }
-    {
-        if time < version.born {
-            return None;
-        }
-        match self.chain(version.table, version.key) {
-            Some(chain) => picked(chain, time, version.born),
-            None => None,
-        }
-    }
-}
-
-/// The row of the version of a chain that was born then, where it is the one that shows at a time.
-fn picked(chain: &Chain, time: Time, born: Time) -> Option<&Row>
-    ensures { option_copied result ≡ picked time born (latest_at chain.now time) }
-{
-    match chain.latest(time) {
-        Some((latest, version)) if latest == born && !ended_by(version, time) => version.row(),
-        _ => None,
     }
 }
