@@ -1,5 +1,5 @@
 -- What calls on a world, and on one of its replicas, tell and leave.
-use Rattle.std.specs.Prelude.{◌≡◌, ◌⊎◌, ℕ, Bool, true, false, ◌||◌, nat_lt, if◌then◌else◌, List, Option, Some, None, Result, Ok, Err}
+use Rattle.std.specs.Prelude.{◌≡◌, ◌⊎◌, ℕ, Bool, true, false, ◌||◌, nat_lt, if◌then◌else◌, List, Option, Some, None, Result, Ok, Err, MatchResult}
 use Rattle.std.specs.FinMap as finmap
 use Rattle.hk_types.specs.Values.{ConfigValue}
 use Rattle.hk_model.specs.History.Rows.{row_key_cmp}
@@ -8,11 +8,13 @@ use Rattle.hk_model.specs.History.Commits.{writes_result}
 use Rattle.hk_model.specs.declared.write_op.WriteOp.{WriteOp}
 use Rattle.hk_types.specs.declared.faults.Refusal.{Refusal}
 use Rattle.hk_types.specs.declared.faults.Refusal.TheVariants.{Gap, AheadOfMark, TooOld, NotYet, WriteConflict, NoRow, TwiceWritten, TooManyWrites, NoStream, ClockFull, Retired, NoSuch, Memory}
+use Rattle.hk_model.specs.declared.query.Query.{Query}
 use Rattle.hk_model.specs.declared.told.Told.{Told}
 use Rattle.hk_model.specs.Replica.Content.{Content}
 use Rattle.hk_model.specs.World.Events.{told_seen}
-use Rattle.hk_model.specs.World.Worlds.{World, Replica, EventValue, ToldValue, Agree, with_at_number, step, by_items}
+use Rattle.hk_model.specs.World.Worlds.{World, Replica, EventValue, ToldValue, Agree, asked_primary, with_at_number, step, by_items}
 use Rattle.hk_model.specs.World.Worlds.ToldValue.{Refused}
+use Rattle.hk_primary.specs.Log.{PrimaryValue}
 use Rattle.hk_laws.specs.Running.{Running, step_outcome}
 
 -- whether a refusal says that memory ran out
@@ -46,6 +48,14 @@ is_first_outcome _ = false
 abbrev pub Gives : {W : Type 0} → ToldValue × W → W → W → Result Told Refusal → Type 0
 Gives expected old new (Ok outcome) = (told_seen outcome ≡ expected.0) × (new ≡ expected.1) × (is_memory_outcome (told_seen outcome) ≡ false)
 Gives expected old new (Err why) = (why ≡ Memory) × (new ≡ old) × (is_first_outcome expected.0 ≡ false)
+
+-- a refusal is told, unless it says that memory ran out
+abbrev pub TellsRefusal : Refusal → Result Told Refusal → Type 0
+TellsRefusal why result = MatchResult result (λ outcome. (told_seen outcome ≡ Refused why) × (is_memory why ≡ false)) (λ e. (e ≡ Memory) × (why ≡ Memory))
+
+-- what a primary tells that is asked at a time
+abbrev pub asked_of : PrimaryValue → ℕ → Query → ToldValue
+asked_of p time query = asked_primary p.config p.history time query
 
 -- of these replicas the one with a number acts on what is there, or something is missing
 abbrev pub act_on_one_of : {X : Type 0} → List Content → ℕ → Option X → (X → ToldValue × Content) → ToldValue × List Content

@@ -1,4 +1,5 @@
 pub mod Running
 pub mod Calls
+pub mod Among
 pub mod Runs
 pub mod Codes

@@ -1,6 +1,9 @@
 -- What a run answers.
-use Rattle.std.specs.Prelude.{◌≡◌, ◌⊎◌, ℕ, true, not, List, [], ◌∷◌, filter, length, if◌then◌else◌}
+use Rattle.std.specs.Prelude.{◌≡◌, ◌⊎◌, ℕ, true, not, List, [], ◌∷◌, filter, map, length, if◌then◌else◌}
 use Rattle.hk_types.specs.Values.{ConfigValue}
+use Rattle.hk_model.specs.declared.event.Event.{Event}
+use Rattle.hk_model.specs.declared.told.Told.{Told}
+use Rattle.hk_model.specs.World.Events.{event_seen, told_seen}
 use Rattle.hk_model.specs.World.Worlds.{World, Replica, EventValue, ToldValue, step, run, by_items, new_items}
 use Rattle.hk_types.specs.declared.faults.Refusal.TheVariants.{Memory}
 use Rattle.hk_model.specs.World.Worlds.ToldValue.{Refused}
@@ -31,3 +34,11 @@ TellsEach config items (e ∷ events) (t ∷ outcome) =
     ((t ≡ Refused Memory) × (may_lack after.0 ≡ true) × TellsEach config items events outcome) ⊎ ((t ≡ after.0) × TellsEach config after.1 events outcome)
 TellsEach config items [] (t ∷ outcome) = ⊥
 TellsEach config items (e ∷ events) [] = ⊥
+
+-- so a new world with so many replicas runs
+abbrev pub RunsNew : ConfigValue → ℕ → List Event → List Told → Type 0
+RunsNew config replicas events outcome = Runs config replicas (map event_seen events) (map told_seen outcome)
+
+-- so each event is told in a new world with so many replicas
+abbrev pub TellsNew : ConfigValue → ℕ → List Event → List Told → Type 0
+TellsNew config replicas events outcome = TellsEach config (new_items replicas) (map event_seen events) (map told_seen outcome)

@@ -1,14 +1,14 @@
 //! What one replica does and tells.
 
-ghost use Rattle.std.specs.Prelude.{◌≡◌, Result, IfOk, IfErr, OnErr, MatchResult, false};
+ghost use Rattle.std.specs.Prelude.{◌≡◌, Result, IfOk, IfErr, OnErr, false};
 ghost use Rattle.hk_types.specs.declared.faults.Refusal.TheVariants.{Memory};
 ghost use Rattle.hk_model.specs.Replica.Answers.{reply};
 ghost use Rattle.hk_model.specs.Replica.Content.{readable};
 ghost use Rattle.hk_model.specs.World.Events.{told_seen};
 ghost use Rattle.hk_model.specs.Replica.Rules as rules;
 ghost use Rattle.hk_model.specs.World.Worlds.{outcome_of_batch, outcome_by, outcome_of_reply, outcome_of_take};
-ghost use Rattle.hk_model.specs.World.Worlds.ToldValue.{Fronted, Refused};
-ghost use Rattle.hk_laws.specs.Calls.{Gives, is_memory, is_memory_outcome, is_first_outcome};
+ghost use Rattle.hk_model.specs.World.Worlds.ToldValue.{Fronted};
+ghost use Rattle.hk_laws.specs.Calls.{Gives, TellsRefusal, is_memory_outcome, is_first_outcome};
 
 use hk_log::Item;
 use hk_model::{Query, Told};
@@ -18,7 +18,7 @@ use std::alloc::Global;
 
 /// What a refusal is told as. `Memory` is told by `World::step`.
 pub(crate) fn refused(why: Refusal) -> Result<Told, Refusal>
-    ensures { MatchResult result (λ outcome. (told_seen outcome ≡ Refused why) × (is_memory why ≡ false)) (λ e. (e ≡ Memory) × (why ≡ Memory)) }
+    ensures { TellsRefusal why result }
 {
     match why {
         Refusal::Memory => Err(Refusal::Memory),

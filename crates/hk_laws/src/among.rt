@@ -1,11 +1,10 @@
 //! What happens to one replica of a list.
 
-ghost use Rattle.std.specs.Prelude.{◌≡◌, ◌≢◌, ◌+◌, ◌<◌, length, MatchOption, Ok, false};
+ghost use Rattle.std.specs.Prelude.{◌≡◌, ◌≢◌, ◌+◌, ◌<◌, length, Ok};
 ghost use Rattle.hk_model.specs.World.Events.{told_seen};
 ghost use Rattle.hk_model.specs.Replica.Rules as rules;
-ghost use Rattle.hk_model.specs.World.Worlds.{all_numbered, both, delta_join, at_number, outcome_of_batch, outcome_by, outcome_of_take};
-ghost use Rattle.hk_model.specs.World.Worlds.ToldValue.{Done, Refused};
-ghost use Rattle.hk_laws.specs.Calls.{Acts, is_memory, is_first_outcome};
+ghost use Rattle.hk_model.specs.World.Worlds.ToldValue.{Done};
+ghost use Rattle.hk_laws.specs.Among.{AbsorbsAt, JoinsBatch, JoinsDelta, MergesAt, PrunesAt, RefusesDelta};
 
 use crate::acting::{self, refused};
 use crate::joining;
@@ -24,7 +23,7 @@ pub(crate) fn absorb(
     items: &[Item],
     item: u64,
 ) -> Result<Told, Refusal>
-    ensures { Acts replicas.old replicas.new replica (both (at_number replicas.old replica) (at_number items.now item)) (λ p. outcome_of_take p.0 (rules.take_result p.0 p.1)) result }
+    ensures { AbsorbsAt replicas.old replicas.new replica items.now item result }
 {
     let Some(place) = place_of(replicas, replica) else {
         return Ok(Told::Refused(Refusal::NoSuch));
@@ -41,7 +40,7 @@ pub(crate) fn prune(
     replica: u16,
     horizon: Time,
 ) -> Result<Told, Refusal>
-    ensures { Acts replicas.old replicas.new replica (at_number replicas.old replica) (λ r. outcome_by r (rules.prune_result r horizon)) result }
+    ensures { PrunesAt replicas.old replicas.new replica horizon result }
 {
     let Some(place) = place_of(replicas, replica) else {
         return Ok(Told::Refused(Refusal::NoSuch));
@@ -58,7 +57,7 @@ pub(crate) fn batch(
     items: &[Item],
     numbers: &[u64],
 ) -> Result<Told, Refusal>
-    ensures { Acts replicas.old replicas.new replica (both (at_number replicas.old replica) (all_numbered items.now numbers.now)) (λ p. outcome_of_batch p.0 (rules.gather_result config p.1)) result }
+    ensures { JoinsBatch config replicas.old replicas.new replica items.now numbers.now result }
 {
     let Some(place) = place_of(replicas, replica) else {
         return Ok(Told::Refused(Refusal::NoSuch));
@@ -76,7 +75,7 @@ pub(crate) fn batch(
 /// Why what another replica has learnt since a time is refused before it is cut, if it is: the time is below its
 /// horizon, or above the readable mark of the replica that is to join it.
 fn delta_refusal(target: &ReplicaState, source: &ReplicaState, base: Time) -> Option<Refusal>
-    ensures { MatchOption result (is_first_outcome (delta_join target.now source.now base).0 ≡ false) (λ why. (delta_join target.now source.now base ≡ (Refused why, target.now)) × (is_memory why ≡ false)) }
+    ensures { RefusesDelta target.now source.now base result }
 {
     let horizon = source.horizon();
     if base < horizon {
@@ -98,7 +97,7 @@ pub(crate) fn delta(
     from: u16,
     base: Time,
 ) -> Result<Told, Refusal>
-    ensures { Acts replicas.old replicas.new to (both (at_number replicas.old to) (at_number replicas.old from)) (λ p. delta_join p.0 p.1 base) result }
+    ensures { JoinsDelta replicas.old replicas.new to from base result }
 {
     let Some(target) = place_of(replicas, to) else {
         return Ok(Told::Refused(Refusal::NoSuch));
@@ -120,7 +119,7 @@ fn merge_apart(replicas: &mut [ReplicaState], to: usize, from: usize) -> Result<
     requires target { to < length replicas.old }
     requires source { from < length replicas.old }
     requires apart { to ≢ from }
-    ensures { Acts replicas.old replicas.new (to + 1) (both (at_number replicas.old (to + 1)) (at_number replicas.old (from + 1))) (λ p. outcome_by p.0 (rules.merge_result p.0 p.1)) result }
+    ensures { MergesAt replicas.old replicas.new (to + 1) (from + 1) result }
 {
     if to < from {
         let (low, high) = replicas.split_at_mut(from);
@@ -132,7 +131,7 @@ fn merge_apart(replicas: &mut [ReplicaState], to: usize, from: usize) -> Result<
 
 /// A replica is merged into another one. Merged into itself it stays as it is.
 pub(crate) fn merge(replicas: &mut [ReplicaState], to: u16, from: u16) -> Result<Told, Refusal>
-    ensures { Acts replicas.old replicas.new to (both (at_number replicas.old to) (at_number replicas.old from)) (λ p. outcome_by p.0 (rules.merge_result p.0 p.1)) result }
+    ensures { MergesAt replicas.old replicas.new to from result }
 {
     let Some(target) = place_of(replicas, to) else {
         return Ok(Told::Refused(Refusal::NoSuch));

@@ -1,13 +1,13 @@
 //! Building a transaction from its writes.
 
-ghost use Rattle.std.specs.Prelude.{◌≡◌, ◌⊎◌, IfErr, OnOk, OnErr, MatchOption, MatchResult, None, Ok, Err};
+ghost use Rattle.std.specs.Prelude.{◌≡◌, IfErr, OnOk, OnErr, MatchOption, None, Err};
 ghost use Rattle.std.specs.List.{list_any};
 ghost use Rattle.std.specs.Ordering.{eq_by_cmp};
 ghost use Rattle.std.specs.FinMap as finmap;
-ghost use Rattle.hk_types.specs.declared.faults.Refusal.TheVariants.{Memory};
 ghost use Rattle.hk_model.specs.History.Commits.{writes_result};
 ghost use Rattle.hk_model.specs.History.Histories.{written_key};
 ghost use Rattle.hk_model.specs.History.Rows.{row_key_cmp};
+ghost use Rattle.hk_laws.specs.Among.{Builds};
 ghost use Rattle.hk_laws.specs.Calls.{IsBuilt};
 ghost use Rattle.hk_primary.specs.Txns.{IsRefusal, with_write, write_refused};
 
@@ -38,7 +38,7 @@ pub(crate) fn transaction(
     read_at: Time,
     writes: Vec<WriteOp>,
 ) -> Result<Txn, Refusal>
-    ensures { MatchResult result (λ txn. (txn.read_at ≡ read_at) × (writes_result finmap.empty writes.items ≡ Ok txn.writes)) (λ why. (writes_result finmap.empty writes.items ≡ Err why) ⊎ (why ≡ Memory)) }
+    ensures { Builds read_at writes.items result }
 {
     let mut txn = Txn::at(alloc, read_at);
     for write in writes {

@@ -3,10 +3,9 @@
 ghost use Rattle.std.specs.Prelude.{◌≡◌, IfOk, IfErr, OnErr, false};
 ghost use Rattle.hk_types.specs.declared.faults.Refusal.TheVariants.{Memory};
 ghost use Rattle.hk_model.specs.World.Events.{told_seen};
-ghost use Rattle.hk_model.specs.World.Worlds.{asked_primary};
 ghost use Rattle.hk_model.specs.World.Worlds.EventValue.{Commit, MarkOf, Retire, Absorb, Batch, Prune, Merge, Delta, Ask, FrontOf};
 ghost use Rattle.hk_laws.specs.Running.{step_outcome};
-ghost use Rattle.hk_laws.specs.Calls.{Happens, Turns, refusal_of_transaction, is_memory_outcome, is_first_outcome};
+ghost use Rattle.hk_laws.specs.Calls.{Happens, Turns, asked_of, refusal_of_transaction, is_memory_outcome, is_first_outcome};
 
 use crate::acting::{self, refused};
 use crate::among;
@@ -19,10 +18,10 @@ use hk_types::{Refusal, StreamNo, Time};
 
 /// A primary is asked at a time.
 fn ask_primary(primary: &Primary, time: Time, query: &Query) -> Result<Told, Refusal>
-    ensures ok { IfOk result (λ outcome. told_seen outcome ≡ asked_primary primary.now.config primary.now.history time query.now) }
+    ensures ok { IfOk result (λ outcome. told_seen outcome ≡ asked_of primary.now time query.now) }
     ensures heard { IfOk result (λ outcome. is_memory_outcome (told_seen outcome) ≡ false) }
     ensures err { IfErr result (λ why. why ≡ Memory) }
-    ensures first { OnErr result (is_first_outcome (asked_primary primary.now.config primary.now.history time query.now) ≡ false) }
+    ensures first { OnErr result (is_first_outcome (asked_of primary.now time query.now) ≡ false) }
 {
     match primary.ask(time, query) {
         Ok(answer) => Ok(Told::Answered(answer)),

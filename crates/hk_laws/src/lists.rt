@@ -1,9 +1,10 @@
 //! What stands under a number in a list, counted from 1.
 
-ghost use Rattle.std.specs.Prelude.{◌≡◌, ◌+◌, ◌<◌, ◌++◌, ◌∷◌, [], is_some, length, IfOk, OnOk, MatchOption, None};
+ghost use Rattle.std.specs.Prelude.{◌≡◌, ◌++◌, ◌∷◌, [], is_some, IfOk, OnOk};
 ghost use Rattle.std.specs.List.{filter_map, list_all};
 ghost use Rattle.std.specs.Option.{option_copied};
 ghost use Rattle.hk_model.specs.World.Worlds as worlds;
+ghost use Rattle.hk_laws.specs.Among.{IsPlace};
 
 use hk_log::Item;
 use hk_state::ReplicaState;
@@ -21,7 +22,7 @@ pub(crate) fn numbered<X>(list: &[X], number: u64) -> Option<&X>
 
 /// The place of the replica under a number, counted from 0.
 pub(crate) fn place_of(replicas: &[ReplicaState], number: u16) -> Option<usize>
-    ensures { MatchOption result (worlds.at_number replicas.now number ≡ None) (λ place. (place + 1 ≡ number) × (place < length replicas.now)) }
+    ensures { IsPlace replicas.now number result }
 {
     let number = usize::from(number);
     if number == 0 {

@@ -1,11 +1,9 @@
 //! Runs of a world.
 
-ghost use Rattle.std.specs.Prelude.{◌≡◌, ◌≤◌, ◌<◌, ◌+◌, ◌++◌, ◌∷◌, [], map, IfOk, IfErr};
+ghost use Rattle.std.specs.Prelude.{◌≡◌, ◌≤◌, ◌<◌, ◌+◌, ◌++◌, ◌∷◌, [], IfOk, IfErr};
 ghost use Rattle.std.specs.Vec.{vec_capacity, vec_len};
 ghost use Rattle.hk_types.specs.declared.faults.Refusal.TheVariants.{Memory};
-ghost use Rattle.hk_model.specs.World.Events.{event_seen, told_seen};
-ghost use Rattle.hk_model.specs.World.Worlds.{new_items};
-ghost use Rattle.hk_laws.specs.Runs.{Runs, TellsEach};
+ghost use Rattle.hk_laws.specs.Runs.{RunsNew, TellsNew};
 
 use crate::world::World;
 use hk_model::{Event, Told};
@@ -37,10 +35,8 @@ pub fn run(
 ) -> Result<Vec<Told>, Refusal>
     requires some { 1 ≤ replicas }
     requires few { replicas ≤ 16 }
-    ensures ok { IfOk result (λ outcome. Runs config replicas (map event_seen events.items)
-        (map told_seen outcome.items)) }
-    ensures each { IfOk result (λ outcome. TellsEach config (new_items replicas) (map event_seen events.items)
-        (map told_seen outcome.items)) }
+    ensures ok { IfOk result (λ outcome. RunsNew config replicas events.items outcome.items) }
+    ensures each { IfOk result (λ outcome. TellsNew config replicas events.items outcome.items) }
     ensures err { IfErr result (λ why. why ≡ Memory) }
 {
     let mut outcome = Vec::with_capacity(alloc, events.len())?;
