@@ -1,6 +1,7 @@
 //! The fragment of a list of items, by several workers.
 
-ghost use Rattle.std.specs.Prelude.{◌≡◌, ⊤, ◌+◌, ℕ, slice_index_or, ◌≤◌, ◌<◌, ◌*◌, length, take, drop, IfOk};
+ghost use Rattle.std.specs.Prelude.{◌≡◌, ⊤, ◌+◌, ℕ, ◌≤◌, ◌<◌, length, IfOk};
+ghost use Rattle.hk_batch.specs.Pieces.{AreGathered, piece_of};
 ghost use Rattle.hk_delta.specs.Gathers.{Gathers, GathersOf};
 ghost use Rattle.hk_delta.specs.Unions.{IsGathered};
 
@@ -37,7 +38,7 @@ impl Gate for OpenGate {
 
 /// Piece `n` of the list, from 0, where each piece but the last ones has `size` items.
 fn piece(items: &[Item], size: usize, n: usize) -> &[Item]
-    ensures { result.now ≡ take size (drop (n * size) items.now) }
+    ensures { result.now ≡ piece_of items.now size n }
 {
     let start = n.saturating_mul(size).min(items.len());
     let rest = &items[start..];
@@ -66,8 +67,7 @@ fn fragments<R: Threads + Sync, G: Gate + Sync>(
 ) -> Result<Vec<Result<Fragment, Refusal>>, Refusal>
     requires { workers ≤ 16 }
     ensures len { IfOk result (λ v. length v.items ≡ workers) }
-    ensures each { IfOk result (λ v. (n : ℕ) (d : _) → n < workers
-        → IfOk (slice_index_or v.items n d) (IsGathered config (take size (drop (n * size) items.now)))) }
+    ensures each { IfOk result (λ v. AreGathered config items.now size workers v.items) }
     ensures passed { IfOk result (λ _. (n : ℕ) → n < workers → G.passed gate.now (n + 1)) }
 {
     let parts = thread::map_indices(
@@ -76,7 +76,7 @@ fn fragments<R: Threads + Sync, G: Gate + Sync>(
         workers,
         &|n: usize| -> Result<Fragment, Refusal>
             requires { n < 16 }
-            ensures gathered { IfOk result (IsGathered config (take size (drop (n * size) items.entry.now))) }
+            ensures gathered { IfOk result (IsGathered config (piece_of items.entry.now size n)) }
             ensures passed { G.passed gate.entry.now (n + 1) }
         {
             gate.enter(n + 1);
