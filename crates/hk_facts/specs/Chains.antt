@@ -1,9 +1,10 @@
 -- The chain of a key: its versions, by the time at which they were born.
-use Rattle.std.specs.Prelude.{ℕ, Bool, not, ◌&&◌, ◌==◌, nat_le, nat_lt, List, [], ◌∷◌, Option, Some, None, Result, Ok, Err, if◌then◌else◌, is_some, ◌≡◌, true, ◌≤◌}
+use Rattle.std.specs.Prelude.{ℕ, Bool, not, ◌&&◌, ◌==◌, nat_le, nat_lt, List, [], ◌∷◌, Option, Some, None, Result, Ok, Err, if◌then◌else◌, is_some, ◌≡◌, true, ◌≤◌, ◌⊎◌}
 use Rattle.std.specs.Ordering.{nat_cmp}
 use Rattle.std.specs.FinMap as finmap
 use Rattle.hk_types.specs.Values.{RowValue}
 use Rattle.hk_types.specs.declared.faults.Refusal.{Refusal}
+use Rattle.hk_types.specs.declared.faults.Refusal.TheVariants.{Memory}
 use Rattle.hk_log.specs.Versions.{VersionValue}
 use Rattle.hk_model.specs.Replica.Maps.{or_else}
 use Rattle.hk_model.specs.Replica.Content.{at_most}
@@ -68,6 +69,10 @@ row_at c t = shown t (latest_at c t)
 abbrev pub picked : ℕ → ℕ → Option (ℕ × VersionValue) → Option RowValue
 picked t born None = None
 picked t born (Some e) = if (e.0 == born) && not (at_most t e.1.died) then e.1.row else None
+
+-- a put is refused: by what is known, or, where nothing is known of the version, for memory
+abbrev pub RefusesPut : ChainValue → ℕ → Fact → Refusal → Type 0
+RefusesPut c born fact why = (chain_put c born fact ≡ Err why) ⊎ ((why ≡ Memory) × (finmap.get c born ≡ None))
 
 -- whether a birth is after a time, if there is a time
 abbrev pub is_after : Option ℕ → ℕ → Bool

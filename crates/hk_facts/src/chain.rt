@@ -5,7 +5,7 @@ ghost use Rattle.std.specs.Option.{option_copied, option_map};
 ghost use Rattle.std.specs.FinMap as finmap;
 ghost use Rattle.hk_types.specs.declared.faults.Refusal.TheVariants.{Memory};
 ghost use Rattle.hk_facts.specs.declared.fact.Fact.TheVariants.{Row as RowFact, End as EndFact};
-ghost use Rattle.hk_facts.specs.Chains.{chain_put, chain_forget, chain_until, latest_at, row_at, is_after, FirstBorn};
+ghost use Rattle.hk_facts.specs.Chains.{chain_put, chain_forget, chain_until, latest_at, row_at, is_after, FirstBorn, RefusesPut};
 
 use crate::fact::{Fact, Part, version_of};
 use crate::form::Form;
@@ -66,8 +66,7 @@ impl Chain {
     /// compared.
     pub fn put(&mut self, born: Time, fact: Fact) -> Result<(), Refusal>
         ensures ok { OnOk result (chain_put self.old born fact ≡ Ok self.new) }
-        ensures err { IfErr result (λ why. (chain_put self.old born fact ≡ Err why)
-            ⊎ ((why ≡ Memory) × (finmap.get self.old born ≡ None))) }
+        ensures err { IfErr result (λ why. RefusesPut self.old born fact why) }
         ensures kept { OnErr result (self.new ≡ self.old) }
     {
         self.form.put(self.alloc, born, fact)
@@ -76,8 +75,7 @@ impl Chain {
     /// Adds a row, as `put` does. Cost: that of `put`.
     pub fn put_row(&mut self, born: Time, row: Row) -> Result<(), Refusal>
         ensures ok { OnOk result (chain_put self.old born (RowFact row) ≡ Ok self.new) }
-        ensures err { IfErr result (λ why. (chain_put self.old born (RowFact row) ≡ Err why)
-            ⊎ ((why ≡ Memory) × (finmap.get self.old born ≡ None))) }
+        ensures err { IfErr result (λ why. RefusesPut self.old born (RowFact row) why) }
         ensures kept { OnErr result (self.new ≡ self.old) }
     {
         self.put(born, Fact::Row(row))
@@ -86,8 +84,7 @@ impl Chain {
     /// Adds an end, as `put` does. Cost: that of `put`.
     pub fn put_end(&mut self, born: Time, died: Time) -> Result<(), Refusal>
         ensures ok { OnOk result (chain_put self.old born (EndFact died) ≡ Ok self.new) }
-        ensures err { IfErr result (λ why. (chain_put self.old born (EndFact died) ≡ Err why)
-            ⊎ ((why ≡ Memory) × (finmap.get self.old born ≡ None))) }
+        ensures err { IfErr result (λ why. RefusesPut self.old born (EndFact died) why) }
         ensures kept { OnErr result (self.new ≡ self.old) }
     {
         self.put(born, Fact::End(died))

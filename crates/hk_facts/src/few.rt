@@ -5,7 +5,7 @@ ghost use Rattle.std.specs.FinMap as finmap;
 ghost use Rattle.std.specs.List.{insert};
 ghost use Rattle.std.specs.Map.{keys_of};
 ghost use Rattle.hk_types.specs.declared.faults.Refusal.TheVariants.{Memory};
-ghost use Rattle.hk_facts.specs.Chains.{chain_put, chain_forget, chain_until};
+ghost use Rattle.hk_facts.specs.Chains.{chain_put, chain_forget, chain_until, RefusesPut};
 ghost use Rattle.hk_facts.specs.Listed.{listed, first_only, AreByBirth, StandsAt};
 
 use crate::fact::{Fact, Part, join, take_back, version_of};
@@ -78,8 +78,7 @@ impl Few {
     /// version. A refusal changes nothing. Cost: O(n + b), n versions, b bytes of a body that is compared.
     pub(crate) fn put(&mut self, born: Time, fact: Fact) -> Result<(), Refusal>
         ensures ok { OnOk result (chain_put self.old born fact ≡ Ok self.new) }
-        ensures err { IfErr result (λ why. (chain_put self.old born fact ≡ Err why)
-            ⊎ ((why ≡ Memory) × (finmap.get self.old born ≡ None))) }
+        ensures err { IfErr result (λ why. RefusesPut self.old born fact why) }
         ensures kept { OnErr result (self.new ≡ self.old) }
     {
         match place_of(&self.versions, born) {

@@ -4,7 +4,7 @@ ghost use Rattle.std.specs.Prelude.{◌≡◌, ◌⊎◌, ◌↔◌, IsTrue, OnO
 ghost use Rattle.std.specs.Option.{option_copied, option_map};
 ghost use Rattle.std.specs.FinMap as finmap;
 ghost use Rattle.hk_types.specs.declared.faults.Refusal.TheVariants.{Memory};
-ghost use Rattle.hk_facts.specs.Chains.{chain_put, chain_forget, chain_until, latest_at, is_after, FirstBorn};
+ghost use Rattle.hk_facts.specs.Chains.{chain_put, chain_forget, chain_until, latest_at, is_after, FirstBorn, RefusesPut};
 ghost use Rattle.hk_facts.specs.Listed.{listed, first_only, is_other, AreByBirth};
 ghost use Rattle.hk_facts.specs.Forms.{stored};
 
@@ -32,8 +32,7 @@ impl Form {
     /// compared; the bodies of a list are copied once, when it goes over into maps.
     pub(crate) fn put(&mut self, alloc: Global, born: Time, fact: Fact) -> Result<(), Refusal>
         ensures ok { OnOk result (chain_put (stored self.old) born fact ≡ Ok (stored self.new)) }
-        ensures err { IfErr result (λ why. (chain_put (stored self.old) born fact ≡ Err why)
-            ⊎ ((why ≡ Memory) × (finmap.get (stored self.old) born ≡ None))) }
+        ensures err { IfErr result (λ why. RefusesPut (stored self.old) born fact why) }
         ensures kept { OnErr result (stored self.new ≡ stored self.old) }
     {
         match self {

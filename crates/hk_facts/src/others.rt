@@ -5,7 +5,7 @@ ghost use Rattle.std.specs.Option.{option_copied, option_map};
 ghost use Rattle.std.specs.FinMap as finmap;
 ghost use Rattle.hk_types.specs.declared.faults.Refusal.TheVariants.{Memory};
 ghost use Rattle.hk_facts.specs.declared.fact.Fact.TheVariants.{Row as RowFact, End as EndFact};
-ghost use Rattle.hk_facts.specs.Chains.{chain_put, chain_forget, chain_until, latest_at, is_after, FirstBorn};
+ghost use Rattle.hk_facts.specs.Chains.{chain_put, chain_forget, chain_until, latest_at, is_after, FirstBorn, RefusesPut};
 ghost use Rattle.hk_facts.specs.Listed.{listed, AreByBirth};
 ghost use Rattle.hk_facts.specs.Parted.{both, AreApart, NoRows, lone_end};
 
@@ -65,8 +65,7 @@ impl Others {
     /// compared.
     pub(crate) fn put(&mut self, born: Time, fact: Fact) -> Result<(), Refusal>
         ensures ok { OnOk result (chain_put self.old born fact ≡ Ok self.new) }
-        ensures err { IfErr result (λ why. (chain_put self.old born fact ≡ Err why)
-            ⊎ ((why ≡ Memory) × (finmap.get self.old born ≡ None))) }
+        ensures err { IfErr result (λ why. RefusesPut self.old born fact why) }
         ensures kept { OnErr result (self.new ≡ self.old) }
     {
         match fact {
@@ -77,8 +76,7 @@ impl Others {
 
     fn put_row(&mut self, born: Time, row: Row) -> Result<(), Refusal>
         ensures ok { OnOk result (chain_put self.old born (RowFact row) ≡ Ok self.new) }
-        ensures err { IfErr result (λ why. (chain_put self.old born (RowFact row) ≡ Err why)
-            ⊎ ((why ≡ Memory) × (finmap.get self.old born ≡ None))) }
+        ensures err { IfErr result (λ why. RefusesPut self.old born (RowFact row) why) }
         ensures kept { OnErr result (self.new ≡ self.old) }
     {
         make_way(&mut self.rows, &mut self.ends, born);
@@ -91,8 +89,7 @@ impl Others {
 
     fn put_end(&mut self, born: Time, died: Time) -> Result<(), Refusal>
         ensures ok { OnOk result (chain_put self.old born (EndFact died) ≡ Ok self.new) }
-        ensures err { IfErr result (λ why. (chain_put self.old born (EndFact died) ≡ Err why)
-            ⊎ ((why ≡ Memory) × (finmap.get self.old born ≡ None))) }
+        ensures err { IfErr result (λ why. RefusesPut self.old born (EndFact died) why) }
         ensures kept { OnErr result (self.new ≡ self.old) }
     {
         if self.rows.version(born).is_some() {

@@ -8,7 +8,7 @@ ghost use Rattle.std.specs.FinMap as finmap;
 ghost use Rattle.hk_types.specs.declared.faults.Refusal.TheVariants.{Memory};
 ghost use Rattle.hk_model.specs.Replica.Content.{at_most};
 ghost use Rattle.hk_facts.specs.Listed.{AreByBirth, IsPartOf};
-ghost use Rattle.hk_facts.specs.Chains.{chain_put, chain_forget, chain_until, latest_at, is_after, FirstBorn};
+ghost use Rattle.hk_facts.specs.Chains.{chain_put, chain_forget, chain_until, latest_at, is_after, FirstBorn, RefusesPut};
 
 use crate::fact::{Fact, Part, join, take_back, version_of};
 use hk_log::Version;
@@ -65,8 +65,7 @@ impl Versions {
     /// compared.
     pub(crate) fn put(&mut self, born: Time, fact: Fact) -> Result<(), Refusal>
         ensures ok { OnOk result (chain_put self.old born fact ≡ Ok self.new) }
-        ensures err { IfErr result (λ why. (chain_put self.old born fact ≡ Err why)
-            ⊎ ((why ≡ Memory) × (finmap.get self.old born ≡ None))) }
+        ensures err { IfErr result (λ why. RefusesPut self.old born fact why) }
         ensures kept { OnErr result (self.new ≡ self.old) }
     {
         if let Some(version) = self.versions.get_mut(&born) {

@@ -1,5 +1,5 @@
 -- Versions by time.
-use Rattle.std.specs.Prelude.{◌≡◌, ℕ, Bool, false, ◌+◌, ◌==◌, map, refl, Option, Some, None}
+use Rattle.std.specs.Prelude.{◌≡◌, ℕ, Bool, false, ◌+◌, ◌==◌, map, refl, nat_le, nat_lt, List, Option, Some, None}
 use Rattle.std.specs.declared.cmp.Ordering.{Ordering}
 use Rattle.std.specs.Coded.{Coded, code_by, coded×, coded_ℕ}
 use Rattle.std.specs.Ordering.{nat_cmp, on, then_cmp}
@@ -37,3 +37,14 @@ AreTimed at index = (time : ℕ) (v : VersionKey) → set.contains index (record
 abbrev pub passes_at : (ℕ → Bool) → Option ℕ → Bool
 passes_at test None = false
 passes_at test (Some t) = test t
+
+-- the members up to a time, and those above it
+abbrev pub up_to : set.FinSet timed_cmp → ℕ → set.FinSet timed_cmp
+up_to index time = set.retain index (λ m. nat_le m.time time)
+
+abbrev pub above : set.FinSet timed_cmp → ℕ → set.FinSet timed_cmp
+above index time = set.retain index (λ m. nat_lt time m.time)
+
+-- the members of a set were added to a list
+abbrev pub Appends : List TimedVersion → List TimedVersion → set.FinSet timed_cmp → Type 0
+Appends old new more = set.from_list new ≡ set.union (set.from_list old) more

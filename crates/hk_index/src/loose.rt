@@ -6,7 +6,7 @@ ghost use Rattle.std.specs.BTreeSet.{btree_set_len};
 ghost use Rattle.std.specs.BTreeSet as sorted;
 ghost use Rattle.std.specs.FinSet as set;
 ghost use Rattle.std.specs.List.Sorted.{IsStrictlySortedBy};
-ghost use Rattle.hk_index.specs.Timed.{timed_cmp, first_at};
+ghost use Rattle.hk_index.specs.Timed.{timed_cmp, first_at, Appends, above, up_to};
 ghost use Rattle.hk_index.specs.Entries.{entry_cmp, live_entry, shown};
 
 use crate::entry::Entry;
@@ -84,7 +84,7 @@ impl Loose {
         found: &mut Vec<TimedVersion>,
         time: u64,
     ) -> Result<(), AllocError>
-        ensures { OnOk result (set.from_list found.new.items ≡ set.union (set.from_list found.old.items) (set.retain self.now (λ m. nat_le m.time time))) }
+        ensures { OnOk result (Appends found.old.items found.new.items (up_to self.now time)) }
     {
         append_until(&self.members, found, time)?;
         Ok(())
@@ -98,7 +98,7 @@ impl Loose {
         found: &mut Vec<TimedVersion>,
         time: u64,
     ) -> Result<(), AllocError>
-        ensures { OnOk result (set.from_list found.new.items ≡ set.union (set.from_list found.old.items) (set.retain self.now (λ m. nat_lt time m.time))) }
+        ensures { OnOk result (Appends found.old.items found.new.items (above self.now time)) }
     {
         append_above(&self.members, found, time)?;
         Ok(())

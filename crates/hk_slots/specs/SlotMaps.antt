@@ -19,6 +19,10 @@ module _ {K V : Type 0} (R : K → K → Ordering) where
   abbrev pub map_of : Slots K V → finmap.FinMap R V
   map_of s = finmap.from_entries s.entries
 
+  -- what the map has, in the order of the keys
+  abbrev pub pairs_of : Slots K V → List (K × V)
+  pairs_of s = finmap.entries (map_of s)
+
   abbrev pub slots_of : Slots K V → finmap.FinMap R ℕ
   slots_of s = finmap.from_entries s.slots
 

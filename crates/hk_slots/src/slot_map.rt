@@ -6,7 +6,7 @@ ghost use Rattle.std.specs.Borrow.{sem};
 ghost use Rattle.std.specs.FinMap as finmap;
 ghost use Rattle.std.specs.BTreeMap.Range.{IsLeBy, IsLtBy, entries_between};
 ghost use Rattle.std.specs.Map.Iter.{ShowsInOrder, deref_pair};
-ghost use Rattle.hk_slots.specs.SlotMaps.{map_of, slots_of, IsFree, AreOwn};
+ghost use Rattle.hk_slots.specs.SlotMaps.{map_of, slots_of, IsFree, AreOwn, pairs_of};
 
 use crate::hints::Hints;
 use crate::key::Key;
@@ -125,7 +125,7 @@ impl<K: Key, V> SlotMap<K, V> {
     pub fn range<B: RangeBounds<K> + Drop>(&self, range: B) -> Range<'_, K, V>
         requires { B.is_forward range (IsLeBy K.cmp) (IsLtBy K.cmp) }
         ensures between { B.has_bounds range → result ≡ entries_between K.cmp
-            (B.start_bound range) (B.end_bound range) (finmap.entries (map_of K.cmp self.now)) }
+            (B.start_bound range) (B.end_bound range) (pairs_of K.cmp self.now) }
         ensures fits { length result < 2 ^ 63 }
         ensures runs { ShowsInOrder (deref_pair {K = K} {X = V}) }
     {

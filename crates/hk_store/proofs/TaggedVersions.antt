@@ -17,15 +17,11 @@ use Rattle.hk_index.specs.Tags.{TagKeysValue, ListsKeys, is_one_of, is_listed}
 use Rattle.hk_index.proofs.StoredKeys.{any-filter}
 use Rattle.hk_index.proofs.TagsListed.{one_of_push}
 use Rattle.hk_store.specs.Facts.{FactsValue}
-use Rattle.hk_store.specs.Indexed.{AllListed, RowsValue, has_fact, has_tag, is_tagged, keys_of, with_tag}
+use Rattle.hk_store.specs.Indexed.{AllListed, AreTaggedOf, has_fact, has_tag, is_tagged, keys_of, with_tag}
 use Rattle.hk_store.proofs.WalkedRows.{keys_have}
 
 abbrev is_in : List VersionKey → VersionKey → Bool
 is_in vs v = list_any (eq_by_cmp version_key_cmp v) vs
-
--- the list has the versions of some keys of a table whose row has a tag
-abbrev pub AreTaggedOf : FactsValue → ℕ → ℕ → List ℕ → List VersionKey → Type 0
-AreTaggedOf f table tag keys found = (v : VersionKey) → list_any (eq_by_cmp version_key_cmp v) found ≡ (is_one_of keys v.key && (has_tag f tag v && v.table == table))
 
 one_number : (a b : ℕ) → (nat_le a b && nat_le b a) ≡ (a == b)
 one_number a b = grind (arith, nat_tests)

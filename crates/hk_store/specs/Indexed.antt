@@ -1,22 +1,25 @@
 -- What the indexes of facts hold.
-use Rattle.std.specs.Prelude.{◌≡◌, ℕ, Bool, true, false, ◌==◌, ◌||◌, ◌&&◌, ◌++◌, is_some, if◌then◌else◌, List, Option, Some, None}
-use Rattle.std.specs.List.{flat_map}
+use Rattle.std.specs.Prelude.{◌≡◌, ℕ, Bool, true, false, ◌==◌, ◌||◌, ◌&&◌, ◌++◌, is_some, if◌then◌else◌, List, Option, Some, None, ◌⊎◌, Err}
+use Rattle.std.specs.List.{flat_map, list_any}
+use Rattle.std.specs.Ordering.{eq_by_cmp}
 use Rattle.std.specs.Option.{option_map}
 use Rattle.std.specs.FinMap as finmap
 use Rattle.std.specs.FinSet as set
 use Rattle.hk_types.specs.Values.{RowValue}
+use Rattle.hk_types.specs.declared.faults.Refusal.{Refusal}
+use Rattle.hk_types.specs.declared.faults.Refusal.TheVariants.{Memory}
 use Rattle.hk_types.specs.declared.version_key.VersionKey.{VersionKey}
 use Rattle.hk_log.specs.Versions.{VersionValue}
 use Rattle.hk_model.specs.History.Rows.{version_key_cmp}
 use Rattle.hk_model.specs.History.Histories.{Tables}
-use Rattle.hk_index.specs.Tags.{TagKeysValue, is_listed}
+use Rattle.hk_index.specs.Tags.{TagKeysValue, is_listed, is_one_of}
 use Rattle.hk_index.specs.Timed.{timed_cmp, AreTimed, passes_at}
 use Rattle.hk_facts.specs.declared.fact.Fact.{Fact}
 use Rattle.hk_facts.specs.declared.fact.Fact.TheVariants.{Row, End}
 use Rattle.hk_facts.specs.declared.fact.Part.{Part}
 use Rattle.hk_facts.specs.declared.fact.Part.TheVariants.{Row as RowPart, End as EndPart, Whole}
 use Rattle.hk_facts.specs.Facts.{row_of, died_of}
-use Rattle.hk_store.specs.Facts.{FactsValue}
+use Rattle.hk_store.specs.Facts.{FactsValue, known_at, facts_put}
 use Rattle.hk_store.specs.Reads.{keyed_if}
 
 -- whether there is a row, and it has this tag
@@ -89,6 +92,18 @@ is_stated f test v = passes_at test (born_at f v) || passes_at test (died_at f v
 abbrev pub IsNew : FactsValue → VersionKey → Fact → Type 0
 IsNew f v (Row row) = finmap.get f.rows v ≡ None
 IsNew f v (End died) = finmap.get f.ends v ≡ None
+
+-- a fact is refused: by what is known, or, where nothing like it is known of the version, for memory
+abbrev pub RefusesNew : FactsValue → VersionKey → Fact → Refusal → Type 0
+RefusesNew f v fact why = (facts_put f v fact ≡ Err why) ⊎ ((why ≡ Memory) × IsNew f v fact)
+
+-- a fact is refused: by what is known, or, where nothing is known of the version, for memory
+abbrev pub RefusesUnknown : FactsValue → VersionKey → Fact → Refusal → Type 0
+RefusesUnknown f v fact why = (facts_put f v fact ≡ Err why) ⊎ ((why ≡ Memory) × (known_at f v ≡ None))
+
+-- the list has the versions of some keys of a table whose row has a tag
+abbrev pub AreTaggedOf : FactsValue → ℕ → ℕ → List ℕ → List VersionKey → Type 0
+AreTaggedOf f table tag keys found = (v : VersionKey) → list_any (eq_by_cmp version_key_cmp v) found ≡ (is_one_of keys v.key && (has_tag f tag v && v.table == table))
 
 -- the tag of the row that is taken back with a part of a version
 abbrev pub tag_lost : FactsValue → VersionKey → Part → Option ℕ

@@ -29,6 +29,10 @@ pub record AreVersionsOf (f : FactsValue) (some : VersionKey → Bool) (versions
   pub all : (v : VersionKey) → (some v && is_some (known_at f v)) ≡ is_among (map (λ e. e.0) versions) v
   pub rising : IsStrictlySortedBy version_key_cmp (map (λ e. e.0) versions)
 
+-- whether two have different rows, or different ends
+abbrev pub versions_differ : VersionValue → VersionValue → Bool
+versions_differ a b = values_conflict same_row a.row b.row || values_conflict (λ a b. a == b) a.died b.died
+
 -- whether a version has another row, or another end, than this
 abbrev pub value_conflicts_at : FactsValue → VersionKey → VersionValue → Bool
 value_conflicts_at f v known = values_conflict same_row (finmap.get f.rows v) known.row || values_conflict (λ a b. a == b) (finmap.get f.ends v) known.died

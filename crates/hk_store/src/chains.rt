@@ -10,11 +10,11 @@ ghost use Rattle.hk_types.specs.declared.faults.Refusal.TheVariants.{Memory};
 ghost use Rattle.hk_types.specs.declared.version_key.VersionKey.{VersionKey};
 ghost use Rattle.hk_model.specs.History.Rows.{row_key_cmp};
 ghost use Rattle.hk_model.specs.Replica.Answers.{visible, rows_where};
-ghost use Rattle.hk_facts.specs.Chains.{row_at, chain_put};
+ghost use Rattle.hk_facts.specs.Chains.{row_at, chain_put, RefusesPut};
 ghost use Rattle.hk_slots.specs.SlotMaps.{map_of};
-ghost use Rattle.hk_store.specs.Reads.{with_facts};
+ghost use Rattle.hk_store.specs.Reads.{with_facts, count_rows, rows_ranged};
 ghost use Rattle.hk_store.specs.Facts.{IsChainAt, IsUnknown, no_facts, known_at, has_like, with_fact_at, facts_put, facts_without};
-ghost use Rattle.hk_store.specs.Indexed.{IsNew, tag_lost, end_lost, tag_of_part, end_of_part};
+ghost use Rattle.hk_store.specs.Indexed.{IsNew, tag_lost, end_lost, tag_of_part, end_of_part, RefusesUnknown};
 
 use crate::ranges::rows_in_range;
 use crate::row_key::RowKey;
@@ -112,8 +112,7 @@ impl Chains {
     /// changes nothing. Cost: O(log n + b), n facts, b bytes of a body that is compared.
     pub fn put(&mut self, version: &VersionKey, fact: Fact) -> Result<(), Refusal>
         ensures ok { OnOk result (facts_put self.old version.now fact ≡ Ok self.new) }
-        ensures err { IfErr result (λ why. (facts_put self.old version.now fact ≡ Err why)
-            ⊎ ((why ≡ Memory) × (known_at self.old version.now ≡ None))) }
+        ensures err { IfErr result (λ why. RefusesUnknown self.old version.now fact why) }
         ensures kept { OnErr result (self.new ≡ self.old) }
     {
         let row = RowKey::of_version(version);
@@ -149,7 +148,7 @@ impl Chains {
         ensures ok { OnOk result (facts_put self.old version.now fact ≡ Ok self.new) }
         ensures new { IfOk result (λ is. OnTrue is (IsNew self.old version.now fact)) }
         ensures known { IfOk result (λ is. OnFalse is (self.new ≡ self.old)) }
-        ensures err { IfErr result (λ why. (facts_put self.old version.now fact ≡ Err why) ⊎ ((why ≡ Memory) × (known_at self.old version.now ≡ None))) }
+        ensures err { IfErr result (λ why. RefusesUnknown self.old version.now fact why) }
         ensures kept { OnErr result (self.new ≡ self.old) }
     {
         let row = RowKey::of_version(version);
@@ -204,9 +203,7 @@ impl Chains {
         high: Key,
         time: Time,
     ) -> Result<Vec<(Key, Row)>, AllocError>
-        ensures { IfOk result (λ rows. rows.items ≡ rows_where
-            (λ k row. (k.table == table) && nat_le low k.key && nat_le k.key high)
-            (visible (with_facts self.now) time)) }
+        ensures { IfOk result (λ rows. rows.items ≡ rows_ranged self.now time table low high) }
     {
         if high < low {
             return Ok(Vec::new(alloc));
@@ -264,8 +261,7 @@ fn end_in(version: &Version, part: Part) -> Option<Time>
 
 /// How many chains of a table have a row at a time, of those from a row on.
 fn count_from(chains: &SlotMap<RowKey, Chain>, first: RowKey, time: Time) -> usize
-    ensures { result ≡ length (filter (λ e. is_some (row_at e.1 time)) (take_while (λ e. e.0.table == first.table)
-        (filter (λ e. is_le (row_key_cmp first e.0)) (finmap.entries (map_of row_key_cmp chains.now))))) }
+    ensures { result ≡ count_rows first time (finmap.entries (map_of row_key_cmp chains.now)) }
 {
     chains
         .range(first..)
@@ -293,7 +289,7 @@ fn put_where_new(chain: &mut Chain, born: Time, fact: Fact) -> Result<bool, Refu
 fn insert_in_chain(chain: &mut Chain, born: Time, fact: Fact) -> Result<bool, Refusal>
     ensures told { IfOk result (λ is. is ≡ not (has_like (finmap.get chain.old born) fact)) }
     ensures ok { OnOk result (chain_put chain.old born fact ≡ Ok chain.new) }
-    ensures err { IfErr result (λ why. (chain_put chain.old born fact ≡ Err why) ⊎ ((why ≡ Memory) × (finmap.get chain.old born ≡ None))) }
+    ensures err { IfErr result (λ why. RefusesPut chain.old born fact why) }
     ensures kept { OnErr result (chain.new ≡ chain.old) }
 {
     let known = has_like(chain.version(born), &fact);

@@ -7,6 +7,7 @@ ghost use Rattle.hk_types.specs.Values.{same_row};
 ghost use Rattle.hk_model.specs.Replica.Maps.{values_conflict};
 ghost use Rattle.hk_model.specs.History.Facts.{inserted_version};
 ghost use Rattle.hk_store.specs.Facts.{conflicts_at, conflicts_with_entry};
+ghost use Rattle.hk_store.specs.Journal.{ends_conflict, rows_conflict};
 
 use crate::facts::Facts;
 use hk_facts::Fact;
@@ -24,7 +25,7 @@ impl Facts {
     }
 
     fn has_another_row(&self, rows: &[(Table, Key, Row)], time: Time) -> bool
-        ensures { result ≡ list_any (λ r. values_conflict same_row (finmap.get self.now.rows (inserted_version time r).0) (Some r.2)) rows.now }
+        ensures { result ≡ rows_conflict self.now time rows.now }
     {
         rows.iter().any(|(table, key, row)| {
             let version = VersionKey {
@@ -37,7 +38,7 @@ impl Facts {
     }
 
     fn has_another_end(&self, ends: &[VersionKey], time: Time) -> bool
-        ensures { result ≡ list_any (λ v. values_conflict (λ a b. a == b) (finmap.get self.now.ends v) (Some time)) ends.now }
+        ensures { result ≡ ends_conflict self.now time ends.now }
     {
         ends.iter()
             .any(|version| self.has_conflicting_end(version, time))

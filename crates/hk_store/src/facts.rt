@@ -12,7 +12,7 @@ ghost use Rattle.hk_model.specs.Replica.Answers.{visible, rows_where};
 ghost use Rattle.hk_store.specs.Reads.{with_facts};
 ghost use Rattle.hk_store.specs.Facts.{IsChainAt, IsUnknown, no_facts, known_at, with_fact_at, facts_put, facts_without};
 ghost use Rattle.hk_index.specs.Tags.{StillListed, is_listed};
-ghost use Rattle.hk_store.specs.Indexed.{AreTagged, AreKeyed, IsNew, times_without};
+ghost use Rattle.hk_store.specs.Indexed.{AreTagged, AreKeyed, IsNew, times_without, RefusesNew};
 
 use crate::chains::Chains;
 use crate::key_index::KeyIndex;
@@ -125,7 +125,7 @@ impl Facts {
         ensures ok { OnOk result (facts_put self.old version.now fact ≡ Ok self.new) }
         ensures new { IfOk result (λ is. OnTrue is (IsNew self.old version.now fact)) }
         ensures known { IfOk result (λ is. OnFalse is (self.new ≡ self.old)) }
-        ensures err { IfErr result (λ why. (facts_put self.old version.now fact ≡ Err why) ⊎ ((why ≡ Memory) × IsNew self.old version.now fact)) }
+        ensures err { IfErr result (λ why. RefusesNew self.old version.now fact why) }
         ensures kept { OnErr result (self.new ≡ self.old) }
     {
         match fact {
@@ -138,7 +138,7 @@ impl Facts {
         ensures ok { OnOk result (facts_put self.old version.now (RowFact row) ≡ Ok self.new) }
         ensures new { IfOk result (λ is. OnTrue is (IsNew self.old version.now (RowFact row))) }
         ensures known { IfOk result (λ is. OnFalse is (self.new ≡ self.old)) }
-        ensures err { IfErr result (λ why. (facts_put self.old version.now (RowFact row) ≡ Err why) ⊎ ((why ≡ Memory) × IsNew self.old version.now (RowFact row))) }
+        ensures err { IfErr result (λ why. RefusesNew self.old version.now (RowFact row) why) }
         ensures kept { OnErr result (self.new ≡ self.old) }
     {
         let tag = row.tag();
@@ -157,7 +157,7 @@ impl Facts {
         ensures ok { OnOk result (facts_put self.old version.now (EndFact died) ≡ Ok self.new) }
         ensures new { IfOk result (λ is. OnTrue is (IsNew self.old version.now (EndFact died))) }
         ensures known { IfOk result (λ is. OnFalse is (self.new ≡ self.old)) }
-        ensures err { IfErr result (λ why. (facts_put self.old version.now (EndFact died) ≡ Err why) ⊎ ((why ≡ Memory) × IsNew self.old version.now (EndFact died))) }
+        ensures err { IfErr result (λ why. RefusesNew self.old version.now (EndFact died) why) }
         ensures kept { OnErr result (self.new ≡ self.old) }
     {
         if !self.chains.insert_fact(version, Fact::End(died))? {

@@ -8,6 +8,7 @@ ghost use Rattle.hk_log.specs.Items.{rise, end_place, row_place};
 ghost use Rattle.hk_model.specs.Replica.Maps.{union};
 ghost use Rattle.hk_model.specs.History.Facts.{inserted_version};
 ghost use Rattle.hk_facts.specs.declared.fact.Fact.TheVariants.{Row as RowFact, End as EndFact};
+ghost use Rattle.hk_store.specs.Changes.{entry_ends, entry_rows, with_ends, with_rows};
 ghost use Rattle.hk_store.specs.Facts.{FactsValue, with_fact_at, with_entry, conflicts_at, conflicts_with_entry, facts_without};
 ghost use Rattle.hk_store.specs.Indexed.{IsNew};
 ghost use Rattle.hk_store.specs.Journal.{part_of, rows_conflict, ends_conflict, without_journal};
@@ -81,7 +82,7 @@ impl Facts {
         rows: Vec<(Table, Key, Row)>,
         time: Time,
     ) -> Result<(), Refusal>
-        ensures ok { OnOk result (self.new ≡ record { rows = union self.old.rows (finmap.from_entries (map (inserted_version time) rows.items)); ends = self.old.ends }) }
+        ensures ok { OnOk result (self.new ≡ with_rows self.old (entry_rows time rows.items)) }
         ensures err { IfErr result (λ why. why ≡ Memory) }
         ensures back { without_journal journal.new.items self.new ≡ without_journal journal.old.items self.old }
     {
@@ -102,7 +103,7 @@ impl Facts {
         ends: &[VersionKey],
         time: Time,
     ) -> Result<(), Refusal>
-        ensures ok { OnOk result (self.new ≡ record { rows = self.old.rows; ends = union self.old.ends (finmap.from_entries (map (λ v. (v, time)) ends.now)) }) }
+        ensures ok { OnOk result (self.new ≡ with_ends self.old (entry_ends time ends.now)) }
         ensures err { IfErr result (λ why. why ≡ Memory) }
         ensures back { without_journal journal.new.items self.new ≡ without_journal journal.old.items self.old }
     {
@@ -149,7 +150,7 @@ impl Facts {
         requires { rise (map row_place rows.items) ≡ true }
         ensures agrees { OnOk result (rows_conflict self.old time rows.items ≡ false) }
         ensures err { IfErr result (λ why. (why ≡ Conflict) × (rows_conflict self.old time rows.items ≡ true)) }
-        ensures put { IfOk result (λ lasts. OnTrue lasts (self.new.rows ≡ union self.old.rows (finmap.from_entries (map (inserted_version time) rows.items)))) }
+        ensures put { IfOk result (λ lasts. OnTrue lasts (self.new.rows ≡ union self.old.rows (entry_rows time rows.items))) }
         ensures ends { self.new.ends ≡ self.old.ends }
         ensures back { without_journal journal.new.items self.new ≡ without_journal journal.old.items self.old }
     {
@@ -176,7 +177,7 @@ impl Facts {
         requires { rise (map end_place ends.now) ≡ true }
         ensures agrees { OnOk result (ends_conflict self.old time ends.now ≡ false) }
         ensures err { IfErr result (λ why. (why ≡ Conflict) × (ends_conflict self.old time ends.now ≡ true)) }
-        ensures put { IfOk result (λ still. OnTrue still ((lasts ≡ true) × (self.new.ends ≡ union self.old.ends (finmap.from_entries (map (λ v. (v, time)) ends.now))))) }
+        ensures put { IfOk result (λ still. OnTrue still ((lasts ≡ true) × (self.new.ends ≡ union self.old.ends (entry_ends time ends.now)))) }
         ensures rows { self.new.rows ≡ self.old.rows }
         ensures back { without_journal journal.new.items self.new ≡ without_journal journal.old.items self.old }
     {

@@ -9,7 +9,7 @@ ghost use Rattle.hk_model.specs.History.Rows.{row_key_cmp};
 ghost use Rattle.hk_model.specs.Replica.Answers.{visible, rows_where};
 ghost use Rattle.hk_facts.specs.Chains.{row_at};
 ghost use Rattle.hk_slots.specs.SlotMaps.{map_of};
-ghost use Rattle.hk_store.specs.Reads.{keyed_if, rows_at, with_facts};
+ghost use Rattle.hk_store.specs.Reads.{keyed_if, rows_at, with_facts, rows_from_to};
 
 use crate::row_key::RowKey;
 use hk_facts::Chain;
@@ -42,8 +42,7 @@ pub(crate) fn rows_in_range(
     time: Time,
 ) -> Result<Vec<(Key, Row)>, AllocError>
     requires { is_gt (row_key_cmp first last) ≡ false }
-    ensures { IfOk result (λ rows. rows.items ≡ rows_at time (entries_between row_key_cmp
-        (Included first) (Included last) (finmap.entries (map_of row_key_cmp chains.now)))) }
+    ensures { IfOk result (λ rows. rows.items ≡ rows_from_to time first last (finmap.entries (map_of row_key_cmp chains.now))) }
 {
     let mut rows = Vec::new(alloc);
     for (row, chain) in chains.range(first..=last) {

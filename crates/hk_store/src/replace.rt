@@ -6,7 +6,7 @@ ghost use Rattle.std.specs.FinMap as finmap;
 ghost use Rattle.std.specs.FinSet as set;
 ghost use Rattle.hk_types.specs.declared.faults.Refusal.TheVariants.{Memory};
 ghost use Rattle.hk_model.specs.Replica.Maps.{union};
-ghost use Rattle.hk_store.specs.Changes.{with_listed, facts_after_replace, meets};
+ghost use Rattle.hk_store.specs.Changes.{with_listed, facts_after_replace, meets, with_rows, with_ends};
 ghost use Rattle.hk_store.specs.Facts.{FactsValue};
 ghost use Rattle.hk_store.specs.Journal.{without_journal};
 
@@ -92,7 +92,7 @@ impl Facts {
         journal: &mut Vec<(VersionKey, Part)>,
         rows: Vec<(VersionKey, Row)>,
     ) -> Result<(), Refusal>
-        ensures ok { OnOk result (self.new ≡ record { rows = union self.old.rows (finmap.from_entries rows.items); ends = self.old.ends }) }
+        ensures ok { OnOk result (self.new ≡ with_rows self.old (finmap.from_entries rows.items)) }
         ensures err { IfErr result (λ why. why ≡ Memory) }
         ensures back { without_journal journal.new.items self.new ≡ without_journal journal.old.items self.old }
     {
@@ -107,7 +107,7 @@ impl Facts {
         journal: &mut Vec<(VersionKey, Part)>,
         ends: &[(VersionKey, Time)],
     ) -> Result<(), Refusal>
-        ensures ok { OnOk result (self.new ≡ record { rows = self.old.rows; ends = union self.old.ends (finmap.from_entries ends.now) }) }
+        ensures ok { OnOk result (self.new ≡ with_ends self.old (finmap.from_entries ends.now)) }
         ensures err { IfErr result (λ why. why ≡ Memory) }
         ensures back { without_journal journal.new.items self.new ≡ without_journal journal.old.items self.old }
     {

@@ -5,7 +5,7 @@ ghost use Rattle.std.specs.Option.{option_copied};
 ghost use Rattle.std.specs.FinMap as finmap;
 ghost use Rattle.hk_types.specs.declared.faults.Refusal.TheVariants.{Memory};
 ghost use Rattle.hk_model.specs.Replica.Answers.{visible, rows_where};
-ghost use Rattle.hk_store.specs.Reads.{with_facts};
+ghost use Rattle.hk_store.specs.Reads.{with_facts, rows_ranged};
 
 use crate::facts::Facts;
 use hk_types::{Key, Refusal, Row, Table, Time};
@@ -35,9 +35,7 @@ impl Facts {
         high: Key,
         time: Time,
     ) -> Result<Vec<(Key, Row)>, Refusal>
-        ensures ok { IfOk result (λ rows. rows.items ≡ rows_where
-            (λ k row. (k.table == table) && nat_le low k.key && nat_le k.key high)
-            (visible (with_facts self.now) time)) }
+        ensures ok { IfOk result (λ rows. rows.items ≡ rows_ranged self.now time table low high) }
         ensures err { IfErr result (λ why. why ≡ Memory) }
     {
         let rows = self.chains.rows_between(alloc, table, low, high, time)?;

@@ -1,14 +1,9 @@
 //! The versions by tag.
 
-ghost use Rattle.std.specs.Prelude.{◌≡◌, ◌&&◌, ◌==◌, ◌++◌, filter, IfOk, IfErr, OnOk};
-ghost use Rattle.std.specs.Ordering.{eq_by_cmp};
-ghost use Rattle.std.specs.List.{list_any};
+ghost use Rattle.std.specs.Prelude.{◌≡◌, ◌++◌, filter, IfOk, IfErr, OnOk};
 ghost use Rattle.hk_types.specs.declared.faults.Refusal.TheVariants.{Memory};
-ghost use Rattle.hk_types.specs.declared.version_key.VersionKey.{VersionKey};
-ghost use Rattle.hk_model.specs.History.Rows.{version_key_cmp};
 ghost use Rattle.hk_index.specs.Listed.{Lists};
-ghost use Rattle.hk_index.specs.Tags.{is_one_of};
-ghost use Rattle.hk_store.specs.Indexed.{has_tag, with_tag, AllListed};
+ghost use Rattle.hk_store.specs.Indexed.{has_tag, with_tag, AllListed, AreTaggedOf};
 
 use crate::chains::Chains;
 use crate::key_index::KeyIndex;
@@ -72,8 +67,7 @@ fn tagged_versions(
     table: Table,
     tag: Tag,
 ) -> Result<Vec<VersionKey>, Refusal>
-    ensures ok { IfOk result (λ found. (v : VersionKey) → list_any (eq_by_cmp version_key_cmp v) found.items
-        ≡ (is_one_of keys.now v.key && (has_tag chains.now tag v && v.table == table))) }
+    ensures ok { IfOk result (λ found. AreTaggedOf chains.now table tag keys.now found.items) }
     ensures err { IfErr result (λ why. why ≡ Memory) }
 {
     let mut found = Vec::new(alloc);

@@ -5,7 +5,7 @@ ghost use Rattle.std.specs.Option.{option_copied};
 ghost use Rattle.hk_types.specs.declared.faults.Refusal.TheVariants.{Memory};
 ghost use Rattle.hk_model.specs.Replica.Answers.{visible, rows_where};
 ghost use Rattle.hk_store.specs.Indexed.{AllListed, rows_of_keys, tagged_row};
-ghost use Rattle.hk_store.specs.Reads.{keyed_if, with_facts};
+ghost use Rattle.hk_store.specs.Reads.{keyed_if, with_facts, rows_with_tag};
 
 use crate::chains::Chains;
 use crate::facts::Facts;
@@ -37,8 +37,7 @@ impl Facts {
         tag: Tag,
         time: Time,
     ) -> Result<Vec<(Key, Row)>, Refusal>
-        ensures ok { IfOk result (λ rows. rows.items ≡ rows_where
-            (λ k row. (k.table == table) && (row.tag == tag)) (visible (with_facts self.now) time)) }
+        ensures ok { IfOk result (λ rows. rows.items ≡ rows_with_tag self.now time table tag) }
         ensures err { IfErr result (λ why. why ≡ Memory) }
     {
         let keys = self.tags.keys(alloc, table, tag)?;
@@ -58,7 +57,12 @@ impl Facts {
     {
         let mut rows = Vec::new(alloc);
         for key in keys {
-            push_if(alloc, &mut rows, *key, self.row_tagged(table, *key, tag, time))?;
+            push_if(
+                alloc,
+                &mut rows,
+                *key,
+                self.row_tagged(table, *key, tag, time),
+            )?;
         }
         Ok(rows)
     }

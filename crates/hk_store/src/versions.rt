@@ -10,7 +10,7 @@ ghost use Rattle.hk_model.specs.Replica.Maps.{values_conflict};
 ghost use Rattle.hk_model.specs.Replica.Rules.{contents_conflict};
 ghost use Rattle.hk_store.specs.Facts.{known_at};
 ghost use Rattle.hk_store.specs.Reads.{with_facts};
-ghost use Rattle.hk_store.specs.Versions.{AreVersions, AreVersionsOf, borrowed, value_conflicts_at};
+ghost use Rattle.hk_store.specs.Versions.{AreVersions, AreVersionsOf, borrowed, value_conflicts_at, versions_differ};
 
 use crate::chains::Chains;
 use crate::facts::Facts;
@@ -116,7 +116,7 @@ pub fn push_borrowed<'a>(
 
 /// Whether two versions have different rows, or different ends.
 fn differs(own: &Version, other: &Version) -> bool
-    ensures { result ≡ (values_conflict same_row own.now.row other.now.row || values_conflict (λ a b. a == b) own.now.died other.now.died) }
+    ensures { result ≡ versions_differ own.now other.now }
 {
     rows_differ(own, other) || ends_differ(own, other)
 }

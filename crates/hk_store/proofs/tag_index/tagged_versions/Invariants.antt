@@ -1,5 +1,5 @@
 use Rattle.std.proofs.Common.{take}
-use Rattle.hk_store.proofs.TaggedVersions.{AreTaggedOf}
+use Rattle.hk_store.specs.Indexed.{AreTaggedOf}
 use Rattle.hk_store.proofs.tag_index.tagged_versions.Given as goal
 
 abbrev pub invariant-loop-key : goal.invariant-loop-key
