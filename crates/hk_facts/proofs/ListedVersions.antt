@@ -582,3 +582,40 @@ module _ (es : List Entry) (rows ends : ChainValue) (r : IsPartOf true es rows) 
           row : (o : Option RowValue) → or_else (cond (beq (is_some o) true) (Some v) None) (cond (beq (is_some o) false) (Some v) None) ≡ Some v
           row None = refl
           row (Some x) = refl
+
+-- ---- the last of a list
+
+module _ (es : List Entry) (last : Entry) (s : AreByBirth es) (is : Some last ≡ slice_get es (length es - 1)) where
+  some_last : 0 < length es
+  some_last = let h = slice_get_inside es (length es - 1) last (sym is) in omega (arith, h)
+
+  not_after : (k : ℕ) (d : Entry) → k < length es → (get_or es k d).0 ≤ last.0
+  not_after k d h = by (cases_lt k (length es - 1))
+    where
+      end : get_or es (length es - 1) d ≡ last
+      end = get_or_from_slice_get es (length es - 1) last d (sym is)
+
+      by : (k < length es - 1) ⊎ (length es - 1 ≤ k) → (get_or es k d).0 ≤ last.0
+      by (inl before) =
+          let o = birth_order es k (length es - 1) d s before (omega (arith, some_last)) in
+          let e = ap (λ (x : Entry). x.0) end in
+          omega (arith, o, e)
+      by (inr here) =
+          let same : k ≡ length es - 1 = omega (arith, h, here) in
+          let e = ap (λ n. (get_or es n d).0) same ∙ ap (λ (x : Entry). x.0) end in
+          omega (arith, e)
+
+  pub fits_last : (born : ℕ) → last.0 < born → FitsAt es born (length es)
+  fits_last born above = (λ k d low h. let o = not_after k d h in omega (arith, o, above), λ k d low h. absurd (omega (arith, low, h)))
+
+  pub all_until : (time : ℕ) → last.0 ≤ time → AllWithin (λ (e : Entry). e.0 ≤ time) es 0 (length es)
+  all_until time above k d low h = let o = not_after k d h in omega (arith, o, above)
+
+pub told_less : (a b : ℕ) (o : Ordering) → o ≡ nat_cmp a b → o ≡ Less → a < b
+told_less a b o is less = by a b (sym is ∙ less)
+  where
+    by : (a b : ℕ) → nat_cmp a b ≡ Less → a < b
+    by a b e = grind (arith, nat_tests)
+
+pub told_not_less : (a b : ℕ) → is_lt (nat_cmp a b) ≡ false → b ≤ a
+told_not_less a b e = grind (arith, nat_tests)

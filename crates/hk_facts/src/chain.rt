@@ -63,7 +63,7 @@ impl Chain {
     /// Adds a fact on the version that was born then. One that is known already changes nothing, and one
     /// that differs from what is known is a conflict. `Memory` comes only where nothing is known of the
     /// version. A refusal changes nothing. Cost: O(log n + b), n versions, b bytes of a body that is
-    /// compared.
+    /// compared; once in its life a chain of 32 versions copies their bodies, when it goes over into maps.
     pub fn put(&mut self, born: Time, fact: Fact) -> Result<(), Refusal>
         ensures ok { OnOk result (chain_put self.old born fact ≡ Ok self.new) }
         ensures err { IfErr result (λ why. RefusesPut self.old born fact why) }
@@ -114,9 +114,10 @@ impl Chain {
     }
 
     /// Of the versions that have a row and were born at a time or before, the one born last, with the time
-    /// of its birth. It takes no memory. Cost: O(log n), n versions: those of which only the end is known stand
-    /// apart. Stepped over are alone versions whose row was taken back, and, after memory was refused to the row
-    /// of a version whose end had come first, those whose end came first.
+    /// of its birth. It takes no memory. Cost: O(log n), n versions. In a list, of at most 32 versions, those with no
+    /// row are stepped over; in maps those of which only the end is known stand apart, and stepped over are alone
+    /// versions whose row was taken back, and, after memory was refused to the row of a version whose end had come
+    /// first, those whose end came first.
     pub fn latest(&self, time: Time) -> Option<(Time, &Version)>
         ensures { option_map (λ p. (p.0, p.1.now)) result ≡ latest_at self.now time }
     {

@@ -28,8 +28,8 @@ pub(crate) enum Form {
 impl Form {
     /// Adds a fact on the version that was born then. One that is known already changes nothing, and one
     /// that differs from what is known is a conflict. `Memory` comes only where nothing is known of the
-    /// version. A refusal changes nothing. Cost: O(log n + b), amortized, n versions, b bytes of a body that is
-    /// compared; the bodies of a list are copied once, when it goes over into maps.
+    /// version. A refusal changes nothing. Cost: O(log n + b), n versions, b bytes of a body that is compared; the
+    /// bodies of a list are copied once, when it goes over into maps.
     pub(crate) fn put(&mut self, alloc: Global, born: Time, fact: Fact) -> Result<(), Refusal>
         ensures ok { OnOk result (chain_put (stored self.old) born fact ≡ Ok (stored self.new)) }
         ensures err { IfErr result (λ why. RefusesPut (stored self.old) born fact why) }
@@ -81,7 +81,7 @@ impl Form {
     }
 
     /// Of the versions that have a row and were born at a time or before, the one born last, with the time
-    /// of its birth. It takes no memory. Cost: that of `Others::latest`, and O(1) in a list.
+    /// of its birth. It takes no memory. Cost: that of `Others::latest`, or that of `latest_in`.
     pub(crate) fn latest(&self, time: Time) -> Option<(Time, &Version)>
         ensures { option_map (λ p. (p.0, p.1.now)) result ≡ latest_at (stored self.now) time }
     {

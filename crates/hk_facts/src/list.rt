@@ -9,15 +9,23 @@ ghost use Rattle.hk_facts.specs.Listed.{listed, AreByBirth, StandsAt, FitsAt};
 
 use hk_log::Version;
 use hk_types::Time;
+use std::cmp::Ordering;
 
-/// Where the version that was born then stands, or where it would. Cost: O(log n), and O(1) behind the last.
+/// Where the version that was born then stands, or where it would. Cost: O(log n), and O(1) where it is the last.
 pub(crate) fn place_of(list: &[(Time, Version)], born: Time) -> Result<usize, usize>
     requires { AreByBirth list.now }
     ensures found { IfOk result (StandsAt list.now born) }
     ensures within { IfErr result (λ i. i ≤ length list.now) }
     ensures between { IfErr result (FitsAt list.now born) }
 {
-    list.binary_search_by(|entry| entry.0.cmp(&born))
+    let Some(last) = list.last() else {
+        return Err(0);
+    };
+    match last.0.cmp(&born) {
+        Ordering::Less => Err(list.len()),
+        Ordering::Equal => Ok(list.len() - 1),
+        Ordering::Greater => list.binary_search_by(|entry| entry.0.cmp(&born)),
+    }
 }
 
 /// How many versions were born at a time or before; the others stand behind them. Cost: O(log n), and O(1) where all
@@ -28,7 +36,10 @@ pub(crate) fn count_until(list: &[(Time, Version)], time: Time) -> usize
     ensures front { AllWithin (λ e. e.0 ≤ time) list.now 0 result }
     ensures back { AllWithin (λ e. time < e.0) list.now result (length list.now) }
 {
-    list.partition_point(|entry| entry.0 <= time)
+    match list.last() {
+        Some(last) if time < last.0 => list.partition_point(|entry| entry.0 <= time),
+        _ => list.len(),
+    }
 }
 
 /// What is known of the version that was born then. Cost: O(log n).
