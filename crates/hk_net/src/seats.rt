@@ -1,12 +1,9 @@
 //! One session on a seat, which is given back.
 
-ghost use Rattle.std.specs.Prelude.{◌≡◌, ℕ, List};
+ghost use Rattle.std.specs.Prelude.{◌≡◌};
 ghost use Rattle.std.specs.Thread.{IsSync};
-ghost use Rattle.std.specs.Io.KnownBytes.{Consumes};
 ghost use mathlib.Core.List.{IsPrefix};
-ghost use Rattle.hk_session.specs.Transcript.{Ends, SessionStep};
-ghost use Rattle.hk_net.specs.Guarded.{MayReplyGuarded};
-ghost use Rattle.hk_net.specs.Replying.{MayOnlyRead, MayReply};
+ghost use Rattle.hk_net.specs.Serving.{ServesGuarded, ServesNode, ServesReader};
 
 use crate::guarded_host::GuardedHost;
 use crate::node_host::NodeHost;
@@ -36,10 +33,8 @@ pub(crate) fn serve_host<
     requires ready { IsSync R.row }
     ensures seen { IsPrefix host.entry result.1 }
     // The bytes read, and what was done and written for them.
-    ensures transcript { (bytes : List ℕ)
-        × Consumes (I.remaining reader.old.device) (I.remaining reader.new.device) bytes
-        × SessionStep (MayReply J.config) host.entry result.1
-        (O.contents writer.old.device) (O.contents writer.new.device) bytes (Ends result.0) }
+    ensures transcript { ServesNode J.config host.entry I.remaining reader.old reader.new
+        O.contents writer.old writer.new result }
 {
     let mut served = host;
     let ended = serve(alloc, reader, writer, &mut served);
@@ -67,10 +62,8 @@ pub fn serve_on_seat<
     requires ready { IsSync R.row }
     ensures seen { IsPrefix seat result.1 }
     // The bytes read, and what was done and written for them.
-    ensures transcript { (bytes : List ℕ)
-        × Consumes (I.remaining reader.old.device) (I.remaining reader.new.device) bytes
-        × SessionStep (MayReply J.config) seat result.1
-        (O.contents writer.old.device) (O.contents writer.new.device) bytes (Ends result.0) }
+    ensures transcript { ServesNode J.config seat I.remaining reader.old reader.new
+        O.contents writer.old writer.new result }
 {
     serve_host(alloc, NodeHost::new(rt, alloc, node, seat), reader, writer)
 }
@@ -87,10 +80,8 @@ pub fn read_on_seat<J: NodeName, I: Read + Drop, O: Write + Drop>(
     requires writer { writer.old.faults ≡ 0 }
     ensures seen { IsPrefix seat result.1 }
     // The bytes read, and what was done and written for them.
-    ensures transcript { (bytes : List ℕ)
-        × Consumes (I.remaining reader.old.device) (I.remaining reader.new.device) bytes
-        × SessionStep MayOnlyRead seat result.1
-        (O.contents writer.old.device) (O.contents writer.new.device) bytes (Ends result.0) }
+    ensures transcript { ServesReader seat I.remaining reader.old reader.new
+        O.contents writer.old writer.new result }
 {
     let mut host = SeatHost::new(seat);
     let ended = serve(alloc, reader, writer, &mut host);
@@ -108,10 +99,8 @@ pub(crate) fn serve_guarded<J: NodeName, N: Wait + Drop, R: Wait, I: Read + Drop
     requires writer { writer.old.faults ≡ 0 }
     ensures seen { IsPrefix host.entry result.1 }
     // The bytes read, and what was done and written for them.
-    ensures transcript { (bytes : List ℕ)
-        × Consumes (I.remaining reader.old.device) (I.remaining reader.new.device) bytes
-        × SessionStep (MayReplyGuarded J.config) host.entry result.1
-        (O.contents writer.old.device) (O.contents writer.new.device) bytes (Ends result.0) }
+    ensures transcript { ServesGuarded J.config host.entry I.remaining reader.old reader.new
+        O.contents writer.old writer.new result }
 {
     let mut guarded = host;
     let ended = serve(alloc, reader, writer, &mut guarded);
@@ -132,10 +121,8 @@ pub fn guard_on_seat<J: NodeName, N: Wait + Drop, R: Wait, I: Read + Drop, O: Wr
     requires writer { writer.old.faults ≡ 0 }
     ensures seen { IsPrefix seat result.1 }
     // The bytes read, and what was done and written for them.
-    ensures transcript { (bytes : List ℕ)
-        × Consumes (I.remaining reader.old.device) (I.remaining reader.new.device) bytes
-        × SessionStep (MayReplyGuarded J.config) seat result.1
-        (O.contents writer.old.device) (O.contents writer.new.device) bytes (Ends result.0) }
+    ensures transcript { ServesGuarded J.config seat I.remaining reader.old reader.new
+        O.contents writer.old writer.new result }
 {
     serve_guarded(alloc, GuardedHost::new(rt, node, seat), reader, writer)
 }
