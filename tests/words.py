@@ -1,9 +1,9 @@
 #!/usr/bin/env python3
 """Checks that the words that docs/GLOSSARY.md replaced are gone from the sources and the definitions, and that the
-contracts of public functions keep within 110 columns.
+contracts of public functions keep within 110 columns, and no clause of any function is longer than 120 letters.
 
 Looks at crates/*/src and crates/*/specs, names and comments. Prints each place where an old word stands or a clause is
-too wide, and at the end 'N passed, M failed': one for each old word, and one for the clauses.
+too wide or too long, and at the end 'N passed, M failed': one for each old word, and two for the clauses.
 """
 
 import pathlib
@@ -37,6 +37,10 @@ OLD = [
 
 # the widest line of a clause of a public function
 MOST_COLUMNS = 110
+
+# the longest clause of any function, and how many may be longer than the shorter bound, in letters between its braces
+MOST_LETTERS = 120
+FEW_LETTERS, MOST_LONG = 100, 68
 
 
 def pieces(line):
@@ -93,6 +97,29 @@ def wide_clauses_of(root, path, names):
             depth += line.count("{") - line.count("}")
 
 
+def clauses(text):
+    """Each clause of a source: where its keyword stands, and what stands between its braces, its blanks folded."""
+    for found in re.finditer(r"\b(?:requires|ensures)\*?\s+(?:\w+\s+)?\{", text):
+        depth, end = 1, found.end()
+        while depth and end < len(text):
+            depth += {"{": 1, "}": -1}.get(text[end], 0)
+            end += 1
+        yield found.start(), " ".join(text[found.end() : end - 1].split())
+
+
+def long_clauses(root):
+    """The clauses of all functions that are longer than 120 letters, and the number of those longer than 100 where that is too high."""
+    long = 0
+    for path in sorted(root.glob("crates/*/src/**/*.rt")):
+        text = path.read_text(encoding="utf-8")
+        for start, clause in clauses(text):
+            long += len(clause) > FEW_LETTERS
+            if len(clause) > MOST_LETTERS:
+                yield "%s:%d: %d letters" % (path.relative_to(root), text.count("\n", 0, start) + 1, len(clause))
+    if long > MOST_LONG:
+        yield "%d clauses are longer than %d letters, and %d may be" % (long, FEW_LETTERS, MOST_LONG)
+
+
 def main():
     root = pathlib.Path(__file__).resolve().parent.parent
     if len(sys.argv) > 1:
@@ -108,7 +135,11 @@ def main():
     failed += bool(wide)
     for place in wide:
         print("FAILED clause too wide: %s" % place)
-    print("%d passed, %d failed" % (len(OLD) + 1 - failed, failed))
+    long = list(long_clauses(root))
+    failed += bool(long)
+    for place in long:
+        print("FAILED clause too long: %s" % place)
+    print("%d passed, %d failed" % (len(OLD) + 2 - failed, failed))
     return 1 if failed else 0
 
 

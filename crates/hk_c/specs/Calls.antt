@@ -55,6 +55,10 @@ abbrev pub kept_reply : Option Replica → List ℕ
 kept_reply None = []
 kept_reply (Some r) = r.reply.items
 
+-- what a buffer has once as much of a text of so many bytes was copied to it as there is room
+abbrev pub copied_into : List ℕ → List ℕ → ℕ → List ℕ
+copied_into before text count = take (min count (length before)) text ++ drop (min count (length before)) before
+
 -- ---- reads
 
 -- the reply to a query at a number, which is refused where it is no time
@@ -74,7 +78,7 @@ abbrev pub Told : Option RowValue → Found → List ℕ → List ℕ → Type 0
 Told None found before after = (found.row ≡ false) × (after ≡ before)
 Told (Some row) found before after =
     (found.row ≡ true) × (found.tag ≡ row.tag) × (found.len ≡ length row.body)
-    × (after ≡ take (min found.len (length before)) row.body ++ drop (min found.len (length before)) before)
+    × (after ≡ copied_into before row.body found.len)
 
 -- a row was asked for: it is told, or it is refused, and then nothing was written
 abbrev pub Got : Option Replica → ℕ → ℕ → ℕ → Found → List ℕ → List ℕ → ℕ → Type 0
@@ -117,7 +121,7 @@ Listed None (Some new) time query low needed before after number = ⊥
 Listed (Some old) None time query low needed before after number = ⊥
 Listed (Some old) (Some new) time query low needed before after number =
     ((number ≡ 0) × Lists old new time query low × (needed ≡ length new.reply.items)
-    × (after ≡ take (min needed (length before)) new.reply.items ++ drop (min needed (length before)) before))
+    × (after ≡ copied_into before new.reply.items needed))
     ⊎ (IsRefusedBy old.host.content time query number × (new ≡ old) × (after ≡ before))
 
 -- ---- changes
@@ -186,6 +190,14 @@ AtLive Done None None number = number ≡ 255
 AtLive Done None (Some new) number = ⊥
 AtLive Done (Some old) None number = ⊥
 AtLive Done (Some old) (Some new) number = Done old new number
+
+-- a piece of a stream of items was taken, at what a handle holds
+abbrev pub AbsorbedAt : Option Replica → Option Replica → List ℕ → ℕ → Type 0
+AbsorbedAt old new piece number = AtLive (λ before after count. Absorbed before after piece count) old new number
+
+-- the replica was pruned, at what a handle holds
+abbrev pub PrunedAt : Option Replica → Option Replica → ℕ → ℕ → Type 0
+PrunedAt old new horizon number = AtLive (λ before after count. Pruned before after horizon count) old new number
 
 -- the stream of items was ended, and another begun
 abbrev pub Finished : Replica → Replica → ℕ → Type 0

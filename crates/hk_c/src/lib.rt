@@ -3,7 +3,7 @@
 
 ghost use Rattle.std.specs.Prelude.{◌≡◌, ◌++◌, None, Some, length, min, take, drop};
 ghost use Rattle.hk_model.specs.declared.query.Query.TheVariants as queries;
-ghost use Rattle.hk_c.specs.Calls.{Absorbed, AtLive, Bounded, Called, Counts, Finished, Got, Listed, MergedAt, Opened, Pruned, Told, Worded, Wrote, kept_reply};
+ghost use Rattle.hk_c.specs.Calls.{AbsorbedAt, AtLive, Bounded, Called, Counts, Finished, Got, Listed, MergedAt, Opened, PrunedAt, Told, Worded, Wrote, copied_into, kept_reply};
 
 mod changes;
 mod found;
@@ -66,7 +66,7 @@ pub extern "C" fn hk_call(
 ) -> u8
     ensures called { Called handle.old.replica handle.new.replica requests.now result }
     ensures written { written.new ≡ length (kept_reply handle.new.replica) }
-    ensures copied { out.new ≡ take (min written.new (length out.old)) (kept_reply handle.new.replica) ++ drop (min written.new (length out.old)) out.old }
+    ensures copied { out.new ≡ copied_into out.old (kept_reply handle.new.replica) written.new }
 {
     match replace(handle, Handle::none()).into_box(alloc) {
         None => {
@@ -330,8 +330,7 @@ pub extern "C" fn hk_by_tag(
 /// What is cut off is kept for the next piece. 0, or the number of the refusal, or 255 at a closed handle.
 #[unsafe(no_mangle)]
 pub extern "C" fn hk_absorb(alloc: Global, handle: &mut Handle, piece: &[u8]) -> u8
-    ensures { AtLive (λ old new number. Absorbed old new piece.now number)
-        handle.old.replica handle.new.replica result }
+    ensures { AbsorbedAt handle.old.replica handle.new.replica piece.now result }
 {
     match replace(handle, Handle::none()).into_box(alloc) {
         None => CLOSED,
@@ -362,8 +361,7 @@ pub extern "C" fn hk_finish(alloc: Global, handle: &mut Handle) -> u8
 /// Drops what ended at a horizon or before. 0, or the number of the refusal, or 255 at a closed handle.
 #[unsafe(no_mangle)]
 pub extern "C" fn hk_prune(alloc: Global, handle: &mut Handle, horizon: u64) -> u8
-    ensures { AtLive (λ old new number. Pruned old new horizon number)
-        handle.old.replica handle.new.replica result }
+    ensures { PrunedAt handle.old.replica handle.new.replica horizon result }
 {
     match replace(handle, Handle::none()).into_box(alloc) {
         None => CLOSED,
