@@ -317,6 +317,18 @@ def prunes():
             lambda count: rows_and_mark(count) + b"".join(say.prune(n) for n in range(1, count)), fronts, 1_000)
 
 
+def put_again(tag_of):
+    """Of a count, changes that each put a row over the one before, with the tag that its number has, and prune up to there."""
+    def change(n):
+        return say.items(say.entry(n, n, [(1, 5, tag_of(n), b"")], [(1, 5, n - 1)] if n > 1 else []), say.mark(1, n, n)) + say.prune(n)
+
+    return lambda count: b"".join(change(n) for n in range(1, count + 1))
+
+
+def changing_tags():
+    compare("a row that is put again and again with other tags, and pruned", serve_seconds, put_again(lambda n: n), put_again(lambda n: 9), 1_000)
+
+
 def deltas():
     compare("deltas with nothing in them", serve_seconds, lambda count: rows_and_mark(count) + say.delta(count) * count, fronts, 1_000)
 
@@ -356,8 +368,8 @@ def open_counts():
 
 
 GATE = (tags, keys, one_tag, orders_of_keys, orders_of_times, orders_of_ends, orders_of_births, marks, covered_marks, numbers_, numbers_with_gaps,
-        streams, chains, contradictions, all_contradict, endless_line, empty_lines, endless_frame, prunes, deltas, rising_joins, lone_ends,
-        small_joins)
+        streams, chains, contradictions, all_contradict, endless_line, empty_lines, endless_frame, prunes, changing_tags, deltas, rising_joins,
+        lone_ends, small_joins)
 OPEN = (open_counts,)
 
 
