@@ -1,12 +1,15 @@
-"""What a script of checks says: a line for each check, and at the end 'N passed, M failed'. Standard library only."""
+"""What a script of checks says: a line for each check, and at the end 'N passed, M failed'; and ports for its nodes. Standard library only."""
 
 import os
 import signal
+import socket
+import threading
 
 # Who runs the checks in the background may have Ctrl-C ignored, which each program that they start would take over.
 signal.signal(signal.SIGINT, signal.default_int_handler)
 
 passed, failed, skipped = 0, 0, 0
+PORTS, PORTS_LOCK = set(), threading.Lock()
 
 
 def report(name, problems, told=""):
@@ -35,6 +38,18 @@ def skip(what, needed=True):
 def differ(pairs):
     """A problem for each (what, got, wanted) where the last two differ."""
     return [f"{what}: {got!r}, wanted {wanted!r}" for what, got, wanted in pairs if got != wanted]
+
+
+def free_port():
+    """A port that nobody listens on, and that nobody here was given before."""
+    with PORTS_LOCK:
+        while True:
+            with socket.socket() as it:
+                it.bind(("127.0.0.1", 0))
+                port = it.getsockname()[1]
+            if port not in PORTS:
+                PORTS.add(port)
+                return port
 
 
 def is_built(program):

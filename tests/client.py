@@ -8,6 +8,7 @@ import json
 import os
 import pathlib
 import queue
+import resource
 import socket
 import struct
 import subprocess
@@ -17,26 +18,26 @@ import threading
 import time
 
 import messages as say
-from checks import differ, ended, report
+from checks import differ, ended, free_port, report
+from messages import E1, E2, E3, NEW_E1
 
 ROOT = pathlib.Path(__file__).resolve().parent.parent
 PROGRAM = str(ROOT / "bin" / "hkrep")
 LIMIT = 30
 
-def free_port():
-    with socket.socket() as it:
-        it.bind(("127.0.0.1", 0))
-        return it.getsockname()[1]
-
 
 class Node:
-    """A node of `hkrep serve`, which is ended at the latest when the block is left."""
+    """A node of `hkrep serve`, which is ended at the latest when the block is left; limits are of `resource`."""
 
-    def __init__(self, links, log=7, streams=1, environment=None, port=None):
+    def __init__(self, links, log=7, streams=1, environment=None, port=None, **limits):
+        def restrict():
+            for name, limit in limits.items():
+                resource.setrlimit(getattr(resource, name), (limit, limit))
+
         self.port = port or free_port()
         self.child = subprocess.Popen(
             [PROGRAM, "serve", "--log", str(log), "--streams", str(streams), "--port", str(self.port), "--links", str(links)],
-            stdout=subprocess.PIPE, stderr=subprocess.PIPE, text=True, env=environment)
+            stdout=subprocess.PIPE, stderr=subprocess.PIPE, text=True, env=environment, preexec_fn=restrict)
         lines = queue.Queue()
         threading.Thread(target=lambda: lines.put(self.child.stdout.readline()), daemon=True).start()
         said = lines.get(timeout=LIMIT)
@@ -68,10 +69,6 @@ def guarded(check):
         report(check.__name__, [f"{type(error).__name__}: {error}"])
 
 
-E1 = say.entry(1, 1, [(1, 5, 9, b"\x41")])
-E2 = say.entry(2, 2, [(1, 5, 9, b"\x42")], [(1, 5, 1)])
-E3 = say.entry(3, 3, [(1, 6, 9, b"\x43")])
-NEW_E1 = say.new_entry(1, 1, [(1, 5, 9, b"\x41")])
 NEW_WORKED = say.items(NEW_E1, say.mark(1, 1, 1, version=2)) + say.ask(1, say.get(1, 5))
 WORKED = say.items(E1, say.mark(1, 1, 1)) + say.ask(1, say.get(1, 5))
 WHOLE_1 = {"streams": [(1, 1, [], [])], "facts": [(1, 5, 1, (9, b"\x41"), None)]}

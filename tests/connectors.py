@@ -10,11 +10,9 @@ import pathlib
 import random
 import re
 import shutil
-import socket
 import subprocess
 import sys
 import tempfile
-import threading
 import time
 from concurrent.futures import ThreadPoolExecutor
 
@@ -32,14 +30,14 @@ except ImportError:
     redis = None
 
 import reference
-from checks import ended, is_built, report, skip
+from checks import ended, free_port, is_built, report, skip
 from shown import of
 from feeding import Feed, place_of
 from vadungsil import LAST_TIME, Entry, LogWriter, Mark, encode
 from vadungsil.node import Node
 
 LOG, STREAMS, PATIENCE = 7, 4, 120
-PORTS, PORTS_LOCK, SIDE_BY_SIDE = set(), threading.Lock(), 2
+SIDE_BY_SIDE = 2
 WORDS = ["--log", LOG, "--streams", STREAMS]
 
 
@@ -160,18 +158,6 @@ class Bench:
                 if at >= front.horizon:
                     rows = {key: (row.tag, row.body) for key, row in node.range(1, at=at)}
                     holds(rows == wanted, f"other rows at {at}")
-
-
-def free_port():
-    """A port that nobody listens on, and that no other story was given."""
-    with PORTS_LOCK:
-        while True:
-            with socket.socket() as probe:
-                probe.bind(("127.0.0.1", 0))
-                port = probe.getsockname()[1]
-            if port not in PORTS:
-                PORTS.add(port)
-                return port
 
 
 def kill(child):

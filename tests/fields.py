@@ -30,16 +30,40 @@ def fields_of_body(body):
     return [("body length", u16(len(body))), ("body", body)]
 
 
+def fields_of_end(key, born):
+    return [("key", u64(key)), ("born", u64(born))]
+
+
+def fields_of_row(key, tag=9, body=b"A", length=None):
+    """Another length than the body's may be told."""
+    (name, told), text = fields_of_body(body)
+    return [("key", u64(key)), ("tag", u32(tag)), (name, told if length is None else u16(length)), text]
+
+
 def fields_of_entry(number, time, rows=(), ends=(), stream=1, log=7):
     """rows: (table, key, tag, body); ends: (table, key, born)"""
     fields = [("version", u8(1)), ("kind", u8(1)), ("log", u64(log)), ("stream", u16(stream)), ("number", u64(number)),
               ("time", u64(time)), ("count of ends", u16(len(ends)))]
     for table, key, born in ends:
-        fields += [("table", u16(table)), ("key", u64(key)), ("born", u64(born))]
+        fields += [("table", u16(table))] + fields_of_end(key, born)
     fields.append(("count of rows", u16(len(rows))))
     for table, key, tag, body in rows:
-        fields += [("table", u16(table)), ("key", u64(key)), ("tag", u32(tag))] + fields_of_body(body)
+        fields += [("table", u16(table))] + fields_of_row(key, tag, body)
     return fields
+
+
+def fields_of_groups(name, groups):
+    """Groups as they are given, each a table and the fields of each of its elements."""
+    fields = [("groups of " + name, u16(len(groups)))]
+    for table, group in groups:
+        fields += [("table of " + name, u16(table)), ("count of " + name, u16(len(group)))] + [field for it in group for field in it]
+    return fields
+
+
+def fields_of_grouped(number, time, ends=(), rows=(), stream=1, log=7):
+    """An entry of version 2, of groups."""
+    fields = [("version", u8(2)), ("kind", u8(1)), ("log", u64(log)), ("stream", u16(stream)), ("number", u64(number)), ("time", u64(time))]
+    return fields + fields_of_groups("ends", ends) + fields_of_groups("rows", rows)
 
 
 def groups_of(elements):
@@ -52,20 +76,10 @@ def groups_of(elements):
     return groups
 
 
-def fields_of_groups(name, elements):
-    groups = groups_of(elements)
-    fields = [("groups of " + name, u16(len(groups)))]
-    for table, group in groups:
-        fields += [("table of " + name, u16(table)), ("count of " + name, u16(len(group)))] + [field for it in group for field in it]
-    return fields
-
-
 def fields_of_new_entry(number, time, rows=(), ends=(), stream=1, log=7):
-    """The same in version 2."""
-    fields = [("version", u8(2)), ("kind", u8(1)), ("log", u64(log)), ("stream", u16(stream)), ("number", u64(number)), ("time", u64(time))]
-    fields += fields_of_groups("ends", [(table, [("key", u64(key)), ("born", u64(born))]) for table, key, born in ends])
-    return fields + fields_of_groups("rows", [(table, [("key", u64(key)), ("tag", u32(tag))] + fields_of_body(body))
-                                              for table, key, tag, body in rows])
+    """The same in version 2, in as few groups as there can be."""
+    return fields_of_grouped(number, time, groups_of([(table, fields_of_end(key, born)) for table, key, born in ends]),
+                             groups_of([(table, fields_of_row(key, tag, body)) for table, key, tag, body in rows]), stream, log)
 
 
 def fields_of_mark(stream, n, m, log=7, version=1):
@@ -82,6 +96,10 @@ def entry(*args, **more):
 
 def new_entry(*args, **more):
     return spelled(fields_of_new_entry(*args, **more))
+
+
+def grouped(*args, **more):
+    return spelled(fields_of_grouped(*args, **more))
 
 
 def mark(*args, **more):
@@ -180,7 +198,7 @@ def fields_of_one(row):
 def fields_of_rows(rows):
     fields = [("kind of answer", u8(2)), ("count of rows", u32(len(rows)))]
     for key, tag, body in rows:
-        fields += [("key", u64(key)), ("tag", u32(tag))] + fields_of_body(body)
+        fields += fields_of_row(key, tag, body)
     return message(35, fields)
 
 

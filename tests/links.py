@@ -5,55 +5,32 @@ Prints a line for each check and ends with 'N passed, M failed'. Standard librar
 import contextlib
 import os
 import pathlib
-import queue
-import resource
 import socket
 import subprocess
 import sys
 import tempfile
-import threading
 import time
 
+import messages as say
 from checks import differ, ended, is_built, report
+from client import Node
+from messages import E1, TOO_LONG
 
 ROOT = pathlib.Path(__file__).resolve().parent.parent
 PROGRAM = ROOT / "bin" / "hkrep"
 LIMIT = 30
 
-# A request for the front, and the reply of a node that took nothing; a frame that is too long, and the reply to it.
-FRONT = bytes.fromhex("00000002 01 11")
-NO_FRONT = bytes.fromhex("00000012 01 21 0000000000000000 0000000000000000")
-TOO_LONG = bytes.fromhex("ffffffff")
-REFUSED_2 = bytes.fromhex("00000013 01 24 02") + bytes(16)
-
-
-def free_port():
-    with socket.socket() as it:
-        it.bind(("127.0.0.1", 0))
-        return it.getsockname()[1]
+# A request for the front, and the reply of a node that took nothing; the reply to a frame that is too long.
+FRONT = say.front()
+NO_FRONT = say.spelled(say.fields_of_front(0, 0))
+REFUSED_2 = say.refused(2)
 
 
 @contextlib.contextmanager
 def node(links, environment=None, **limits):
-    """A node for so many links, which is ended at the latest when the block is left; limits are of `resource`."""
-    def restrict():
-        for name, limit in limits.items():
-            resource.setrlimit(getattr(resource, name), (limit, limit))
-
-    port = free_port()
-    command = [str(PROGRAM), "serve", "--log", "7", "--streams", "1", "--port", str(port), "--links", str(links)]
-    child = subprocess.Popen(command, stdout=subprocess.PIPE, stderr=subprocess.PIPE, text=True, env=environment, preexec_fn=restrict)
-    try:
-        lines = queue.Queue()
-        threading.Thread(target=lambda: lines.put(child.stdout.readline()), daemon=True).start()
-        said = lines.get(timeout=LIMIT)
-        if said != f"listening {port}\n":
-            raise RuntimeError(f"the node said {said!r}")
-        yield child, port
-    finally:
-        if child.poll() is None:
-            child.kill()
-        child.communicate()
+    """A node for so many links, and its port."""
+    with Node(links, environment=environment, **limits) as it:
+        yield it.child, it.port
 
 
 def opened(port):
@@ -156,28 +133,19 @@ def in_order():
         report("ends in the order of accepting", differ(pairs + [("the end", told(child), (["ended 0", "ended 2", "ended 1"], 1, 2))]))
 
 
-# Items of log 7, stream 1: entry 1 of time 1 at key 5, the mark that closes up to 5 behind it, and entry 2 of time 4 at key 6.
-ENTRY_1 = bytes.fromhex("00000031 01 01 0000000000000007 0001 0000000000000001 0000000000000001 0000 0001 0001 0000000000000005 00000009 0001 41")
-MARK = bytes.fromhex("0000001c 01 02 0000000000000007 0001 0000000000000001 0000000000000005")
-ENTRY_2 = bytes.fromhex("00000031 01 01 0000000000000007 0001 0000000000000002 0000000000000004 0000 0001 0001 0000000000000006 00000009 0001 42")
-
-
-def items(*frames):
-    body = len(frames).to_bytes(4, "big") + b"".join(frames)
-    return (len(body) + 2).to_bytes(4, "big") + bytes([1, 16]) + body
-
-
-# A request for the count of table 1 at time 5.
-COUNT = bytes.fromhex("0000000d 01 14 0000000000000005 04 0001")
+# Entry 1 of time 1 at key 5, the mark that closes up to 5 behind it, and entry 2 of time 4 at key 6.
+MARK = say.mark(1, 1, 5)
+LATE = say.entry(2, 4, [(1, 6, 9, b"B")])
+COUNT = say.ask(5, say.count(1))
 
 
 def late_entry():
     """An entry for a closed time: a replica that absorbs it refuses it; a node joins it, and does not see it."""
     command = [str(PROGRAM), "front", "--log", "7", "--streams", "1"]
-    absorbed = subprocess.run(command, input=ENTRY_1 + MARK + ENTRY_2, capture_output=True, timeout=LIMIT, check=False)
+    absorbed = subprocess.run(command, input=E1 + MARK + LATE, capture_output=True, timeout=LIMIT, check=False)
     pairs = [("absorbing it", (absorbed.stdout, absorbed.returncode), (b"refused 23\n", 1))]
     with node(1) as (child, port):
-        requests = items(ENTRY_1, MARK) + COUNT + items(ENTRY_2) + COUNT
+        requests = say.items(E1, MARK) + COUNT + say.items(LATE) + COUNT
         pushed = subprocess.run([str(PROGRAM), "push", "--port", str(port)], input=requests, capture_output=True, timeout=LIMIT, check=False)
         pairs += [("joining it", (pushed.stdout, pushed.returncode), (b"done 2\ncount 1\ndone 3\ncount 2\n", 0)), ("the end", told(child), (["ended 0"], 0, 0))]
     report("an entry for a closed time", differ(pairs))

@@ -22,7 +22,7 @@ import time
 
 sys.dont_write_bytecode = True
 import messages as say
-from checks import ended, is_built, report
+from checks import ended, free_port, is_built, report
 import reference
 
 ROOT = pathlib.Path(__file__).resolve().parent.parent
@@ -252,22 +252,6 @@ def refused_commands():
 
 
 # ---------------------------------------------------------------- nodes
-
-PORTS = set()
-PORTS_LOCK = threading.Lock()
-
-
-def free_port():
-    """A port that is free and that nobody here was given before."""
-    with PORTS_LOCK:
-        while True:
-            with socket.socket() as it:
-                it.bind(("127.0.0.1", 0))
-                port = it.getsockname()[1]
-            if port not in PORTS:
-                PORTS.add(port)
-                return port
-
 
 class Node:
     """A node under the library, which is ended at the latest when the block is left. Its requests for memory count from when the

@@ -1,5 +1,5 @@
 """Requests and replies for the tests, by the package of clients/python. What breaks a rule is spelled field by field (tests/fields.py),
-since the package makes no such value."""
+since the package makes no such value. Tests, measures and examples of nodes take their frames from here, but for tests/reference.py."""
 import pathlib
 import socket
 import sys
@@ -7,7 +7,7 @@ import sys
 sys.path.insert(0, str(pathlib.Path(__file__).resolve().parent.parent / "clients" / "python"))
 import fields
 import vadungsil
-from fields import fields_of_body, fields_of_entry, fields_of_fragment, fields_of_items, fields_of_new_entry, framed, message, spelled, u8, u16, u32, u64
+from fields import fields_of_body, fields_of_entry, fields_of_fragment, fields_of_front, fields_of_items, fields_of_new_entry, fields_of_one, framed, message, spelled, u8, u16, u32, u64
 
 FRONT, FULL = b"\x11", b"\x13"
 
@@ -57,6 +57,16 @@ def by_tag(table, tag):
 
 def count(table):
     return vadungsil.Count(table)
+
+
+# the worked entries of docs/FORMATS.md, and one of another key
+E1 = entry(1, 1, [(1, 5, 9, b"A")])
+E2 = entry(2, 2, [(1, 5, 9, b"B")], [(1, 5, 1)])
+E3 = entry(3, 3, [(1, 6, 9, b"C")])
+NEW_E1 = new_entry(1, 1, [(1, 5, 9, b"A")])
+NEW_E2 = new_entry(2, 2, [(1, 5, 9, b"B")], [(1, 5, 1)])
+# lengths that are below and above those of all frames
+TOO_SHORT, TOO_LONG = bytes.fromhex("0000001b"), bytes.fromhex("ffffffff")
 
 
 def items(*frames):

@@ -8,13 +8,12 @@ import pathlib
 import re
 import runpy
 import shutil
-import socket
 import subprocess
 import sys
 import tempfile
 import time
 
-from checks import differ, ended, is_built, report, skip
+from checks import differ, ended, free_port, is_built, report, skip
 from shown import of
 
 ROOT = pathlib.Path(__file__).resolve().parent.parent
@@ -150,12 +149,6 @@ def inside(root, lines):
     return run(command, env={"PATH": "/usr/bin:/bin:/usr/sbin:/sbin"}, is_output_alone=True)
 
 
-def free_port():
-    with socket.socket() as probe:
-        probe.bind(("127.0.0.1", 0))
-        return str(probe.getsockname()[1])
-
-
 def in_a_bare_root():
     """The page's try, from `dpkg -i` to the answer of a node; then the unit's node; then the package goes, and leaves nothing."""
     root = as_root()
@@ -180,7 +173,7 @@ def in_a_bare_root():
 
 def answered(root, lines):
     """What is wrong with lines that are typed in the root, one of which starts a node that stays: examples/node tells on standard error which."""
-    port, wanted = free_port(), [it for line in lines for it in re.findall(r"# (.*)$", line)]
+    port, wanted = str(free_port()), [it for line in lines for it in re.findall(r"# (.*)$", line)]
     text = "\n".join(re.sub(r" *#.*$", "", line) for line in lines).replace("47100", port)
     text = re.sub(r"^(\S*examples/node)$", rf'\1 {port} 2> /said; while read -r word node _; do [ "$word" = node ] && break; done < /said', text, flags=re.M)
     said, status = inside(root, f"{text}\nkill $node")
@@ -195,7 +188,7 @@ def unit(root):
     """The node as the unit starts it: its command line with its settings."""
     of_unit = (BARE / "usr/lib/systemd/system/hkrep@.service").read_text(encoding="utf-8")
     settings = re.search(r"^EnvironmentFile=(/.*)$", of_unit, re.M)[1]
-    port = free_port()
+    port = str(free_port())
     command = re.search(r"^ExecStart=(.*)$", of_unit, re.M)[1].replace("%i", port)
     lines = f". {settings}; {command} > /dev/null & node=$!\n{WAIT.replace('PORT', port)}hkrep feed --port {port} < /{SHARED}/examples/first.bin; hkrep ask --port {port} get 1 5; kill $node"
     said, _ = inside(root, lines)

@@ -12,7 +12,7 @@ import subprocess
 import sys
 import tempfile
 
-from checks import differ, ended, is_built, report, skip
+from checks import differ, ended, free_port, is_built, report, skip
 from shown import PAGES, all_shown, checker, of
 
 ROOT = pathlib.Path(__file__).resolve().parent.parent
@@ -73,15 +73,9 @@ def commands():
     report("GETTING_STARTED lists each command", [] if sorted(listed) == sorted(known) else [f"{listed}, and --help has {known}"])
 
 
-def free_port():
-    with socket.socket() as probe:
-        probe.bind(("127.0.0.1", 0))
-        return str(probe.getsockname()[1])
-
-
 def asked_node():
     """The node that uses/README.md asks, on a free port."""
-    port = free_port()
+    port = str(free_port())
     node = subprocess.Popen([PROGRAM, "serve", "--log", "7", "--streams", "1", "--port", port, "--links", "1"], stdout=subprocess.PIPE, text=True)
     node.stdout.readline()
     words = of("pages.py asked node")[0].text.replace("47000", port).split()
@@ -114,7 +108,7 @@ def serving(port):
 @functools.cache
 def whole_of_a_node():
     """What `save` writes of a node that took the first items."""
-    port = free_port()
+    port = str(free_port())
     node = serving(port)
     bash(f"bin/hkrep feed --port {port} < examples/first.bin")
     saved = subprocess.run([PROGRAM, "save", "--port", port], stdout=subprocess.PIPE, timeout=60, check=False).stdout
@@ -134,7 +128,7 @@ def started_node(command, port):
 
 def asked_of_nodes(command, port):
     """A command of a page that asks a node, which took the first items but for `push`, `feed` and `load`; another one beside it took them."""
-    other = free_port()
+    other = str(free_port())
     nodes = [serving(port), serving(other)]
     for at in [other] if re.search(r" (push|feed|load) ", command) else [port, other]:
         bash(f"bin/hkrep feed --port {at} < examples/first.bin")
@@ -151,7 +145,7 @@ def asked_of_nodes(command, port):
 
 def typed_command(text):
     """A command of a page, with what stands for the reader's own: what was typed, what it printed, and its status."""
-    port = free_port()
+    port = str(free_port())
     command = re.sub(PORTS, port, text)
     for word, stands_for in STAND_INS.items():
         command = re.sub(rf"\b{word}\b", stands_for, command)
@@ -205,7 +199,7 @@ def started():
     listed = typed_here()
     script = "".join(f"{block}\necho '<end {number}>'\n" for number, (block, _) in enumerate(listed))
     for port in sorted(set(re.findall(r"\b4700\d\b", script))):
-        script = script.replace(port, free_port())
+        script = script.replace(port, str(free_port()))
     script = script.replace("$PWD/bin/hkrep-unproved", str(PROGRAM))
     ran = subprocess.run(["bash"], input=script, cwd=ROOT, stdout=subprocess.PIPE, stderr=subprocess.PIPE, text=True, timeout=120, check=False)
     pieces = re.split(r"<end \d+>\n", ran.stdout)
@@ -223,8 +217,8 @@ def examples_of(command):
 def run_example(line, ports, folder):
     """Runs a line of an example, with free ports for those that it names and in a folder for what it writes."""
     if line.endswith("&"):
-        port = free_port()
-        line = line.replace("47110", port).replace("47111", free_port()).replace("hkrep", str(PROGRAM), 1)
+        port = str(free_port())
+        line = line.replace("47110", port).replace("47111", str(free_port())).replace("hkrep", str(PROGRAM), 1)
         return line, started_node(line, port)
     for named, port in ports.items():
         line = line.replace(named, port)
@@ -236,7 +230,7 @@ def helped():
     """Each command's help has an example, which runs; those with a port are asked of nodes, one of which took the first items."""
     listed, _ = bash("bin/hkrep --help")
     known = [line.split()[0] for line in listed.splitlines() if re.match(r"  [a-z]+ ", line) and line.split()[0] not in ("help", "world")]
-    ports = {"47110": free_port(), "47111": free_port()}
+    ports = {"47110": str(free_port()), "47111": str(free_port())}
     nodes = [serving(port) for port in ports.values()]
     problems = []
     try:
@@ -264,7 +258,7 @@ def untyped(text):
 
 
 # what runs the recipe of a target that a page names
-RUNS = {"try": "pages.py", "demo": "pages.py", "serve-demo": "program.py", "look": "web.py", "redis-demo": "connectors.py", "package": "package.py",
+RUNS = {"try": "pages.py", "demo": "pages.py", "serve-demo": "hkrep/links.py", "look": "web.py", "redis-demo": "connectors.py", "package": "package.py",
         "install": "package.py", "compare": "all", "bench": "benches.py"}
 
 
@@ -373,7 +367,7 @@ def history():
 
 # the check that runs a script which tests/all doesn't run itself
 RUN_BY = {"docs/calling": "pages.py", "docs/streams": "pages.py", "docs/pictures": "pages.py", "examples/make": "pages.py", "examples/node": "package.py",
-          "examples/links/two_feeders.py": "program.py", "examples/kafka/try.py": "connectors.py", "connectors/redis/publish": "connectors.py",
+          "examples/links/two_feeders.py": "hkrep/links.py", "examples/kafka/try.py": "connectors.py", "connectors/redis/publish": "connectors.py",
           "tests/make_vectors.py": "python_client.py"}
 
 
@@ -434,7 +428,7 @@ def bytes_shown():
     sent = b"".join(requests)
     pairs.append(("examples/links/first.bin", sent, (ROOT / "examples" / "links" / "first.bin").read_bytes()))
     for count, wanted in ((len(sent), done + answer), (100, done + cut)):
-        port = free_port()
+        port = str(free_port())
         node = serving(port)
         with socket.create_connection(("127.0.0.1", int(port)), timeout=60) as link, link.makefile("rb") as replies:
             link.sendall(sent[:count])

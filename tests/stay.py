@@ -12,14 +12,12 @@ import time
 
 import messages as say
 from checks import differ, ended, is_built, report
+from messages import E1, TOO_LONG
 from staying import PROGRAM, Staying
 
-E1 = say.entry(1, 1, [(1, 5, 9, b"\x41")])
 PUSHED = say.items(E1, say.mark(1, 1, 1))
 GET = say.ask(1, say.get(1, 5))
 ROW = ("row", (9, b"\x41"))
-# A frame that is too long, and what is told of it.
-TOO_LONG = bytes.fromhex("ffffffff")
 # How many connects of each kind.
 BAD_PEERS = 2_500
 # The last of them, beside which memory is looked at.

@@ -2,20 +2,14 @@
 import pathlib
 import queue
 import resource
-import socket
 import subprocess
 import threading
 
 import messages as say
+from checks import free_port
 
 PROGRAM = pathlib.Path(__file__).resolve().parent.parent / "bin" / "hkrep"
 LIMIT = 30
-
-
-def free_port():
-    with socket.socket() as it:
-        it.bind(("127.0.0.1", 0))
-        return it.getsockname()[1]
 
 
 class Staying:
