@@ -69,14 +69,14 @@ pub(crate) fn put_bad_item(
 
 /// Lines on their way to frames.
 #[derive(Drop)]
-struct Framer<'a, 'o, W: Write, E: Write> {
+struct Framer<'o, W: Write, E: Write> {
     alloc: Global,
-    output: &'a mut Output<'o, W, E>,
+    output: Output<'o, W, E>,
     /// The frames of lines that are not written yet.
     frames: Vec<u8>,
 }
 
-impl<W: Write, E: Write> Framer<'_, '_, W, E> {
+impl<W: Write, E: Write> Framer<'_, W, E> {
     /// Adds the frame of a line, or says what is wrong with it.
     fn add_item(&mut self, line: &[u8]) -> Result<(), LineFault> {
         let Ok(text) = str::from_utf8(line) else {
@@ -105,7 +105,7 @@ impl<W: Write, E: Write> Framer<'_, '_, W, E> {
     }
 }
 
-impl<W: Write, E: Write> Lines for Framer<'_, '_, W, E> {
+impl<W: Write, E: Write> Lines for Framer<'_, W, E> {
     const MOST_BYTES: usize = MOST_JSON_BYTES;
 
     /// Adds the frame of a line that is not empty, and writes what was gathered once that is much.
@@ -138,20 +138,6 @@ impl<W: Write, E: Write> Lines for Framer<'_, '_, W, E> {
     }
 }
 
-/// Writes the frames of the lines of the input up to its end, or to what stops it first.
-fn frame_all<I: Read, W: Write, E: Write>(
-    alloc: Global,
-    input: &mut I,
-    output: &mut Output<'_, W, E>,
-) -> Result<(), Stop> {
-    let mut framer = Framer {
-        alloc,
-        output,
-        frames: Vec::new(alloc),
-    };
-    read_lines(alloc, input, &mut framer)
-}
-
 /// Writes the frame, of version 2, of the item on each line of JSON of the input, up to its end, and answers the status 0.
 /// Empty lines are passed over. Where something stops it first, only frames of whole lines before it are written, `errors`
 /// is told why, and the status is 1:
@@ -170,9 +156,13 @@ pub fn run_frames<I: Read, W: Write, E: Write>(
 ) -> u8
     ensures { result ≤ 1 }
 {
-    let mut output = Output::of_form(alloc, Form::Bytes, writer, errors);
-    match frame_all(alloc, input, &mut output) {
+    let mut framer = Framer {
+        alloc,
+        output: Output::of_form(alloc, Form::Bytes, writer, errors),
+        frames: Vec::new(alloc),
+    };
+    match read_lines(alloc, input, &mut framer) {
         Ok(()) => 0,
-        Err(stop) => output.stop(stop),
+        Err(stop) => framer.output.stop(stop),
     }
 }

@@ -18,14 +18,14 @@ use std::io::{Read, Write};
 
 /// A script that is read line by line.
 #[derive(Drop)]
-struct Player<'a, 'o, W: Write, E: Write> {
+struct Player<'o, W: Write, E: Write> {
     alloc: Global,
-    output: &'a mut Output<'o, W, E>,
+    output: Output<'o, W, E>,
     /// What stands behind the first line that is not empty.
     script: Option<Script>,
 }
 
-impl<W: Write, E: Write> Player<'_, '_, W, E> {
+impl<W: Write, E: Write> Player<'_, W, E> {
     /// Why the line of this number stops the script.
     fn stop_of(&mut self, number: u64, line: &[u8], unread: Unread) -> Stop {
         match unread {
@@ -63,7 +63,7 @@ impl<W: Write, E: Write> Player<'_, '_, W, E> {
     }
 }
 
-impl<W: Write, E: Write> Lines for Player<'_, '_, W, E> {
+impl<W: Write, E: Write> Lines for Player<'_, W, E> {
     const MOST_BYTES: usize = MOST_LINE_BYTES;
 
     /// Makes the command of a line that is not empty, and prints what it is told.
@@ -116,17 +116,12 @@ fn write_items<F: Write>(alloc: Global, items: &[Item], file: &mut F) -> Result<
 /// Plays the script of the input up to its end, or to what stops it first, then writes the frames of the items that the
 /// primary emitted, where there is a file for them, and says whether a command was refused.
 fn play_and_keep<I: Read, F: Write, W: Write, E: Write>(
-    alloc: Global,
     input: &mut I,
+    player: &mut Player<'_, W, E>,
     items: Option<&mut F>,
-    output: &mut Output<'_, W, E>,
 ) -> Result<bool, Stop> {
-    let mut player = Player {
-        alloc,
-        output,
-        script: None,
-    };
-    read_lines(alloc, input, &mut player)?;
+    let alloc = player.alloc;
+    read_lines(alloc, input, player)?;
     let Some(script) = &player.script else {
         return Ok(false);
     };
@@ -160,9 +155,13 @@ pub fn run_world<I: Read, F: Write, W: Write, E: Write>(
 ) -> u8
     ensures { result ≤ 1 }
 {
-    let mut output = Output::new(alloc, writer, errors);
-    match play_and_keep(alloc, input, items, &mut output) {
+    let mut player = Player {
+        alloc,
+        output: Output::new(alloc, writer, errors),
+        script: None,
+    };
+    match play_and_keep(input, &mut player, items) {
         Ok(is_refused) => u8::from(is_refused),
-        Err(stop) => output.stop(stop),
+        Err(stop) => player.output.stop(stop),
     }
 }
