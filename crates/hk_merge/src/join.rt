@@ -6,8 +6,8 @@ ghost use Rattle.hk_model.specs.Replica.Rules.{contents_conflict, content_after_
 ghost use Rattle.hk_model.specs.Replica.Lawful.{IsLawful};
 ghost use Rattle.hk_merge.specs.Sent.{fragment_sent};
 ghost use Rattle.hk_merge.specs.Growing.{AddsDrops, AddsEnds, AddsRows, IsJoinOf, after_change, has_horizon};
-ghost use Rattle.hk_merge.specs.Plans.{gone_at, row_back_at, end_back_at};
-ghost use Rattle.hk_merge.specs.Calls.{Joins, Merges, MergesOf};
+ghost use Rattle.hk_merge.specs.Plans.{gone_at, rises, row_back_at, end_back_at};
+ghost use Rattle.hk_merge.specs.Calls.{Joins, Merges, MergesOf, refusal_of};
 
 use crate::plan::{Coming, Leaving, leave, may_go, take};
 use crate::refusals::wrong_log;
@@ -43,10 +43,10 @@ pub fn join_sent(target: &mut ReplicaState, sent: &Sent) -> Result<(), Refusal>
     if readable < base {
         return Err(Refusal::Gap { base, readable });
     }
-    if sent.conflicts_with(target.facts()) {
-        return Err(Refusal::Conflict);
+    if target.horizon() < sent.horizon() {
+        return join_rising(target, sent);
     }
-    join_agreed(target, sent)
+    join_level(target, sent)
 }
 
 /// Merges what a peer holds into the target's state: the join of the whole of it.
@@ -64,6 +64,48 @@ pub fn merge(target: &mut ReplicaState, peer: &ReplicaState) -> Result<(), Refus
 {
     let _lawful = peer.horizon();
     join_sent(target, &Sent::Whole(peer))
+}
+
+/// Why what is sent is not joined, where it is of the same log: it conflicts, or memory was refused.
+fn refusal_of(target: &ReplicaState, sent: &Sent) -> Refusal
+    ensures { result ≡ refusal_of target.now (fragment_sent sent.now) }
+{
+    if sent.conflicts_with(target.facts()) {
+        return Refusal::Conflict;
+    }
+    Refusal::Memory
+}
+
+/// Joins what is sent, where it is of the same log and the horizon stays: in one pass, in which each version is compared
+/// and learnt. Where that ends early, all is taken back, and what is sent is compared with all that was there.
+fn join_level(target: &mut ReplicaState, sent: &Sent) -> Result<(), Refusal>
+    requires as_many { length (fragment_sent sent.now).content.streams ≡ length target.old.streams }
+    requires level { rises target.old (fragment_sent sent.now) ≡ false }
+    ensures ok { OnOk result (target.new ≡ content_after_join target.old (fragment_sent sent.now)) }
+    ensures agrees { OnOk result (contents_conflict target.old (fragment_sent sent.now).content ≡ false) }
+    ensures err { IfErr result (λ why. why ≡ refusal_of target.old (fragment_sent sent.now)) }
+    ensures kept { OnErr result (target.new ≡ target.old) }
+{
+    let horizon = target.horizon();
+    let old = sent.base() == Time::zero() && sent.horizon() == horizon;
+    match target.learn(&sent.told(), old, sent.got()) {
+        Ok(()) => Ok(()),
+        Err(_) => Err(refusal_of(target, sent)),
+    }
+}
+
+/// Joins what is sent, where it is of the same log and the horizon rises.
+fn join_rising(target: &mut ReplicaState, sent: &Sent) -> Result<(), Refusal>
+    requires as_many { length (fragment_sent sent.now).content.streams ≡ length target.old.streams }
+    ensures ok { OnOk result (target.new ≡ content_after_join target.old (fragment_sent sent.now)) }
+    ensures agrees { OnOk result (contents_conflict target.old (fragment_sent sent.now).content ≡ false) }
+    ensures err { IfErr result (λ why. why ≡ refusal_of target.old (fragment_sent sent.now)) }
+    ensures kept { OnErr result (target.new ≡ target.old) }
+{
+    if sent.conflicts_with(target.facts()) {
+        return Err(Refusal::Conflict);
+    }
+    join_agreed(target, sent)
 }
 
 /// Joins what is sent, where it is of the same log and conflicts with nothing.

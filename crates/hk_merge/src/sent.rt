@@ -6,15 +6,16 @@ ghost use Rattle.std.specs.Option.{option_copied};
 ghost use Rattle.hk_model.specs.Replica.Rules.{contents_conflict};
 ghost use Rattle.hk_model.specs.Replica.Lawful.{IsLawfulFragment};
 ghost use Rattle.hk_facts.specs.Facts.{row_of};
-ghost use Rattle.hk_store.specs.Reads.{with_facts};
+ghost use Rattle.hk_store.specs.Learning.{IsTold, facts_told};
+ghost use Rattle.hk_store.specs.Reads.{facts_of_content, with_facts};
 ghost use Rattle.hk_store.specs.Versions.{value_conflicts_at};
-ghost use Rattle.hk_merge.specs.Sent.{fragment_sent, sends_row};
+ghost use Rattle.hk_merge.specs.Sent.{content_sent, fragment_sent, sends_row};
 
 use hk_fragment::Fragment;
 use hk_log::Version;
 use hk_marks::Got;
 use hk_state::ReplicaState;
-use hk_store::Facts;
+use hk_store::{Facts, Told};
 use hk_types::{Config, Time, VersionKey};
 
 /// What is sent to a replica of a log.
@@ -66,6 +67,17 @@ impl Sent<'_> {
         match self {
             Sent::Part(fragment) => fragment.got(),
             Sent::Whole(state) => state.got(),
+        }
+    }
+
+    /// What it tells.
+    pub(crate) fn told(&self) -> Told<'_>
+        ensures told { IsTold result }
+        ensures facts { facts_told result ≡ facts_of_content (content_sent self.now) }
+    {
+        match self {
+            Sent::Part(fragment) => Told::Listed(fragment.facts()),
+            Sent::Whole(state) => Told::Held(state.facts()),
         }
     }
 

@@ -1,10 +1,12 @@
 -- A change of a state: facts that go, facts that come, and numbers and marks that are joined.
-use Rattle.std.specs.Prelude.{List}
+use Rattle.std.specs.Prelude.{Bool, List}
 use Rattle.hk_model.specs.Replica.Content.{Content}
 use Rattle.hk_model.specs.Replica.Streams.{StreamContent, all_together}
 use Rattle.hk_store.specs.Changes.{facts_after_replace}
 use Rattle.hk_store.specs.Facts.{FactsValue}
+use Rattle.hk_store.specs.Learning.{facts_told, with_told}
 use Rattle.hk_store.specs.Reads.{facts_of_content}
+use Rattle.hk_store.specs.declared.learn.Told.{Told}
 use Rattle.hk_state.specs.declared.apply.Change.{Change}
 
 -- the facts after a change
@@ -17,3 +19,9 @@ abbrev pub content_after_change : Content → Change → List StreamContent → 
 content_after_change c change given =
     let f = facts_after_change (facts_of_content c) change in
     record { log = c.log; horizon = change.horizon; rows = f.rows; ends = f.ends; streams = all_together c.streams given }
+
+-- the content with what comes of all that is told, at its horizon, and with the streams that are given
+abbrev pub content_learnt : Content → Bool → Told → List StreamContent → Content
+content_learnt c old told given =
+    let f = with_told old c.horizon (facts_of_content c) (facts_told told) in
+    record { log = c.log; horizon = c.horizon; rows = f.rows; ends = f.ends; streams = all_together c.streams given }

@@ -4,6 +4,7 @@
 mod absorb;
 mod apply;
 mod copy;
+mod learn;
 mod prune;
 mod reads;
 mod replica;

@@ -1,9 +1,6 @@
 -- Indexes follow the facts.
-use Rattle.std.proofs.Common.{◌≡◌, refl, sym, ap, ◌∙◌, ℕ, Bool, true, false, cond, ◌||◌, Option, Some, None, Ok, Err, option_map, arith}
-use Rattle.std.proofs.lemmas.Bool.Decides.{nat_tests}
-use Rattle.std.specs.Cmp.{Equal-is}
+use Rattle.std.proofs.Common.{◌≡◌, refl, sym, ap, ◌∙◌, ℕ, Bool, true, false, cond, ◌||◌, Option, Some, None, Ok, Err, option_map}
 use Rattle.std.specs.Option.{is_some}
-use Rattle.std.specs.Ordering.{eq_by_cmp}
 use Rattle.std.specs.FinMap as finmap
 use Rattle.std.specs.FinSet as set
 use Rattle.hk_types.specs.Values.{RowValue}
@@ -20,7 +17,7 @@ use Rattle.hk_facts.specs.declared.fact.Part.TheVariants.{Row as RowPart, End as
 use Rattle.hk_facts.specs.Facts.{if_known}
 use Rattle.hk_store.specs.Facts.{FactsValue, no_facts, known_at, with_fact_at, facts_put, facts_without, conflicts_at}
 use Rattle.hk_store.specs.Indexed.{has_fact, AllListed, AreIndexed}
-use Rattle.hk_store.proofs.StoredFacts.{tied, key_tied}
+use Rattle.hk_store.proofs.StoredFacts.{tied}
 use Rattle.hk_store.proofs.ChangedChains.{get-added, get-without, tied_is}
 
 no_value : {X : Type 0} {x : X} → None ≡ Some x → ⊥

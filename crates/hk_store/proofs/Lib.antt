@@ -16,6 +16,7 @@ pub mod CountedRows
 pub mod ReplacedFacts
 pub mod ListedVersions
 pub mod PickedVersions
+pub mod LearntFacts
 pub mod WalkedRows
 pub mod SameRows
 pub mod TaggedRows

@@ -1,10 +1,9 @@
 -- The keys that are listed by tag, and the rows that are found by them.
-use Rattle.std.proofs.Common.{◌≡◌, refl, sym, ap, ◌∙◌, subst, ℕ, Bool, true, false, cond, ◌&&◌, ◌||◌, ◌==◌, Option, Some, None, List, [], ◌∷◌, ◌++◌, map, filter, filter_map, flat_map, All, ◌⊎◌, inl, inr, nat_cmp, nat_le, eqb-true, eq-eqb, Ordering, Less, Equal, Greater, arith, true≢false}
+use Rattle.std.proofs.Common.{◌≡◌, refl, sym, ap, ◌∙◌, subst, ℕ, Bool, true, false, cond, ◌&&◌, ◌==◌, Option, Some, None, List, [], ◌∷◌, ◌++◌, map, filter, filter_map, All, ◌⊎◌, inl, inr, nat_cmp, eqb-true, eq-eqb, Less, Equal}
 use Rattle.std.proofs.lemmas.List.Elements.{All-head, All-tail}
-use Rattle.std.proofs.lemmas.List.{map_push}
 use Rattle.std.proofs.lemmas.Bool.{and_parts, and_from}
 use Rattle.std.specs.Option.{is_some, option_map}
-use Rattle.std.specs.List.{list_any, cons_option}
+use Rattle.std.specs.List.{cons_option}
 use Rattle.std.specs.List.Sorted.{IsStrictlySortedBy}
 use Rattle.std.specs.Ordering.{eq_by_cmp, ordering_then}
 use Rattle.std.specs.Cmp.{Equal-is, tied_itself, nat_cmp_total}
@@ -24,10 +23,9 @@ use Rattle.hk_model.proofs.Listed.{Rises, sorted_from, sorted_filter, same_sorte
 use Rattle.hk_facts.specs.Facts.{row_of}
 use Rattle.hk_index.specs.Tags.{TagKeysValue, StillListed, ListsKeys, is_one_of, is_listed}
 use Rattle.hk_store.specs.Facts.{FactsValue, known_at}
-use Rattle.hk_store.specs.Indexed.{AllListed, is_tagged, if_tagged, tagged_row, rows_of_keys}
+use Rattle.hk_store.specs.Indexed.{AllListed, if_tagged, tagged_row, rows_of_keys}
 use Rattle.hk_store.specs.Reads.{keyed_if, with_facts}
 use Rattle.hk_store.specs.Versions.{AreVersions}
-use Rattle.hk_store.specs.Drops.{is_among}
 use Rattle.hk_store.proofs.StoredFacts.{known_row}
 
 abbrev Known : Type 0

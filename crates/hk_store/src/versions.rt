@@ -115,7 +115,7 @@ pub fn push_borrowed<'a>(
 }
 
 /// Whether two versions have different rows, or different ends.
-fn differs(own: &Version, other: &Version) -> bool
+pub(crate) fn differs(own: &Version, other: &Version) -> bool
     ensures { result ≡ versions_differ own.now other.now }
 {
     rows_differ(own, other) || ends_differ(own, other)

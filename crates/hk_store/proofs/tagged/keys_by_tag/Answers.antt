@@ -1,10 +1,10 @@
-use Rattle.std.proofs.Common.{sym, ap, ◌∙◌, subst, map, refl}
+use Rattle.std.proofs.Common.{sym, ap, ◌∙◌, subst, map}
 use Rattle.std.proofs.lemmas.List.{map_push}
 use Rattle.hk_types.specs.Values.{RowValue}
 use Rattle.hk_index.specs.Tags.{is_listed}
 use Rattle.hk_store.specs.Versions.{borrowed}
 use Rattle.hk_store.proofs.WalkedChains.{all_taken}
-use Rattle.hk_store.proofs.TaggedRows.{AreRowsListed, none_listed, one_more_listed, all_rows_listed, some_is, none_is}
+use Rattle.hk_store.proofs.TaggedRows.{AreRowsListed, one_more_listed, all_rows_listed, some_is, none_is}
 use Rattle.hk_store.proofs.tagged.keys_by_tag.Goals as goal
 
 pub loop-version-preserved-in-Continue-1 : goal.loop-version-preserved-in-Continue-1

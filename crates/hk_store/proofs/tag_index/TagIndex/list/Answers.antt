@@ -1,7 +1,6 @@
-use Rattle.std.proofs.Common.{sym, ap, ◌∙◌, subst, List, ℕ}
+use Rattle.std.proofs.Common.{ap, ◌∙◌, subst, List, ℕ}
 use Rattle.std.specs.FinSet as set
 use Rattle.hk_index.specs.Listed.{Lists}
-use Rattle.hk_index.specs.Tags.{ListsKeys}
 use Rattle.hk_store.specs.Indexed.{AreTaggedOf, RowsValue, with_tag}
 use Rattle.hk_store.proofs.TaggedVersions.{all_tagged}
 use Rattle.hk_store.proofs.tag_index.TagIndex.list.Goals as goal

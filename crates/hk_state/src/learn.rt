@@ -1,0 +1,90 @@
+//! Learning what is told, at the horizon that stands.
+
+ghost use Rattle.std.specs.Prelude.{◌≡◌, length, false, OnOk, OnErr};
+ghost use Rattle.hk_model.specs.Replica.Lawful.{IsLawful};
+ghost use Rattle.hk_model.specs.Replica.Rules.{contents_conflict};
+ghost use Rattle.hk_model.specs.Replica.Streams.{all_together};
+ghost use Rattle.hk_state.specs.Changes.{content_learnt};
+ghost use Rattle.hk_store.specs.Journal.{without_journal};
+ghost use Rattle.hk_store.specs.Learning.{IsTold, facts_told, with_told};
+ghost use Rattle.hk_store.specs.Reads.{with_facts};
+
+use crate::replica::ReplicaState;
+use hk_facts::Part;
+use hk_marks::Got;
+use hk_store::{Coming, Facts, Told};
+use hk_types::{Refusal, VersionKey};
+use std::alloc::Global;
+
+/// Learns what comes of all that is told, each that is new named in the journal, and then joins the given numbers and
+/// marks.
+fn learn_noted(
+    facts: &mut Facts,
+    got: &mut Got,
+    journal: &mut Vec<(VersionKey, Part)>,
+    told: &Told,
+    coming: &Coming,
+    given: &Got,
+) -> Result<(), Refusal>
+    requires told { IsTold told.now }
+    requires as_many { length got.old ≡ length given.now }
+    ensures facts { OnOk result (facts.new ≡ with_told coming.now.old coming.now.horizon facts.old (facts_told told.now)) }
+    ensures agrees { OnOk result (contents_conflict (with_facts facts.old) (with_facts (facts_told told.now)) ≡ false) }
+    ensures got { OnOk result (got.new ≡ all_together got.old given.now) }
+    ensures kept { OnErr result (got.new ≡ got.old) }
+    ensures back { without_journal journal.new.items facts.new ≡ without_journal journal.old.items facts.old }
+{
+    facts.learn(journal, told, coming)?;
+    got.join(given)
+}
+
+/// Learns what comes of all that is told, and joins the given numbers and marks: all of it or nothing.
+fn learn_all(
+    alloc: Global,
+    facts: &mut Facts,
+    got: &mut Got,
+    told: &Told,
+    coming: &Coming,
+    given: &Got,
+) -> Result<(), Refusal>
+    requires told { IsTold told.now }
+    requires as_many { length got.old ≡ length given.now }
+    ensures facts { OnOk result (facts.new ≡ with_told coming.now.old coming.now.horizon facts.old (facts_told told.now)) }
+    ensures agrees { OnOk result (contents_conflict (with_facts facts.old) (with_facts (facts_told told.now)) ≡ false) }
+    ensures got { OnOk result (got.new ≡ all_together got.old given.now) }
+    ensures same_facts { OnErr result (facts.new ≡ facts.old) }
+    ensures same_got { OnErr result (got.new ≡ got.old) }
+{
+    let mut journal = Vec::new(alloc);
+    if let Err(why) = learn_noted(facts, got, &mut journal, told, coming, given) {
+        facts.take_back(journal);
+        return Err(why);
+    }
+    Ok(())
+}
+
+impl ReplicaState {
+    /// Learns what is told, and joins the numbers and marks that are given: all of it or nothing. The horizon stays, and
+    /// what is known stays. Of what is told come the rows born above the horizon, or all rows where `old`, and the ends
+    /// above it, each where none is known.
+    ///
+    /// What gives a version another row, or another end, than is known is refused, also where it would not come, and so
+    /// is want of memory; a refusal changes nothing, and does not say which of the two it was.
+    ///
+    /// Cost: O((s + c + g) · log (n + c) + b), s streams, c versions that are told, g numbers and marks given and those
+    /// held that they free, n facts, extra numbers and waiting marks held, b bytes of bodies compared or copied.
+    pub fn learn(&mut self, told: &Told, old: bool, given: &Got) -> Result<(), Refusal>
+        requires told { IsTold told.now }
+        requires lawful { IsLawful (content_learnt self.old old told.now given.now) }
+        requires as_many { length given.now ≡ length self.old.streams }
+        ensures ok { OnOk result (self.new ≡ content_learnt self.old old told.now given.now) }
+        ensures agrees { OnOk result (contents_conflict self.old (with_facts (facts_told told.now)) ≡ false) }
+        ensures kept { OnErr result (self.new ≡ self.old) }
+    {
+        let coming = Coming {
+            old,
+            horizon: self.horizon,
+        };
+        learn_all(self.alloc, &mut self.facts, &mut self.got, told, &coming, given)
+    }
+}

@@ -1,0 +1,56 @@
+-- What is told of versions, and what facts learn of it.
+use Rattle.std.specs.Prelude.{ℕ, Bool, not, ◌||◌, ◌==◌, nat_lt, if◌then◌else◌, List, Option, None}
+use Rattle.std.specs.List.{flat_map}
+use Rattle.std.specs.FinMap as finmap
+use Rattle.hk_types.specs.Values.{RowValue, same_row}
+use Rattle.hk_types.specs.declared.version_key.VersionKey.{VersionKey}
+use Rattle.hk_log.specs.Versions.{VersionValue}
+use Rattle.hk_model.specs.Replica.Content.{at_most, without_ended}
+use Rattle.hk_model.specs.Replica.Maps.{union, values_conflict}
+use Rattle.hk_facts.specs.Facts.{row_of, died_of}
+use Rattle.hk_store.specs.Changes.{with_listed}
+use Rattle.hk_store.specs.Facts.{FactsValue, entry_if}
+use Rattle.hk_store.specs.Versions.{AreVersions}
+use Rattle.hk_store.specs.declared.learn.Told.{Told}
+use Rattle.hk_store.specs.declared.learn.Told.TheVariants.{Listed, Held}
+
+-- the facts that a list of versions tells
+abbrev pub told_by : List (VersionKey × VersionValue) → FactsValue
+told_by es = record { rows = finmap.from_entries (flat_map (λ e. entry_if e.0 e.1.row) es); ends = finmap.from_entries (flat_map (λ e. entry_if e.0 e.1.died) es) }
+
+-- the facts that are told: those of a list, or all that another holds
+abbrev pub facts_told : Told → FactsValue
+facts_told (Listed versions) = told_by versions.now
+facts_told (Held facts) = facts.now
+
+-- a list tells of each version once, in rising order
+abbrev pub IsTold : Told → Type 0
+IsTold (Listed versions) = AreVersions (told_by versions.now) versions.now
+IsTold (Held facts) = Unit {0}
+
+-- whether another row, or another end, is known of a version than is told
+abbrev pub contradicts : Option VersionValue → VersionValue → Bool
+contradicts held told = values_conflict same_row (row_of held) told.row || values_conflict (λ a b. a == b) (died_of held) told.died
+
+-- ---- what comes of it at a horizon h: rows born above it, or all rows where `old`, and ends above it
+
+module _ (old : Bool) (h : ℕ) where
+  abbrev pub row_told : VersionKey → VersionValue → Option RowValue
+  row_told v told = if nat_lt h v.born || old then told.row else None
+
+  abbrev pub end_told : VersionKey → VersionValue → Option ℕ
+  end_told v told = if not (at_most h told.died) then told.died else None
+
+  abbrev pub rows_told : List (VersionKey × VersionValue) → List (VersionKey × RowValue)
+  rows_told es = flat_map (λ e. entry_if e.0 (row_told e.0 e.1)) es
+
+  abbrev pub ends_told : List (VersionKey × VersionValue) → List (VersionKey × ℕ)
+  ends_told es = flat_map (λ e. entry_if e.0 (end_told e.0 e.1)) es
+
+  -- the facts with what comes of a version, where nothing like it is known
+  abbrev pub with_version_told : FactsValue → VersionKey → VersionValue → FactsValue
+  with_version_told f v told = with_listed f (entry_if v (row_told v told)) (entry_if v (end_told v told))
+
+  -- the facts with what comes of other facts, where nothing like it is known
+  abbrev pub with_told : FactsValue → FactsValue → FactsValue
+  with_told f g = record { rows = union f.rows (finmap.retain_keys g.rows (λ v. nat_lt h v.born || old)); ends = union f.ends (without_ended g.ends h g.ends) }

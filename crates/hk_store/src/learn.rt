@@ -1,0 +1,213 @@
+//! What others tell, learnt in one pass.
+
+ghost use Rattle.std.specs.Prelude.{◌≡◌, [], false, is_some, OnOk};
+ghost use Rattle.std.specs.Option.{option_copied};
+ghost use Rattle.hk_model.specs.Replica.Rules.{contents_conflict};
+ghost use Rattle.hk_facts.specs.Facts.{row_of, died_of};
+ghost use Rattle.hk_store.specs.Changes.{with_listed};
+ghost use Rattle.hk_store.specs.Facts.{entry_if};
+ghost use Rattle.hk_store.specs.Journal.{without_journal};
+ghost use Rattle.hk_store.specs.Learning as spec;
+ghost use Rattle.hk_store.specs.Learning.{IsTold, facts_told, with_told, with_version_told};
+ghost use Rattle.hk_store.specs.Reads.{with_facts};
+ghost use Rattle.hk_store.specs.Versions.{AreVersions, value_conflicts_at};
+
+use crate::facts::Facts;
+use crate::versions::differs;
+use hk_facts::{Part, ended_by};
+use hk_log::Version;
+use hk_types::{Refusal, Row, Time, VersionKey};
+
+/// What is told to a replica.
+#[derive(Clone, Copy)]
+pub enum Told<'a> {
+    /// Versions by rising version key, each with what is told of it.
+    Listed(&'a [(VersionKey, Version)]),
+    /// All that another replica holds.
+    Held(&'a Facts),
+}
+
+/// What comes of all that is told.
+#[derive(Clone, Copy)]
+pub struct Coming {
+    /// Whether rows born at the horizon or before come too.
+    pub old: bool,
+    /// The horizon: ends up to it don't come.
+    pub horizon: Time,
+}
+
+impl Coming {
+    /// The row that comes of a version, if one does.
+    fn row<'a>(&self, version: &VersionKey, told: &'a Version) -> Option<&'a Row>
+        ensures { option_copied result ≡ spec.row_told self.now.old self.now.horizon version.now told.now }
+    {
+        if self.horizon < version.born || self.old {
+            told.row()
+        } else {
+            None
+        }
+    }
+
+    /// The end that comes of a version, if one does.
+    fn end(&self, version: &VersionKey, told: &Version) -> Option<Time>
+        ensures { result ≡ spec.end_told self.now.old self.now.horizon version.now told.now }
+    {
+        if ended_by(told, self.horizon) {
+            None
+        } else {
+            told.died()
+        }
+    }
+}
+
+impl Facts {
+    /// Learns what comes of all that is told, where nothing like it is known, each that is new named in the journal.
+    /// What gives a version another row, or another end, than is known is refused, also where it would not come; and
+    /// so is want of memory. What was learnt until then stays, and is named in the journal.
+    ///
+    /// Cost: O(c · log n + b), c versions that are told, n facts and these, b bytes of bodies compared or copied.
+    pub fn learn(
+        &mut self,
+        journal: &mut Vec<(VersionKey, Part)>,
+        told: &Told,
+        coming: &Coming,
+    ) -> Result<(), Refusal>
+        requires told { IsTold told.now }
+        ensures ok { OnOk result (self.new ≡ with_told coming.now.old coming.now.horizon self.old (facts_told told.now)) }
+        ensures agrees { OnOk result (contents_conflict (with_facts self.old) (with_facts (facts_told told.now)) ≡ false) }
+        ensures back { without_journal journal.new.items self.new
+            ≡ without_journal journal.old.items self.old }
+    {
+        match told {
+            Told::Listed(versions) => self.learn_listed(journal, versions, coming),
+            Told::Held(facts) => self.learn_held(journal, facts, coming),
+        }
+    }
+
+    fn learn_listed(
+        &mut self,
+        journal: &mut Vec<(VersionKey, Part)>,
+        told: &[(VersionKey, Version)],
+        coming: &Coming,
+    ) -> Result<(), Refusal>
+        requires told { AreVersions (spec.told_by told.now) told.now }
+        ensures ok { OnOk result (self.new ≡ with_told coming.now.old coming.now.horizon self.old (spec.told_by told.now)) }
+        ensures agrees { OnOk result (contents_conflict (with_facts self.old) (with_facts (spec.told_by told.now)) ≡ false) }
+        ensures back { without_journal journal.new.items self.new ≡ without_journal journal.old.items self.old }
+    {
+        for (version, known) in told {
+            self.learn_version(journal, coming, version, known)?;
+        }
+        Ok(())
+    }
+
+    fn learn_held(
+        &mut self,
+        journal: &mut Vec<(VersionKey, Part)>,
+        told: &Facts,
+        coming: &Coming,
+    ) -> Result<(), Refusal>
+        ensures ok { OnOk result (self.new ≡ with_told coming.now.old coming.now.horizon self.old told.now) }
+        ensures agrees { OnOk result (contents_conflict (with_facts self.old) (with_facts told.now) ≡ false) }
+        ensures back { without_journal journal.new.items self.new ≡ without_journal journal.old.items self.old }
+    {
+        for (version, known) in told.walk() {
+            self.learn_version(journal, coming, &version, known)?;
+        }
+        Ok(())
+    }
+
+    /// Learns what comes of a version, where nothing like it is known.
+    fn learn_version(
+        &mut self,
+        journal: &mut Vec<(VersionKey, Part)>,
+        coming: &Coming,
+        version: &VersionKey,
+        told: &Version,
+    ) -> Result<(), Refusal>
+        ensures ok { OnOk result (self.new ≡ with_version_told coming.now.old coming.now.horizon self.old version.now told.now) }
+        ensures agrees { OnOk result (value_conflicts_at self.old version.now told.now ≡ false) }
+        ensures back { without_journal journal.new.items self.new ≡ without_journal journal.old.items self.old }
+    {
+        let held = self.version(version);
+        if contradicts(held, told) {
+            return Err(Refusal::Conflict);
+        }
+        let has_row = knows_row(held);
+        let has_end = knows_end(held);
+        if !has_row {
+            self.learn_row(journal, coming, version, told)?;
+        }
+        if !has_end {
+            self.learn_end(journal, coming, version, told)?;
+        }
+        Ok(())
+    }
+
+    /// Learns the row of a version, where it comes and none is known.
+    fn learn_row(
+        &mut self,
+        journal: &mut Vec<(VersionKey, Part)>,
+        coming: &Coming,
+        version: &VersionKey,
+        told: &Version,
+    ) -> Result<(), Refusal>
+        ensures ok { OnOk result (self.new ≡ with_listed self.old (entry_if version.now (spec.row_told coming.now.old coming.now.horizon version.now told.now)) []) }
+        ensures back { without_journal journal.new.items self.new ≡ without_journal journal.old.items self.old }
+    {
+        match coming.row(version, told) {
+            Some(row) => {
+                let copied = row.copy(self.allocator())?;
+                self.add_row(journal, version, copied)
+            }
+            None => Ok(()),
+        }
+    }
+
+    /// Learns the end of a version, where it comes and none is known.
+    fn learn_end(
+        &mut self,
+        journal: &mut Vec<(VersionKey, Part)>,
+        coming: &Coming,
+        version: &VersionKey,
+        told: &Version,
+    ) -> Result<(), Refusal>
+        ensures ok { OnOk result (self.new ≡ with_listed self.old [] (entry_if version.now (spec.end_told coming.now.old coming.now.horizon version.now told.now))) }
+        ensures back { without_journal journal.new.items self.new ≡ without_journal journal.old.items self.old }
+    {
+        match coming.end(version, told) {
+            Some(died) => self.add_end(journal, version, died),
+            None => Ok(()),
+        }
+    }
+}
+
+/// Whether another row, or another end, is known of a version than is told.
+fn contradicts(held: Option<&Version>, told: &Version) -> bool
+    ensures { result ≡ spec.contradicts (option_copied held.entry) told.now }
+{
+    match held {
+        Some(own) => differs(own, told),
+        None => false,
+    }
+}
+
+/// Whether a row is known.
+fn knows_row(held: Option<&Version>) -> bool
+    ensures { result ≡ is_some (row_of (option_copied held.entry)) }
+{
+    match held {
+        Some(known) => known.row().is_some(),
+        None => false,
+    }
+}
+
+/// Whether an end is known.
+fn knows_end(held: Option<&Version>) -> bool
+    ensures { result ≡ is_some (died_of (option_copied held.entry)) }
+{
+    match held {
+        Some(known) => known.died().is_some(),
+        None => false,
+    }
+}
