@@ -1,5 +1,5 @@
 -- What joining gives, refusal by refusal.
-use Rattle.std.proofs.Common.{◌≡◌, refl, sym, ap, ◌∙◌, subst, ℕ, ◌<◌, Bool, true, false, cond, not, ◌==◌, ◌++◌, max, Option, Some, None, length, Result, Ok, Err, OnOk, OnErr, IfErr, inl, inr, nat_lt, arith}
+use Rattle.std.proofs.Common.{◌≡◌, refl, sym, ap, ◌∙◌, subst, ℕ, ◌<◌, Bool, true, false, cond, not, ◌==◌, ◌++◌, max, Option, Some, None, length, Result, Ok, Err, OnOk, OnErr, IfErr, ◌⊎◌, inl, inr, nat_lt, arith}
 use Rattle.std.proofs.lemmas.Bool.Decides.{nat_tests}
 use Rattle.std.specs.FinMap as finmap
 use Rattle.hk_types.specs.Values.{RowValue, ConfigValue}
@@ -13,7 +13,7 @@ use Rattle.hk_model.specs.Replica.Replicas.{Represents}
 use Rattle.hk_model.specs.Replica.Rules.{contents_conflict, join_result, content_after_join}
 use Rattle.hk_model.proofs.Maps.{version_key_total, version_key_same, get-retain, get-without_ended}
 use Rattle.hk_model.proofs.Laws.{merge_law_proof}
-use Rattle.hk_merge.specs.Calls.{Joins, Merges, MergesOf}
+use Rattle.hk_merge.specs.Calls.{Joins, Merges, MergesOf, refusal_of}
 use Rattle.hk_state.proofs.Represented.{inside, has_conflict_with}
 
 -- ---- where the log fits
@@ -63,9 +63,14 @@ module _ (t : Content) (f : FragmentValue) (streams : ℕ) (as_many : length f.c
       pub join_done : join_result t f ≡ Ok (content_after_join t f)
       join_done = join_open ∙ ap (λ b. cond b (Err Conflict) (Ok (content_after_join t f))) agree
 
-      pub join_gives : (r : Result (Unit {0}) Refusal) (new : Content) → OnOk r (new ≡ content_after_join t f) → IfErr r (λ why. why ≡ Memory) → OnErr r (new ≡ t) → Joins t new f r
-      join_gives (Ok done) new ok err kept = join_done ∙ ap Ok (sym ok)
-      join_gives (Err why) new ok err kept = (kept, inr (err, (content_after_join t f, join_done)))
+    -- where it conflicts, or else memory ran out, it is refused
+    pub join_either : (r : Result (Unit {0}) Refusal) (new : Content) → OnOk r (new ≡ content_after_join t f) → OnOk r (contents_conflict t f.content ≡ false) → IfErr r (λ why. why ≡ refusal_of t f) → OnErr r (new ≡ t) → Joins t new f r
+    join_either (Ok done) new ok agrees err kept = join_done agrees ∙ ap Ok (sym ok)
+    join_either (Err why) new ok agrees err kept = (kept, by (contents_conflict t f.content) refl)
+      where
+        by : (b : Bool) → contents_conflict t f.content ≡ b → (join_result t f ≡ Err why) ⊎ ((why ≡ Memory) × ((c : Content) × (join_result t f ≡ Ok c)))
+        by true e = inl (join_conflict e ∙ ap Err (sym (err ∙ ap (λ b. cond b Conflict Memory) e)))
+        by false e = inr (err ∙ ap (λ b. cond b Conflict Memory) e, (content_after_join t f, join_done e))
 
 -- what is of a log fits as its configuration does
 pub fits_by : (t : Content) (f : FragmentValue) (config : ConfigValue) (log : config.log ≡ f.content.log) (streams : length f.content.streams ≡ config.streams) {r : Option Refusal}

@@ -3,7 +3,7 @@
 ghost use Rattle.std.specs.Prelude.{◌≡◌, max, length, IfOk, IfErr, OnOk, OnErr, false};
 ghost use Rattle.hk_types.specs.declared.faults.Refusal.TheVariants.{Memory};
 ghost use Rattle.hk_model.specs.Replica.Rules.{contents_conflict, content_after_join};
-ghost use Rattle.hk_model.specs.Replica.Lawful.{IsLawful};
+ghost use Rattle.hk_model.specs.Replica.Lawful.{IsLawful, IsLawfulFragment};
 ghost use Rattle.hk_merge.specs.Sent.{fragment_sent};
 ghost use Rattle.hk_merge.specs.Growing.{AddsDrops, AddsEnds, AddsRows, IsJoinOf, after_change, has_horizon};
 ghost use Rattle.hk_merge.specs.Plans.{gone_at, rises, row_back_at, end_back_at};
@@ -43,10 +43,7 @@ pub fn join_sent(target: &mut ReplicaState, sent: &Sent) -> Result<(), Refusal>
     if readable < base {
         return Err(Refusal::Gap { base, readable });
     }
-    if target.horizon() < sent.horizon() {
-        return join_rising(target, sent);
-    }
-    join_level(target, sent)
+    join_fitting(target, sent)
 }
 
 /// Merges what a peer holds into the target's state: the join of the whole of it.
@@ -76,19 +73,33 @@ fn refusal_of(target: &ReplicaState, sent: &Sent) -> Refusal
     Refusal::Memory
 }
 
-/// Joins what is sent, where it is of the same log and the horizon stays: in one pass, in which each version is compared
-/// and learnt. Where that ends early, all is taken back, and what is sent is compared with all that was there.
-fn join_level(target: &mut ReplicaState, sent: &Sent) -> Result<(), Refusal>
+/// Joins what is sent, where it is of the same log and leaves no gap.
+fn join_fitting(target: &mut ReplicaState, sent: &Sent) -> Result<(), Refusal>
     requires as_many { length (fragment_sent sent.now).content.streams ≡ length target.old.streams }
-    requires level { rises target.old (fragment_sent sent.now) ≡ false }
     ensures ok { OnOk result (target.new ≡ content_after_join target.old (fragment_sent sent.now)) }
     ensures agrees { OnOk result (contents_conflict target.old (fragment_sent sent.now).content ≡ false) }
     ensures err { IfErr result (λ why. why ≡ refusal_of target.old (fragment_sent sent.now)) }
     ensures kept { OnErr result (target.new ≡ target.old) }
 {
-    let horizon = target.horizon();
-    let old = sent.base() == Time::zero() && sent.horizon() == horizon;
-    match target.learn(&sent.told(), old, sent.got()) {
+    if target.horizon() < sent.horizon() {
+        return join_rising(target, sent);
+    }
+    join_level(target, sent)
+}
+
+/// Joins what is sent, where it is of the same log and the horizon stays: in one pass, in which each version is compared
+/// and learnt. Where that ends early, all is taken back, and what is sent is compared with all that was there.
+fn join_level(target: &mut ReplicaState, sent: &Sent) -> Result<(), Refusal>
+    requires as_many { length (fragment_sent sent.now).content.streams ≡ length target.old.streams }
+    requires level { rises target.old (fragment_sent sent.now) ≡ false }
+    requires lawful { IsLawfulFragment (fragment_sent sent.now) }
+    ensures ok { OnOk result (target.new ≡ content_after_join target.old (fragment_sent sent.now)) }
+    ensures agrees { OnOk result (contents_conflict target.old (fragment_sent sent.now).content ≡ false) }
+    ensures err { IfErr result (λ why. why ≡ refusal_of target.old (fragment_sent sent.now)) }
+    ensures kept { OnErr result (target.new ≡ target.old) }
+{
+    let coming = coming(sent, target.horizon());
+    match target.learn(&sent.told(), coming.old, sent.got()) {
         Ok(()) => Ok(()),
         Err(_) => Err(refusal_of(target, sent)),
     }

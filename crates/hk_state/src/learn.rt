@@ -85,6 +85,14 @@ impl ReplicaState {
             old,
             horizon: self.horizon,
         };
-        learn_all(self.alloc, &mut self.facts, &mut self.got, told, &coming, given)
+        learn_all(
+            self.alloc,
+            &mut self.facts,
+            &mut self.got,
+            told,
+            &coming,
+            given,
+        )?;
+        Ok(())
     }
 }
