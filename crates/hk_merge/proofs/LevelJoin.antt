@@ -16,7 +16,7 @@ use Rattle.hk_store.specs.Facts.{FactsValue}
 use Rattle.hk_store.specs.Learning.{facts_told, with_told}
 use Rattle.hk_store.specs.Reads.{facts_of_content}
 use Rattle.hk_store.specs.declared.learn.Told.{Told}
-use Rattle.hk_merge.specs.Plans.{rises, old_come}
+use Rattle.hk_merge.specs.Plans.{rises}
 
 highest : (a b : ℕ) → nat_lt a b ≡ false → max a b ≡ a
 highest a b e = grind (arith, nat_tests)

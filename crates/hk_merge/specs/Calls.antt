@@ -1,5 +1,5 @@
 -- What joins and merges leave and answer.
-use Rattle.std.specs.Prelude.{◌≡◌, ◌⊎◌, ◌==◌, ◌++◌, ℕ, max, not, if◌then◌else◌, length, List, Option, Some, None, Result, Ok, Err, IfOk, IfErr}
+use Rattle.std.specs.Prelude.{◌≡◌, ◌==◌, ◌++◌, ℕ, max, not, if◌then◌else◌, length, List, Option, Some, None, Result, IfOk, IfErr}
 use Rattle.hk_types.specs.OrMemory.{ChangesOrMemory}
 use Rattle.hk_types.specs.Values.{ConfigValue}
 use Rattle.hk_types.specs.declared.faults.Refusal.{Refusal}

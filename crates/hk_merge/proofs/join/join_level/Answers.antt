@@ -1,6 +1,5 @@
-use Rattle.std.proofs.Common.{◌≡◌, sym, ap, ◌∙◌, subst}
+use Rattle.std.proofs.Common.{sym, ap, ◌∙◌, subst}
 use Rattle.hk_model.specs.Replica.Lawful.{IsLawful}
-use Rattle.hk_model.specs.Replica.Rules.{content_after_join}
 use Rattle.hk_model.proofs.Lawful.{joined_lawful}
 use Rattle.hk_state.specs.Changes.{content_learnt}
 use Rattle.hk_merge.specs.Growing.{has_horizon}

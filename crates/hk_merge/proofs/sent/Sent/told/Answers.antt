@@ -1,7 +1,5 @@
 use Rattle.std.proofs.Common.{sym, ap, ◌∙◌, subst}
-use Rattle.hk_fragment.specs.Parts.{Known, versions_listed}
 use Rattle.hk_fragment.proofs.FoundVersions.{versions_are}
-use Rattle.hk_store.specs.Learning.{told_by}
 use Rattle.hk_store.specs.Reads.{facts_of_content}
 use Rattle.hk_store.specs.Versions.{AreVersions}
 use Rattle.hk_store.proofs.LearntFacts.{told_of}
