@@ -1,9 +1,10 @@
 -- What items say together is the content of them at horizon 0, and its cut at 0 is their fragment.
-use Rattle.std.proofs.Common.{◌≡◌, refl, sym, ap, ◌∙◌, subst, ℕ, ◌<◌, ◌≤◌, Bool, true, false, cond, not, ◌||◌, Option, Some, None, List, All, Result, Ok, Err, ◌⊎◌, inl, inr, nat_le, arith}
+use Rattle.std.proofs.Common.{◌≡◌, refl, sym, ap, ◌∙◌, subst, ℕ, ◌<◌, ◌≤◌, Bool, true, false, cond, not, ◌||◌, Option, Some, None, List, [], ◌∷◌, ◌++◌, All, Result, Ok, Err, ◌⊎◌, inl, inr, nat_le, nat_lt, arith}
 use Rattle.std.proofs.lemmas.Bool.Decides.{nat_tests}
 use Rattle.std.specs.List.{flat_map}
 use Rattle.std.specs.FinMap as finmap
-use Rattle.hk_types.specs.Values.{ConfigValue}
+use Rattle.std.proofs.lemmas.List.Elements.{All-head, All-tail}
+use Rattle.hk_types.specs.Values.{ConfigValue, RowValue}
 use Rattle.hk_types.specs.declared.version_key.VersionKey.{VersionKey}
 use Rattle.hk_types.specs.declared.faults.Refusal.{Refusal}
 use Rattle.hk_types.specs.declared.faults.Refusal.TheVariants.{Conflict, Memory}
@@ -24,14 +25,15 @@ use Rattle.hk_model.proofs.Logs.{fact_end, end_found}
 use Rattle.hk_model.proofs.Writes.{All_In}
 use Rattle.hk_model.proofs.Lawful.{IsSound, entry_sound, content_of_lawful}
 use Rattle.hk_model.proofs.Gathers.{gathered_law}
-use Rattle.hk_store.specs.Facts.{FactsValue, no_facts}
+use Rattle.hk_facts.specs.Facts.{if_known}
+use Rattle.hk_store.specs.Facts.{FactsValue, no_facts, known_at, entry_if}
 use Rattle.hk_store.specs.Reads.{facts_of_content}
 use Rattle.hk_store.specs.Versions.{AreVersions}
 use Rattle.hk_fragment.specs.Parts.{Known, fragment_seen, fragment_fault}
-use Rattle.hk_delta.specs.Cuts.{HasLeft, all_left}
+use Rattle.hk_delta.specs.Cuts.{HasLeft, all_left, left_above, row_above, end_above}
 use Rattle.hk_delta.specs.Gathers.{item_facts, all_put, have_conflict, Gathers, GathersOf}
 use Rattle.hk_delta.proofs.FactsInConflict.{facts_from, items_settle}
-use Rattle.hk_delta.proofs.CutLists.{parts_faultless, cut_is, all_have}
+use Rattle.hk_delta.proofs.CutLists.{parts_faultless, cut_is, all_have, if_known_is}
 
 same_ok : (f g : FactsValue) → ◌≡◌ {A = Result FactsValue Refusal} (Ok f) (Ok g) → f ≡ g
 same_ok f g e = cc
@@ -94,11 +96,44 @@ module _ (config : ConfigValue) (items : List Item) (all : All IsItem items) whe
     listed : HasLeft (facts_of_content (content_of config items 0)) 0 es
     listed = all_have _ 0 es (subst (λ (g : FactsValue). AreVersions g es) (is ∙ whole_facts) are)
 
-    pub whole_faultless : fragment_fault 0 0 (streams_of config.streams items) (all_left 0 es) ≡ None
-    whole_faultless = parts_faultless (content_of config items 0) whole_lawful 0 (inl refl) es listed
+    -- all of each version is above 0
+    row_stays : (v : VersionKey) (r : Option RowValue) → finmap.get (content_of config items 0).rows v ≡ r → row_above 0 v.born r ≡ r
+    row_stays v None e = neither (nat_lt 0 v.born)
+      where
+        neither : (b : Bool) → ◌≡◌ {A = Option RowValue} (cond b None None) None
+        neither true = refl
+        neither false = refl
+    row_stays v (Some row) e = ap (λ b. cond b (Some row) None) (later v.born (whole_lawful.born v row e))
+      where
+        later : (b : ℕ) → 0 < b → nat_lt 0 b ≡ true
+        later b l = grind (arith, nat_tests)
 
-    pub whole_is : fragment_seen config 0 0 (streams_of config.streams items) (all_left 0 es) ≡ part config items 0 0
-    whole_is = cut_is (content_of config items 0) whole_lawful 0 config refl es listed
+    end_stays : (v : VersionKey) (d : Option ℕ) → finmap.get (content_of config items 0).ends v ≡ d → end_above 0 d ≡ d
+    end_stays v None e = refl
+    end_stays v (Some d) e = ap (λ b. cond b None (Some d)) (later d (whole_lawful.end_above v d e))
+      where
+        later : (d : ℕ) → 0 < d → nat_le d 0 ≡ false
+        later d l = grind (arith, nat_tests)
+
+    all_stays : (xs : List Known) → All (λ e. known_at (facts_of_content (content_of config items 0)) e.0 ≡ Some e.1) xs → all_left 0 xs ≡ xs
+    all_stays [] known = refl
+    all_stays (e ∷ xs) known = λ i. entry_if e.0 (one e (All-head (λ e. known_at (facts_of_content (content_of config items 0)) e.0 ≡ Some e.1) e xs known) i) ++ all_stays xs (All-tail (λ e. known_at (facts_of_content (content_of config items 0)) e.0 ≡ Some e.1) e xs known) i
+      where
+        one : (e : Known) → known_at (facts_of_content (content_of config items 0)) e.0 ≡ Some e.1 → left_above 0 e.0 e.1 ≡ Some e.1
+        one e is =
+            let c = content_of config items 0 in
+            ap (left_above 0 e.0) (sym (if_known_is (record { row = finmap.get c.rows e.0; died = finmap.get c.ends e.0 }) e.1 is).0)
+            ∙ (λ i. if_known (record { row = row_stays e.0 (finmap.get c.rows e.0) refl i; died = end_stays e.0 (finmap.get c.ends e.0) refl i }))
+            ∙ is
+
+    all_listed : all_left 0 es ≡ es
+    all_listed = all_stays es listed.known
+
+    pub whole_faultless : fragment_fault 0 0 (streams_of config.streams items) es ≡ None
+    whole_faultless = ap (fragment_fault 0 0 (streams_of config.streams items)) (sym all_listed) ∙ parts_faultless (content_of config items 0) whole_lawful 0 (inl refl) es listed
+
+    pub whole_is : fragment_seen config 0 0 (streams_of config.streams items) es ≡ part config items 0 0
+    whole_is = ap (fragment_seen config 0 0 (streams_of config.streams items)) (sym all_listed) ∙ cut_is (content_of config items 0) whole_lawful 0 config refl es listed
 
 -- ---- what is answered
 

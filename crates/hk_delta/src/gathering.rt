@@ -12,12 +12,11 @@ ghost use Rattle.hk_delta.specs.Gathers.{have_conflict, Gathers, GathersOf, Puts
 
 use crate::Fragment;
 use crate::conflicts::conflict;
-use crate::cutting::left_of;
 use hk_facts::Fact;
 use hk_log::Item;
 use hk_marks::Got;
 use hk_state::wrong_log;
-use hk_store::Chains;
+use hk_store::VersionMap;
 use hk_types::{Config, Key, Refusal, Row, Table, Time, VersionKey};
 use std::alloc::Global;
 
@@ -36,7 +35,7 @@ fn first_wrong_log(config: Config, items: &[Item]) -> Option<Refusal>
 /// Puts the rows of an entry of a time.
 fn put_rows(
     alloc: Global,
-    facts: &mut Chains,
+    facts: &mut VersionMap,
     rows: &[(Table, Key, Row)],
     time: Time,
 ) -> Result<(), Refusal>
@@ -57,7 +56,7 @@ fn put_rows(
 }
 
 /// Puts the ends of an entry of a time.
-fn put_ends(facts: &mut Chains, ends: &[VersionKey], time: Time) -> Result<(), Refusal>
+fn put_ends(facts: &mut VersionMap, ends: &[VersionKey], time: Time) -> Result<(), Refusal>
     ensures { Puts facts.old facts.new (flat_map (end_fact time) ends.now) result }
 {
     for version in ends {
@@ -69,7 +68,7 @@ fn put_ends(facts: &mut Chains, ends: &[VersionKey], time: Time) -> Result<(), R
 }
 
 /// Puts all that an item says of versions.
-fn put_item(alloc: Global, facts: &mut Chains, item: &Item) -> Result<(), Refusal>
+fn put_item(alloc: Global, facts: &mut VersionMap, item: &Item) -> Result<(), Refusal>
     ensures { Puts facts.old facts.new (item_facts item.now) result }
 {
     match item {
@@ -84,7 +83,7 @@ fn put_item(alloc: Global, facts: &mut Chains, item: &Item) -> Result<(), Refusa
 }
 
 /// Puts all that items say of versions.
-fn put_items(alloc: Global, facts: &mut Chains, items: &[Item]) -> Result<(), Refusal>
+fn put_items(alloc: Global, facts: &mut VersionMap, items: &[Item]) -> Result<(), Refusal>
     ensures { Puts facts.old facts.new (flat_map item_facts items.now) result }
 {
     for item in items {
@@ -132,15 +131,14 @@ fn gather(alloc: Global, config: Config, items: &[Item]) -> Result<Fragment, Ref
     ensures lawful { OnOk result (All IsItem items.now) }
     ensures err { IfErr result (λ why. (why ≡ Memory) ⊎ ((why ≡ ConflictRefusal) × (have_conflict items.now ≡ true))) }
 {
-    let mut facts = Chains::new(alloc);
+    let mut facts = VersionMap::new(alloc);
     if let Err(why) = put_items(alloc, &mut facts, items) {
         return Err(why);
     }
     let got = note_items(alloc, config, items)?;
-    let versions = facts.versions(alloc)?;
-    let left = left_of(alloc, Time::zero(), &versions)?;
+    let listed = facts.into_list(alloc)?;
     let beginning = Time::zero();
-    Ok(Fragment::of_parts(config, beginning, beginning, got, left))
+    Ok(Fragment::of_parts(config, beginning, beginning, got, listed))
 }
 
 /// The fragment of items, with base 0 and horizon 0: the union of what they say, and all their numbers and marks.
@@ -148,7 +146,7 @@ fn gather(alloc: Global, config: Config, items: &[Item]) -> Result<Fragment, Ref
 /// The first item that is of another log is refused `ForeignLog`, or of a stream above the configured number
 /// `WrongStreams`. Two items that give a version different rows or different ends are refused `Conflict`, and
 /// then `Memory` comes where a growth was refused. Cost: O(n · log n + b), n items, rows and ends, b bytes of
-/// bodies, all copied. Only where memory was refused, the items are compared with each other, which takes no
+/// bodies, all copied once. Only where memory was refused, the items are compared with each other, which takes no
 /// memory: O(n²).
 pub fn fragment_of(alloc: Global, config: Config, items: &[Item]) -> Result<Fragment, Refusal>
     ensures gives { Gathers config items.now result }

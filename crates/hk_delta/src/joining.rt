@@ -12,8 +12,8 @@ use hk_types::Refusal;
 ///
 /// A fragment of another log is refused `ForeignLog`, one with another number of streams `WrongStreams`, one whose
 /// base is above the state's readable mark `Gap` with these two times, and one that has another row or another
-/// end of a version than the state `Conflict`; so far no memory is taken. `Memory` comes last, where a growth was
-/// refused. A refusal changes nothing.
+/// end of a version than the state `Conflict`, also where memory ran out before that was met. `Memory` comes last,
+/// where a growth was refused. A refusal changes nothing.
 ///
 /// Cost: O((s + c + d) · log n + b), s streams, c versions of the fragment, its numbers and marks that wait for
 /// others and those of the state's that they free, d versions of the state's own that go since the horizon rises,

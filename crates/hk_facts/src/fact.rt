@@ -24,7 +24,7 @@ pub enum Part {
 }
 
 /// The version of which this fact alone is known.
-pub(crate) fn version_of(fact: Fact) -> Version
+pub fn version_of(fact: Fact) -> Version
     ensures { put_result fact None ≡ Ok result }
 {
     match fact {
@@ -34,7 +34,7 @@ pub(crate) fn version_of(fact: Fact) -> Version
 }
 
 /// Adds a fact to a version, unless the version has another row or another end there.
-pub(crate) fn join(version: &mut Version, fact: Fact) -> Result<(), Refusal>
+pub fn join(version: &mut Version, fact: Fact) -> Result<(), Refusal>
     ensures ok { OnOk result (put_result fact (Some version.old) ≡ Ok version.new) }
     ensures err { IfErr result (λ why. put_result fact (Some version.old) ≡ Err why) }
     ensures kept { OnErr result (version.new ≡ version.old) }

@@ -11,5 +11,5 @@ mod others;
 mod versions;
 
 pub use chain::Chain;
-pub use fact::{Fact, Part};
+pub use fact::{Fact, Part, join, version_of};
 pub use versions::ended_by;

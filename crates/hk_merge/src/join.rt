@@ -26,8 +26,8 @@ fn later(a: Time, b: Time) -> Time
 ///
 /// What is of another log is refused `ForeignLog`, with another number of streams `WrongStreams`. What leaves a
 /// gap, since its base is above the target's readable mark, is refused `Gap` with these two times. What gives a
-/// version another row or another end than the target has is refused `Conflict`; so far no memory is taken.
-/// `Memory` comes last, where a growth was refused. A refusal changes nothing.
+/// version another row or another end than the target has is refused `Conflict`, also where memory ran out before
+/// that was met. `Memory` comes last, where a growth was refused. A refusal changes nothing.
 ///
 /// Cost: O((s + c + d) · log n + b), s streams, c versions sent, numbers and marks sent that wait for others and
 /// those of the target's that they free, d versions of the target's own that go since the horizon rises, n all
@@ -49,8 +49,8 @@ pub fn join_sent(target: &mut ReplicaState, sent: &Sent) -> Result<(), Refusal>
 /// Merges what a peer holds into the target's state: the join of the whole of it.
 ///
 /// A peer of another log is refused `ForeignLog`, one with another number of streams `WrongStreams`. One that has
-/// another row or another end of a version is refused `Conflict`; so far no memory is taken. `Memory` comes last,
-/// where a growth was refused. A refusal changes nothing.
+/// another row or another end of a version is refused `Conflict`, also where memory ran out before that was met.
+/// `Memory` comes last, where a growth was refused. A refusal changes nothing.
 ///
 /// Cost: O((s + c + d) · log n + b), s streams, c versions of the peer, its numbers and marks that wait for others
 /// and those of the target's that they free, d versions of the target's own that go since the horizon rises, n all

@@ -17,6 +17,7 @@ pub mod ReplacedFacts
 pub mod ListedVersions
 pub mod PickedVersions
 pub mod LearntFacts
+pub mod MappedVersions
 pub mod WalkedRows
 pub mod SameRows
 pub mod TaggedRows

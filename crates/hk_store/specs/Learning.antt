@@ -5,6 +5,7 @@ use Rattle.std.specs.FinMap as finmap
 use Rattle.hk_types.specs.Values.{RowValue, same_row}
 use Rattle.hk_types.specs.declared.version_key.VersionKey.{VersionKey}
 use Rattle.hk_log.specs.Versions.{VersionValue}
+use Rattle.hk_model.specs.History.Rows.{version_key_cmp}
 use Rattle.hk_model.specs.Replica.Content.{at_most, without_ended}
 use Rattle.hk_model.specs.Replica.Maps.{union, values_conflict}
 use Rattle.hk_facts.specs.Facts.{row_of, died_of}
@@ -17,6 +18,10 @@ use Rattle.hk_store.specs.declared.learn.Told.TheVariants.{Listed, Held}
 -- the facts that a list of versions tells
 abbrev pub told_by : List (VersionKey × VersionValue) → FactsValue
 told_by es = record { rows = finmap.from_entries (flat_map (λ e. entry_if e.0 e.1.row) es); ends = finmap.from_entries (flat_map (λ e. entry_if e.0 e.1.died) es) }
+
+-- the facts that a map from versions tells
+abbrev pub mapped : finmap.FinMap version_key_cmp VersionValue → FactsValue
+mapped m = told_by (finmap.entries m)
 
 -- the facts that are told: those of a list, or all that another holds
 abbrev pub facts_told : Told → FactsValue

@@ -107,23 +107,6 @@ impl Chains {
         }
     }
 
-    /// Adds a fact on a version. One that is known already changes nothing, and one that differs from what
-    /// is known is a conflict. `Memory` comes only where nothing is known of the version. A refusal
-    /// changes nothing. Cost: O(log n + b), n facts, b bytes of a body that is compared.
-    pub fn put(&mut self, version: &VersionKey, fact: Fact) -> Result<(), Refusal>
-        ensures ok { OnOk result (facts_put self.old version.now fact ≡ Ok self.new) }
-        ensures err { IfErr result (λ why. RefusesUnknown self.old version.now fact why) }
-        ensures kept { OnErr result (self.new ≡ self.old) }
-    {
-        let row = RowKey::of_version(version);
-        if let Some(chain) = self.chains.get_mut(row) {
-            return chain.put(version.born, fact);
-        }
-        let chain = Chain::of_fact(self.alloc, version.born, fact)?;
-        self.chains.insert(row, chain)?;
-        Ok(())
-    }
-
     /// Adds a fact where nothing like it is known of the version, and says whether it did. The only refusal
     /// is `Memory`, and it changes nothing. Cost: O(log n), n facts: a body is moved.
     pub(crate) fn put_new(&mut self, version: &VersionKey, fact: Fact) -> Result<bool, Refusal>
@@ -142,8 +125,9 @@ impl Chains {
         Ok(true)
     }
 
-    /// Adds a fact on a version as `put` does, and says whether nothing like it was known: one that is known
-    /// already changes nothing. Cost: that of `put`.
+    /// Adds a fact on a version, and says whether nothing like it was known. One that is known already changes nothing,
+    /// and one that differs from what is known is a conflict. `Memory` comes only where nothing is known of the version.
+    /// A refusal changes nothing. Cost: O(log n + b), n facts, b bytes of a body that is compared.
     pub(crate) fn insert_fact(&mut self, version: &VersionKey, fact: Fact) -> Result<bool, Refusal>
         ensures ok { OnOk result (facts_put self.old version.now fact ≡ Ok self.new) }
         ensures new { IfOk result (λ is. OnTrue is (IsNew self.old version.now fact)) }

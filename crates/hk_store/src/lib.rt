@@ -16,15 +16,16 @@ mod shown;
 mod stated;
 mod tag_index;
 mod tagged;
+mod version_map;
 mod versions;
 mod walk;
 
-pub use chains::Chains;
 pub use facts::Facts;
 pub use key_index::KeyIndex;
 pub use learn::{Coming, Told};
 pub use replace::meets;
 pub use row_key::RowKey;
 pub use tag_index::TagIndex;
+pub use version_map::VersionMap;
 pub use versions::push_borrowed;
 pub use walk::Walk;
