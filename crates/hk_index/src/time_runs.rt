@@ -109,11 +109,15 @@ impl<T: Stamp> TimeRuns<T> {
 
     /// The same set again.
     ///
-    /// The only error is out of memory. Cost: O(n), and O(l · log l) for the l that are loose.
+    /// The only error is out of memory. Cost: O(n); the copy has no loose members, where there is memory for a merge.
     pub fn copy(&self, alloc: Global) -> Result<TimeRuns<T>, AllocError>
         ensures { IfOk result (λ runs. runs ≡ self.now) }
     {
-        let run = self.run.copy(alloc)?;
+        let mut run = self.run.copy(alloc)?;
+        if absorb(alloc, &mut run, &self.loose) {
+            let loose = Loose::new(alloc);
+            return Ok(TimeRuns { alloc, run, loose });
+        }
         let loose = self.loose.copy(alloc)?;
         Ok(TimeRuns { alloc, run, loose })
     }
