@@ -38,6 +38,18 @@ impl Model for Chain {
     ghost view = { λ a. stored a.form };
 }
 
+/// A clone is the same chain again, as `copy` gives it.
+impl Clone for Chain {
+    ghost use Rattle.std.specs.Prelude.{◌≡◌};
+
+    ghost is_clone = { λ x y. y ≡ x };
+
+    fn clone(&self) -> Result<Chain, AllocError> {
+        let chain = self.copy(self.alloc)?;
+        Ok(chain)
+    }
+}
+
 impl Chain {
     /// A chain with no version. It takes no memory.
     pub fn new(alloc: Global) -> Chain

@@ -1,10 +1,10 @@
 -- The keys that are listed by tag.
-use Rattle.std.proofs.Common.{◌≡◌, refl, sym, ap, ◌∙◌, ℕ, Bool, true, false, cond, ◌||◌, ◌==◌, List, [], ◌∷◌, ◌++◌, subst, Option, Some, None, IsSome, nat_cmp, Ordering, Less, Equal, Greater, is_eq, eqb-true, eq-eqb, arith}
+use Rattle.std.proofs.Common.{◌≡◌, refl, sym, ap, ◌∙◌, ℕ, Bool, true, false, cond, ◌||◌, ◌==◌, List, [], ◌∷◌, ◌++◌, subst, Some, IsSome, nat_cmp, is_eq, eqb-true, eq-eqb, arith}
 use Rattle.std.proofs.lemmas.Bool.Decides.{nat_tests}
 use Rattle.std.specs.Cmp.{IsTotalOrder, then_total, on_total, nat_cmp_total, Equal-is, tied_itself}
-use Rattle.std.specs.List.{list_any, dedup, dedup_from}
+use Rattle.std.specs.List.{dedup, dedup_from}
 use Rattle.std.specs.List.Sorted.{IsStrictlySortedBy}
-use Rattle.std.specs.Ordering.{eq_by_cmp, ordering_then}
+use Rattle.std.specs.Ordering.{eq_by_cmp}
 use Rattle.std.specs.FinMap as finmap
 use Rattle.hk_index.specs.declared.tag_key.TagKey.{TagKey}
 use Rattle.hk_slots.specs.SlotMaps.{Slots, map_of, IsWritten}

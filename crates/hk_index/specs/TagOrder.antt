@@ -3,7 +3,6 @@ use Rattle.std.proofs.Common.{◌≡◌, refl, sym, ℕ, nat_cmp, Ordering, Less
 use Rattle.std.specs.Cmp.{ranked}
 use Rattle.std.specs.Ordering.{ordering_then}
 use Rattle.std.specs.FinMap as finmap
-use Rattle.hk_index.specs.declared.tag_key.TagKey.{TagKey}
 use Rattle.hk_index.specs.Tags.{tag_key_cmp}
 
 first_ties : (a b : Ordering) → ordering_then a b ≡ Equal → a ≡ Equal

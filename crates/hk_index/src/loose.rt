@@ -1,6 +1,6 @@
 //! Members that came out of order.
 
-ghost use Rattle.std.specs.Prelude.{◌≡◌, ◌<◌, List, ◌∷◌, ◌++◌, map, filter, nat_le, nat_lt, false, IfOk, OnOk, OnErr};
+ghost use Rattle.std.specs.Prelude.{◌≡◌, ◌<◌, List, ◌∷◌, ◌++◌, map, filter, nat_le, nat_lt, false, IfOk, IfSome, OnOk, OnErr};
 ghost use Rattle.std.specs.Bool.{OnTrue, OnFalse};
 ghost use Rattle.std.specs.BTreeSet.{btree_set_len};
 ghost use Rattle.std.specs.BTreeSet as sorted;
@@ -9,7 +9,7 @@ ghost use Rattle.std.specs.List.Sorted.{IsStrictlySortedBy};
 ghost use Rattle.hk_index.specs.Timed.{timed_cmp, first_at, Appends, above, up_to};
 ghost use Rattle.hk_index.specs.Entries.{entry_cmp, live_entry, shown};
 
-use crate::entry::Entry;
+use crate::packed::{Packed, Stamp};
 use crate::timed::TimedVersion;
 use hk_types::{Key, Table, Time, VersionKey};
 use std::alloc::{AllocError, Global};
@@ -104,13 +104,13 @@ impl Loose {
         Ok(())
     }
 
-    /// The members as a sorted run. The only error is out of memory. Cost: O(n).
-    pub(crate) fn entries(&self, alloc: Global) -> Result<Vec<Entry>, AllocError>
-        ensures sorted { IfOk result (λ entries. IsStrictlySortedBy entry_cmp entries.items) }
-        ensures same { IfOk result (λ entries. shown entries.items ≡ self.now) }
+    /// The members as a sorted run; none where memory runs out, or a time can't be kept so. Cost: O(n).
+    pub(crate) fn entries<T: Stamp>(&self, alloc: Global) -> Option<Vec<Packed<T>>>
+        ensures sorted { IfSome result (λ entries. IsStrictlySortedBy entry_cmp entries.items) }
+        ensures same { IfSome result (λ entries. shown entries.items ≡ self.now) }
     {
         let entries = live_entries(alloc, &self.members)?;
-        Ok(entries)
+        Some(entries)
     }
 
     /// The same set again. The only error is out of memory. Cost: O(n · log n).
@@ -131,17 +131,16 @@ fn copy_of(
     members.iter().copied().collect(alloc)
 }
 
-fn live_entries(alloc: Global, members: &BTreeSet<TimedVersion>) -> Result<Vec<Entry>, AllocError>
+fn live_entries<T: Stamp>(alloc: Global, members: &BTreeSet<TimedVersion>) -> Option<Vec<Packed<T>>>
     ensures sorted { IsStrictlySortedBy timed_cmp members.now.keys }
-    ensures items { IfOk result (λ entries. entries.items ≡ map live_entry members.now.keys) }
+    ensures items { IfSome result (λ entries. entries.items ≡ map live_entry members.now.keys) }
 {
-    members
-        .iter()
-        .map(|member| Entry {
-            member: *member,
-            live: true,
-        })
-        .collect(alloc)
+    let mut entries = Vec::with_capacity(alloc, members.len()).ok()?;
+    for member in members.iter() {
+        let entry = Packed::of(*member)?;
+        entries.push(entry).ok()?;
+    }
+    Some(entries)
 }
 
 /// Whether the first of the members has a time up to this one.

@@ -4,7 +4,7 @@ ghost use Rattle.std.specs.Prelude.{◌≡◌, ◌+◌, ◌<◌, ◌≤◌, ◌^
 ghost use Rattle.std.specs.List.Sorted.{IsStrictlySortedBy};
 ghost use Rattle.hk_index.specs.Entries.{entry_cmp, merged};
 
-use crate::entry::Entry;
+use crate::packed::{Packed, Stamp};
 use crate::search::{after, count_below};
 use std::alloc::{AllocError, Global};
 use std::cmp::Ordering;
@@ -13,11 +13,11 @@ use std::cmp::Ordering;
 ///
 /// The only error is out of memory; then nothing is changed. Cost: O(log n + k + m), amortized, for the k entries that
 /// stand behind the first of the m that come.
-pub(crate) fn merge_into(
+pub(crate) fn merge_into<T: Stamp>(
     alloc: Global,
-    entries: &mut Vec<Entry>,
+    entries: &mut Vec<Packed<T>>,
     start: usize,
-    newer: &[Entry],
+    newer: &[Packed<T>],
 ) -> Result<(), AllocError>
     requires within { start ≤ vec_len entries.old }
     requires sorted { IsStrictlySortedBy entry_cmp (drop start entries.old.items) }
@@ -32,18 +32,22 @@ pub(crate) fn merge_into(
 }
 
 /// How many of the sorted entries are below all of a sorted run: a merge leaves them as they are.
-fn count_before(entries: &[Entry], newer: &[Entry]) -> usize
+fn count_before<T: Stamp>(entries: &[Packed<T>], newer: &[Packed<T>]) -> usize
     requires { IsStrictlySortedBy entry_cmp entries.now }
     ensures within { result ≤ length entries.now }
     ensures apart { merged entries.now newer.now ≡ take result entries.now ++ merged (drop result entries.now) newer.now }
 {
     match newer.first() {
-        Some(first) => count_below(entries, first.member),
+        Some(first) => count_below(entries, first.member()),
         None => entries.len(),
     }
 }
 
-fn replace_tail(entries: &mut Vec<Entry>, place: usize, tail: &[Entry]) -> Result<(), AllocError>
+fn replace_tail<T: Stamp>(
+    entries: &mut Vec<Packed<T>>,
+    place: usize,
+    tail: &[Packed<T>],
+) -> Result<(), AllocError>
     requires { place ≤ vec_len entries.old }
     ensures ok { OnOk result (entries.new.items ≡ take place entries.old.items ++ tail.now) }
     ensures kept { OnErr result (entries.new.items ≡ entries.old.items) }
@@ -59,7 +63,11 @@ fn replace_tail(entries: &mut Vec<Entry>, place: usize, tail: &[Entry]) -> Resul
 /// The entries of two sorted runs in order; a member of both is there where it is in either.
 ///
 /// The only error is out of memory. Cost: O(n + m).
-fn merge(alloc: Global, older: &[Entry], newer: &[Entry]) -> Result<Vec<Entry>, AllocError>
+fn merge<T: Stamp>(
+    alloc: Global,
+    older: &[Packed<T>],
+    newer: &[Packed<T>],
+) -> Result<Vec<Packed<T>>, AllocError>
     ensures { IfOk result (λ all. all.items ≡ merged older.now newer.now) }
 {
     let mut all = Vec::with_capacity(alloc, older.len().saturating_add(newer.len()))?;
@@ -68,7 +76,7 @@ fn merge(alloc: Global, older: &[Entry], newer: &[Entry]) -> Result<Vec<Entry>, 
     'turns: while i < older.len() && j < newer.len() {
         let left = older[i];
         let right = newer[j];
-        match left.member.cmp(&right.member) {
+        match left.member().cmp(&right.member()) {
             Ordering::Less => {
                 all.push(left)?;
                 i += 1;
@@ -89,11 +97,10 @@ fn merge(alloc: Global, older: &[Entry], newer: &[Entry]) -> Result<Vec<Entry>, 
     Ok(all)
 }
 
-fn both(left: Entry, right: Entry) -> Entry
+fn both<T: Stamp>(left: Packed<T>, right: Packed<T>) -> Packed<T>
     ensures { result ≡ Rattle.hk_index.specs.Entries.both left right }
 {
-    Entry {
-        member: left.member,
-        live: left.live || right.live,
-    }
+    let mut both = left;
+    both.join(right.is_live());
+    both
 }

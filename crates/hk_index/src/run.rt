@@ -7,8 +7,8 @@ ghost use Rattle.std.specs.List.Sorted.{IsStrictlySortedBy};
 ghost use Rattle.hk_index.specs.Timed.{timed_cmp};
 ghost use Rattle.hk_index.specs.Entries.{entry_cmp, live_members, marked, shown};
 
-use crate::entry::Entry;
 use crate::merge::merge_into;
+use crate::packed::{Packed, Stamp};
 use crate::search::{after, comes_last, count_below, count_until, place_of};
 use crate::timed::TimedVersion;
 use std::alloc::{AllocError, Global};
@@ -16,13 +16,13 @@ use std::marker::Model;
 
 /// A sorted list of entries, of which those before `start` are there no more, and some of the others are marked so.
 #[derive(Drop)]
-pub(crate) struct Run {
-    entries: Vec<Entry>,
+pub(crate) struct Run<T: Stamp> {
+    entries: Vec<Packed<T>>,
     start: usize,
     dead: usize,
 }
 
-impl Model for Run {
+impl<T: Stamp> Model for Run<T> {
     ghost use Rattle.std.specs.Prelude.{◌≤◌, drop, vec_len};
     ghost use Rattle.std.specs.FinSet as set;
     ghost use Rattle.std.specs.List.Sorted.{IsStrictlySortedBy};
@@ -38,9 +38,9 @@ impl Model for Run {
     ghost invariant = { λ a. (a.start ≤ vec_len a.entries) × IsStrictlySortedBy entry_cmp (drop a.start a.entries.items) };
 }
 
-impl Run {
+impl<T: Stamp> Run<T> {
     /// No members.
-    pub(crate) fn new(alloc: Global) -> Run
+    pub(crate) fn new(alloc: Global) -> Run<T>
         ensures { result ≡ set.empty }
     {
         Run {
@@ -55,7 +55,7 @@ impl Run {
         self.entries[self.start..].len() - count_below(after(&self.entries, self.start), member)
     }
 
-    /// Adds a member above all, or answers `false`.
+    /// Adds a member above all, or answers `false`, as where its time can't be kept.
     ///
     /// The only error is out of memory; then nothing is changed. Cost: O(1), amortized.
     pub(crate) fn add_last(&mut self, member: TimedVersion) -> Result<bool, AllocError>
@@ -67,8 +67,13 @@ impl Run {
         if !comes_last(after(&self.entries, self.start), asked) {
             return Ok(false);
         }
-        self.entries.push(Entry { member, live: true })?;
-        Ok(true)
+        match Packed::of(member) {
+            Some(entry) => {
+                self.entries.push(entry)?;
+                Ok(true)
+            }
+            None => Ok(false),
+        }
     }
 
     /// Removes a member, where it is there. Cost: O(log n), amortized.
@@ -142,7 +147,7 @@ impl Run {
     ///
     /// The only error is out of memory; then nothing is changed. Cost: O(log n + k + m), amortized, for the k entries
     /// that stand behind the first of the m that come.
-    pub(crate) fn absorb(&mut self, alloc: Global, newer: &[Entry]) -> Result<(), AllocError>
+    pub(crate) fn absorb(&mut self, alloc: Global, newer: &[Packed<T>]) -> Result<(), AllocError>
         requires { IsStrictlySortedBy entry_cmp newer.now }
         ensures ok { OnOk result (self.new ≡ set.union self.old (shown newer.now)) }
         ensures kept { OnErr result (self.new ≡ self.old) }
@@ -152,7 +157,7 @@ impl Run {
     }
 
     /// The same members again. The only error is out of memory. Cost: O(n).
-    pub(crate) fn copy(&self, alloc: Global) -> Result<Run, AllocError>
+    pub(crate) fn copy(&self, alloc: Global) -> Result<Run<T>, AllocError>
         ensures { IfOk result (λ run. run ≡ self.now) }
     {
         let entries = Vec::from_slice(alloc, after(&self.entries, self.start))?;
@@ -164,15 +169,15 @@ impl Run {
     }
 }
 
-fn mark(entries: &mut Vec<Entry>, place: usize)
+fn mark<T: Stamp>(entries: &mut Vec<Packed<T>>, place: usize)
     requires { place < vec_len entries.old }
     ensures len { vec_len entries.new ≡ vec_len entries.old }
     ensures items { entries.new.items ≡ marked entries.old.items place }
 {
-    entries[place].live = false;
+    entries[place].mark();
 }
 
-fn cut_front(entries: &mut Vec<Entry>, count: usize)
+fn cut_front<T: Stamp>(entries: &mut Vec<Packed<T>>, count: usize)
     requires { count ≤ vec_len entries.old }
     ensures { entries.new.items ≡ drop count entries.old.items }
 {
@@ -181,15 +186,19 @@ fn cut_front(entries: &mut Vec<Entry>, count: usize)
     entries.truncate(rest);
 }
 
-fn keep_live(entries: &mut Vec<Entry>, start: usize)
+fn keep_live<T: Stamp>(entries: &mut Vec<Packed<T>>, start: usize)
     requires { start ≤ vec_len entries.old }
     ensures { entries.new.items ≡ filter (λ e. e.live) (drop start entries.old.items) }
 {
     cut_front(entries, start);
-    entries.retain(|entry| entry.live);
+    entries.retain(|entry| entry.is_live());
 }
 
-fn list_until(alloc: Global, entries: &[Entry], time: u64) -> Result<Vec<TimedVersion>, AllocError>
+fn list_until<T: Stamp>(
+    alloc: Global,
+    entries: &[Packed<T>],
+    time: u64,
+) -> Result<Vec<TimedVersion>, AllocError>
     requires { IsStrictlySortedBy entry_cmp entries.now }
     ensures { IfOk result (λ found. found.items ≡ live_members (filter (λ e. nat_le e.member.time time) entries.now)) }
 {
@@ -197,7 +206,11 @@ fn list_until(alloc: Global, entries: &[Entry], time: u64) -> Result<Vec<TimedVe
     list_live(alloc, &entries[..end])
 }
 
-fn list_above(alloc: Global, entries: &[Entry], time: u64) -> Result<Vec<TimedVersion>, AllocError>
+fn list_above<T: Stamp>(
+    alloc: Global,
+    entries: &[Packed<T>],
+    time: u64,
+) -> Result<Vec<TimedVersion>, AllocError>
     requires { IsStrictlySortedBy entry_cmp entries.now }
     ensures { IfOk result (λ found. found.items ≡ live_members (filter (λ e. nat_lt time e.member.time) entries.now)) }
 {
@@ -205,13 +218,16 @@ fn list_above(alloc: Global, entries: &[Entry], time: u64) -> Result<Vec<TimedVe
     list_live(alloc, after(entries, first))
 }
 
-fn list_live(alloc: Global, entries: &[Entry]) -> Result<Vec<TimedVersion>, AllocError>
+fn list_live<T: Stamp>(
+    alloc: Global,
+    entries: &[Packed<T>],
+) -> Result<Vec<TimedVersion>, AllocError>
     ensures { IfOk result (λ found. found.items ≡ live_members entries.now) }
 {
     let mut found = Vec::with_capacity(alloc, entries.len())?;
     for entry in entries {
-        if entry.live {
-            found.push(entry.member)?;
+        if entry.is_live() {
+            found.push(entry.member())?;
         }
     }
     Ok(found)

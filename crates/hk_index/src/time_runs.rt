@@ -1,10 +1,12 @@
 //! Members by time.
 
 ghost use Rattle.std.specs.Prelude.{◌≡◌, nat_le, nat_lt, IfOk, OnOk, OnErr};
+ghost use Rattle.std.specs.Bool.{OnTrue, OnFalse};
 ghost use Rattle.std.specs.FinSet as set;
 ghost use Rattle.hk_index.specs.Timed.{timed_cmp};
 
 use crate::loose::Loose;
+use crate::packed::Stamp;
 use crate::run::Run;
 use crate::timed::TimedVersion;
 use std::alloc::{AllocError, Global};
@@ -16,13 +18,13 @@ const FEW: usize = 64;
 /// A set of members with times: those that came in order lie in one list, the others in a small ordered set. That is merged
 /// into the end of the list, from its least member on, once it has half as many as stand there.
 #[derive(Drop)]
-pub struct TimeRuns {
+pub struct TimeRuns<T: Stamp> {
     alloc: Global,
-    run: Run,
+    run: Run<T>,
     loose: Loose,
 }
 
-impl Model for TimeRuns {
+impl<T: Stamp> Model for TimeRuns<T> {
     ghost use Rattle.std.specs.FinSet as set;
     ghost use Rattle.hk_index.specs.Timed.{timed_cmp, timed_code};
 
@@ -33,9 +35,9 @@ impl Model for TimeRuns {
     ghost view = { λ a. set.union a.run a.loose };
 }
 
-impl TimeRuns {
+impl<T: Stamp> TimeRuns<T> {
     /// No members.
-    pub fn new(alloc: Global) -> TimeRuns
+    pub fn new(alloc: Global) -> TimeRuns<T>
         ensures { result ≡ set.empty }
     {
         TimeRuns {
@@ -107,11 +109,15 @@ impl TimeRuns {
 
     /// The same set again.
     ///
-    /// The only error is out of memory. Cost: O(n), and O(l · log l) for the l that are loose.
-    pub fn copy(&self, alloc: Global) -> Result<TimeRuns, AllocError>
+    /// The only error is out of memory. Cost: O(n); the copy has no loose members, where there is memory for a merge.
+    pub fn copy(&self, alloc: Global) -> Result<TimeRuns<T>, AllocError>
         ensures { IfOk result (λ runs. runs ≡ self.now) }
     {
-        let run = self.run.copy(alloc)?;
+        let mut run = self.run.copy(alloc)?;
+        if absorb(alloc, &mut run, &self.loose) {
+            let loose = Loose::new(alloc);
+            return Ok(TimeRuns { alloc, run, loose });
+        }
         let loose = self.loose.copy(alloc)?;
         Ok(TimeRuns { alloc, run, loose })
     }
@@ -123,7 +129,7 @@ impl TimeRuns {
         if !is_worth(&self.run, &self.loose) {
             return;
         }
-        if let Ok(()) = absorb(self.alloc, &mut self.run, &self.loose) {
+        if absorb(self.alloc, &mut self.run, &self.loose) {
             self.loose = Loose::new(self.alloc);
         }
     }
@@ -131,7 +137,7 @@ impl TimeRuns {
 
 /// Whether the loose members are half as many as those of the list that a merge moves. It asks only where their number is a
 /// multiple of `FEW`.
-fn is_worth(run: &Run, loose: &Loose) -> bool {
+fn is_worth<T: Stamp>(run: &Run<T>, loose: &Loose) -> bool {
     let many = loose.len();
     if many % FEW != 0 {
         return false;
@@ -142,11 +148,13 @@ fn is_worth(run: &Run, loose: &Loose) -> bool {
     }
 }
 
-fn absorb(alloc: Global, run: &mut Run, loose: &Loose) -> Result<(), AllocError>
-    ensures ok { OnOk result (run.new ≡ set.union run.old loose.now) }
-    ensures kept { OnErr result (run.new ≡ run.old) }
+/// Whether the loose members could be taken into the list.
+fn absorb<T: Stamp>(alloc: Global, run: &mut Run<T>, loose: &Loose) -> bool
+    ensures ok { OnTrue result (run.new ≡ set.union run.old loose.now) }
+    ensures kept { OnFalse result (run.new ≡ run.old) }
 {
-    let newer = loose.entries(alloc)?;
-    run.absorb(alloc, &newer)?;
-    Ok(())
+    match loose.entries(alloc) {
+        Some(newer) => run.absorb(alloc, &newer).is_ok(),
+        None => false,
+    }
 }

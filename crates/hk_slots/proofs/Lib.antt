@@ -1,4 +1,5 @@
 pub mod ChangedSlots
+pub mod CopiedSlots
 pub mod Listed
 pub mod Matched
 pub mod SeenSlots

@@ -6,7 +6,7 @@ use std::alloc::AllocError;
 use std::marker::Model;
 
 /// The place of a value in a `SlotMap`: a number of 32 bits.
-#[derive(Clone, Copy)]
+#[derive(Copy)]
 pub struct Slot {
     number: u32,
 }
@@ -21,6 +21,16 @@ impl Model for Slot {
     ghost invariant = { λ a. a.number < 2 ^ 32 };
 
     ghost inverse = { λ n. record { number = n } };
+}
+
+impl Clone for Slot {
+    ghost is_clone = { λ x y. y ≡ x };
+
+    ghost is_infallible = { λ _. Unit {0} };
+
+    fn clone(&self) -> Result<Slot, AllocError> {
+        Ok(*self)
+    }
 }
 
 impl Slot {

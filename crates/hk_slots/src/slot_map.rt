@@ -111,6 +111,25 @@ impl<K: Key, V> SlotMap<K, V> {
         Some(value)
     }
 
+    /// The same map again: each value has the slot that it has here.
+    ///
+    /// The only error is out of memory. Cost: O(n), n keys, and that of a clone of each value.
+    pub fn copy(&self) -> Result<SlotMap<K, V>, AllocError>
+    where
+        V: Clone,
+        requires { (x y : V) → V.is_clone x y → y ≡ x }
+        ensures { IfOk result (λ map. map ≡ self.now) }
+    {
+        let slots = self.slots.clone()?;
+        let entries = self.entries.clone()?;
+        let hints = self.hints.clone()?;
+        Ok(SlotMap {
+            slots,
+            entries,
+            hints,
+        })
+    }
+
     /// The entries, in the order of their keys. Cost: O(log n), n keys, and O(1) for each entry.
     pub fn iter(&self) -> Range<'_, K, V>
         ensures entries { result ≡ finmap.entries (map_of K.cmp self.now) }

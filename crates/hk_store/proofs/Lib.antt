@@ -4,7 +4,6 @@ pub mod ChangedChains
 pub mod FactsByRow
 pub mod JournalUndone
 mod NewFacts
-pub mod CopiedChains
 pub mod Conflicts
 pub mod EntryConflicts
 pub mod EntryPut

@@ -9,7 +9,7 @@ ghost use Rattle.hk_store.specs.Indexed.{AllListed, born_at};
 use crate::chains::Chains;
 use crate::facts::{Facts, forget_birth};
 use hk_facts::Part;
-use hk_index::{TagKeys, TimeIndex};
+use hk_index::{BirthIndex, TagKeys};
 use hk_types::{Refusal, Time, VersionKey};
 
 impl Facts {
@@ -42,7 +42,7 @@ impl Facts {
 fn forget_all(
     chains: &mut Chains,
     tags: &mut TagKeys,
-    births: &mut TimeIndex,
+    births: &mut BirthIndex,
     versions: &[VersionKey],
 )
     requires tagged { AllListed chains.old tags.old }

@@ -19,7 +19,7 @@ use crate::key_index::KeyIndex;
 use crate::tag_index::TagIndex;
 use crate::tagged::keys_by_tag;
 use hk_facts::{Chain, Fact, Part};
-use hk_index::{TagKeys, TimeIndex};
+use hk_index::{BirthIndex, TagKeys, TimeIndex};
 use hk_types::{Key, Refusal, Row, Table, Tag, Time, VersionKey};
 use std::alloc::Global;
 use std::marker::Model;
@@ -30,7 +30,7 @@ use std::marker::Model;
 pub struct Facts {
     pub(crate) chains: Chains,
     pub(crate) tags: TagKeys,
-    pub(crate) births: TimeIndex,
+    pub(crate) births: BirthIndex,
     pub(crate) deaths: TimeIndex,
 }
 
@@ -55,7 +55,7 @@ impl Facts {
         Facts {
             chains: Chains::new(alloc),
             tags: TagKeys::new(alloc),
-            births: TimeIndex::new(alloc),
+            births: BirthIndex::new(alloc),
             deaths: TimeIndex::new(alloc),
         }
     }
@@ -235,7 +235,7 @@ impl Facts {
 /// Lists a version's key by its tag, and adds the version to those whose row is known.
 fn add_birth(
     tags: &mut TagKeys,
-    births: &mut TimeIndex,
+    births: &mut BirthIndex,
     version: &VersionKey,
     tag: Tag,
 ) -> Result<(), Refusal>
@@ -247,13 +247,13 @@ fn add_birth(
     ensures untimed { OnErr result (births.new ≡ births.old) }
 {
     tags.add(version.table, tag, version.key)?;
-    births.add(version.born, *version)
+    births.add(*version)
 }
 
 /// Takes a version out of the index of those whose row is known, where a row goes that has this tag.
 pub(crate) fn forget_birth(
     tags: &mut TagKeys,
-    births: &mut TimeIndex,
+    births: &mut BirthIndex,
     version: &VersionKey,
     tag: Option<Tag>,
 )
@@ -262,7 +262,7 @@ pub(crate) fn forget_birth(
 {
     if tag.is_some() {
         tags.note_gone();
-        births.remove(version.born, *version);
+        births.remove(*version);
     }
 }
 
