@@ -71,30 +71,13 @@ const STREAMS: Number = Number {
 };
 
 const OR_LOG: Number = Number {
-    name: "log",
-    value: "L",
-    help: "The id of the log: a number up to 18446744073709551615",
-    range: None,
-    is_option: true,
     need: Need::NotWithPort,
+    ..LOG
 };
 
 const OR_STREAMS: Number = Number {
-    name: "streams",
-    value: "S",
-    help: "How many streams the log has: 1 to 64",
-    range: Some((1, 64)),
-    is_option: true,
     need: Need::NotWithPort,
-};
-
-const OR_PORT: Number = Number {
-    name: "port",
-    value: "P",
-    help: "Ask the node on this port of 127.0.0.1: 1 to 65535",
-    range: Some((1, 65_535)),
-    is_option: true,
-    need: Need::Never,
+    ..STREAMS
 };
 
 const PORT: Number = Number {
@@ -106,13 +89,26 @@ const PORT: Number = Number {
     need: Need::Always,
 };
 
+const OR_PORT: Number = Number {
+    help: "Ask the node on this port of 127.0.0.1: 1 to 65535",
+    need: Need::Never,
+    ..PORT
+};
+
+const LINKS: Number = Number {
+    name: "links",
+    value: "N",
+    help: "How many links are served, with --stay at once: 1 to 64",
+    range: Some((1, 64)),
+    is_option: true,
+    need: Need::Always,
+};
+
 const FROM: Number = Number {
     name: "from",
     value: "Q",
     help: "The port of the other node: 1 to 65535",
-    range: Some((1, 65_535)),
-    is_option: true,
-    need: Need::Always,
+    ..PORT
 };
 
 const BATCH: Number = Number {
@@ -134,21 +130,13 @@ const TIME: Number = Number {
 };
 
 const OR_TIME: Number = Number {
-    name: "time",
-    value: "T",
-    help: "The time to read at: 0 to 4611686018427387904",
-    range: Some((0, 4_611_686_018_427_387_904)),
-    is_option: false,
     need: Need::NoPort,
+    ..TIME
 };
 
 const HORIZON: Number = Number {
-    name: "time",
-    value: "T",
     help: "The time: 0 to 4611686018427387904",
-    range: Some((0, 4_611_686_018_427_387_904)),
-    is_option: false,
-    need: Need::Always,
+    ..TIME
 };
 
 const TABLE: Number = Number {
@@ -173,18 +161,14 @@ const LOW: Number = Number {
     name: "low",
     value: "LOW",
     help: "The least key",
-    range: None,
-    is_option: false,
-    need: Need::Always,
+    ..KEY
 };
 
 const HIGH: Number = Number {
     name: "high",
     value: "HIGH",
     help: "The greatest key",
-    range: None,
-    is_option: false,
-    need: Need::Always,
+    ..KEY
 };
 
 const TAG: Number = Number {
@@ -241,8 +225,21 @@ const READ_LINKS: Number = Number {
     need: Need::With(&["stay", "read-port"]),
 };
 
-/// The numbers of `serve` that are of a node that stays.
+/// The numbers of `serve`.
+pub(crate) const SERVE_NUMBERS: [Number; 4] = [LOG, STREAMS, PORT, LINKS];
+
+/// Those that are of a node that stays.
 pub(crate) const STAY_NUMBERS: [Number; 4] = [READ_SECONDS, READ_PORT, READ_LINKS, REPORT_CHANGES];
+
+/// What a command has that nothing is said of.
+const BARE: Form = Form {
+    name: "",
+    about: "",
+    example: "",
+    numbers: &[],
+    extra: Extra::Nothing,
+    has_queries: false,
+};
 
 /// The commands, in the order of the help.
 pub(crate) const FORMS: [Form; 16] = [
@@ -251,8 +248,7 @@ pub(crate) const FORMS: [Form; 16] = [
         about: texts::AT_ABOUT,
         example: texts::AT_EXAMPLE,
         numbers: &[LOG, STREAMS, TIME, TABLE, KEY],
-        extra: Extra::Nothing,
-        has_queries: false,
+        ..BARE
     },
     Form {
         name: "ask",
@@ -268,7 +264,7 @@ pub(crate) const FORMS: [Form; 16] = [
         example: texts::FRONT_EXAMPLE,
         numbers: &[OR_LOG, OR_STREAMS, OR_PORT],
         extra: Extra::Json,
-        has_queries: false,
+        ..BARE
     },
     Form {
         name: "status",
@@ -276,55 +272,47 @@ pub(crate) const FORMS: [Form; 16] = [
         example: texts::STATUS_EXAMPLE,
         numbers: &[OR_LOG, OR_STREAMS, OR_PORT],
         extra: Extra::Json,
-        has_queries: false,
+        ..BARE
     },
     Form {
         name: "items",
         about: texts::ITEMS_ABOUT,
         example: texts::ITEMS_EXAMPLE,
-        numbers: &[],
         extra: Extra::Json,
-        has_queries: false,
+        ..BARE
     },
     Form {
         name: "frames",
         about: texts::FRAMES_ABOUT,
         example: texts::FRAMES_EXAMPLE,
-        numbers: &[],
-        extra: Extra::Nothing,
-        has_queries: false,
+        ..BARE
     },
     Form {
         name: "rewrite",
         about: texts::REWRITE_ABOUT,
         example: texts::REWRITE_EXAMPLE,
-        numbers: &[],
-        extra: Extra::Nothing,
-        has_queries: false,
+        ..BARE
     },
     Form {
         name: "world",
         about: texts::WORLD_ABOUT,
         example: texts::WORLD_EXAMPLE,
-        numbers: &[],
         extra: Extra::Items,
-        has_queries: false,
+        ..BARE
     },
     Form {
         name: "push",
         about: texts::PUSH_ABOUT,
         example: texts::PUSH_EXAMPLE,
         numbers: &[PORT],
-        extra: Extra::Nothing,
-        has_queries: false,
+        ..BARE
     },
     Form {
         name: "feed",
         about: texts::FEED_ABOUT,
         example: texts::FEED_EXAMPLE,
         numbers: &[PORT, BATCH],
-        extra: Extra::Nothing,
-        has_queries: false,
+        ..BARE
     },
     Form {
         name: "save",
@@ -332,47 +320,42 @@ pub(crate) const FORMS: [Form; 16] = [
         example: texts::SAVE_EXAMPLE,
         numbers: &[PORT],
         extra: Extra::Json,
-        has_queries: false,
+        ..BARE
     },
     Form {
         name: "load",
         about: texts::LOAD_ABOUT,
         example: texts::LOAD_EXAMPLE,
         numbers: &[PORT],
-        extra: Extra::Nothing,
-        has_queries: false,
+        ..BARE
     },
     Form {
         name: "pull",
         about: texts::PULL_ABOUT,
         example: texts::PULL_EXAMPLE,
         numbers: &[PORT, FROM],
-        extra: Extra::Nothing,
-        has_queries: false,
+        ..BARE
     },
     Form {
         name: "prune",
         about: texts::PRUNE_ABOUT,
         example: texts::PRUNE_EXAMPLE,
         numbers: &[PORT, HORIZON],
-        extra: Extra::Nothing,
-        has_queries: false,
+        ..BARE
     },
     Form {
         name: "shell",
         about: texts::SHELL_ABOUT,
         example: texts::SHELL_EXAMPLE,
         numbers: &[PORT],
-        extra: Extra::Nothing,
-        has_queries: false,
+        ..BARE
     },
     Form {
         name: "explain",
         about: texts::EXPLAIN_ABOUT,
         example: texts::EXPLAIN_EXAMPLE,
         numbers: &[REFUSAL],
-        extra: Extra::Nothing,
-        has_queries: false,
+        ..BARE
     },
 ];
 
@@ -381,34 +364,26 @@ pub(crate) const QUERIES: [Form; 4] = [
     Form {
         name: "get",
         about: texts::GET_ABOUT,
-        example: "",
         numbers: &[TABLE, KEY],
-        extra: Extra::Nothing,
-        has_queries: false,
+        ..BARE
     },
     Form {
         name: "range",
         about: texts::RANGE_ABOUT,
-        example: "",
         numbers: &[TABLE, LOW, HIGH],
-        extra: Extra::Nothing,
-        has_queries: false,
+        ..BARE
     },
     Form {
         name: "tag",
         about: texts::TAG_ABOUT,
-        example: "",
         numbers: &[TABLE, TAG],
-        extra: Extra::Nothing,
-        has_queries: false,
+        ..BARE
     },
     Form {
         name: "count",
         about: texts::COUNT_ABOUT,
-        example: "",
         numbers: &[TABLE],
-        extra: Extra::Nothing,
-        has_queries: false,
+        ..BARE
     },
 ];
 
