@@ -2,7 +2,7 @@
 
 use crate::calls::call_of;
 use crate::forms::{
-    FORMS, Form, Number, QUERIES, SERVE_NUMBERS, STAY_NUMBERS, form_named, numbers_of, with_forms,
+    FORMS, Form, Number, QUERIES, SERVE_NUMBERS, SERVE_WORDS, form_named, numbers_of, with_forms,
     with_numbers,
 };
 use crate::stay::{Staying, stay_call, with_stay};
@@ -245,17 +245,9 @@ fn bad_word(alloc: Global, word: &str) -> Result<Error, AllocError> {
     bad_line(alloc, message.as_str())
 }
 
-/// The first word of the numbers of `serve` that is not made of decimal digits alone.
-fn first_bad_of_serve<'a>(matches: &ArgMatches<'a>) -> Option<&'a str> {
-    match first_signed(matches, &SERVE_NUMBERS) {
-        Some(word) => Some(word),
-        None => first_signed(matches, &STAY_NUMBERS),
-    }
-}
-
 /// The call of `serve`, where the words of its numbers are made of decimal digits alone and it could be made.
 fn read_serve<'a>(alloc: Global, matches: &ArgMatches<'a>) -> Result<Call<'a>, Error> {
-    if let Some(word) = first_bad_of_serve(matches) {
+    if let Some(word) = first_signed(matches, &SERVE_WORDS) {
         return Err(bad_word(alloc, word)?);
     }
     match serve_call(matches) {

@@ -19,14 +19,24 @@ pub(crate) enum Need {
     Never,
 }
 
+/// What a number may be.
+#[derive(Clone, Copy)]
+enum Range {
+    /// Any of 64 bits.
+    Any,
+    /// From here to there.
+    Within(i64, i64),
+    /// The same, where a negative one is told as one that is not in it.
+    Signed(i64, i64),
+}
+
 /// An argument that is a number.
 #[derive(Clone, Copy)]
 pub(crate) struct Number {
     pub(crate) name: &'static str,
     value: &'static str,
     help: &'static str,
-    /// From where to where it goes, where it is not any of 64 bits.
-    range: Option<(i64, i64)>,
+    range: Range,
     is_option: bool,
     need: Need,
 }
@@ -56,7 +66,7 @@ const LOG: Number = Number {
     name: "log",
     value: "L",
     help: "The id of the log: a number up to 18446744073709551615",
-    range: None,
+    range: Range::Any,
     is_option: true,
     need: Need::Always,
 };
@@ -65,7 +75,7 @@ const STREAMS: Number = Number {
     name: "streams",
     value: "S",
     help: "How many streams the log has: 1 to 64",
-    range: Some((1, 64)),
+    range: Range::Within(1, 64),
     is_option: true,
     need: Need::Always,
 };
@@ -84,7 +94,7 @@ const PORT: Number = Number {
     name: "port",
     value: "P",
     help: "The port of 127.0.0.1: 1 to 65535",
-    range: Some((1, 65_535)),
+    range: Range::Within(1, 65_535),
     is_option: true,
     need: Need::Always,
 };
@@ -99,7 +109,7 @@ const LINKS: Number = Number {
     name: "links",
     value: "N",
     help: "How many links are served, with --stay at once: 1 to 64",
-    range: Some((1, 64)),
+    range: Range::Signed(1, 64),
     is_option: true,
     need: Need::Always,
 };
@@ -115,7 +125,7 @@ const BATCH: Number = Number {
     name: "batch",
     value: "N",
     help: "How many items a batch has: 1 to 65536; 4096 where it isn't given",
-    range: Some((1, 65_536)),
+    range: Range::Within(1, 65_536),
     is_option: true,
     need: Need::Never,
 };
@@ -124,7 +134,7 @@ const TIME: Number = Number {
     name: "time",
     value: "T",
     help: "The time to read at: 0 to 4611686018427387904",
-    range: Some((0, 4_611_686_018_427_387_904)),
+    range: Range::Within(0, 4_611_686_018_427_387_904),
     is_option: false,
     need: Need::Always,
 };
@@ -143,7 +153,7 @@ const TABLE: Number = Number {
     name: "table",
     value: "TABLE",
     help: "The number of the table: 0 to 65535",
-    range: Some((0, 65_535)),
+    range: Range::Within(0, 65_535),
     is_option: false,
     need: Need::Always,
 };
@@ -152,7 +162,7 @@ const KEY: Number = Number {
     name: "key",
     value: "KEY",
     help: "The key of the row: 0 to 18446744073709551615",
-    range: None,
+    range: Range::Any,
     is_option: false,
     need: Need::Always,
 };
@@ -175,7 +185,7 @@ const TAG: Number = Number {
     name: "tag",
     value: "TAG",
     help: "The tag: 0 to 4294967295",
-    range: Some((0, 4_294_967_295)),
+    range: Range::Within(0, 4_294_967_295),
     is_option: false,
     need: Need::Always,
 };
@@ -184,7 +194,7 @@ const REFUSAL: Number = Number {
     name: "number",
     value: "NUMBER",
     help: "The number of a refusal",
-    range: None,
+    range: Range::Any,
     is_option: false,
     need: Need::Never,
 };
@@ -193,7 +203,7 @@ const READ_SECONDS: Number = Number {
     name: "read-seconds",
     value: "N",
     help: "End a link where inside a frame nothing comes for so long: 0 (never) to 86400",
-    range: Some((0, 86_400)),
+    range: Range::Within(0, 86_400),
     is_option: true,
     need: Need::With(&["stay"]),
 };
@@ -202,7 +212,7 @@ const REPORT_CHANGES: Number = Number {
     name: "report-changes",
     value: "N",
     help: "Tell standard error the front after each N changes, 1 to 1000000000; takes one of the 64 places",
-    range: Some((1, 1_000_000_000)),
+    range: Range::Within(1, 1_000_000_000),
     is_option: true,
     need: Need::With(&["stay"]),
 };
@@ -211,7 +221,7 @@ const READ_PORT: Number = Number {
     name: "read-port",
     value: "P2",
     help: "A second port, whose links may only read: 1 to 65535",
-    range: Some((1, 65_535)),
+    range: Range::Within(1, 65_535),
     is_option: true,
     need: Need::With(&["stay", "read-links"]),
 };
@@ -220,16 +230,38 @@ const READ_LINKS: Number = Number {
     name: "read-links",
     value: "M",
     help: "How many links that only read are served at once: 1 to 63, and 64 with the others",
-    range: Some((1, 63)),
+    range: Range::Within(1, 63),
     is_option: true,
     need: Need::With(&["stay", "read-port"]),
 };
 
+const SERVE_STREAMS: Number = Number {
+    range: Range::Signed(1, 64),
+    ..STREAMS
+};
+
+const SERVE_PORT: Number = Number {
+    range: Range::Signed(1, 65_535),
+    ..PORT
+};
+
 /// The numbers of `serve`.
-pub(crate) const SERVE_NUMBERS: [Number; 4] = [LOG, STREAMS, PORT, LINKS];
+pub(crate) const SERVE_NUMBERS: [Number; 4] = [LOG, SERVE_STREAMS, SERVE_PORT, LINKS];
 
 /// Those that are of a node that stays.
 pub(crate) const STAY_NUMBERS: [Number; 4] = [READ_SECONDS, READ_PORT, READ_LINKS, REPORT_CHANGES];
+
+/// Both, in the order in which a bad word is looked for.
+pub(crate) const SERVE_WORDS: [Number; 8] = [
+    LOG,
+    SERVE_STREAMS,
+    SERVE_PORT,
+    LINKS,
+    READ_PORT,
+    READ_LINKS,
+    READ_SECONDS,
+    REPORT_CHANGES,
+];
 
 /// What a command has that nothing is said of.
 const BARE: Form = Form {
@@ -405,10 +437,11 @@ pub(crate) fn numbers_of(forms: &[Form], name: &str) -> &'static [Number] {
     }
 }
 
-fn parser_of<'a>(range: Option<(i64, i64)>) -> ValueParser<'a> {
+fn parser_of<'a>(range: Range) -> ValueParser<'a> {
     match range {
-        Some((least, most)) => value_parser!(u64).range(least..=most),
-        None => value_parser!(u64),
+        Range::Any => value_parser!(u64),
+        Range::Within(least, most) => value_parser!(u64).range(least..=most),
+        Range::Signed(least, most) => value_parser!(u16).range(least..=most),
     }
 }
 
