@@ -30,9 +30,9 @@ fn is_accepted(accepted: Accepted, request: &Request) -> bool {
 
 /// Requests on their way to a node.
 #[derive(Drop)]
-struct Pusher<'a, 'l, 'o, W: Write, E: Write> {
-    link: &'a mut Link<'l>,
-    output: &'a mut Output<'o, W, E>,
+struct Pusher<'k, 'l, 'o, 'p, W: Write, E: Write> {
+    link: &'k mut Link<'l>,
+    output: &'o mut Output<'p, W, E>,
     accepted: Accepted,
     feeder: RequestFeeder,
     /// Those of a read.
@@ -41,7 +41,23 @@ struct Pusher<'a, 'l, 'o, W: Write, E: Write> {
     is_refused: bool,
 }
 
-impl<W: Write, E: Write> Pusher<'_, '_, '_, W, E> {
+impl<'k, 'l, 'o, 'p, W: Write, E: Write> Pusher<'k, 'l, 'o, 'p, W, E> {
+    fn new(
+        link: &'k mut Link<'l>,
+        output: &'o mut Output<'p, W, E>,
+        accepted: Accepted,
+    ) -> Pusher<'k, 'l, 'o, 'p, W, E> {
+        let alloc = link.alloc();
+        Pusher {
+            link,
+            output,
+            accepted,
+            feeder: RequestFeeder::new(alloc),
+            requests: Vec::new(alloc),
+            is_refused: false,
+        }
+    }
+
     /// Sends each request, waits for its reply and prints it, before the next.
     fn ask_all(&mut self) -> Result<(), Stop> {
         for request in &self.requests {
@@ -68,7 +84,7 @@ impl<W: Write, E: Write> Pusher<'_, '_, '_, W, E> {
     }
 }
 
-impl<W: Write, E: Write> Pieces for Pusher<'_, '_, '_, W, E> {
+impl<W: Write, E: Write> Pieces for Pusher<'_, '_, '_, '_, W, E> {
     fn take(&mut self, piece: &[u8]) -> Result<(), Stop> {
         let fed = self.feeder.feed(piece, &mut self.requests);
         self.ask_all()?;
@@ -91,14 +107,7 @@ pub(crate) fn push_all<I: Read, W: Write, E: Write>(
     output: &mut Output<'_, W, E>,
 ) -> Result<bool, Stop> {
     let alloc = link.alloc();
-    let mut pusher = Pusher {
-        link,
-        output,
-        accepted,
-        feeder: RequestFeeder::new(alloc),
-        requests: Vec::new(alloc),
-        is_refused: false,
-    };
+    let mut pusher = Pusher::new(link, output, accepted);
     read_pieces(alloc, input, &mut pusher)?;
     Ok(pusher.is_refused)
 }

@@ -18,16 +18,30 @@ const PROMPT: &[u8] = b"hkrep> ";
 
 /// Lines on their way to a node.
 #[derive(Drop)]
-struct Shell<'a, 'l, 'o, W: Write, E: Write> {
+struct Shell<'k, 'l, 'o, 'p, W: Write, E: Write> {
     alloc: Global,
-    link: &'a mut Link<'l>,
-    output: &'a mut Output<'o, W, E>,
+    link: &'k mut Link<'l>,
+    output: &'o mut Output<'p, W, E>,
     is_terminal: bool,
     /// Whether something was refused, or a line had no form.
     is_refused: bool,
 }
 
-impl<W: Write, E: Write> Shell<'_, '_, '_, W, E> {
+impl<'k, 'l, 'o, 'p, W: Write, E: Write> Shell<'k, 'l, 'o, 'p, W, E> {
+    fn new(
+        link: &'k mut Link<'l>,
+        output: &'o mut Output<'p, W, E>,
+        is_terminal: bool,
+    ) -> Shell<'k, 'l, 'o, 'p, W, E> {
+        Shell {
+            alloc: link.alloc(),
+            link,
+            output,
+            is_terminal,
+            is_refused: false,
+        }
+    }
+
     /// Prints an answer: rows as a table.
     fn print_answer(&mut self, answer: &Answer) -> Result<(), Stop> {
         let Answer::Rows(rows) = answer else {
@@ -90,7 +104,7 @@ fn asked(line: &[u8]) -> Option<Asking> {
     }
 }
 
-impl<W: Write, E: Write> Lines for Shell<'_, '_, '_, W, E> {
+impl<W: Write, E: Write> Lines for Shell<'_, '_, '_, '_, W, E> {
     const MOST_BYTES: usize = MOST_LINE_BYTES;
 
     /// Answers a line.
@@ -132,13 +146,7 @@ pub(crate) fn answer_lines<I: Read, W: Write, E: Write>(
     output: &mut Output<'_, W, E>,
 ) -> Result<bool, Stop> {
     let alloc = link.alloc();
-    let mut shell = Shell {
-        alloc,
-        link,
-        output,
-        is_terminal,
-        is_refused: false,
-    };
+    let mut shell = Shell::new(link, output, is_terminal);
     read_lines(alloc, input, &mut shell)?;
     Ok(shell.is_refused)
 }
