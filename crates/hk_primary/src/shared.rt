@@ -4,7 +4,7 @@ ghost use Rattle.std.specs.Prelude.{◌≡◌, ◌≤◌, ◌<◌, ◌+◌, ◌-
 ghost use Rattle.hk_types.specs.declared.faults.Refusal.TheVariants.{Memory};
 ghost use Rattle.hk_model.specs.Replica.Answers.{answer_seen};
 ghost use Rattle.hk_model.specs.History.Histories.{commits, last};
-ghost use Rattle.hk_primary.specs.Calls.{AtSome, IsAnswered, NotAnswered, NotMarked, Tells, items_of, last_mark_of, mark_of, readable_on, verdict_of};
+ghost use Rattle.hk_primary.specs.Calls.{AtSome, IsAnswered, NotAnswered, NotMarked, Tells, closing_mark, items_of, last_mark_of, mark_of, readable_on, verdict_of};
 ghost use Rattle.hk_primary.specs.Txns.{no_writes};
 
 use crate::primary::Primary;
@@ -72,10 +72,15 @@ impl<K: Naming> Held<K> {
         Ok(time)
     }
 
-    /// Emits a mark, and counts it.
-    fn mark(&mut self, share: &mut Share<K>, stream: StreamNo) -> Result<Mark, Refusal>
+    /// Emits the mark of a stream, which retires it where it is its last, and counts it.
+    fn close(
+        &mut self,
+        share: &mut Share<K>,
+        stream: StreamNo,
+        is_last: bool,
+    ) -> Result<Mark, Refusal>
         requires { 0 < share.old.parts }
-        ensures told { IfOk result (λ mark. AtSome K.config K.after share.old.amount (λ p. mark ≡ mark_of p stream)) }
+        ensures told { IfOk result (λ m. AtSome K.config K.after share.old.amount (λ p. m ≡ closing_mark p stream is_last)) }
         ensures known { OnOk result (stream ≤ K.config.streams) }
         ensures refused { IfErr result (λ why. AtSome K.config K.after share.old.amount (λ p. NotMarked p stream why)) }
         ensures parts { share.new.parts ≡ share.old.parts }
@@ -84,24 +89,7 @@ impl<K: Naming> Held<K> {
     {
         let Held { primary, emitted } = self;
         emitted.audit(share);
-        let mark = primary.mark(stream)?;
-        emitted.add(share, 1);
-        Ok(mark)
-    }
-
-    /// Retires a stream, and counts its last mark.
-    fn retire(&mut self, share: &mut Share<K>, stream: StreamNo) -> Result<Mark, Refusal>
-        requires { 0 < share.old.parts }
-        ensures told { IfOk result (λ mark. AtSome K.config K.after share.old.amount (λ p. mark ≡ last_mark_of p stream)) }
-        ensures known { OnOk result (stream ≤ K.config.streams) }
-        ensures refused { IfErr result (λ why. AtSome K.config K.after share.old.amount (λ p. NotMarked p stream why)) }
-        ensures parts { share.new.parts ≡ share.old.parts }
-        ensures counted { OnOk result (share.new.amount ≡ share.old.amount + 1) }
-        ensures kept { OnErr result (share.new.amount ≡ share.old.amount) }
-    {
-        let Held { primary, emitted } = self;
-        emitted.audit(share);
-        let mark = primary.retire(stream)?;
+        let mark = primary.close(stream, is_last)?;
         emitted.add(share, 1);
         Ok(mark)
     }
@@ -255,7 +243,7 @@ impl<K: Naming> SharedPrimary<K> {
         ensures counted { OnOk result (share.new.amount ≡ share.old.amount + 1) }
         ensures kept { OnErr result (share.new.amount ≡ share.old.amount) }
     {
-        self.held.lock(rt).mark(share, stream)
+        self.held.lock(rt).close(share, stream, false)
     }
 
     /// Retires a stream, as `Primary::retire` does. It adds one to the share, and a refusal adds none.
@@ -276,7 +264,7 @@ impl<K: Naming> SharedPrimary<K> {
         ensures counted { OnOk result (share.new.amount ≡ share.old.amount + 1) }
         ensures kept { OnErr result (share.new.amount ≡ share.old.amount) }
     {
-        self.held.lock(rt).retire(share, stream)
+        self.held.lock(rt).close(share, stream, true)
     }
 
     /// How many items were emitted: no fewer than the share counts, and just as many where it is the whole.
