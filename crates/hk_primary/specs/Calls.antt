@@ -1,5 +1,5 @@
 -- What calls on a primary leave and tell.
-use Rattle.std.specs.Prelude.{◌≡◌, ◌⊎◌, ◌<◌, ◌≤◌, ℕ, List, ◌∷◌, ◌^◌, Bool, true, false, Option, Some, None, Result, Ok, Err, length, nat_lt, if◌then◌else◌}
+use Rattle.std.specs.Prelude.{◌≡◌, ◌⊎◌, ◌<◌, ◌≤◌, ℕ, List, ◌∷◌, Option, Some, None, Result, Ok, Err, length, nat_lt, if◌then◌else◌}
 use Rattle.std.specs.Option.{option_map}
 use Rattle.hk_types.specs.declared.faults.Refusal.{Refusal}
 use Rattle.hk_types.specs.declared.faults.Refusal.TheVariants.{Memory, NoStream, NotYet, Retired}
@@ -8,9 +8,9 @@ use Rattle.hk_log.specs.declared.item.Item.TheVariants.{Commit, Closed}
 use Rattle.hk_log.specs.Items.{EntryValue, MarkValue}
 use Rattle.hk_types.specs.Values.{ConfigValue}
 use Rattle.hk_model.specs.History.Histories.Act.{Commits}
-use Rattle.hk_model.specs.History.Histories.{Transaction, commits, is_retired, last, entry_of, history_with_mark, table_at}
+use Rattle.hk_model.specs.History.Histories.{Transaction, commits, is_retired, entry_of, history_with_mark, table_at}
 use Rattle.hk_model.specs.Replica.Answers.{AnswerValue, answer}
-use Rattle.hk_model.specs.World.Worlds.{mark_now, mark_upto, readable_on_primary, retirement}
+use Rattle.hk_model.specs.World.Worlds.{mark_now, readable_on_primary, retirement}
 use Rattle.hk_model.specs.declared.query.Query.{Query}
 use Rattle.hk_primary.specs.Log.{PrimaryValue, with_item, IsHonest}
 use Rattle.hk_primary.specs.Txns.{IsRefusal, TxnValue}
@@ -87,15 +87,6 @@ mark_of p stream = mark_now p.config p.history stream
 -- the mark with which a primary retires a stream
 abbrev pub last_mark_of : PrimaryValue → ℕ → MarkValue
 last_mark_of p stream = retirement p.config p.history stream
-
--- up to where a primary closes a stream now: as its last mark does, or as another
-abbrev pub closing_time : PrimaryValue → Bool → ℕ
-closing_time p true = 2 ^ 62
-closing_time p false = last (commits p.history)
-
--- the mark of a stream that a primary emits so
-abbrev pub closing_mark : PrimaryValue → ℕ → Bool → MarkValue
-closing_mark p stream is_last = mark_upto p.config p.history stream (closing_time p is_last)
 
 -- the primary after a mark was emitted
 abbrev pub with_mark : PrimaryValue → MarkValue → PrimaryValue

@@ -5,7 +5,7 @@ ghost use Rattle.std.specs.List.{list_all, range_with_len};
 ghost use Rattle.hk_types.specs.declared.faults.Refusal.TheVariants.{Memory};
 ghost use Rattle.hk_model.specs.History.Histories.{commits, entries_in, is_retired, last};
 ghost use Rattle.hk_model.specs.World.Worlds.{mark_upto};
-ghost use Rattle.hk_primary.specs.Calls.{NotMarked, closing_mark, closing_time, last_mark_of, mark_of, readable_on, with_mark};
+ghost use Rattle.hk_primary.specs.Calls.{NotMarked, last_mark_of, mark_of, readable_on, with_mark};
 ghost use Rattle.hk_primary.specs.Log.{IsHonest, IsNextMark, no_commits};
 ghost use Rattle.hk_primary.specs.Txns.{no_writes};
 
@@ -143,7 +143,8 @@ impl Primary {
         ensures kept { OnErr result (self.new ≡ self.old) }
         ensures honest { IsHonest self.old }
     {
-        self.close(stream, false)
+        let newest = self.newest;
+        self.close(stream, newest)
     }
 
     /// Retires a stream: it takes no commit from then on, and its last mark, which is emitted, closes it up to
@@ -160,25 +161,19 @@ impl Primary {
         ensures kept { OnErr result (self.new ≡ self.old) }
         ensures honest { IsHonest self.old }
     {
-        self.close(stream, true)
+        self.close(stream, Time::last())
     }
 
-    /// Up to where a mark closes a stream that is emitted now, as its last mark or not.
-    fn closing(&self, is_last: bool) -> Time
-        ensures { result ≡ closing_time self.now is_last }
-    {
-        if is_last { Time::last() } else { self.newest }
-    }
-
-    /// Emits the mark of a stream, which retires it where it is its last.
-    pub(crate) fn close(&mut self, stream: StreamNo, is_last: bool) -> Result<Mark, Refusal>
-        ensures told { IfOk result (λ mark. mark ≡ closing_mark self.old stream is_last) }
+    /// Emits the mark of a stream at a time up to which it may be closed.
+    fn close(&mut self, stream: StreamNo, upto: Time) -> Result<Mark, Refusal>
+        requires { (upto ≡ last (commits self.old.history)) ⊎ (upto ≡ 2 ^ 62) }
+        ensures honest { IsHonest self.old }
+        ensures told { IfOk result (λ mark. mark ≡ mark_upto self.old.config self.old.history stream upto) }
         ensures done { IfOk result (λ mark. self.new ≡ with_mark self.old mark) }
         ensures known { OnOk result (stream ≤ self.old.config.streams) }
         ensures open { OnOk result (is_retired self.old.history stream ≡ false) }
         ensures refused { IfErr result (λ why. NotMarked self.old stream why) }
         ensures kept { OnErr result (self.new ≡ self.old) }
-        ensures honest { IsHonest self.old }
     {
         if stream.number() > self.config.streams() {
             return Err(Refusal::NoStream);
@@ -186,7 +181,6 @@ impl Primary {
         if self.retired(stream) {
             return Err(Refusal::Retired { stream });
         }
-        let upto = self.closing(is_last);
         let mark = self.mark_of(stream, upto);
         self.emit(mark)?;
         Ok(mark)

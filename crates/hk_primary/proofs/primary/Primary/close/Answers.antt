@@ -1,17 +1,11 @@
-use Rattle.std.proofs.Common.{◌≡◌, ◌≤◌, ◌⊎◌, inl, inr, ◌^◌, sym, ap, ◌∙◌, subst, arith, ℕ, Bool, true, false}
+use Rattle.std.proofs.Common.{◌≡◌, ◌≤◌, ◌⊎◌, inl, inr, ◌^◌, sym, ap, ◌∙◌, subst, arith, ℕ, false}
 use Rattle.hk_types.specs.Values.{ConfigValue}
 use Rattle.hk_log.specs.declared.item.Item.{Item}
 use Rattle.hk_model.specs.History.Histories.{commits, is_retired, last}
-use Rattle.hk_primary.specs.Calls.{closing_time}
 use Rattle.hk_primary.specs.Log.{PrimaryValue, IsNextMark, history_of}
 use Rattle.hk_primary.proofs.HistoryOfLog.{honest}
 use Rattle.hk_primary.proofs.PrimaryRules.{last_bound, next_mark}
 use Rattle.hk_primary.proofs.primary.Primary.close.Goals as goal
-
--- a stream is closed up to the last commit, or up to the last time of all
-either : (p : PrimaryValue) (is_last : Bool) (u : ℕ) → u ≡ closing_time p is_last → (u ≡ last (commits p.history)) ⊎ (u ≡ 2 ^ 62)
-either p false u e = inl e
-either p true u e = inr e
 
 -- what may be closed so is not before the last commit
 not_early : (n u : ℕ) → n ≤ 2 ^ 62 → (u ≡ n) ⊎ (u ≡ 2 ^ 62) → n ≤ u
@@ -26,7 +20,7 @@ pub mark_of-mark-requires-clause-late : goal.mark_of-mark-requires-clause-late
 mark_of-mark-requires-clause-late c =
     let a = c.self.inside in
     let bound = last_bound a.config a.newest a.log.items a.facts a.counts.items a.retired.items c.self.invariant in
-    not_early (last (commits c.args.self.now.history)) c.closing-upto.result (subst (λ (p : PrimaryValue). last (commits p.history) ≤ 2 ^ 62) c.self.view_is bound) (either c.args.self.now c.args.is_last c.closing-upto.result c.closing-upto.ensures)
+    not_early (last (commits c.args.self.now.history)) c.args.upto (subst (λ (p : PrimaryValue). last (commits p.history) ≤ 2 ^ 62) c.self.view_is bound) c.requires
 
 pub emit-requires : goal.emit-requires
 emit-requires c =
@@ -37,9 +31,9 @@ emit-requires c =
     let within : c.args.stream ≤ a.config.streams = omega (arith, c.if-number-streams.false) in
     let still : is_retired (history_of a.log.items) c.args.stream ≡ false = ap (λ (p : PrimaryValue). is_retired p.history c.args.stream) c.self.view_is ∙ sym c.retired.ensures ∙ c.if-retired.false in
     let bound = last_bound a.config a.newest a.log.items a.facts a.counts.items a.retired.items c.self.invariant in
-    let may = subst (λ (p : PrimaryValue). (c.closing-upto.result ≡ last (commits p.history)) ⊎ (c.closing-upto.result ≡ 2 ^ 62)) (sym c.self.view_is) (either c.args.self.now c.args.is_last c.closing-upto.result c.closing-upto.ensures) in
+    let may = subst (λ (p : PrimaryValue). (c.args.upto ≡ last (commits p.history)) ⊎ (c.args.upto ≡ 2 ^ 62)) (sym c.self.view_is) c.requires in
     let newest = last (commits (history_of a.log.items)) in
-    let next = next_mark a.config a.newest a.log.items a.facts a.counts.items a.retired.items c.self.invariant c.args.stream c.closing-upto.result (omega arith) within still (not_early newest c.closing-upto.result bound may) (as_bound newest c.closing-upto.result may) in
+    let next = next_mark a.config a.newest a.log.items a.facts a.counts.items a.retired.items c.self.invariant c.args.stream c.args.upto (omega arith) within still (not_early newest c.args.upto bound may) (as_bound newest c.args.upto may) in
     rw c.mark_of-mark.ensures (rw (← c.self.view_is) next)
 
 pub returns-then-number-streams-clause-honest : goal.returns-then-number-streams-clause-honest
