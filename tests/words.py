@@ -40,7 +40,7 @@ MOST_COLUMNS = 110
 
 # the longest clause of any function, and how many may be longer than the shorter bound, in letters between its braces
 MOST_LETTERS = 120
-FEW_LETTERS, MOST_LONG = 100, 68
+FEW_LETTERS, MOST_LONG = 100, 60
 
 
 def pieces(line):

@@ -1,18 +1,20 @@
 //! The command line.
 
 use crate::calls::call_of;
-use crate::forms::{FORMS, Form, Number, QUERIES, form_named, numbers_of, with_forms};
-use crate::stay::{stay_call, with_stay};
+use crate::forms::{
+    FORMS, Form, Number, QUERIES, SERVE_NUMBERS, SERVE_WORDS, form_named, numbers_of, with_forms,
+    with_numbers,
+};
+use crate::stay::{Staying, stay_call, with_stay};
 use clap::error::ErrorKind;
-use clap::{Arg, ArgAction, ArgMatches, Command, Error, value_parser};
+use clap::{ArgMatches, Command, Error};
 use hk_model::Query;
 use hk_types::{Config, Key, Links, Table, Time};
 use std::alloc::{AllocError, Global};
-use std::net::Ipv4Addr;
 
-/// What the program is asked to do.
+/// What is done over standard input and output alone.
 #[derive(Clone, Copy)]
-pub enum Call<'a> {
+pub enum Alone {
     /// Absorb item frames, and print the row at a table and a key at a time.
     At {
         config: Config,
@@ -49,6 +51,13 @@ pub enum Call<'a> {
     Frames,
     /// Write item frames in version 2.
     Rewrite,
+}
+
+/// What the program is asked to do.
+#[derive(Clone, Copy)]
+pub enum Call<'a> {
+    /// What needs no file and no network.
+    Alone(Alone),
     /// Play a script of a primary and its replicas, and write the items to a file of this name where one is given.
     World {
         items: Option<&'a str>,
@@ -62,24 +71,7 @@ pub enum Call<'a> {
         is_guarded: bool,
     },
     /// Start a node, and serve links to it without an end.
-    Stay {
-        config: Config,
-        address: Ipv4Addr,
-        port: u16,
-        links: Links,
-        /// The port for links that only read, and how many of them are served at once.
-        reading: Option<(u16, Links)>,
-        /// How many seconds a read inside a frame is waited for; 0 is no limit.
-        read_seconds: u64,
-        /// Whether each change is tested before it is added.
-        is_guarded: bool,
-        /// Whether only faults are told on standard error.
-        is_quiet: bool,
-        /// Whether each change that takes effect is told there too.
-        is_verbose: bool,
-        /// After how many changes the front is told there each time; 0 is never.
-        report_changes: u64,
-    },
+    Stay(Staying),
     /// Have the node on a port do something.
     Node {
         port: u16,
@@ -171,68 +163,9 @@ It prints 'ended' and a number as each link ends. --read-port opens a second por
 ask and not change. NOTHING IS ENCRYPTED OR AUTHENTICATED: whoever reaches the port may write. Give \
 --address only behind a proxy that does both (docs/OPERATING.md).";
 
-/// The names of the numbers of `serve`.
-const SERVE_NUMBERS: [&str; 8] = [
-    "log",
-    "streams",
-    "port",
-    "links",
-    "read-port",
-    "read-links",
-    "read-seconds",
-    "report-changes",
-];
-
-/// An argument that has to be given.
-fn wanted<'a>(alloc: Global, name: &'a str, value: &'a str, help: &'a str) -> Arg<'a> {
-    Arg::new(alloc, name)
-        .value_name(value)
-        .help(help)
-        .required(true)
-        .action(ArgAction::Set)
-}
-
-fn with_log<'a>(alloc: Global, command: Command<'a>) -> Result<Command<'a>, AllocError> {
-    let help = "The id of the log: a number up to 18446744073709551615";
-    let log = wanted(alloc, "log", "L", help).long("log");
-    command.arg(log.value_parser(value_parser!(u64)))
-}
-
-fn with_streams<'a>(alloc: Global, command: Command<'a>) -> Result<Command<'a>, AllocError> {
-    let help = "How many streams the log has: 1 to 64";
-    let streams = wanted(alloc, "streams", "S", help).long("streams");
-    command.arg(streams.value_parser(value_parser!(u16).range(1..=64)))
-}
-
-fn with_port<'a>(alloc: Global, command: Command<'a>) -> Result<Command<'a>, AllocError> {
-    let port = wanted(alloc, "port", "P", "The port of 127.0.0.1: 1 to 65535");
-    command.arg(
-        port.long("port")
-            .value_parser(value_parser!(u16).range(1..=65_535)),
-    )
-}
-
-fn with_links<'a>(alloc: Global, command: Command<'a>) -> Result<Command<'a>, AllocError> {
-    let links = wanted(
-        alloc,
-        "links",
-        "N",
-        "How many links are served, with --stay at once: 1 to 64",
-    );
-    command.arg(
-        links
-            .long("links")
-            .value_parser(value_parser!(u16).range(1..=64)),
-    )
-}
-
 fn serve_command<'a>(alloc: Global) -> Result<Command<'a>, AllocError> {
     let command = plain(alloc, "serve", SERVE_ABOUT, LINKS_EXAMPLE).long_about(SERVE_LONG_ABOUT);
-    let command = with_log(alloc, command)?;
-    let command = with_streams(alloc, command)?;
-    let command = with_port(alloc, command)?;
-    let command = with_links(alloc, command)?;
-    with_stay(alloc, command)
+    with_stay(alloc, with_numbers(alloc, command, &SERVE_NUMBERS)?)
 }
 
 pub(crate) fn plain<'a>(
@@ -268,18 +201,8 @@ fn signed<'a>(matches: &ArgMatches<'a>, name: &str) -> Option<&'a str> {
     if is_decimal(word) { None } else { Some(word) }
 }
 
-/// The first of the named words that is not made of decimal digits alone.
-fn first_signed<'a>(matches: &ArgMatches<'a>, names: &[&str]) -> Option<&'a str> {
-    for name in names {
-        if let Some(word) = signed(matches, *name) {
-            return Some(word);
-        }
-    }
-    None
-}
-
-/// The same of the numbers of a form.
-fn first_signed_number<'a>(matches: &ArgMatches<'a>, numbers: &[Number]) -> Option<&'a str> {
+/// The first word of these numbers that is not made of decimal digits alone.
+fn first_signed<'a>(matches: &ArgMatches<'a>, numbers: &[Number]) -> Option<&'a str> {
     for number in numbers {
         if let Some(word) = signed(matches, number.name) {
             return Some(word);
@@ -300,11 +223,9 @@ fn serve_call<'a>(matches: &ArgMatches<'a>) -> Option<Call<'a>> {
     if matches.get_flag("stay") {
         return stay_call(matches);
     }
-    let log = matches.get_one::<u64>("log")?;
-    let streams = matches.get_one::<u16>("streams")?;
     let links = matches.get_one::<u16>("links")?;
     Some(Call::Serve {
-        config: Config::new(log, streams).ok()?,
+        config: config_of(matches)?,
         port: matches.get_one::<u16>("port")?,
         links: Links::new(links)?,
         is_guarded: matches.get_flag("guard"),
@@ -326,7 +247,7 @@ fn bad_word(alloc: Global, word: &str) -> Result<Error, AllocError> {
 
 /// The call of `serve`, where the words of its numbers are made of decimal digits alone and it could be made.
 fn read_serve<'a>(alloc: Global, matches: &ArgMatches<'a>) -> Result<Call<'a>, Error> {
-    if let Some(word) = first_signed(matches, &SERVE_NUMBERS) {
+    if let Some(word) = first_signed(matches, &SERVE_WORDS) {
         return Err(bad_word(alloc, word)?);
     }
     match serve_call(matches) {
@@ -338,11 +259,11 @@ fn read_serve<'a>(alloc: Global, matches: &ArgMatches<'a>) -> Result<Call<'a>, E
 /// The first word of a form's numbers, or of its query's, that is not made of decimal digits alone.
 fn first_bad<'a>(form: &Form, matches: &ArgMatches<'a>) -> Option<&'a str> {
     if let Some((name, words)) = matches.subcommand() {
-        if let Some(word) = first_signed_number(words, numbers_of(&QUERIES, name)) {
+        if let Some(word) = first_signed(words, numbers_of(&QUERIES, name)) {
             return Some(word);
         }
     }
-    first_signed_number(matches, form.numbers)
+    first_signed(matches, form.numbers)
 }
 
 /// The call of a form, where the words of its numbers are made of decimal digits alone and it could be made.

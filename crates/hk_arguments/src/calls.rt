@@ -1,9 +1,9 @@
 //! The calls that the arguments of the commands make.
 
-use crate::arguments::{Call, Order, config_of};
+use crate::arguments::{Alone, Call, Order, config_of};
 use clap::ArgMatches;
 use hk_model::Query;
-use hk_types::{Config, Key, Table, Tag, Time};
+use hk_types::{Key, Table, Tag, Time};
 
 /// How many items a batch has where that isn't said.
 const BATCH: u64 = 4_096;
@@ -45,17 +45,18 @@ fn query_of(name: &str, words: &ArgMatches<'_>) -> Option<Query> {
             table,
             tag: Tag::new(words.get_one::<u32>("tag")?),
         },
-        _count => Query::Count { table },
+        "count" => Query::Count { table },
+        _other => return None,
     })
 }
 
 fn at_call<'a>(matches: &ArgMatches<'a>) -> Option<Call<'a>> {
-    Some(Call::At {
+    Some(Call::Alone(Alone::At {
         config: config_of(matches)?,
         time: time_of(matches)?,
         table: table_of(matches)?,
         key: key_of(matches, "key")?,
-    })
+    }))
 }
 
 /// The call of a query over a link, or of item frames.
@@ -72,35 +73,42 @@ fn ask_call<'a>(matches: &ArgMatches<'a>) -> Option<Call<'a>> {
         };
         return Some(Call::Node { port, order });
     }
-    Some(Call::Ask {
+    Some(Call::Alone(Alone::Ask {
         config: config_of(matches)?,
         time: time?,
         query,
         is_json,
-    })
+    }))
 }
 
-fn front_of<'a>(config: Config, is_json: bool) -> Call<'a> {
-    Call::Front { config, is_json }
+/// The call of an order to a node where a port is given, else of what is done alone.
+fn either<'a>(matches: &ArgMatches<'a>, order: Order, alone: Option<Alone>) -> Option<Call<'a>> {
+    match port_of(matches) {
+        Some(port) => Some(Call::Node { port, order }),
+        None => Some(Call::Alone(alone?)),
+    }
+}
+
+fn front_alone(matches: &ArgMatches<'_>) -> Option<Alone> {
+    let config = config_of(matches)?;
+    let is_json = is_json(matches);
+    Some(Alone::Front { config, is_json })
 }
 
 fn front_call<'a>(matches: &ArgMatches<'a>) -> Option<Call<'a>> {
     let is_json = is_json(matches);
-    if let Some(port) = port_of(matches) {
-        let order = Order::Front { is_json };
-        return Some(Call::Node { port, order });
-    }
-    Some(front_of(config_of(matches)?, is_json))
+    either(matches, Order::Front { is_json }, front_alone(matches))
+}
+
+fn status_alone(matches: &ArgMatches<'_>) -> Option<Alone> {
+    let config = config_of(matches)?;
+    let is_json = is_json(matches);
+    Some(Alone::Status { config, is_json })
 }
 
 fn status_call<'a>(matches: &ArgMatches<'a>) -> Option<Call<'a>> {
     let is_json = is_json(matches);
-    if let Some(port) = port_of(matches) {
-        let order = Order::Status { is_json };
-        return Some(Call::Node { port, order });
-    }
-    let config = config_of(matches)?;
-    Some(Call::Status { config, is_json })
+    either(matches, Order::Status { is_json }, status_alone(matches))
 }
 
 fn batch_of(matches: &ArgMatches<'_>) -> u64 {
@@ -135,9 +143,14 @@ fn node_call<'a>(name: &str, matches: &ArgMatches<'a>) -> Option<Call<'a>> {
     Some(Call::Node { port, order })
 }
 
+fn items_call<'a>(matches: &ArgMatches<'a>) -> Call<'a> {
+    let is_json = is_json(matches);
+    Call::Alone(Alone::Items { is_json })
+}
+
 fn explain_call<'a>(matches: &ArgMatches<'a>) -> Call<'a> {
     let number = matches.get_one::<u64>("number");
-    Call::Explain { number }
+    Call::Alone(Alone::Explain { number })
 }
 
 /// The call that the arguments of a command make, where each of them is in its range.
@@ -147,11 +160,9 @@ pub(crate) fn call_of<'a>(name: &str, matches: &ArgMatches<'a>) -> Option<Call<'
         "ask" => ask_call(matches),
         "front" => front_call(matches),
         "status" => status_call(matches),
-        "items" => Some(Call::Items {
-            is_json: is_json(matches),
-        }),
-        "frames" => Some(Call::Frames),
-        "rewrite" => Some(Call::Rewrite),
+        "items" => Some(items_call(matches)),
+        "frames" => Some(Call::Alone(Alone::Frames)),
+        "rewrite" => Some(Call::Alone(Alone::Rewrite)),
         "world" => Some(Call::World {
             items: matches.get_str("items"),
         }),

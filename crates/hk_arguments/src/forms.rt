@@ -19,14 +19,24 @@ pub(crate) enum Need {
     Never,
 }
 
+/// What a number may be.
+#[derive(Clone, Copy)]
+enum Range {
+    /// Any of 64 bits.
+    Any,
+    /// From here to there.
+    Within(i64, i64),
+    /// The same, where a negative one is told as one that is not in it.
+    Signed(i64, i64),
+}
+
 /// An argument that is a number.
 #[derive(Clone, Copy)]
 pub(crate) struct Number {
     pub(crate) name: &'static str,
     value: &'static str,
     help: &'static str,
-    /// From where to where it goes, where it is not any of 64 bits.
-    range: Option<(i64, i64)>,
+    range: Range,
     is_option: bool,
     need: Need,
 }
@@ -56,7 +66,7 @@ const LOG: Number = Number {
     name: "log",
     value: "L",
     help: "The id of the log: a number up to 18446744073709551615",
-    range: None,
+    range: Range::Any,
     is_option: true,
     need: Need::Always,
 };
@@ -65,43 +75,41 @@ const STREAMS: Number = Number {
     name: "streams",
     value: "S",
     help: "How many streams the log has: 1 to 64",
-    range: Some((1, 64)),
+    range: Range::Within(1, 64),
     is_option: true,
     need: Need::Always,
 };
 
 const OR_LOG: Number = Number {
-    name: "log",
-    value: "L",
-    help: "The id of the log: a number up to 18446744073709551615",
-    range: None,
-    is_option: true,
     need: Need::NotWithPort,
+    ..LOG
 };
 
 const OR_STREAMS: Number = Number {
-    name: "streams",
-    value: "S",
-    help: "How many streams the log has: 1 to 64",
-    range: Some((1, 64)),
-    is_option: true,
     need: Need::NotWithPort,
-};
-
-const OR_PORT: Number = Number {
-    name: "port",
-    value: "P",
-    help: "Ask the node on this port of 127.0.0.1: 1 to 65535",
-    range: Some((1, 65_535)),
-    is_option: true,
-    need: Need::Never,
+    ..STREAMS
 };
 
 const PORT: Number = Number {
     name: "port",
     value: "P",
     help: "The port of 127.0.0.1: 1 to 65535",
-    range: Some((1, 65_535)),
+    range: Range::Within(1, 65_535),
+    is_option: true,
+    need: Need::Always,
+};
+
+const OR_PORT: Number = Number {
+    help: "Ask the node on this port of 127.0.0.1: 1 to 65535",
+    need: Need::Never,
+    ..PORT
+};
+
+const LINKS: Number = Number {
+    name: "links",
+    value: "N",
+    help: "How many links are served, with --stay at once: 1 to 64",
+    range: Range::Signed(1, 64),
     is_option: true,
     need: Need::Always,
 };
@@ -110,16 +118,14 @@ const FROM: Number = Number {
     name: "from",
     value: "Q",
     help: "The port of the other node: 1 to 65535",
-    range: Some((1, 65_535)),
-    is_option: true,
-    need: Need::Always,
+    ..PORT
 };
 
 const BATCH: Number = Number {
     name: "batch",
     value: "N",
     help: "How many items a batch has: 1 to 65536; 4096 where it isn't given",
-    range: Some((1, 65_536)),
+    range: Range::Within(1, 65_536),
     is_option: true,
     need: Need::Never,
 };
@@ -128,34 +134,26 @@ const TIME: Number = Number {
     name: "time",
     value: "T",
     help: "The time to read at: 0 to 4611686018427387904",
-    range: Some((0, 4_611_686_018_427_387_904)),
+    range: Range::Within(0, 4_611_686_018_427_387_904),
     is_option: false,
     need: Need::Always,
 };
 
 const OR_TIME: Number = Number {
-    name: "time",
-    value: "T",
-    help: "The time to read at: 0 to 4611686018427387904",
-    range: Some((0, 4_611_686_018_427_387_904)),
-    is_option: false,
     need: Need::NoPort,
+    ..TIME
 };
 
 const HORIZON: Number = Number {
-    name: "time",
-    value: "T",
     help: "The time: 0 to 4611686018427387904",
-    range: Some((0, 4_611_686_018_427_387_904)),
-    is_option: false,
-    need: Need::Always,
+    ..TIME
 };
 
 const TABLE: Number = Number {
     name: "table",
     value: "TABLE",
     help: "The number of the table: 0 to 65535",
-    range: Some((0, 65_535)),
+    range: Range::Within(0, 65_535),
     is_option: false,
     need: Need::Always,
 };
@@ -164,7 +162,7 @@ const KEY: Number = Number {
     name: "key",
     value: "KEY",
     help: "The key of the row: 0 to 18446744073709551615",
-    range: None,
+    range: Range::Any,
     is_option: false,
     need: Need::Always,
 };
@@ -173,25 +171,21 @@ const LOW: Number = Number {
     name: "low",
     value: "LOW",
     help: "The least key",
-    range: None,
-    is_option: false,
-    need: Need::Always,
+    ..KEY
 };
 
 const HIGH: Number = Number {
     name: "high",
     value: "HIGH",
     help: "The greatest key",
-    range: None,
-    is_option: false,
-    need: Need::Always,
+    ..KEY
 };
 
 const TAG: Number = Number {
     name: "tag",
     value: "TAG",
     help: "The tag: 0 to 4294967295",
-    range: Some((0, 4_294_967_295)),
+    range: Range::Within(0, 4_294_967_295),
     is_option: false,
     need: Need::Always,
 };
@@ -200,7 +194,7 @@ const REFUSAL: Number = Number {
     name: "number",
     value: "NUMBER",
     help: "The number of a refusal",
-    range: None,
+    range: Range::Any,
     is_option: false,
     need: Need::Never,
 };
@@ -209,7 +203,7 @@ const READ_SECONDS: Number = Number {
     name: "read-seconds",
     value: "N",
     help: "End a link where inside a frame nothing comes for so long: 0 (never) to 86400",
-    range: Some((0, 86_400)),
+    range: Range::Within(0, 86_400),
     is_option: true,
     need: Need::With(&["stay"]),
 };
@@ -218,7 +212,7 @@ const REPORT_CHANGES: Number = Number {
     name: "report-changes",
     value: "N",
     help: "Tell standard error the front after each N changes, 1 to 1000000000; takes one of the 64 places",
-    range: Some((1, 1_000_000_000)),
+    range: Range::Within(1, 1_000_000_000),
     is_option: true,
     need: Need::With(&["stay"]),
 };
@@ -227,7 +221,7 @@ const READ_PORT: Number = Number {
     name: "read-port",
     value: "P2",
     help: "A second port, whose links may only read: 1 to 65535",
-    range: Some((1, 65_535)),
+    range: Range::Within(1, 65_535),
     is_option: true,
     need: Need::With(&["stay", "read-links"]),
 };
@@ -236,13 +230,48 @@ const READ_LINKS: Number = Number {
     name: "read-links",
     value: "M",
     help: "How many links that only read are served at once: 1 to 63, and 64 with the others",
-    range: Some((1, 63)),
+    range: Range::Within(1, 63),
     is_option: true,
     need: Need::With(&["stay", "read-port"]),
 };
 
-/// The numbers of `serve` that are of a node that stays.
+const SERVE_STREAMS: Number = Number {
+    range: Range::Signed(1, 64),
+    ..STREAMS
+};
+
+const SERVE_PORT: Number = Number {
+    range: Range::Signed(1, 65_535),
+    ..PORT
+};
+
+/// The numbers of `serve`.
+pub(crate) const SERVE_NUMBERS: [Number; 4] = [LOG, SERVE_STREAMS, SERVE_PORT, LINKS];
+
+/// Those that are of a node that stays.
 pub(crate) const STAY_NUMBERS: [Number; 4] = [READ_SECONDS, READ_PORT, READ_LINKS, REPORT_CHANGES];
+
+/// Both, in the order in which a bad word is looked for.
+pub(crate) const SERVE_WORDS: [Number; 8] = [
+    LOG,
+    SERVE_STREAMS,
+    SERVE_PORT,
+    LINKS,
+    READ_PORT,
+    READ_LINKS,
+    READ_SECONDS,
+    REPORT_CHANGES,
+];
+
+/// What a command has that nothing is said of.
+const BARE: Form = Form {
+    name: "",
+    about: "",
+    example: "",
+    numbers: &[],
+    extra: Extra::Nothing,
+    has_queries: false,
+};
 
 /// The commands, in the order of the help.
 pub(crate) const FORMS: [Form; 16] = [
@@ -251,8 +280,7 @@ pub(crate) const FORMS: [Form; 16] = [
         about: texts::AT_ABOUT,
         example: texts::AT_EXAMPLE,
         numbers: &[LOG, STREAMS, TIME, TABLE, KEY],
-        extra: Extra::Nothing,
-        has_queries: false,
+        ..BARE
     },
     Form {
         name: "ask",
@@ -268,7 +296,7 @@ pub(crate) const FORMS: [Form; 16] = [
         example: texts::FRONT_EXAMPLE,
         numbers: &[OR_LOG, OR_STREAMS, OR_PORT],
         extra: Extra::Json,
-        has_queries: false,
+        ..BARE
     },
     Form {
         name: "status",
@@ -276,55 +304,47 @@ pub(crate) const FORMS: [Form; 16] = [
         example: texts::STATUS_EXAMPLE,
         numbers: &[OR_LOG, OR_STREAMS, OR_PORT],
         extra: Extra::Json,
-        has_queries: false,
+        ..BARE
     },
     Form {
         name: "items",
         about: texts::ITEMS_ABOUT,
         example: texts::ITEMS_EXAMPLE,
-        numbers: &[],
         extra: Extra::Json,
-        has_queries: false,
+        ..BARE
     },
     Form {
         name: "frames",
         about: texts::FRAMES_ABOUT,
         example: texts::FRAMES_EXAMPLE,
-        numbers: &[],
-        extra: Extra::Nothing,
-        has_queries: false,
+        ..BARE
     },
     Form {
         name: "rewrite",
         about: texts::REWRITE_ABOUT,
         example: texts::REWRITE_EXAMPLE,
-        numbers: &[],
-        extra: Extra::Nothing,
-        has_queries: false,
+        ..BARE
     },
     Form {
         name: "world",
         about: texts::WORLD_ABOUT,
         example: texts::WORLD_EXAMPLE,
-        numbers: &[],
         extra: Extra::Items,
-        has_queries: false,
+        ..BARE
     },
     Form {
         name: "push",
         about: texts::PUSH_ABOUT,
         example: texts::PUSH_EXAMPLE,
         numbers: &[PORT],
-        extra: Extra::Nothing,
-        has_queries: false,
+        ..BARE
     },
     Form {
         name: "feed",
         about: texts::FEED_ABOUT,
         example: texts::FEED_EXAMPLE,
         numbers: &[PORT, BATCH],
-        extra: Extra::Nothing,
-        has_queries: false,
+        ..BARE
     },
     Form {
         name: "save",
@@ -332,47 +352,42 @@ pub(crate) const FORMS: [Form; 16] = [
         example: texts::SAVE_EXAMPLE,
         numbers: &[PORT],
         extra: Extra::Json,
-        has_queries: false,
+        ..BARE
     },
     Form {
         name: "load",
         about: texts::LOAD_ABOUT,
         example: texts::LOAD_EXAMPLE,
         numbers: &[PORT],
-        extra: Extra::Nothing,
-        has_queries: false,
+        ..BARE
     },
     Form {
         name: "pull",
         about: texts::PULL_ABOUT,
         example: texts::PULL_EXAMPLE,
         numbers: &[PORT, FROM],
-        extra: Extra::Nothing,
-        has_queries: false,
+        ..BARE
     },
     Form {
         name: "prune",
         about: texts::PRUNE_ABOUT,
         example: texts::PRUNE_EXAMPLE,
         numbers: &[PORT, HORIZON],
-        extra: Extra::Nothing,
-        has_queries: false,
+        ..BARE
     },
     Form {
         name: "shell",
         about: texts::SHELL_ABOUT,
         example: texts::SHELL_EXAMPLE,
         numbers: &[PORT],
-        extra: Extra::Nothing,
-        has_queries: false,
+        ..BARE
     },
     Form {
         name: "explain",
         about: texts::EXPLAIN_ABOUT,
         example: texts::EXPLAIN_EXAMPLE,
         numbers: &[REFUSAL],
-        extra: Extra::Nothing,
-        has_queries: false,
+        ..BARE
     },
 ];
 
@@ -381,34 +396,26 @@ pub(crate) const QUERIES: [Form; 4] = [
     Form {
         name: "get",
         about: texts::GET_ABOUT,
-        example: "",
         numbers: &[TABLE, KEY],
-        extra: Extra::Nothing,
-        has_queries: false,
+        ..BARE
     },
     Form {
         name: "range",
         about: texts::RANGE_ABOUT,
-        example: "",
         numbers: &[TABLE, LOW, HIGH],
-        extra: Extra::Nothing,
-        has_queries: false,
+        ..BARE
     },
     Form {
         name: "tag",
         about: texts::TAG_ABOUT,
-        example: "",
         numbers: &[TABLE, TAG],
-        extra: Extra::Nothing,
-        has_queries: false,
+        ..BARE
     },
     Form {
         name: "count",
         about: texts::COUNT_ABOUT,
-        example: "",
         numbers: &[TABLE],
-        extra: Extra::Nothing,
-        has_queries: false,
+        ..BARE
     },
 ];
 
@@ -430,10 +437,11 @@ pub(crate) fn numbers_of(forms: &[Form], name: &str) -> &'static [Number] {
     }
 }
 
-fn parser_of<'a>(range: Option<(i64, i64)>) -> ValueParser<'a> {
+fn parser_of<'a>(range: Range) -> ValueParser<'a> {
     match range {
-        Some((least, most)) => value_parser!(u64).range(least..=most),
-        None => value_parser!(u64),
+        Range::Any => value_parser!(u64),
+        Range::Within(least, most) => value_parser!(u64).range(least..=most),
+        Range::Signed(least, most) => value_parser!(u16).range(least..=most),
     }
 }
 

@@ -7,4 +7,5 @@ mod forms;
 mod stay;
 mod texts;
 
-pub use arguments::{Call, Order, read_call};
+pub use arguments::{Alone, Call, Order, read_call};
+pub use stay::Staying;

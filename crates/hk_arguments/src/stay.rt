@@ -3,7 +3,7 @@
 use crate::arguments::{Call, config_of};
 use crate::forms::{STAY_NUMBERS, with_numbers};
 use clap::{Arg, ArgAction, ArgMatches, Command};
-use hk_types::Links;
+use hk_types::{Config, Links};
 use std::alloc::{AllocError, Global};
 use std::net::Ipv4Addr;
 
@@ -21,6 +21,27 @@ const ADDRESS_HELP: &str =
 
 /// How many links a node serves at once at most, of both kinds.
 const MOST_LINKS: u16 = 64;
+
+/// How a node that stays serves its links.
+#[derive(Clone, Copy)]
+pub struct Staying {
+    pub config: Config,
+    pub address: Ipv4Addr,
+    pub port: u16,
+    pub links: Links,
+    /// The port for links that only read, and how many of them are served at once.
+    pub reading: Option<(u16, Links)>,
+    /// How many seconds a read inside a frame is waited for; 0 is no limit.
+    pub read_seconds: u64,
+    /// Whether each change is tested before it is added.
+    pub is_guarded: bool,
+    /// Whether only faults are told on standard error.
+    pub is_quiet: bool,
+    /// Whether each change that takes effect is told there too.
+    pub is_verbose: bool,
+    /// After how many changes the front is told there each time; 0 is never.
+    pub report_changes: u64,
+}
 
 /// A command with the options of a node that stays, and of one that tests each change.
 pub(crate) fn with_stay<'a>(
@@ -87,7 +108,7 @@ pub(crate) fn stay_call<'a>(matches: &ArgMatches<'a>) -> Option<Call<'a>> {
     if telling > MOST_LINKS.saturating_sub(links) {
         return None;
     }
-    Some(Call::Stay {
+    Some(Call::Stay(Staying {
         config: config_of(matches)?,
         address: address_of(matches)?,
         port: matches.get_one::<u16>("port")?,
@@ -98,5 +119,5 @@ pub(crate) fn stay_call<'a>(matches: &ArgMatches<'a>) -> Option<Call<'a>> {
         is_quiet: matches.get_flag("quiet"),
         is_verbose: matches.get_flag("verbose"),
         report_changes,
-    })
+    }))
 }

@@ -124,6 +124,14 @@ Listed (Some old) (Some new) time query low needed before after number =
     × (after ≡ copied_into before new.reply.items needed))
     ⊎ (IsRefusedBy old.host.content time query number × (new ≡ old) × (after ≡ before))
 
+-- the rows of a table from a low key to a high one were listed
+abbrev pub Ranged : Option Replica → Option Replica → ℕ → ℕ → ℕ → ℕ → ℕ → List ℕ → List ℕ → ℕ → Type 0
+Ranged old new time table low high needed before after number = Listed old new time (Range table low high) low needed before after number
+
+-- the rows of a table with a tag were listed, from a key on
+abbrev pub Tagged : Option Replica → Option Replica → ℕ → ℕ → ℕ → ℕ → ℕ → List ℕ → List ℕ → ℕ → Type 0
+Tagged old new time table tag low needed before after number = Listed old new time (ByTag table tag) low needed before after number
+
 -- ---- changes
 
 -- 0 where a host did not refuse, else the number of the refusal

@@ -2,8 +2,7 @@
 #![tactic(auto)]
 
 ghost use Rattle.std.specs.Prelude.{◌≡◌, ◌++◌, None, Some, length, min, take, drop};
-ghost use Rattle.hk_model.specs.declared.query.Query.TheVariants as queries;
-ghost use Rattle.hk_c.specs.Calls.{AbsorbedAt, AtLive, Bounded, Called, Counts, Finished, Got, Listed, MergedAt, Opened, PrunedAt, Told, Worded, Wrote, copied_into, kept_reply};
+ghost use Rattle.hk_c.specs.Calls.{AbsorbedAt, AtLive, Bounded, Called, Counts, Finished, Got, Listed, MergedAt, Opened, PrunedAt, Ranged, Tagged, Told, Worded, Wrote, copied_into, kept_reply};
 
 mod changes;
 mod found;
@@ -298,7 +297,7 @@ pub extern "C" fn hk_range(
     out: &mut [u8],
     needed: &mut usize,
 ) -> u8
-    ensures { Listed handle.old.replica handle.new.replica time (queries.Range table low high) low
+    ensures { Ranged handle.old.replica handle.new.replica time table low high
         needed.new out.old out.new result }
 {
     let (table, low, high) = (Table::new(table), Key::new(low), Key::new(high));
@@ -318,7 +317,7 @@ pub extern "C" fn hk_by_tag(
     out: &mut [u8],
     needed: &mut usize,
 ) -> u8
-    ensures { Listed handle.old.replica handle.new.replica time (queries.ByTag table tag) low
+    ensures { Tagged handle.old.replica handle.new.replica time table tag low
         needed.new out.old out.new result }
 {
     let (table, tag) = (Table::new(table), Tag::new(tag));

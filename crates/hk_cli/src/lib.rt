@@ -13,6 +13,6 @@ pub use hk_commands::{
 pub use hk_lines::{Printed, line_of};
 pub use hk_remote::{Order, run_order};
 pub use hk_types::Links;
-pub use serve::{run_guarded, run_serve};
+pub use serve::run_serve;
 pub use stay::{ReadPort, Stay, run_stay};
 pub use telling::Level;

@@ -24,6 +24,19 @@ pub(crate) fn stop_of(fault: NetFault) -> Stop {
     }
 }
 
+/// Listens to a port of an address.
+pub(crate) fn listener_of<R: Net<Listener = TcpListener, Stream = TcpStream>, W: Write, E: Write>(
+    rt: &R,
+    address: Ipv4Addr,
+    port: u16,
+    output: &mut Output<'_, W, E>,
+) -> Result<TcpListener, Stop> {
+    match TcpListener::bind(rt, (address, port)) {
+        Ok(listener) => Ok(listener),
+        Err(error) => Err(output.net_fault("listen on", port, &error)),
+    }
+}
+
 /// Prints how each link ended, and gives the status.
 fn print_ends<W: Write, E: Write>(ends: &[Ended], output: &mut Output<'_, W, E>) -> Result<u8, Stop>
     ensures { IfOk result (λ status. status ≤ 1) }
@@ -58,10 +71,7 @@ fn serve_list<
     requires { list ≡ (J.book, J.config) }
     ensures { IfOk result (λ status. status ≤ 1) }
 {
-    let listener = match TcpListener::bind(rt, (Ipv4Addr::LOCALHOST, port)) {
-        Ok(listener) => listener,
-        Err(error) => return Err(output.net_fault("listen on", port, &error)),
-    };
+    let listener = listener_of(rt, Ipv4Addr::LOCALHOST, port, output)?;
     let (node, seats) = start::<J, &R>(rt, alloc, list, links.count())?;
     output.print(&Notice::Listening(port))?;
     output.flush()?;
@@ -74,32 +84,11 @@ fn serve_list<
     print_ends(&ends, output)
 }
 
-/// Serves the links to a new node of a log, and gives the status.
-fn serve_new<
-    R: Net<Listener = TcpListener, Stream = TcpStream> + Threads + Wait + Sync,
-    W: Write,
-    E: Write,
->(
-    rt: &R,
-    alloc: Global,
-    port: u16,
-    config: Config,
-    links: Links,
-    is_guarded: bool,
-    output: &mut Output<'_, W, E>,
-) -> u8
-    ensures { result ≤ 1 }
-{
-    let list = NewList::new(config);
-    match serve_list::<Brand, R, W, E>(rt, alloc, port, list, links, is_guarded, output) {
-        Ok(status) => status,
-        Err(stop) => output.stop(stop),
-    }
-}
-
 /// Starts a node of a log, and serves links to it on a port of 127.0.0.1, until so many were opened and all have ended.
 /// Prints `listening` and the port once links can be opened, and at the end a line for each link in the order in which
-/// they were accepted: `ended` and its number, which is 0, the fault's of a request, 90, 91 or 92.
+/// they were accepted: `ended` and its number, which is 0, the fault's of a request, 90, 91 or 92. Where it is guarded,
+/// each change that a link asks for is tested before it is added: what contradicts is refused 23 with nothing changed, so
+/// that no link damages the node.
 ///
 /// The status is 0, or 1 where a number above 0 or one of these lines was printed:
 ///
@@ -107,7 +96,8 @@ fn serve_new<
 /// - `refused 90` where memory ran out for the node or the list of links;
 /// - no line where a write failed or took no bytes: the status alone tells it.
 ///
-/// Each number above 0 and each such line is told to `errors` in words. Cost: that of `start` and of `serve_links`.
+/// Each number above 0 and each such line is told to `errors` in words. Cost: that of `start`, and of `serve_links` or
+/// `guard_links`.
 pub fn run_serve<
     R: Net<Listener = TcpListener, Stream = TcpStream> + Threads + Wait + Sync,
     W: Write,
@@ -118,32 +108,16 @@ pub fn run_serve<
     port: u16,
     config: Config,
     links: Links,
+    is_guarded: bool,
     writer: &mut W,
     errors: &mut E,
 ) -> u8
     ensures { result ≤ 1 }
 {
     let mut output = Output::new(alloc, writer, errors);
-    serve_new(rt, alloc, port, config, links, false, &mut output)
-}
-
-/// As `run_serve`, but each change that a link asks for is tested before it is added: what contradicts is refused 23 with
-/// nothing changed, so that no link damages the node. Cost: that of `start` and of `guard_links`.
-pub fn run_guarded<
-    R: Net<Listener = TcpListener, Stream = TcpStream> + Threads + Wait + Sync,
-    W: Write,
-    E: Write,
->(
-    rt: &R,
-    alloc: Global,
-    port: u16,
-    config: Config,
-    links: Links,
-    writer: &mut W,
-    errors: &mut E,
-) -> u8
-    ensures { result ≤ 1 }
-{
-    let mut output = Output::new(alloc, writer, errors);
-    serve_new(rt, alloc, port, config, links, true, &mut output)
+    let list = NewList::new(config);
+    match serve_list::<Brand, R, W, E>(rt, alloc, port, list, links, is_guarded, &mut output) {
+        Ok(status) => status,
+        Err(stop) => output.stop(stop),
+    }
 }

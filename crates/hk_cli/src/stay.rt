@@ -3,7 +3,7 @@
 ghost use Rattle.std.specs.Prelude.{◌≡◌, ◌<◌, ◌≤◌};
 
 use crate::notice::Notice;
-use crate::serve::stop_of;
+use crate::serve::{listener_of, stop_of};
 use crate::telling::{Level, Reports, Telling};
 use hk_commands::{Output, Stop};
 use hk_net::{Door, serve_forever};
@@ -45,19 +45,6 @@ pub struct Stay {
     pub level: Level,
     /// After how many changes the node's front is told each time; 0 is never.
     pub report_changes: u64,
-}
-
-/// Listens to a port of an address.
-fn listener_of<R: Net<Listener = TcpListener, Stream = TcpStream>, W: Write, E: Write>(
-    rt: &R,
-    address: Ipv4Addr,
-    port: u16,
-    output: &mut Output<'_, W, E>,
-) -> Result<TcpListener, Stop> {
-    match TcpListener::bind(rt, (address, port)) {
-        Ok(listener) => Ok(listener),
-        Err(error) => Err(output.net_fault("listen on", port, &error)),
-    }
 }
 
 /// The listener of the links that only read, if there are any.

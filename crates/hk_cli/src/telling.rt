@@ -103,15 +103,20 @@ impl<'o, 'a, W: Write, E: Write, J: NodeName> Telling<'o, 'a, W, E, J> {
         }
     }
 
+    /// Tells a line, where there was memory for it.
+    fn say(&mut self, line: Result<String, AllocError>) {
+        if let Ok(line) = line {
+            self.output.note(line.as_str());
+        }
+    }
+
     /// Tells that a link did something that is no fault, unless only faults are wanted.
     fn note(&mut self, link: u64, what: &str) {
         if self.level == Level::Faults {
             return;
         }
-        let line: Result<String, AllocError> = format!(in self.alloc; "link {link}: {what}\n");
-        if let Ok(line) = line {
-            self.output.note(line.as_str());
-        }
+        let line = format!(in self.alloc; "link {link}: {what}\n");
+        self.say(line);
     }
 
     /// Tells that a change took effect, where each is wanted.
@@ -119,20 +124,14 @@ impl<'o, 'a, W: Write, E: Write, J: NodeName> Telling<'o, 'a, W, E, J> {
         if self.level != Level::Changes {
             return;
         }
-        let line: Result<String, AllocError> = format!(in self.alloc; "link {link}: done {ops}\n");
-        if let Ok(line) = line {
-            self.output.note(line.as_str());
-        }
+        let line = format!(in self.alloc; "link {link}: done {ops}\n");
+        self.say(line);
     }
 
     /// Tells the front after so many changes.
     fn note_front(&mut self, changes: u64, horizon: Time, readable: Time) {
-        let line: Result<String, AllocError> = format!(in self.alloc;
-            "after {changes} changes: front {horizon} {readable}\n"
-        );
-        if let Ok(line) = line {
-            self.output.note(line.as_str());
-        }
+        let line = format!(in self.alloc; "after {changes} changes: front {horizon} {readable}\n");
+        self.say(line);
     }
 
     /// Counts a change, and tells the front where it is time for that.

@@ -170,8 +170,15 @@ fn items(alloc: Global, words: &mut Words<'_>) -> Result<Vec<u64>, Unread> {
     Err(Unread::Bad(Flaw::TooMany))
 }
 
-fn query(words: &mut Words<'_>) -> Result<Query, Unread> {
-    Ok(match words.word()? {
+/// The query of the words that are left.
+pub(crate) fn query(words: &mut Words<'_>) -> Result<Query, Unread> {
+    let name = words.word()?;
+    query_named(name, words)
+}
+
+/// The query of this name, with the words behind it.
+pub(crate) fn query_named(name: &str, words: &mut Words<'_>) -> Result<Query, Unread> {
+    Ok(match name {
         "get" => Query::Get {
             table: words.table()?,
             key: words.key()?,

@@ -1,5 +1,6 @@
 //! Reading item frames.
 
+use crate::pieces::{Pieces, read_pieces};
 use crate::stop::Stop;
 use hk_codec::Feeder;
 use hk_log::Item;
@@ -7,12 +8,7 @@ use hk_reasons::{Asked, Origin, Place};
 use hk_types::Refusal;
 use std::alloc::Global;
 use std::io::Read;
-
-/// How many bytes are asked for in one read.
-pub const PIECE_BYTES: usize = 65_536;
-
-/// The most reads of one input.
-pub const MOST_READS: u64 = 4_294_967_296;
+use std::mem;
 
 /// What takes the items of an input, one after the other.
 pub trait Sink {
@@ -55,6 +51,30 @@ fn checked(fed: Result<(), Refusal>, frames: u64) -> Result<(), Stop> {
     }
 }
 
+/// Frames on their way to a sink of items.
+#[derive(Drop)]
+struct Frames<'a, S> {
+    alloc: Global,
+    feeder: Feeder,
+    /// How many frames' items the sink took.
+    count: u64,
+    sink: &'a mut S,
+}
+
+impl<S: Sink> Pieces for Frames<'_, S> {
+    fn take(&mut self, piece: &[u8]) -> Result<(), Stop> {
+        let mut items = Vec::new(self.alloc);
+        let fed = self.feeder.feed(piece, &mut items);
+        take_all(items, self.sink, &mut self.count)?;
+        checked(fed, self.count)
+    }
+
+    fn end(&mut self) -> Result<(), Stop> {
+        let feeder = mem::replace(&mut self.feeder, Feeder::new(self.alloc));
+        checked(feeder.finish(), self.count)
+    }
+}
+
 /// Hands the items of the input to the sink in their order, up to the end, or to what stops them first:
 /// the sink, a fault of the input, or a read. Cost: O(n), n bytes of the input, and that of the sink.
 pub fn hand_items<I: Read, S: Sink>(
@@ -62,21 +82,11 @@ pub fn hand_items<I: Read, S: Sink>(
     input: &mut I,
     sink: &mut S,
 ) -> Result<(), Stop> {
-    let mut feeder = Feeder::new(alloc);
-    let mut frames = 0;
-    let mut piece = vec![in alloc; 0u8; PIECE_BYTES]?;
-    for _ in 0..MOST_READS {
-        let count = match input.read(piece.as_mut_slice()) {
-            Ok(count) => count,
-            Err(_error) => return Err(Stop::ReadFault),
-        };
-        if count == 0 {
-            return checked(feeder.finish(), frames);
-        }
-        let mut items = Vec::new(alloc);
-        let fed = feeder.feed(&piece[..count], &mut items);
-        take_all(items, sink, &mut frames)?;
-        checked(fed, frames)?;
-    }
-    Err(Stop::ReadFault)
+    let mut frames = Frames {
+        alloc,
+        feeder: Feeder::new(alloc),
+        count: 0,
+        sink,
+    };
+    read_pieces(alloc, input, &mut frames)
 }

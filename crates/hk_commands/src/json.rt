@@ -2,8 +2,8 @@
 
 ghost use Rattle.std.specs.Prelude.{◌≤◌};
 
-use crate::frames::{MOST_READS, PIECE_BYTES};
 use crate::output::{Form, Output};
+use crate::pieces::{Lines, read_lines};
 use crate::stop::Stop;
 use hk_codec::encode;
 use hk_json::{BadItem, item_of};
@@ -60,7 +60,7 @@ pub(crate) fn put_bad_item(
 ) -> Result<(), AllocError> {
     let column = match fault {
         LineFault::Item(bad) => bad.column(),
-        _whole => 1,
+        LineFault::NoText | LineFault::TooLong => 1,
     };
     write!(out, "line {number}, column {column}: ")?;
     put_what(alloc, fault, out)?;
@@ -69,28 +69,17 @@ pub(crate) fn put_bad_item(
 
 /// Lines on their way to frames.
 #[derive(Drop)]
-struct Framer {
+struct Framer<'o, W: Write, E: Write> {
     alloc: Global,
-    /// The line that is being read, and its number, counted from 1.
-    line: Vec<u8>,
-    number: u64,
-    /// The frames of the lines before it that are not written yet.
+    output: Output<'o, W, E>,
+    /// The frames of lines that are not written yet.
     frames: Vec<u8>,
 }
 
-impl Framer {
-    fn new(alloc: Global) -> Framer {
-        Framer {
-            alloc,
-            line: Vec::new(alloc),
-            number: 1,
-            frames: Vec::new(alloc),
-        }
-    }
-
-    /// Adds the frame of the line that was read, or says what is wrong with it.
-    fn add_item(&mut self) -> Result<(), LineFault> {
-        let Ok(text) = str::from_utf8(&self.line) else {
+impl<W: Write, E: Write> Framer<'_, W, E> {
+    /// Adds the frame of a line, or says what is wrong with it.
+    fn add_item(&mut self, line: &[u8]) -> Result<(), LineFault> {
+        let Ok(text) = str::from_utf8(line) else {
             return Err(LineFault::NoText);
         };
         let item = match item_of(self.alloc, text) {
@@ -103,93 +92,46 @@ impl Framer {
         }
     }
 
-    /// Writes the frames of the lines before, tells what is wrong with this one, and stops.
-    fn stop_of<W: Write, E: Write>(
-        &mut self,
-        fault: &LineFault,
-        output: &mut Output<'_, W, E>,
-    ) -> Stop {
-        if let Err(stop) = output.send(&self.frames) {
+    /// Writes the frames of the lines before, tells what is wrong with the one of this number, and stops.
+    fn stop_of(&mut self, number: u64, fault: &LineFault) -> Stop {
+        if let Err(stop) = self.output.send(&self.frames) {
             return stop;
         }
         if matches!(fault, LineFault::Item(BadItem::Memory)) {
             return Stop::Refused(Refusal::Memory);
         }
-        output.tell_item(self.number, fault);
-        Stop::BadCommand(self.number)
-    }
-
-    /// Adds the frame of the line that was read, where it is not empty, and writes what was gathered once that is much.
-    fn end_line<W: Write, E: Write>(&mut self, output: &mut Output<'_, W, E>) -> Result<(), Stop> {
-        if self.line.is_empty() {
-            return Ok(());
-        }
-        if let Err(fault) = self.add_item() {
-            return Err(self.stop_of(&fault, output));
-        }
-        self.line.clear();
-        if self.frames.len() < GATHERED_BYTES {
-            return Ok(());
-        }
-        self.send(output)
-    }
-
-    fn send<W: Write, E: Write>(&mut self, output: &mut Output<'_, W, E>) -> Result<(), Stop> {
-        output.send(&self.frames)?;
-        self.frames.clear();
-        Ok(())
-    }
-
-    fn take<W: Write, E: Write>(
-        &mut self,
-        byte: u8,
-        output: &mut Output<'_, W, E>,
-    ) -> Result<(), Stop> {
-        if byte == b'\n' {
-            self.end_line(output)?;
-            self.number = self.number.saturating_add(1);
-            return Ok(());
-        }
-        if self.line.len() >= MOST_JSON_BYTES {
-            return Err(self.stop_of(&LineFault::TooLong, output));
-        }
-        self.line
-            .push(byte)
-            .map_err(|_full| Stop::Refused(Refusal::Memory))
-    }
-
-    fn take_all<W: Write, E: Write>(
-        &mut self,
-        bytes: &[u8],
-        output: &mut Output<'_, W, E>,
-    ) -> Result<(), Stop> {
-        for byte in bytes {
-            self.take(*byte, output)?;
-        }
-        Ok(())
+        self.output.tell_item(number, fault);
+        Stop::BadCommand(number)
     }
 }
 
-/// Writes the frames of the lines of the input up to its end, or to what stops it first.
-fn frame_all<I: Read, W: Write, E: Write>(
-    alloc: Global,
-    input: &mut I,
-    output: &mut Output<'_, W, E>,
-) -> Result<(), Stop> {
-    let mut framer = Framer::new(alloc);
-    let mut piece = vec![in alloc; 0u8; PIECE_BYTES]?;
-    for _ in 0..MOST_READS {
-        let count = match input.read(piece.as_mut_slice()) {
-            Ok(count) => count,
-            Err(_error) => return Err(Stop::ReadFault),
-        };
-        if count == 0 {
-            framer.end_line(output)?;
-            return framer.send(output);
+impl<W: Write, E: Write> Lines for Framer<'_, W, E> {
+    const MOST_BYTES: usize = MOST_JSON_BYTES;
+
+    /// Adds the frame of a line that is not empty, and writes what was gathered once that is much.
+    fn line(&mut self, number: u64, line: &[u8]) -> Result<(), Stop> {
+        if line.is_empty() {
+            return Ok(());
         }
-        framer.take_all(&piece[..count], output)?;
+        if let Err(fault) = self.add_item(line) {
+            return Err(self.stop_of(number, &fault));
+        }
+        if self.frames.len() < GATHERED_BYTES {
+            return Ok(());
+        }
+        self.end()
     }
-    Err(Stop::ReadFault)
+
+    fn long(&mut self, number: u64, _line: &[u8]) -> Result<(), Stop> {
+        Err(self.stop_of(number, &LineFault::TooLong))
+    }
+
+    /// Writes what was gathered.
+    fn end(&mut self) -> Result<(), Stop> {
+        self.output.send(&self.frames)?;
+        self.frames.clear();
+        Ok(())
+    }
 }
 
 /// Writes the frame, of version 2, of the item on each line of JSON of the input, up to its end, and answers the status 0.
@@ -210,9 +152,13 @@ pub fn run_frames<I: Read, W: Write, E: Write>(
 ) -> u8
     ensures { result ≤ 1 }
 {
-    let mut output = Output::of_form(alloc, Form::Bytes, writer, errors);
-    match frame_all(alloc, input, &mut output) {
+    let mut framer = Framer {
+        alloc,
+        output: Output::of_form(alloc, Form::Bytes, writer, errors),
+        frames: Vec::new(alloc),
+    };
+    match read_lines(alloc, input, &mut framer) {
         Ok(()) => 0,
-        Err(stop) => output.stop(stop),
+        Err(stop) => framer.output.stop(stop),
     }
 }

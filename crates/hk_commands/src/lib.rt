@@ -1,8 +1,9 @@
 //! The commands that need no network, over any reader and writers: `at`, `ask`, `front`, `status`, `items`, `frames`,
-//! `rewrite`, `world` and `explain`, with what prints their lines and says why one stopped.
+//! `rewrite`, `world` and `explain`, with what reads an input, prints lines and says why a command stopped.
 #![tactic(auto)]
 
 mod ask;
+mod asking;
 mod command;
 mod explain;
 mod flaw;
@@ -10,6 +11,7 @@ mod frames;
 mod items;
 mod json;
 mod output;
+mod pieces;
 mod rewrite;
 mod script;
 mod status;
@@ -18,11 +20,13 @@ mod words;
 mod world;
 
 pub use ask::{run_ask, run_at, run_front, run_status};
+pub use asking::{Asking, asking_of};
 pub use explain::run_explain;
-pub use frames::{MOST_READS, PIECE_BYTES, Sink, hand_items};
+pub use frames::{Sink, hand_items};
 pub use items::run_items;
 pub use json::run_frames;
 pub use output::{Form, Output};
+pub use pieces::{Lines, MOST_READS, PIECE_BYTES, Pieces, read_lines, read_pieces};
 pub use rewrite::run_rewrite;
 pub use status::{Standing, StreamStatus, put_status, stream_status};
 pub use stop::Stop;

@@ -93,7 +93,7 @@ impl<'a, W: Write, E: Write> Output<'a, W, E> {
     pub fn show<T: Printed + InJson>(&mut self, value: &T) -> Result<(), Stop> {
         match self.form {
             Form::Json => self.print_json(value),
-            _lines => self.print(value),
+            Form::Lines | Form::Bytes => self.print(value),
         }
     }
 
@@ -101,7 +101,7 @@ impl<'a, W: Write, E: Write> Output<'a, W, E> {
     pub fn show_front(&mut self, front: Front) -> Result<(), Stop> {
         match self.form {
             Form::Json => self.print_json(&front),
-            _lines => self.print(&Told::Fronted(front)),
+            Form::Lines | Form::Bytes => self.print(&Told::Fronted(front)),
         }
     }
 

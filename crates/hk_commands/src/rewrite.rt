@@ -2,8 +2,8 @@
 
 ghost use Rattle.std.specs.Prelude.{◌≤◌};
 
-use crate::frames::{MOST_READS, PIECE_BYTES};
 use crate::output::{Form, Output};
+use crate::pieces::{Pieces, read_pieces};
 use crate::stop::Stop;
 use hk_codec::rewrite;
 use std::alloc::Global;
@@ -38,27 +38,30 @@ pub fn run_rewrite<I: Read, W: Write, E: Write>(
     }
 }
 
-/// The frames of version 2 of all the items of the input.
-fn rewritten<I: Read>(alloc: Global, input: &mut I) -> Result<Vec<u8>, Stop> {
-    let bytes = read_all(alloc, input)?;
-    let mut frames = Vec::new(alloc);
-    rewrite(alloc, &bytes, &mut frames)?;
-    Ok(frames)
+/// All bytes of an input.
+#[derive(Drop)]
+struct Whole {
+    bytes: Vec<u8>,
 }
 
-/// All bytes of the input.
-fn read_all<I: Read>(alloc: Global, input: &mut I) -> Result<Vec<u8>, Stop> {
-    let mut bytes = Vec::new(alloc);
-    let mut piece = vec![in alloc; 0u8; PIECE_BYTES]?;
-    for _ in 0..MOST_READS {
-        let count = match input.read(piece.as_mut_slice()) {
-            Ok(count) => count,
-            Err(_error) => return Err(Stop::ReadFault),
-        };
-        if count == 0 {
-            return Ok(bytes);
-        }
-        bytes.extend_from_slice(&piece[..count])?;
+impl Pieces for Whole {
+    fn take(&mut self, piece: &[u8]) -> Result<(), Stop> {
+        self.bytes.extend_from_slice(piece)?;
+        Ok(())
     }
-    Err(Stop::ReadFault)
+
+    fn end(&mut self) -> Result<(), Stop> {
+        Ok(())
+    }
+}
+
+/// The frames of version 2 of all the items of the input.
+fn rewritten<I: Read>(alloc: Global, input: &mut I) -> Result<Vec<u8>, Stop> {
+    let mut whole = Whole {
+        bytes: Vec::new(alloc),
+    };
+    read_pieces(alloc, input, &mut whole)?;
+    let mut frames = Vec::new(alloc);
+    rewrite(alloc, &whole.bytes, &mut frames)?;
+    Ok(frames)
 }

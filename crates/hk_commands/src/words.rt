@@ -25,18 +25,32 @@ impl From<AllocError> for Unread {
     }
 }
 
-/// The words of a line, which are parted by single spaces.
+/// The words of a line.
 #[derive(Drop)]
 pub(crate) struct Words<'a> {
     rest: Option<&'a str>,
+    /// Whether words may be parted by more than a space.
+    is_loose: bool,
     /// How many words were taken.
     taken: u64,
 }
 
 impl<'a> Words<'a> {
+    /// Words that are parted by single spaces.
     pub(crate) fn new(line: &'a str) -> Words<'a> {
         Words {
             rest: Some(line),
+            is_loose: false,
+            taken: 0,
+        }
+    }
+
+    /// Words that are parted by one space or more, which may stand at the ends, too.
+    pub(crate) fn loose(line: &'a str) -> Words<'a> {
+        let line = line.trim();
+        Words {
+            rest: if line.is_empty() { None } else { Some(line) },
+            is_loose: true,
             taken: 0,
         }
     }
@@ -57,12 +71,12 @@ impl<'a> Words<'a> {
     }
 
     /// The next word, where one is left.
-    fn next(&mut self) -> Option<&'a str> {
+    pub(crate) fn next(&mut self) -> Option<&'a str> {
         let rest = self.rest?;
         self.taken = self.taken.saturating_add(1);
         match rest.split_once(' ') {
             Some((word, more)) => {
-                self.rest = Some(more);
+                self.rest = Some(if self.is_loose { more.trim() } else { more });
                 Some(word)
             }
             None => {

@@ -4,8 +4,8 @@ ghost use Rattle.std.specs.Prelude.{◌≤◌};
 
 use crate::command::{asked_of, command_of, opening_of};
 use crate::flaw::{Flaw, MOST_LINE_BYTES};
-use crate::frames::{MOST_READS, PIECE_BYTES};
 use crate::output::Output;
+use crate::pieces::{Lines, PIECE_BYTES, read_lines};
 use crate::script::{Reply, Script};
 use crate::stop::Stop;
 use crate::words::Unread;
@@ -18,103 +18,37 @@ use std::io::{Read, Write};
 
 /// A script that is read line by line.
 #[derive(Drop)]
-struct Player {
+struct Player<'o, W: Write, E: Write> {
     alloc: Global,
-    /// The line that is being read, and its number, counted from 1.
-    line: Vec<u8>,
-    number: u64,
+    output: Output<'o, W, E>,
     /// What stands behind the first line that is not empty.
     script: Option<Script>,
 }
 
-impl Player {
-    fn new(alloc: Global) -> Player {
-        Player {
-            alloc,
-            line: Vec::new(alloc),
-            number: 1,
-            script: None,
-        }
-    }
-
-    fn is_refused(&self) -> bool {
-        match &self.script {
-            Some(script) => script.is_refused(),
-            None => false,
-        }
-    }
-
-    /// Why the line that is being read stops the script.
-    fn stop_of<W: Write, E: Write>(&self, unread: Unread, output: &mut Output<'_, W, E>) -> Stop {
+impl<W: Write, E: Write> Player<'_, W, E> {
+    /// Why the line of this number stops the script.
+    fn stop_of(&mut self, number: u64, line: &[u8], unread: Unread) -> Stop {
         match unread {
             Unread::Bad(flaw) => {
-                output.tell_line(self.number, &self.line, flaw);
-                Stop::BadCommand(self.number)
+                self.output.tell_line(number, line, flaw);
+                Stop::BadCommand(number)
             }
             Unread::Memory => Stop::Refused(Refusal::Memory),
         }
     }
 
-    /// Takes the bytes of a read, and prints what their lines are told.
-    fn take_all<W: Write, E: Write>(
-        &mut self,
-        bytes: &[u8],
-        output: &mut Output<'_, W, E>,
-    ) -> Result<(), Stop> {
-        for byte in bytes {
-            self.take(*byte, output)?;
-        }
-        Ok(())
-    }
-
-    fn take<W: Write, E: Write>(
-        &mut self,
-        byte: u8,
-        output: &mut Output<'_, W, E>,
-    ) -> Result<(), Stop> {
-        if byte == b'\n' {
-            self.end_line(output)?;
-            self.line.clear();
-            self.number = self.number.saturating_add(1);
-            return Ok(());
-        }
-        if self.line.len() >= MOST_LINE_BYTES {
-            return Err(self.stop_of(Unread::Bad(Flaw::TooLong), output));
-        }
-        self.line
-            .push(byte)
-            .map_err(|_full| Stop::Refused(Refusal::Memory))
-    }
-
-    /// Makes the command of the line that was read, and prints what it is told.
-    fn end_line<W: Write, E: Write>(&mut self, output: &mut Output<'_, W, E>) -> Result<(), Stop> {
-        if self.line.is_empty() {
-            return Ok(());
-        }
-        match self.make_line() {
-            Ok(Some((reply, asked))) => self.tell(&reply, asked, output),
-            Ok(None) => Ok(()),
-            Err(unread) => Err(self.stop_of(unread, output)),
-        }
-    }
-
-    /// Prints what the line is told, and tells why where that is a refusal.
-    fn tell<W: Write, E: Write>(
-        &self,
-        reply: &Reply,
-        asked: Asked,
-        output: &mut Output<'_, W, E>,
-    ) -> Result<(), Stop> {
+    /// Prints what the line of this number is told, and tells why where that is a refusal.
+    fn tell(&mut self, number: u64, reply: &Reply, asked: Asked) -> Result<(), Stop> {
         if let Some(refusal) = reply.refusal() {
-            let place = Place::Line(self.number);
-            output.tell(Origin { place, asked }, &refusal);
+            let place = Place::Line(number);
+            self.output.tell(Origin { place, asked }, &refusal);
         }
-        output.print(reply)
+        self.output.print(reply)
     }
 
-    /// Makes the command of the line that was read; the first line makes the world, and is told nothing.
-    fn make_line(&mut self) -> Result<Option<(Reply, Asked)>, Unread> {
-        let line = match str::from_utf8(&self.line) {
+    /// Makes the command of a line; the first line makes the world, and is told nothing.
+    fn make_line(&mut self, line: &[u8]) -> Result<Option<(Reply, Asked)>, Unread> {
+        let line = match str::from_utf8(line) {
             Ok(line) => line,
             Err(_error) => return Err(Unread::Bad(Flaw::NoText)),
         };
@@ -126,6 +60,34 @@ impl Player {
         let script = Script::new(self.alloc, opening_of(line)?);
         self.script = Some(script.map_err(|_refused| Unread::Memory)?);
         Ok(None)
+    }
+}
+
+impl<W: Write, E: Write> Lines for Player<'_, W, E> {
+    const MOST_BYTES: usize = MOST_LINE_BYTES;
+
+    /// Makes the command of a line that is not empty, and prints what it is told.
+    fn line(&mut self, number: u64, line: &[u8]) -> Result<(), Stop> {
+        if line.is_empty() {
+            return Ok(());
+        }
+        match self.make_line(line) {
+            Ok(Some((reply, asked))) => self.tell(number, &reply, asked),
+            Ok(None) => Ok(()),
+            Err(unread) => Err(self.stop_of(number, line, unread)),
+        }
+    }
+
+    fn long(&mut self, number: u64, line: &[u8]) -> Result<(), Stop> {
+        Err(self.stop_of(number, line, Unread::Bad(Flaw::TooLong)))
+    }
+
+    fn ready(&mut self) -> Result<(), Stop> {
+        self.output.flush()
+    }
+
+    fn end(&mut self) -> Result<(), Stop> {
+        self.output.flush()
     }
 }
 
@@ -151,45 +113,22 @@ fn write_items<F: Write>(alloc: Global, items: &[Item], file: &mut F) -> Result<
     write_frames(&mut frames, file)
 }
 
-/// Plays the script of the input up to its end, or to what stops it first.
-fn play<I: Read, W: Write, E: Write>(
-    alloc: Global,
-    input: &mut I,
-    player: &mut Player,
-    output: &mut Output<'_, W, E>,
-) -> Result<(), Stop> {
-    let mut piece = vec![in alloc; 0u8; PIECE_BYTES]?;
-    for _ in 0..MOST_READS {
-        let count = match input.read(piece.as_mut_slice()) {
-            Ok(count) => count,
-            Err(_error) => return Err(Stop::ReadFault),
-        };
-        if count == 0 {
-            player.end_line(output)?;
-            return output.flush();
-        }
-        player.take_all(&piece[..count], output)?;
-        output.flush()?;
-    }
-    Err(Stop::ReadFault)
-}
-
-/// The same, and then writes the frames of the items that the primary emitted, where there is a file for them.
+/// Plays the script of the input up to its end, or to what stops it first, then writes the frames of the items that the
+/// primary emitted, where there is a file for them, and says whether a command was refused.
 fn play_and_keep<I: Read, F: Write, W: Write, E: Write>(
-    alloc: Global,
     input: &mut I,
-    player: &mut Player,
+    player: &mut Player<'_, W, E>,
     items: Option<&mut F>,
-    output: &mut Output<'_, W, E>,
-) -> Result<(), Stop> {
-    play(alloc, input, player, output)?;
-    let Some(file) = items else {
-        return Ok(());
+) -> Result<bool, Stop> {
+    let alloc = player.alloc;
+    read_lines(alloc, input, player)?;
+    let Some(script) = &player.script else {
+        return Ok(false);
     };
-    match &player.script {
-        Some(script) => write_items(alloc, script.log(), file),
-        None => Ok(()),
+    if let Some(file) = items {
+        write_items(alloc, script.log(), file)?;
     }
+    Ok(script.is_refused())
 }
 
 /// Plays the script of the input, line by line, up to its end, and prints what each line is told. What the lines
@@ -216,10 +155,13 @@ pub fn run_world<I: Read, F: Write, W: Write, E: Write>(
 ) -> u8
     ensures { result ≤ 1 }
 {
-    let mut output = Output::new(alloc, writer, errors);
-    let mut player = Player::new(alloc);
-    match play_and_keep(alloc, input, &mut player, items, &mut output) {
-        Ok(()) => u8::from(player.is_refused()),
-        Err(stop) => output.stop(stop),
+    let mut player = Player {
+        alloc,
+        output: Output::new(alloc, writer, errors),
+        script: None,
+    };
+    match play_and_keep(input, &mut player, items) {
+        Ok(is_refused) => u8::from(is_refused),
+        Err(stop) => player.output.stop(stop),
     }
 }

@@ -3,7 +3,7 @@
 ghost use Rattle.std.specs.Prelude.{◌≡◌, ◌++◌, ◌∷◌, [], is_some, IfOk, OnOk};
 ghost use Rattle.std.specs.List.{filter_map, list_all};
 ghost use Rattle.std.specs.Option.{option_copied};
-ghost use Rattle.hk_model.specs.World.Worlds as worlds;
+ghost use Rattle.hk_model.specs.World.Worlds.{at_number};
 ghost use Rattle.hk_laws.specs.Among.{IsPlace};
 
 use hk_log::Item;
@@ -12,7 +12,7 @@ use std::alloc::{AllocError, Global};
 
 /// What stands under a number in a list.
 pub(crate) fn numbered<X>(list: &[X], number: u64) -> Option<&X>
-    ensures { option_copied result ≡ worlds.at_number list.now number }
+    ensures { option_copied result ≡ at_number list.now number }
 {
     if number == 0 {
         return None;
@@ -36,7 +36,7 @@ pub(crate) fn place_of(replicas: &[ReplicaState], number: u16) -> Option<usize>
 
 /// Whether an item stands under each of these numbers.
 pub(crate) fn all_there(items: &[Item], numbers: &[u64]) -> bool
-    ensures { result ≡ list_all (λ n. is_some (worlds.at_number items.now n)) numbers.now }
+    ensures { result ≡ list_all (λ n. is_some (at_number items.now n)) numbers.now }
 {
     for number in numbers {
         if numbered(items, *number).is_none() {
@@ -53,7 +53,7 @@ fn push_copy(
     items: &[Item],
     number: u64,
 ) -> Result<(), AllocError>
-    ensures { OnOk result (copies.new.items ≡ copies.old.items ++ filter_map (worlds.at_number items.now) (number ∷ [])) }
+    ensures { OnOk result (copies.new.items ≡ copies.old.items ++ filter_map (at_number items.now) (number ∷ [])) }
 {
     if let Some(item) = numbered(items, number) {
         copies.push(item.copy(alloc)?)?;
@@ -67,7 +67,7 @@ pub(crate) fn copies(
     items: &[Item],
     numbers: &[u64],
 ) -> Result<Vec<Item>, AllocError>
-    ensures { IfOk result (λ copies. copies.items ≡ filter_map (worlds.at_number items.now) numbers.now) }
+    ensures { IfOk result (λ copies. copies.items ≡ filter_map (at_number items.now) numbers.now) }
 {
     let mut copies = Vec::with_capacity(alloc, numbers.len())?;
     for number in numbers {

@@ -98,11 +98,4 @@ impl World {
     {
         self.primary.log()
     }
-
-    /// How many replicas there are. They are numbered from 1.
-    pub fn replica_count(&self) -> usize
-        ensures { result ≡ length self.now.world.replicas }
-    {
-        self.replicas.len()
-    }
 }

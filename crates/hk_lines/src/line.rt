@@ -6,6 +6,7 @@ ghost use Rattle.std.specs.String.{string_bytes};
 ghost use Rattle.hk_model.specs.Replica.Answers.{answer_seen};
 ghost use Rattle.hk_model.specs.World.Events.{told_seen};
 ghost use Rattle.hk_lines.specs.Lines as spec;
+ghost use Rattle.hk_lines.specs.Lines.{front_line};
 
 use hk_log::{Entry, Item, Mark};
 use hk_model::{Answer, Front, Told, Took};
@@ -166,7 +167,7 @@ fn put_emitted(mark: &Mark, out: &mut String) -> Result<(), AllocError>
 }
 
 pub(crate) fn put_front(front: Front, out: &mut String) -> Result<(), AllocError>
-    ensures { OnOk result (string_bytes out.new ≡ string_bytes out.old ++ spec.front_line front.horizon front.readable) }
+    ensures { OnOk result (string_bytes out.new ≡ string_bytes out.old ++ front_line front.horizon front.readable) }
 {
     let horizon = front.horizon;
     let readable = front.readable;

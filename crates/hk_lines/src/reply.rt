@@ -2,12 +2,10 @@
 
 ghost use Rattle.std.specs.Prelude.{◌≡◌, ◌++◌, OnOk};
 ghost use Rattle.std.specs.String.{string_bytes};
-ghost use Rattle.hk_wire.specs.Fragments.{wire_fragment_of};
 ghost use Rattle.hk_wire.specs.Replies.{reply_seen};
 ghost use Rattle.hk_lines.specs.Replies as spec;
 
 use crate::line::{Printed, put_front};
-use hk_fragment::Fragment;
 use hk_types::Time;
 use hk_wire::Reply;
 use std::alloc::{AllocError, Global};
@@ -18,13 +16,6 @@ fn put_part(base: Time, horizon: Time, facts: usize, out: &mut String) -> Result
     writeln!(out, "fragment base {base} horizon {horizon} facts {facts}")
 }
 
-fn put_fragment(fragment: &Fragment, out: &mut String) -> Result<(), AllocError>
-    ensures { OnOk result (string_bytes out.new ≡ string_bytes out.old ++ spec.fragment_line (wire_fragment_of fragment.now)) }
-{
-    let facts = fragment.facts().len();
-    put_part(fragment.base(), fragment.horizon(), facts, out)
-}
-
 impl Printed for Reply {
     ghost text = { λ reply. spec.reply_lines (reply_seen reply) };
 
@@ -32,7 +23,10 @@ impl Printed for Reply {
         match self {
             Reply::Done { ops } => writeln!(out, "done {ops}"),
             Reply::Front(front) => put_front(*front, out),
-            Reply::Fragment(fragment) => put_fragment(fragment, out),
+            Reply::Fragment(fragment) => {
+                let facts = fragment.facts().len();
+                put_part(fragment.base(), fragment.horizon(), facts, out)
+            }
             Reply::Answer(answer) => answer.print_to(alloc, out),
             Reply::Refused(refusal) => refusal.print_to(alloc, out),
         }

@@ -47,78 +47,6 @@ struct Held<K: Naming> {
     ghost counted: { emitted.total ≡ length primary.items },
 }
 
-impl<K: Naming> Held<K> {
-    /// Commits, and counts the item that is emitted, if one is.
-    fn commit(
-        &mut self,
-        share: &mut Share<K>,
-        txn: Txn,
-        stream: StreamNo,
-    ) -> Result<Option<Time>, (Txn, Refusal)>
-        requires { 0 < share.old.parts }
-        ensures told { AtSome K.config K.after share.old.amount (λ p. Tells (verdict_of p txn stream) result) }
-        ensures back { IfErr result (λ e. e.0 ≡ txn) }
-        ensures parts { share.new.parts ≡ share.old.parts }
-        ensures counted { IfOk result (λ time. share.new.amount ≡ share.old.amount + items_of time) }
-        ensures kept { OnErr result (share.new.amount ≡ share.old.amount) }
-    {
-        let Held { primary, emitted } = self;
-        let _kept = primary.last();
-        emitted.audit(share);
-        let time = primary.commit(txn, stream)?;
-        if time.is_some() {
-            emitted.add(share, 1);
-        }
-        Ok(time)
-    }
-
-    /// Emits a mark, and counts it.
-    fn mark(&mut self, share: &mut Share<K>, stream: StreamNo) -> Result<Mark, Refusal>
-        requires { 0 < share.old.parts }
-        ensures told { IfOk result (λ mark. AtSome K.config K.after share.old.amount (λ p. mark ≡ mark_of p stream)) }
-        ensures known { OnOk result (stream ≤ K.config.streams) }
-        ensures refused { IfErr result (λ why. AtSome K.config K.after share.old.amount (λ p. NotMarked p stream why)) }
-        ensures parts { share.new.parts ≡ share.old.parts }
-        ensures counted { OnOk result (share.new.amount ≡ share.old.amount + 1) }
-        ensures kept { OnErr result (share.new.amount ≡ share.old.amount) }
-    {
-        let Held { primary, emitted } = self;
-        emitted.audit(share);
-        let mark = primary.mark(stream)?;
-        emitted.add(share, 1);
-        Ok(mark)
-    }
-
-    /// Retires a stream, and counts its last mark.
-    fn retire(&mut self, share: &mut Share<K>, stream: StreamNo) -> Result<Mark, Refusal>
-        requires { 0 < share.old.parts }
-        ensures told { IfOk result (λ mark. AtSome K.config K.after share.old.amount (λ p. mark ≡ last_mark_of p stream)) }
-        ensures known { OnOk result (stream ≤ K.config.streams) }
-        ensures refused { IfErr result (λ why. AtSome K.config K.after share.old.amount (λ p. NotMarked p stream why)) }
-        ensures parts { share.new.parts ≡ share.old.parts }
-        ensures counted { OnOk result (share.new.amount ≡ share.old.amount + 1) }
-        ensures kept { OnErr result (share.new.amount ≡ share.old.amount) }
-    {
-        let Held { primary, emitted } = self;
-        emitted.audit(share);
-        let mark = primary.retire(stream)?;
-        emitted.add(share, 1);
-        Ok(mark)
-    }
-
-    /// How many items were emitted, beside what a share counts.
-    fn count(&mut self, share: &mut Share<K>) -> u64
-        ensures told { AtSome K.config K.after share.old.amount (λ p. result ≡ length p.items) }
-        ensures parts { share.new.parts ≡ share.old.parts }
-        ensures amount { share.new.amount ≡ share.old.amount }
-        ensures bound { share.old.amount ≤ result }
-        ensures whole { share.old.parts ≡ K.parts → share.old.amount ≡ result }
-    {
-        self.emitted.audit(share);
-        self.primary.item_count()
-    }
-}
-
 /// A primary under a lock, for threads that share it. Each call waits for the lock, and then makes the call of
 /// the same name on the primary that it finds, which has the configuration and the clock that its name says. So
 /// whenever the lock is got, the log holds items of its own history alone and the tables are those that this
@@ -234,7 +162,15 @@ impl<K: Naming> SharedPrimary<K> {
         ensures counted { IfOk result (λ time. share.new.amount ≡ share.old.amount + items_of time) }
         ensures kept { OnErr result (share.new.amount ≡ share.old.amount) }
     {
-        self.held.lock(rt).commit(share, txn, stream)
+        let mut held = self.held.lock(rt);
+        let Held { primary, emitted } = &mut *held;
+        let _kept = primary.last();
+        emitted.audit(share);
+        let time = primary.commit(txn, stream)?;
+        if time.is_some() {
+            emitted.add(share, 1);
+        }
+        Ok(time)
     }
 
     /// Emits the mark of a stream, as `Primary::mark` does. It adds one to the share, and a refusal adds none.
@@ -255,7 +191,12 @@ impl<K: Naming> SharedPrimary<K> {
         ensures counted { OnOk result (share.new.amount ≡ share.old.amount + 1) }
         ensures kept { OnErr result (share.new.amount ≡ share.old.amount) }
     {
-        self.held.lock(rt).mark(share, stream)
+        let mut held = self.held.lock(rt);
+        let Held { primary, emitted } = &mut *held;
+        emitted.audit(share);
+        let mark = primary.mark(stream)?;
+        emitted.add(share, 1);
+        Ok(mark)
     }
 
     /// Retires a stream, as `Primary::retire` does. It adds one to the share, and a refusal adds none.
@@ -276,7 +217,12 @@ impl<K: Naming> SharedPrimary<K> {
         ensures counted { OnOk result (share.new.amount ≡ share.old.amount + 1) }
         ensures kept { OnErr result (share.new.amount ≡ share.old.amount) }
     {
-        self.held.lock(rt).retire(share, stream)
+        let mut held = self.held.lock(rt);
+        let Held { primary, emitted } = &mut *held;
+        emitted.audit(share);
+        let mark = primary.retire(stream)?;
+        emitted.add(share, 1);
+        Ok(mark)
     }
 
     /// How many items were emitted: no fewer than the share counts, and just as many where it is the whole.
@@ -287,7 +233,9 @@ impl<K: Naming> SharedPrimary<K> {
         ensures bound { share.old.amount ≤ result }
         ensures whole { share.old.parts ≡ K.parts → share.old.amount ≡ result }
     {
-        self.held.lock(rt).count(share)
+        let mut held = self.held.lock(rt);
+        held.emitted.audit(share);
+        held.primary.item_count()
     }
 
     /// Copies of the items from a position on, as `Primary::items` gives them: what one call gives are items of

@@ -2,7 +2,6 @@
 //! `status`, `save`, `load`, `pull`, `prune` and `feed` of a port.
 #![tactic(auto)]
 
-mod asking;
 mod change;
 mod feed;
 mod link;

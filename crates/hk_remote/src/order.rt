@@ -65,25 +65,11 @@ impl Order {
             Order::Ask { form, .. } | Order::Front { form } | Order::Status { form } => *form,
             Order::Save { form } => match form {
                 Form::Json => Form::Json,
-                _bytes => Form::Bytes,
+                Form::Lines | Form::Bytes => Form::Bytes,
             },
-            _lines => Form::Lines,
+            Order::Push | Order::Shell | Order::Load => Form::Lines,
+            Order::Pull { .. } | Order::Prune { .. } | Order::Feed { .. } => Form::Lines,
         }
-    }
-}
-
-/// Does what only reads the node.
-fn read<W: Write, E: Write>(
-    link: &mut Link<'_>,
-    output: &mut Output<'_, W, E>,
-    order: &Order,
-) -> Result<(), Stop> {
-    match order {
-        Order::Ask { time, query, .. } => tell_answer(link, *time, *query, output),
-        Order::Front { .. } => tell_front(link, output),
-        Order::Status { .. } => tell_status(link, output),
-        Order::Save { form } => save(link, *form, output),
-        _change => Ok(()),
     }
 }
 
@@ -99,15 +85,19 @@ fn obey<R, I: Read, W: Write, E: Write>(
 where
     R: Net<Listener = TcpListener, Stream = TcpStream> + Clock,
 {
-    match order {
-        Order::Push => push_all(link, input, Accepted::All, output),
-        Order::Load => push_all(link, input, Accepted::Fragments, output),
-        Order::Shell => answer_lines(link, input, is_terminal, output),
-        Order::Feed { batch } => feed(rt, link, input, *batch, output).map(|_told| false),
-        Order::Pull { from } => pull(rt, link, *from, output).map(|_told| false),
-        Order::Prune { horizon } => prune(link, *horizon, output).map(|_told| false),
-        _reading => read(link, output, order).map(|_told| false),
-    }
+    let told = match order {
+        Order::Push => return push_all(link, input, Accepted::All, output),
+        Order::Load => return push_all(link, input, Accepted::Fragments, output),
+        Order::Shell => return answer_lines(link, input, is_terminal, output),
+        Order::Ask { time, query, .. } => tell_answer(link, *time, *query, output),
+        Order::Front { .. } => tell_front(link, output),
+        Order::Status { .. } => tell_status(link, output),
+        Order::Save { form } => save(link, *form, output),
+        Order::Pull { from } => pull(rt, link, *from, output),
+        Order::Prune { horizon } => prune(link, *horizon, output),
+        Order::Feed { batch } => feed(rt, link, input, *batch, output),
+    };
+    told.map(|()| false)
 }
 
 /// The same over a new link to the node on a port, and writes what was printed.

@@ -1,10 +1,11 @@
 //! Requests as bytes: `push` and `load`.
 
 use crate::link::{Link, asked_of};
-use hk_commands::{MOST_READS, Output, PIECE_BYTES, Stop};
+use hk_commands::{Output, Pieces, Stop, read_pieces};
 use hk_types::{FormFault, Refusal};
 use hk_wire::{Reply, Request, RequestFeeder};
 use std::io::{Read, Write};
+use std::mem;
 
 /// What is told of a request that is none of a fragment.
 const BAD_KIND: Refusal = Refusal::Form(FormFault::BadKind);
@@ -27,27 +28,74 @@ fn is_accepted(accepted: Accepted, request: &Request) -> bool {
     matches!(accepted, Accepted::All) || is_fragment(request)
 }
 
-/// Sends each request, waits for its reply and prints it, before the next, and says whether a reply was a refusal.
-fn ask_all<W: Write, E: Write>(
-    link: &mut Link<'_>,
-    requests: &[Request],
+/// Requests on their way to a node.
+#[derive(Drop)]
+struct Pusher<'k, 'l, 'o, 'p, W: Write, E: Write> {
+    link: &'k mut Link<'l>,
+    output: &'o mut Output<'p, W, E>,
     accepted: Accepted,
-    output: &mut Output<'_, W, E>,
-) -> Result<bool, Stop> {
-    let mut is_refused = false;
-    for request in requests {
-        if !is_accepted(accepted, request) {
-            return Err(Stop::RefusedAt(BAD_KIND, link.next_origin()));
+    feeder: RequestFeeder,
+    /// Those of a read.
+    requests: Vec<Request>,
+    /// Whether a reply was a refusal.
+    is_refused: bool,
+}
+
+impl<'k, 'l, 'o, 'p, W: Write, E: Write> Pusher<'k, 'l, 'o, 'p, W, E> {
+    fn new(
+        link: &'k mut Link<'l>,
+        output: &'o mut Output<'p, W, E>,
+        accepted: Accepted,
+    ) -> Pusher<'k, 'l, 'o, 'p, W, E> {
+        let alloc = link.alloc();
+        Pusher {
+            link,
+            output,
+            accepted,
+            feeder: RequestFeeder::new(alloc),
+            requests: Vec::new(alloc),
+            is_refused: false,
         }
-        let reply = link.ask(request)?;
-        if let Reply::Refused(why) = &reply {
-            is_refused = true;
-            output.tell(link.origin(asked_of(request)), why);
-        }
-        output.print(&reply)?;
-        output.flush()?;
     }
-    Ok(is_refused)
+
+    /// Sends each request, waits for its reply and prints it, before the next.
+    fn ask_all(&mut self) -> Result<(), Stop> {
+        for request in &self.requests {
+            if !is_accepted(self.accepted, request) {
+                return Err(Stop::RefusedAt(BAD_KIND, self.link.next_origin()));
+            }
+            let reply = self.link.ask(request)?;
+            if let Reply::Refused(why) = &reply {
+                self.is_refused = true;
+                self.output.tell(self.link.origin(asked_of(request)), why);
+            }
+            self.output.print(&reply)?;
+            self.output.flush()?;
+        }
+        Ok(())
+    }
+
+    /// What an answer of the feeder stops, in front of the next request.
+    fn checked(&self, fed: Result<(), Refusal>) -> Result<(), Stop> {
+        match fed {
+            Ok(()) => Ok(()),
+            Err(why) => Err(Stop::RefusedAt(why, self.link.next_origin())),
+        }
+    }
+}
+
+impl<W: Write, E: Write> Pieces for Pusher<'_, '_, '_, '_, W, E> {
+    fn take(&mut self, piece: &[u8]) -> Result<(), Stop> {
+        let fed = self.feeder.feed(piece, &mut self.requests);
+        self.ask_all()?;
+        self.requests.clear();
+        self.checked(fed)
+    }
+
+    fn end(&mut self) -> Result<(), Stop> {
+        let feeder = mem::replace(&mut self.feeder, RequestFeeder::new(self.link.alloc()));
+        self.checked(feeder.finish())
+    }
 }
 
 /// Sends the requests of the input, one after the other, up to its end or to what stops them first, and says whether a reply
@@ -59,31 +107,7 @@ pub(crate) fn push_all<I: Read, W: Write, E: Write>(
     output: &mut Output<'_, W, E>,
 ) -> Result<bool, Stop> {
     let alloc = link.alloc();
-    let mut is_refused = false;
-    let mut feeder = RequestFeeder::new(alloc);
-    let mut requests = Vec::new(alloc);
-    let mut piece = vec![in alloc; 0u8; PIECE_BYTES]?;
-    for _ in 0..MOST_READS {
-        let count = match input.read(piece.as_mut_slice()) {
-            Ok(count) => count,
-            Err(_error) => return Err(Stop::ReadFault),
-        };
-        if count == 0 {
-            checked(feeder.finish(), link)?;
-            return Ok(is_refused);
-        }
-        let fed = feeder.feed(&piece[..count], &mut requests);
-        is_refused = ask_all(link, &requests, accepted, output)? || is_refused;
-        requests.clear();
-        checked(fed, link)?;
-    }
-    Err(Stop::ReadFault)
-}
-
-/// What an answer of the feeder stops, in front of the next request.
-fn checked(fed: Result<(), Refusal>, link: &Link<'_>) -> Result<(), Stop> {
-    match fed {
-        Ok(()) => Ok(()),
-        Err(why) => Err(Stop::RefusedAt(why, link.next_origin())),
-    }
+    let mut pusher = Pusher::new(link, output, accepted);
+    read_pieces(alloc, input, &mut pusher)?;
+    Ok(pusher.is_refused)
 }

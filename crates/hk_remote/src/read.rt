@@ -110,6 +110,6 @@ pub(crate) fn save<W: Write, E: Write>(
     let whole = fragment_at(link, &Request::Full)?;
     match form {
         Form::Json => print_whole(&whole, output),
-        _bytes => send_whole(alloc, whole, output),
+        Form::Lines | Form::Bytes => send_whole(alloc, whole, output),
     }
 }

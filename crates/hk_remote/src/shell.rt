@@ -1,10 +1,9 @@
 //! Lines as a person writes them: `shell`.
 
-use crate::asking::{Asking, HELP, asking_of};
 use crate::link::Link;
 use crate::read::{answer_at, tell_front, tell_status};
 use crate::table::put_table;
-use hk_commands::{MOST_READS, Output, PIECE_BYTES, Stop};
+use hk_commands::{Asking, Lines, Output, Stop, asking_of, read_lines};
 use hk_model::{Answer, Query};
 use hk_reasons::Origin;
 use hk_types::{Refusal, Time};
@@ -19,180 +18,124 @@ const PROMPT: &[u8] = b"hkrep> ";
 
 /// Lines on their way to a node.
 #[derive(Drop)]
-struct Lines<'a, 'l> {
+struct Shell<'k, 'l, 'o, 'p, W: Write, E: Write> {
     alloc: Global,
-    link: &'a mut Link<'l>,
-    /// The line that is being read, and its number, counted from 1.
-    line: Vec<u8>,
-    number: u64,
+    link: &'k mut Link<'l>,
+    output: &'o mut Output<'p, W, E>,
+    is_terminal: bool,
     /// Whether something was refused, or a line had no form.
     is_refused: bool,
 }
 
-impl Lines<'_, '_> {
+impl<'k, 'l, 'o, 'p, W: Write, E: Write> Shell<'k, 'l, 'o, 'p, W, E> {
+    fn new(
+        link: &'k mut Link<'l>,
+        output: &'o mut Output<'p, W, E>,
+        is_terminal: bool,
+    ) -> Shell<'k, 'l, 'o, 'p, W, E> {
+        Shell {
+            alloc: link.alloc(),
+            link,
+            output,
+            is_terminal,
+            is_refused: false,
+        }
+    }
+
     /// Prints an answer: rows as a table.
-    fn print_answer<W: Write, E: Write>(
-        &mut self,
-        answer: &Answer,
-        output: &mut Output<'_, W, E>,
-    ) -> Result<(), Stop> {
+    fn print_answer(&mut self, answer: &Answer) -> Result<(), Stop> {
         let Answer::Rows(rows) = answer else {
-            return output.print(answer);
+            return self.output.print(answer);
         };
         let mut text = String::new(self.alloc);
         put_table(self.alloc, rows, &mut text)?;
-        output.send(text.as_bytes())
+        self.output.send(text.as_bytes())
     }
 
-    fn query<W: Write, E: Write>(
-        &mut self,
-        time: Option<Time>,
-        query: Query,
-        output: &mut Output<'_, W, E>,
-    ) -> Result<(), Stop> {
+    fn query(&mut self, time: Option<Time>, query: Query) -> Result<(), Stop> {
         let answer = answer_at(self.link, time, query)?;
-        self.print_answer(&answer, output)
+        self.print_answer(&answer)
     }
 
-    fn make<W: Write, E: Write>(
-        &mut self,
-        asking: Asking,
-        output: &mut Output<'_, W, E>,
-    ) -> Result<(), Stop> {
+    fn make(&mut self, asking: Asking) -> Result<(), Stop> {
         match asking {
-            Asking::Query { time, query } => self.query(time, query, output),
-            Asking::Front => tell_front(self.link, output),
-            Asking::Status => tell_status(self.link, output),
-            Asking::Help => output.send(HELP.as_bytes()),
+            Asking::Query { time, query } => self.query(time, query),
+            Asking::Front => tell_front(self.link, self.output),
+            Asking::Status => tell_status(self.link, self.output),
+            Asking::Help => self.output.send(Asking::HELP.as_bytes()),
             Asking::Nothing => Ok(()),
         }
     }
 
-    /// Tells that a line has no form.
-    fn tell_unknown<W: Write, E: Write>(
-        &mut self,
-        output: &mut Output<'_, W, E>,
-    ) -> Result<(), AllocError> {
+    /// Tells that the line of this number has no form.
+    fn tell_unknown(&mut self, number: u64) -> Result<(), AllocError> {
         self.is_refused = true;
-        let number = self.number;
         let line = format!(in self.alloc;
             "line {number}: expected: [at TIME] get TABLE KEY, range TABLE LOW HIGH, tag TABLE TAG or count TABLE; front, status or help\n"
         )?;
-        output.note(&line);
+        self.output.note(&line);
         Ok(())
     }
 
     /// Prints and tells a refusal of the node's, and notes it; where memory ran out the command stops.
-    fn tell_refusal<W: Write, E: Write>(
-        &mut self,
-        why: Refusal,
-        origin: Origin,
-        output: &mut Output<'_, W, E>,
-    ) -> Result<(), Stop> {
+    fn tell_refusal(&mut self, why: Refusal, origin: Origin) -> Result<(), Stop> {
         if matches!(why, Refusal::Memory) {
             return Err(Stop::Refused(why));
         }
         self.is_refused = true;
-        output.tell(origin, &why);
-        output.print(&why)
+        self.output.tell(origin, &why);
+        self.output.print(&why)
     }
 
     /// Goes on behind a refusal of the node's; all else stops the command.
-    fn go_on<W: Write, E: Write>(
-        &mut self,
-        stop: Stop,
-        output: &mut Output<'_, W, E>,
-    ) -> Result<(), Stop> {
+    fn go_on(&mut self, stop: Stop) -> Result<(), Stop> {
         match stop {
-            Stop::RefusedAt(why, origin) => self.tell_refusal(why, origin, output),
+            Stop::RefusedAt(why, origin) => self.tell_refusal(why, origin),
             other => Err(other),
         }
     }
+}
 
-    /// What the line that was read asks, where it has a form.
-    fn asked(&self) -> Option<Asking> {
-        match str::from_utf8(&self.line) {
-            Ok(line) => asking_of(line),
-            Err(_error) => None,
-        }
+/// What the bytes of a line ask, where they have a form.
+fn asked(line: &[u8]) -> Option<Asking> {
+    match str::from_utf8(line) {
+        Ok(line) => asking_of(line),
+        Err(_error) => None,
     }
+}
 
-    /// Answers the line that was read.
-    fn end_line<W: Write, E: Write>(&mut self, output: &mut Output<'_, W, E>) -> Result<(), Stop> {
-        match self.asked() {
+impl<W: Write, E: Write> Lines for Shell<'_, '_, '_, '_, W, E> {
+    const MOST_BYTES: usize = MOST_LINE_BYTES;
+
+    /// Answers a line.
+    fn line(&mut self, number: u64, line: &[u8]) -> Result<(), Stop> {
+        match asked(line) {
             Some(asking) => {
-                if let Err(stop) = self.make(asking, output) {
-                    self.go_on(stop, output)?;
+                if let Err(stop) = self.make(asking) {
+                    self.go_on(stop)?;
                 }
             }
-            None => self.tell_unknown(output)?,
+            None => self.tell_unknown(number)?,
         }
-        output.flush()
+        self.output.flush()
     }
 
-    /// Takes a byte; of a line that is too long no more is kept than shows that it has no form.
-    fn take<W: Write, E: Write>(
-        &mut self,
-        byte: u8,
-        output: &mut Output<'_, W, E>,
-    ) -> Result<(), Stop> {
-        if byte == b'\n' {
-            self.end_line(output)?;
-            self.line.clear();
-            self.number = self.number.saturating_add(1);
-            return Ok(());
-        }
-        if self.line.len() < MOST_LINE_BYTES {
-            self.line
-                .push(byte)
-                .map_err(|_full| Stop::Refused(Refusal::Memory))?;
+    /// Goes on: what is kept of a line that is too long shows that it has no form.
+    fn long(&mut self, _number: u64, _line: &[u8]) -> Result<(), Stop> {
+        Ok(())
+    }
+
+    /// Prints the prompt, on a terminal.
+    fn ready(&mut self) -> Result<(), Stop> {
+        if self.is_terminal {
+            return self.output.send(PROMPT);
         }
         Ok(())
     }
 
-    fn take_all<W: Write, E: Write>(
-        &mut self,
-        bytes: &[u8],
-        output: &mut Output<'_, W, E>,
-    ) -> Result<(), Stop> {
-        for byte in bytes {
-            self.take(*byte, output)?;
-        }
+    fn end(&mut self) -> Result<(), Stop> {
         Ok(())
     }
-}
-
-fn prompt<W: Write, E: Write>(
-    is_terminal: bool,
-    output: &mut Output<'_, W, E>,
-) -> Result<(), Stop> {
-    if is_terminal {
-        return output.send(PROMPT);
-    }
-    Ok(())
-}
-
-/// Answers the lines of the input up to its end, and says whether one was refused or had no form.
-fn answer_all<I: Read, W: Write, E: Write>(
-    lines: &mut Lines<'_, '_>,
-    input: &mut I,
-    is_terminal: bool,
-    output: &mut Output<'_, W, E>,
-) -> Result<bool, Stop> {
-    let mut piece = vec![in lines.alloc; 0u8; PIECE_BYTES]?;
-    for _ in 0..MOST_READS {
-        prompt(is_terminal, output)?;
-        let count = match input.read(piece.as_mut_slice()) {
-            Ok(count) => count,
-            Err(_error) => return Err(Stop::ReadFault),
-        };
-        if count == 0 {
-            lines.end_line(output)?;
-            return Ok(lines.is_refused);
-        }
-        lines.take_all(&piece[..count], output)?;
-    }
-    Err(Stop::ReadFault)
 }
 
 /// Answers the lines of the input from the node, and says whether one was refused or had no form.
@@ -203,12 +146,7 @@ pub(crate) fn answer_lines<I: Read, W: Write, E: Write>(
     output: &mut Output<'_, W, E>,
 ) -> Result<bool, Stop> {
     let alloc = link.alloc();
-    let mut lines = Lines {
-        alloc,
-        link,
-        line: Vec::new(alloc),
-        number: 1,
-        is_refused: false,
-    };
-    answer_all(&mut lines, input, is_terminal, output)
+    let mut shell = Shell::new(link, output, is_terminal);
+    read_lines(alloc, input, &mut shell)?;
+    Ok(shell.is_refused)
 }

@@ -4,10 +4,10 @@
 mod watched;
 
 use crate::watched::Watched;
-use hk_arguments::{Call, Order as Asked, read_call};
+use hk_arguments::{Alone, Call, Order as Asked, Staying, read_call};
 use hk_cli::{
     Form, Level, Links, Order, ReadPort, Stay, run_ask, run_at, run_explain, run_frames, run_front,
-    run_guarded, run_items, run_order, run_rewrite, run_serve, run_status, run_stay, run_world,
+    run_items, run_order, run_rewrite, run_serve, run_status, run_stay, run_world,
 };
 use std::alloc::Global;
 use std::fs::Files;
@@ -35,22 +35,22 @@ fn form_of(is_json: bool) -> Form {
     if is_json { Form::Json } else { Form::Lines }
 }
 
-/// The status of a call that needs no network.
+/// The status of what is done over the input and the outputs alone.
 fn run_alone<I: Read, W: Write, E: Write>(
     alloc: Global,
     input: &mut I,
     output: &mut W,
     errors: &mut E,
-    call: &Call<'_>,
+    call: &Alone,
 ) -> u8 {
     match call {
-        Call::At {
+        Alone::At {
             config,
             time,
             table,
             key,
         } => run_at(alloc, input, output, errors, *config, *time, *table, *key),
-        Call::Ask {
+        Alone::Ask {
             config,
             time,
             query,
@@ -59,16 +59,16 @@ fn run_alone<I: Read, W: Write, E: Write>(
             let form = form_of(*is_json);
             run_ask(alloc, input, output, errors, *config, *time, query, form)
         }
-        Call::Front { config, is_json } => {
+        Alone::Front { config, is_json } => {
             run_front(alloc, input, output, errors, *config, form_of(*is_json))
         }
-        Call::Status { config, is_json } => {
+        Alone::Status { config, is_json } => {
             run_status(alloc, input, output, errors, *config, form_of(*is_json))
         }
-        Call::Items { is_json } => run_items(alloc, input, output, errors, form_of(*is_json)),
-        Call::Explain { number } => run_explain(alloc, *number, output, errors),
-        Call::Rewrite => run_rewrite(alloc, input, output, errors),
-        _frames => run_frames(alloc, input, output, errors),
+        Alone::Explain { number } => run_explain(alloc, *number, output, errors),
+        Alone::Items { is_json } => run_items(alloc, input, output, errors, form_of(*is_json)),
+        Alone::Frames => run_frames(alloc, input, output, errors),
+        Alone::Rewrite => run_rewrite(alloc, input, output, errors),
     }
 }
 
@@ -156,6 +156,20 @@ fn level_of(is_quiet: bool, is_verbose: bool) -> Level {
     }
 }
 
+/// How a node that stays serves its links, as the command takes it.
+fn stay_of(staying: &Staying) -> Stay {
+    Stay {
+        address: staying.address,
+        port: staying.port,
+        links: staying.links,
+        reading: reading_of(staying.reading),
+        read_seconds: staying.read_seconds,
+        is_guarded: staying.is_guarded,
+        level: level_of(staying.is_quiet, staying.is_verbose),
+        report_changes: staying.report_changes,
+    }
+}
+
 /// The status of a call over standard output and these.
 fn run<R, I: Read, E: Write>(
     rt: &R,
@@ -176,35 +190,20 @@ where
             links,
             is_guarded,
         } => {
-            if *is_guarded {
-                run_guarded(rt, rt.alloc(), *port, *config, *links, &mut output, errors)
-            } else {
-                run_serve(rt, rt.alloc(), *port, *config, *links, &mut output, errors)
-            }
+            run_serve(
+                rt,
+                rt.alloc(),
+                *port,
+                *config,
+                *links,
+                *is_guarded,
+                &mut output,
+                errors,
+            )
         }
-        Call::Stay {
-            config,
-            address,
-            port,
-            links,
-            reading,
-            read_seconds,
-            is_guarded,
-            is_quiet,
-            is_verbose,
-            report_changes,
-        } => {
-            let stay = Stay {
-                address: *address,
-                port: *port,
-                links: *links,
-                reading: reading_of(*reading),
-                read_seconds: *read_seconds,
-                is_guarded: *is_guarded,
-                level: level_of(*is_quiet, *is_verbose),
-                report_changes: *report_changes,
-            };
-            run_stay(rt, rt.alloc(), *config, &stay, &mut output, errors)
+        Call::Stay(staying) => {
+            let stay = stay_of(staying);
+            run_stay(rt, rt.alloc(), staying.config, &stay, &mut output, errors)
         }
         Call::Node { port, order } => {
             let order = order_of(*order);
@@ -220,7 +219,7 @@ where
             )
         }
         Call::World { items } => run_script(rt, input, *items, &mut output, errors),
-        _alone => run_alone(rt.alloc(), input, &mut output, errors, call),
+        Call::Alone(call) => run_alone(rt.alloc(), input, &mut output, errors, call),
     }
 }
 
