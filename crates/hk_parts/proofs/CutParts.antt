@@ -1,12 +1,12 @@
 -- What is cut is, one part after the other, what it was.
-use Rattle.std.proofs.Common.{◌≡◌, refl, sym, ap, ◌∙◌, ℕ, zero, suc, ◌+◌, ◌-◌, ◌<◌, ◌≤◌, ◌⊎◌, inl, inr, Bool, true, false, cond, ltb, List, [], ◌∷◌, ◌++◌, length, take, drop, All, arith, length-drop}
+use Rattle.std.proofs.Common.{◌≡◌, refl, sym, ap, subst, ◌∙◌, ℕ, zero, suc, ◌+◌, ◌-◌, ◌<◌, ◌≤◌, ◌⊎◌, inl, inr, Bool, true, false, cond, ltb, List, [], ◌∷◌, ◌++◌, length, take, drop, All, arith, length-drop}
 use Rattle.std.proofs.lemmas.Bool.{ltb-false, lt-ltb, cases_lt}
 use Rattle.std.proofs.lemmas.List.{take-append-drop, take_all}
 use Rattle.std.proofs.lemmas.List.Sums.{sum_by-cons}
 use Rattle.std.proofs.lemmas.List.Elements.{All-nil, All-cons}
 use Rattle.hk_fragment.specs.Parts.{Known}
 use Rattle.hk_parts.specs.Sizes.{fact_bytes, facts_bytes}
-use Rattle.hk_parts.specs.Cutting.{count_within, part_len, first_part, rest_after, first_parts, parts_of, facts_of_parts, IsPart, AreParts}
+use Rattle.hk_parts.specs.Cutting.{count_within, part_len, first_part, rest_after, first_parts, parts_of, facts_of_parts, IsPart, IsNextPart, AreParts}
 
 -- the first part has a fact where there is one
 pub first_part_some : (most : ℕ) (facts : List Known) → 0 < length facts → 0 < length (first_part most facts)
@@ -102,6 +102,45 @@ moved_given to n xs = sym (take_both to n xs) ∙ ap (λ ys. take to xs ++ ys) (
 pub moved_left : (to n : ℕ) (xs : List Known) → drop to xs ≡ take (to + n - to) (drop to xs) ++ drop (to + n) xs
 moved_left to n xs = sym (take-append-drop n (drop to xs)) ∙ (λ i. sym (moved_part to n xs) i ++ drop_both to n xs i)
 
--- what is left is all that is behind
-pub behind : (to : ℕ) (xs : List Known) → take (length xs - to) (drop to xs) ≡ drop to xs
-behind to xs = let l = length-drop to xs in take_all (length xs - to) (drop to xs) (omega (arith, l))
+pub next_is_part : (most : ℕ) (facts : List Known) → 0 < length facts → IsPart most (first_part most facts)
+next_is_part most [] h = absurd (omega (arith, h))
+next_is_part most (e ∷ facts) h = is_part most e facts
+
+-- there are no more parts than facts
+enough : (n m most : ℕ) (facts : List Known) → length facts ≤ n → length facts ≤ m → first_parts n most facts ≡ first_parts m most facts
+enough zero zero most facts h k = refl
+enough zero (suc m) most [] h k = refl
+enough zero (suc m) most (e ∷ facts) h k = absurd (omega (arith, h))
+enough (suc n) zero most [] h k = refl
+enough (suc n) zero most (e ∷ facts) h k = absurd (omega (arith, k))
+enough (suc n) (suc m) most [] h k = refl
+enough (suc n) (suc m) most (e ∷ facts) h k =
+    let l = length-drop (part_len most (e ∷ facts)) (e ∷ facts) in
+    ap (λ ps. first_part most (e ∷ facts) ∷ ps) (enough n m most (rest_after most (e ∷ facts)) (omega (arith, l, h)) (omega (arith, l, k)))
+
+-- the parts of facts are the first one and those of what is left
+pub next_parts : (most : ℕ) (facts : List Known) → 0 < length facts → IsNextPart most facts (first_part most facts) (rest_after most facts)
+next_parts most [] h = absurd (omega (arith, h))
+next_parts most (e ∷ facts) h =
+    let l = length-drop (part_len most (e ∷ facts)) (e ∷ facts) in
+    ap (λ ps. first_part most (e ∷ facts) ∷ ps) (enough (length facts) (length (rest_after most (e ∷ facts))) most (rest_after most (e ∷ facts)) (omega (arith, l)) (omega arith))
+
+-- ---- the next part: it is counted in what is behind those that were given
+
+pub counted : (n most to : ℕ) (xs ys : List Known) → n ≡ part_len most (take (length xs - to) (drop to xs)) → xs ≡ ys → n ≡ part_len most (drop to ys)
+counted n most to xs ys e is =
+    let l = length-drop to xs in
+    e ∙ ap (part_len most) (take_all (length xs - to) (drop to xs) (omega (arith, l))) ∙ ap (λ zs. part_len most (drop to zs)) is
+
+module _ (n most to : ℕ) (xs : List Known) (count : n ≡ part_len most (drop to xs)) where
+  pub counted_part : take (to + n - to) (drop to xs) ≡ first_part most (drop to xs)
+  counted_part = moved_part to n xs ∙ ap (λ (k : ℕ). take k (drop to xs)) count
+
+  counted_rest : drop (to + n) xs ≡ rest_after most (drop to xs)
+  counted_rest = sym (drop_both to n xs) ∙ ap (λ (k : ℕ). drop k (drop to xs)) count
+
+  pub counted_bounds : 0 < length (drop to xs) → IsPart most (take (to + n - to) (drop to xs))
+  counted_bounds some = subst (IsPart most) (sym counted_part) (next_is_part most (drop to xs) some)
+
+  pub counted_next : 0 < length (drop to xs) → IsNextPart most (drop to xs) (take (to + n - to) (drop to xs)) (drop (to + n) xs)
+  counted_next some = next_parts most (drop to xs) some ∙ sym (λ i. counted_part i ∷ parts_of most (counted_rest i))

@@ -70,12 +70,12 @@ module _ (facts part : List Known) (last : Option VersionKey) (bytes : ℕ) (bef
       ap (λ l. checked_last l part) before.is_last ∙ checked_is (last_after None facts) part
       ∙ (λ i. cond (sym both i) (Ok (sym (last_after_both None facts part) i)) (Err BadOrder))
 
-  pub out_of_order : (fault : FormFault) → checked_last last part ≡ Err fault → Form fault ≡ part_refusal facts part
+  pub out_of_order : (fault : FormFault) → checked_last last part ≡ Err fault → Form BadOrder ≡ part_refusal facts part
   out_of_order fault e = by (rises (facts ++ part)) (sym asked ∙ e)
     where
-      by : (b : Bool) → cond b (Ok (last_after None (facts ++ part))) (Err BadOrder) ≡ Err fault → Form fault ≡ cond b Memory (Form BadOrder)
+      by : (b : Bool) → cond b (Ok (last_after None (facts ++ part))) (Err BadOrder) ≡ Err fault → Form BadOrder ≡ cond b Memory (Form BadOrder)
       by true e = absurd cc
-      by false e = cc
+      by false e = refl
 
   taken_part : (new : Option VersionKey) → checked_last last part ≡ Ok new → (rises (facts ++ part) ≡ true) × (new ≡ last_after None (facts ++ part))
   taken_part new e = by (rises (facts ++ part)) (sym asked ∙ e)

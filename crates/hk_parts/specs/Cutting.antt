@@ -52,3 +52,7 @@ pub record IsPart (most : ℕ) (part : List Known) : Type 0 where
 pub record AreParts (most : ℕ) (facts : List Known) (parts : List (List Known)) : Type 0 where
   pub whole : facts_of_parts parts ≡ facts
   pub each : All (IsPart most) parts
+
+-- the part is the first of all parts of these facts, and the others are those of what is left
+abbrev pub IsNextPart : ℕ → List Known → List Known → List Known → Type 0
+IsNextPart most facts part left = parts_of most facts ≡ part ∷ parts_of most left

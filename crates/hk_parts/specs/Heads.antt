@@ -25,6 +25,9 @@ facts_of f = versions_listed f.content
 abbrev pub config_of : Head → ConfigValue
 config_of head = record { log = head.log; streams = length head.streams }
 
+abbrev pub head_with : ConfigValue → ℕ → ℕ → List StreamContent → Head
+head_with config base horizon streams = record { log = config.log; base = base; horizon = horizon; streams = streams }
+
 -- the fragment of a head and facts, or its first fault
 abbrev pub of_facts : Head → List Known → Result FragmentValue FormFault
 of_facts head facts = checked_fragment (config_of head) head.base head.horizon head.streams facts

@@ -4,6 +4,7 @@ ghost use Rattle.std.specs.Prelude.{◌≡◌, ◌++◌, [], true, length, IfErr
 ghost use Rattle.hk_fragment.specs.Parts.{checked_fragment};
 ghost use Rattle.hk_parts.specs.Sizes.{facts_bytes};
 ghost use Rattle.hk_parts.specs.Cutting.{rises};
+ghost use Rattle.hk_parts.specs.Heads.{head_with, of_facts};
 ghost use Rattle.hk_parts.specs.Values.{part_refusal};
 
 use crate::facts::{bytes_with, last_if_rising};
@@ -80,7 +81,9 @@ impl Assembly {
         ensures err { IfErr result (λ why. why ≡ part_refusal self.old part.items) }
         ensures kept { OnErr result (self.new ≡ self.old) }
     {
-        let last = last_if_rising(self.last, &part)?;
+        let Ok(last) = last_if_rising(self.last, &part) else {
+            return Err(Refusal::Form(FormFault::BadOrder));
+        };
         let Some(bytes) = bytes_with(self.bytes, &part) else {
             return Err(Refusal::Memory);
         };
@@ -102,7 +105,8 @@ impl Assembly {
         got: Got,
     ) -> Result<Fragment, FormFault>
         requires { length got ≡ config.streams }
-        ensures { result ≡ checked_fragment config base horizon got self }
+        ensures checked { result ≡ checked_fragment config base horizon got self }
+        ensures head { result ≡ of_facts (head_with config base horizon got) self }
     {
         Fragment::new(config, base, horizon, got, self.facts)
     }

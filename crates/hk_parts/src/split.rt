@@ -1,7 +1,7 @@
 //! A fragment that is split into parts.
 
-ghost use Rattle.std.specs.Prelude.{◌≡◌, ◌++◌, [], true, length};
-ghost use Rattle.hk_parts.specs.Cutting.{first_part, rises};
+ghost use Rattle.std.specs.Prelude.{◌≡◌, ◌<◌, ◌++◌, [], true, length};
+ghost use Rattle.hk_parts.specs.Cutting.{first_part, rises, IsNextPart, IsPart};
 ghost use Rattle.hk_parts.specs.Heads.{facts_of};
 
 use crate::facts::part_len;
@@ -69,6 +69,8 @@ impl Split {
         ensures part { self.new.part ≡ first_part most_bytes self.old.left }
         ensures given { self.new.given ≡ self.old.given ++ self.new.part }
         ensures left { self.old.left ≡ self.new.part ++ self.new.left }
+        ensures bounds { 0 < length self.old.left → IsPart most_bytes self.new.part }
+        ensures next { 0 < length self.old.left → IsNextPart most_bytes self.old.left self.new.part self.new.left }
         ensures rises { rises self.new.given ≡ true }
     {
         let facts = self.whole.facts();
