@@ -70,7 +70,8 @@ impl Split {
         ensures given { self.new.given ≡ self.old.given ++ self.new.part }
         ensures left { self.old.left ≡ self.new.part ++ self.new.left }
         ensures bounds { 0 < length self.old.left → IsPart most_bytes self.new.part }
-        ensures next { 0 < length self.old.left → IsNextPart most_bytes self.old.left self.new.part self.new.left }
+        ensures next { 0 < length self.old.left
+            → IsNextPart most_bytes self.old.left self.new.part self.new.left }
         ensures rises { rises self.new.given ≡ true }
     {
         let facts = self.whole.facts();
