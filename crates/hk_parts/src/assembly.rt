@@ -42,7 +42,7 @@ impl Model for Assembly {
 }
 
 impl Assembly {
-    /// Nothing came so far. It takes no memory.
+    /// Nothing came so far. It takes no memory. Cost: O(1).
     pub fn new(alloc: Global) -> Assembly
         ensures { result ≡ [] }
     {
@@ -53,7 +53,7 @@ impl Assembly {
         }
     }
 
-    /// How many bytes the added facts have in a message, without their count. In memory a fact has more: its body,
+    /// How many bytes the added facts have in a message, without their count. In memory they take more: each its body,
     /// and a bounded number of bytes beside it. Cost: O(1).
     pub fn bytes(&self) -> u64
         ensures { result ≡ facts_bytes self.now }
@@ -61,7 +61,7 @@ impl Assembly {
         self.bytes
     }
 
-    /// How many facts were added.
+    /// How many facts were added. Cost: O(1).
     pub fn count(&self) -> usize
         ensures { result ≡ length self.now }
     {

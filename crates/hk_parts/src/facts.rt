@@ -60,7 +60,8 @@ fn follows(before: Option<VersionKey>, version: VersionKey) -> bool
     }
 }
 
-/// The last version, where the facts rise and come after the one before; none where there is none.
+/// The last version, where the facts rise and come after the one before; that one where there are no facts. `BadOrder`
+/// where they don't.
 pub(crate) fn last_if_rising(
     before: Option<VersionKey>,
     facts: &[(VersionKey, Version)],

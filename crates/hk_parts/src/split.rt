@@ -50,7 +50,7 @@ impl Split {
         }
     }
 
-    /// The fragment.
+    /// The fragment, whole. Cost: O(1).
     pub fn whole(&self) -> &Fragment
         ensures value { result.now ≡ self.now.whole }
         ensures facts { self.now.given ++ self.now.left ≡ facts_of self.now.whole }
@@ -63,7 +63,7 @@ impl Split {
     /// Goes on to the next part: the longest front of what is left that is at most so many bytes long, and one fact
     /// at least, however long it is; none where nothing is left. The bytes are those that the facts have in a
     /// message, without their count: a part of one fact has 4,129 at most. Each part may have another limit.
-    /// Cost: O(n), n facts of the part.
+    /// It takes no memory. Cost: O(n), n facts of the part.
     pub fn advance(&mut self, most_bytes: u64)
         ensures whole { self.new.whole ≡ self.old.whole }
         ensures part { self.new.part ≡ first_part most_bytes self.old.left }
@@ -81,14 +81,14 @@ impl Split {
     }
 
     /// The facts of the part at which it stands, by rising version key: none before the first `advance`, and none
-    /// after one for which nothing was left.
+    /// after one for which nothing was left. They stay that part until the next `advance`. Cost: O(1).
     pub fn part(&self) -> &[(VersionKey, Version)]
         ensures { result.now ≡ self.now.part }
     {
         &self.whole.facts()[self.from..self.to]
     }
 
-    /// How many facts come after that part.
+    /// How many facts come after that part. Cost: O(1).
     pub fn left(&self) -> usize
         ensures { result ≡ length self.now.left }
     {
