@@ -492,8 +492,9 @@ def every_push():
 # ---------------------------------------------------------------- calls that no command makes
 
 # Tests that arm the library themselves, by crate, and the least number of requests that they let fail: a node's changes, holds,
-# releases and publishes; and the fragment that several workers build.
-TESTS = (("hk_tests_node", "tests::rows::one_day", 50), ("hk_tests_library", "tests::batch::each_request_refused", 300))
+# releases and publishes; the fragment that several workers build; and one that is given in parts and put together from them.
+TESTS = (("hk_tests_node", "tests::rows::one_day", 50), ("hk_tests_library", "tests::batch::each_request_refused", 300),
+         ("hk_tests_library", "tests::batch::splitting::each_request_of_parts_refused", 40))
 
 
 def refused_in_tests():

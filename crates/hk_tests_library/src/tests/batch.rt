@@ -1,6 +1,7 @@
 //! Items and fragments of log 7 with two streams, by several workers.
 
 mod decoding;
+mod splitting;
 mod uniting;
 
 ghost use Rattle.std.specs.Prelude.{◌≤◌, ⊤};

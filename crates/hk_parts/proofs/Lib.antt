@@ -1,0 +1,3 @@
+pub mod RisingParts
+pub mod CutParts
+pub mod OwnParts

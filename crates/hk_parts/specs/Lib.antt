@@ -1,0 +1,4 @@
+pub mod Sizes
+pub mod Cutting
+pub mod Heads
+pub mod Values

@@ -1,0 +1,113 @@
+//! A fragment that is put together of parts.
+
+ghost use Rattle.std.specs.Prelude.{◌≡◌, ◌++◌, [], true, length, IfErr, OnErr, OnOk};
+ghost use Rattle.hk_fragment.specs.Parts.{checked_fragment};
+ghost use Rattle.hk_parts.specs.Sizes.{facts_bytes};
+ghost use Rattle.hk_parts.specs.Cutting.{rises};
+ghost use Rattle.hk_parts.specs.Heads.{head_with, of_facts};
+ghost use Rattle.hk_parts.specs.Values.{part_refusal};
+
+use crate::facts::{bytes_with, last_if_rising};
+use hk_fragment::Fragment;
+use hk_log::Version;
+use hk_marks::Got;
+use hk_types::{Config, FormFault, Refusal, Time, VersionKey};
+use std::alloc::Global;
+use std::marker::Model;
+
+/// The parts of a fragment that came so far. Contracts see the facts that were added, one part after the other.
+///
+/// Nothing is tested of them but their order, and nothing can be done with them but to add more and, with the head,
+/// to make the one fragment of all: a part alone is no fragment.
+#[derive(Drop)]
+pub struct Assembly {
+    facts: Vec<(VersionKey, Version)>,
+    last: Option<VersionKey>,
+    bytes: u64,
+}
+
+impl Model for Assembly {
+    ghost use Rattle.std.specs.Prelude.{List};
+    ghost use Rattle.std.specs.Coded.{coded_list};
+    ghost use Rattle.hk_fragment.specs.Parts.{Known};
+    ghost use Rattle.hk_parts.specs.Values.{IsAssembly, known_code};
+
+    ghost Value = { List Known };
+
+    ghost coded = { coded_list known_code };
+
+    ghost view = { λ a. a.facts.items };
+
+    ghost invariant = { λ a. IsAssembly a.facts.items a.last a.bytes };
+}
+
+impl Assembly {
+    /// Nothing came so far. It takes no memory. Cost: O(1).
+    pub fn new(alloc: Global) -> Assembly
+        ensures { result ≡ [] }
+    {
+        Assembly {
+            facts: Vec::new(alloc),
+            last: None,
+            bytes: 0,
+        }
+    }
+
+    /// How many bytes the added facts have in a message, without their count. In memory they take more: each its body,
+    /// and a bounded number of bytes beside it. Cost: O(1).
+    pub fn bytes(&self) -> u64
+        ensures { result ≡ facts_bytes self.now }
+    {
+        self.bytes
+    }
+
+    /// How many facts were added. Cost: O(1).
+    pub fn count(&self) -> usize
+        ensures { result ≡ length self.now }
+    {
+        self.facts.len()
+    }
+
+    /// Adds a part behind those that were added before it. Its bodies are moved, and a refused part is dropped.
+    ///
+    /// - `Form(BadOrder)`: its version keys don't rise, or the first of them isn't above the last that was added.
+    /// - `Memory`: a growth was refused, or all bytes would be more than a number of 64 bits counts.
+    ///
+    /// After each refusal what was added before it is there as it was. Cost: O(n), n facts of the part, and now
+    /// and then O(m), m facts of all parts, where the list grows: O(m) for all parts together.
+    pub fn add(&mut self, part: Vec<(VersionKey, Version)>) -> Result<(), Refusal>
+        ensures ok { OnOk result (self.new ≡ self.old ++ part.items) }
+        ensures rises { OnOk result (rises self.new ≡ true) }
+        ensures err { IfErr result (λ why. why ≡ part_refusal self.old part.items) }
+        ensures kept { OnErr result (self.new ≡ self.old) }
+    {
+        let Ok(last) = last_if_rising(self.last, &part) else {
+            return Err(Refusal::Form(FormFault::BadOrder));
+        };
+        let Some(bytes) = bytes_with(self.bytes, &part) else {
+            return Err(Refusal::Memory);
+        };
+        let mut part = part;
+        self.facts.append(&mut part)?;
+        self.last = last;
+        self.bytes = bytes;
+        Ok(())
+    }
+
+    /// The fragment of this head and all added facts, or its first fault: the faults of `Fragment::new`, in its
+    /// order. Of the facts only `BadNumber` is left, since their order was tested as they came. The facts are moved,
+    /// and dropped with a fault. It takes no memory. Cost: O(s + n), s streams, n facts.
+    pub fn into_fragment(
+        self,
+        config: Config,
+        base: Time,
+        horizon: Time,
+        got: Got,
+    ) -> Result<Fragment, FormFault>
+        requires { length got ≡ config.streams }
+        ensures checked { result ≡ checked_fragment config base horizon got self }
+        ensures head { result ≡ of_facts (head_with config base horizon got) self }
+    {
+        Fragment::new(config, base, horizon, got, self.facts)
+    }
+}

@@ -1,0 +1,60 @@
+//! What is cut and put together again is the same fragment.
+
+ghost use Rattle.std.specs.Prelude.{◌≡◌, ℕ, List, Ok, IfErr, IfOk};
+ghost use Rattle.hk_types.specs.declared.faults.Refusal.TheVariants.{Memory};
+ghost use Rattle.hk_model.specs.Replica.Fragments.{FragmentValue};
+ghost use Rattle.hk_fragment.specs.Parts.{Known};
+ghost use Rattle.hk_parts.specs.Cutting.{parts_of, AreParts};
+ghost use Rattle.hk_parts.specs.Heads.{facts_of, head_of, of_facts, of_parts, Head, IsOfItsParts, IsPutTogether};
+
+use crate::assembly::Assembly;
+use crate::facts::copied;
+use crate::split::Split;
+use hk_fragment::Fragment;
+use hk_types::Refusal;
+use std::alloc::Global;
+
+/// Every list of facts is cut into parts that are, one after the other, that list; each has a fact, and is at most so
+/// many bytes unless it is one fact.
+pub fn parts_law()
+    ensures { (most : ℕ) (facts : List Known) → AreParts most facts (parts_of most facts) }
+{}
+
+/// Every fragment is the one of its head and its facts, and of its head and its parts, however long these are.
+pub fn fragment_law(fragment: &Fragment)
+    ensures facts { of_facts (head_of fragment.now) (facts_of fragment.now) ≡ Ok fragment.now }
+    ensures parts { IsOfItsParts fragment.now }
+{
+    let _facts = fragment.facts();
+}
+
+/// Where a head and parts make a fragment, it has that head, and its facts are those of the parts, one after the
+/// other.
+pub fn together_law()
+    ensures { (head : Head) (parts : List (List Known)) (f : FragmentValue)
+        → of_parts head parts ≡ Ok f → IsPutTogether head parts f }
+{}
+
+/// The same fragment again, by way of parts that are at most so many bytes long: it is split, each part is copied and
+/// added, and the head and all of them are put together. The only refusal is `Memory`. Cost: O(n + w · log w + b),
+/// n facts, w extra numbers and waiting marks, b bytes of bodies, all copied.
+pub fn copy_by_parts(
+    alloc: Global,
+    fragment: Fragment,
+    most_bytes: u64,
+) -> Result<Fragment, Refusal>
+    ensures ok { IfOk result (λ again. again ≡ fragment) }
+    ensures err { IfErr result (λ why. why ≡ Memory) }
+{
+    let mut split = Split::new(fragment);
+    let mut came = Assembly::new(alloc);
+    while split.left() > 0 {
+        split.advance(most_bytes);
+        came.add(copied(alloc, split.part())?)?;
+    }
+    let whole = split.whole();
+    fragment_law(whole);
+    let got = whole.got().copy(alloc)?;
+    let again = came.into_fragment(whole.config(), whole.base(), whole.horizon(), got)?;
+    Ok(again)
+}

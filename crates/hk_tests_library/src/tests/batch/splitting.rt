@@ -1,0 +1,92 @@
+//! The fragment of the items 1 to 6 in parts: of 34, 26 and 34 bytes are its facts.
+
+use super::{is_whole, items, refuse};
+use hk_delta::{Fragment, fragment_of};
+use hk_log::Version;
+use hk_parts::{Assembly, Split, copy_by_parts};
+use hk_types::{Config, FormFault, Refusal, VersionKey};
+use std::alloc::Global;
+use std::test::Fail;
+
+/// More than a fragment of three facts in parts asks for.
+const MOST_REQUESTS: usize = 40;
+
+/// How many bytes a part has at most, and then of each part how many facts it has, and how many come after it.
+const CUTS: [(u64, &[(usize, usize)]); 6] = [
+    (0, &[(1, 2), (1, 1), (1, 0), (0, 0)]),
+    (34, &[(1, 2), (1, 1), (1, 0), (0, 0)]),
+    (59, &[(1, 2), (1, 1), (1, 0), (0, 0)]),
+    (60, &[(2, 1), (1, 0), (0, 0)]),
+    (93, &[(2, 1), (1, 0), (0, 0)]),
+    (94, &[(3, 0), (0, 0)]),
+];
+
+fn whole(alloc: Global) -> Result<Fragment, Fail> {
+    let items = items(alloc, &[6, 5, 4, 3, 2, 1])?;
+    Ok(fragment_of(alloc, Config::new(7, 2)?, &items)?)
+}
+
+#[test]
+fn parts_are_as_long_as_they_may_be(rt: HostRuntime) -> Result<(), Fail> {
+    for (most_bytes, parts) in CUTS {
+        let mut split = Split::new(whole(rt.alloc())?);
+        for part in parts {
+            split.advance(most_bytes);
+            assert_eq!(rt; (split.part().len(), split.left()), *part, "{most_bytes}");
+        }
+    }
+    Ok(())
+}
+
+/// A list of one fact.
+fn part(
+    alloc: Global,
+    fact: &(VersionKey, Version),
+) -> Result<Vec<(VersionKey, Version)>, Refusal> {
+    let mut part = Vec::new(alloc);
+    part.push((fact.0, fact.1.copy(alloc)?))?;
+    Ok(part)
+}
+
+#[test]
+fn a_refused_part_leaves_those_before_it(rt: HostRuntime) -> Result<(), Fail> {
+    let alloc = rt.alloc();
+    let whole = whole(alloc)?;
+    let mut came = Assembly::new(alloc);
+    for (fact, bytes) in whole.facts().iter().zip(&[34, 60, 94]) {
+        came.add(part(alloc, fact)?)?;
+        let told = came.add(part(alloc, fact)?);
+        assert!(rt; matches!(told, Err(Refusal::Form(FormFault::BadOrder))));
+        assert_eq!(rt; came.bytes(), *bytes);
+    }
+    assert_eq!(rt; came.count(), 3);
+    let got = whole.got().copy(alloc)?;
+    let made = came.into_fragment(whole.config(), whole.base(), whole.horizon(), got)?;
+    assert!(rt; is_whole(&made));
+    Ok(())
+}
+
+/// Whether the fragment comes through in parts, or is refused 90 where that request for memory is refused.
+fn comes_through(alloc: Global, most_bytes: u64, number: usize) -> Result<bool, Fail> {
+    let whole = whole(alloc)?;
+    refuse(alloc, number);
+    let told = copy_by_parts(alloc, whole, most_bytes);
+    refuse(alloc, 0);
+    match told {
+        Ok(again) => Ok(is_whole(&again)),
+        Err(why) => Ok(number > 0 && why == Refusal::Memory),
+    }
+}
+
+#[test]
+fn each_request_of_parts_refused(rt: HostRuntime) -> Result<(), Fail> {
+    for (most_bytes, _parts) in CUTS {
+        for number in 0..=MOST_REQUESTS {
+            assert!(rt;
+                comes_through(rt.alloc(), most_bytes, number)?,
+                "request {number}"
+            );
+        }
+    }
+    Ok(())
+}
