@@ -1,16 +1,15 @@
 -- A map from versions to what is known of them, as facts.
-use Rattle.std.proofs.Common.{◌≡◌, refl, sym, ap, ◌∙◌, subst, ℕ, Bool, true, false, cond, ◌==◌, Option, Some, None, Result, Ok, Err, List, [], ◌∷◌, ◌++◌, map, length, IsSome, T, All, arith}
+use Rattle.std.proofs.Common.{◌≡◌, refl, sym, ap, ◌∙◌, subst, Bool, true, false, cond, ◌==◌, Option, Some, None, Ok, Err, List, [], ◌∷◌, ◌++◌, map, length, IsSome, T, All, arith}
 use Rattle.std.proofs.lemmas.List.Elements.{All-nil, All-cons, All-head, All-tail, All-push}
 use Rattle.std.proofs.lemmas.Map.Views.{All-found}
 use Rattle.std.specs.BTreeMap.{BTreeMap}
 use Rattle.std.specs.BTreeMap as tree
 use Rattle.std.specs.Option.{is_some, option_and_then}
 use Rattle.std.specs.List.{flat_map}
-use Rattle.std.specs.List.Sorted.{IsStrictlySortedBy}
 use Rattle.std.specs.Ordering.{eq_by_cmp}
 use Rattle.std.specs.FinMap as finmap
 use Rattle.std.specs.FinMap.{find, is_sorted}
-use Rattle.hk_types.specs.Values.{RowValue, same_row}
+use Rattle.hk_types.specs.Values.{same_row}
 use Rattle.hk_types.specs.declared.version_key.VersionKey.{VersionKey}
 use Rattle.hk_types.specs.declared.faults.Refusal.{Refusal}
 use Rattle.hk_types.specs.declared.faults.Refusal.TheVariants.{Conflict}
@@ -22,13 +21,13 @@ use Rattle.hk_index.proofs.StoredKeys.{tied_versions}
 use Rattle.hk_facts.specs.Facts.{row_of, died_of, fact_conflicts, with_fact, put_result, if_known}
 use Rattle.hk_facts.specs.declared.fact.Fact.{Fact}
 use Rattle.hk_facts.specs.declared.fact.Fact.TheVariants.{Row, End}
-use Rattle.hk_store.specs.Facts.{FactsValue, no_facts, entry_if, known_at, conflicts_at, with_fact_at, facts_put}
+use Rattle.hk_store.specs.Facts.{no_facts, entry_if, known_at, conflicts_at, with_fact_at, facts_put}
 use Rattle.hk_facts.proofs.StoredTrees.{get_tree, get_updated, entries_tree, is_there}
 use Rattle.hk_store.specs.Drops.{is_among}
 use Rattle.hk_store.specs.Learning.{told_by, mapped}
 use Rattle.hk_store.specs.Versions.{AreVersions}
 use Rattle.hk_store.proofs.ChangedChains.{same_facts, get-added}
-use Rattle.hk_store.proofs.StoredFacts.{tied, key_tied, find_entry, find_flat, row_known, died_known}
+use Rattle.hk_store.proofs.StoredFacts.{tied, key_tied, find_entry, find_flat}
 
 -- ---- a list that rises
 

@@ -4,7 +4,7 @@ use Rattle.std.proofs.lemmas.Map.Iter.{iter_end}
 use Rattle.hk_types.specs.declared.version_key.VersionKey.{VersionKey}
 use Rattle.hk_log.specs.Versions.{VersionValue, is_known}
 use Rattle.hk_store.specs.Versions.{AreVersions}
-use Rattle.hk_store.proofs.MappedVersions.{seen, one_more_known, tree_versions}
+use Rattle.hk_store.proofs.MappedVersions.{one_more_known, tree_versions}
 use Rattle.hk_store.proofs.version_map.VersionMap.into_list.Goals as goal
 
 pub loop-version-preserved : goal.loop-version-preserved

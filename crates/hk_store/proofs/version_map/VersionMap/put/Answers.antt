@@ -1,4 +1,4 @@
-use Rattle.std.proofs.Common.{sym, inl, None}
+use Rattle.std.proofs.Common.{inl}
 use Rattle.std.proofs.lemmas.Result.{on_err_weaker, on_ok_weaker}
 use Rattle.hk_facts.proofs.StoredTrees.{out_of_memory, IfErr_map}
 use Rattle.hk_store.proofs.MappedVersions.{put_on_known, put_on_none, put_refused, same_back, nothing_there}
