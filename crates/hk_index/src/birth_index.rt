@@ -66,8 +66,8 @@ impl BirthIndex {
     ///
     /// The only refusal is `Memory`. Cost: O(log n + k), n versions in the set, k of them given.
     pub fn until(&self, alloc: Global, time: Time) -> Result<Vec<VersionKey>, Refusal>
-        ensures ok { IfOk result (λ versions.
-            set.from_list versions.items ≡ versions_where self.now (λ t. nat_le t time)) }
+        ensures ok { IfOk result (λ found.
+            set.from_list found.items ≡ versions_where self.now (λ t. nat_le t time)) }
         ensures err { IfErr result (λ why. why ≡ Memory) }
     {
         let time = time.number();
@@ -80,8 +80,8 @@ impl BirthIndex {
     ///
     /// The only refusal is `Memory`. Cost: O(log n + k), n versions in the set, k of them given.
     pub fn above(&self, alloc: Global, time: Time) -> Result<Vec<VersionKey>, Refusal>
-        ensures ok { IfOk result (λ versions.
-            set.from_list versions.items ≡ versions_where self.now (λ t. nat_lt time t)) }
+        ensures ok { IfOk result (λ found.
+            set.from_list found.items ≡ versions_where self.now (λ t. nat_lt time t)) }
         ensures err { IfErr result (λ why. why ≡ Memory) }
     {
         let time = time.number();

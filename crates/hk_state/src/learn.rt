@@ -6,7 +6,7 @@ ghost use Rattle.hk_model.specs.Replica.Rules.{contents_conflict};
 ghost use Rattle.hk_model.specs.Replica.Streams.{all_together};
 ghost use Rattle.hk_state.specs.Changes.{content_learnt};
 ghost use Rattle.hk_store.specs.Journal.{without_journal};
-ghost use Rattle.hk_store.specs.Learning.{IsTold, facts_told, with_told};
+ghost use Rattle.hk_store.specs.Learning.{IsTold, Learns, facts_conflict, facts_told};
 ghost use Rattle.hk_store.specs.Reads.{with_facts};
 
 use crate::replica::ReplicaState;
@@ -28,8 +28,8 @@ fn learn_noted(
 ) -> Result<(), Refusal>
     requires told { IsTold told.now }
     requires as_many { length got.old ≡ length given.now }
-    ensures facts { OnOk result (facts.new ≡ with_told coming.now.old coming.now.horizon facts.old (facts_told told.now)) }
-    ensures agrees { OnOk result (contents_conflict (with_facts facts.old) (with_facts (facts_told told.now)) ≡ false) }
+    ensures facts { OnOk result (Learns facts.old facts.new coming.now (facts_told told.now)) }
+    ensures agrees { OnOk result (facts_conflict facts.old (facts_told told.now) ≡ false) }
     ensures got { OnOk result (got.new ≡ all_together got.old given.now) }
     ensures kept { OnErr result (got.new ≡ got.old) }
     ensures back { without_journal journal.new.items facts.new ≡ without_journal journal.old.items facts.old }
@@ -49,8 +49,8 @@ fn learn_all(
 ) -> Result<(), Refusal>
     requires told { IsTold told.now }
     requires as_many { length got.old ≡ length given.now }
-    ensures facts { OnOk result (facts.new ≡ with_told coming.now.old coming.now.horizon facts.old (facts_told told.now)) }
-    ensures agrees { OnOk result (contents_conflict (with_facts facts.old) (with_facts (facts_told told.now)) ≡ false) }
+    ensures facts { OnOk result (Learns facts.old facts.new coming.now (facts_told told.now)) }
+    ensures agrees { OnOk result (facts_conflict facts.old (facts_told told.now) ≡ false) }
     ensures got { OnOk result (got.new ≡ all_together got.old given.now) }
     ensures same_facts { OnErr result (facts.new ≡ facts.old) }
     ensures same_got { OnErr result (got.new ≡ got.old) }
@@ -69,7 +69,7 @@ impl ReplicaState {
     /// above it, each where none is known.
     ///
     /// What gives a version another row, or another end, than is known is refused, also where it would not come, and so
-    /// is want of memory; a refusal changes nothing, and does not say which of the two it was.
+    /// it is out of memory; a refusal changes nothing, and does not say which of the two it was.
     ///
     /// Cost: O((s + c + g) · log (n + c) + b), s streams, c versions that are told, g numbers and marks given and those
     /// held that they free, n facts, extra numbers and waiting marks held, b bytes of bodies compared or copied.

@@ -1,5 +1,5 @@
 -- What is told of versions, and what facts learn of it.
-use Rattle.std.specs.Prelude.{ℕ, Bool, not, ◌||◌, ◌==◌, nat_lt, if◌then◌else◌, List, Option, None}
+use Rattle.std.specs.Prelude.{ℕ, Bool, not, ◌||◌, ◌==◌, nat_lt, if◌then◌else◌, List, [], Option, None}
 use Rattle.std.specs.List.{flat_map}
 use Rattle.std.specs.FinMap as finmap
 use Rattle.hk_types.specs.Values.{RowValue, same_row}
@@ -8,10 +8,13 @@ use Rattle.hk_log.specs.Versions.{VersionValue}
 use Rattle.hk_model.specs.History.Rows.{version_key_cmp}
 use Rattle.hk_model.specs.Replica.Content.{at_most, without_ended}
 use Rattle.hk_model.specs.Replica.Maps.{union, values_conflict}
+use Rattle.hk_model.specs.Replica.Rules.{contents_conflict}
 use Rattle.hk_facts.specs.Facts.{row_of, died_of}
 use Rattle.hk_store.specs.Changes.{with_listed}
 use Rattle.hk_store.specs.Facts.{FactsValue, entry_if}
+use Rattle.hk_store.specs.Reads.{with_facts}
 use Rattle.hk_store.specs.Versions.{AreVersions}
+use Rattle.hk_store.specs.declared.learn.Coming.{Coming}
 use Rattle.hk_store.specs.declared.learn.Told.{Told}
 use Rattle.hk_store.specs.declared.learn.Told.TheVariants.{Listed, Held}
 
@@ -59,3 +62,25 @@ module _ (old : Bool) (h : ℕ) where
   -- the facts with what comes of other facts, where nothing like it is known
   abbrev pub with_told : FactsValue → FactsValue → FactsValue
   with_told f g = record { rows = union f.rows (finmap.retain_keys g.rows (λ v. nat_lt h v.born || old)); ends = union f.ends (without_ended g.ends h g.ends) }
+
+-- ---- what calls leave
+
+-- a version's row, where it comes and none is known
+abbrev pub LearnsRow : FactsValue → FactsValue → Coming → VersionKey → VersionValue → Type 0
+LearnsRow old new coming v told = new ≡ with_listed old (entry_if v (row_told coming.old coming.horizon v told)) []
+
+-- a version's end
+abbrev pub LearnsEnd : FactsValue → FactsValue → Coming → VersionKey → VersionValue → Type 0
+LearnsEnd old new coming v told = new ≡ with_listed old [] (entry_if v (end_told coming.old coming.horizon v told))
+
+-- both
+abbrev pub LearnsVersion : FactsValue → FactsValue → Coming → VersionKey → VersionValue → Type 0
+LearnsVersion old new coming v told = new ≡ with_version_told coming.old coming.horizon old v told
+
+-- all that comes of other facts
+abbrev pub Learns : FactsValue → FactsValue → Coming → FactsValue → Type 0
+Learns old new coming told = new ≡ with_told coming.old coming.horizon old told
+
+-- whether other facts give a version another row, or another end
+abbrev pub facts_conflict : FactsValue → FactsValue → Bool
+facts_conflict f g = contents_conflict (with_facts f) (with_facts g)

@@ -1,15 +1,12 @@
 //! What others tell, learnt in one pass.
 
-ghost use Rattle.std.specs.Prelude.{◌≡◌, [], false, is_some, OnOk};
+ghost use Rattle.std.specs.Prelude.{◌≡◌, false, is_some, OnOk};
 ghost use Rattle.std.specs.Option.{option_copied};
-ghost use Rattle.hk_model.specs.Replica.Rules.{contents_conflict};
 ghost use Rattle.hk_facts.specs.Facts.{row_of, died_of};
-ghost use Rattle.hk_store.specs.Changes.{with_listed};
-ghost use Rattle.hk_store.specs.Facts.{entry_if};
 ghost use Rattle.hk_store.specs.Journal.{without_journal};
 ghost use Rattle.hk_store.specs.Learning as spec;
-ghost use Rattle.hk_store.specs.Learning.{IsTold, facts_told, with_told, with_version_told};
-ghost use Rattle.hk_store.specs.Reads.{with_facts};
+ghost use Rattle.hk_store.specs.Learning.{IsTold, Learns, LearnsEnd, LearnsRow, LearnsVersion};
+ghost use Rattle.hk_store.specs.Learning.{facts_conflict, facts_told, told_by};
 ghost use Rattle.hk_store.specs.Versions.{AreVersions, value_conflicts_at};
 
 use crate::facts::Facts;
@@ -63,7 +60,7 @@ impl Coming {
 impl Facts {
     /// Learns what comes of all that is told, where nothing like it is known, each that is new named in the journal.
     /// What gives a version another row, or another end, than is known is refused, also where it would not come; and
-    /// so is want of memory. What was learnt until then stays, and is named in the journal.
+    /// so it is out of memory. What was learnt until then stays, and is named in the journal.
     ///
     /// Cost: O(c · log n + b), c versions that are told, n facts and these, b bytes of bodies compared or copied.
     pub fn learn(
@@ -73,8 +70,8 @@ impl Facts {
         coming: &Coming,
     ) -> Result<(), Refusal>
         requires told { IsTold told.now }
-        ensures ok { OnOk result (self.new ≡ with_told coming.now.old coming.now.horizon self.old (facts_told told.now)) }
-        ensures agrees { OnOk result (contents_conflict (with_facts self.old) (with_facts (facts_told told.now)) ≡ false) }
+        ensures ok { OnOk result (Learns self.old self.new coming.now (facts_told told.now)) }
+        ensures agrees { OnOk result (facts_conflict self.old (facts_told told.now) ≡ false) }
         ensures back { without_journal journal.new.items self.new
             ≡ without_journal journal.old.items self.old }
     {
@@ -90,9 +87,9 @@ impl Facts {
         told: &[(VersionKey, Version)],
         coming: &Coming,
     ) -> Result<(), Refusal>
-        requires told { AreVersions (spec.told_by told.now) told.now }
-        ensures ok { OnOk result (self.new ≡ with_told coming.now.old coming.now.horizon self.old (spec.told_by told.now)) }
-        ensures agrees { OnOk result (contents_conflict (with_facts self.old) (with_facts (spec.told_by told.now)) ≡ false) }
+        requires told { AreVersions (told_by told.now) told.now }
+        ensures ok { OnOk result (Learns self.old self.new coming.now (told_by told.now)) }
+        ensures agrees { OnOk result (facts_conflict self.old (told_by told.now) ≡ false) }
         ensures back { without_journal journal.new.items self.new ≡ without_journal journal.old.items self.old }
     {
         for (version, known) in told {
@@ -107,8 +104,8 @@ impl Facts {
         told: &Facts,
         coming: &Coming,
     ) -> Result<(), Refusal>
-        ensures ok { OnOk result (self.new ≡ with_told coming.now.old coming.now.horizon self.old told.now) }
-        ensures agrees { OnOk result (contents_conflict (with_facts self.old) (with_facts told.now) ≡ false) }
+        ensures ok { OnOk result (Learns self.old self.new coming.now told.now) }
+        ensures agrees { OnOk result (facts_conflict self.old told.now ≡ false) }
         ensures back { without_journal journal.new.items self.new ≡ without_journal journal.old.items self.old }
     {
         for (version, known) in told.walk() {
@@ -125,7 +122,7 @@ impl Facts {
         version: &VersionKey,
         told: &Version,
     ) -> Result<(), Refusal>
-        ensures ok { OnOk result (self.new ≡ with_version_told coming.now.old coming.now.horizon self.old version.now told.now) }
+        ensures ok { OnOk result (LearnsVersion self.old self.new coming.now version.now told.now) }
         ensures agrees { OnOk result (value_conflicts_at self.old version.now told.now ≡ false) }
         ensures back { without_journal journal.new.items self.new ≡ without_journal journal.old.items self.old }
     {
@@ -152,7 +149,7 @@ impl Facts {
         version: &VersionKey,
         told: &Version,
     ) -> Result<(), Refusal>
-        ensures ok { OnOk result (self.new ≡ with_listed self.old (entry_if version.now (spec.row_told coming.now.old coming.now.horizon version.now told.now)) []) }
+        ensures ok { OnOk result (LearnsRow self.old self.new coming.now version.now told.now) }
         ensures back { without_journal journal.new.items self.new ≡ without_journal journal.old.items self.old }
     {
         match coming.row(version, told) {
@@ -172,7 +169,7 @@ impl Facts {
         version: &VersionKey,
         told: &Version,
     ) -> Result<(), Refusal>
-        ensures ok { OnOk result (self.new ≡ with_listed self.old [] (entry_if version.now (spec.end_told coming.now.old coming.now.horizon version.now told.now))) }
+        ensures ok { OnOk result (LearnsEnd self.old self.new coming.now version.now told.now) }
         ensures back { without_journal journal.new.items self.new ≡ without_journal journal.old.items self.old }
     {
         match coming.end(version, told) {
