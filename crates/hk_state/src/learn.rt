@@ -68,8 +68,8 @@ impl ReplicaState {
     /// what is known stays. Of what is told come the rows born above the horizon, or all rows where `old`, and the ends
     /// above it, each where none is known.
     ///
-    /// What gives a version another row, or another end, than is known is refused, also where it would not come, and so
-    /// it is out of memory; a refusal changes nothing, and does not say which of the two it was.
+    /// What gives a version another row, or another end, than is known is refused, also where it would not come, and so is
+    /// what there is no memory for; a refusal changes nothing, and does not say which of the two it was.
     ///
     /// Cost: O((s + c + g) · log (n + c) + b), s streams, c versions that are told, g numbers and marks given and those
     /// held that they free, n facts, extra numbers and waiting marks held, b bytes of bodies compared or copied.

@@ -59,8 +59,8 @@ impl Coming {
 
 impl Facts {
     /// Learns what comes of all that is told, where nothing like it is known, each that is new named in the journal.
-    /// What gives a version another row, or another end, than is known is refused, also where it would not come; and
-    /// so it is out of memory. What was learnt until then stays, and is named in the journal.
+    /// What gives a version another row, or another end, than is known is refused `Conflict`, also where it would not
+    /// come, and `Memory` comes where a growth was refused. What was learnt until then stays, and is named in the journal.
     ///
     /// Cost: O(c · log n + b), c versions that are told, n facts and these, b bytes of bodies compared or copied.
     pub fn learn(
