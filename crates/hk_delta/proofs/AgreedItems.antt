@@ -23,14 +23,14 @@ use Rattle.hk_model.specs.Replica.Maps.{values_conflict, union, maps_conflict}
 use Rattle.hk_model.specs.Replica.Replicas.{content_after_take}
 use Rattle.hk_model.specs.Replica.Rules.{took, take_result, take_result_unless, absorb_result, entry_conflicts, with_items, join_result, content_after_join, contents_conflict}
 use Rattle.hk_model.specs.Replica.Streams.{StreamContent, stream_at, streams_of, all_together, unknown}
-use Rattle.hk_model.proofs.Changes.{no_more_facts, same_if_outcome}
-use Rattle.hk_model.proofs.Lawful.{taken_keeps, fits_within}
-use Rattle.hk_model.proofs.Logs.{fact_row, fact_end, row_born, end_dead, row_found, end_found}
-use Rattle.hk_model.proofs.Maps.{version_key_total, version_key_same, get-retain, get-without_ended, no_entry_conflict}
-use Rattle.hk_model.proofs.Members.{In}
-use Rattle.hk_model.proofs.Sets.{all_together-streams_of}
-use Rattle.hk_model.proofs.Streams.{as_many_together, no_gap_at_0}
-use Rattle.hk_model.proofs.Writes.{All_In}
+use Rattle.hk_model.proofs.Replica.Changes.{no_more_facts, same_if_outcome}
+use Rattle.hk_model.proofs.Replica.Lawful.{taken_keeps, fits_within}
+use Rattle.hk_model.proofs.History.Logs.{fact_row, fact_end, row_born, end_dead, row_found, end_found}
+use Rattle.hk_model.proofs.Replica.Maps.{version_key_total, version_key_same, get-retain, get-without_ended, no_entry_conflict}
+use Rattle.hk_model.proofs.Replica.Members.{In}
+use Rattle.hk_model.proofs.Replica.Sets.{all_together-streams_of}
+use Rattle.hk_model.proofs.Replica.Streams.{as_many_together, no_gap_at_0}
+use Rattle.hk_model.proofs.History.Writes.{All_In}
 use Rattle.hk_store.proofs.SameRows.{same_value}
 use Rattle.hk_delta.specs.declared.agreeing.News.{News}
 use Rattle.hk_delta.specs.Agreeing.{content_taken, then_take, take_all, absorb_all, if_taken, taken_items, fragment_of_taken, tells_nothing, contradicts, learnt, Learns, IsAbove, DoAgree, IsLearnt}

@@ -13,8 +13,8 @@ use Rattle.hk_model.specs.History.Rows.{version_key_cmp}
 use Rattle.hk_model.specs.Replica.Content.{Content, at_most, without_ended, least_closed}
 use Rattle.hk_model.specs.Replica.Fragments.{cut}
 use Rattle.hk_model.specs.Replica.Lawful.{IsLawful}
-use Rattle.hk_model.proofs.Maps.{version_key_total, version_key_same, get-retain, get-without_ended}
-use Rattle.hk_model.proofs.Visible.{T_both}
+use Rattle.hk_model.proofs.Replica.Maps.{version_key_total, version_key_same, get-retain, get-without_ended}
+use Rattle.hk_model.proofs.Replica.Visible.{T_both}
 use Rattle.hk_marks.proofs.Readers.{is_sorted-from}
 use Rattle.hk_facts.specs.Facts.{if_known}
 use Rattle.hk_index.specs.Timed.{passes_at}

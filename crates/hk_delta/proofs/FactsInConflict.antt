@@ -16,11 +16,11 @@ use Rattle.hk_log.specs.declared.item.Item.{Item}
 use Rattle.hk_log.specs.declared.item.Item.TheVariants.{Commit, Closed}
 use Rattle.hk_model.specs.History.Facts.{inserted_version, entry_rows, row_facts, end_facts}
 use Rattle.hk_model.specs.Replica.Rules.{conflict}
-use Rattle.hk_model.proofs.Joins.{same_row_if}
-use Rattle.hk_model.proofs.Maps.{version_key_total, version_key_same, find-append}
-use Rattle.hk_model.proofs.Members.{In, In-left, In-right, In-append, In-find}
-use Rattle.hk_model.proofs.Shown.{any_In}
-use Rattle.hk_model.proofs.Visible.{any_where}
+use Rattle.hk_model.proofs.Replica.Joins.{same_row_if}
+use Rattle.hk_model.proofs.Replica.Maps.{version_key_total, version_key_same, find-append}
+use Rattle.hk_model.proofs.Replica.Members.{In, In-left, In-right, In-append, In-find}
+use Rattle.hk_model.proofs.Replica.Shown.{any_In}
+use Rattle.hk_model.proofs.Replica.Visible.{any_where}
 use Rattle.hk_facts.specs.declared.fact.Fact.TheVariants.{Row, End}
 use Rattle.hk_store.specs.Facts.{FactsValue, with_added, no_facts}
 use Rattle.hk_store.proofs.SameRows.{same_value}

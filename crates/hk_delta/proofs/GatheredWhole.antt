@@ -19,12 +19,12 @@ use Rattle.hk_model.specs.Replica.Streams.{streams_of}
 use Rattle.hk_model.specs.Replica.Fragments.{FragmentValue, part}
 use Rattle.hk_model.specs.Replica.Lawful.{IsLawful, IsItem}
 use Rattle.hk_model.specs.Replica.Rules.{gather_result, gather_result_unless, first_wrong_log}
-use Rattle.hk_model.proofs.Maps.{version_key_total, version_key_same, get-without_ended}
-use Rattle.hk_model.proofs.Members.{In, In-map}
-use Rattle.hk_model.proofs.Logs.{fact_end, end_found}
-use Rattle.hk_model.proofs.Writes.{All_In}
-use Rattle.hk_model.proofs.Lawful.{IsSound, entry_sound, content_of_lawful}
-use Rattle.hk_model.proofs.Gathers.{gathered_law}
+use Rattle.hk_model.proofs.Replica.Maps.{version_key_total, version_key_same, get-without_ended}
+use Rattle.hk_model.proofs.Replica.Members.{In, In-map}
+use Rattle.hk_model.proofs.History.Logs.{fact_end, end_found}
+use Rattle.hk_model.proofs.History.Writes.{All_In}
+use Rattle.hk_model.proofs.Replica.Lawful.{IsSound, entry_sound, content_of_lawful}
+use Rattle.hk_model.proofs.Replica.Gathers.{gathered_law}
 use Rattle.hk_facts.specs.Facts.{if_known}
 use Rattle.hk_store.specs.Facts.{FactsValue, no_facts, known_at, entry_if}
 use Rattle.hk_store.specs.Reads.{facts_of_content}

@@ -7,10 +7,10 @@ use Rattle.hk_log.specs.declared.item.Item.{Item}
 use Rattle.hk_model.specs.History.Facts.{rows_of, ends_of}
 use Rattle.hk_model.specs.History.Rows.{version_key_cmp}
 use Rattle.hk_model.specs.Replica.Maps.{or_else, values_conflict, union, maps_conflict}
-use Rattle.hk_model.proofs.Joins.{rows_of-append, ends_of-append}
-use Rattle.hk_model.proofs.Maps.{version_key_total, version_key_same, get-union, no_entry_conflict}
-use Rattle.hk_model.proofs.Shown.{any_In, get-key}
-use Rattle.hk_model.proofs.Visible.{any_where}
+use Rattle.hk_model.proofs.Replica.Joins.{rows_of-append, ends_of-append}
+use Rattle.hk_model.proofs.Replica.Maps.{version_key_total, version_key_same, get-union, no_entry_conflict}
+use Rattle.hk_model.proofs.Replica.Shown.{any_In, get-key}
+use Rattle.hk_model.proofs.Replica.Visible.{any_where}
 
 or_else-assoc : {X : Type 0} (a b c : Option X) → or_else (or_else a b) c ≡ or_else a (or_else b c)
 or_else-assoc None b c = refl

@@ -17,7 +17,7 @@ use Rattle.hk_model.specs.Replica.Fragments.{part}
 use Rattle.hk_model.specs.History.Histories.{History, IsHistory, AreItemsOf}
 use Rattle.hk_model.specs.Replica.Replicas.{Represents}
 use Rattle.hk_model.proofs.Laws.{join_law_proof}
-use Rattle.hk_model.proofs.Steps.{gap_step}
+use Rattle.hk_model.proofs.Replica.Steps.{gap_step}
 use Rattle.hk_model.proofs.Laws.{represents_both}
 use Rattle.hk_delta.proofs.WrongLogs.{count_streams}
 use Rattle.hk_delta.specs.Joins.{JoinsOf}

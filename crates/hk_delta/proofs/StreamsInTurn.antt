@@ -8,9 +8,9 @@ use Rattle.std.specs.FinSet as set
 use Rattle.hk_log.specs.declared.item.Item.{Item}
 use Rattle.hk_model.specs.Replica.Streams.{StreamContent, stream_with, together, all_together, numbers_of, marks_of, stream_of, streams_of}
 use Rattle.hk_model.specs.Replica.Lawful.{IsLawfulStream}
-use Rattle.hk_model.proofs.Repeats.{settled_itself, together_unknown}
-use Rattle.hk_model.proofs.Sets.{append_assoc', together-stream_of}
-use Rattle.hk_model.proofs.Streams.{together-settled}
+use Rattle.hk_model.proofs.Replica.Repeats.{settled_itself, together_unknown}
+use Rattle.hk_model.proofs.Replica.Sets.{append_assoc', together-stream_of}
+use Rattle.hk_model.proofs.Replica.Streams.{together-settled}
 
 or_assoc : (a b c : Bool) → ((a || b) || c) ≡ (a || (b || c))
 or_assoc true b c = refl

@@ -18,11 +18,11 @@ use Rattle.hk_model.specs.Replica.Streams.{streams_of}
 use Rattle.hk_model.specs.Replica.Fragments.{FragmentValue, part}
 use Rattle.hk_model.specs.Replica.Lawful.{IsItem}
 use Rattle.hk_model.specs.Replica.Rules.{conflict, first_wrong_log, gather_result, gather_result_unless, contents_conflict}
-use Rattle.hk_model.proofs.Joins.{rows_of-append, ends_of-append}
-use Rattle.hk_model.proofs.Maps.{version_key_total, version_key_same, find-append, get-union}
-use Rattle.hk_model.proofs.Members.{In, In-append, find-In}
-use Rattle.hk_model.proofs.Sets.{row_facts-append, end_facts-append, all_together-streams_of}
-use Rattle.hk_model.proofs.Shown.{any_In, get-key}
+use Rattle.hk_model.proofs.Replica.Joins.{rows_of-append, ends_of-append}
+use Rattle.hk_model.proofs.Replica.Maps.{version_key_total, version_key_same, find-append, get-union}
+use Rattle.hk_model.proofs.Replica.Members.{In, In-append, find-In}
+use Rattle.hk_model.proofs.Replica.Sets.{row_facts-append, end_facts-append, all_together-streams_of}
+use Rattle.hk_model.proofs.Replica.Shown.{any_In, get-key}
 use Rattle.hk_merge.proofs.JoinRefusals.{whole_is}
 use Rattle.hk_delta.specs.Gathers.{facts_conflict, have_conflict}
 use Rattle.hk_fragment.specs.Merging.{union_of}

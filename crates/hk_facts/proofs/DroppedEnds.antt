@@ -9,7 +9,7 @@ use Rattle.std.proofs.lemmas.Map.Entries.{lookup-filter-values, option_filter}
 use Rattle.std.proofs.lemmas.Map.Keys.{IsDistinct-from_sorted}
 use Rattle.hk_log.specs.Versions.{VersionValue}
 use Rattle.hk_model.specs.Replica.Content.{at_most}
-use Rattle.hk_model.proofs.Maps.{get-retain}
+use Rattle.hk_model.proofs.Replica.Maps.{get-retain}
 use Rattle.hk_facts.specs.Facts.{died_of}
 use Rattle.hk_facts.specs.Chains.{ChainValue, chain_until}
 use Rattle.hk_facts.proofs.StoredTrees.{get_entries, same_at_all}

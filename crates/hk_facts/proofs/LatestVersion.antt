@@ -9,7 +9,7 @@ use Rattle.std.specs.FinMap.{find}
 use Rattle.std.specs.FinMap.Entries.{is_sorted, below_all}
 use Rattle.hk_log.specs.Versions.{VersionValue}
 use Rattle.hk_model.specs.Replica.Maps.{or_else}
-use Rattle.hk_model.proofs.Visible.{T_both}
+use Rattle.hk_model.proofs.Replica.Visible.{T_both}
 use Rattle.hk_facts.specs.Chains.{ChainValue, latest_at, last_where}
 use Rattle.hk_facts.specs.Parted.{later_of, is_later}
 use Rattle.hk_facts.proofs.StoredTrees.{tied_self, tied_same}

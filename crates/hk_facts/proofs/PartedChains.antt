@@ -12,7 +12,7 @@ use Rattle.hk_types.specs.declared.faults.Refusal.TheVariants.{Memory, Conflict}
 use Rattle.hk_log.specs.Versions.{VersionValue}
 use Rattle.hk_model.specs.Replica.Maps.{or_else}
 use Rattle.hk_model.specs.Replica.Content.{at_most}
-use Rattle.hk_model.proofs.Maps.{get-union}
+use Rattle.hk_model.proofs.Replica.Maps.{get-union}
 use Rattle.hk_facts.specs.declared.fact.Fact.{Fact}
 use Rattle.hk_facts.specs.declared.fact.Fact.TheVariants.{End as EndFact}
 use Rattle.hk_facts.specs.declared.fact.Part.{Part}

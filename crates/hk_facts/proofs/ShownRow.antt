@@ -10,10 +10,10 @@ use Rattle.hk_log.specs.Versions.{VersionValue}
 use Rattle.hk_model.specs.History.Rows.{RowKey, version_key_cmp, version_of}
 use Rattle.hk_model.specs.Replica.Content.{Content, at_most, ended_by}
 use Rattle.hk_model.specs.Replica.Answers.{replaces, shows, visible}
-use Rattle.hk_model.proofs.Maps.{version_key_total}
-use Rattle.hk_model.proofs.Members.{In-map}
-use Rattle.hk_model.proofs.Visible.{get_entry, any_where, not_from}
-use Rattle.hk_model.proofs.Shown.{Shows, shows_parts, shows_from, any_In, get-key, replaces_from, visible_row, none_visible}
+use Rattle.hk_model.proofs.Replica.Maps.{version_key_total}
+use Rattle.hk_model.proofs.Replica.Members.{In-map}
+use Rattle.hk_model.proofs.Replica.Visible.{get_entry, any_where, not_from}
+use Rattle.hk_model.proofs.Replica.Shown.{Shows, shows_parts, shows_from, any_In, get-key, replaces_from, visible_row, none_visible}
 use Rattle.hk_facts.specs.Facts.{row_of, died_of}
 use Rattle.hk_facts.specs.Chains.{ChainValue, latest_at, row_at, shown, picked}
 use Rattle.hk_facts.proofs.LatestVersion.{newest, no_newest}

@@ -10,8 +10,8 @@ use Rattle.std.specs.Ordering.{ordering_index, ordering_reverse}
 use Rattle.std.proofs.lemmas.Bool.{cases_lt}
 use Rattle.hk_types.specs.declared.version_key.VersionKey.{VersionKey}
 use Rattle.hk_model.specs.History.Rows.{version_key_cmp}
-use Rattle.hk_model.proofs.Maps.{version_key_total, version_key_same}
-use Rattle.hk_model.proofs.Members.{In}
+use Rattle.hk_model.proofs.Replica.Maps.{version_key_total, version_key_same}
+use Rattle.hk_model.proofs.Replica.Members.{In}
 use Rattle.hk_fragment.specs.Parts.{Known, facts_fault}
 use Rattle.hk_fragment.proofs.FragmentRules.{are_facts}
 use Rattle.hk_fragment.proofs.FoundVersions.{each_found}

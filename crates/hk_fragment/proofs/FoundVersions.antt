@@ -13,9 +13,9 @@ use Rattle.hk_types.specs.declared.version_key.VersionKey.{VersionKey}
 use Rattle.hk_log.specs.Versions.{VersionValue}
 use Rattle.hk_model.specs.History.Rows.{version_key_cmp}
 use Rattle.hk_model.specs.Replica.Content.{Content, readable}
-use Rattle.hk_model.proofs.Maps.{version_key_total, version_key_same}
-use Rattle.hk_model.proofs.Members.{In}
-use Rattle.hk_model.proofs.Visible.{T_both, less}
+use Rattle.hk_model.proofs.Replica.Maps.{version_key_total, version_key_same}
+use Rattle.hk_model.proofs.Replica.Members.{In}
+use Rattle.hk_model.proofs.Replica.Visible.{T_both, less}
 use Rattle.hk_store.specs.Facts.{known_at}
 use Rattle.hk_store.specs.Reads.{facts_of_content}
 use Rattle.hk_store.specs.Versions.{AreVersions}

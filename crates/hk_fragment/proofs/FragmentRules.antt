@@ -15,9 +15,9 @@ use Rattle.hk_model.specs.History.Rows.{version_key_cmp}
 use Rattle.hk_model.specs.Replica.Streams.{StreamContent}
 use Rattle.hk_model.specs.Replica.Content.{least_closed}
 use Rattle.hk_model.specs.Replica.Lawful.{IsLawfulFragment}
-use Rattle.hk_model.proofs.Maps.{version_key_total, version_key_same}
-use Rattle.hk_model.proofs.Members.{In, In-find}
-use Rattle.hk_model.proofs.Visible.{T_both, less}
+use Rattle.hk_model.proofs.Replica.Maps.{version_key_total, version_key_same}
+use Rattle.hk_model.proofs.Replica.Members.{In, In-find}
+use Rattle.hk_model.proofs.Replica.Visible.{T_both, less}
 use Rattle.hk_fragment.specs.Parts.{Known, values_by_version, fragment_seen, follows, is_valid_row, is_valid_end, is_valid_fact, facts_fault, fragment_fault, versions_listed, IsFragment}
 use Rattle.hk_fragment.proofs.ListedVersions.{get-among, lists_back}
 use Rattle.hk_facts.proofs.StoredTrees.{and_T}

@@ -10,8 +10,8 @@ use Rattle.hk_types.specs.declared.version_key.VersionKey.{VersionKey}
 use Rattle.hk_log.specs.Versions.{VersionValue, is_known}
 use Rattle.hk_model.specs.History.Rows.{version_key_cmp}
 use Rattle.hk_model.specs.Replica.Content.{Content}
-use Rattle.hk_model.proofs.Maps.{version_key_total, version_key_same}
-use Rattle.hk_model.proofs.Visible.{T_both, less}
+use Rattle.hk_model.proofs.Replica.Maps.{version_key_total, version_key_same}
+use Rattle.hk_model.proofs.Replica.Visible.{T_both, less}
 use Rattle.hk_fragment.specs.Parts.{Known, values_by_version, known_of, versions_listed}
 use Rattle.hk_index.proofs.StoredKeys.{tied_versions}
 

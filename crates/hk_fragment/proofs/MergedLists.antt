@@ -14,9 +14,9 @@ use Rattle.hk_types.specs.declared.version_key.VersionKey.{VersionKey}
 use Rattle.hk_log.specs.Versions.{VersionValue, is_known}
 use Rattle.hk_model.specs.Replica.Maps.{or_else}
 use Rattle.hk_model.specs.History.Rows.{version_key_cmp}
-use Rattle.hk_model.proofs.Maps.{version_key_total, version_key_same, find-append}
-use Rattle.hk_model.proofs.Members.{In, In-left, In-right, In-append}
-use Rattle.hk_model.proofs.Visible.{T_both}
+use Rattle.hk_model.proofs.Replica.Maps.{version_key_total, version_key_same, find-append}
+use Rattle.hk_model.proofs.Replica.Members.{In, In-left, In-right, In-append}
+use Rattle.hk_model.proofs.Replica.Visible.{T_both}
 use Rattle.hk_fragment.specs.Parts.{Known, follows, is_valid_row, is_valid_end, is_valid_fact, facts_fault}
 use Rattle.hk_fragment.specs.Merging.{both_known, known_in_either, EndsBefore, ComparesLast, TakesGreatest}
 use Rattle.hk_fragment.proofs.FragmentRules.{AllFollow, AreValidFacts, are_facts, parts_of}

@@ -14,11 +14,11 @@ use Rattle.hk_model.specs.History.Rows.{version_key_cmp}
 use Rattle.hk_model.specs.Replica.Content.{least_closed}
 use Rattle.hk_model.specs.Replica.Streams.{StreamContent, together, all_together}
 use Rattle.hk_model.specs.Replica.Lawful.{IsLawfulStream}
-use Rattle.hk_model.proofs.Lawful.{settled_lawful}
-use Rattle.hk_model.proofs.Maps.{version_key_total, version_key_same, get-union}
+use Rattle.hk_model.proofs.Replica.Lawful.{settled_lawful}
+use Rattle.hk_model.proofs.Replica.Maps.{version_key_total, version_key_same, get-union}
 use Rattle.hk_marks.specs.Seen.{IsNumbered}
 use Rattle.hk_marks.proofs.Limits.{all_numbered}
-use Rattle.hk_model.proofs.Streams.{as_many_together, no_gap_at_0}
+use Rattle.hk_model.proofs.Replica.Streams.{as_many_together, no_gap_at_0}
 use Rattle.hk_fragment.specs.Parts.{Known, values_by_version, fragment_seen, facts_fault, IsFragment}
 use Rattle.hk_fragment.specs.Merging.{both_known, known_in_either, union_of}
 use Rattle.hk_fragment.proofs.ListedVersions.{get-among}

@@ -8,7 +8,7 @@ use Rattle.std.specs.Cmp.{tied_itself}
 use Rattle.std.specs.FinSet as set
 use Rattle.hk_types.specs.declared.version_key.VersionKey.{VersionKey}
 use Rattle.hk_model.specs.History.Rows.{version_key_cmp}
-use Rattle.hk_model.proofs.Maps.{version_key_total, version_key_same}
+use Rattle.hk_model.proofs.Replica.Maps.{version_key_total, version_key_same}
 use Rattle.hk_index.specs.declared.timed.TimedVersion.{TimedVersion}
 use Rattle.hk_index.specs.Timed.{timed_cmp, versions_where}
 use Rattle.hk_index.proofs.Order.{timed_total}

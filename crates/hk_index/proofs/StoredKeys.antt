@@ -14,7 +14,7 @@ use Rattle.std.specs.BTreeSet as sorted
 use Rattle.std.specs.FinSet as set
 use Rattle.hk_types.specs.declared.version_key.VersionKey.{VersionKey}
 use Rattle.hk_model.specs.History.Rows.{version_key_cmp}
-use Rattle.hk_model.proofs.Maps.{version_key_total, version_key_same}
+use Rattle.hk_model.proofs.Replica.Maps.{version_key_total, version_key_same}
 use Rattle.hk_index.specs.Listed.{Lists, is_up_to, with_keys}
 
 -- the set of a tree's keys

@@ -3,7 +3,7 @@ use Rattle.std.proofs.Common.{◌≡◌, refl, sym, ap, ◌∙◌, ℕ, Bool, tr
 use Rattle.std.proofs.lemmas.Bool.{and_parts, and_from}
 use Rattle.std.specs.FinSet as set
 use Rattle.hk_types.specs.declared.version_key.VersionKey.{VersionKey}
-use Rattle.hk_model.proofs.Maps.{version_key_total}
+use Rattle.hk_model.proofs.Replica.Maps.{version_key_total}
 use Rattle.hk_index.specs.declared.timed.TimedVersion.{TimedVersion}
 use Rattle.hk_index.specs.Timed.{versions_where, is_at, AreTimed, passes_at}
 use Rattle.hk_index.proofs.Named.{both_ways, each_named, is_listed, is_named, named, versions_of}

@@ -14,11 +14,11 @@ use Rattle.hk_model.specs.Replica.Fragments.{cut}
 use Rattle.hk_model.specs.Replica.Lawful.{IsLawful, IsLawfulStream}
 use Rattle.hk_model.specs.Replica.Rules.{contents_conflict, content_after_join, merge_result}
 use Rattle.hk_model.specs.Replica.Streams.{StreamContent, covers, greatest_covered, by_count, stream_with, together, all_together}
-use Rattle.hk_model.proofs.Joins.{alike_differ, same_row_if}
-use Rattle.hk_model.proofs.Maps.{version_key_total, version_key_same, get-union, get-retain, get-without_ended, no_entry_conflict}
-use Rattle.hk_model.proofs.Repeats.{settled_itself}
-use Rattle.hk_model.proofs.Streams.{later, latest, latest-append, get-by_count, together-settled}
-use Rattle.hk_model.proofs.Streams.{no_gap_at_0}
+use Rattle.hk_model.proofs.Replica.Joins.{alike_differ, same_row_if}
+use Rattle.hk_model.proofs.Replica.Maps.{version_key_total, version_key_same, get-union, get-retain, get-without_ended, no_entry_conflict}
+use Rattle.hk_model.proofs.Replica.Repeats.{settled_itself}
+use Rattle.hk_model.proofs.Replica.Streams.{later, latest, latest-append, get-by_count, together-settled}
+use Rattle.hk_model.proofs.Replica.Streams.{no_gap_at_0}
 
 -- ---- streams
 

@@ -3,7 +3,7 @@ use Rattle.std.proofs.Common.{◌≡◌, refl, sym, ap, ◌∙◌, subst, ℕ, t
 use Rattle.hk_types.specs.Values.{ConfigValue}
 use Rattle.hk_model.specs.Replica.Content.{Content}
 use Rattle.hk_model.specs.World.Worlds.{World, EventValue, ToldValue, run, step, by_items, by_contents, new_items, new_contents}
-use Rattle.hk_model.proofs.Runs.{run_law_proof}
+use Rattle.hk_model.proofs.World.Runs.{run_law_proof}
 use Rattle.hk_laws.specs.Calls.{is_memory_outcome, Steps}
 use Rattle.hk_laws.specs.Running.{Running}
 use Rattle.hk_laws.specs.Runs.{answers, answered_events}

@@ -11,7 +11,7 @@ use Rattle.hk_log.specs.declared.item.Item.TheVariants.{Closed}
 use Rattle.hk_model.specs.World.Worlds.{World, Replica, EventValue, ToldValue, Agree, act_on, after_mark, asked_primary, asked_of, both, by_items, delta_with, mark_now, retirement, readable_on_primary, merged_with, at_number, all_numbered, pruned_to, readable_of, step, outcome_of}
 use Rattle.hk_model.specs.World.Worlds.EventValue.{Commit, MarkOf, Retire, Absorb, Batch, Prune, Merge, Delta, Ask, FrontOf}
 use Rattle.hk_model.specs.World.Worlds.ToldValue.{Done, Answered, Marked, Refused}
-use Rattle.hk_model.proofs.Runs.{step_law_proof}
+use Rattle.hk_model.proofs.World.Runs.{step_law_proof}
 use Rattle.hk_laws.specs.Calls.{Steps, StepsOf, is_first_outcome, may_lack}
 use Rattle.hk_laws.proofs.RefusedCommits.{commit_lacks}
 use Rattle.hk_laws.specs.Running.{Running}

@@ -12,7 +12,7 @@ use Rattle.hk_model.specs.History.Rows.{RowKey, row_key_cmp}
 use Rattle.hk_model.specs.History.Histories.{written_key}
 use Rattle.hk_model.specs.History.Commits.{writes_result}
 use Rattle.hk_model.specs.declared.write_op.WriteOp.{WriteOp}
-use Rattle.hk_model.proofs.Maps.{row_key_total}
+use Rattle.hk_model.proofs.Replica.Maps.{row_key_total}
 use Rattle.hk_laws.specs.Calls.{IsBuilt}
 
 -- the writes by key

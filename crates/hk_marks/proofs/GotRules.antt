@@ -3,7 +3,7 @@ use Rattle.std.proofs.Common.{◌≡◌, sym, ap, ◌∙◌, ℕ, ◌<◌, ◌�
 use Rattle.std.proofs.lemmas.List.{length-replicate, take_more, take_all}
 use Rattle.std.proofs.lemmas.List.Elements.{All-set, All-replicate}
 use Rattle.std.specs.FinMap as finmap
-use Rattle.hk_model.proofs.Lawful.{settled_lawful}
+use Rattle.hk_model.proofs.Replica.Lawful.{settled_lawful}
 use Rattle.hk_model.specs.Replica.Streams.{StreamContent, unknown}
 use Rattle.hk_model.specs.Replica.Content.{least_closed}
 use Rattle.hk_model.specs.Replica.Lawful.{IsLawfulStream}

@@ -12,9 +12,9 @@ use Rattle.std.specs.BTreeSet.{BTreeSet}
 use Rattle.std.specs.BTreeSet as sorted
 use Rattle.std.specs.FinMap as finmap
 use Rattle.std.specs.FinSet as set
-use Rattle.hk_model.proofs.Streams.{later, told, latest, latest-append, latest-entries, tied_counts}
+use Rattle.hk_model.proofs.Replica.Streams.{later, told, latest, latest-append, latest-entries, tied_counts}
 use Rattle.hk_model.specs.Replica.Streams.{StreamContent, covers, greatest_covered, stream_with, together, all_together, unknown}
-use Rattle.hk_model.proofs.Lawful.{settled_lawful}
+use Rattle.hk_model.proofs.Replica.Lawful.{settled_lawful}
 use Rattle.hk_model.specs.Replica.Lawful.{IsLawfulStream}
 use Rattle.hk_marks.proofs.CoveredMarks.{settled_same}
 use Rattle.hk_marks.proofs.TakenItems.{settled_alike, later_comm}

@@ -6,8 +6,8 @@ use Rattle.std.specs.Ordering.{eq_by_cmp}
 use Rattle.std.specs.Cmp.{nat_cmp_total}
 use Rattle.std.specs.FinMap as finmap
 use Rattle.std.specs.FinSet as set
-use Rattle.hk_model.proofs.Maps.{get-retain}
-use Rattle.hk_model.proofs.Streams.{later, told, latest, or_zero, latest-append, latest-entries, get-by_count, greatest_bound, tied_counts}
+use Rattle.hk_model.proofs.Replica.Maps.{get-retain}
+use Rattle.hk_model.proofs.Replica.Streams.{later, told, latest, or_zero, latest-append, latest-entries, get-by_count, greatest_bound, tied_counts}
 use Rattle.hk_model.specs.Replica.Streams.{StreamContent, covers, by_count, stream_with, together, all_together, unknown}
 use Rattle.hk_marks.proofs.StoredStreams.{contains-up_to}
 use Rattle.hk_marks.specs.Seen.{IsNumbered, up_to}

@@ -13,7 +13,7 @@ use Rattle.std.specs.BTreeSet.{BTreeSet}
 use Rattle.std.specs.BTreeSet as sorted
 use Rattle.std.specs.FinMap as finmap
 use Rattle.std.specs.FinSet as set
-use Rattle.hk_model.proofs.Streams.{tied_counts}
+use Rattle.hk_model.proofs.Replica.Streams.{tied_counts}
 use Rattle.hk_model.specs.Replica.Streams.{StreamContent, covers}
 use Rattle.hk_marks.proofs.StoredStreams.{contains-taken_seen, covers_seen, get-waiting_seen}
 use Rattle.hk_marks.specs.Seen.{taken_seen, IsStored, stream_seen}

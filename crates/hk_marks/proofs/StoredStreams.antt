@@ -15,7 +15,7 @@ use Rattle.hk_model.specs.Replica.Streams.{covers, stream_with}
 use Rattle.hk_marks.proofs.CoveredMarks.{covers_prefix, settled-forget, settled-done, mark_covered, mark_waits}
 use Rattle.hk_marks.specs.Seen.{up_to, taken_seen, waiting_seen, IsExtra, WaitsAbove, IsStored, stream_seen}
 use Rattle.hk_marks.specs.Steps.{with_number, with_mark}
-use Rattle.hk_model.proofs.Streams.{later, told}
+use Rattle.hk_model.proofs.Replica.Streams.{later, told}
 
 pub find_lookup : {K X : Type 0} (R : K → K → Ordering) (q : K) (es : List (K × X)) → find R q es ≡ lookup (is_at (R q)) es
 find_lookup R q [] = refl

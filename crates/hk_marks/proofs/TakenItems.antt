@@ -9,8 +9,8 @@ use Rattle.std.specs.FinSet as set
 use Rattle.hk_log.specs.Items.{EntryValue, MarkValue}
 use Rattle.hk_log.specs.declared.item.Item.{Item}
 use Rattle.hk_log.specs.declared.item.Item.TheVariants.{Commit, Closed}
-use Rattle.hk_model.proofs.Streams.{later, latest, latest-append, or_zero, greatest_bound, greatest_above, together-settled}
-use Rattle.hk_model.proofs.Repeats.{settled_itself, together_unknown}
+use Rattle.hk_model.proofs.Replica.Streams.{later, latest, latest-append, or_zero, greatest_bound, greatest_above, together-settled}
+use Rattle.hk_model.proofs.Replica.Repeats.{settled_itself, together_unknown}
 use Rattle.hk_model.specs.Replica.Streams.{StreamContent, stream_with, greatest_covered, together, all_together, stream_of, streams_of, stream_at, unknown}
 use Rattle.hk_model.specs.Replica.Lawful.{IsLawfulStream}
 use Rattle.hk_marks.proofs.CoveredMarks.{settled_same}

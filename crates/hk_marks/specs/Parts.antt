@@ -8,7 +8,7 @@ use Rattle.std.specs.BTreeSet as sorted
 use Rattle.std.specs.BTreeMap.{BTreeMap}
 use Rattle.std.specs.BTreeSet.{BTreeSet}
 use Rattle.hk_model.specs.Replica.Streams.{covers, stream_with}
-use Rattle.hk_model.proofs.Streams.{later, told}
+use Rattle.hk_model.proofs.Replica.Streams.{later, told}
 use Rattle.hk_marks.specs.Seen.{waiting_seen}
 use Rattle.hk_marks.specs.Room.{has_number}
 

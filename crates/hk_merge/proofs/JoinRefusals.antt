@@ -11,7 +11,7 @@ use Rattle.hk_model.specs.Replica.Fragments.{FragmentValue, cut}
 use Rattle.hk_model.specs.Replica.Lawful.{IsLawful}
 use Rattle.hk_model.specs.Replica.Replicas.{Represents}
 use Rattle.hk_model.specs.Replica.Rules.{contents_conflict, join_result, content_after_join}
-use Rattle.hk_model.proofs.Maps.{version_key_total, version_key_same, get-retain, get-without_ended}
+use Rattle.hk_model.proofs.Replica.Maps.{version_key_total, version_key_same, get-retain, get-without_ended}
 use Rattle.hk_model.proofs.Laws.{merge_law_proof}
 use Rattle.hk_merge.specs.Calls.{Joins, Merges, MergesOf, refusal_of}
 use Rattle.hk_state.proofs.Represented.{inside, has_conflict_with}

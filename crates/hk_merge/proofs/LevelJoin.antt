@@ -10,7 +10,7 @@ use Rattle.hk_model.specs.Replica.Lawful.{IsLawful}
 use Rattle.hk_model.specs.Replica.Maps.{or_else, union}
 use Rattle.hk_model.specs.Replica.Rules.{content_after_join}
 use Rattle.hk_model.specs.Replica.Streams.{all_together}
-use Rattle.hk_model.proofs.Maps.{version_key_total, version_key_same, get-union, get-retain, get-without_ended}
+use Rattle.hk_model.proofs.Replica.Maps.{version_key_total, version_key_same, get-union, get-retain, get-without_ended}
 use Rattle.hk_state.specs.Changes.{content_learnt}
 use Rattle.hk_store.specs.Facts.{FactsValue}
 use Rattle.hk_store.specs.Learning.{facts_told, with_told}

@@ -14,7 +14,7 @@ use Rattle.hk_model.specs.History.Rows.{version_key_cmp}
 use Rattle.hk_model.specs.Replica.Maps.{or_else}
 use Rattle.hk_model.specs.Replica.Content.{Content, at_most, ended_by}
 use Rattle.hk_model.specs.Replica.Fragments.{FragmentValue}
-use Rattle.hk_model.proofs.Maps.{version_key_total, find-append}
+use Rattle.hk_model.proofs.Replica.Maps.{version_key_total, find-append}
 use Rattle.hk_index.specs.Timed.{passes_at}
 use Rattle.hk_facts.specs.Facts.{if_known}
 use Rattle.hk_store.specs.Facts.{FactsValue, known_at}

@@ -17,7 +17,7 @@ use Rattle.hk_model.specs.Replica.Content.{Content, at_most, ended_by}
 use Rattle.hk_model.specs.Replica.Fragments.{FragmentValue}
 use Rattle.hk_model.specs.Replica.Lawful.{IsLawful}
 use Rattle.hk_model.specs.Replica.Rules.{contents_conflict, content_after_join}
-use Rattle.hk_model.proofs.Maps.{version_key_total, version_key_same, get-union, get-retain, get-without_ended}
+use Rattle.hk_model.proofs.Replica.Maps.{version_key_total, version_key_same, get-union, get-retain, get-without_ended}
 use Rattle.hk_facts.specs.Facts.{if_known, row_of, died_of}
 use Rattle.hk_state.specs.declared.apply.Change.{Change}
 use Rattle.hk_store.specs.Drops.{is_among}

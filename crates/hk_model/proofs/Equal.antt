@@ -2,10 +2,10 @@
 use Rattle.std.proofs.Common.{◌≡◌, refl, zero, suc, ◌<◌, length, Contains, sym, ap, ◌∙◌, subst, ℕ, true, false, cond, List, [], ◌∷◌, ◌++◌, ◌⊎◌, inl, inr, ◌≤◌, max, arith, Ok, nat_lt, ltb-false}
 use Rattle.hk_types.specs.Values.{ConfigValue}
 use Rattle.hk_log.specs.declared.item.Item.{Item}
-use Rattle.hk_model.proofs.Members.{In}
-use Rattle.hk_model.proofs.Honest.{Contains_In}
-use Rattle.hk_model.proofs.Same.{same_streams}
-use Rattle.hk_model.proofs.Same.{SameItems as SameIn}
+use Rattle.hk_model.proofs.Replica.Members.{In}
+use Rattle.hk_model.proofs.History.Honest.{Contains_In}
+use Rattle.hk_model.proofs.Replica.Same.{same_streams}
+use Rattle.hk_model.proofs.Replica.Same.{SameItems as SameIn}
 use Rattle.hk_model.proofs.Laws.{readable_more, same, represents_both, join_law_proof, reply_law_proof, deliver_law_proof}
 use Rattle.hk_model.specs.Replica.Streams.{streams_of}
 use Rattle.hk_model.specs.Replica.Content.{Content, readable, least_closed}

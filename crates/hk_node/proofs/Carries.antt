@@ -17,7 +17,7 @@ use Rattle.hk_model.specs.History.Histories.{History, commits, IsHistory, IsItem
 use Rattle.hk_model.specs.Replica.Replicas.{Represents}
 use Rattle.hk_model.specs.Replica.Rules.{join_result, prune_result}
 use Rattle.hk_model.proofs.Laws.{join_law_proof, represents_both, reply_law_proof, nothing_content_of}
-use Rattle.hk_model.proofs.Steps.{prune_law_proof}
+use Rattle.hk_model.proofs.Replica.Steps.{prune_law_proof}
 use Rattle.hk_node.specs.declared.op.Op.{Op}
 use Rattle.hk_node.specs.declared.op.Op.TheVariants.{Start, Join, Merge, Prune, Hold as HoldAt, Release}
 use Rattle.hk_node.specs.NodeContent.{NodeContent}

@@ -14,7 +14,7 @@ use Rattle.hk_model.specs.Replica.Items.{log_of, stream_no, wrong_log}
 use Rattle.hk_model.specs.Replica.Maps.{or_else}
 use Rattle.hk_model.specs.Replica.Rules.{absorb_result, take_result_unless, with_items, entry_conflicts, contents_conflict, content_after_join, join_result}
 use Rattle.hk_model.specs.Replica.Streams.{stream_at}
-use Rattle.hk_model.proofs.Streams.{no_gap_at_0}
+use Rattle.hk_model.proofs.Replica.Streams.{no_gap_at_0}
 use Rattle.hk_delta.specs.Agreeing.{content_taken, then_take, take_all, absorb_all, taken_items, fragment_of_taken, Agrees}
 use Rattle.hk_delta.proofs.WrongLogs.{count_streams}
 use Rattle.hk_node.specs.declared.op.Op.{Op}

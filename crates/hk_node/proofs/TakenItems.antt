@@ -10,7 +10,7 @@ use Rattle.hk_model.specs.Replica.Content.{Content}
 use Rattle.hk_model.specs.Replica.Maps.{or_else}
 use Rattle.hk_model.specs.Replica.Replicas.{Represents}
 use Rattle.hk_model.specs.History.Histories.{History, IsHistory, IsItemOf, AreItemsOf}
-use Rattle.hk_model.proofs.Steps.{absorb_law_proof}
+use Rattle.hk_model.proofs.Replica.Steps.{absorb_law_proof}
 use Rattle.hk_delta.specs.Agreeing.{content_taken, take_all, absorb_all}
 use Rattle.hk_node.specs.Replay.{full_refusal}
 use Rattle.hk_node.specs.Guarded.{refusal_in}

@@ -12,7 +12,7 @@ use Rattle.hk_model.specs.History.Rows.{version_key_cmp}
 use Rattle.hk_model.specs.Replica.Content.{Content, least_closed}
 use Rattle.hk_model.specs.Replica.Fragments.{FragmentValue}
 use Rattle.hk_model.specs.Replica.Lawful.{IsLawfulFragment}
-use Rattle.hk_model.proofs.Maps.{version_key_total, version_key_same}
+use Rattle.hk_model.proofs.Replica.Maps.{version_key_total, version_key_same}
 use Rattle.hk_fragment.specs.Parts.{Known, known_of, versions_listed, values_by_version, facts_fault, fragment_fault, fragment_seen, unless}
 use Rattle.hk_fragment.proofs.ListedVersions.{pairs, listed_of, get-among}
 use Rattle.hk_fragment.proofs.FragmentRules.{listed, facts_tested}

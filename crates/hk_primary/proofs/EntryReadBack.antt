@@ -11,10 +11,10 @@ use Rattle.hk_model.specs.History.Rows.{RowKey, row_key_cmp, version_of}
 use Rattle.hk_model.specs.History.Histories.{Transaction, Tables, written_key, put_row, tables_of, last_put, entry_of, KeysRise, RemovesPresent, Follows}
 use Rattle.hk_model.specs.declared.write_op.WriteOp.{WriteOp}
 use Rattle.hk_model.specs.declared.write_op.WriteOp.TheVariants.{Put, Remove}
-use Rattle.hk_model.proofs.Maps.{row_key_total, row_key_same, find-append}
-use Rattle.hk_model.proofs.Members.{In, In-map, map-In, In-find, find-In}
-use Rattle.hk_model.proofs.Writes.{All_In, In_filter, filter_In, In_puts, puts_In, is_written, key_tied}
-use Rattle.hk_model.proofs.Visible.{find_sorted}
+use Rattle.hk_model.proofs.Replica.Maps.{row_key_total, row_key_same, find-append}
+use Rattle.hk_model.proofs.Replica.Members.{In, In-map, map-In, In-find, find-In}
+use Rattle.hk_model.proofs.History.Writes.{All_In, In_filter, filter_In, In_puts, puts_In, is_written, key_tied}
+use Rattle.hk_model.proofs.Replica.Visible.{find_sorted}
 use Rattle.hk_primary.specs.Log.{put_of, removal_of, by_key, writes_of, transaction_of}
 use Rattle.hk_facts.proofs.StoredTrees.{and_T}
 

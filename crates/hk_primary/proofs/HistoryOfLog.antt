@@ -7,8 +7,8 @@ use Rattle.hk_log.specs.declared.item.Item.{Item}
 use Rattle.hk_log.specs.declared.item.Item.TheVariants.{Commit, Closed}
 use Rattle.hk_model.specs.History.Histories.Act.{Commits, Retires}
 use Rattle.hk_model.specs.History.Histories.{Transaction, Act, History, commits, history_with_mark, entries_of, entry_of, MayRetire, IsHistory, IsItemOf, AreItemsOf}
-use Rattle.hk_model.proofs.Members.{In}
-use Rattle.hk_model.proofs.Steps.{item_longer}
+use Rattle.hk_model.proofs.Replica.Members.{In}
+use Rattle.hk_model.proofs.Replica.Steps.{item_longer}
 use Rattle.hk_primary.specs.Log.{IsLogged, IsNextMark, IsHonest, PrimaryValue, transaction_of, read_on, history_of}
 
 pub read_on-push : (h : History) (xs : List Item) (x : Item) → read_on h (xs ++ x ∷ []) ≡ read_on (read_on h xs) (x ∷ [])

@@ -14,12 +14,12 @@ use Rattle.hk_model.specs.History.Histories.{Transaction, written_key, tables_of
 use Rattle.hk_model.specs.History.Commits.{last_written}
 use Rattle.hk_model.specs.declared.write_op.WriteOp.{WriteOp}
 use Rattle.hk_model.specs.declared.write_op.WriteOp.TheVariants.{Put, Remove}
-use Rattle.hk_model.proofs.Members.{In, In-map}
-use Rattle.hk_model.proofs.Writes.{All_In, put_at, puts, puts-true, put-puts, is_written, key_tied, tied_key, get-unwritten, get-all_written, unwritten-unput}
-use Rattle.hk_model.proofs.Histories.{AreCommits, put_entry, entry_end, put_last, unput_last, last_put_last, entry_time, end_after, row_put, is_valid_row, table_unended}
-use Rattle.hk_model.proofs.Formed.{put_time}
-use Rattle.hk_model.proofs.Logs.{IsPart, fact_row, row_fact, fact_end, end_fact, row_born, row_found, end_found, find_row, find_end}
-use Rattle.hk_model.proofs.Honest.{commits_log}
+use Rattle.hk_model.proofs.Replica.Members.{In, In-map}
+use Rattle.hk_model.proofs.History.Writes.{All_In, put_at, puts, puts-true, put-puts, is_written, key_tied, tied_key, get-unwritten, get-all_written, unwritten-unput}
+use Rattle.hk_model.proofs.History.Histories.{AreCommits, put_entry, entry_end, put_last, unput_last, last_put_last, entry_time, end_after, row_put, is_valid_row, table_unended}
+use Rattle.hk_model.proofs.History.Formed.{put_time}
+use Rattle.hk_model.proofs.History.Logs.{IsPart, fact_row, row_fact, fact_end, end_fact, row_born, row_found, end_found, find_row, find_end}
+use Rattle.hk_model.proofs.History.Honest.{commits_log}
 use Rattle.hk_store.specs.Facts.{FactsValue}
 use Rattle.hk_primary.specs.Looks.{IsLatest, put_time_of_row}
 

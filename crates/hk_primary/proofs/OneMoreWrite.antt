@@ -7,8 +7,8 @@ use Rattle.hk_types.specs.declared.faults.Refusal.TheVariants.{TwiceWritten, Too
 use Rattle.hk_model.specs.History.Rows.{RowKey, row_key_cmp}
 use Rattle.hk_model.specs.History.Histories.{written_key}
 use Rattle.hk_model.specs.declared.write_op.WriteOp.{WriteOp}
-use Rattle.hk_model.proofs.Maps.{row_key_total}
-use Rattle.hk_model.proofs.Writes.{tied_key}
+use Rattle.hk_model.proofs.Replica.Maps.{row_key_total}
+use Rattle.hk_model.proofs.History.Writes.{tied_key}
 use Rattle.hk_primary.specs.Txns.{TxnValue, AreWrites, write_refused}
 
 abbrev Writes : Type 0

@@ -14,15 +14,15 @@ use Rattle.hk_model.specs.History.Histories.Act.{Commits, Retires}
 use Rattle.hk_model.specs.History.Histories.{Transaction, History, commits, is_retired, history_with_mark, last, entries_in, entries_of, IsHistory}
 use Rattle.hk_model.specs.History.Commits.{last_written}
 use Rattle.hk_model.specs.World.Worlds.{mark_upto}
-use Rattle.hk_model.proofs.Formed.{few_entries, last_in_time}
-use Rattle.hk_model.proofs.Histories.{are_commits}
-use Rattle.hk_model.proofs.Logs.{IsPart}
-use Rattle.hk_model.proofs.Members.{In}
-use Rattle.hk_model.proofs.Steps.{mark_true}
-use Rattle.hk_model.proofs.Honest.{count_step, items_part}
-use Rattle.hk_model.proofs.Joins.{rows_of-append, ends_of-append}
-use Rattle.hk_model.proofs.Maps.{version_key_total, version_key_same, get-union}
-use Rattle.hk_model.proofs.Sets.{row_facts-append, end_facts-append}
+use Rattle.hk_model.proofs.History.Formed.{few_entries, last_in_time}
+use Rattle.hk_model.proofs.History.Histories.{are_commits}
+use Rattle.hk_model.proofs.History.Logs.{IsPart}
+use Rattle.hk_model.proofs.Replica.Members.{In}
+use Rattle.hk_model.proofs.Replica.Steps.{mark_true}
+use Rattle.hk_model.proofs.History.Honest.{count_step, items_part}
+use Rattle.hk_model.proofs.Replica.Joins.{rows_of-append, ends_of-append}
+use Rattle.hk_model.proofs.Replica.Maps.{version_key_total, version_key_same, get-union}
+use Rattle.hk_model.proofs.Replica.Sets.{row_facts-append, end_facts-append}
 use Rattle.hk_model.specs.History.Facts.{row_facts, end_facts, rows_of, ends_of}
 use Rattle.hk_model.specs.Replica.Maps.{or_else}
 use Rattle.hk_store.specs.Facts.{FactsValue, with_entry}

@@ -11,12 +11,12 @@ use Rattle.hk_model.specs.Replica.Content.{at_most, without_ended}
 use Rattle.hk_model.specs.Replica.ContentOf.{content_of}
 use Rattle.hk_model.specs.Replica.Answers.{visible}
 use Rattle.hk_model.specs.History.Histories.{History, commits, table_at, entries_of, IsHistory}
-use Rattle.hk_model.proofs.Members.{In}
-use Rattle.hk_model.proofs.Maps.{version_key_total, version_key_same, get-without_ended}
-use Rattle.hk_model.proofs.Logs.{IsPart, fact_end, end_found}
-use Rattle.hk_model.proofs.Histories.{are_commits, end_after}
-use Rattle.hk_model.proofs.Honest.{items_part}
-use Rattle.hk_model.proofs.Visible.{upto, visible_at}
+use Rattle.hk_model.proofs.Replica.Members.{In}
+use Rattle.hk_model.proofs.Replica.Maps.{version_key_total, version_key_same, get-without_ended}
+use Rattle.hk_model.proofs.History.Logs.{IsPart, fact_end, end_found}
+use Rattle.hk_model.proofs.History.Histories.{are_commits, end_after}
+use Rattle.hk_model.proofs.History.Honest.{items_part}
+use Rattle.hk_model.proofs.Replica.Visible.{upto, visible_at}
 use Rattle.hk_store.specs.Facts.{FactsValue}
 use Rattle.hk_store.specs.Reads.{with_facts}
 use Rattle.hk_primary.specs.Log.{IsPrimary, history_of}

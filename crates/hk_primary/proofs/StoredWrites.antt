@@ -4,7 +4,7 @@ use Rattle.std.specs.BTreeMap.{BTreeMap}
 use Rattle.std.specs.BTreeMap as tree
 use Rattle.std.specs.FinMap as finmap
 use Rattle.hk_model.specs.History.Rows.{RowKey, row_key_cmp}
-use Rattle.hk_model.proofs.Maps.{row_key_total, row_key_same}
+use Rattle.hk_model.proofs.Replica.Maps.{row_key_total, row_key_same}
 use Rattle.hk_facts.proofs.StoredTrees.{get_tree, get_updated, entries_tree}
 
 module _ {X : Type 0} where

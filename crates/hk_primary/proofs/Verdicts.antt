@@ -15,9 +15,9 @@ use Rattle.hk_model.specs.History.Rows.{RowKey, row_key_cmp}
 use Rattle.hk_model.specs.History.Histories.{Transaction, History, MayCommit, commits, is_retired, written_key, tables_of, last, Follows, KeysRise}
 use Rattle.hk_model.specs.History.Commits.{last_written, first_conflict, first_absent}
 use Rattle.hk_model.specs.declared.write_op.WriteOp.{WriteOp}
-use Rattle.hk_model.proofs.Commits.{rises, present}
-use Rattle.hk_model.proofs.Maps.{row_key_total}
-use Rattle.hk_model.proofs.Visible.{get_entry}
+use Rattle.hk_model.proofs.History.Commits.{rises, present}
+use Rattle.hk_model.proofs.Replica.Maps.{row_key_total}
+use Rattle.hk_model.proofs.Replica.Visible.{get_entry}
 use Rattle.hk_primary.specs.Calls.{verdict_of, verdict_time, time_of, Tells, primary_after}
 use Rattle.hk_primary.specs.Log.{PrimaryValue}
 use Rattle.hk_primary.specs.Txns.{TxnValue, AreWrites}

@@ -14,9 +14,9 @@ use Rattle.hk_model.specs.Replica.Streams.{StreamContent, stream_at, all_togethe
 use Rattle.hk_model.specs.Replica.Content.{Content}
 use Rattle.hk_model.specs.Replica.Rules.{take_result, take_result_unless, absorb_result, entry_conflicts, with_items}
 use Rattle.hk_model.specs.Replica.Lawful.{IsItem}
-use Rattle.hk_model.proofs.Lawful.{taken_keeps, fits_within}
-use Rattle.hk_model.proofs.Outcomes.{taken_same_log}
-use Rattle.hk_model.proofs.Changes.{no_more_facts, same_if_outcome}
+use Rattle.hk_model.proofs.Replica.Lawful.{taken_keeps, fits_within}
+use Rattle.hk_model.proofs.Replica.Outcomes.{taken_same_log}
+use Rattle.hk_model.proofs.Replica.Changes.{no_more_facts, same_if_outcome}
 use Rattle.hk_state.specs.Calls.{Absorbs}
 use Rattle.hk_store.specs.Facts.{FactsValue, with_entry, conflicts_with_entry}
 use Rattle.hk_state.specs.Replica.{content_of_parts, IsReplica}

@@ -8,7 +8,7 @@ use Rattle.hk_model.specs.Replica.Content.{Content, readable}
 use Rattle.hk_model.specs.Replica.Streams.{StreamContent}
 use Rattle.hk_model.specs.Replica.Rules.{prune_result}
 use Rattle.hk_model.specs.Replica.Lawful.{IsLawful}
-use Rattle.hk_model.proofs.Lawful.{pruned_lawful}
+use Rattle.hk_model.proofs.Replica.Lawful.{pruned_lawful}
 use Rattle.hk_state.specs.Calls.{Prunes}
 use Rattle.hk_store.specs.Drops.{pruned_facts}
 use Rattle.hk_store.specs.Facts.{FactsValue}

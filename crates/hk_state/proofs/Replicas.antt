@@ -5,7 +5,7 @@ use Rattle.hk_types.specs.Values.{ConfigValue}
 use Rattle.hk_model.specs.Replica.Lawful.{IsLawful}
 use Rattle.hk_model.specs.Replica.Streams.{unknown}
 use Rattle.hk_model.specs.Replica.Replicas.{empty_content}
-use Rattle.hk_model.proofs.Lawful.{content_of_lawful}
+use Rattle.hk_model.proofs.Replica.Lawful.{content_of_lawful}
 use Rattle.hk_model.proofs.Laws.{nothing_content_of}
 use Rattle.hk_store.specs.Facts.{no_facts}
 use Rattle.hk_state.specs.Replica.{IsReplica}

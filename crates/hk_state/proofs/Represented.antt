@@ -5,7 +5,7 @@ use Rattle.hk_log.specs.declared.item.Item.{Item}
 use Rattle.hk_model.specs.declared.took.Took.{Took}
 use Rattle.hk_model.specs.Replica.Content.{Content}
 use Rattle.hk_model.specs.Replica.Replicas.{Represents}
-use Rattle.hk_model.proofs.Steps.{absorb_step, prune_step}
+use Rattle.hk_model.proofs.Replica.Steps.{absorb_step, prune_step}
 use Rattle.hk_state.specs.Calls.{Absorbs, AbsorbsOf, Prunes, PrunesOf}
 
 pub inside : {A : Type 0} (a b : A) → ◌≡◌ {A = Result A Refusal} (Ok a) (Ok b) → a ≡ b

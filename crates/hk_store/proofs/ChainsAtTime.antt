@@ -5,7 +5,7 @@ use Rattle.hk_types.specs.Values.{RowValue}
 use Rattle.hk_model.specs.History.Rows.{RowKey, version_of}
 use Rattle.hk_model.specs.Replica.Content.{Content}
 use Rattle.hk_model.specs.Replica.Answers.{visible}
-use Rattle.hk_model.proofs.Shown.{none_visible}
+use Rattle.hk_model.proofs.Replica.Shown.{none_visible}
 use Rattle.hk_facts.specs.Chains.{ChainValue, row_at}
 use Rattle.hk_facts.specs.Facts.{row_of, died_of}
 use Rattle.hk_facts.proofs.ShownRow.{IsChainOf, chain_visible}

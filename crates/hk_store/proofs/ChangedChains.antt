@@ -11,7 +11,7 @@ use Rattle.hk_types.specs.declared.faults.Refusal.TheVariants.{Conflict}
 use Rattle.hk_log.specs.Versions.{VersionValue, is_known}
 use Rattle.hk_model.specs.History.Rows.{RowKey, row_key_cmp, row_key_of, version_key_cmp, version_of}
 use Rattle.hk_model.specs.Replica.Maps.{or_else, values_conflict}
-use Rattle.hk_model.proofs.Maps.{row_key_same, version_key_total, version_key_same}
+use Rattle.hk_model.proofs.Replica.Maps.{row_key_same, version_key_total, version_key_same}
 use Rattle.hk_facts.specs.declared.fact.Fact.{Fact}
 use Rattle.hk_facts.specs.declared.fact.Fact.TheVariants.{Row, End}
 use Rattle.hk_facts.specs.declared.fact.Part.{Part}

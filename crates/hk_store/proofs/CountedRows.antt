@@ -16,8 +16,8 @@ use Rattle.hk_types.specs.Values.{RowValue}
 use Rattle.hk_model.specs.History.Rows.{RowKey, row_key_cmp, version_of}
 use Rattle.hk_model.specs.Replica.Content.{Content}
 use Rattle.hk_model.specs.Replica.Answers.{visible, rows_where}
-use Rattle.hk_model.proofs.Maps.{row_key_total, row_key_same}
-use Rattle.hk_model.proofs.Visible.{T_both}
+use Rattle.hk_model.proofs.Replica.Maps.{row_key_total, row_key_same}
+use Rattle.hk_model.proofs.Replica.Visible.{T_both}
 use Rattle.hk_index.proofs.StoredKeys.{no_greater}
 use Rattle.hk_facts.specs.Chains.{ChainValue, row_at}
 use Rattle.hk_facts.proofs.StoredTrees.{and_T}

@@ -9,7 +9,7 @@ use Rattle.std.specs.FinSet as set
 use Rattle.hk_types.specs.declared.version_key.VersionKey.{VersionKey}
 use Rattle.hk_model.specs.History.Rows.{version_key_cmp}
 use Rattle.hk_model.specs.Replica.Content.{at_most, ended_by}
-use Rattle.hk_model.proofs.Maps.{version_key_total, version_key_same, get-retain}
+use Rattle.hk_model.proofs.Replica.Maps.{version_key_total, version_key_same, get-retain}
 use Rattle.hk_facts.specs.declared.fact.Part.TheVariants.{Whole}
 use Rattle.hk_store.specs.Facts.{FactsValue, facts_without}
 use Rattle.hk_index.specs.Timed.{is_at, AreTimed}

@@ -15,8 +15,8 @@ use Rattle.hk_log.specs.declared.item.Item.TheVariants.{Commit}
 use Rattle.hk_model.specs.History.Rows.{version_key_cmp}
 use Rattle.hk_model.specs.Replica.Maps.{values_conflict, maps_conflict}
 use Rattle.hk_model.specs.History.Facts.{inserted_version, rows_of, ends_of}
-use Rattle.hk_model.proofs.Maps.{version_key_total, version_key_same}
-use Rattle.hk_model.proofs.Visible.{T_both, less}
+use Rattle.hk_model.proofs.Replica.Maps.{version_key_total, version_key_same}
+use Rattle.hk_model.proofs.Replica.Visible.{T_both, less}
 use Rattle.hk_store.proofs.Conflicts.{maps_conflict_over}
 use Rattle.hk_facts.proofs.StoredTrees.{and_T}
 

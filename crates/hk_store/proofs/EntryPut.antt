@@ -19,8 +19,8 @@ use Rattle.hk_log.specs.declared.item.Item.TheVariants.{Commit}
 use Rattle.hk_model.specs.History.Facts.{rows_of, ends_of}
 use Rattle.hk_model.specs.History.Rows.{version_key_cmp}
 use Rattle.hk_model.specs.Replica.Maps.{or_else, union, maps_conflict}
-use Rattle.hk_model.proofs.Maps.{version_key_total, find-append}
-use Rattle.hk_model.proofs.Visible.{T_both, less}
+use Rattle.hk_model.proofs.Replica.Maps.{version_key_total, find-append}
+use Rattle.hk_model.proofs.Replica.Visible.{T_both, less}
 use Rattle.hk_facts.specs.declared.fact.Fact.{Fact}
 use Rattle.hk_facts.specs.declared.fact.Fact.TheVariants.{Row, End}
 use Rattle.hk_store.specs.Facts.{FactsValue, with_added, with_fact_at, conflicts_with_entry}

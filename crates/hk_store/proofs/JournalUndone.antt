@@ -9,7 +9,7 @@ use Rattle.hk_types.specs.Values.{RowValue}
 use Rattle.hk_types.specs.declared.version_key.VersionKey.{VersionKey}
 use Rattle.hk_model.specs.History.Rows.{version_key_cmp}
 use Rattle.hk_model.specs.Replica.Maps.{or_else, union}
-use Rattle.hk_model.proofs.Maps.{version_key_total, version_key_same, find-append, get-union}
+use Rattle.hk_model.proofs.Replica.Maps.{version_key_total, version_key_same, find-append, get-union}
 use Rattle.hk_facts.specs.declared.fact.Fact.{Fact}
 use Rattle.hk_facts.specs.declared.fact.Fact.TheVariants.{Row, End}
 use Rattle.hk_facts.specs.declared.fact.Part.{Part}

@@ -20,7 +20,7 @@ use Rattle.hk_model.specs.History.Rows.{version_key_cmp}
 use Rattle.hk_model.specs.Replica.Content.{at_most, without_ended}
 use Rattle.hk_model.specs.Replica.Maps.{or_else, union, values_conflict}
 use Rattle.hk_model.specs.Replica.Rules.{contents_conflict}
-use Rattle.hk_model.proofs.Maps.{version_key_total, version_key_same, get-retain, get-union, get-without_ended, find-append}
+use Rattle.hk_model.proofs.Replica.Maps.{version_key_total, version_key_same, get-retain, get-union, get-without_ended, find-append}
 use Rattle.hk_index.proofs.StoredKeys.{tied_versions}
 use Rattle.hk_facts.specs.Facts.{row_of, died_of, if_known}
 use Rattle.hk_facts.specs.declared.fact.Fact.TheVariants.{Row, End}

@@ -15,7 +15,7 @@ use Rattle.hk_log.specs.Versions.{VersionValue}
 use Rattle.hk_model.specs.History.Rows.{version_key_cmp}
 use Rattle.hk_model.specs.Replica.Maps.{values_conflict}
 use Rattle.hk_model.specs.Replica.Rules.{contents_conflict}
-use Rattle.hk_model.proofs.Maps.{version_key_total, version_key_same}
+use Rattle.hk_model.proofs.Replica.Maps.{version_key_total, version_key_same}
 use Rattle.hk_index.specs.Listed.{Lists}
 use Rattle.hk_index.proofs.StoredKeys.{any-filter}
 use Rattle.hk_store.specs.Facts.{FactsValue, known_at}

@@ -16,7 +16,7 @@ use Rattle.hk_types.specs.declared.faults.Refusal.TheVariants.{Conflict}
 use Rattle.hk_log.specs.Versions.{VersionValue, is_known}
 use Rattle.hk_model.specs.History.Rows.{version_key_cmp}
 use Rattle.hk_model.specs.Replica.Maps.{or_else, values_conflict}
-use Rattle.hk_model.proofs.Maps.{version_key_total, version_key_same}
+use Rattle.hk_model.proofs.Replica.Maps.{version_key_total, version_key_same}
 use Rattle.hk_index.proofs.StoredKeys.{tied_versions}
 use Rattle.hk_facts.specs.Facts.{row_of, died_of, fact_conflicts, with_fact, put_result, if_known}
 use Rattle.hk_facts.specs.declared.fact.Fact.{Fact}

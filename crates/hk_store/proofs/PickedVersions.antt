@@ -9,7 +9,7 @@ use Rattle.hk_types.specs.declared.version_key.VersionKey.{VersionKey}
 use Rattle.hk_log.specs.Versions.{VersionValue}
 use Rattle.hk_model.specs.History.Rows.{version_key_cmp}
 use Rattle.hk_model.specs.Replica.Maps.{or_else}
-use Rattle.hk_model.proofs.Maps.{find-append}
+use Rattle.hk_model.proofs.Replica.Maps.{find-append}
 use Rattle.hk_index.proofs.StoredKeys.{tied_versions}
 use Rattle.hk_store.specs.Facts.{FactsValue, known_at, entry_if}
 use Rattle.hk_store.specs.Drops.{is_among}

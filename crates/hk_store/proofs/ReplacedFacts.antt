@@ -10,7 +10,7 @@ use Rattle.hk_types.specs.Values.{RowValue}
 use Rattle.hk_types.specs.declared.version_key.VersionKey.{VersionKey}
 use Rattle.hk_model.specs.History.Rows.{version_key_cmp}
 use Rattle.hk_model.specs.Replica.Maps.{or_else, union}
-use Rattle.hk_model.proofs.Maps.{version_key_total, version_key_same, get-retain, get-union}
+use Rattle.hk_model.proofs.Replica.Maps.{version_key_total, version_key_same, get-retain, get-union}
 use Rattle.hk_store.specs.Facts.{FactsValue}
 use Rattle.hk_store.specs.Drops.{is_among, without_all}
 use Rattle.hk_store.specs.Changes.{with_listed, facts_after_replace, meets}

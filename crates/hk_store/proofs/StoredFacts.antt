@@ -12,8 +12,8 @@ use Rattle.hk_types.specs.declared.version_key.VersionKey.{VersionKey}
 use Rattle.hk_log.specs.Versions.{VersionValue, is_known}
 use Rattle.hk_model.specs.History.Rows.{RowKey, row_key_cmp, row_key_of, version_key_cmp, version_of}
 use Rattle.hk_model.specs.Replica.Maps.{or_else}
-use Rattle.hk_model.proofs.Maps.{row_key_same, version_key_total, find-append}
-use Rattle.hk_model.proofs.Visible.{T_both, less}
+use Rattle.hk_model.proofs.Replica.Maps.{row_key_same, version_key_total, find-append}
+use Rattle.hk_model.proofs.Replica.Visible.{T_both, less}
 use Rattle.hk_facts.specs.Facts.{row_of, died_of, if_known}
 use Rattle.hk_facts.specs.Chains.{ChainValue}
 use Rattle.hk_store.specs.Facts.{FactsValue, ChainsValue, stored_version, entry_if, read_all, facts_of, known_at, AllKnown}

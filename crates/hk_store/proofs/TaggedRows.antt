@@ -14,12 +14,12 @@ use Rattle.hk_log.specs.Versions.{VersionValue}
 use Rattle.hk_model.specs.History.Rows.{RowKey, version_key_cmp, row_key_cmp}
 use Rattle.hk_model.specs.History.Histories.{Tables}
 use Rattle.hk_model.specs.Replica.Answers.{visible, rows_where}
-use Rattle.hk_model.proofs.Maps.{version_key_same, row_key_total, row_key_same}
-use Rattle.hk_model.proofs.Members.{In, In-append, In-find}
-use Rattle.hk_model.proofs.Writes.{In_filter, filter_In}
-use Rattle.hk_model.proofs.Shown.{visible_version}
-use Rattle.hk_model.proofs.Visible.{any_where, get_entry}
-use Rattle.hk_model.proofs.Listed.{Rises, sorted_from, sorted_filter, same_sorted, map_In_pair, In-filter_map, filter_map-In, rises_from}
+use Rattle.hk_model.proofs.Replica.Maps.{version_key_same, row_key_total, row_key_same}
+use Rattle.hk_model.proofs.Replica.Members.{In, In-append, In-find}
+use Rattle.hk_model.proofs.History.Writes.{In_filter, filter_In}
+use Rattle.hk_model.proofs.Replica.Shown.{visible_version}
+use Rattle.hk_model.proofs.Replica.Visible.{any_where, get_entry}
+use Rattle.hk_model.proofs.Replica.Listed.{Rises, sorted_from, sorted_filter, same_sorted, map_In_pair, In-filter_map, filter_map-In, rises_from}
 use Rattle.hk_facts.specs.Facts.{row_of}
 use Rattle.hk_index.specs.Tags.{TagKeysValue, StillListed, ListsKeys, is_one_of, is_listed}
 use Rattle.hk_store.specs.Facts.{FactsValue, known_at}

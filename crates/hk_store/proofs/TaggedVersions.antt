@@ -10,7 +10,7 @@ use Rattle.std.specs.FinSet as set
 use Rattle.hk_types.specs.Values.{RowValue}
 use Rattle.hk_types.specs.declared.version_key.VersionKey.{VersionKey}
 use Rattle.hk_model.specs.History.Rows.{version_key_cmp}
-use Rattle.hk_model.proofs.Maps.{version_key_total, version_key_same}
+use Rattle.hk_model.proofs.Replica.Maps.{version_key_total, version_key_same}
 use Rattle.hk_index.specs.Listed.{Lists, with_keys}
 use Rattle.hk_index.specs.Tags.{TagKeysValue, ListsKeys, is_one_of, is_listed}
 use Rattle.hk_index.proofs.StoredKeys.{any-filter}

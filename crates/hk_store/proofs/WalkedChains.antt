@@ -17,7 +17,7 @@ use Rattle.std.specs.declared.cmp.Ordering.TheVariants.{Less, Equal, Greater}
 use Rattle.hk_log.specs.Versions.{VersionValue}
 use Rattle.hk_types.specs.declared.version_key.VersionKey.{VersionKey}
 use Rattle.hk_model.specs.History.Rows.{RowKey, version_of}
-use Rattle.hk_model.proofs.Visible.{T_both}
+use Rattle.hk_model.proofs.Replica.Visible.{T_both}
 use Rattle.hk_facts.specs.Chains.{ChainValue, FirstBorn, is_after}
 use Rattle.hk_store.specs.Versions.{NextOf, borrowed, left_of_walk, versions_of_row, versions_of_rows}
 

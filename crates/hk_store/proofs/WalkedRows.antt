@@ -18,9 +18,9 @@ use Rattle.std.specs.declared.cmp.Ordering.TheVariants.{Less, Equal, Greater}
 use Rattle.hk_types.specs.declared.version_key.VersionKey.{VersionKey}
 use Rattle.hk_log.specs.Versions.{VersionValue}
 use Rattle.hk_model.specs.History.Rows.{RowKey, row_key_cmp, row_key_of, version_key_cmp, version_of}
-use Rattle.hk_model.proofs.Maps.{row_key_total, row_key_same, version_key_total, version_key_same}
-use Rattle.hk_model.proofs.Members.{In}
-use Rattle.hk_model.proofs.Visible.{T_both, less, find_sorted}
+use Rattle.hk_model.proofs.Replica.Maps.{row_key_total, row_key_same, version_key_total, version_key_same}
+use Rattle.hk_model.proofs.Replica.Members.{In}
+use Rattle.hk_model.proofs.Replica.Visible.{T_both, less, find_sorted}
 use Rattle.hk_facts.specs.Chains.{ChainValue}
 use Rattle.hk_facts.proofs.StoredTrees.{and_T}
 use Rattle.hk_store.specs.Facts.{FactsValue, ChainsValue, known_at, facts_of, AllKnown}

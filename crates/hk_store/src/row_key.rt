@@ -3,7 +3,7 @@
 ghost use Rattle.std.specs.Prelude.{◌≡◌};
 ghost use Rattle.hk_model.specs.History.Histories.{written_key};
 ghost use Rattle.hk_model.specs.History.Rows.{row_key_of};
-ghost use Rattle.hk_model.proofs.Maps.{row_key_same};
+ghost use Rattle.hk_model.proofs.Replica.Maps.{row_key_same};
 
 use hk_model::WriteOp;
 use hk_slots::Key as SlotKey;

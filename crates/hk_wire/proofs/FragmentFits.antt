@@ -19,8 +19,8 @@ use Rattle.hk_model.specs.Replica.Streams.{StreamContent, covers}
 use Rattle.hk_model.specs.Replica.Content.{least_closed}
 use Rattle.hk_model.specs.Replica.Lawful.{IsLawfulStream, IsLawfulFragment}
 use Rattle.hk_model.specs.Replica.Fragments.{FragmentValue}
-use Rattle.hk_model.proofs.Streams.{tied_counts}
-use Rattle.hk_model.proofs.Visible.{T_both}
+use Rattle.hk_model.proofs.Replica.Streams.{tied_counts}
+use Rattle.hk_model.proofs.Replica.Visible.{T_both}
 use Rattle.hk_marks.specs.Seen.{IsNumbered}
 use Rattle.hk_marks.specs.Steps.{extra_numbers}
 use Rattle.hk_fragment.specs.Parts.{Known, versions_listed, follows, is_valid_row, is_valid_end, is_valid_fact, facts_fault}

@@ -13,7 +13,7 @@ use Rattle.std.specs.BTreeSet.{BTreeSet}
 use Rattle.std.proofs.lemmas.Bool.{lt-leb, le-leb, leb-true}
 use Rattle.std.proofs.lemmas.Bool.Decides.{nat_tests}
 use Rattle.hk_model.specs.Replica.Streams.{StreamContent, covers, unknown}
-use Rattle.hk_model.proofs.Streams.{later, told, latest, latest-entries, latest-append, tied_counts}
+use Rattle.hk_model.proofs.Replica.Streams.{later, told, latest, latest-entries, latest-append, tied_counts}
 use Rattle.hk_marks.specs.Seen.{up_to, taken_seen, IsExtra}
 use Rattle.hk_marks.specs.Steps.{with_number, with_mark, with_prefix, extra_numbers}
 use Rattle.hk_marks.proofs.CoveredMarks.{settled-done, mark_waits}

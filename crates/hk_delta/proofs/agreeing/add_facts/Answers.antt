@@ -1,5 +1,5 @@
 use Rattle.std.proofs.Common.{sym, ap, ◌∙◌}
-use Rattle.hk_model.proofs.Changes.{no_more_facts}
+use Rattle.hk_model.proofs.Replica.Changes.{no_more_facts}
 use Rattle.hk_delta.specs.Agreeing.{facts_with}
 use Rattle.hk_delta.proofs.agreeing.add_facts.Goals as goal
 

@@ -3,7 +3,7 @@ use Rattle.std.proofs.lemmas.List.{take_more, take-append-drop}
 use Rattle.hk_types.specs.declared.faults.Refusal.TheVariants.{Memory}
 use Rattle.hk_log.specs.declared.item.Item.{Item}
 use Rattle.hk_model.specs.Replica.Streams.{unknown}
-use Rattle.hk_model.proofs.Sets.{append_assoc'}
+use Rattle.hk_model.proofs.Replica.Sets.{append_assoc'}
 use Rattle.hk_delta.specs.Agreeing.{absorb_all, taken_items, IsLearnt}
 use Rattle.hk_delta.proofs.AgreedItems.{nothing_learnt, one_learnt, one_refused, as_many}
 use Rattle.hk_delta.proofs.WrongLogs.{none_told, count_streams}

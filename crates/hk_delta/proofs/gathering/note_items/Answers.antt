@@ -3,7 +3,7 @@ use Rattle.std.proofs.lemmas.List.{take_more}
 use Rattle.std.proofs.lemmas.List.Elements.{All-push, All-nil}
 use Rattle.hk_log.specs.declared.item.Item.{Item}
 use Rattle.hk_model.specs.Replica.Streams.{streams_of, all_together}
-use Rattle.hk_model.proofs.Sets.{all_together-streams_of}
+use Rattle.hk_model.proofs.Replica.Sets.{all_together-streams_of}
 use Rattle.hk_model.specs.Replica.Lawful.{IsItem}
 use Rattle.hk_delta.proofs.WrongLogs.{fits_at, none_told, count_streams}
 use Rattle.hk_delta.proofs.gathering.note_items.Goals as goal

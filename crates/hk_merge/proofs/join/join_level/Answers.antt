@@ -1,6 +1,6 @@
 use Rattle.std.proofs.Common.{sym, ap, ◌∙◌, subst}
 use Rattle.hk_model.specs.Replica.Lawful.{IsLawful}
-use Rattle.hk_model.proofs.Lawful.{joined_lawful}
+use Rattle.hk_model.proofs.Replica.Lawful.{joined_lawful}
 use Rattle.hk_state.specs.Changes.{content_learnt}
 use Rattle.hk_merge.specs.Growing.{has_horizon}
 use Rattle.hk_merge.specs.Sent.{fragment_sent}

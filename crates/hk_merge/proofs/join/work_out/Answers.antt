@@ -1,6 +1,6 @@
 use Rattle.std.proofs.Common.{◌≡◌, sym, ap, ◌∙◌, subst, max, ◌==◌, ◌&&◌, ◌||◌}
 use Rattle.hk_model.specs.Replica.Lawful.{IsLawful}
-use Rattle.hk_model.proofs.Lawful.{joined_lawful}
+use Rattle.hk_model.proofs.Replica.Lawful.{joined_lawful}
 use Rattle.hk_store.specs.Drops.{is_among}
 use Rattle.hk_merge.specs.Sent.{fragment_sent}
 use Rattle.hk_merge.specs.Plans.{old_come, gone_at}

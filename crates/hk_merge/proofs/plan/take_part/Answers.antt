@@ -3,7 +3,7 @@ use Rattle.std.proofs.lemmas.List.{map-id, take_all}
 use Rattle.std.specs.FinMap.{find}
 use Rattle.hk_model.specs.History.Rows.{version_key_cmp}
 use Rattle.hk_model.specs.Replica.Maps.{or_else}
-use Rattle.hk_model.proofs.Maps.{find-append}
+use Rattle.hk_model.proofs.Replica.Maps.{find-append}
 use Rattle.hk_fragment.specs.Parts.{versions_listed}
 use Rattle.hk_fragment.proofs.FoundVersions.{versions_are}
 use Rattle.hk_store.specs.Reads.{facts_of_content}

@@ -3,7 +3,7 @@ use Rattle.std.specs.Option.{option_and_then}
 use Rattle.std.specs.FinMap.{find}
 use Rattle.hk_model.specs.History.Rows.{version_key_cmp}
 use Rattle.hk_model.specs.Replica.Maps.{or_else}
-use Rattle.hk_model.proofs.Maps.{find-append}
+use Rattle.hk_model.proofs.Replica.Maps.{find-append}
 use Rattle.hk_store.specs.Facts.{known_at}
 use Rattle.hk_store.specs.Versions.{borrowed}
 use Rattle.hk_store.proofs.PickedVersions.{find_picked}

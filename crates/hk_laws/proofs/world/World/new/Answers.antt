@@ -1,7 +1,7 @@
 use Rattle.std.proofs.Common.{sym, subst, List, []}
 use Rattle.hk_model.specs.Replica.Content.{Content}
 use Rattle.hk_model.specs.World.Worlds.{Agree, new_items}
-use Rattle.hk_model.proofs.Runs.{new_agree}
+use Rattle.hk_model.proofs.World.Runs.{new_agree}
 use Rattle.hk_primary.specs.Log.{PrimaryValue}
 use Rattle.hk_laws.proofs.world.World.new.Goals as goal
 

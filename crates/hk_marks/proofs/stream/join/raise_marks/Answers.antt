@@ -5,7 +5,7 @@ use Rattle.std.specs.Ordering.{nat_cmp}
 use Rattle.std.specs.BTreeMap as tree
 use Rattle.std.specs.FinMap as finmap
 use Rattle.std.specs.Map.Iter.{deref_pair}
-use Rattle.hk_model.proofs.Streams.{later, told}
+use Rattle.hk_model.proofs.Replica.Streams.{later, told}
 use Rattle.hk_model.specs.Replica.Streams.{stream_with}
 use Rattle.hk_marks.specs.Seen.{waiting_seen}
 use Rattle.hk_marks.proofs.StoredStreams.{get-waiting_seen}

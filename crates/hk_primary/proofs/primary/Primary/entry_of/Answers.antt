@@ -2,8 +2,8 @@ use Rattle.std.proofs.Common.{◌≡◌, ◌≤◌, ◌<◌, ◌^◌, ◌+◌, s
 use Rattle.std.specs.FinMap as finmap
 use Rattle.hk_log.specs.Items.{EntryValue, IsEntry}
 use Rattle.hk_model.specs.History.Histories.{Transaction, Follows, commits, entry_of}
-use Rattle.hk_model.proofs.Histories.{are_commits}
-use Rattle.hk_model.proofs.Formed.{entry_formed}
+use Rattle.hk_model.proofs.History.Histories.{are_commits}
+use Rattle.hk_model.proofs.History.Formed.{entry_formed}
 use Rattle.hk_primary.specs.Log.{PrimaryValue, history_of}
 use Rattle.hk_primary.proofs.PrimaryRules.{is_history}
 use Rattle.hk_primary.proofs.primary.Primary.entry_of.Goals as goal

@@ -1,7 +1,7 @@
 use Rattle.std.proofs.Common.{sym, ap, ◌∙◌, subst, length}
 use Rattle.hk_model.specs.Replica.Content.{Content}
 use Rattle.hk_model.specs.Replica.Lawful.{IsLawful}
-use Rattle.hk_model.proofs.Streams.{as_many_together}
+use Rattle.hk_model.proofs.Replica.Streams.{as_many_together}
 use Rattle.hk_state.specs.Changes.{content_after_change}
 use Rattle.hk_state.specs.Replica.{content_of_parts}
 use Rattle.hk_state.proofs.replica.ReplicaState.apply.Goals as goal

@@ -4,9 +4,9 @@ use Rattle.std.proofs.lemmas.Bool.{and_parts, or_left, or_right, cases_lt}
 use Rattle.std.specs.List.{list_any}
 use Rattle.std.specs.FinMap as finmap
 use Rattle.std.specs.FinMap.Entries.{find}
-use Rattle.hk_model.proofs.Maps.{version_key_total, version_key_same, row_key_total, row_key_same, get-retain}
-use Rattle.hk_model.proofs.Members.{In, In-map, map-In, In-find, find-In}
-use Rattle.hk_model.proofs.Visible.{get_entry}
+use Rattle.hk_model.proofs.Replica.Maps.{version_key_total, version_key_same, row_key_total, row_key_same, get-retain}
+use Rattle.hk_model.proofs.Replica.Members.{In, In-map, map-In, In-find, find-In}
+use Rattle.hk_model.proofs.Replica.Visible.{get_entry}
 use Rattle.hk_types.specs.Values.{RowValue}
 use Rattle.hk_types.specs.declared.version_key.VersionKey.{VersionKey}
 use Rattle.hk_model.specs.History.Rows.{RowKey, version_key_cmp, row_key_cmp, row_key_of, version_of}

@@ -15,12 +15,12 @@ use Rattle.hk_types.specs.declared.version_key.VersionKey.{VersionKey}
 use Rattle.hk_model.specs.History.Rows.{RowKey, version_key_cmp, row_key_cmp, row_key_of}
 use Rattle.hk_model.specs.Replica.Content.{Content}
 use Rattle.hk_model.specs.Replica.Answers.{shows, visible}
-use Rattle.hk_model.proofs.Maps.{version_key_total, row_key_total, row_key_same, version_key_same}
-use Rattle.hk_model.proofs.Members.{In, In-find}
-use Rattle.hk_model.proofs.Same.{same_option}
-use Rattle.hk_model.proofs.Writes.{In_filter, filter_In}
-use Rattle.hk_model.proofs.Visible.{T_both, find_sorted, get_entry, any_where}
-use Rattle.hk_model.proofs.Shown.{shows_parts, one_shows, visible_row, visible_version, any_In}
+use Rattle.hk_model.proofs.Replica.Maps.{version_key_total, row_key_total, row_key_same, version_key_same}
+use Rattle.hk_model.proofs.Replica.Members.{In, In-find}
+use Rattle.hk_model.proofs.Replica.Same.{same_option}
+use Rattle.hk_model.proofs.History.Writes.{In_filter, filter_In}
+use Rattle.hk_model.proofs.Replica.Visible.{T_both, find_sorted, get_entry, any_where}
+use Rattle.hk_model.proofs.Replica.Shown.{shows_parts, one_shows, visible_row, visible_version, any_In}
 
 -- each is below all that follow it
 abbrev pub Rises : {K : Type 0} → (K → K → Ordering) → List K → Type 0

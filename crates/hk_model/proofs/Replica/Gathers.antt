@@ -6,12 +6,12 @@ use Rattle.std.specs.List.{list_any}
 use Rattle.std.specs.Ordering.{eq_by_cmp}
 use Rattle.std.specs.Cmp.{Equal-is}
 use Rattle.hk_types.specs.Values.{ConfigValue}
-use Rattle.hk_model.proofs.Maps.{version_key_same}
-use Rattle.hk_model.proofs.Members.{In}
-use Rattle.hk_model.proofs.Joins.{same_row_if}
-use Rattle.hk_model.proofs.Logs.{facts_agree, ends_agree}
-use Rattle.hk_model.proofs.Honest.{history_log, items_part, item_fits}
-use Rattle.hk_model.proofs.Visible.{any_where}
+use Rattle.hk_model.proofs.Replica.Maps.{version_key_same}
+use Rattle.hk_model.proofs.Replica.Members.{In}
+use Rattle.hk_model.proofs.Replica.Joins.{same_row_if}
+use Rattle.hk_model.proofs.History.Logs.{facts_agree, ends_agree}
+use Rattle.hk_model.proofs.History.Honest.{history_log, items_part, item_fits}
+use Rattle.hk_model.proofs.Replica.Visible.{any_where}
 use Rattle.hk_types.specs.declared.version_key.VersionKey.{VersionKey}
 use Rattle.hk_types.specs.Values.{same_row}
 use Rattle.hk_model.specs.History.Rows.{version_key_cmp}

@@ -4,14 +4,14 @@ use Rattle.std.proofs.lemmas.Bool.{lt-leb}
 use Rattle.std.proofs.lemmas.List.FromFn.{get_or-map-range_with_len, length-map-range_with_len}
 use Rattle.std.specs.FinMap as finmap
 use Rattle.std.specs.FinSet as set
-use Rattle.hk_model.proofs.Maps.{version_key_total, version_key_same, get-union, no_entry_conflict}
-use Rattle.hk_model.proofs.Members.{In, In-left, In-right, In-append}
-use Rattle.hk_model.proofs.Points.{rows_add, ends_add}
-use Rattle.hk_model.proofs.Sets.{all_together-streams_of}
-use Rattle.hk_model.proofs.Logs.{IsOneLog, IsPart, fact_row, fact_end, row_born, end_dead, row_found, end_found, facts_agree, ends_agree, end_time}
-use Rattle.hk_model.proofs.Complete.{least_within, taken_number, closed_entry}
-use Rattle.hk_model.proofs.Joins.{rows_of-append, ends_of-append, content_of_row, content_of_end, alike_differ, same_row_if}
-use Rattle.hk_model.proofs.Same.{SameItems, number_taken, same_content_of}
+use Rattle.hk_model.proofs.Replica.Maps.{version_key_total, version_key_same, get-union, no_entry_conflict}
+use Rattle.hk_model.proofs.Replica.Members.{In, In-left, In-right, In-append}
+use Rattle.hk_model.proofs.Replica.Points.{rows_add, ends_add}
+use Rattle.hk_model.proofs.Replica.Sets.{all_together-streams_of}
+use Rattle.hk_model.proofs.History.Logs.{IsOneLog, IsPart, fact_row, fact_end, row_born, end_dead, row_found, end_found, facts_agree, ends_agree, end_time}
+use Rattle.hk_model.proofs.History.Complete.{least_within, taken_number, closed_entry}
+use Rattle.hk_model.proofs.Replica.Joins.{rows_of-append, ends_of-append, content_of_row, content_of_end, alike_differ, same_row_if}
+use Rattle.hk_model.proofs.Replica.Same.{SameItems, number_taken, same_content_of}
 use Rattle.hk_model.specs.Replica.Maps.{or_else}
 use Rattle.hk_types.specs.Values.{RowValue, ConfigValue}
 use Rattle.hk_types.specs.declared.version_key.VersionKey.{VersionKey}

@@ -4,11 +4,11 @@ use Rattle.std.proofs.lemmas.Bool.Decides.{nat_tests}
 use Rattle.std.proofs.lemmas.List.FromFn.{length-map-range_with_len}
 use Rattle.std.specs.Cmp.Lexicographic.{pointwise}
 use Rattle.std.specs.FinMap as finmap
-use Rattle.hk_model.proofs.Maps.{version_key_total, version_key_same, get-union, get-retain, get-without_ended, no_entry_conflict, find-append}
-use Rattle.hk_model.proofs.Points.{Fit, ends_join, rows_join, prune_twice}
-use Rattle.hk_model.proofs.Sets.{row_facts-append, end_facts-append, all_together-streams_of}
-use Rattle.hk_model.proofs.Logs.{IsOneLog, IsPart, fit}
-use Rattle.hk_model.proofs.Complete.{complete}
+use Rattle.hk_model.proofs.Replica.Maps.{version_key_total, version_key_same, get-union, get-retain, get-without_ended, no_entry_conflict, find-append}
+use Rattle.hk_model.proofs.Replica.Points.{Fit, ends_join, rows_join, prune_twice}
+use Rattle.hk_model.proofs.Replica.Sets.{row_facts-append, end_facts-append, all_together-streams_of}
+use Rattle.hk_model.proofs.History.Logs.{IsOneLog, IsPart, fit}
+use Rattle.hk_model.proofs.History.Complete.{complete}
 use Rattle.hk_model.specs.Replica.Maps.{or_else, values_conflict}
 use Rattle.hk_types.specs.Values.{RowValue, ConfigValue}
 use Rattle.hk_types.specs.declared.version_key.VersionKey.{VersionKey}

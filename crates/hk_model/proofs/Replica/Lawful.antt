@@ -5,18 +5,18 @@ use Rattle.std.proofs.lemmas.List.FromFn.{length-map-range_with_len}
 use Rattle.std.specs.Cmp.{nat_cmp_total as nat_total}
 use Rattle.std.specs.FinMap as finmap
 use Rattle.std.specs.FinSet as set
-use Rattle.hk_model.proofs.Writes.{All_In}
+use Rattle.hk_model.proofs.History.Writes.{All_In}
 use Rattle.hk_model.specs.Replica.ContentOf.{content_of}
 use Rattle.hk_model.specs.Replica.Items.{log_of, stream_no, wrong_log}
 use Rattle.hk_model.specs.declared.took.Took.TheVariants.{Taken, Repeated}
 use Rattle.hk_model.specs.declared.took.Took.{Took}
 use Rattle.hk_types.specs.declared.faults.Refusal.TheVariants.{ForeignLog, WrongStreams, Gap, Conflict, AheadOfMark}
 use Rattle.hk_types.specs.declared.faults.Refusal.{Refusal}
-use Rattle.hk_model.proofs.Maps.{version_key_total, version_key_same, get-union, get-retain, get-without_ended}
-use Rattle.hk_model.proofs.Members.{In, In-map}
+use Rattle.hk_model.proofs.Replica.Maps.{version_key_total, version_key_same, get-union, get-retain, get-without_ended}
+use Rattle.hk_model.proofs.Replica.Members.{In, In-map}
 use Rattle.std.proofs.lemmas.Bool.{and_parts, or_parts}
 use Rattle.std.specs.List.{list_all, range_with_len}
-use Rattle.hk_model.proofs.Logs.{fact_row, fact_end, row_found, end_found, row_born}
+use Rattle.hk_model.proofs.History.Logs.{fact_row, fact_end, row_found, end_found, row_born}
 use Rattle.hk_model.specs.Replica.Maps.{or_else, union, maps_conflict}
 use Rattle.hk_types.specs.Values.{RowValue, ConfigValue}
 use Rattle.hk_types.specs.declared.version_key.VersionKey.{VersionKey}

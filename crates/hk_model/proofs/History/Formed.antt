@@ -17,10 +17,10 @@ use Rattle.hk_model.specs.Replica.Lawful.{IsItem}
 use Rattle.hk_model.specs.declared.write_op.WriteOp.{WriteOp}
 use Rattle.hk_model.specs.declared.write_op.WriteOp.TheVariants.{Put, Remove}
 use Rattle.hk_model.specs.History.Histories.{Transaction, History, Tables, IsHistory, MayClose, commits, written_key, put_row, tables_of, last, last_put, entries_in, entry_of, entries_of, KeysRise, RemovesPresent, Follows, IsItemOf}
-use Rattle.hk_model.proofs.Members.{In}
-use Rattle.hk_model.proofs.Logs.{row_born}
-use Rattle.hk_model.proofs.Histories.{AreCommits, are_commits, entry_time, last_put_last, table_row}
-use Rattle.hk_model.proofs.Honest.{is_closed, closed_step, count_step, Contains_In}
+use Rattle.hk_model.proofs.Replica.Members.{In}
+use Rattle.hk_model.proofs.History.Logs.{row_born}
+use Rattle.hk_model.proofs.History.Histories.{AreCommits, are_commits, entry_time, last_put_last, table_row}
+use Rattle.hk_model.proofs.History.Honest.{is_closed, closed_step, count_step, Contains_In}
 
 -- ---- places rise
 

@@ -1,0 +1,19 @@
+-- What replicas' contents do: maps, sets of items, joins and what is shown.
+pub mod Maps
+pub mod Points
+pub mod Streams
+pub mod Sets
+pub mod Members
+pub mod Joins
+pub mod Same
+pub mod Absorbs
+pub mod Visible
+pub mod Lawful
+pub mod Repeats
+pub mod Steps
+pub mod Gathers
+pub mod Changes
+pub mod Standing
+pub mod Outcomes
+pub mod Shown
+pub mod Listed

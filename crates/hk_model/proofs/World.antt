@@ -1,0 +1,3 @@
+-- Runs of a world.
+pub mod Worlds
+pub mod Runs
