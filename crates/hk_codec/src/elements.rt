@@ -83,8 +83,8 @@ pub(crate) fn keyed_end_len(end: &VersionKey) -> u32
     ensures most { result ≤ 4110 }
     ensures fits { spec.EndFits end.now }
 {
-    let _table = end.table.number();
-    let _key = end.key.number();
+    let _known = end.table.number();
+    let _known = end.key.number();
     16
 }
 
@@ -95,9 +95,9 @@ pub(crate) fn keyed_row_len(row: &(Table, Key, Row)) -> u32
     ensures most { result ≤ 4110 }
     ensures fits { spec.RowFits row.now }
 {
-    let _table = row.0.number();
-    let _key = row.1.number();
-    let _tag = row.2.tag().number();
+    let _known = row.0.number();
+    let _known = row.1.number();
+    let _known = row.2.tag().number();
     14 + row.2.body().len() as u32
 }
 

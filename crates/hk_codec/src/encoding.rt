@@ -56,7 +56,7 @@ fn mark_len(mark: &Mark) -> u32
     ensures len { result ≡ 28 }
     ensures fits { IsMark mark.now }
 {
-    let _count = mark.n();
+    let _known = mark.n();
     28
 }
 

@@ -181,7 +181,7 @@ fn read_entry(alloc: Global, cursor: &mut Cursor, head: Head) -> Result<Entry, R
     let (number, time) = read_moment(cursor)?;
     let ends = read_version_ends(alloc, cursor, head.version, time)?;
     let rows = read_version_rows(alloc, cursor, head.version, time, ends.len())?;
-    let _in_range = head.stream.number();
+    let _known = head.stream.number();
     Ok(Entry::of_parts(head.log, head.stream, number, time, ends, rows))
 }
 

@@ -97,7 +97,7 @@ fn learn_all(alloc: Global, state: &ReplicaState, items: &[Item]) -> Result<News
     ensures { LearnsAll state.now items.now result }
 {
     // Its clause says that the state is lawful.
-    state.horizon();
+    let _known = state.horizon();
     let mut news = News {
         facts: Facts::new(alloc),
         got: Got::new(alloc, state.config())?,

@@ -150,6 +150,6 @@ fn same(state: &ReplicaState) -> Told
     ensures outcome { told_seen result ≡ Done }
     ensures whole { rules.merge_result state.now state.now ≡ Ok state.now }
 {
-    let _lawful = state.horizon();
+    let _known = state.horizon();
     Told::Done
 }

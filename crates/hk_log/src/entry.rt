@@ -65,7 +65,7 @@ impl Entry {
         if !were_born(&ends, time) {
             return Err(FormFault::BadNumber);
         }
-        let _in_range = stream.number();
+        let _known = stream.number();
         Ok(Entry {
             log,
             stream,

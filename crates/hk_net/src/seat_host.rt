@@ -48,7 +48,7 @@ impl<J: NodeName> SeatHost<J> {
     pub fn new(seat: ReaderSeat<J>) -> SeatHost<J>
         ensures { result ≡ seat }
     {
-        let _legal = seat.seen();
+        let _known = seat.seen();
         SeatHost { seat }
     }
 
@@ -73,7 +73,7 @@ impl<J: NodeName> SeatHost<J> {
         ensures told { IsPrefix receipt self.new }
     {
         self.seat.learn(receipt);
-        let _legal = self.seat.seen();
+        let _known = self.seat.seen();
     }
 
     /// The reply to a change, which is let go.
@@ -81,7 +81,7 @@ impl<J: NodeName> SeatHost<J> {
         ensures legal { is_legal self.now ≡ true }
         ensures told { reply_seen result ≡ Refused (Form BadKind) }
     {
-        let _legal = self.seat.seen();
+        let _known = self.seat.seen();
         Reply::Refused(Refusal::Form(FormFault::BadKind))
     }
 

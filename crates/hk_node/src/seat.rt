@@ -145,7 +145,7 @@ impl<J: NodeName> ReaderSeat<J> {
         ensures place { IfOk result (λ r. IsOf J.book (known r.place)) }
         ensures err { IfErr result (λ why. why ≡ Memory) }
     {
-        let _ops = self.prefix.len();
+        let _known = self.prefix.len();
         let Some(reader) = self.reader.take() else {
             return Err(Refusal::Memory);
         };

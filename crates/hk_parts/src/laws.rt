@@ -25,7 +25,7 @@ pub fn fragment_law(fragment: &Fragment)
     ensures facts { of_facts (head_of fragment.now) (facts_of fragment.now) ≡ Ok fragment.now }
     ensures parts { IsOfItsParts fragment.now }
 {
-    let _facts = fragment.facts();
+    let _known = fragment.facts();
 }
 
 /// Where a head and parts make a fragment, it has that head, and its facts are those of the parts, one after the

@@ -164,7 +164,7 @@ impl<K: Naming> SharedPrimary<K> {
     {
         let mut held = self.held.lock(rt);
         let Held { primary, emitted } = &mut *held;
-        let _kept = primary.last();
+        let _known = primary.last();
         emitted.audit(share);
         let time = primary.commit(txn, stream)?;
         if time.is_some() {

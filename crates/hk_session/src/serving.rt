@@ -179,7 +179,7 @@ fn run<R: Read, W: Write, H: Host>(
     ensures reads { result ≢ ends.ReadFault → reader.new.faults ≡ 0 }
     ensures writes { result ≢ ends.WriteFault → writer.new.faults ≡ 0 }
 {
-    let _bounded = reader.calls();
+    let _known = reader.calls();
     let mut feeder = RequestFeeder::new(alloc);
     let mut buffer = [0; 65_536];
     for _ in 0..MOST_READS {

@@ -129,7 +129,7 @@ impl Facts {
         ensures back { without_journal journal.new.items self.new
             ≡ without_journal journal.old.items self.old }
     {
-        let _rising = entry.rows();
+        let _known = entry.rows();
         let time = entry.time();
         let (ends, rows) = entry.into_writes();
         let room = self.put_rows(journal, rows, time)?;

@@ -91,7 +91,7 @@ fn push_known(
     ensures items { OnOk result (list.new.items ≡ list.old.items ++ (version, known) ∷ []) }
     ensures known { is_known known ≡ true }
 {
-    known.row();
+    let _known = known.row();
     list.push((version, known))?;
     Ok(())
 }

@@ -8,7 +8,7 @@ pub(crate) fn number_len(number: u64) -> u64
     ensures len { result ≡ 8 }
     ensures fits { number < 2 ^ 64 }
 {
-    let _number = number;
+    let _known = number;
     8
 }
 

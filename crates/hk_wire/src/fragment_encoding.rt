@@ -154,7 +154,7 @@ fn head_len(config: Config, base: Time, horizon: Time) -> u64
     ensures base { base ≤ 2 ^ 62 }
     ensures horizon { horizon ≤ 2 ^ 62 }
 {
-    let _streams = config.streams();
+    let _known = config.streams();
     number_len(config.log()) + 2 + time_len(base) + time_len(horizon)
 }
 

@@ -5,7 +5,7 @@ use Rattle.hk_session.proofs.Transcripts.{at_start, SessionStep-then, goes_on_jo
 use Rattle.hk_session.proofs.serving.run.Goals as goal
 
 pub loop-init : goal.loop-init
-loop-init g c = (c.requires.reader, c.requires.writer, omega (arith, c.calls-bounded.ensures.bound), c.requires.ready, ([], c.new-feeder.ensures, [], Consumes-nil _, at_start g.H.Host.may c.args.host.now _))
+loop-init g c = (c.requires.reader, c.requires.writer, omega (arith, c.calls-known.ensures.bound), c.requires.ready, ([], c.new-feeder.ensures, [], Consumes-nil _, at_start g.H.Host.may c.args.host.now _))
 
 pub returns-then-count-eq0-clause-transcript : goal.returns-then-count-eq0-clause-transcript
 returns-then-count-eq0-clause-transcript g c =
