@@ -96,7 +96,6 @@ fn learn(state: &ReplicaState, news: &mut News, item: &Item) -> Result<(), Refus
 fn learn_all(alloc: Global, state: &ReplicaState, items: &[Item]) -> Result<News, Refusal>
     ensures { LearnsAll state.now items.now result }
 {
-    // Its clause says that the state is lawful.
     let _known = state.horizon();
     let mut news = News {
         facts: Facts::new(alloc),
