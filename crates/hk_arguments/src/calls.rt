@@ -89,26 +89,16 @@ fn either<'a>(matches: &ArgMatches<'a>, order: Order, alone: Option<Alone>) -> O
     }
 }
 
-fn front_alone(matches: &ArgMatches<'_>) -> Option<Alone> {
-    let config = config_of(matches)?;
-    let is_json = is_json(matches);
-    Some(Alone::Front { config, is_json })
-}
-
 fn front_call<'a>(matches: &ArgMatches<'a>) -> Option<Call<'a>> {
     let is_json = is_json(matches);
-    either(matches, Order::Front { is_json }, front_alone(matches))
-}
-
-fn status_alone(matches: &ArgMatches<'_>) -> Option<Alone> {
-    let config = config_of(matches)?;
-    let is_json = is_json(matches);
-    Some(Alone::Status { config, is_json })
+    let alone = config_of(matches).map(|config| Alone::Front { config, is_json });
+    either(matches, Order::Front { is_json }, alone)
 }
 
 fn status_call<'a>(matches: &ArgMatches<'a>) -> Option<Call<'a>> {
     let is_json = is_json(matches);
-    either(matches, Order::Status { is_json }, status_alone(matches))
+    let alone = config_of(matches).map(|config| Alone::Status { config, is_json });
+    either(matches, Order::Status { is_json }, alone)
 }
 
 fn batch_of(matches: &ArgMatches<'_>) -> u64 {

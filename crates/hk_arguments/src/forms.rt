@@ -488,10 +488,11 @@ pub(crate) fn with_numbers<'a>(
     Ok(command)
 }
 
-fn json_arg<'a>(alloc: Global) -> Arg<'a> {
-    Arg::new(alloc, "json")
-        .long("json")
-        .help("Print lines of JSON")
+/// An option that is there or not.
+pub(crate) fn flag<'a>(alloc: Global, name: &'a str, help: &'a str) -> Arg<'a> {
+    Arg::new(alloc, name)
+        .long(name)
+        .help(help)
         .action(ArgAction::SetTrue)
 }
 
@@ -511,7 +512,7 @@ fn with_extra<'a>(
 ) -> Result<Command<'a>, AllocError> {
     match extra {
         Extra::Nothing => Ok(command),
-        Extra::Json => command.arg(json_arg(alloc)),
+        Extra::Json => command.arg(flag(alloc, "json", "Print lines of JSON")),
         Extra::Items => command.arg(items_arg(alloc)),
     }
 }

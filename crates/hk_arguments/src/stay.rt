@@ -1,7 +1,7 @@
 //! The options of `serve` for a node that stays, and for one that tests each change.
 
 use crate::arguments::{Call, config_of};
-use crate::forms::{STAY_NUMBERS, with_numbers};
+use crate::forms::{STAY_NUMBERS, flag, with_numbers};
 use clap::{Arg, ArgAction, ArgMatches, Command};
 use hk_types::{Config, Links};
 use std::alloc::{AllocError, Global};
@@ -48,27 +48,15 @@ pub(crate) fn with_stay<'a>(
     alloc: Global,
     command: Command<'a>,
 ) -> Result<Command<'a>, AllocError> {
-    let stay = Arg::new(alloc, "stay")
-        .long("stay")
-        .help(STAY_HELP)
-        .action(ArgAction::SetTrue);
-    let quiet = Arg::new(alloc, "quiet")
+    let stay = flag(alloc, "stay", STAY_HELP);
+    let quiet = flag(alloc, "quiet", QUIET_HELP)
         .short('q')
-        .long("quiet")
-        .help(QUIET_HELP)
-        .action(ArgAction::SetTrue)
         .requires_arg("stay")?;
-    let verbose = Arg::new(alloc, "verbose")
+    let verbose = flag(alloc, "verbose", VERBOSE_HELP)
         .short('v')
-        .long("verbose")
-        .help(VERBOSE_HELP)
-        .action(ArgAction::SetTrue)
         .requires_arg("stay")?
         .conflicts_with("quiet")?;
-    let guard = Arg::new(alloc, "guard")
-        .long("guard")
-        .help(GUARD_HELP)
-        .action(ArgAction::SetTrue);
+    let guard = flag(alloc, "guard", GUARD_HELP);
     let address = Arg::new(alloc, "address")
         .long("address")
         .value_name("A")
