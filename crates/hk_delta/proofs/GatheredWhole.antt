@@ -129,11 +129,18 @@ module _ (config : ConfigValue) (items : List Item) (all : All IsItem items) whe
     all_listed : all_left 0 es ≡ es
     all_listed = all_stays es listed.known
 
-    pub whole_faultless : fragment_fault 0 0 (streams_of config.streams items) es ≡ None
-    whole_faultless = ap (fragment_fault 0 0 (streams_of config.streams items)) (sym all_listed) ∙ parts_faultless (content_of config items 0) whole_lawful 0 (inl refl) es listed
+    pub whole_faultless : fragment_fault 0 0 (streams_of config.streams items) (all_left 0 es) ≡ None
+    whole_faultless = parts_faultless (content_of config items 0) whole_lawful 0 (inl refl) es listed
 
-    pub whole_is : fragment_seen config 0 0 (streams_of config.streams items) es ≡ part config items 0 0
-    whole_is = ap (fragment_seen config 0 0 (streams_of config.streams items)) (sym all_listed) ∙ cut_is (content_of config items 0) whole_lawful 0 config refl es listed
+    pub whole_is : fragment_seen config 0 0 (streams_of config.streams items) (all_left 0 es) ≡ part config items 0 0
+    whole_is = cut_is (content_of config items 0) whole_lawful 0 config refl es listed
+
+    -- the list as it is
+    pub list_faultless : fragment_fault 0 0 (streams_of config.streams items) es ≡ None
+    list_faultless = ap (fragment_fault 0 0 (streams_of config.streams items)) (sym all_listed) ∙ whole_faultless
+
+    pub list_is : fragment_seen config 0 0 (streams_of config.streams items) es ≡ part config items 0 0
+    list_is = ap (fragment_seen config 0 0 (streams_of config.streams items)) (sym all_listed) ∙ whole_is
 
 -- ---- what is answered
 
