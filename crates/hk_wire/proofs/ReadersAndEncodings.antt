@@ -1,9 +1,9 @@
 -- Readers and encodings that undo each other, and how they are put together.
-use Rattle.std.proofs.Common.{◌≡◌, ℕ, zero, suc, ◌^◌, ◌<◌, ◌≤◌, Bool, true, false, cond, eqb, ltb, leb, List, [], ◌∷◌, ◌++◌, length, Result, Ok, refl, sym, ap, subst, ◌∙◌, append_assoc, arith, Option, Some, None}
+use Rattle.std.proofs.Common.{◌≡◌, ℕ, zero, suc, ◌^◌, ◌<◌, ◌≤◌, Bool, true, false, not, cond, eqb, ltb, leb, List, [], ◌∷◌, ◌++◌, length, Result, Ok, refl, sym, ap, subst, ◌∙◌, append_assoc, arith, Option, Some, None}
 use Rattle.std.specs.List.{flat_map}
 use Rattle.std.proofs.lemmas.List.Concat.{flat_map-cons}
 use Rattle.std.specs.Int.{Width, w16, w32, w64}
-use Rattle.std.proofs.lemmas.Bool.{ltb-false, le-ltb, le-leb, leb-true, eqb-true}
+use Rattle.std.proofs.lemmas.Bool.{ltb-false, le-ltb, le-leb, leb-true, eqb-true, not-false, not_from_true}
 use Rattle.std.proofs.lemmas.List.{append-nil, nil_from_length}
 use Rattle.hk_types.specs.declared.faults.FormFault.{FormFault}
 use Rattle.hk_types.specs.declared.faults.FormFault.TheVariants.{BadVersion, BadNumber, WrongLength}
@@ -70,6 +70,12 @@ same_field r s P Q there back f =
       takes = λ bytes x fits e. let u = f.takes bytes x fits e in (u.0, there x.0 u.1);
       again = λ x rest h. f.again x rest (back x h);
     }
+
+-- with a fault where the value breaks a rule
+pub kept_field : {A : Type 0} (a : Reader A) (keeps : A → Bool) (fault : FormFault) (s : A → List ℕ) (P : A → Type 0) → IsField a s P → IsField (fault_where a (λ x. not (keeps x)) fault) s (λ x. P x × (keeps x ≡ true))
+kept_field a keeps fault s P f =
+    same_field (fault_where a (λ x. not (keeps x)) fault) s (λ x. P x × (not (keeps x) ≡ false)) (λ x. P x × (keeps x ≡ true))
+    (λ x h. (h.0, not-false (keeps x) h.1)) (λ x h. (h.0, not_from_true (keeps x) h.1)) (barred_field a (λ x. not (keeps x)) fault s P f)
 
 pub time_field : IsField time_at (number w64) (λ n. n ≤ 2 ^ 62)
 unfolding time_at

@@ -1,73 +1,38 @@
 -- Replies: what is read is encoded so, and what is encoded so is read again.
-use Rattle.std.proofs.Common.{◌≡◌, ℕ, zero, suc, ◌^◌, ◌<◌, ◌≤◌, Bool, true, false, ◌&&◌, ◌||◌, eqb, ltb, leb, List, ◌∷◌, ◌++◌, length, Ok, refl, sym, arith}
+use Rattle.std.proofs.Common.{◌≡◌, ℕ, ◌^◌, ◌<◌, ◌≤◌, true, leb, List, ◌∷◌, ◌++◌, length, Ok, refl, sym}
 use Rattle.std.specs.Int.{w64}
-use Rattle.std.proofs.lemmas.Bool.{ltb-true, ltb-false, lt-ltb, le-ltb, leb-true, le-leb, eqb-false, ne_eqb, and_from}
+use Rattle.std.proofs.lemmas.Bool.{and_from}
 use Rattle.hk_types.specs.declared.faults.FormFault.TheVariants.{BadNumber}
 use Rattle.hk_types.specs.declared.faults.Refusal.{Refusal}
 use Rattle.hk_frames.specs.Fields.{IsBytes, number, number_at}
 use Rattle.hk_frames.specs.Framing.{IsFormat}
-use Rattle.hk_frames.proofs.ReadingSteps.{Takes, neither, both as both_true}
+use Rattle.hk_frames.proofs.ReadingSteps.{Takes, both as both_true}
 use Rattle.hk_model.specs.Replica.Answers.{AnswerValue}
 use Rattle.hk_wire.specs.Answers.{answer_at}
 use Rattle.hk_wire.specs.Fragments.{WireFragment, fragment_at}
 use Rattle.hk_wire.proofs.FragmentsReadAgain.{fragment_field}
 use Rattle.hk_wire.proofs.AnswersReadAgain.{answer_field}
-use Rattle.hk_wire.specs.Readers.{both, fault_where, time_at}
+use Rattle.hk_wire.specs.Readers.{both, time_at}
 use Rattle.hk_wire.specs.Messages.{message_at}
 use Rattle.hk_wire.specs.Refusals.{refusal_at}
-use Rattle.hk_wire.specs.Replies.{ReplyValue, Done, Front as Told, Fragment, Answer, Refused, reply_kind, reply_body, reply_rest, keeps_rules, ReplyFits, IsReply, ops_at, front_at, reply_of, reply_at}
-use Rattle.hk_wire.proofs.ReadersAndEncodings.{IsField, field64, time_field, both_field, barred_field, same_field, this_or, made_takes, made_again, message_format, same_format}
+use Rattle.hk_wire.specs.Replies.{ReplyValue, Done, Front as Told, Fragment, Answer, Refused, reply_kind, reply_body, reply_rest, is_ops, keeps_rules, ReplyFits, IsReply, ops_at, front_at, reply_of, reply_at}
+use Rattle.hk_wire.proofs.ReadersAndEncodings.{IsField, field64, time_field, both_field, kept_field, this_or, made_takes, made_again, message_format, same_format}
 use Rattle.hk_wire.proofs.RefusalsReadAgain.{refusal_field}
 
-or_false : (a b : Bool) → a ≡ false → b ≡ false → (a || b) ≡ false
-or_false true b p q = absurd cc
-or_false false b p q = q
-
-positive : (n : ℕ) → (n ≡ 0 → ⊥) → 0 < n
-positive zero h = absurd (h refl)
-positive (suc n) h = omega arith
-
-above_zero : (n : ℕ) → 0 < n → n ≡ 0 → ⊥
-above_zero n lt e = omega (arith, lt, e)
-
--- ---- numbers of operations
-
-abbrev IsOps : ℕ → Type 0
-IsOps n = (n < 2 ^ 64) × ((ltb 0 n && leb n (2 ^ 62)) ≡ true)
-
-ops_there : (n : ℕ) → (n < 2 ^ 64) × ((eqb n 0 || ltb (2 ^ 62) n) ≡ false) → IsOps n
-ops_there n h =
-    let s = neither (eqb n 0) (ltb (2 ^ 62) n) h.1 in
-    let some : 0 < n = positive n (eqb-false n 0 s.0) in
-    (h.0, and_from (ltb 0 n) (leb n (2 ^ 62)) (lt-ltb 0 n some) (le-leb n (2 ^ 62) (ltb-false (2 ^ 62) n s.1)))
-
-ops_back : (n : ℕ) → IsOps n → (n < 2 ^ 64) × ((eqb n 0 || ltb (2 ^ 62) n) ≡ false)
-ops_back n h =
-    let s = both_true (ltb 0 n) (leb n (2 ^ 62)) h.1 in
-    let some : 0 < n = ltb-true 0 n s.0 in
-    (h.0, or_false (eqb n 0) (ltb (2 ^ 62) n) (ne_eqb n 0 (λ e. above_zero n some e)) (le-ltb (2 ^ 62) n (leb-true n (2 ^ 62) s.1)))
-
-ops_field : IsField ops_at (number w64) IsOps
+ops_field : IsField ops_at (number w64) (λ n. (n < 2 ^ 64) × (is_ops n ≡ true))
 unfolding ops_at
-ops_field =
-    same_field (fault_where (number_at w64) (λ ops. eqb ops 0 || ltb (2 ^ 62) ops) BadNumber) (number w64) (λ n. (n < 2 ^ 64) × ((eqb n 0 || ltb (2 ^ 62) n) ≡ false)) IsOps ops_there ops_back
-    (barred_field (number_at w64) (λ ops. eqb ops 0 || ltb (2 ^ 62) ops) BadNumber (number w64) (λ n. n < 2 ^ 64) field64)
+ops_field = kept_field (number_at w64) is_ops BadNumber (number w64) (λ n. n < 2 ^ 64) field64
 
 -- ---- fronts
 
-abbrev front_text : ℕ × ℕ → List ℕ
-front_text p = number w64 p.0 ++ number w64 p.1
+abbrev AreTimes : ℕ × ℕ → Type 0
+AreTimes p = (p.0 ≤ 2 ^ 62) × (p.1 ≤ 2 ^ 62)
 
-abbrev IsPrefixOf : ℕ × ℕ → Type 0
-IsPrefixOf p = ((p.0 ≤ 2 ^ 62) × (p.1 ≤ 2 ^ 62)) × (leb p.0 p.1 ≡ true)
-
-front_field : IsField front_at front_text IsPrefixOf
+front_field : IsField front_at (λ p. number w64 p.0 ++ number w64 p.1) (λ p. AreTimes p × (leb p.0 p.1 ≡ true))
 unfolding front_at
 front_field =
-    same_field (fault_where (both time_at time_at) (λ p. ltb p.1 p.0) BadNumber) front_text (λ p. ((p.0 ≤ 2 ^ 62) × (p.1 ≤ 2 ^ 62)) × (ltb p.1 p.0 ≡ false)) IsPrefixOf
-    (λ p h. (h.0, le-leb p.0 p.1 (ltb-false p.1 p.0 h.1))) (λ p h. (h.0, le-ltb p.1 p.0 (leb-true p.0 p.1 h.1)))
-    (barred_field (both time_at time_at) (λ p. ltb p.1 p.0) BadNumber front_text (λ p. (p.0 ≤ 2 ^ 62) × (p.1 ≤ 2 ^ 62))
-    (both_field time_at time_at (number w64) (number w64) (λ n. n ≤ 2 ^ 62) (λ n. n ≤ 2 ^ 62) time_field time_field))
+    kept_field (both time_at time_at) (λ p. leb p.0 p.1) BadNumber _ AreTimes
+    (both_field time_at time_at (number w64) (number w64) (λ n. n ≤ 2 ^ 62) (λ n. n ≤ 2 ^ 62) time_field time_field)
 
 -- ---- replies
 

@@ -1,5 +1,5 @@
 -- Replies: their encoding and their reading.
-use Rattle.std.specs.Prelude.{◌≡◌, ℕ, ◌^◌, ◌<◌, ◌≤◌, Bool, true, ◌&&◌, ◌||◌, nat_le, nat_lt, ◌==◌, if◌then◌else◌, List, ◌++◌, length, Option, MatchOption, Result, Err, ◌⊎◌, false, [], ◌∷◌, Ok, map}
+use Rattle.std.specs.Prelude.{◌≡◌, ℕ, ◌^◌, ◌<◌, ◌≤◌, Bool, true, not, ◌&&◌, nat_le, nat_lt, ◌==◌, if◌then◌else◌, List, ◌++◌, length, Option, MatchOption, Result, Err, ◌⊎◌, false, [], ◌∷◌, Ok, map}
 use Rattle.std.specs.Int.{w64}
 use Rattle.hk_types.specs.declared.faults.FormFault.{FormFault}
 use Rattle.hk_types.specs.declared.faults.Refusal.TheVariants as refusals
@@ -56,9 +56,13 @@ reply_rest r = message_text (reply_kind r) (reply_body r)
 abbrev pub reply_text : ReplyValue → List ℕ
 reply_text r = encoded reply_rest r
 
+-- whether there can be so many operations: 1 to 2^62
+abbrev pub is_ops : ℕ → Bool
+is_ops ops = nat_lt 0 ops && nat_le ops (2 ^ 62)
+
 -- whether a reply keeps the rules of its kind
 abbrev pub keeps_rules : ReplyValue → Bool
-keeps_rules (Done ops) = nat_lt 0 ops && nat_le ops (2 ^ 62)
+keeps_rules (Done ops) = is_ops ops
 keeps_rules (Front horizon readable) = nat_le horizon readable
 keeps_rules (Fragment fragment) = is_counted fragment
 keeps_rules (Answer a) = answer_keeps_rules a
@@ -82,11 +86,11 @@ IsReply r = ReplyFits r × (is_encodable r ≡ true)
 
 -- a number of operations, 1 to 2^62
 unfoldable pub ops_at : Reader ℕ
-ops_at bytes = fault_where (number_at w64) (λ ops. ops == 0 || nat_lt (2 ^ 62) ops) BadNumber bytes
+ops_at bytes = fault_where (number_at w64) (λ ops. not (is_ops ops)) BadNumber bytes
 
 -- a horizon, and a readable mark that is not below it
 unfoldable pub front_at : Reader (ℕ × ℕ)
-front_at bytes = fault_where (both time_at time_at) (λ p. nat_lt p.1 p.0) BadNumber bytes
+front_at bytes = fault_where (both time_at time_at) (λ p. not (nat_le p.0 p.1)) BadNumber bytes
 
 -- the body of a kind
 unfoldable pub reply_of : ℕ → Reader ReplyValue
