@@ -1,39 +1,13 @@
 #!/usr/bin/env python3
-"""Checks that the words that docs/GLOSSARY.md replaced are gone from the sources and the definitions, and that the
-contracts of public functions keep within 110 columns, and no clause of any function is longer than 120 letters.
+"""Checks that the contracts of public functions keep within 110 columns, that no clause of any function is longer than 120
+letters, and that few are longer than 100.
 
-Looks at crates/*/src and crates/*/specs, names and comments. Prints each place where an old word stands or a clause is
-too wide or too long, and at the end 'N passed, M failed': one for each old word, and two for the clauses.
+Looks at crates/*/src. Prints each place where a clause is too wide or too long, and at the end 'N passed, M failed'.
 """
 
 import pathlib
 import re
 import sys
-
-# an old word, as a part of a name or in a sentence, and the word to use
-OLD = [
-    (r"clash\w*", "conflict"),
-    (r"disput\w*", "conflict"),
-    (r"disagree\w*", "conflict"),
-    (r"odds", "conflict"),
-    (r"elsewhen", "at another time"),
-    (r"canons?", "content_of"),
-    (r"Stands|StandsFor|stands for|stand for", "Represents, represents"),
-    (r"IsFront", "IsPrefixOf"),
-    (r"Talk\w*|talks?", "Transcript"),
-    (r"Spoke|farewell|hear", "SessionStep, closing_bytes, handle_piece"),
-    (r"FragmentTold|StreamTold|is_told", "WireFragment, WireStream, adds_nothing, IsEncodable"),
-    (r"spell\w*|spelt", "encoding"),
-    (r"lent|push_lent", "borrowed"),
-    (r"takers?|givers?", "target, source"),
-    (r"Keyed|KeyedValue", "Chains"),
-    (r"Label\w*|labels?|labelled", "TagKey"),
-    (r"starved", "refusal_without_memory"),
-    (r"misfits?", "wrong_log"),
-    (r"want of memory|want_of_memory", "out of memory"),
-    (r"for ever", "permanently"),
-]
-
 
 # the widest line of a clause of a public function
 MOST_COLUMNS = 110
@@ -41,23 +15,6 @@ MOST_COLUMNS = 110
 # the longest clause of any function, and how many may be longer than the shorter bound, in letters between its braces
 MOST_LETTERS = 120
 FEW_LETTERS, MOST_LONG = 100, 60
-
-
-def pieces(line):
-    """The line, with each name also cut at its underscores."""
-    return line.replace("_", " ")
-
-
-def places(root, pattern):
-    """The lines under root that have the word, whole or as a part of a name."""
-    word = re.compile(r"(?<![A-Za-z])(?:%s)(?![A-Za-z])" % pattern)
-    for kind in ("src", "specs"):
-        for path in sorted(root.glob("crates/*/%s/**/*" % kind)):
-            if path.suffix not in (".rt", ".antt"):
-                continue
-            for number, line in enumerate(path.read_text(encoding="utf-8").split("\n"), 1):
-                if word.search(line) or word.search(pieces(line)):
-                    yield "%s:%d: %s" % (path.relative_to(root), number, line.strip()[:100])
 
 
 def exported(crate):
@@ -126,11 +83,6 @@ def main():
         print("usage: tests/words.py", file=sys.stderr)
         return 2
     failed = 0
-    for pattern, instead in OLD:
-        found = list(places(root, pattern))
-        failed += bool(found)
-        for place in found:
-            print("FAILED old word, use %s: %s" % (instead, place))
     wide = list(wide_clauses(root))
     failed += bool(wide)
     for place in wide:
@@ -139,7 +91,7 @@ def main():
     failed += bool(long)
     for place in long:
         print("FAILED clause too long: %s" % place)
-    print("%d passed, %d failed" % (len(OLD) + 2 - failed, failed))
+    print("%d passed, %d failed" % (2 - failed, failed))
     return 1 if failed else 0
 
 
