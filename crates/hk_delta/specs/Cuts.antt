@@ -16,6 +16,7 @@ use Rattle.hk_model.specs.Replica.Replicas.{Represents}
 use Rattle.hk_facts.specs.Facts.{if_known}
 use Rattle.hk_store.specs.Facts.{FactsValue, known_at, entry_if}
 use Rattle.hk_store.specs.Drops.{is_among}
+use Rattle.hk_store.specs.Versions.{AreVersions}
 use Rattle.hk_fragment.specs.Parts.{Known}
 
 -- the row of a version that was born above the base
@@ -39,6 +40,14 @@ pub record HasLeft (f : FactsValue) (base : ℕ) (versions : List Known) : Type 
   pub known : All (λ e. known_at f e.0 ≡ Some e.1) versions
   pub others : (v : VersionKey) (known : VersionValue) → known_at f v ≡ Some known → is_among (map (λ e. e.0) versions) v ≡ false → left_above base v known ≡ None
   pub rising : IsStrictlySortedBy version_key_cmp (map (λ e. e.0) versions)
+
+-- the list is what is left of the facts' versions above the base
+abbrev pub IsLeftOf : FactsValue → ℕ → List Known → Type 0
+IsLeftOf f base left = (versions : List Known) × (HasLeft f base versions × (left ≡ all_left base versions))
+
+-- the list is what is left of all versions of the facts above the base
+abbrev pub IsAllLeft : FactsValue → ℕ → List Known → Type 0
+IsAllLeft f base left = (versions : List Known) × (AreVersions f versions × (left ≡ all_left base versions))
 
 -- the cut at the base, or it was refused: below the horizon, or else memory ran out
 abbrev pub Cuts : Content → ℕ → Result FragmentValue Refusal → Type 0

@@ -11,7 +11,7 @@ ghost use Rattle.hk_delta.specs.Agreeing as spec;
 ghost use Rattle.hk_delta.specs.Agreeing.{Agrees, Learns, LearnsAll, facts_with};
 
 use crate::Fragment;
-use crate::cutting::left_of;
+use crate::cutting::left_of_all;
 use crate::gathering::note_item;
 use hk_log::{Item, Version};
 use hk_marks::Got;
@@ -123,8 +123,7 @@ pub fn agreed(alloc: Global, state: &ReplicaState, items: &[Item]) -> Result<Fra
     ensures { Agrees state.now items.now result }
 {
     let News { facts, got, .. } = learn_all(alloc, state, items)?;
-    let versions = facts.versions(alloc)?;
-    let left = left_of(alloc, Time::zero(), &versions)?;
+    let left = left_of_all(alloc, Time::zero(), &facts)?;
     let beginning = Time::zero();
     let horizon = beginning;
     Ok(Fragment::of_parts(state.config(), beginning, horizon, got, left))

@@ -7,11 +7,12 @@ ghost use Rattle.hk_store.specs.Facts.{entry_if};
 ghost use Rattle.hk_store.specs.Reads.{facts_of_content};
 ghost use Rattle.hk_store.specs.Versions.{borrowed};
 ghost use Rattle.hk_delta.specs.Cuts as spec;
-ghost use Rattle.hk_delta.specs.Cuts.{Cuts, CutsOf, HasLeft, left_above, all_left};
+ghost use Rattle.hk_delta.specs.Cuts.{Cuts, CutsOf, IsAllLeft, IsLeftOf, left_above, all_left};
 
 use crate::Fragment;
 use hk_log::Version;
 use hk_state::ReplicaState;
+use hk_store::Facts;
 use hk_types::{Refusal, Row, Time, VersionKey};
 use std::alloc::{AllocError, Global};
 
@@ -58,7 +59,7 @@ fn push_left(
 }
 
 /// What is left of versions above a base.
-pub(crate) fn left_of(
+fn left_of(
     alloc: Global,
     base: Time,
     versions: &[(VersionKey, &Version)],
@@ -72,22 +73,35 @@ pub(crate) fn left_of(
     Ok(facts)
 }
 
-/// The fragment of a state with a base that is 0 or at least its horizon, of the versions of which anything is left
-/// above the base.
+/// What is left of all versions above a base, in one walk.
+pub(crate) fn left_of_all(
+    alloc: Global,
+    base: Time,
+    facts: &Facts,
+) -> Result<Vec<(VersionKey, Version)>, AllocError>
+    ensures { IfOk result (λ left. IsAllLeft facts.now base left.items) }
+{
+    let mut left = Vec::new(alloc);
+    for (version, known) in facts.walk() {
+        push_left(alloc, &mut left, base, &version, known)?;
+    }
+    Ok(left)
+}
+
+/// The fragment of a state with a base that is 0 or at least its horizon, of what is left of its versions above the base.
 fn fragment_from(
     alloc: Global,
     state: &ReplicaState,
     base: Time,
-    versions: &[(VersionKey, &Version)],
+    left: Vec<(VersionKey, Version)>,
 ) -> Result<Fragment, Refusal>
     requires base { (base ≡ 0) ⊎ (state.now.horizon ≤ base) }
-    requires left { HasLeft (facts_of_content state.now) base (map borrowed versions.now) }
+    requires left { IsLeftOf (facts_of_content state.now) base left.items }
     ensures ok { IfOk result (λ fragment. fragment ≡ cut state.now base) }
     ensures err { IfErr result (λ why. why ≡ Memory) }
 {
     let got = state.got().copy(alloc)?;
-    let facts = left_of(alloc, base, versions)?;
-    Ok(Fragment::of_parts(state.config(), base, state.horizon(), got, facts))
+    Ok(Fragment::of_parts(state.config(), base, state.horizon(), got, left))
 }
 
 /// The whole of what a state holds, as a fragment of base 0.
@@ -99,8 +113,8 @@ pub fn whole_of(alloc: Global, state: &ReplicaState) -> Result<Fragment, Refusal
     ensures err { IfErr result (λ why. why ≡ Memory) }
     ensures represents { CutsOf state.now 0 result }
 {
-    let versions = state.facts().versions(alloc)?;
-    fragment_from(alloc, state, Time::zero(), &versions)
+    let left = left_of_all(alloc, Time::zero(), state.facts())?;
+    fragment_from(alloc, state, Time::zero(), left)
 }
 
 /// What a state holds that a replica may lack which is readable up to the base: the rows that were born above
@@ -119,5 +133,6 @@ pub fn delta_since(alloc: Global, state: &ReplicaState, base: Time) -> Result<Fr
     }
     let changed = state.facts().stated_above(alloc, base)?;
     let versions = state.facts().versions_of(alloc, &changed)?;
-    fragment_from(alloc, state, base, &versions)
+    let left = left_of(alloc, base, &versions)?;
+    fragment_from(alloc, state, base, left)
 }

@@ -7,7 +7,7 @@ ghost use Rattle.hk_types.specs.declared.faults.Refusal.TheVariants.{Memory};
 ghost use Rattle.hk_facts.specs.declared.fact.Fact.TheVariants.{Row as RowFact, End as EndFact};
 ghost use Rattle.hk_facts.specs.Chains.{chain_put, chain_forget, chain_until, latest_at, row_at, is_after, FirstBorn, RefusesPut};
 
-use crate::fact::{Fact, Part, version_of};
+use crate::fact::{Fact, Part};
 use crate::form::Form;
 use crate::versions::ended_by;
 use hk_log::Version;
@@ -59,17 +59,6 @@ impl Chain {
             form: Form::One(None),
             alloc,
         }
-    }
-
-    /// A chain of one version, of which one fact is known. The only error is out of memory.
-    pub fn of_fact(alloc: Global, born: Time, fact: Fact) -> Result<Chain, AllocError>
-        ensures { IfOk result (λ chain. chain_put finmap.empty born fact ≡ Ok chain) }
-    {
-        let first = (born, version_of(fact));
-        Ok(Chain {
-            form: Form::One(Some(first)),
-            alloc,
-        })
     }
 
     /// Adds a fact on the version that was born then. One that is known already changes nothing, and one

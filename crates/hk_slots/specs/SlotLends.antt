@@ -1,6 +1,6 @@
 -- What a `SlotMap` ends as, once a `&mut` into it has ended.
-use Rattle.std.specs.Prelude.{◌≡◌, Option, IsSome}
-use Rattle.std.specs.Borrow.{Fml, RattleType, MutBor, LendsSo}
+use Rattle.std.specs.Prelude.{◌≡◌, Option, IsSome, Result}
+use Rattle.std.specs.Borrow.{Fml, RattleType, MutBor, LendsSo, LendsSoOk}
 use Rattle.std.specs.BTreeMap.Lent.{OrdMembers}
 use Rattle.std.specs.FinMap as finmap
 use Rattle.hk_slots.specs.SlotMaps.{Slots, map_of, IsWritten}
@@ -15,3 +15,7 @@ module _ (K V : RattleType) (g : OrdMembers K.Denot) where
     -- the key has the last value written through r, and at `None` the map stays as it is
     abbrev pub lends_value : K.Denot → Option (MutBor V.Denot) → Fml
     lends_value key r = LendsSo slots_row V m r (λ n w. IsSome (finmap.get (map_of g.cmp m.now) key) → IsWritten g.cmp m.now key w n) (λ n. n ≡ m.now)
+
+    -- the key has the last value written through r, and at `Err` the map stays as it is
+    abbrev pub lends_or_new : {E : Type 0} → K.Denot → Result (MutBor V.Denot) E → Fml
+    lends_or_new key r = LendsSoOk slots_row V m r (λ n w. map_of g.cmp n ≡ finmap.insert (map_of g.cmp m.now) key w) (λ n. n ≡ m.now)

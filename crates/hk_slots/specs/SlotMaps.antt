@@ -1,5 +1,5 @@
 -- What a contract sees of a `SlotMap`.
-use Rattle.std.specs.Prelude.{◌≡◌, ℕ, List, Some, refl, is_some}
+use Rattle.std.specs.Prelude.{◌≡◌, ℕ, List, Some, refl, is_some, if◌then◌else◌}
 use Rattle.std.specs.declared.cmp.Ordering.{Ordering}
 use Rattle.std.specs.Coded.{Coded, code_by, coded×, coded_ℕ, coded_list}
 use Rattle.std.specs.FinMap as finmap
@@ -25,6 +25,10 @@ module _ {K V : Type 0} (R : K → K → Ordering) where
 
   abbrev pub slots_of : Slots K V → finmap.FinMap R ℕ
   slots_of s = finmap.from_entries s.slots
+
+  -- the map with this value at the key, unless something stands there
+  abbrev pub with_new : finmap.FinMap R V → K → V → finmap.FinMap R V
+  with_new m key value = if finmap.contains_key m key then m else finmap.insert m key value
 
   -- no key has the slot
   abbrev pub IsFree : Slots K V → ℕ → Type 0

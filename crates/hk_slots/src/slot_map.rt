@@ -6,7 +6,11 @@ ghost use Rattle.std.specs.Borrow.{sem};
 ghost use Rattle.std.specs.FinMap as finmap;
 ghost use Rattle.std.specs.BTreeMap.Range.{IsLeBy, IsLtBy, entries_between};
 ghost use Rattle.std.specs.Map.Iter.{ShowsInOrder, deref_pair};
-ghost use Rattle.hk_slots.specs.SlotMaps.{map_of, slots_of, IsFree, AreOwn, pairs_of};
+ghost use Rattle.std.specs.Option.{unwrap_or};
+ghost use Rattle.std.specs.BTreeMap as tree;
+ghost use Rattle.slab.specs.Slab as slab;
+ghost use Rattle.slab.specs.Slab.{HasRoomFor};
+ghost use Rattle.hk_slots.specs.SlotMaps.{map_of, slots_of, IsFree, AreOwn, pairs_of, with_new};
 
 use crate::hints::Hints;
 use crate::key::Key;
@@ -41,7 +45,7 @@ impl<K: Key, V> Model for SlotMap<K, V> {
 }
 
 impl<K: Key, V> SlotMap<K, V> {
-    ghost use Rattle.hk_slots.specs.SlotLends.{lends_value};
+    ghost use Rattle.hk_slots.specs.SlotLends.{lends_value, lends_or_new};
 
     /// No entries. It takes no memory.
     pub fn new(alloc: Global) -> SlotMap<K, V>
@@ -164,6 +168,59 @@ impl<K: Key, V> SlotMap<K, V> {
         Some(&mut entry.1)
     }
 
+    /// The value of a key to write to. A key that is not there is put in first, with the value `fresh`.
+    ///
+    /// The only error is out of memory, for a key that is not there; it comes too where all 2^32 slots are taken. Then
+    /// nothing is changed. Cost: O(log n), n keys: one way down, or none where the key is known.
+    pub fn get_or_insert(&mut self, key: K, fresh: V) -> Result<&mut V, AllocError>
+    where
+        V: Drop,
+        ensures* writes_back { sem 𝓛 (lends_or_new K.row V.row K.Ord self.entry key result) }
+        ensures value { IfOk result (λ r. r.now ≡ unwrap_or (finmap.get (map_of K.cmp self.old) key) fresh) }
+        ensures absent { OnErr result (finmap.get (map_of K.cmp self.old) key ≡ None) }
+    {
+        let slot = self.slot_or_new(key, fresh)?;
+        let entry = &mut self.entries[slot.index()];
+        Ok(&mut entry.1)
+    }
+
+    /// The slot of a key. A key that is not there is put in, with the value `fresh`.
+    fn slot_or_new(&mut self, key: K, fresh: V) -> Result<Slot, AllocError>
+    where
+        V: Drop,
+        ensures slot { IfOk result (λ slot. finmap.get (slots_of K.cmp self.new) key ≡ Some slot) }
+        ensures map { OnOk result (map_of K.cmp self.new ≡ with_new K.cmp (map_of K.cmp self.old) key fresh) }
+        ensures absent { OnErr result (finmap.get (map_of K.cmp self.old) key ≡ None) }
+        ensures kept { OnErr result (self.new ≡ self.old) }
+    {
+        match self.hinted(key) {
+            Some(slot) => Ok(slot),
+            None => self.found_or_new(key, fresh),
+        }
+    }
+
+    /// The slot of a key that no hint tells. A key that is not there is put in, with the value `fresh`.
+    fn found_or_new(&mut self, key: K, fresh: V) -> Result<Slot, AllocError>
+    where
+        V: Drop,
+        ensures slot { IfOk result (λ slot. finmap.get (slots_of K.cmp self.new) key ≡ Some slot) }
+        ensures map { OnOk result (map_of K.cmp self.new ≡ with_new K.cmp (map_of K.cmp self.old) key fresh) }
+        ensures absent { OnErr result (finmap.get (map_of K.cmp self.old) key ≡ None) }
+        ensures kept { OnErr result (self.new ≡ self.old) }
+    {
+        let Ok(vacant) = room_in(&mut self.entries) else {
+            return self.slot(key).ok_or(AllocError);
+        };
+        let slot = slot_or(&mut self.slots, key, vacant)?;
+        self.hints.note(key.hash(), slot.number());
+        if slot.number() != vacant.number() {
+            return Ok(slot);
+        }
+        self.entries.insert_reserved((key, fresh));
+        self.hints.fit(self.slots.len());
+        Ok(slot)
+    }
+
     /// The slot of a key, which is noted where no hint told it.
     fn slot_noted(&mut self, key: K) -> Option<Slot>
         ensures slot { result ≡ finmap.get (slots_of K.cmp self.old) key }
@@ -182,7 +239,8 @@ impl<K: Key, V> SlotMap<K, V> {
 
     /// The slot of a key, where a hint tells it.
     fn hinted(&self, key: K) -> Option<Slot>
-        ensures { IfSome result (λ slot. finmap.get (slots_of K.cmp self.now) key ≡ Some slot) }
+        ensures slot { IfSome result (λ slot. finmap.get (slots_of K.cmp self.now) key ≡ Some slot) }
+        ensures own { AreOwn K.cmp self.now }
     {
         let slot = Slot::new(self.hints.guess(key.hash()));
         if self.is_slot_of(slot, key) {
@@ -201,4 +259,30 @@ impl<K: Key, V> SlotMap<K, V> {
             None => false,
         }
     }
+}
+
+/// The slot that the next entry gets, with room made for it. The only error is that there is none, or no memory.
+fn room_in<K, V>(entries: &mut Slab<(K, V)>) -> Result<Slot, AllocError>
+    ensures vacant { IfOk result (λ slot. slot ≡ entries.new.vacant_key) }
+    ensures free { IfOk result (λ slot. slab.get entries.new slot ≡ None) }
+    ensures room { OnOk result (HasRoomFor entries.new 1) }
+    ensures kept { entries.new ≡ record entries.old { capacity = entries.new.capacity } }
+{
+    entries.reserve(1)?;
+    Slot::at(entries.vacant_key())
+}
+
+/// The slot of a key. A key that is not there gets this one. The only error is out of memory, for such a key.
+fn slot_or<K: Key>(
+    slots: &mut BTreeMap<K, Slot>,
+    key: K,
+    vacant: Slot,
+) -> Result<Slot, AllocError>
+    ensures slot { IfOk result (λ slot. slot ≡ unwrap_or (tree.get K.cmp slots.old key) vacant) }
+    ensures updates { IfOk result (λ slot. tree.Updates K.cmp slots.old slots.new key (Some slot)) }
+    ensures ordered { OnOk result (tree.IsOrdered K.cmp slots.new) }
+    ensures absent { OnErr result (tree.get K.cmp slots.old key ≡ None) }
+    ensures kept { OnErr result (tree.IsUnchanged slots.old slots.new) }
+{
+    Ok(*slots.entry(key)?.or_insert(vacant))
 }

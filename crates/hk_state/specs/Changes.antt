@@ -1,11 +1,14 @@
 -- A change of a state: facts that go, facts that come, and numbers and marks that are joined.
-use Rattle.std.specs.Prelude.{Bool, List}
+use Rattle.std.specs.Prelude.{◌≡◌, ◌⊎◌, Bool, true, List}
+use Rattle.hk_types.specs.declared.faults.Refusal.{Refusal}
+use Rattle.hk_types.specs.declared.faults.Refusal.TheVariants.{Conflict, Memory}
 use Rattle.hk_model.specs.Replica.Content.{Content}
+use Rattle.hk_model.specs.Replica.Rules.{contents_conflict}
 use Rattle.hk_model.specs.Replica.Streams.{StreamContent, all_together}
 use Rattle.hk_store.specs.Changes.{facts_after_replace}
 use Rattle.hk_store.specs.Facts.{FactsValue}
 use Rattle.hk_store.specs.Learning.{facts_told, with_told}
-use Rattle.hk_store.specs.Reads.{facts_of_content}
+use Rattle.hk_store.specs.Reads.{facts_of_content, with_facts}
 use Rattle.hk_store.specs.declared.learn.Told.{Told}
 use Rattle.hk_state.specs.declared.apply.Change.{Change}
 
@@ -25,3 +28,7 @@ abbrev pub content_learnt : Content → Bool → Told → List StreamContent →
 content_learnt c old told given =
     let f = with_told old c.horizon (facts_of_content c) (facts_told told) in
     record { log = c.log; horizon = c.horizon; rows = f.rows; ends = f.ends; streams = all_together c.streams given }
+
+-- why what is told is not learnt: it contradicts what is known, or memory was refused
+abbrev pub RefusesLearning : Content → Told → Refusal → Type 0
+RefusesLearning c told why = ((why ≡ Conflict) × (contents_conflict c (with_facts (facts_told told)) ≡ true)) ⊎ (why ≡ Memory)

@@ -1,12 +1,12 @@
 //! Learning what is told, at the horizon that stands.
 
-ghost use Rattle.std.specs.Prelude.{◌≡◌, length, false, OnOk, OnErr};
+ghost use Rattle.std.specs.Prelude.{◌≡◌, length, false, IfErr, OnOk, OnErr};
 ghost use Rattle.hk_model.specs.Replica.Lawful.{IsLawful};
 ghost use Rattle.hk_model.specs.Replica.Rules.{contents_conflict};
 ghost use Rattle.hk_model.specs.Replica.Streams.{all_together};
-ghost use Rattle.hk_state.specs.Changes.{content_learnt};
+ghost use Rattle.hk_state.specs.Changes.{RefusesLearning, content_learnt};
 ghost use Rattle.hk_store.specs.Journal.{without_journal};
-ghost use Rattle.hk_store.specs.Learning.{IsTold, Learns, facts_conflict, facts_told};
+ghost use Rattle.hk_store.specs.Learning.{IsTold, Learns, RefusesTold, facts_conflict, facts_told};
 ghost use Rattle.hk_store.specs.Reads.{with_facts};
 
 use crate::replica::ReplicaState;
@@ -30,6 +30,7 @@ fn learn_noted(
     requires as_many { length got.old ≡ length given.now }
     ensures facts { OnOk result (Learns facts.old facts.new coming.now (facts_told told.now)) }
     ensures agrees { OnOk result (facts_conflict facts.old (facts_told told.now) ≡ false) }
+    ensures err { IfErr result (λ why. RefusesTold facts.old (facts_told told.now) why) }
     ensures got { OnOk result (got.new ≡ all_together got.old given.now) }
     ensures kept { OnErr result (got.new ≡ got.old) }
     ensures back { without_journal journal.new.items facts.new ≡ without_journal journal.old.items facts.old }
@@ -51,6 +52,7 @@ fn learn_all(
     requires as_many { length got.old ≡ length given.now }
     ensures facts { OnOk result (Learns facts.old facts.new coming.now (facts_told told.now)) }
     ensures agrees { OnOk result (facts_conflict facts.old (facts_told told.now) ≡ false) }
+    ensures err { IfErr result (λ why. RefusesTold facts.old (facts_told told.now) why) }
     ensures got { OnOk result (got.new ≡ all_together got.old given.now) }
     ensures same_facts { OnErr result (facts.new ≡ facts.old) }
     ensures same_got { OnErr result (got.new ≡ got.old) }
@@ -68,8 +70,8 @@ impl ReplicaState {
     /// what is known stays. Of what is told come the rows born above the horizon, or all rows where `old`, and the ends
     /// above it, each where none is known.
     ///
-    /// What gives a version another row, or another end, than is known is refused, also where it would not come, and so is
-    /// what there is no memory for; a refusal changes nothing, and does not say which of the two it was.
+    /// `Conflict` where it gives a version another row, or another end, than is known, also where that would not come;
+    /// `Memory` where a growth was refused, even if a version after it conflicts. A refusal changes nothing.
     ///
     /// Cost: O((s + c + g) · log (n + c) + b), s streams, c versions that are told, g numbers and marks given and those
     /// held that they free, n facts, extra numbers and waiting marks held, b bytes of bodies compared or copied.
@@ -79,6 +81,7 @@ impl ReplicaState {
         requires as_many { length given.now ≡ length self.old.streams }
         ensures ok { OnOk result (self.new ≡ content_learnt self.old old told.now given.now) }
         ensures agrees { OnOk result (contents_conflict self.old (with_facts (facts_told told.now)) ≡ false) }
+        ensures err { IfErr result (λ why. RefusesLearning self.old told.now why) }
         ensures kept { OnErr result (self.new ≡ self.old) }
     {
         let coming = Coming {

@@ -116,7 +116,7 @@ module _ (m : Slots RowKey ChainValue) (k : RowKey) (v : VersionKey) (at : k ≡
   pub chain_absent : None ≡ finmap.get (seen m) k → IsChainOf (seen m) (row_key_of v) finmap.empty
   chain_absent none born = finmap.get-empty nat_cmp born ∙ ap (option_and_then (λ d. finmap.get d born)) (none ∙ ap (finmap.get (seen m)) at)
 
-  changed : (n : Slots RowKey ChainValue) (w : Option ChainValue) → Updates m n k w → IsChanged (seen m) (seen n) (row_key_of v) w
+  pub changed : (n : Slots RowKey ChainValue) (w : Option ChainValue) → Updates m n k w → IsChanged (seen m) (seen n) (row_key_of v) w
   changed n w u = subst (λ (r : RowKey). IsChanged (seen m) (seen n) r w) at (get_updated m n k w u)
 
   nothing_at : None ≡ finmap.get (seen m) k → None ≡ stored_version (seen m) v
@@ -128,17 +128,11 @@ module _ (m : Slots RowKey ChainValue) (k : RowKey) (v : VersionKey) (at : k ≡
   -- ---- a fact that is put in
 
   module _ (fact : Fact) where
-    put_stored : (n : Slots RowKey ChainValue) (c d : ChainValue) → IsChainOf (seen m) (row_key_of v) c → chain_put c v.born fact ≡ Ok d → Updates m n k (Some d) → AreStored (seen m) → AreStored (seen n)
+    pub put_stored : (n : Slots RowKey ChainValue) (c d : ChainValue) → IsChainOf (seen m) (row_key_of v) c → chain_put c v.born fact ≡ Ok d → Updates m n k (Some d) → AreStored (seen m) → AreStored (seen n)
     put_stored n c d of put u stored = record {
       filled = filled_changed (seen m) (seen n) (row_key_of v) (Some d) (changed n (Some d) u) (some_filled d (filled_by d (put_some fact (seen m) v c of d put))) stored;
       known = known_put fact (seen m) v c of (seen n) d put (changed n (Some d) u) stored.known;
     }
-
-    pub put_new : (n : Slots RowKey ChainValue) (d : ChainValue) → None ≡ finmap.get (seen m) k → chain_put finmap.empty v.born fact ≡ Ok d → Updates m n k (Some d) → facts_put (facts_of (seen m)) v fact ≡ Ok (facts_of (seen n))
-    put_new n d none put u = facts_put_ok fact (seen m) v finmap.empty (chain_absent none) (seen n) d put (changed n (Some d) u)
-
-    pub new_stored : (n : Slots RowKey ChainValue) (d : ChainValue) → None ≡ finmap.get (seen m) k → chain_put finmap.empty v.born fact ≡ Ok d → Updates m n k (Some d) → AreStored (seen m) → AreStored (seen n)
-    new_stored n d none put u stored = put_stored n finmap.empty d (chain_absent none) put u stored
 
   -- ---- a chain that is there
 
@@ -146,20 +140,6 @@ module _ (m : Slots RowKey ChainValue) (k : RowKey) (v : VersionKey) (at : k ≡
     module _ (n : Slots RowKey ChainValue) (d : ChainValue) (u : IsSome (finmap.get (seen m) k) → IsWritten row_key_cmp m k d n) where
       changed_there : IsChanged (seen m) (seen n) (row_key_of v) (Some d)
       changed_there = changed n (Some d) (u (is_there _ c has)).map
-
-      pub write_back : d ≡ c → seen n ≡ seen m
-      write_back same = finmap.same_map row_key_total row_key_same (seen n) (seen m) (λ q. changed_there q ∙ here q (eq_by_cmp row_key_cmp q (row_key_of v)) refl)
-        where
-          here : (q : RowKey) (b : Bool) → eq_by_cmp row_key_cmp q (row_key_of v) ≡ b → cond b (Some d) (finmap.get (seen m) q) ≡ finmap.get (seen m) q
-          here q true e = ap Some same ∙ has ∙ ap (finmap.get (seen m)) (at ∙ sym (row_is q (row_key_of v) e))
-          here q false e = refl
-
-      pub put_there : (fact : Fact) → chain_put c v.born fact ≡ Ok d → facts_put (facts_of (seen m)) v fact ≡ Ok (facts_of (seen n))
-      put_there fact put = facts_put_ok fact (seen m) v c (chain_there c has) (seen n) d put changed_there
-
-      pub there_stored : {A : Type 0} (fact : Fact) (r : Result A Refusal) → OnOk r (chain_put c v.born fact ≡ Ok d) → OnErr r (d ≡ c) → AreStored (seen m) → AreStored (seen n)
-      there_stored fact (Ok a) ok err stored = put_stored fact n c d (chain_there c has) ok (u (is_there _ c has)).map stored
-      there_stored fact (Err why) ok err stored = subst (λ (s : ChainsValue). AreStored s) (sym (write_back err)) stored
 
       module _ (part : Part) (is : d ≡ chain_forget c v.born part) where
         -- what is left stays
@@ -202,15 +182,6 @@ module _ (m : Slots RowKey ChainValue) (k : RowKey) (v : VersionKey) (at : k ≡
 
     pub end_there : (part : Part) → end_of_part (finmap.get c v.born) part ≡ end_lost (facts_of (seen m)) v part
     end_there part = ap (λ o. end_of_part o part) (chain_there c has v.born) ∙ end_stored (seen m) v part
-
-    -- a refusal from the chain
-    pub put_refused : {A : Type 0} (fact : Fact) (r : Result A Refusal) → IfErr r (λ why. (chain_put c v.born fact ≡ Err why) ⊎ ((why ≡ Memory) × (finmap.get c v.born ≡ None)))
-        → IfErr r (λ why. (facts_put (facts_of (seen m)) v fact ≡ Err why) ⊎ ((why ≡ Memory) × (known_at (facts_of (seen m)) v ≡ None)))
-    put_refused fact r e = IfErr_map r (λ why. either) e
-      where
-        either : {why : Refusal} → (chain_put c v.born fact ≡ Err why) ⊎ ((why ≡ Memory) × (finmap.get c v.born ≡ None)) → (facts_put (facts_of (seen m)) v fact ≡ Err why) ⊎ ((why ≡ Memory) × (known_at (facts_of (seen m)) v ≡ None))
-        either {why} (inl is) = inl (facts_put_err fact (seen m) v c (chain_there c has) why is)
-        either {why} (inr is) = inr (is.0, nothing_known (seen m) v (sym (chain_there c has v.born) ∙ is.1))
 
   -- nothing is taken back of what is not there
   pub forgot_absent : (part : Part) → None ≡ finmap.get (seen m) k → facts_of (seen m) ≡ facts_without (facts_of (seen m)) v part

@@ -1,5 +1,5 @@
 -- What facts learn of a list of versions, one after the other, they learn of all that it tells.
-use Rattle.std.proofs.Common.{◌≡◌, refl, sym, ap, ◌∙◌, subst, ℕ, Bool, true, false, cond, not, ◌||◌, ◌==◌, Option, Some, None, Result, Ok, Err, OnOk, List, [], ◌∷◌, ◌++◌, map, nat_lt, true≢false}
+use Rattle.std.proofs.Common.{◌≡◌, refl, sym, ap, ◌∙◌, subst, ℕ, Bool, true, false, cond, not, ◌||◌, ◌==◌, Option, Some, None, Result, Ok, Err, OnOk, List, [], ◌∷◌, ◌++◌, map, nat_lt, true≢false, inl, inr}
 use Rattle.std.proofs.lemmas.Bool.{or_parts}
 use Rattle.std.proofs.lemmas.Grind.{flat_map-append}
 use Rattle.std.proofs.lemmas.List.{append-nil, map-append}
@@ -11,9 +11,11 @@ use Rattle.std.specs.declared.cmp.Ordering.TheVariants.{Less, Equal}
 use Rattle.std.specs.Cmp.{tied_itself}
 use Rattle.std.specs.List.Sorted.{IsStrictlySortedBy}
 use Rattle.std.specs.Ordering.{eq_by_cmp}
+use Rattle.std.specs.Result.{IfErr, IsErrAnd}
 use Rattle.std.specs.FinMap as finmap
 use Rattle.std.specs.FinMap.{find}
 use Rattle.hk_types.specs.Values.{RowValue, same_row}
+use Rattle.hk_types.specs.declared.faults.Refusal.{Refusal}
 use Rattle.hk_types.specs.declared.version_key.VersionKey.{VersionKey}
 use Rattle.hk_log.specs.Versions.{VersionValue}
 use Rattle.hk_model.specs.History.Rows.{version_key_cmp}
@@ -27,10 +29,11 @@ use Rattle.hk_facts.specs.declared.fact.Fact.TheVariants.{Row, End}
 use Rattle.hk_store.specs.Changes.{with_listed}
 use Rattle.hk_store.specs.Facts.{FactsValue, entry_if, known_at, with_added, with_fact_at}
 use Rattle.hk_store.specs.Drops.{is_among}
-use Rattle.hk_store.specs.Learning.{contradicts, row_told, end_told, rows_told, ends_told, told_by, with_told, with_version_told}
+use Rattle.hk_store.specs.Learning.{RefusesVersion, RefusesTold, contradicts, row_told, end_told, rows_told, ends_told, told_by, with_told, with_version_told}
 use Rattle.hk_store.specs.Reads.{with_facts}
 use Rattle.hk_store.specs.Versions.{AreVersions, value_conflicts_at}
 use Rattle.hk_store.proofs.ChangedChains.{same_facts}
+use Rattle.hk_store.proofs.EntryPut.{any_found}
 use Rattle.hk_store.proofs.JournalUndone.{union_none, union_push}
 use Rattle.hk_store.proofs.ListedVersions.{conflict_listed}
 use Rattle.hk_store.proofs.PickedVersions.{find_picked}
@@ -213,6 +216,16 @@ module _ (old : Bool) (h : ℕ) (f : FactsValue) where
 
   pub none_conflict : (g : FactsValue) (es : List (VersionKey × VersionValue)) → AreVersions g es → list_any (λ e. value_conflicts_at f e.0 e.1) es ≡ false → contents_conflict (with_facts f) (with_facts g) ≡ false
   none_conflict g es are none = sym (conflict_listed f g es are) ∙ none
+
+pub refused_on : {A : Type 0} (P : Refusal → Type 0) (r : Result A Refusal) (why : Refusal) → IsErrAnd r (λ e. e ≡ why) → P why → IfErr r P
+refused_on P (Ok a) why is p = tt
+refused_on P (Err w) why is p = subst P (sym is) p
+
+-- one that is refused refuses all
+pub refused_told : (f now g : FactsValue) (whole es rest : List (VersionKey × VersionValue)) (e : VersionKey × VersionValue) (why : Refusal) → AreVersions g whole → whole ≡ es ++ e ∷ rest → list_any (λ e. value_conflicts_at f e.0 e.1) es ≡ false → value_conflicts_at f e.0 e.1 ≡ value_conflicts_at now e.0 e.1 → RefusesVersion now e.0 e.1 why → RefusesTold f g why
+refused_told f now g whole es rest e why are is before same (inl conflict) =
+    inl (conflict.0, sym (conflict_listed f g whole are) ∙ any_found (λ e. value_conflicts_at f e.0 e.1) whole es rest e is before (same ∙ conflict.1))
+refused_told f now g whole es rest e why are is before same (inr memory) = inr memory
 
 -- ---- a list tells what it is a list of
 

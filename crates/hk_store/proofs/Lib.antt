@@ -12,6 +12,7 @@ pub mod DroppedVersions
 pub mod Indexed
 pub mod ChainsAtTime
 pub mod CountedRows
+pub mod PutChains
 pub mod ReplacedFacts
 pub mod ListedVersions
 pub mod PickedVersions

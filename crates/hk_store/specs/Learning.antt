@@ -1,8 +1,10 @@
 -- What is told of versions, and what facts learn of it.
-use Rattle.std.specs.Prelude.{◌≡◌, ℕ, Bool, not, ◌||◌, ◌==◌, nat_lt, if◌then◌else◌, List, [], Option, None}
+use Rattle.std.specs.Prelude.{◌≡◌, ◌⊎◌, ℕ, Bool, true, not, ◌||◌, ◌==◌, nat_lt, if◌then◌else◌, List, [], Option, None}
 use Rattle.std.specs.List.{flat_map}
 use Rattle.std.specs.FinMap as finmap
 use Rattle.hk_types.specs.Values.{RowValue, same_row}
+use Rattle.hk_types.specs.declared.faults.Refusal.{Refusal}
+use Rattle.hk_types.specs.declared.faults.Refusal.TheVariants.{Conflict, Memory}
 use Rattle.hk_types.specs.declared.version_key.VersionKey.{VersionKey}
 use Rattle.hk_log.specs.Versions.{VersionValue}
 use Rattle.hk_model.specs.History.Rows.{version_key_cmp}
@@ -13,7 +15,7 @@ use Rattle.hk_facts.specs.Facts.{row_of, died_of}
 use Rattle.hk_store.specs.Changes.{with_listed}
 use Rattle.hk_store.specs.Facts.{FactsValue, entry_if}
 use Rattle.hk_store.specs.Reads.{with_facts}
-use Rattle.hk_store.specs.Versions.{AreVersions}
+use Rattle.hk_store.specs.Versions.{AreVersions, value_conflicts_at}
 use Rattle.hk_store.specs.declared.learn.Coming.{Coming}
 use Rattle.hk_store.specs.declared.learn.Told.{Told}
 use Rattle.hk_store.specs.declared.learn.Told.TheVariants.{Listed, Held}
@@ -84,3 +86,11 @@ Learns old new coming told = new ≡ with_told coming.old coming.horizon old tol
 -- whether other facts give a version another row, or another end
 abbrev pub facts_conflict : FactsValue → FactsValue → Bool
 facts_conflict f g = contents_conflict (with_facts f) (with_facts g)
+
+-- why what is told of a version is not learnt: it contradicts what is known, or memory was refused
+abbrev pub RefusesVersion : FactsValue → VersionKey → VersionValue → Refusal → Type 0
+RefusesVersion f v told why = ((why ≡ Conflict) × (value_conflicts_at f v told ≡ true)) ⊎ (why ≡ Memory)
+
+-- the same of all that is told
+abbrev pub RefusesTold : FactsValue → FactsValue → Refusal → Type 0
+RefusesTold f told why = ((why ≡ Conflict) × (facts_conflict f told ≡ true)) ⊎ (why ≡ Memory)

@@ -10,7 +10,7 @@ ghost use Rattle.hk_types.specs.declared.faults.Refusal.TheVariants.{Memory};
 ghost use Rattle.hk_types.specs.declared.version_key.VersionKey.{VersionKey};
 ghost use Rattle.hk_model.specs.History.Rows.{row_key_cmp};
 ghost use Rattle.hk_model.specs.Replica.Answers.{visible, rows_where};
-ghost use Rattle.hk_facts.specs.Chains.{row_at, chain_put, RefusesPut};
+ghost use Rattle.hk_facts.specs.Chains.{ChainValue, row_at, chain_put, RefusesPut};
 ghost use Rattle.hk_slots.specs.SlotMaps.{map_of};
 ghost use Rattle.hk_store.specs.Reads.{with_facts, count_rows, rows_ranged};
 ghost use Rattle.hk_store.specs.Facts.{IsChainAt, IsUnknown, no_facts, known_at, has_like, with_fact_at, facts_put, facts_without};
@@ -117,12 +117,14 @@ impl Chains {
         ensures kept { OnErr result (self.new ≡ self.old) }
     {
         let row = RowKey::of_version(version);
-        if let Some(chain) = self.chains.get_mut(row) {
-            return put_where_new(chain, version.born, fact);
+        let chain = self.chains.get_or_insert(row, Chain::new(self.alloc))?;
+        match put_where_new(chain, version.born, fact) {
+            Ok(is_new) => Ok(is_new),
+            Err(why) => {
+                remove_if_empty(&mut self.chains, row);
+                Err(why)
+            }
         }
-        let chain = Chain::of_fact(self.alloc, version.born, fact)?;
-        self.chains.insert(row, chain)?;
-        Ok(true)
     }
 
     /// Adds a fact on a version, and says whether nothing like it was known. One that is known already changes nothing,
@@ -136,12 +138,14 @@ impl Chains {
         ensures kept { OnErr result (self.new ≡ self.old) }
     {
         let row = RowKey::of_version(version);
-        if let Some(chain) = self.chains.get_mut(row) {
-            return insert_in_chain(chain, version.born, fact);
+        let chain = self.chains.get_or_insert(row, Chain::new(self.alloc))?;
+        match insert_in_chain(chain, version.born, fact) {
+            Ok(is_new) => Ok(is_new),
+            Err(why) => {
+                remove_if_empty(&mut self.chains, row);
+                Err(why)
+            }
         }
-        let chain = Chain::of_fact(self.alloc, version.born, fact)?;
-        self.chains.insert(row, chain)?;
-        Ok(true)
     }
 
     /// Takes a part of a version back, where it is known, and says what went. Cost: O(log n), n facts.
@@ -204,6 +208,21 @@ impl Chains {
     {
         let chains = self.chains.copy()?;
         Ok(Chains { chains, alloc })
+    }
+}
+
+/// Takes away a row's chain where it is empty.
+fn remove_if_empty(chains: &mut SlotMap<RowKey, Chain>, row: RowKey)
+    ensures kept { (c : ChainValue) → finmap.get (map_of row_key_cmp chains.old) row ≡ Some c → 0 < finmap.len c
+        → map_of row_key_cmp chains.new ≡ map_of row_key_cmp chains.old }
+    ensures gone { finmap.get (map_of row_key_cmp chains.old) row ≡ Some finmap.empty
+        → map_of row_key_cmp chains.new ≡ finmap.remove (map_of row_key_cmp chains.old) row }
+{
+    let Some(chain) = chains.get(row) else {
+        return;
+    };
+    if chain.is_empty() {
+        chains.remove(row);
     }
 }
 

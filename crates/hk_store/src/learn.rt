@@ -1,11 +1,12 @@
 //! What others tell, learnt in one pass.
 
-ghost use Rattle.std.specs.Prelude.{◌≡◌, false, is_some, OnOk};
+ghost use Rattle.std.specs.Prelude.{◌≡◌, false, is_some, IfErr, OnOk};
 ghost use Rattle.std.specs.Option.{option_copied};
 ghost use Rattle.hk_facts.specs.Facts.{row_of, died_of};
+ghost use Rattle.hk_types.specs.declared.faults.Refusal.TheVariants.{Memory};
 ghost use Rattle.hk_store.specs.Journal.{without_journal};
 ghost use Rattle.hk_store.specs.Learning as spec;
-ghost use Rattle.hk_store.specs.Learning.{IsTold, Learns, LearnsEnd, LearnsRow, LearnsVersion};
+ghost use Rattle.hk_store.specs.Learning.{IsTold, Learns, LearnsEnd, LearnsRow, LearnsVersion, RefusesTold, RefusesVersion};
 ghost use Rattle.hk_store.specs.Learning.{facts_conflict, facts_told, told_by};
 ghost use Rattle.hk_store.specs.Versions.{AreVersions, value_conflicts_at};
 
@@ -72,6 +73,7 @@ impl Facts {
         requires told { IsTold told.now }
         ensures ok { OnOk result (Learns self.old self.new coming.now (facts_told told.now)) }
         ensures agrees { OnOk result (facts_conflict self.old (facts_told told.now) ≡ false) }
+        ensures err { IfErr result (λ why. RefusesTold self.old (facts_told told.now) why) }
         ensures back { without_journal journal.new.items self.new
             ≡ without_journal journal.old.items self.old }
     {
@@ -90,6 +92,7 @@ impl Facts {
         requires told { AreVersions (told_by told.now) told.now }
         ensures ok { OnOk result (Learns self.old self.new coming.now (told_by told.now)) }
         ensures agrees { OnOk result (facts_conflict self.old (told_by told.now) ≡ false) }
+        ensures err { IfErr result (λ why. RefusesTold self.old (told_by told.now) why) }
         ensures back { without_journal journal.new.items self.new ≡ without_journal journal.old.items self.old }
     {
         for (version, known) in told {
@@ -106,6 +109,7 @@ impl Facts {
     ) -> Result<(), Refusal>
         ensures ok { OnOk result (Learns self.old self.new coming.now told.now) }
         ensures agrees { OnOk result (facts_conflict self.old told.now ≡ false) }
+        ensures err { IfErr result (λ why. RefusesTold self.old told.now why) }
         ensures back { without_journal journal.new.items self.new ≡ without_journal journal.old.items self.old }
     {
         for (version, known) in told.walk() {
@@ -124,6 +128,7 @@ impl Facts {
     ) -> Result<(), Refusal>
         ensures ok { OnOk result (LearnsVersion self.old self.new coming.now version.now told.now) }
         ensures agrees { OnOk result (value_conflicts_at self.old version.now told.now ≡ false) }
+        ensures err { IfErr result (λ why. RefusesVersion self.old version.now told.now why) }
         ensures back { without_journal journal.new.items self.new ≡ without_journal journal.old.items self.old }
     {
         let held = self.version(version);
@@ -150,6 +155,7 @@ impl Facts {
         told: &Version,
     ) -> Result<(), Refusal>
         ensures ok { OnOk result (LearnsRow self.old self.new coming.now version.now told.now) }
+        ensures err { IfErr result (λ why. why ≡ Memory) }
         ensures back { without_journal journal.new.items self.new ≡ without_journal journal.old.items self.old }
     {
         match coming.row(version, told) {
@@ -170,6 +176,7 @@ impl Facts {
         told: &Version,
     ) -> Result<(), Refusal>
         ensures ok { OnOk result (LearnsEnd self.old self.new coming.now version.now told.now) }
+        ensures err { IfErr result (λ why. why ≡ Memory) }
         ensures back { without_journal journal.new.items self.new ≡ without_journal journal.old.items self.old }
     {
         match coming.end(version, told) {

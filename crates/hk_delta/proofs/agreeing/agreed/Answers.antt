@@ -1,6 +1,5 @@
-use Rattle.std.proofs.Common.{sym, ap, ◌∙◌, map, length}
+use Rattle.std.proofs.Common.{sym, ap, ◌∙◌, length}
 use Rattle.hk_types.specs.Values.{ConfigValue}
-use Rattle.hk_store.specs.Versions.{borrowed}
 use Rattle.hk_fragment.specs.Parts.{fragment_seen, fragment_fault}
 use Rattle.hk_delta.specs.Agreeing.{taken_items}
 use Rattle.hk_delta.specs.Cuts.{all_left}
@@ -19,18 +18,18 @@ of_parts-requires-clause-faultless c =
     let s = c.args.state.now in
     let log : ConfigValue = record { log = s.log; streams = length s.streams } in
     let l = c.in_ok-facts.ensures in
-    let es = map borrowed c.in_ok-versions.versions.items in
-    let list = c.in_ok-left.ensures ∙ (λ i. all_left (c.zero.ensures i) (map borrowed (c.deref.ensures.value i))) in
-    (λ i. fragment_fault (c.zero-beginning.ensures i) (c.zero-beginning.ensures i) (l.got i) (list i)) ∙ whole_faultless log (taken_items s c.args.items.now) l.agree.each c.in_ok-facts.field-0.facts l.facts es c.in_ok-versions.ensures
+    let es = c.in_ok-left.ensures.0 in
+    let list = c.in_ok-left.ensures.1.1 ∙ ap (λ base. all_left base es) c.zero.ensures in
+    (λ i. fragment_fault (c.zero-beginning.ensures i) (c.zero-beginning.ensures i) (l.got i) (list i)) ∙ whole_faultless log (taken_items s c.args.items.now) l.agree.each c.in_ok-facts.field-0.facts l.facts es c.in_ok-left.ensures.1.0
 
 pub returns : goal.returns
 returns c =
     let s = c.args.state.now in
     let log : ConfigValue = record { log = s.log; streams = length s.streams } in
     let l = c.in_ok-facts.ensures in
-    let es = map borrowed c.in_ok-versions.versions.items in
-    let list = c.in_ok-left.ensures ∙ (λ i. all_left (c.zero.ensures i) (map borrowed (c.deref.ensures.value i))) in
+    let es = c.in_ok-left.ensures.0 in
+    let list = c.in_ok-left.ensures.1.1 ∙ ap (λ base. all_left base es) c.zero.ensures in
     all_agree s l.before c.args.items.now c.in_ok-facts.field-0 c.of_parts.result l
     (c.of_parts.ensures
     ∙ (λ i. fragment_seen (record { log = c.config.ensures.log i; streams = c.config.ensures.streams i }) (c.zero-beginning.ensures i) (c.zero-beginning.ensures i) (l.got i) (list i))
-    ∙ whole_is log (taken_items s c.args.items.now) l.agree.each c.in_ok-facts.field-0.facts l.facts es c.in_ok-versions.ensures)
+    ∙ whole_is log (taken_items s c.args.items.now) l.agree.each c.in_ok-facts.field-0.facts l.facts es c.in_ok-left.ensures.1.0)

@@ -1,38 +1,30 @@
-use Rattle.std.proofs.Common.{ap}
-use Rattle.std.proofs.lemmas.Result.{on_err_weaker}
-use Rattle.hk_store.specs.Facts.{facts_of}
-use Rattle.hk_store.proofs.FactsByRow.{new_stored, write_back}
-use Rattle.hk_store.proofs.NewFacts.{there_new, there_kept, there_known, there_with, absent_new, absent_with}
+use Rattle.std.proofs.Common.{refl, sym, ap, ◌∙◌, subst}
+use Rattle.std.specs.Option.{unwrap_or}
+use Rattle.std.specs.Result.{IsOk}
+use Rattle.std.specs.FinMap as finmap
+use Rattle.hk_store.specs.Facts.{facts_of, AreStored}
+use Rattle.hk_store.proofs.FactsByRow.{seen}
+use Rattle.hk_store.proofs.PutChains.{put_in_new, added_stored, added_known, added_with, undone}
 use Rattle.hk_store.proofs.chains.Chains.put_new.Goals as goal
 
-pub invariant_of-self : goal.invariant_of-self
-invariant_of-self c =
-    let e = c.put_where_new.ensures in
-    there_kept c.self.inside.chains _ c.args.version.now c.of_version-row.ensures c.args.fact c.in-Some.chain.now c.in-Some.ensures.value (c.get_mut.follows.lender c.put_where_new.new.chain) c.put_where_new.new.chain (c.get_mut.follows.holds c.put_where_new.new.chain) c.put_where_new.result e.new e.known e.kept c.self.invariant
+pub invariant_of-self-in-Ok : goal.invariant_of-self-in-Ok
+invariant_of-self-in-Ok c = added_stored c.self.inside.chains (c.get_or_insert.follows.lender c.put_where_new.new.chain) c.of_version-row.result c.args.version.now c.of_version-row.ensures c.args.fact c.in_ok-chain.chain.now c.put_where_new.new.chain (c.in_ok-chain.ensures.value ∙ ap (unwrap_or (finmap.get (seen c.self.inside.chains) c.of_version-row.result)) c.new.ensures) (c.get_or_insert.follows.holds c.put_where_new.new.chain (subst IsOk (sym c.in_ok-chain.was) refl)) c.in-Ok.is_new c.in-Ok.ensures.told c.in-Ok.ensures.new c.in-Ok.ensures.known c.self.invariant
 
-pub returns-in-Some-clause-ok : goal.returns-in-Some-clause-ok
-returns-in-Some-clause-ok c =
-    let e = c.put_where_new.ensures in
-    rw (← c.self.view_is) (there_with c.self.inside.chains _ c.args.version.now c.of_version-row.ensures c.args.fact c.in-Some.chain.now c.in-Some.ensures.value (c.get_mut.follows.lender c.put_where_new.new.chain) c.put_where_new.new.chain (c.get_mut.follows.holds c.put_where_new.new.chain) c.put_where_new.result e.told e.new e.known)
+pub returns-in-Ok-clause-ok : goal.returns-in-Ok-clause-ok
+returns-in-Ok-clause-ok c = rw (← c.self.view_is) (added_with c.self.inside.chains (c.get_or_insert.follows.lender c.put_where_new.new.chain) c.of_version-row.result c.args.version.now c.of_version-row.ensures c.args.fact c.in_ok-chain.chain.now c.put_where_new.new.chain (c.in_ok-chain.ensures.value ∙ ap (unwrap_or (finmap.get (seen c.self.inside.chains) c.of_version-row.result)) c.new.ensures) (c.get_or_insert.follows.holds c.put_where_new.new.chain (subst IsOk (sym c.in_ok-chain.was) refl)) c.in-Ok.is_new c.in-Ok.ensures.told c.in-Ok.ensures.new c.in-Ok.ensures.known)
 
-pub returns-in-Some-clause-new : goal.returns-in-Some-clause-new
-returns-in-Some-clause-new c = rw (← c.self.view_is) (there_new c.self.inside.chains _ c.args.version.now c.of_version-row.ensures c.args.fact c.in-Some.chain.now c.in-Some.ensures.value c.put_where_new.result c.put_where_new.ensures.told)
+pub returns-in-Ok-clause-new : goal.returns-in-Ok-clause-new
+returns-in-Ok-clause-new c = rw (← c.self.view_is) (put_in_new c.self.inside.chains (c.get_or_insert.follows.lender c.put_where_new.new.chain) c.of_version-row.result c.args.version.now c.of_version-row.ensures c.args.fact c.in_ok-chain.chain.now c.put_where_new.new.chain (c.in_ok-chain.ensures.value ∙ ap (unwrap_or (finmap.get (seen c.self.inside.chains) c.of_version-row.result)) c.new.ensures) (c.get_or_insert.follows.holds c.put_where_new.new.chain (subst IsOk (sym c.in_ok-chain.was) refl)) c.in-Ok.is_new c.in-Ok.ensures.told)
 
-pub returns-in-Some-clause-known : goal.returns-in-Some-clause-known
-returns-in-Some-clause-known c = rw (← c.self.view_is) (there_known c.self.inside.chains _ c.args.version.now c.of_version-row.ensures c.args.fact c.in-Some.chain.now c.in-Some.ensures.value (c.get_mut.follows.lender c.put_where_new.new.chain) c.put_where_new.new.chain (c.get_mut.follows.holds c.put_where_new.new.chain) c.put_where_new.result c.put_where_new.ensures.known)
+pub returns-in-Ok-clause-known : goal.returns-in-Ok-clause-known
+returns-in-Ok-clause-known c = rw (← c.self.view_is) (added_known c.self.inside.chains (c.get_or_insert.follows.lender c.put_where_new.new.chain) c.of_version-row.result c.args.version.now c.of_version-row.ensures c.args.fact c.in_ok-chain.chain.now c.put_where_new.new.chain (c.in_ok-chain.ensures.value ∙ ap (unwrap_or (finmap.get (seen c.self.inside.chains) c.of_version-row.result)) c.new.ensures) (c.get_or_insert.follows.holds c.put_where_new.new.chain (subst IsOk (sym c.in_ok-chain.was) refl)) c.in-Ok.is_new c.in-Ok.ensures.told c.in-Ok.ensures.new c.in-Ok.ensures.known)
 
-pub returns-in-Some-clause-kept : goal.returns-in-Some-clause-kept
-returns-in-Some-clause-kept c = rw (← c.self.view_is) (on_err_weaker c.put_where_new.result (λ e. ap facts_of (write_back c.self.inside.chains _ c.args.version.now c.of_version-row.ensures c.in-Some.chain.now c.in-Some.ensures.value (c.get_mut.follows.lender c.put_where_new.new.chain) c.put_where_new.new.chain (c.get_mut.follows.holds c.put_where_new.new.chain) e)) c.put_where_new.ensures.kept)
+pub invariant_of-self-in-Err : goal.invariant_of-self-in-Err
+invariant_of-self-in-Err c =
+    let same = undone c.self.inside.chains (c.get_or_insert.follows.lender c.put_where_new.new.chain) c.of_version-row.result c.args.version.now c.of_version-row.ensures c.args.fact c.in_ok-chain.chain.now c.put_where_new.new.chain (c.in_ok-chain.ensures.value ∙ ap (unwrap_or (finmap.get (seen c.self.inside.chains) c.of_version-row.result)) c.new.ensures) (c.get_or_insert.follows.holds c.put_where_new.new.chain (subst IsOk (sym c.in_ok-chain.was) refl)) c.remove_if_empty.new.chains c.self.invariant c.in-Err.ensures.kept c.remove_if_empty.ensures.kept c.remove_if_empty.ensures.gone in
+    subst AreStored (sym same) c.self.invariant
 
-pub invariant_of-self-2 : goal.invariant_of-self-2
-invariant_of-self-2 c =
-    let updates = rw c.get_mut.follows.holds-at-none at c.in_ok-insert.ensures.map in
-    new_stored c.self.inside.chains _ c.args.version.now c.of_version-row.ensures c.args.fact c.insert.new.self _ c.in_default.ensures.value c.in_ok-chain.ensures updates c.self.invariant
-
-pub returns-clause-ok : goal.returns-clause-ok
-returns-clause-ok c =
-    let updates = rw c.get_mut.follows.holds-at-none at c.in_ok-insert.ensures.map in
-    rw (← c.self.view_is) (absent_with c.self.inside.chains _ c.args.version.now c.of_version-row.ensures c.args.fact c.in_default.ensures.value c.insert.new.self _ c.in_ok-chain.ensures updates)
-
-pub returns-clause-new : goal.returns-clause-new
-returns-clause-new c = rw (← c.self.view_is) (absent_new c.self.inside.chains _ c.args.version.now c.of_version-row.ensures c.args.fact c.in_default.ensures.value)
+pub returns-in-Err-clause-kept : goal.returns-in-Err-clause-kept
+returns-in-Err-clause-kept c =
+    let same = undone c.self.inside.chains (c.get_or_insert.follows.lender c.put_where_new.new.chain) c.of_version-row.result c.args.version.now c.of_version-row.ensures c.args.fact c.in_ok-chain.chain.now c.put_where_new.new.chain (c.in_ok-chain.ensures.value ∙ ap (unwrap_or (finmap.get (seen c.self.inside.chains) c.of_version-row.result)) c.new.ensures) (c.get_or_insert.follows.holds c.put_where_new.new.chain (subst IsOk (sym c.in_ok-chain.was) refl)) c.remove_if_empty.new.chains c.self.invariant c.in-Err.ensures.kept c.remove_if_empty.ensures.kept c.remove_if_empty.ensures.gone in
+    rw (← c.self.view_is) (ap facts_of same)
