@@ -77,8 +77,9 @@ fn stands(base: Time, horizon: Time, version: VersionKey, known: &Version) -> bo
     born.number() > 0 && is_valid_end(base, horizon, born, known.died())
 }
 
-/// The first fault of the facts.
-fn facts_fault(base: Time, horizon: Time, facts: &[(VersionKey, Version)]) -> Option<FormFault>
+/// The first fault of these facts in a fragment with this base and this horizon, if they have one: `BadOrder` and
+/// `BadNumber` as `Fragment::new` tells them of facts. Cost: O(n), n facts.
+pub fn facts_fault(base: Time, horizon: Time, facts: &[(VersionKey, Version)]) -> Option<FormFault>
     ensures { result ≡ spec.facts_fault base horizon None facts.now }
 {
     let mut before = None;

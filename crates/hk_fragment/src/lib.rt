@@ -4,4 +4,4 @@
 mod fragment;
 mod merging;
 
-pub use fragment::Fragment;
+pub use fragment::{Fragment, facts_fault};

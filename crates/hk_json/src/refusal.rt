@@ -28,6 +28,8 @@ struct RefusalLine {
     reader: Option<Wide>,
     #[serde(skip_serializing_if = "Option::is_none")]
     ops: Option<Wide>,
+    #[serde(skip_serializing_if = "Option::is_none")]
+    most: Option<Wide>,
 }
 
 /// The number alone.
@@ -43,6 +45,7 @@ fn plain(refusal: &Refusal) -> RefusalLine {
         stream: None,
         reader: None,
         ops: None,
+        most: None,
     }
 }
 
@@ -77,6 +80,7 @@ fn refusal_line(refusal: &Refusal) -> RefusalLine {
         Refusal::Retired { stream } => line.stream = Some(stream.number()),
         Refusal::Held { reader, .. } => line.reader = Some(Wide(*reader)),
         Refusal::Unpublished { ops } => line.ops = Some(Wide(*ops)),
+        Refusal::LinkFull { most } => line.most = Some(Wide(*most)),
         _other => (),
     }
     line

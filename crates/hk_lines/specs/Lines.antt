@@ -5,7 +5,7 @@ use Rattle.std.specs.Fmt.{decimal}
 use Rattle.hex.specs.Hex.{encode_lower}
 use Rattle.hk_types.specs.Values.{RowValue}
 use Rattle.hk_types.specs.declared.faults.Refusal.{Refusal}
-use Rattle.hk_types.specs.declared.faults.Refusal.TheVariants.{Gap, AheadOfMark, TooOld, NotYet, WriteConflict, NoRow, Retired, Held, Unpublished}
+use Rattle.hk_types.specs.declared.faults.Refusal.TheVariants.{Gap, AheadOfMark, TooOld, NotYet, WriteConflict, NoRow, Retired, Held, Unpublished, LinkFull}
 use Rattle.hk_types.specs.FaultNumbers.{refusal_number}
 use Rattle.hk_log.specs.Items.{EntryValue, MarkValue}
 use Rattle.hk_log.specs.declared.item.Item.{Item}
@@ -55,6 +55,7 @@ fields_of (NoRow table key) = field (codes "table") table ++ field (codes "key")
 fields_of (Retired stream) = field (codes "stream") stream
 fields_of (Held reader at) = field (codes "reader") reader ++ field (codes "at") at
 fields_of (Unpublished ops) = field (codes "ops") ops
+fields_of (LinkFull most) = field (codes "most") most
 fields_of other = []
 
 -- what is printed of a refusal: its number, then its fields

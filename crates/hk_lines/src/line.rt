@@ -92,6 +92,7 @@ fn put_fields(refusal: &Refusal, out: &mut String) -> Result<(), AllocError>
         Refusal::Retired { stream } => write!(out, " stream {stream}"),
         Refusal::Held { reader, at } => write!(out, " reader {reader} at {at}"),
         Refusal::Unpublished { ops } => write!(out, " ops {ops}"),
+        Refusal::LinkFull { most } => write!(out, " most {most}"),
         _ => Ok(()),
     }
 }

@@ -206,6 +206,22 @@ fn of_nodes(number: u8) -> Option<Known> {
             "no such replica or item in a world",
             "name a replica that the world has, and an item that was emitted",
         ),
+        _more => of_parts(number),
+    }
+}
+
+fn of_parts(number: u8) -> Option<Known> {
+    match number {
+        46 => told(
+            "LinkFull {most}",
+            "what links hold in parts would be more than the operator allows",
+            "wait until other links are done, or give the node more bytes for parts",
+        ),
+        47 => told(
+            "NoPart",
+            "nothing is being given",
+            "ask for the whole first, and for more until its last part",
+        ),
         _none => None,
     }
 }

@@ -56,13 +56,13 @@ rise_all : (before : Option ℕ) (rows : List (ℕ × RowValue)) → Chained (λ
 rise_all before [] h = refl
 rise_all before (e ∷ rows) h = and_from (key_follows before e.0) (keys_rise (Some e.0) rows) (not-false (key_follows before e.0) h.0.0.1) (rise_all (Some e.0) rows h.1)
 
-abbrev AreRows : List (ℕ × RowValue) → Type 0
+abbrev pub AreRows : List (ℕ × RowValue) → Type 0
 AreRows rows = AllByRecursion KeyedFits rows × ((ltb (length rows) (2 ^ 32) && keys_rise None rows) ≡ true)
 
-abbrev rows_text : List (ℕ × RowValue) → List ℕ
+abbrev pub rows_text : List (ℕ × RowValue) → List ℕ
 rows_text rows = number w32 (length rows) ++ flat_map keyed_text rows
 
-rows_field : IsField rows_at rows_text AreRows
+pub rows_field : IsField rows_at rows_text AreRows
 unfolding rows_at
 rows_field =
     same_field (list_by_count (λ (e : ℕ × RowValue). e.0) keyed_at) rows_text (λ rows. (length rows < 2 ^ 32) × Chained (λ (e : ℕ × RowValue). e.0) KeyFits None rows) AreRows

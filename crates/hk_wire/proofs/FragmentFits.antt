@@ -134,17 +134,17 @@ stream_fits s lawful is =
     law : (n : ℕ) → covers s.taken n ≡ leb n (prefix_of s)
     law n = reached_law s.taken n
 
-streams_fit : (ss : List StreamContent) → All IsLawfulStream ss → All IsNumbered ss → AllByRecursion StreamFits (map wire_stream_of ss)
+pub streams_fit : (ss : List StreamContent) → All IsLawfulStream ss → All IsNumbered ss → AllByRecursion StreamFits (map wire_stream_of ss)
 streams_fit [] lawful are = tt
 streams_fit (s ∷ ss) lawful are =
     (stream_fits s (All-head IsLawfulStream s ss lawful) (All-head IsNumbered s ss are), streams_fit ss (All-tail IsLawfulStream s ss lawful) (All-tail IsNumbered s ss are))
 
-least_same : (ss : List StreamContent) → least_closed_of (map wire_stream_of ss) ≡ least_closed ss
+pub least_same : (ss : List StreamContent) → least_closed_of (map wire_stream_of ss) ≡ least_closed ss
 least_same [] = refl
 least_same (s ∷ []) = refl
 least_same (s ∷ t ∷ more) = ap (min s.closed) (least_same (t ∷ more))
 
-count_same : (ss : List StreamContent) → length (map wire_stream_of ss) ≡ length ss
+pub count_same : (ss : List StreamContent) → length (map wire_stream_of ss) ≡ length ss
 count_same [] = refl
 count_same (s ∷ ss) = ap suc (count_same ss)
 
@@ -160,7 +160,7 @@ parts_fit base horizon born (Some row) None known r d fits ends = (ltb-true base
 parts_fit base horizon born None (Some died) known r d fits ends = (ends, d)
 parts_fit base horizon born (Some row) (Some died) known r d fits ends = (ltb-true base born r, (fits, (ends, d)))
 
-facts_chained : (base horizon : ℕ) (before : Option VersionKey) (facts : List Known) → facts_fault base horizon before facts ≡ None → AllByRecursion KnownFits facts → Chained (λ e. e.0) (FactFits base horizon) before facts
+pub facts_chained : (base horizon : ℕ) (before : Option VersionKey) (facts : List Known) → facts_fault base horizon before facts ≡ None → AllByRecursion KnownFits facts → Chained (λ e. e.0) (FactFits base horizon) before facts
 facts_chained base horizon before [] h fit = tt
 facts_chained base horizon before (e ∷ facts) h fit =
     let order = passed (follows before e.0) BadOrder _ h in

@@ -34,7 +34,7 @@ after_field {A = A} {B = B} a b s t P Q f g =
           ∙ ap (λ (r : Result (B × List ℕ) FormFault). r >>= λ y. Ok ((p.0, y.0), y.1)) ((g p.0).again p.1 rest h.1);
     }
 
-or_false : (a b : Bool) → a ≡ false → b ≡ false → (a || b) ≡ false
+pub or_false : (a b : Bool) → a ≡ false → b ≡ false → (a || b) ≡ false
 or_false true b p q = absurd cc
 or_false false b p q = q
 
@@ -207,18 +207,18 @@ fact_field base horizon before =
 abbrev pub AreFacts : ℕ → ℕ → List Known → Type 0
 AreFacts base horizon facts = (length facts < 2 ^ 32) × Chained (λ (e : Known). e.0) (FactFits base horizon) None facts
 
-abbrev facts_text : List Known → List ℕ
+abbrev pub facts_text : List Known → List ℕ
 facts_text facts = number w32 (length facts) ++ flat_map fact_text facts
 
-facts_field : (base horizon : ℕ) → IsField (facts_at base horizon) facts_text (AreFacts base horizon)
+pub facts_field : (base horizon : ℕ) → IsField (facts_at base horizon) facts_text (AreFacts base horizon)
 facts_field base horizon = counted_field (λ (e : Known). e.0) (fact_at base horizon) fact_text (FactFits base horizon) (fact_field base horizon)
 
 -- ---- fragments
 
-abbrev BoundsFit : ℕ × ℕ → Type 0
+abbrev pub BoundsFit : ℕ × ℕ → Type 0
 BoundsFit p = ((p.0 ≤ 2 ^ 62) × (p.1 ≤ 2 ^ 62)) × (not (eqb p.0 0 || leb p.1 p.0) ≡ false)
 
-abbrev bounds_text : ℕ × ℕ → List ℕ
+abbrev pub bounds_text : ℕ × ℕ → List ℕ
 bounds_text p = number w64 p.0 ++ number w64 p.1
 
 bounds_field : IsField bounds_at bounds_text BoundsFit
@@ -227,35 +227,35 @@ bounds_field =
     barred_field (both time_at time_at) (λ p. not (eqb p.0 0 || leb p.1 p.0)) BadNumber bounds_text (λ p. (p.0 ≤ 2 ^ 62) × (p.1 ≤ 2 ^ 62))
     (both_field time_at time_at (number w64) (number w64) (λ n. n ≤ 2 ^ 62) (λ n. n ≤ 2 ^ 62) time_field time_field)
 
-abbrev StreamCount : ℕ → Type 0
+abbrev pub StreamCount : ℕ → Type 0
 StreamCount n = (n < 2 ^ 16) × ((ltb n 1 || ltb 64 n) ≡ false)
 
-stream_count_field : IsField stream_count_at (number w16) StreamCount
+pub stream_count_field : IsField stream_count_at (number w16) StreamCount
 unfolding stream_count_at
 stream_count_field = barred_field (number_at w16) (λ n. ltb n 1 || ltb 64 n) BadStream (number w16) (λ n. n < 2 ^ 16) field16
 
-abbrev HeadFits : ℕ × (ℕ × (ℕ × ℕ)) → Type 0
+abbrev pub HeadFits : ℕ × (ℕ × (ℕ × ℕ)) → Type 0
 HeadFits h = (h.0 < 2 ^ 64) × (StreamCount h.1.0 × BoundsFit h.1.1)
 
-abbrev head_text : ℕ × (ℕ × (ℕ × ℕ)) → List ℕ
+abbrev pub head_text : ℕ × (ℕ × (ℕ × ℕ)) → List ℕ
 head_text h = number w64 h.0 ++ (number w16 h.1.0 ++ bounds_text h.1.1)
 
-head_field : IsField fragment_head_at head_text HeadFits
+pub head_field : IsField fragment_head_at head_text HeadFits
 head_field =
     both_field (number_at w64) (both stream_count_at bounds_at) (number w64) (λ p. number w16 p.0 ++ bounds_text p.1) (λ n. n < 2 ^ 64) (λ p. StreamCount p.0 × BoundsFit p.1) field64
     (both_field stream_count_at bounds_at (number w16) bounds_text StreamCount BoundsFit stream_count_field bounds_field)
 
-abbrev AreStreams : ℕ → ℕ → List WireStream → Type 0
+abbrev pub AreStreams : ℕ → ℕ → List WireStream → Type 0
 AreStreams horizon n streams = ((length streams ≡ n) × Chained no_stream (λ _. StreamIs) None streams) × (ltb (least_closed_of streams) horizon ≡ false)
 
-streams_field : (horizon n : ℕ) → IsField (streams_at horizon n) (flat_map stream_text) (AreStreams horizon n)
+pub streams_field : (horizon n : ℕ) → IsField (streams_at horizon n) (flat_map stream_text) (AreStreams horizon n)
 unfolding streams_at
 streams_field horizon n =
     barred_field (list_at no_stream (λ _. stream_at) n None) (λ streams. ltb (least_closed_of streams) horizon) BadNumber (flat_map stream_text) (λ streams. (length streams ≡ n) × Chained no_stream (λ _. StreamIs) None streams)
     (many_field no_stream (λ _. stream_at) stream_text (λ _. StreamIs) (λ _. stream_field) n)
 
 -- what can be told of a fragment and counted
-record FragmentIs (f : WireFragment) : Type 0 where
+pub record FragmentIs (f : WireFragment) : Type 0 where
   pub head : HeadFits (f.log, (length f.streams, (f.base, f.horizon)))
   pub streams : AreStreams f.horizon (length f.streams) f.streams
   pub facts : AreFacts f.base f.horizon f.facts
@@ -325,7 +325,7 @@ streams_back before (s ∷ streams) h c =
     let b = both_true (stream_is_counted s) (streams_are_counted streams) c in
     (counted_back s h.0 b.0, streams_back (Some tt) streams h.1 b.1)
 
-base_there : (base horizon : ℕ) → not (eqb base 0 || leb horizon base) ≡ false → (base ≡ 0) ⊎ (horizon ≤ base)
+pub base_there : (base horizon : ℕ) → not (eqb base 0 || leb horizon base) ≡ false → (base ≡ 0) ⊎ (horizon ≤ base)
 base_there base horizon e = by (eqb base 0) refl (not-false (eqb base 0 || leb horizon base) e)
   where
     by : (b : Bool) → eqb base 0 ≡ b → (b || leb horizon base) ≡ true → (base ≡ 0) ⊎ (horizon ≤ base)
@@ -340,10 +340,8 @@ base_back base horizon (inr le) = not_from_true (eqb base 0 || leb horizon base)
     or_true true b e = refl
     or_true false b e = e
 
-pub fragment_field : IsField fragment_at fragment_text (λ f. FragmentFits f × (is_counted f ≡ true))
-fragment_field =
-    same_field fragment_at fragment_text FragmentIs (λ f. FragmentFits f × (is_counted f ≡ true))
-    (λ f h.
+pub fragment_there : (f : WireFragment) → FragmentIs f → FragmentFits f × (is_counted f ≡ true)
+fragment_there f h =
     let s = streams_there None f.streams h.streams.0.1 in
     let n = neither (ltb (length f.streams) 1) (ltb 64 (length f.streams)) h.head.1.0.1 in (
       record {
@@ -358,8 +356,10 @@ fragment_field =
         facts = h.facts.1;
       },
       and_from (streams_are_counted f.streams) (ltb (length f.facts) (2 ^ 32)) s.1 (lt-ltb _ _ h.facts.0),
-    ))
-    (λ f h.
+    )
+
+pub fragment_back : (f : WireFragment) → FragmentFits f × (is_counted f ≡ true) → FragmentIs f
+fragment_back f h =
     let k : FragmentFits f = h.0 in
     let b = both_true (streams_are_counted f.streams) (ltb (length f.facts) (2 ^ 32)) h.1 in
     let few : length f.streams < 2 ^ 16 = omega (arith, k.most) in
@@ -367,5 +367,7 @@ fragment_field =
       head = (k.log, ((few, or_false (ltb (length f.streams) 1) (ltb 64 (length f.streams)) (le-ltb _ _ k.least) (le-ltb _ _ k.most)), ((k.base, k.horizon), base_back f.base f.horizon k.base_above)));
       streams = ((refl, streams_back None f.streams k.streams b.0), le-ltb _ _ k.within);
       facts = (ltb-true _ _ b.1, k.facts);
-    })
-    told_field
+    }
+
+pub fragment_field : IsField fragment_at fragment_text (λ f. FragmentFits f × (is_counted f ≡ true))
+fragment_field = same_field fragment_at fragment_text FragmentIs (λ f. FragmentFits f × (is_counted f ≡ true)) fragment_there fragment_back told_field

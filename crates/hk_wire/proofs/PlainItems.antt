@@ -101,7 +101,7 @@ items_body_fails bytes (Fault f) h = items_body bytes ∙ ap (λ (r : Result (Li
 
 pub request_plain : (bytes : List ℕ) → plain_request_at bytes ≡ mapped request_meant (request_at bytes)
 unfolding plain_request_at plain_request_of request_at message_at
-request_plain bytes = by (head_at bytes)
+request_plain bytes = by (head_at 1 bytes)
   where
     by : (r : Result (ℕ × List ℕ) FormFault) → (r >>= λ kind. mapped (seen_of request_meant) (request_of kind.0 kind.1) >>= λ body. check (ltb 0 (length body.1)) WrongLength >>= λ _. Ok body.0) ≡ mapped request_meant (r >>= λ kind. request_of kind.0 kind.1 >>= λ body. check (ltb 0 (length body.1)) WrongLength >>= λ _. Ok body.0)
     by (Ok kind) = body_plain (request_of kind.0 kind.1)

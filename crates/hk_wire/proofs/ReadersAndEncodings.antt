@@ -3,7 +3,7 @@ use Rattle.std.proofs.Common.{◌≡◌, ℕ, zero, suc, ◌^◌, ◌<◌, ◌�
 use Rattle.std.specs.List.{flat_map}
 use Rattle.std.proofs.lemmas.List.Concat.{flat_map-cons}
 use Rattle.std.specs.Int.{Width, w16, w32, w64}
-use Rattle.std.proofs.lemmas.Bool.{ltb-false, le-ltb, le-leb, leb-true, eqb-true, not-false, not_from_true}
+use Rattle.std.proofs.lemmas.Bool.{ltb-false, le-ltb, le-leb, leb-true, eqb-true, eq-eqb, not-false, not_from_true}
 use Rattle.std.proofs.lemmas.List.{append-nil, nil_from_length}
 use Rattle.hk_types.specs.declared.faults.FormFault.{FormFault}
 use Rattle.hk_types.specs.declared.faults.FormFault.TheVariants.{BadVersion, BadNumber, WrongLength}
@@ -150,38 +150,38 @@ made_again {A = A} f r s P field a rest h = ap (λ (y : Result (A × List ℕ) F
 
 -- ---- messages
 
-head_takes : (bytes : List ℕ) (x : ℕ × List ℕ) → IsBytes bytes → head_at bytes ≡ Ok x → Takes bytes (1 ∷ x.0 ∷ []) x.1
+head_takes : (version : ℕ) (bytes : List ℕ) (x : ℕ × List ℕ) → IsBytes bytes → head_at version bytes ≡ Ok x → Takes bytes (version ∷ x.0 ∷ []) x.1
 unfolding head_at
-head_takes bytes x fits e =
-    let a = bind_ok (byte_at bytes) (λ version. check (cond (eqb version.0 1) false true) BadVersion >>= λ _. byte_at version.1) x e in
-    let b = check_ok (cond (eqb a.0.0 1) false true) BadVersion (λ _. byte_at a.0.1) x a.2 in
+head_takes version bytes x fits e =
+    let a = bind_ok (byte_at bytes) (λ first. check (cond (eqb first.0 version) false true) BadVersion >>= λ _. byte_at first.1) x e in
+    let b = check_ok (cond (eqb a.0.0 version) false true) BadVersion (λ _. byte_at a.0.1) x a.2 in
     let t = byte_takes bytes a.0 fits a.1 in
     let u = byte_takes a.0.1 x t.rest_fits b.1 in
-    let version : a.0.0 ≡ 1 = eqb-true a.0.0 1 (passes (eqb a.0.0 1) b.0) in
-    subst (λ (v : ℕ). Takes bytes (v ∷ x.0 ∷ []) x.1) version (Takes-then bytes (a.0.0 ∷ []) a.0.1 (x.0 ∷ []) x.1 t u)
+    let same : a.0.0 ≡ version = eqb-true a.0.0 version (passes (eqb a.0.0 version) b.0) in
+    subst (λ (v : ℕ). Takes bytes (v ∷ x.0 ∷ []) x.1) same (Takes-then bytes (a.0.0 ∷ []) a.0.1 (x.0 ∷ []) x.1 t u)
 
--- a message whose bodies are read by kinds is a format
-pub message_format : {X : Type 0} (of_kind : ℕ → Reader X) (kind : X → ℕ) (text : X → List ℕ) (Is : X → Type 0) → AreKinds of_kind kind text Is
-    → IsFormat 2 268435456 (message_at of_kind) (λ x. message_text (kind x) (text x)) (λ x. Is x × (leb (length (message_text (kind x) (text x))) 268435456 ≡ true))
+-- a message of a version whose bodies are read by kinds is a format
+pub message_format : {X : Type 0} (version : ℕ) (of_kind : ℕ → Reader X) (kind : X → ℕ) (text : X → List ℕ) (Is : X → Type 0) → AreKinds of_kind kind text Is
+    → IsFormat 2 268435456 (message_at version of_kind) (λ x. message_text version (kind x) (text x)) (λ x. Is x × (leb (length (message_text version (kind x) (text x))) 268435456 ≡ true))
 unfolding message_at head_at byte_at
-message_format {X = X} of_kind kind text Is f =
+message_format {X = X} version of_kind kind text Is f =
     record {
       takes = λ bytes x fits most e.
-          let a = bind_ok (head_at bytes) (λ k. of_kind k.0 k.1 >>= λ b. check (ltb 0 (length b.1)) WrongLength >>= λ _. Ok b.0) x e in
+          let a = bind_ok (head_at version bytes) (λ k. of_kind k.0 k.1 >>= λ b. check (ltb 0 (length b.1)) WrongLength >>= λ _. Ok b.0) x e in
           let b = bind_ok (of_kind a.0.0 a.0.1) (λ b. check (ltb 0 (length b.1)) WrongLength >>= λ _. Ok b.0) x a.2 in
           let c = check_ok (ltb 0 (length b.0.1)) WrongLength (λ _. Ok b.0.0) x b.2 in
-          let t = head_takes bytes a.0 fits a.1 in
+          let t = head_takes version bytes a.0 fits a.1 in
           let u = f.takes a.0.0 a.0.1 b.0 t.rest_fits b.1 in
           let none : length b.0.1 ≤ 0 = ltb-false 0 (length b.0.1) c.0 in
           let nothing : b.0.1 ≡ [] = nil_from_length b.0.1 (omega arith) in
-          let both : Takes bytes (1 ∷ a.0.0 ∷ text b.0.0) b.0.1 = Takes-then bytes (1 ∷ a.0.0 ∷ []) a.0.1 (text b.0.0) b.0.1 t u.1.0 in
-          let named : bytes ≡ (1 ∷ kind b.0.0 ∷ text b.0.0) ++ b.0.1 = subst (λ (k : ℕ). bytes ≡ (1 ∷ k ∷ text b.0.0) ++ b.0.1) (sym u.0) both.parts in
-          let whole : bytes ≡ 1 ∷ kind b.0.0 ∷ text b.0.0 = named ∙ ap (λ (r : List ℕ). (1 ∷ kind b.0.0 ∷ text b.0.0) ++ r) nothing ∙ append-nil (1 ∷ kind b.0.0 ∷ text b.0.0) in
-          subst (λ (y : X). (bytes ≡ 1 ∷ kind y ∷ text y) × (Is y × (leb (length (1 ∷ kind y ∷ text y)) 268435456 ≡ true))) {x = b.0.0} (ok_is b.0.0 x c.1)
+          let both : Takes bytes (version ∷ a.0.0 ∷ text b.0.0) b.0.1 = Takes-then bytes (version ∷ a.0.0 ∷ []) a.0.1 (text b.0.0) b.0.1 t u.1.0 in
+          let named : bytes ≡ (version ∷ kind b.0.0 ∷ text b.0.0) ++ b.0.1 = subst (λ (k : ℕ). bytes ≡ (version ∷ k ∷ text b.0.0) ++ b.0.1) (sym u.0) both.parts in
+          let whole : bytes ≡ version ∷ kind b.0.0 ∷ text b.0.0 = named ∙ ap (λ (r : List ℕ). (version ∷ kind b.0.0 ∷ text b.0.0) ++ r) nothing ∙ append-nil (version ∷ kind b.0.0 ∷ text b.0.0) in
+          subst (λ (y : X). (bytes ≡ version ∷ kind y ∷ text y) × (Is y × (leb (length (version ∷ kind y ∷ text y)) 268435456 ≡ true))) {x = b.0.0} (ok_is b.0.0 x c.1)
           (whole, (u.1.1, le-leb _ _ (subst (λ (l : List ℕ). length l ≤ 268435456) whole most)));
       again = λ x h.
           let body : of_kind (kind x) (text x) ≡ Ok (x, []) = ap (of_kind (kind x)) (sym (append-nil (text x))) ∙ f.again x [] h.0 in
-          ap (λ (r : Result (X × List ℕ) FormFault). r >>= λ b. check (ltb 0 (length b.1)) WrongLength >>= λ _. Ok b.0) body;
+          rw (eq-eqb version version refl) (ap (λ (r : Result (X × List ℕ) FormFault). r >>= λ b. check (ltb 0 (length b.1)) WrongLength >>= λ _. Ok b.0) body);
       at_least = λ x h. omega arith;
       at_most = λ x h. leb-true _ _ h.1;
       in_width = omega arith;
@@ -235,20 +235,20 @@ module _ {X P : Type 0} (place : X → P) (one : Option P → Reader X) (text : 
         again = λ xs rest h. ap (λ (k : ℕ). list_at place one k None (flat_map text xs ++ rest)) (sym h.0) ∙ list_again xs None rest h.1;
       }
 
-  pub listed_field : (count_at : Reader ℕ) (Most : ℕ → Type 0) → IsField count_at (number w32) Most → IsField (list_by count_at place one) (λ xs. number w32 (length xs) ++ flat_map text xs) (λ xs. Most (length xs) × Chained place Fit None xs)
-  listed_field count_at Most counts =
+  pub listed_field : (w : Width) (count_at : Reader ℕ) (Most : ℕ → Type 0) → IsField count_at (number w) Most → IsField (list_by count_at place one) (λ xs. number w (length xs) ++ flat_map text xs) (λ xs. Most (length xs) × Chained place Fit None xs)
+  listed_field w count_at Most counts =
       record {
         takes = λ bytes x fits e.
             let a = bind_ok (count_at bytes) (λ count. list_at place one count.0 None count.1) x e in
             let t = counts.takes bytes a.0 fits a.1 in
             let l = list_takes a.0.0 None a.0.1 x t.0.rest_fits a.2 in
-            let both = Takes-then bytes (number w32 a.0.0) a.0.1 (flat_map text x.0) x.1 t.0 l.takes in
-            (subst (λ (k : ℕ). Takes bytes (number w32 k ++ flat_map text x.0) x.1) (sym l.len) both, (subst Most (sym l.len) t.1, l.each));
+            let both = Takes-then bytes (number w a.0.0) a.0.1 (flat_map text x.0) x.1 t.0 l.takes in
+            (subst (λ (k : ℕ). Takes bytes (number w k ++ flat_map text x.0) x.1) (sym l.len) both, (subst Most (sym l.len) t.1, l.each));
         again = λ xs rest h.
-            ap (list_by count_at place one) (append_assoc (number w32 (length xs)) (flat_map text xs) rest)
+            ap (list_by count_at place one) (append_assoc (number w (length xs)) (flat_map text xs) rest)
             ∙ ap (λ (r : Result (ℕ × List ℕ) FormFault). r >>= λ count. list_at place one count.0 None count.1) (counts.again (length xs) (flat_map text xs ++ rest) h.0)
             ∙ list_again xs None rest h.1;
       }
 
   pub counted_field : IsField (list_by_count place one) (λ xs. number w32 (length xs) ++ flat_map text xs) (λ xs. (length xs < 2 ^ 32) × Chained place Fit None xs)
-  counted_field = listed_field (number_at w32) (λ n. n < 2 ^ 32) field32
+  counted_field = listed_field w32 (number_at w32) (λ n. n < 2 ^ 32) field32

@@ -6,7 +6,7 @@ use Rattle.std.proofs.lemmas.Bool.{eqb-true}
 use Rattle.hk_types.specs.FaultNumbers.{refusal_number}
 use Rattle.hk_types.specs.declared.faults.FormFault.TheVariants.{Truncated, TooLong, BadVersion, BadKind, BadStream, BadNumber, BadOrder, BadCount, BadBody, WrongLength}
 use Rattle.hk_types.specs.declared.faults.Refusal.{Refusal}
-use Rattle.hk_types.specs.declared.faults.Refusal.TheVariants.{Form, ForeignLog, WrongStreams, Gap, Conflict, AheadOfMark, TooOld, NotYet, WriteConflict, NoRow, TwiceWritten, TooManyWrites, NoStream, ClockFull, Retired, Held, Damaged, Unpublished, NodeFull, NoHold, NoSuch, Memory}
+use Rattle.hk_types.specs.declared.faults.Refusal.TheVariants.{Form, ForeignLog, WrongStreams, Gap, Conflict, AheadOfMark, TooOld, NotYet, WriteConflict, NoRow, TwiceWritten, TooManyWrites, NoStream, ClockFull, Retired, Held, Damaged, Unpublished, NodeFull, NoHold, NoSuch, LinkFull, NoPart, Memory}
 use Rattle.hk_frames.specs.Fields.{IsBytes, number, number_at}
 use Rattle.hk_frames.proofs.ReadingSteps.{Takes}
 use Rattle.hk_wire.specs.Readers.{both, fault_where, time_at}
@@ -16,7 +16,7 @@ use Rattle.hk_wire.proofs.ReadersAndEncodings.{IsField, field64, time_field, bot
 abbrev pub IsSent : Refusal → Type 0
 IsSent r = RefusalFits r × (is_sent r ≡ true)
 
-abbrev Always : Unit {0} → Type 0
+abbrev pub Always : Unit {0} → Type 0
 Always u = Unit {0}
 
 abbrev zero_text : Unit {0} → List ℕ
@@ -39,7 +39,7 @@ zero_field =
 abbrev pair_text : ℕ × ℕ → List ℕ
 pair_text p = number w64 p.0 ++ number w64 p.1
 
-abbrev first_text : ℕ × Unit {0} → List ℕ
+abbrev pub first_text : ℕ × Unit {0} → List ℕ
 first_text p = number w64 p.0 ++ number w64 0
 
 times_field : IsField (both time_at time_at) pair_text (λ p. (p.0 ≤ 2 ^ 62) × (p.1 ≤ 2 ^ 62))
@@ -51,13 +51,13 @@ one_time_field = both_field time_at zero_at (number w64) zero_text (λ n. n ≤ 
 held_field : IsField (both (number_at w64) time_at) pair_text (λ p. (p.0 < 2 ^ 64) × (p.1 ≤ 2 ^ 62))
 held_field = both_field (number_at w64) time_at (number w64) (number w64) (λ n. n < 2 ^ 64) (λ n. n ≤ 2 ^ 62) field64 time_field
 
-ops_zero_field : IsField (both (number_at w64) zero_at) first_text (λ p. (p.0 < 2 ^ 64) × Always p.1)
+pub ops_zero_field : IsField (both (number_at w64) zero_at) first_text (λ p. (p.0 < 2 ^ 64) × Always p.1)
 ops_zero_field = both_field (number_at w64) zero_at (number w64) zero_text (λ n. n < 2 ^ 64) Always field64 zero_field
 
-abbrev zeros_text : Unit {0} × Unit {0} → List ℕ
+abbrev pub zeros_text : Unit {0} × Unit {0} → List ℕ
 zeros_text p = number w64 0 ++ number w64 0
 
-zeros_field : IsField (both zero_at zero_at) zeros_text (λ p. Always p.0 × Always p.1)
+pub zeros_field : IsField (both zero_at zero_at) zeros_text (λ p. Always p.0 × Always p.1)
 zeros_field = both_field zero_at zero_at zero_text zero_text Always Always zero_field zero_field
 
 -- ---- refusals that name no number
@@ -103,7 +103,7 @@ unpublished_of p = Unpublished p.0
 abbrev plainly : Refusal → Unit {0} × Unit {0} → Refusal
 plainly r p = r
 
-abbrev IsRefusalOf : ℕ → List ℕ → Refusal × List ℕ → Type 0
+abbrev pub IsRefusalOf : ℕ → List ℕ → Refusal × List ℕ → Type 0
 IsRefusalOf k bytes x = (refusal_number x.0 ≡ k) × (Takes bytes (refusal_fields x.0) x.1 × IsSent x.0)
 
 plain_takes : (k : ℕ) (bytes : List ℕ) (x : Refusal × List ℕ) (o : Option Refusal) → plain k ≡ o → IsBytes bytes → plain_of o bytes ≡ Ok x → IsRefusalOf k bytes x
@@ -113,7 +113,7 @@ plain_takes k bytes x (Some r) is fits e =
     let p = first_is k plain_refusals r all_plain is in
     made_takes (plainly r) (both zero_at zero_at) zeros_text _ zeros_field refusal_number refusal_fields IsSent k (λ a. p.0) (λ a. p.1.fields) (λ a h. p.1.sent) bytes x fits e
 
-refusal_takes : (k : ℕ) (bytes : List ℕ) (x : Refusal × List ℕ) → IsBytes bytes → refusal_of k bytes ≡ Ok x → IsRefusalOf k bytes x
+pub refusal_takes : (k : ℕ) (bytes : List ℕ) (x : Refusal × List ℕ) → IsBytes bytes → refusal_of k bytes ≡ Ok x → IsRefusalOf k bytes x
 unfolding refusal_of
 refusal_takes k bytes x fits e =
     this_or k 22 _ _ x (IsRefusalOf k bytes x) e
@@ -130,7 +130,7 @@ refusal_takes k bytes x fits e =
     (λ is f. made_takes unpublished_of (both (number_at w64) zero_at) _ _ ops_zero_field refusal_number refusal_fields IsSent k (λ a. sym is) (λ a. refl) (λ a h. (h.0, refl)) bytes x fits f)
     (λ e7. plain_takes k bytes x (plain k) refl fits e7))))))
 
-refusal_again : (r : Refusal) (rest : List ℕ) → IsSent r → refusal_of (refusal_number r) (refusal_fields r ++ rest) ≡ Ok (r, rest)
+pub refusal_again : (r : Refusal) (rest : List ℕ) → IsSent r → refusal_of (refusal_number r) (refusal_fields r ++ rest) ≡ Ok (r, rest)
 unfolding refusal_of plain
 refusal_again (Gap base readable) rest h = made_again gap_of (both time_at time_at) _ _ times_field (base, readable) rest h.0
 refusal_again (AheadOfMark readable) rest h = made_again ahead_of (both time_at zero_at) _ _ one_time_field (readable, tt) rest (h.0, tt)
@@ -163,6 +163,8 @@ refusal_again TooManyWrites rest h = absurd cc
 refusal_again NoStream rest h = absurd cc
 refusal_again ClockFull rest h = absurd cc
 refusal_again (Retired stream) rest h = absurd cc
+refusal_again (LinkFull most) rest h = absurd cc
+refusal_again NoPart rest h = absurd cc
 
 pub refusal_field : IsField refusal_at refusal_text IsSent
 unfolding refusal_at refusal_text

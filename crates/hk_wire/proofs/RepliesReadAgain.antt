@@ -19,16 +19,16 @@ use Rattle.hk_wire.specs.Replies.{ReplyValue, Done, Front as Told, Fragment, Ans
 use Rattle.hk_wire.proofs.ReadersAndEncodings.{IsField, field64, time_field, both_field, kept_field, this_or, made_takes, made_again, message_format, same_format}
 use Rattle.hk_wire.proofs.RefusalsReadAgain.{refusal_field}
 
-ops_field : IsField ops_at (number w64) (λ n. (n < 2 ^ 64) × (is_ops n ≡ true))
+pub ops_field : IsField ops_at (number w64) (λ n. (n < 2 ^ 64) × (is_ops n ≡ true))
 unfolding ops_at
 ops_field = kept_field (number_at w64) is_ops BadNumber (number w64) (λ n. n < 2 ^ 64) field64
 
 -- ---- fronts
 
-abbrev AreTimes : ℕ × ℕ → Type 0
+abbrev pub AreTimes : ℕ × ℕ → Type 0
 AreTimes p = (p.0 ≤ 2 ^ 62) × (p.1 ≤ 2 ^ 62)
 
-front_field : IsField front_at (λ p. number w64 p.0 ++ number w64 p.1) (λ p. AreTimes p × (leb p.0 p.1 ≡ true))
+pub front_field : IsField front_at (λ p. number w64 p.0 ++ number w64 p.1) (λ p. AreTimes p × (leb p.0 p.1 ≡ true))
 unfolding front_at
 front_field =
     kept_field (both time_at time_at) (λ p. leb p.0 p.1) BadNumber _ AreTimes
@@ -83,7 +83,7 @@ reply_again (Refused why) rest h = made_again refused_of refusal_at _ _ refusal_
 pub replies_are_sound : IsFormat 2 268435456 reply_at reply_rest IsReply
 unfolding reply_at reply_rest
 replies_are_sound =
-    same_format 2 268435456 (message_at reply_of) _ (λ r. Keeps r × (leb (length (1 ∷ reply_kind r ∷ reply_body r)) 268435456 ≡ true)) IsReply
+    same_format 2 268435456 (message_at 1 reply_of) _ (λ r. Keeps r × (leb (length (1 ∷ reply_kind r ∷ reply_body r)) 268435456 ≡ true)) IsReply
     (λ r h. (h.0.0, and_from (keeps_rules r) _ h.0.1 h.1))
     (λ r h. let b = both_true (keeps_rules r) (leb (length (1 ∷ reply_kind r ∷ reply_body r)) 268435456) h.1 in ((h.0, b.0), b.1))
-    (message_format reply_of reply_kind reply_body Keeps (record { takes = reply_takes; again = reply_again }))
+    (message_format 1 reply_of reply_kind reply_body Keeps (record { takes = reply_takes; again = reply_again }))

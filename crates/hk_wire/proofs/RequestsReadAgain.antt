@@ -146,7 +146,7 @@ unfolding items_at
 items_field =
     same_field (list_by item_count_at no_place (λ _. item_frame_at)) items_text (λ items. (length items ≤ 65536) × Chained no_place (λ _. IsWritten) None items) AreItems
     (λ items h. (items_each None items h.1, le-leb _ _ h.0)) (λ items h. (leb-true _ _ h.1, items_chained None items h.0))
-    (listed_field no_place (λ _. item_frame_at) frame_text (λ _. IsWritten) (λ _. frame_field) item_count_at (λ n. n ≤ 65536) count_field)
+    (listed_field no_place (λ _. item_frame_at) frame_text (λ _. IsWritten) (λ _. frame_field) w32 item_count_at (λ n. n ≤ 65536) count_field)
 
 abbrev delta_of : ℕ → WrittenRequest
 delta_of base = Delta base
@@ -207,7 +207,7 @@ request_again (Prune horizon) rest h = made_again prune_of time_at _ _ time_fiel
 pub requests_are_sound : IsFormat 2 268435456 request_at request_rest IsRequest
 unfolding request_at request_rest
 requests_are_sound =
-    same_format 2 268435456 (message_at request_of) _ (λ r. Keeps r × (leb (length (1 ∷ request_kind r ∷ request_body r)) 268435456 ≡ true)) IsRequest
+    same_format 2 268435456 (message_at 1 request_of) _ (λ r. Keeps r × (leb (length (1 ∷ request_kind r ∷ request_body r)) 268435456 ≡ true)) IsRequest
     (λ r h. (h.0.0, and_from (keeps_rules r) _ h.0.1 h.1))
     (λ r h. let b = both_true (keeps_rules r) (leb (length (1 ∷ request_kind r ∷ request_body r)) 268435456) h.1 in ((h.0, b.0), b.1))
-    (message_format request_of request_kind request_body Keeps (record { takes = request_takes; again = request_again }))
+    (message_format 1 request_of request_kind request_body Keeps (record { takes = request_takes; again = request_again }))

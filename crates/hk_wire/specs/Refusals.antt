@@ -4,7 +4,7 @@ use Rattle.std.specs.Int.{w64}
 use Rattle.hk_types.specs.FaultNumbers.{refusal_number}
 use Rattle.hk_types.specs.declared.faults.FormFault.TheVariants.{Truncated, TooLong, BadVersion, BadKind, BadStream, BadNumber, BadOrder, BadCount, BadBody, WrongLength}
 use Rattle.hk_types.specs.declared.faults.Refusal.{Refusal}
-use Rattle.hk_types.specs.declared.faults.Refusal.TheVariants.{Form, ForeignLog, WrongStreams, Gap, Conflict, AheadOfMark, TooOld, NotYet, WriteConflict, NoRow, TwiceWritten, TooManyWrites, NoStream, ClockFull, Retired, Held, Damaged, Unpublished, NodeFull, NoHold, NoSuch, Memory}
+use Rattle.hk_types.specs.declared.faults.Refusal.TheVariants.{Form, ForeignLog, WrongStreams, Gap, Conflict, AheadOfMark, TooOld, NotYet, WriteConflict, NoRow, TwiceWritten, TooManyWrites, NoStream, ClockFull, Retired, Held, Damaged, Unpublished, NodeFull, NoHold, NoSuch, LinkFull, NoPart, Memory}
 use Rattle.hk_frames.specs.Fields.{number, number_at}
 use Rattle.hk_wire.specs.Readers.{Reader, both, fault_where, mapped_value, by_kind, time_at}
 
@@ -16,6 +16,7 @@ refusal_pair (TooOld horizon) = (horizon, 0)
 refusal_pair (NotYet readable) = (readable, 0)
 refusal_pair (Held reader at) = (reader, at)
 refusal_pair (Unpublished ops) = (ops, 0)
+refusal_pair (LinkFull most) = (most, 0)
 refusal_pair other = (0, 0)
 
 -- what follows the number of a refusal
@@ -26,7 +27,7 @@ refusal_fields r = number w64 (refusal_pair r).0 ++ number w64 (refusal_pair r).
 unfoldable pub refusal_text : Refusal → List ℕ
 refusal_text r = refusal_number r ∷ refusal_fields r
 
--- those of transactions are not sent
+-- those of transactions and of parts are not sent in version 1
 abbrev pub is_sent : Refusal → Bool
 is_sent (WriteConflict table key at) = false
 is_sent (NoRow table key) = false
@@ -35,6 +36,8 @@ is_sent TooManyWrites = false
 is_sent NoStream = false
 is_sent ClockFull = false
 is_sent (Retired stream) = false
+is_sent (LinkFull most) = false
+is_sent NoPart = false
 is_sent other = true
 
 -- a refusal whose numbers fit their fields
@@ -45,6 +48,7 @@ RefusalFits (TooOld horizon) = horizon ≤ 2 ^ 62
 RefusalFits (NotYet readable) = readable ≤ 2 ^ 62
 RefusalFits (Held reader at) = (reader < 2 ^ 64) × (at ≤ 2 ^ 62)
 RefusalFits (Unpublished ops) = ops < 2 ^ 64
+RefusalFits (LinkFull most) = most < 2 ^ 64
 RefusalFits other = Unit {0}
 
 -- a field that must be 0

@@ -50,7 +50,7 @@ reply_body (Refused why) = refusal_text why
 
 -- the rest of its frame
 unfoldable pub reply_rest : ReplyValue → List ℕ
-reply_rest r = message_text (reply_kind r) (reply_body r)
+reply_rest r = message_text 1 (reply_kind r) (reply_body r)
 
 -- its encoding: the length of the rest, and the rest
 abbrev pub reply_text : ReplyValue → List ℕ
@@ -104,7 +104,7 @@ reply_of kind bytes =
 
 -- the reply that is all of the rest of a frame
 unfoldable pub reply_at : List ℕ → Result ReplyValue FormFault
-reply_at bytes = message_at reply_of bytes
+reply_at bytes = message_at 1 reply_of bytes
 
 -- The text begins with the encodings of these replies. After them comes less than a frame, which is left, or
 -- bytes with this fault.

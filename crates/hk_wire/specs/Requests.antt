@@ -101,7 +101,7 @@ request_body (Prune horizon) = number w64 horizon
 
 -- the rest of its frame
 unfoldable pub request_rest : WrittenRequest → List ℕ
-request_rest r = message_text (request_kind r) (request_body r)
+request_rest r = message_text 1 (request_kind r) (request_body r)
 
 -- its encoding, with these versions of its item frames: the length of the rest, and the rest
 abbrev pub request_text : WrittenRequest → List ℕ
@@ -191,14 +191,14 @@ request_of kind bytes =
 
 -- the request that is all of the rest of a frame
 unfoldable pub request_at : List ℕ → Result WrittenRequest FormFault
-request_at bytes = message_at request_of bytes
+request_at bytes = message_at 1 request_of bytes
 
 -- the same without the versions of item frames: the body of a kind, the request that is all of the rest
 unfoldable pub plain_request_of : ℕ → Reader RequestValue
 plain_request_of kind bytes = mapped (λ x. (request_meant x.0, x.1)) (request_of kind bytes)
 
 unfoldable pub plain_request_at : List ℕ → Result RequestValue FormFault
-plain_request_at bytes = message_at plain_request_of bytes
+plain_request_at bytes = message_at 1 plain_request_of bytes
 
 -- The text begins with encodings of these requests, each item frame in version 1 or 2. After them comes less than a
 -- frame, which is left, or bytes with this fault.

@@ -85,9 +85,9 @@ fn read_many(alloc: Global, cursor: &mut Cursor, count: u32) -> Result<Vec<(Key,
     Ok(rows)
 }
 
-/// Reads the rows behind their count.
+/// Reads the rows behind their count. A key that isn't above the one before it is `BadOrder`.
 #[tactic(auto, unfolding(crate::specs::Answers::rows_at))]
-fn read_rows(alloc: Global, cursor: &mut Cursor) -> Result<Vec<(Key, Row)>, ReadError>
+pub fn read_rows(alloc: Global, cursor: &mut Cursor) -> Result<Vec<(Key, Row)>, ReadError>
     ensures { GivesOrRunsOut (λ x. (x.items, cursor.new)) result (spec.rows_at cursor.old) }
 {
     let count = cursor.u32()?;
@@ -132,9 +132,9 @@ fn read_of(alloc: Global, cursor: &mut Cursor, kind: u8) -> Result<Answer, ReadE
     }
 }
 
-/// Reads an answer.
+/// Reads an answer. A kind that has no meaning is `BadNumber`.
 #[tactic(auto, unfolding(crate::specs::Answers::answer_at))]
-pub(crate) fn read_answer(alloc: Global, cursor: &mut Cursor) -> Result<Answer, ReadError>
+pub fn read_answer(alloc: Global, cursor: &mut Cursor) -> Result<Answer, ReadError>
     ensures { GivesOrRunsOut (λ x. (answer_seen x, cursor.new)) result (spec.answer_at cursor.old) }
 {
     let kind = cursor.u8()?;
@@ -142,7 +142,7 @@ pub(crate) fn read_answer(alloc: Global, cursor: &mut Cursor) -> Result<Answer, 
 }
 
 /// Whether the keys rise strictly.
-fn keys_rise(rows: &[(Key, Row)]) -> bool
+pub fn keys_rise(rows: &[(Key, Row)]) -> bool
     ensures { result ≡ spec.keys_rise None rows.now }
 {
     let mut before = None;
@@ -155,8 +155,8 @@ fn keys_rise(rows: &[(Key, Row)]) -> bool
     true
 }
 
-/// Whether an answer keeps its rules.
-pub(crate) fn keeps_answer_rules(answer: &Answer) -> bool
+/// Whether an answer keeps its rules: its rows can be counted, and their keys rise strictly.
+pub fn keeps_answer_rules(answer: &Answer) -> bool
     ensures { result ≡ spec.answer_keeps_rules (answer_seen answer.now) }
 {
     match answer {
@@ -183,7 +183,7 @@ fn keyed_len(keyed: &(Key, Row)) -> u64
 }
 
 /// How many bytes the rows have, without their count.
-fn rows_len(rows: &[(Key, Row)]) -> u64
+pub fn rows_len(rows: &[(Key, Row)]) -> u64
     requires { length rows.now < 2 ^ 32 }
     ensures len { result ≡ length (flat_map spec.keyed_text rows.now) }
     ensures bound { result ≤ 4110 * length rows.now }
@@ -198,7 +198,7 @@ fn rows_len(rows: &[(Key, Row)]) -> u64
 
 /// How many bytes an answer that keeps its rules has.
 #[tactic(auto, using(crate::proofs::Lengths::none_len, crate::proofs::Lengths::some_len, crate::proofs::Lengths::rows_answer_len, crate::proofs::Lengths::number_answer_len))]
-pub(crate) fn answer_len(answer: &Answer) -> u64
+pub fn answer_len(answer: &Answer) -> u64
     requires { spec.answer_keeps_rules (answer_seen answer.now) ≡ true }
     ensures len { result ≡ length (spec.answer_text (answer_seen answer.now)) }
     ensures bound { result ≤ 2 ^ 60 }
@@ -231,8 +231,9 @@ fn put_keyed(out: &mut Vec<u8>, key: Key, row: &Row) -> Result<(), AllocError>
     put_row(out, row)
 }
 
+/// Adds the rows behind their count.
 #[tactic(auto, using(std::proofs::Common::append_assoc, hk_frames::proofs::Prefix::kept_all, hk_frames::proofs::Prefix::kept_before, hk_frames::proofs::Prefix::kept_both))]
-fn put_rows(out: &mut Vec<u8>, rows: &[(Key, Row)]) -> Result<(), AllocError>
+pub fn put_rows(out: &mut Vec<u8>, rows: &[(Key, Row)]) -> Result<(), AllocError>
     requires { length rows.now < 2 ^ 32 }
     ensures ok { OnOk result (out.new.items ≡ out.old.items ++ spec.rows_text rows.now) }
     ensures kept { OnErr result (take (length out.old.items) out.new.items ≡ out.old.items) }
@@ -246,7 +247,7 @@ fn put_rows(out: &mut Vec<u8>, rows: &[(Key, Row)]) -> Result<(), AllocError>
 
 /// Adds an answer's bytes.
 #[tactic(auto, using(std::proofs::Common::append_assoc, hk_frames::proofs::Prefix::kept_all, hk_frames::proofs::Prefix::kept_before, hk_frames::proofs::Prefix::kept_both), unfolding(crate::specs::Answers::answer_text))]
-pub(crate) fn put_answer(out: &mut Vec<u8>, answer: &Answer) -> Result<(), AllocError>
+pub fn put_answer(out: &mut Vec<u8>, answer: &Answer) -> Result<(), AllocError>
     requires { spec.answer_keeps_rules (answer_seen answer.now) ≡ true }
     ensures ok { OnOk result (out.new.items ≡ out.old.items ++ spec.answer_text (answer_seen answer.now)) }
     ensures kept { OnErr result (take (length out.old.items) out.new.items ≡ out.old.items) }

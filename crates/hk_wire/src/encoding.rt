@@ -18,15 +18,15 @@ use hk_frames::{put_u32, put_u64};
 use hk_types::{FormFault, Refusal};
 use std::alloc::AllocError;
 
-/// Adds the length of a rest, the version and the kind.
+/// Adds the length of a rest, the version and the kind. All of the frame is reserved at once.
 #[tactic(auto, using(std::proofs::Common::append_assoc, hk_frames::proofs::Prefix::kept_all, hk_frames::proofs::Prefix::kept_before, hk_frames::proofs::Prefix::kept_both))]
-pub(crate) fn put_head(out: &mut Vec<u8>, rest: u32, kind: u8) -> Result<(), AllocError>
-    ensures ok { OnOk result (out.new.items ≡ out.old.items ++ (number w32 rest ++ message_text kind [])) }
+pub fn put_head(out: &mut Vec<u8>, version: u8, rest: u32, kind: u8) -> Result<(), AllocError>
+    ensures ok { OnOk result (out.new.items ≡ out.old.items ++ (number w32 rest ++ message_text version kind [])) }
     ensures kept { OnErr result (take (length out.old.items) out.new.items ≡ out.old.items) }
 {
     out.reserve(4 + rest as usize)?;
     put_u32(out, rest)?;
-    out.push(VERSION)?;
+    out.push(version)?;
     out.push(kind)?;
     Ok(())
 }
@@ -87,30 +87,30 @@ fn put_request(out: &mut Vec<u8>, request: &Request, rest: u32) -> Result<(), Al
 {
     match request {
         Request::Items(items) => {
-            put_head(out, rest, ITEMS)?;
+            put_head(out, VERSION, rest, ITEMS)?;
             put_items(out, items)
         }
-        Request::Front => put_head(out, rest, FRONT),
+        Request::Front => put_head(out, VERSION, rest, FRONT),
         Request::Delta { base } => {
-            put_head(out, rest, DELTA)?;
+            put_head(out, VERSION, rest, DELTA)?;
             put_u64(out, base.number())
         }
-        Request::Full => put_head(out, rest, FULL),
+        Request::Full => put_head(out, VERSION, rest, FULL),
         Request::Ask { t, query } => {
-            put_head(out, rest, ASK)?;
+            put_head(out, VERSION, rest, ASK)?;
             put_u64(out, t.number())?;
             put_query(out, query)
         }
         Request::JoinThis(fragment) => {
-            put_head(out, rest, JOIN_THIS)?;
+            put_head(out, VERSION, rest, JOIN_THIS)?;
             put_fragment(out, fragment)
         }
         Request::MergeThis(fragment) => {
-            put_head(out, rest, MERGE_THIS)?;
+            put_head(out, VERSION, rest, MERGE_THIS)?;
             put_fragment(out, fragment)
         }
         Request::Prune { horizon } => {
-            put_head(out, rest, PRUNE)?;
+            put_head(out, VERSION, rest, PRUNE)?;
             put_u64(out, horizon.number())
         }
     }

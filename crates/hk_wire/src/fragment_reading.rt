@@ -28,12 +28,12 @@ const ROW_AND_END: u8 = 3;
 /// The bytes of the shortest fact: a version, the flags and a row with an empty body.
 const LEAST_FACT_BYTES: usize = 25;
 
-/// What a fragment begins with.
+/// What a fragment begins with: the log, the number of its streams, the base and the horizon.
 #[derive(Clone, Copy)]
-struct Head {
-    config: Config,
-    base: Time,
-    horizon: Time,
+pub struct Head {
+    pub config: Config,
+    pub base: Time,
+    pub horizon: Time,
 }
 
 /// Reads the base and the horizon.
@@ -50,9 +50,10 @@ fn read_bounds(cursor: &mut Cursor) -> Result<(Time, Time), FormFault>
     Ok((base, horizon))
 }
 
-/// Reads the log, the number of its streams, the base and the horizon.
+/// Reads the log, the number of its streams, the base and the horizon. A number of streams outside 1 to 64 is
+/// `BadStream`, a time above 2^62 and a base that is neither 0 nor at least the horizon `BadNumber`.
 #[tactic(auto, unfolding(crate::specs::Fragments::stream_count_at))]
-fn read_fragment_head(cursor: &mut Cursor) -> Result<Head, FormFault>
+pub fn read_fragment_head(cursor: &mut Cursor) -> Result<Head, FormFault>
     ensures read { GivesValue (λ x. (steps.head_seen x, cursor.new)) result (spec.fragment_head_at cursor.old) }
     ensures above { IfOk result (λ x. ((x.base == 0) || nat_le x.horizon x.base) ≡ true) }
 {
@@ -222,9 +223,10 @@ fn read_streams(cursor: &mut Cursor, got: &mut Got, count: u16) -> Result<(), Re
     Ok(())
 }
 
-/// Reads the streams of a log, none of them closed below the horizon.
+/// Reads the streams of a log, none of them closed below the horizon. Numbers or marks that don't rise are `BadOrder`,
+/// and those outside their range, or a horizon above the least closed time, `BadNumber`.
 #[tactic(auto, unfolding(crate::specs::Fragments::streams_at))]
-fn read_got(
+pub fn read_got(
     alloc: Global,
     cursor: &mut Cursor,
     config: Config,
@@ -344,8 +346,9 @@ fn read_fact(
     Ok((version, known))
 }
 
-/// Reads so many facts. No more is reserved for them than what is left can hold.
-fn read_many(
+/// Reads so many facts. No more is reserved for them than what is left can hold. Versions that don't rise are
+/// `BadOrder`, and what may not stand in a fragment with this base and this horizon `BadNumber`.
+pub fn read_many(
     alloc: Global,
     cursor: &mut Cursor,
     base: Time,

@@ -13,21 +13,21 @@ use hk_types::{FormFault, Time};
 pub(crate) const VERSION: u8 = 1;
 
 /// The greatest length of the rest of a message's frame.
-pub(crate) const MOST_REST_BYTES: u32 = 268_435_456;
+pub const MOST_REST_BYTES: u32 = 268_435_456;
 
-/// Reads the version and the kind.
+/// Reads this version and the kind, which it gives. Another version is `BadVersion`.
 #[tactic(auto, unfolding(crate::specs::Messages::head_at))]
-pub(crate) fn read_head(cursor: &mut Cursor) -> Result<u8, FormFault>
-    ensures { GivesValue (λ x. (x, cursor.new)) result (head_at cursor.old) }
+pub fn read_head(cursor: &mut Cursor, version: u8) -> Result<u8, FormFault>
+    ensures { GivesValue (λ x. (x, cursor.new)) result (head_at version cursor.old) }
 {
-    if cursor.u8()? != VERSION {
+    if cursor.u8()? != version {
         return Err(FormFault::BadVersion);
     }
     cursor.u8()
 }
 
-/// Tests that no byte is left.
-pub(crate) fn read_end(cursor: &Cursor) -> Result<(), FormFault>
+/// Tests that no byte is left. One that is left is `WrongLength`.
+pub fn read_end(cursor: &Cursor) -> Result<(), FormFault>
     ensures { GivesValue (λ _. true) result (check (nat_lt 0 (length cursor.now)) WrongLength) }
 {
     if !cursor.is_empty() {
@@ -36,9 +36,9 @@ pub(crate) fn read_end(cursor: &Cursor) -> Result<(), FormFault>
     Ok(())
 }
 
-/// Reads a time.
+/// Reads a time. One above 2^62 is `BadNumber`.
 #[tactic(auto, unfolding(crate::specs::Readers::time_at))]
-pub(crate) fn read_time(cursor: &mut Cursor) -> Result<Time, FormFault>
+pub fn read_time(cursor: &mut Cursor) -> Result<Time, FormFault>
     ensures { GivesValue (λ x. (x, cursor.new)) result (time_at cursor.old) }
 {
     Time::new(cursor.u64()?)

@@ -10,6 +10,7 @@
 mod answer;
 mod encoding;
 mod field_len;
+pub mod fields;
 mod fragment_encoding;
 mod fragment_reading;
 mod head;

@@ -49,9 +49,9 @@ fn read_of(cursor: &mut Cursor, kind: u8) -> Result<Query, FormFault>
     }
 }
 
-/// Reads a query.
+/// Reads a query. A kind that has no meaning is `BadNumber`.
 #[tactic(auto, unfolding(crate::specs::Queries::query_at))]
-pub(crate) fn read_query(cursor: &mut Cursor) -> Result<Query, FormFault>
+pub fn read_query(cursor: &mut Cursor) -> Result<Query, FormFault>
     ensures { GivesValue (λ x. (x, cursor.new)) result (spec.query_at cursor.old) }
 {
     let kind = cursor.u8()?;
@@ -60,7 +60,7 @@ pub(crate) fn read_query(cursor: &mut Cursor) -> Result<Query, FormFault>
 
 /// How many bytes a query has.
 #[tactic(auto, using(crate::proofs::Lengths::get_len, crate::proofs::Lengths::range_len, crate::proofs::Lengths::by_tag_len, crate::proofs::Lengths::count_len))]
-pub(crate) fn query_len(query: &Query) -> u64
+pub fn query_len(query: &Query) -> u64
     ensures len { result ≡ length (spec.query_text query.now) }
     ensures most { result ≤ 19 }
     ensures fits { spec.QueryFits query.now }
@@ -77,7 +77,7 @@ pub(crate) fn query_len(query: &Query) -> u64
 
 /// Adds a query's bytes.
 #[tactic(auto, using(std::proofs::Common::append_assoc, hk_frames::proofs::Prefix::kept_all, hk_frames::proofs::Prefix::kept_before, hk_frames::proofs::Prefix::kept_both), unfolding(crate::specs::Queries::query_text))]
-pub(crate) fn put_query(out: &mut Vec<u8>, query: &Query) -> Result<(), AllocError>
+pub fn put_query(out: &mut Vec<u8>, query: &Query) -> Result<(), AllocError>
     ensures ok { OnOk result (out.new.items ≡ out.old.items ++ spec.query_text query.now) }
     ensures kept { OnErr result (take (length out.old.items) out.new.items ≡ out.old.items) }
 {

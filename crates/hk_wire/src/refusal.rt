@@ -10,9 +10,9 @@ use hk_frames::{Cursor, put_u64};
 use hk_types::{FormFault, Refusal};
 use std::alloc::AllocError;
 
-/// Reads a field that must be 0.
+/// Reads a field that must be 0. Another number is `BadNumber`.
 #[tactic(auto, unfolding(crate::specs::Refusals::zero_at))]
-fn read_zero(cursor: &mut Cursor) -> Result<(), FormFault>
+pub fn read_zero(cursor: &mut Cursor) -> Result<(), FormFault>
     ensures { GivesValue (λ x. (x, cursor.new)) result (spec.zero_at cursor.old) }
 {
     if cursor.u64()? != 0 {
@@ -61,9 +61,9 @@ fn read_plain(cursor: &mut Cursor, number: u8) -> Result<Refusal, FormFault>
     Ok(refusal)
 }
 
-/// Reads what follows a refusal's number.
+/// Reads what follows a refusal's number. A number that no refusal has is `BadNumber`.
 #[tactic(auto, unfolding(crate::specs::Refusals::refusal_of))]
-fn read_of(cursor: &mut Cursor, number: u8) -> Result<Refusal, FormFault>
+pub fn read_of(cursor: &mut Cursor, number: u8) -> Result<Refusal, FormFault>
     ensures { GivesValue (λ x. (x, cursor.new)) result (spec.refusal_of number cursor.old) }
 {
     match number {
@@ -110,8 +110,8 @@ pub(crate) fn read_refusal(cursor: &mut Cursor) -> Result<Refusal, FormFault>
     read_of(cursor, number)
 }
 
-/// Whether a refusal is sent. Those of transactions are not.
-pub(crate) fn is_sent(refusal: Refusal) -> bool
+/// Whether a refusal is sent in version 1. Those of transactions and of parts are not.
+pub fn is_sent(refusal: Refusal) -> bool
     ensures { result ≡ spec.is_sent refusal }
 {
     match refusal {
@@ -121,13 +121,15 @@ pub(crate) fn is_sent(refusal: Refusal) -> bool
         | Refusal::TooManyWrites
         | Refusal::NoStream
         | Refusal::ClockFull
-        | Refusal::Retired { .. } => false,
+        | Refusal::Retired { .. }
+        | Refusal::LinkFull { .. }
+        | Refusal::NoPart => false,
         _ => true,
     }
 }
 
 /// How many bytes a refusal has.
-pub(crate) fn refusal_len(refusal: Refusal) -> u64
+pub fn refusal_len(refusal: Refusal) -> u64
     ensures len { result ≡ 17 }
     ensures fits { spec.RefusalFits refusal }
 {
@@ -138,6 +140,7 @@ pub(crate) fn refusal_len(refusal: Refusal) -> u64
         Refusal::NotYet { readable } => 9 + time_len(readable),
         Refusal::Held { reader, at } => 1 + number_len(reader) + time_len(at),
         Refusal::Unpublished { ops } => 9 + number_len(ops),
+        Refusal::LinkFull { most } => 9 + number_len(most),
         _ => 17,
     }
 }
@@ -153,13 +156,14 @@ fn pair(refusal: Refusal) -> (u64, u64)
         Refusal::NotYet { readable } => (readable.number(), 0),
         Refusal::Held { reader, at } => (reader, at.number()),
         Refusal::Unpublished { ops } => (ops, 0),
+        Refusal::LinkFull { most } => (most, 0),
         _ => (0, 0),
     }
 }
 
 /// Adds a refusal's bytes.
 #[tactic(auto, using(std::proofs::Common::append_assoc, hk_frames::proofs::Prefix::kept_all, hk_frames::proofs::Prefix::kept_before, hk_frames::proofs::Prefix::kept_both), unfolding(crate::specs::Refusals::refusal_text))]
-pub(crate) fn put_refusal(out: &mut Vec<u8>, refusal: &Refusal) -> Result<(), AllocError>
+pub fn put_refusal(out: &mut Vec<u8>, refusal: &Refusal) -> Result<(), AllocError>
     ensures ok { OnOk result (out.new.items ≡ out.old.items ++ spec.refusal_text refusal.now) }
     ensures kept { OnErr result (take (length out.old.items) out.new.items ≡ out.old.items) }
 {

@@ -5,7 +5,7 @@ ghost use Rattle.hk_wire.specs.Replies as spec;
 
 use crate::answer::read_answer;
 use crate::fragment_reading::read_fragment;
-use crate::head::{read_end, read_head, read_time};
+use crate::head::{VERSION, read_end, read_head, read_time};
 use crate::refusal::read_refusal;
 use hk_fragment::Fragment;
 use hk_frames::{Cursor, Format, FrameFeeder, ReadError};
@@ -39,9 +39,9 @@ pub(crate) const ANSWER: u8 = 35;
 
 pub(crate) const REFUSED: u8 = 36;
 
-/// Reads a number of operations.
+/// Reads a number of operations. One that is 0 or above 2^62 is `BadNumber`.
 #[tactic(auto, unfolding(crate::specs::Replies::ops_at))]
-fn read_ops(cursor: &mut Cursor) -> Result<u64, FormFault>
+pub fn read_ops(cursor: &mut Cursor) -> Result<u64, FormFault>
     ensures { GivesValue (λ x. (x, cursor.new)) result (spec.ops_at cursor.old) }
 {
     let ops = cursor.u64()?;
@@ -51,9 +51,9 @@ fn read_ops(cursor: &mut Cursor) -> Result<u64, FormFault>
     Ok(ops)
 }
 
-/// Reads a front.
+/// Reads a front. A horizon above the readable mark is `BadNumber`.
 #[tactic(auto, unfolding(crate::specs::Replies::front_at))]
-fn read_front(cursor: &mut Cursor) -> Result<Front, FormFault>
+pub fn read_front(cursor: &mut Cursor) -> Result<Front, FormFault>
     ensures { GivesValue (λ x. ((x.horizon, x.readable), cursor.new)) result (spec.front_at cursor.old) }
 {
     let horizon = read_time(cursor)?;
@@ -100,7 +100,7 @@ fn read_reply(alloc: Global, rest: &[u8]) -> Result<Reply, ReadError>
     ensures { GivesOrRunsOut spec.reply_seen result (spec.reply_at rest.now) }
 {
     let mut cursor = Cursor::new(rest);
-    let kind = read_head(&mut cursor)?;
+    let kind = read_head(&mut cursor, VERSION)?;
     let reply = read_body(alloc, &mut cursor, kind)?;
     read_end(&cursor)?;
     Ok(reply)

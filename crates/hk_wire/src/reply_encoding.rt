@@ -9,7 +9,7 @@ use crate::answer::{answer_len, keeps_answer_rules, put_answer};
 use crate::encoding::put_head;
 use crate::field_len::{number_len, time_len};
 use crate::fragment_encoding::{fragment_len, is_counted, put_fragment};
-use crate::head::MOST_REST_BYTES;
+use crate::head::{MOST_REST_BYTES, VERSION};
 use crate::refusal::{is_sent, put_refusal, refusal_len};
 use crate::reply::{ANSWER, DONE, FRAGMENT, FRONT, REFUSED, Reply};
 use hk_frames::put_u64;
@@ -70,24 +70,24 @@ fn put_reply(out: &mut Vec<u8>, reply: &Reply, rest: u32) -> Result<(), AllocErr
 {
     match reply {
         Reply::Done { ops } => {
-            put_head(out, rest, DONE)?;
+            put_head(out, VERSION, rest, DONE)?;
             put_u64(out, *ops)
         }
         Reply::Front(front) => {
-            put_head(out, rest, FRONT)?;
+            put_head(out, VERSION, rest, FRONT)?;
             put_u64(out, front.horizon.number())?;
             put_u64(out, front.readable.number())
         }
         Reply::Fragment(fragment) => {
-            put_head(out, rest, FRAGMENT)?;
+            put_head(out, VERSION, rest, FRAGMENT)?;
             put_fragment(out, fragment)
         }
         Reply::Answer(answer) => {
-            put_head(out, rest, ANSWER)?;
+            put_head(out, VERSION, rest, ANSWER)?;
             put_answer(out, answer)
         }
         Reply::Refused(why) => {
-            put_head(out, rest, REFUSED)?;
+            put_head(out, VERSION, rest, REFUSED)?;
             put_refusal(out, why)
         }
     }

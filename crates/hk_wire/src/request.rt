@@ -4,7 +4,7 @@ ghost use Rattle.hk_frames.specs.Fields.{GivesOrRunsOut};
 ghost use Rattle.hk_wire.specs.Requests as spec;
 
 use crate::fragment_reading::{read_fragment, read_whole};
-use crate::head::{read_end, read_head, read_time};
+use crate::head::{VERSION, read_end, read_head, read_time};
 use crate::items::read_items;
 use crate::query::read_query;
 use hk_fragment::Fragment;
@@ -95,7 +95,7 @@ fn read_request(alloc: Global, rest: &[u8]) -> Result<Request, ReadError>
     ensures { GivesOrRunsOut spec.request_seen result (spec.plain_request_at rest.now) }
 {
     let mut cursor = Cursor::new(rest);
-    let kind = read_head(&mut cursor)?;
+    let kind = read_head(&mut cursor, VERSION)?;
     let request = read_body(alloc, &mut cursor, kind)?;
     read_end(&cursor)?;
     Ok(request)

@@ -52,12 +52,14 @@ fn refusal_of(number: u8) -> Result<Refusal, Fail> {
         43 => Refusal::NodeFull,
         44 => Refusal::NoHold,
         45 => Refusal::NoSuch,
+        46 => Refusal::LinkFull { most: 9 },
+        47 => Refusal::NoPart,
         _ => Refusal::Memory,
     })
 }
 
 /// The numbers of refusals, and what these are printed as.
-const REFUSALS: [(u8, &str); 31] = [
+const REFUSALS: [(u8, &str); 33] = [
     (1, "the input ends inside a frame"),
     (2, "the length is above its limit"),
     (3, "the version is unknown"),
@@ -91,6 +93,8 @@ const REFUSALS: [(u8, &str); 31] = [
     (43, "the node has all operations that it can have"),
     (44, "no such hold"),
     (45, "no such replica or item"),
+    (46, "links would hold more than 9 bytes in parts"),
+    (47, "nothing is being given"),
     (90, "out of memory"),
 ];
 

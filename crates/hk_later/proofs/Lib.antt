@@ -1,0 +1,10 @@
+pub mod Lengths
+pub mod ToldLengths
+pub mod PartsReadAgain
+pub mod RequestsReadAgain
+pub mod ToldReadAgain
+pub mod RefusalsReadAgain
+pub mod RepliesReadAgain
+pub mod EncodedMessages
+pub mod EitherReadAgain
+pub mod WireSizes

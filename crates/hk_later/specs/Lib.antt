@@ -1,0 +1,5 @@
+pub mod Parts
+pub mod Requests
+pub mod Told
+pub mod Replies
+pub mod Both

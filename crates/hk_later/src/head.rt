@@ -1,0 +1,129 @@
+//! Heads of fragments.
+
+ghost use Rattle.std.specs.Prelude.{◌≡◌, ◌≤◌, ◌++◌, ◌^◌, true, length, map, take, OnOk, OnErr, IfOk, IfErr};
+ghost use Rattle.hk_types.specs.declared.faults.Refusal.TheVariants.{Memory};
+ghost use Rattle.hk_frames.specs.Fields.{GivesOrRunsOut};
+ghost use Rattle.hk_model.specs.Replica.Content.{least_closed};
+ghost use Rattle.hk_parts.specs.Heads.{head_of, head_with, of_facts};
+ghost use Rattle.hk_wire.specs.Fragments.{streams_are_counted, wire_stream_of};
+ghost use Rattle.hk_later.specs.Parts as spec;
+
+use hk_fragment::Fragment;
+use hk_frames::{Cursor, ReadError, put_u16, put_u64};
+use hk_marks::Got;
+use hk_parts::Assembly;
+use hk_types::{Config, FormFault, Refusal, Time};
+use hk_wire::fields::{
+    head_len, put_streams, read_fragment_head, read_got, streams_are_counted, streams_len,
+};
+use std::alloc::{AllocError, Global};
+use std::marker::Model;
+
+/// What a fragment is without its facts: the log, the base, the horizon, and the numbers and marks of its streams.
+///
+/// The base is 0 or at least the horizon, and the horizon is at most the least closed time of the streams.
+#[derive(Drop)]
+pub struct Head {
+    config: Config,
+    base: Time,
+    horizon: Time,
+    got: Got,
+}
+
+impl Model for Head {
+    ghost use Rattle.hk_parts.specs.Heads.{Head as HeadValue, head_with};
+    ghost use Rattle.hk_later.specs.Parts.{head_code, IsHead};
+
+    ghost Value = { HeadValue };
+
+    ghost coded = { head_code };
+
+    ghost view = { λ a. head_with a.config a.base a.horizon a.got };
+
+    ghost invariant = { λ a. IsHead a.config a.base a.horizon a.got };
+}
+
+impl Head {
+    /// The head of these parts.
+    fn of_parts(config: Config, base: Time, horizon: Time, got: Got) -> Head
+        requires many { length got ≡ config.streams }
+        requires above { spec.is_base base horizon ≡ true }
+        requires within { horizon ≤ least_closed got }
+        ensures { result ≡ head_with config base horizon got }
+    {
+        Head {
+            config,
+            base,
+            horizon,
+            got,
+        }
+    }
+
+    /// The head of a fragment, whose numbers and marks are copied. The only refusal is `Memory`. Cost: O(w · log w),
+    /// w extra numbers and waiting marks.
+    pub fn of_fragment(alloc: Global, fragment: &Fragment) -> Result<Head, Refusal>
+        ensures ok { IfOk result (λ head. head ≡ head_of fragment.now) }
+        ensures err { IfErr result (λ why. why ≡ Memory) }
+    {
+        let got = fragment.got().copy(alloc)?;
+        let base = fragment.base();
+        Ok(Head::of_parts(fragment.config(), base, fragment.horizon(), got))
+    }
+
+    /// The time up to which a replica must be readable to join what the head is of. 0 is a whole. Cost: O(1).
+    pub fn base(&self) -> Time
+        ensures { result ≡ self.now.base }
+    {
+        self.base
+    }
+
+    /// The fragment of this head and of all facts that were added, or its first fault, as `Assembly::into_fragment`
+    /// tells it. Both are moved, and dropped with a fault. It takes no memory. Cost: O(s + n), s streams, n facts.
+    pub fn into_fragment(self, came: Assembly) -> Result<Fragment, FormFault>
+        ensures { result ≡ of_facts self came }
+    {
+        came.into_fragment(self.config, self.base, self.horizon, self.got)
+    }
+
+    /// Whether its numbers and marks can be counted.
+    pub(crate) fn is_counted(&self) -> bool
+        ensures { result ≡ spec.head_is_counted (spec.wire_head_of self.now) }
+    {
+        streams_are_counted(&self.got)
+    }
+
+    /// How many bytes a head that can be counted has.
+    pub(crate) fn bytes(&self) -> u64
+        requires { spec.head_is_counted (spec.wire_head_of self.now) ≡ true }
+        ensures len { result ≡ length (spec.head_text (spec.wire_head_of self.now)) }
+        ensures bound { result ≤ 2 ^ 44 }
+        ensures fits { spec.HeadFits (spec.wire_head_of self.now) }
+    {
+        let _known = self.got.streams();
+        head_len(self.config, self.base, self.horizon) + streams_len(&self.got)
+    }
+
+    /// Adds a head's bytes.
+    #[tactic(auto, using(std::proofs::Common::append_assoc, hk_frames::proofs::Prefix::kept_all, hk_frames::proofs::Prefix::kept_before, hk_frames::proofs::Prefix::kept_both), unfolding(crate::specs::Parts::head_text))]
+    pub(crate) fn put_to(&self, out: &mut Vec<u8>) -> Result<(), AllocError>
+        requires { spec.head_is_counted (spec.wire_head_of self.now) ≡ true }
+        ensures ok { OnOk result (out.new.items ≡ out.old.items ++ spec.head_text (spec.wire_head_of self.now)) }
+        ensures kept { OnErr result (take (length out.old.items) out.new.items ≡ out.old.items) }
+    {
+        put_u64(out, self.config.log())?;
+        put_u16(out, self.config.streams())?;
+        put_u64(out, self.base.number())?;
+        put_u64(out, self.horizon.number())?;
+        put_streams(out, &self.got)
+    }
+}
+
+/// Reads a head.
+#[tactic(auto, unfolding(crate::specs::Parts::head_at))]
+pub(crate) fn read_head(alloc: Global, cursor: &mut Cursor) -> Result<Head, ReadError>
+    ensures { GivesOrRunsOut (λ x. (spec.wire_head_of x, cursor.new)) result (spec.head_at cursor.old) }
+{
+    let start = read_fragment_head(cursor)?;
+    let got = read_got(alloc, cursor, start.config, start.horizon)?;
+    Ok(Head::of_parts(start.config, start.base, start.horizon, got))
+}
