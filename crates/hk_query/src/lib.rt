@@ -2,8 +2,10 @@
 #![tactic(auto)]
 
 mod answers;
+mod pages;
 mod reply;
 
 pub use answers::answer_at;
-pub use hk_model::{Answer, Query};
-pub use reply::ask;
+pub use hk_model::{Answer, Page, Query};
+pub use pages::page;
+pub use reply::{ask, latest};
