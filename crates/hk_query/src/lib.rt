@@ -1,4 +1,4 @@
-//! Answers of a replica at a time.
+//! Answers of a replica at a time, the newest ones, and pages of its rows.
 #![tactic(auto)]
 
 mod answers;
