@@ -6,3 +6,4 @@ pub mod Limits
 pub mod GotRules
 pub mod RoomForMore
 pub mod JoinedStreams
+pub mod Prefixes

@@ -2,3 +2,4 @@ pub mod Seen
 pub mod Steps
 pub mod Room
 pub mod Parts
+pub mod Told

@@ -1,6 +1,6 @@
 //! What is known of all streams of a log.
 
-ghost use Rattle.std.specs.Prelude.{◌≡◌, ◌≤◌, ◌<◌, ◌^◌, ◌-◌, ◌==◌, ℕ, All, min, length, replicate, slice_set, IsOk, IfOk, OnOk, OnErr, IfErr};
+ghost use Rattle.std.specs.Prelude.{◌≡◌, ◌≤◌, ◌<◌, ◌^◌, ◌-◌, ◌==◌, ℕ, All, min, length, map, replicate, slice_set, IsOk, IfOk, OnOk, OnErr, IfErr};
 ghost use Rattle.std.specs.FinMap as finmap;
 ghost use Rattle.std.specs.FinSet as set;
 ghost use Rattle.std.specs.List.Sorted.{IsStrictlyIncreasing};
@@ -13,8 +13,10 @@ ghost use Rattle.hk_model.specs.Replica.Streams.{all_together, covers, adds_noth
 ghost use Rattle.hk_marks.specs.Seen.{IsNumbered};
 ghost use Rattle.hk_marks.specs.Parts.{HasPrefix};
 ghost use Rattle.hk_marks.specs.Steps.{with_number, with_mark, with_prefix, extra_numbers, TakesEntry, TakesMark};
+ghost use Rattle.hk_marks.specs.Told.{prefix_of, stream_told};
 
 use crate::stream::{Stream, join_streams};
+use hk_model::StreamTold;
 use hk_types::{Config, LAST_TIME, Refusal, StreamNo, Time};
 use std::alloc::Global;
 use std::collections::{btree_map, btree_set};
@@ -186,6 +188,7 @@ impl Got {
         requires { s ≤ length self.now }
         ensures value { HasPrefix (stream_at self.now s).taken result }
         ensures most { result ≤ 2 ^ 62 }
+        ensures greatest { result ≡ prefix_of (stream_at self.now s) }
     {
         self.streams[place(s)].prefix()
     }
@@ -247,6 +250,34 @@ impl Got {
         ensures runs { ShowsInOrder (deref_pair {K = ℕ} {X = ℕ}) }
     {
         self.streams[place(s)].waiting_marks()
+    }
+
+    /// How many numbers above the prefix are taken. Cost: O(1).
+    pub fn extra_count(&self, s: StreamNo) -> u64
+        requires { s ≤ length self.now }
+        ensures { result ≡ set.len (extra_numbers (stream_at self.now s)) }
+    {
+        self.streams[place(s)].extra_count()
+    }
+
+    /// How many marks wait. Cost: O(1).
+    pub fn waiting_count(&self, s: StreamNo) -> u64
+        requires { s ≤ length self.now }
+        ensures { result ≡ finmap.len (stream_at self.now s).waiting }
+    {
+        self.streams[place(s)].waiting_count()
+    }
+
+    /// How much is known of each stream, by their numbers. The only refusal is `Memory`. Cost: O(s), s streams.
+    pub fn told(&self, alloc: Global) -> Result<Vec<StreamTold>, Refusal>
+        ensures ok { IfOk result (λ told. told.items ≡ map stream_told self.now) }
+        ensures err { IfErr result (λ why. why ≡ Memory) }
+    {
+        let mut told = Vec::with_capacity(alloc, self.streams.len())?;
+        for stream in &self.streams {
+            told.push(stream.told())?;
+        }
+        Ok(told)
     }
 
     /// The same again. The only refusal is `Memory`. Cost: O(s + n · log n), s streams, n extra numbers and

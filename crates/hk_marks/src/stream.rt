@@ -15,9 +15,11 @@ ghost use Rattle.hk_model.specs.Replica.Lawful.{IsLawfulStream};
 ghost use Rattle.hk_marks.specs.Seen.{up_to, taken_seen, IsExtra, WaitsAbove};
 ghost use Rattle.hk_marks.specs.Parts.{HasPrefix, Settles, AddsMark, SameNumbers};
 ghost use Rattle.hk_marks.specs.Steps.{with_number, with_mark, with_prefix, extra_numbers};
+ghost use Rattle.hk_marks.specs.Told.{prefix_of, stream_told};
 
 mod join;
 
+use hk_model::StreamTold;
 use hk_types::Time;
 pub use join::join_streams;
 use std::alloc::{AllocError, Global};
@@ -227,6 +229,7 @@ impl Stream {
     pub fn prefix(&self) -> u64
         ensures value { HasPrefix self.now.taken result }
         ensures most { result ≤ 2 ^ 62 }
+        ensures greatest { result ≡ prefix_of self.now }
         ensures lawful { IsLawfulStream self.now }
     {
         self.prefix
@@ -267,6 +270,32 @@ impl Stream {
         ensures runs { ShowsInOrder (deref_pair {K = ℕ} {X = ℕ}) }
     {
         self.waiting.iter()
+    }
+
+    /// How many taken numbers lie above the prefix.
+    pub fn extra_count(&self) -> u64
+        ensures { result ≡ set.len (extra_numbers self.now) }
+    {
+        self.extra.len() as u64
+    }
+
+    /// How many marks wait.
+    pub fn waiting_count(&self) -> u64
+        ensures { result ≡ finmap.len self.now.waiting }
+    {
+        self.waiting.len() as u64
+    }
+
+    /// How much is known of the stream.
+    pub fn told(&self) -> StreamTold
+        ensures { result ≡ stream_told self.now }
+    {
+        StreamTold {
+            prefix: self.prefix(),
+            closed: self.closed,
+            extra: self.extra_count(),
+            waiting: self.waiting_count(),
+        }
     }
 
     /// The same again.

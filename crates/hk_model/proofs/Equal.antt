@@ -1,5 +1,5 @@
 -- The laws for users: one replica end to end, joins, and replicas of the same set of items.
-use Rattle.std.proofs.Common.{◌≡◌, refl, zero, suc, ◌<◌, length, Contains, sym, ap, ◌∙◌, subst, ℕ, true, false, cond, List, [], ◌∷◌, ◌++◌, ◌⊎◌, inl, inr, ◌≤◌, max, arith, Ok, nat_lt, ltb-false}
+use Rattle.std.proofs.Common.{◌≡◌, refl, zero, suc, ◌<◌, length, Contains, sym, ap, ◌∙◌, subst, ℕ, true, false, cond, List, [], ◌∷◌, ◌++◌, inl, inr, ◌≤◌, max, arith, nat_lt, ltb-false}
 use Rattle.hk_types.specs.Values.{ConfigValue}
 use Rattle.hk_log.specs.declared.item.Item.{Item}
 use Rattle.hk_model.proofs.Replica.Members.{In}
@@ -10,9 +10,7 @@ use Rattle.hk_model.proofs.Laws.{readable_more, same, represents_both, join_law_
 use Rattle.hk_model.specs.Replica.Streams.{streams_of}
 use Rattle.hk_model.specs.Replica.Content.{Content, readable, least_closed}
 use Rattle.hk_model.specs.Replica.ContentOf.{content_of}
-use Rattle.hk_model.specs.History.Histories.{History, IsHistory, AreItemsOf}
-use Rattle.hk_model.specs.Replica.Answers.{reply}
-use Rattle.hk_model.specs.Replica.Replicas.{Represents, Delivery, content_after_deliveries, delivered_items, accepted_horizon, empty_content}
+use Rattle.hk_model.specs.Replica.Replicas.{Delivery, content_after_deliveries, delivered_items, accepted_horizon, empty_content}
 use Rattle.hk_model.specs.Replica.Replicas.Delivery.{Bring, PruneTo}
 use Rattle.hk_model.specs.Laws.{DeliverRepresents, DeliverReplies, JoinLaw, SameItems, SameContents, SameReadable, WorldLaw}
 

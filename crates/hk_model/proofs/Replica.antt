@@ -17,3 +17,4 @@ pub mod Standing
 pub mod Outcomes
 pub mod Shown
 pub mod Listed
+pub mod Pages

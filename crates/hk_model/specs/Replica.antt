@@ -8,5 +8,7 @@ pub mod Rules
 pub mod Fragments
 pub mod Codes
 pub mod Answers
+pub mod Pages
+pub mod StreamsTold
 pub mod Replicas
 pub mod Lawful

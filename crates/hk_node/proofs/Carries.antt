@@ -22,8 +22,8 @@ use Rattle.hk_node.specs.declared.op.Op.{Op}
 use Rattle.hk_node.specs.declared.op.Op.TheVariants.{Start, Join, Merge, Prune, Hold as HoldAt, Release}
 use Rattle.hk_node.specs.NodeContent.{NodeContent}
 use Rattle.hk_node.specs.Replay.{prune_reach, refusal_of, after_join, after_prune, start_content, content_after_op, replay, config_of, legal_from, is_legal, join_refused}
-use Rattle.hk_node.specs.Replies.{Answers, node_reply}
-use Rattle.hk_node.specs.Carried.{IsPart, Brings, CarryLaw, IsOfPrimary}
+use Rattle.hk_node.specs.Replies.{Answers, GivesSeen, node_latest, node_reply, timed_seen, with_time}
+use Rattle.hk_node.specs.Carried.{IsPart, Brings, CarryLaw, IsLatestOfPrimary, IsOfPrimary}
 use Rattle.hk_node.proofs.LegalLists.{and_left, and_right, none_of, applied-is}
 use Rattle.hk_node.proofs.Holds.{join_tests, prune_tests}
 
@@ -100,3 +100,15 @@ primary_answers ops t q (Ok a) legal gives history items h is b =
     let within = replied c t q (answer_seen a) said in
     let low : h ≤ t = subst (λ (d : Content). d.horizon ≤ t) s.0.is_content_of within.0 in
     ok_same (answer_seen a) (answer (table_at (commits history) t) q) (reply c t q) said (reply_law_proof (config_of ops) history is items h c s.0 t low within.1 q)
+
+-- a reply that is told with its time
+untimed : (t : ℕ) (r : Result AnswerValue Refusal) (told : ℕ × AnswerValue) → with_time t r ≡ Ok told → (t ≡ told.0) × (r ≡ Ok told.1)
+untimed t (Ok a) told e = (cc, cc)
+untimed t (Err why) told e = absurd cc
+
+pub primary_answers_latest : (ops : List Op) (q : Query) (result : Result (ℕ × Answer) Refusal) → is_legal ops ≡ true → GivesSeen timed_seen (node_latest (replay ops) q) result → IsLatestOfPrimary ops q result
+primary_answers_latest ops q (Err why) legal gives history items h is b = tt
+primary_answers_latest ops q (Ok told) legal gives =
+    let t = readable (replay ops).content in
+    let same = untimed t (node_reply (replay ops) t q) (timed_seen told) gives in
+    primary_answers ops told.0 q (Ok told.1) legal (subst (λ (u : ℕ). node_reply (replay ops) u q ≡ Ok (answer_seen told.1)) same.0 same.1)

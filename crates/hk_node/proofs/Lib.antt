@@ -10,3 +10,4 @@ pub mod HoldsBack
 pub mod WaitingHold
 pub mod GuardedChanges
 pub mod TakenItems
+pub mod NewestAnswers

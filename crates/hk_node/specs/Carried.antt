@@ -50,3 +50,9 @@ abbrev pub IsOfPrimary : List Op → ℕ → Query → Result Answer Refusal →
 IsOfPrimary ops t query result =
     (history : History) (items : List Item) (horizon : ℕ) → IsHistory (config_of ops) history → Carries history ops items horizon
     → IfOk result (λ a. answer_seen a ≡ answer (table_at (commits history) t) query)
+
+-- and the newest answer is that at the time that it tells
+abbrev pub IsLatestOfPrimary : List Op → Query → Result (ℕ × Answer) Refusal → Type 0
+IsLatestOfPrimary ops query result =
+    (history : History) (items : List Item) (horizon : ℕ) → IsHistory (config_of ops) history → Carries history ops items horizon
+    → IfOk result (λ told. answer_seen told.1 ≡ answer (table_at (commits history) told.0) query)

@@ -1,23 +1,26 @@
 //! What a copy of the node's state holds, and what operations make of it.
 
-ghost use Rattle.std.specs.Prelude.{◌≡◌, ◌<◌, ◌≤◌, ◌^◌, None, IfOk, IfErr, MatchResult};
-ghost use Rattle.hk_types.specs.declared.faults.Refusal.TheVariants.{Memory};
+ghost use Rattle.std.specs.Prelude.{◌≡◌, ◌⊎◌, ◌<◌, ◌≤◌, ◌^◌, None, IfOk, IfErr, MatchResult};
+ghost use Rattle.std.specs.Option.{option_map};
+ghost use Rattle.hk_types.specs.declared.faults.Refusal.TheVariants.{Damaged, Memory};
 ghost use Rattle.hk_model.specs.Replica.Maps.{or_else};
+ghost use Rattle.hk_model.specs.Replica.Pages.{page_seen};
+ghost use Rattle.hk_model.specs.Replica.StreamsTold.{streams_seen};
 ghost use Rattle.hk_node.specs.declared.op.Op.TheVariants.{Join as JoinOf, Prune as PruneTo, Hold as HoldAt, Release};
 ghost use Rattle.hk_node.specs.Replay as spec;
 ghost use Rattle.std.specs.List.{list_any};
 ghost use Rattle.hk_node.specs.Replay.{is_hold, content_after_op, start_content, effect, full_refusal, held_refusal, join_refusal, refusal_of};
 ghost use Rattle.hk_node.specs.Guarded.{AgreesWith, agreed_refusal, conflict_refusal, fitting_refusal};
-ghost use Rattle.hk_node.specs.Replies.{Answers, GivesOrMemory, node_delta, node_front, node_reply, node_whole};
+ghost use Rattle.hk_node.specs.Replies.{Answers, GivesOrMemory, GivesSeen, timed_seen, node_delta, node_front, node_latest, node_page, node_reply, node_streams, node_whole};
 
 use crate::op::{Hold, Op};
 use hk_delta::{Fragment, agreed, conflicts_with, delta_since, join, whole_of};
 use hk_log::Item;
 use hk_merge::wrong_log;
-use hk_model::{Answer, Front, Query};
-use hk_query::ask;
+use hk_model::{Answer, Front, Page, Query, StreamsTold};
+use hk_query::{ask, latest, page};
 use hk_state::{ReplicaState, front_of};
-use hk_types::{Config, LAST_OP, Refusal, Time};
+use hk_types::{Config, Key, LAST_OP, Refusal, Table, Time};
 use std::alloc::{AllocError, Global};
 use std::marker::Model;
 
@@ -376,6 +379,60 @@ impl Body {
             return Err(Refusal::Damaged);
         }
         ask(alloc, &self.state, time, query)
+    }
+
+    /// The answer to a query at the readable mark, with that time.
+    pub fn latest(&self, alloc: Global, query: &Query) -> Result<(Time, Answer), Refusal>
+        ensures latest { GivesSeen timed_seen (node_latest self.now query.now) result }
+        ensures err { IfErr result (λ why. (why ≡ Memory) ⊎ (why ≡ Damaged)) }
+    {
+        if self.damaged {
+            return Err(Refusal::Damaged);
+        }
+        latest(alloc, &self.state, query)
+    }
+
+    /// The first page of the rows of a table with keys from a low to a high one, at a time.
+    pub fn page(
+        &self,
+        alloc: Global,
+        time: Time,
+        table: Table,
+        low: Key,
+        high: Key,
+        most: u32,
+    ) -> Result<Page, Refusal>
+        ensures { GivesSeen page_seen (node_page self.now time table low high most) result }
+    {
+        if self.damaged {
+            return Err(Refusal::Damaged);
+        }
+        page(alloc, &self.state, time, table, low, high, most)
+    }
+
+    /// The least time that is held, where a hold stands.
+    fn least_held(&self) -> Option<Time>
+        ensures { result ≡ option_map (λ h. h.at) (spec.least_hold self.now.holds) }
+    {
+        let hold = least_hold(&self.holds)?;
+        Some(hold.at)
+    }
+
+    /// How far it is, and each of its streams, though it be damaged. The only refusal is `Memory`.
+    pub fn streams(&self, alloc: Global) -> Result<StreamsTold, Refusal>
+        ensures ok { IfOk result (λ told. streams_seen told ≡ node_streams self.now) }
+        ensures err { IfErr result (λ why. why ≡ Memory) }
+    {
+        let streams = self.state.got().told(alloc)?;
+        Ok(StreamsTold {
+            log: self.state.config().log(),
+            horizon: self.state.horizon(),
+            readable: self.state.readable(),
+            damaged: self.damaged,
+            operations: self.op_count,
+            least_hold: self.least_held(),
+            streams,
+        })
     }
 
     /// From where to where it can be read.

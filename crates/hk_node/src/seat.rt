@@ -1,22 +1,24 @@
 //! The seats of readers, which take no lock and never wait.
 
 ghost use Rattle.std.specs.Prelude.{◌≡◌, ◌⊎◌, All, true, length, IfOk, IfErr, IsTrue, vec_len};
-ghost use Rattle.hk_types.specs.declared.faults.Refusal.TheVariants.{Memory};
+ghost use Rattle.hk_types.specs.declared.faults.Refusal.TheVariants.{Damaged, Memory};
+ghost use Rattle.hk_model.specs.Replica.Pages.{page_seen};
+ghost use Rattle.hk_model.specs.Replica.StreamsTold.{streams_seen};
 ghost use mathlib.Core.List.{IsPrefix};
 ghost use Rattle.left_right.specs.Sides.{view as known};
-ghost use Rattle.hk_node.specs.Carried.{IsOfPrimary};
+ghost use Rattle.hk_node.specs.Carried.{IsLatestOfPrimary, IsOfPrimary};
 ghost use Rattle.hk_node.specs.Holds.{HoldsBack};
 ghost use Rattle.hk_node.specs.Published.{IsOf, IsReplay, KeepsShown};
 ghost use Rattle.hk_node.specs.Replay.{config_of, is_legal, replay, IsListOf};
-ghost use Rattle.hk_node.specs.Replies.{Answers, GivesOrMemory, node_delta, node_front, node_reply, node_whole};
+ghost use Rattle.hk_node.specs.Replies.{Answers, GivesOrMemory, GivesSeen, timed_seen, node_delta, node_front, node_latest, node_page, node_reply, node_streams, node_whole};
 
 use crate::book::{NodeName, Prefix};
 use crate::publisher::{NodeReader, NodeReading, NodeWriter, Observes, Receipt};
 use crate::replica::Replica;
 use atomic_table::{Join, Split};
 use hk_delta::Fragment;
-use hk_model::{Answer, Front, Query};
-use hk_types::{Config, Refusal, Time};
+use hk_model::{Answer, Front, Page, Query, StreamsTold};
+use hk_types::{Config, Key, Refusal, Table, Time};
 use std::alloc::{AllocError, Global};
 use std::marker::{Model, PhantomData};
 
@@ -183,6 +185,18 @@ impl<J: NodeName> ReaderSeat<J> {
         answer
     }
 
+    fn newest(&mut self, query: &Query) -> Result<(Time, Answer), Refusal>
+        ensures legal { is_legal self.new ≡ true }
+        ensures seen { IsPrefix self.old self.new }
+        ensures latest { GivesSeen timed_seen (node_latest (replay self.new) query.now) result }
+        ensures err { IfErr result (λ why. (why ≡ Memory) ⊎ (why ≡ Damaged)) }
+    {
+        let reading = self.enter()?;
+        let latest = reading.get().body.latest(self.alloc, query);
+        self.leave(reading);
+        latest
+    }
+
     fn delta(&mut self, base: Time) -> Result<Fragment, Refusal>
         ensures legal { is_legal self.new ≡ true }
         ensures seen { IsPrefix self.old self.new }
@@ -208,6 +222,61 @@ impl<J: NodeName> ReaderSeat<J> {
         ensures primary { IsOfPrimary self.new time query.now result }
     {
         self.reply(time, query)
+    }
+
+    /// What the node answers to a query at its readable mark, with that time: the newest answer that it has, and the
+    /// time that it was read at.
+    ///
+    /// Refusals in order: `Damaged`, `Memory`. Cost: that of asking a state, and O(s), s streams.
+    pub fn latest(&mut self, query: &Query) -> Result<(Time, Answer), Refusal>
+        ensures legal { is_legal self.new ≡ true }
+        ensures seen { IsPrefix self.old self.new }
+        ensures latest { GivesSeen timed_seen (node_latest (replay self.new) query.now) result }
+        ensures err { IfErr result (λ why. (why ≡ Memory) ⊎ (why ≡ Damaged)) }
+        ensures primary { IsLatestOfPrimary self.new query.now result }
+    {
+        self.newest(query)
+    }
+
+    /// The first page of the rows of a table with keys from `low` to `high`, both inside, at a time: at most `most` of
+    /// them, and no more than a message has room for; and whether more follow. The page after it has `low` above its
+    /// last key.
+    ///
+    /// Refusals in order: `Damaged`; then as those of `ask`: `TooOld`, `NotYet`, `Memory`. Cost: that of a page of a
+    /// state.
+    pub fn page(
+        &mut self,
+        time: Time,
+        table: Table,
+        low: Key,
+        high: Key,
+        most: u32,
+    ) -> Result<Page, Refusal>
+        ensures legal { is_legal self.new ≡ true }
+        ensures seen { IsPrefix self.old self.new }
+        ensures page { GivesSeen page_seen (node_page (replay self.new) time table low high most) result }
+    {
+        let reading = self.enter()?;
+        let page = reading
+            .get()
+            .body
+            .page(self.alloc, time, table, low, high, most);
+        self.leave(reading);
+        page
+    }
+
+    /// How far the node is, and each of its streams: of a damaged node too, since it says whether it is damaged. The
+    /// only refusal is `Memory`. Cost: O(s + h), s streams, h holds that stand.
+    pub fn streams(&mut self) -> Result<StreamsTold, Refusal>
+        ensures legal { is_legal self.new ≡ true }
+        ensures seen { IsPrefix self.old self.new }
+        ensures streams { IfOk result (λ told. streams_seen told ≡ node_streams (replay self.new)) }
+        ensures err { IfErr result (λ why. why ≡ Memory) }
+    {
+        let reading = self.enter()?;
+        let streams = reading.get().body.streams(self.alloc);
+        self.leave(reading);
+        streams
     }
 
     /// From where to where the node can be read. Refusals in order: `Damaged`, `Memory`. Cost: O(s), s streams.

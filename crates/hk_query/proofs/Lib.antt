@@ -1,2 +1,4 @@
+pub mod Newest
 pub mod OfPrimary
+pub mod PageAtTime
 pub mod ReplyAtTime

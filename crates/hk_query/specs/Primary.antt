@@ -18,6 +18,12 @@ IsOfPrimary c t query result =
     (config : ConfigValue) (history : History) (items : List Item) (horizon : ℕ) → IsHistory config history → Represents config history items horizon c → horizon ≤ t → t ≤ readable c
     → IfOk result (λ a. answer_seen a ≡ answer (table_at (commits history) t) query) × IfErr result (λ why. why ≡ Memory)
 
+-- and so it is at the readable mark
+abbrev pub IsLatestOfPrimary : Content → Query → Result (ℕ × Answer) Refusal → Type 0
+IsLatestOfPrimary c query result =
+    (config : ConfigValue) (history : History) (items : List Item) (horizon : ℕ) → IsHistory config history → Represents config history items horizon c
+    → IfOk result (λ told. answer_seen told.1 ≡ answer (table_at (commits history) told.0) query)
+
 -- the reply is the definition's, or memory ran out where that is an answer
 abbrev pub Replies : Content → ℕ → Query → Result Answer Refusal → Type 0
 Replies c t query result =

@@ -1,9 +1,11 @@
-//! Answers of a replica at a time.
+//! Answers of a replica at a time, the newest ones, and pages of its rows.
 #![tactic(auto)]
 
 mod answers;
+mod pages;
 mod reply;
 
 pub use answers::answer_at;
-pub use hk_model::{Answer, Query};
-pub use reply::ask;
+pub use hk_model::{Answer, Page, Query};
+pub use pages::page;
+pub use reply::{ask, latest};

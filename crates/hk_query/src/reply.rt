@@ -1,16 +1,33 @@
 //! Asking a state.
 
-ghost use Rattle.std.specs.Prelude.{◌≡◌, ◌≢◌, ℕ, Ok, None, IsOk, IfErr};
+ghost use Rattle.std.specs.Prelude.{◌≡◌, ◌≢◌, ℕ, Ok, None, IsOk, IfOk, IfErr};
 ghost use Rattle.hk_types.specs.declared.faults.Refusal.TheVariants.{Memory};
 ghost use Rattle.hk_model.specs.declared.query.Query.TheVariants.{Count};
-ghost use Rattle.hk_query.specs.Primary.{IsOfPrimary, Replies};
-ghost use Rattle.hk_model.specs.Replica.Answers.{One, reply};
+ghost use Rattle.hk_query.specs.Primary.{IsLatestOfPrimary, IsOfPrimary, Replies};
+ghost use Rattle.hk_query.specs.Times as times;
+ghost use Rattle.hk_model.specs.Replica.Answers.{One, answer_seen, reply};
+ghost use Rattle.hk_model.specs.Replica.Content.{readable};
 
 use crate::answers::answer_at;
 use hk_model::{Answer, Query};
 use hk_state::ReplicaState;
 use hk_types::{Refusal, Time};
 use std::alloc::Global;
+
+/// Why a state can't be asked at a time, if it can't.
+pub(crate) fn time_refusal(state: &ReplicaState, time: Time) -> Option<Refusal>
+    ensures { result ≡ times.time_refusal state.now time }
+{
+    let horizon = state.horizon();
+    if time < horizon {
+        return Some(Refusal::TooOld { horizon });
+    }
+    let readable = state.readable();
+    if readable < time {
+        return Some(Refusal::NotYet { readable });
+    }
+    None
+}
 
 /// What a state answers to a query at a time, with the primary's rows of that time where it took the items
 /// of a primary's log.
@@ -34,13 +51,27 @@ pub fn ask(
     // Nor does it to tell that there is no such row.
     ensures absent { reply state.now time query.now ≡ Ok (One None) → IsOk result }
 {
-    let horizon = state.horizon();
-    if time < horizon {
-        return Err(Refusal::TooOld { horizon });
+    match time_refusal(state, time) {
+        Some(why) => Err(why),
+        None => answer_at(alloc, state.facts(), time, query),
     }
-    let readable = state.readable();
-    if readable < time {
-        return Err(Refusal::NotYet { readable });
-    }
-    answer_at(alloc, state.facts(), time, query)
+}
+
+/// What a state answers to a query at its readable mark, with that time: the newest answer that it has.
+///
+/// The only refusal is `Memory`; a `Count` takes none, nor does a row that is not there. Cost: that of `ask`, and O(s),
+/// s streams.
+pub fn latest(
+    alloc: Global,
+    state: &ReplicaState,
+    query: &Query,
+) -> Result<(Time, Answer), Refusal>
+    ensures time { IfOk result (λ told. told.0 ≡ readable state.now) }
+    ensures answer { IfOk result (λ told. reply state.now told.0 query.now ≡ Ok (answer_seen told.1)) }
+    ensures err { IfErr result (λ why. why ≡ Memory) }
+    ensures primary { IsLatestOfPrimary state.now query.now result }
+{
+    let time = state.readable();
+    let answer = ask(alloc, state, time, query)?;
+    Ok((time, answer))
 }

@@ -2,6 +2,7 @@ pub mod RowsBetween
 pub mod StoredFacts
 pub mod ChangedChains
 pub mod FactsByRow
+pub mod FilledPages
 pub mod JournalUndone
 mod NewFacts
 pub mod Conflicts

@@ -4,5 +4,6 @@ pub mod Facts
 pub mod Indexed
 pub mod Journal
 pub mod Learning
+pub mod Paging
 pub mod Reads
 pub mod Versions

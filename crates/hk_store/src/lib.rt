@@ -9,6 +9,7 @@ mod facts;
 mod journal;
 mod key_index;
 mod learn;
+mod page;
 mod ranges;
 mod replace;
 mod row_key;

@@ -63,12 +63,17 @@ fn body<J: NodeName>(seat: &mut ReaderSeat<J>, key: u64, at: u64) -> Result<u16,
     let Ok(at) = Time::new(at) else {
         return Ok(0);
     };
-    match seat.ask(at, &get(key))? {
+    Ok(number_of(&seat.ask(at, &get(key))?))
+}
+
+/// The body of the row that is answered, or 0.
+fn number_of(answer: &Answer) -> u16 {
+    match answer {
         Answer::One(Some(row)) => match row.body() {
-            [high, low] => Ok(u16::from_be_bytes([*high, *low])),
-            _ => Ok(0),
+            [high, low] => u16::from_be_bytes([*high, *low]),
+            _ => 0,
         },
-        _ => Ok(0),
+        _ => 0,
     }
 }
 

@@ -25,6 +25,11 @@ enum Does<'a> {
     Front,
     /// A key and a time.
     Get(u64, u64),
+    /// A key.
+    Latest(u64),
+    /// The lowest key, the most rows and a time.
+    Page(u64, u32, u64),
+    Streams,
 }
 
 /// The number of a refusal, or 0, and two numbers that it names.
@@ -162,6 +167,34 @@ impl<J: NodeName, S: Wait + Drop> Game<J, S> {
         }
     }
 
+    /// The body at the readable mark, and that time.
+    fn latest(&mut self, key: u64) -> Tells {
+        match self.seat.latest(&get(key)) {
+            Ok((at, answer)) => (0, u64::from(number_of(&answer)), at.number()),
+            Err(why) => refused(why),
+        }
+    }
+
+    /// How many rows the page has, and 1 where more follow.
+    fn page(&mut self, low: u64, most: u32, at: Time) -> Tells {
+        let last = Key::new(u64::MAX);
+        match self.seat.page(at, Table::new(1), Key::new(low), last, most) {
+            Ok(page) => (0, page.rows.len() as u64, u64::from(page.more)),
+            Err(why) => refused(why),
+        }
+    }
+
+    /// The number of operations, and the prefix of the stream.
+    fn streams(&mut self) -> Tells {
+        match self.seat.streams() {
+            Ok(told) => {
+                let prefix = told.streams.first().map(|stream| stream.prefix);
+                (0, told.operations, prefix.unwrap_or(0))
+            }
+            Err(why) => refused(why),
+        }
+    }
+
     fn join<R: Wait>(&mut self, rt: &R, fragment: Fragment) -> Tells {
         refuse(self.alloc, self.number);
         let joined = self.node.join(rt, fragment);
@@ -215,6 +248,9 @@ impl<J: NodeName, S: Wait + Drop> Game<J, S> {
             Does::Publish => Ok(self.publish(rt)),
             Does::Front => Ok(self.front()),
             Does::Get(key, at) => Ok(self.get(key, at)),
+            Does::Latest(key) => Ok(self.latest(key)),
+            Does::Page(low, most, at) => Ok(self.page(low, most, time(at)?)),
+            Does::Streams => Ok(self.streams()),
         }
     }
 }
@@ -356,6 +392,24 @@ const CLOSED: [(Does, Tells); 5] = [
     (Does::Front, (0, 0, 9)),
 ];
 
+/// Key 5 is put and replaced, key 6 put. A damaged node tells of its streams, and nothing else.
+const NEWEST: [(Does, Tells); 14] = [
+    (Does::Streams, (0, 1, 0)),
+    (Does::Latest(5), (0, 0, 0)),
+    (Does::Join(&ALL), (0, 2, 0)),
+    (Does::Latest(5), (0, 0x42, 3)),
+    (Does::Page(5, 1, 3), (0, 1, 1)),
+    (Does::Page(5, 2, 3), (0, 2, 0)),
+    (Does::Page(6, 1, 3), (0, 1, 0)),
+    (Does::Page(5, 0, 3), (0, 0, 1)),
+    (Does::Page(5, 1, 4), (26, 0, 0)),
+    (Does::Streams, (0, 2, 3)),
+    (Does::Join(&[9]), (23, 0, 0)),
+    (Does::Latest(5), (41, 0, 0)),
+    (Does::Page(5, 1, 3), (41, 0, 0)),
+    (Does::Streams, (0, 3, 3)),
+];
+
 #[test]
 fn one_day(rt: HostRuntime) -> Result<(), Fail> {
     let alloc = rt.alloc();
@@ -366,6 +420,7 @@ fn one_day(rt: HostRuntime) -> Result<(), Fail> {
         &DAMAGE,
         &GUARDED,
         &CLOSED,
+        &NEWEST,
     ] {
         steps::<Brand, _>(&rt, alloc, NewList::new(config()?), rows)?;
     }
