@@ -26,6 +26,7 @@ use Rattle.hk_types.specs.Numbers.{checked_config}
 use Rattle.hk_model.specs.Replica.Replicas.{empty_content}
 use Rattle.hk_session.specs.Values.{HostValue}
 use Rattle.hk_session.specs.Steps.{Step}
+use Rattle.hk_session.specs.VersionOne.{version_one}
 use Rattle.hk_session.specs.Transcript.{Transcript, PartialTranscript, IsDone, IsStopped}
 use Rattle.hk_session.specs.Endings.{ended_number}
 use Rattle.hk_session.specs.declared.ended.Ended.{Ended}
@@ -40,8 +41,8 @@ Opened (Some r) log streams number = (number ≡ 0) × (config : ConfigValue) ×
 -- that where memory ran out.
 abbrev pub Answered : Replica → Replica → List ℕ → Ended → Type 0
 Answered old new bytes ended =
-    (IsDone ended → Transcript Step old.host new.host bytes new.reply.items)
-    × (IsStopped ended → PartialTranscript Step old.host new.host bytes new.reply.items)
+    (IsDone ended → Transcript version_one Step old.host new.host bytes new.reply.items)
+    × (IsStopped ended → PartialTranscript version_one Step old.host new.host bytes new.reply.items)
 
 -- the same by the number, at what a handle holds
 abbrev pub Called : Option Replica → Option Replica → List ℕ → ℕ → Type 0

@@ -4,6 +4,7 @@ use Rattle.hk_types.specs.Values.{ConfigValue}
 use Rattle.hk_session.specs.declared.ended.Ended.{Ended}
 use Rattle.hk_session.specs.Serving.{Serves}
 use Rattle.hk_session.specs.Values.{CountedValue}
+use Rattle.hk_session.specs.VersionOne.{version_one}
 use Rattle.hk_node.specs.declared.op.Op.{Op}
 use Rattle.hk_net.specs.Guarded.{MayReplyGuarded}
 use Rattle.hk_net.specs.Replying.{MayOnlyRead, MayReply}
@@ -15,13 +16,13 @@ Outcome = Ended × List Op
 -- a session of a host over a node of this log
 abbrev pub ServesNode : {R W : Type 0} → ConfigValue → List Op → (R → Option (List ℕ)) → CountedValue R → CountedValue R → (W → Option (List ℕ)) → CountedValue W → CountedValue W → Outcome → Type 0
 ServesNode config seat remaining reader reader_after contents old new result =
-    Serves (MayReply config) seat result.1 remaining reader reader_after contents old new result.0
+    Serves version_one (MayReply config) seat result.1 remaining reader reader_after contents old new result.0
 
 -- the same of a host that tests changes first
 abbrev pub ServesGuarded : {R W : Type 0} → ConfigValue → List Op → (R → Option (List ℕ)) → CountedValue R → CountedValue R → (W → Option (List ℕ)) → CountedValue W → CountedValue W → Outcome → Type 0
 ServesGuarded config seat remaining reader reader_after contents old new result =
-    Serves (MayReplyGuarded config) seat result.1 remaining reader reader_after contents old new result.0
+    Serves version_one (MayReplyGuarded config) seat result.1 remaining reader reader_after contents old new result.0
 
 -- the same of a host that only reads
 abbrev pub ServesReader : {R W : Type 0} → List Op → (R → Option (List ℕ)) → CountedValue R → CountedValue R → (W → Option (List ℕ)) → CountedValue W → CountedValue W → Outcome → Type 0
-ServesReader seat remaining reader reader_after contents old new result = Serves MayOnlyRead seat result.1 remaining reader reader_after contents old new result.0
+ServesReader seat remaining reader reader_after contents old new result = Serves version_one MayOnlyRead seat result.1 remaining reader reader_after contents old new result.0

@@ -14,7 +14,7 @@ use crate::seat_host::SeatHost;
 use hk_delta::Fragment;
 use hk_log::Item;
 use hk_node::{Node, NodeName, ReaderSeat, Receipt};
-use hk_session::Host;
+use hk_session::{Host, VersionOne};
 use hk_types::{Refusal, Time};
 use hk_wire::{Reply, Request};
 use std::marker::Model;
@@ -157,6 +157,8 @@ impl<'a, J: NodeName, N: Wait + Drop, R: Wait> GuardedHost<'a, J, N, R> {
 }
 
 impl<'a, J: NodeName, N: Wait + Drop, R: Wait> Host for GuardedHost<'a, J, N, R> {
+    type Speaks = VersionOne;
+
     ghost may = { MayReplyGuarded J.config };
 
     fn answer(&mut self, request: Request) -> Reply {

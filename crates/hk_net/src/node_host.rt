@@ -21,7 +21,7 @@ use hk_delta::{Fragment, fragment_of};
 use hk_log::Item;
 use hk_model::Query;
 use hk_node::{Node, NodeName, ReaderSeat, Receipt};
-use hk_session::Host;
+use hk_session::{Host, VersionOne};
 use hk_types::{Refusal, Time};
 use hk_wire::{Reply, Request};
 use std::alloc::Global;
@@ -234,6 +234,8 @@ impl<'a, J: NodeName, N: Wait + Drop, R: Threads + Wait + Sync> NodeHost<'a, J, 
 }
 
 impl<'a, J: NodeName, N: Wait + Drop, R: Threads + Wait + Sync> Host for NodeHost<'a, J, N, R> {
+    type Speaks = VersionOne;
+
     ghost may = { MayReply J.config };
 
     ghost ready = { λ _. IsSync R.row };

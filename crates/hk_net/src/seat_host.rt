@@ -12,7 +12,7 @@ ghost use Rattle.hk_net.specs.Replying.{IsOrOutOfMemory, MayOnlyRead, front_repl
 
 use hk_model::Query;
 use hk_node::{NodeName, ReaderSeat, Receipt};
-use hk_session::Host;
+use hk_session::{Host, VersionOne};
 use hk_types::{Config, FormFault, Refusal, Time};
 use hk_wire::{Reply, Request};
 use std::marker::Model;
@@ -131,6 +131,8 @@ impl<J: NodeName> SeatHost<J> {
 }
 
 impl<J: NodeName> Host for SeatHost<J> {
+    type Speaks = VersionOne;
+
     ghost may = { MayOnlyRead };
 
     fn answer(&mut self, request: Request) -> Reply {

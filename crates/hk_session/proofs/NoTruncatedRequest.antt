@@ -1,4 +1,4 @@
--- No reader of a request's rest answers that the input ends inside a frame: a feeder alone does, at the end.
+-- No reader of the rest of a request of version 1 answers that the input ends inside a frame: a feeder alone does, at the end.
 use Rattle.std.proofs.Common.{not, leb, ◌≡◌, ℕ, zero, suc, ◌+◌, ◌^◌, ◌||◌, ◌&&◌, Bool, true, false, cond, eqb, ltb, List, [], ◌∷◌, length, Option, Some, None, Result, Ok, Err, refl, ap}
 use Rattle.std.specs.Int.{Width, w16, w32, w64, byte_len}
 use Rattle.hk_types.specs.declared.version_key.VersionKey.{VersionKey}
@@ -9,7 +9,7 @@ use Rattle.hk_codec.specs.Encoding.{WrittenItem}
 use Rattle.hk_codec.specs.Lists.{last_place, is_above, elements_at, group_at, groups_at}
 use Rattle.hk_frames.specs.Fields.{◌>>=◌, check, byte_at, number_at, bytes_at, body_at, list_at}
 use Rattle.hk_codec.specs.Reading.{keyed_end_at, end_at, keyed_row_at, row_at, moment_at, counted_ends_at, counted_rows_at, grouped_ends_at, grouped_rows_at, ends_of_version, rows_of_version, entry_at, mark_at, HeadValue, head_at, kind_at, item_at}
-use Rattle.hk_frames.specs.Framing.{len_of, rest_at, framed, value_of}
+use Rattle.hk_frames.specs.Framing.{framed}
 use Rattle.hk_codec.specs.Frames.{frame_at}
 use Rattle.hk_wire.specs.Readers.{Reader, both, after, fault_where, mapped_value, by_kind, list_by, list_by_count, time_at}
 use Rattle.hk_wire.specs.Answers.{row_at as value_row_at}
@@ -17,37 +17,12 @@ use Rattle.hk_fragment.specs.Parts.{follows, is_valid_end}
 use Rattle.hk_wire.specs.Fragments.{number_follows, extra_at, waiting_count_at, waiting_at, stream_of, stream_at, version_at, died_at, known_of, fact_at, least_closed_of, no_stream, bounds_at, streams_at, stream_count_at, fragment_head_at, facts_at, fragment_at}
 use Rattle.hk_wire.specs.Messages.{head_at as message_head_at, message_at}
 use Rattle.hk_wire.specs.Queries.{query_of, query_at}
-use Rattle.hk_wire.specs.declared.request.Request.{Request}
-use Rattle.hk_wire.specs.Requests.{frame_taken, item_frame_at, item_count_at, no_place, items_at, whole_at, request_of, request_at, ReadsRequests}
-
--- is the fault another one
-abbrev pub is_other : FormFault → Bool
-is_other Truncated = false
-is_other fault = true
-
--- is the fault another one, if there is one
-abbrev pub is_whole : {A : Type 0} → Result A FormFault → Bool
-is_whole (Ok x) = true
-is_whole (Err fault) = is_other fault
-
--- ---- steps
-
-pub bind_whole : {A B : Type 0} (r : Result A FormFault) (f : A → Result B FormFault) → is_whole r ≡ true → ((x : A) → is_whole (f x) ≡ true) → is_whole (r >>= f) ≡ true
-bind_whole (Ok x) f h k = k x
-bind_whole (Err fault) f h k = h
-
-pub cond_whole : {A : Type 0} (b : Bool) (x y : Result A FormFault) → is_whole x ≡ true → is_whole y ≡ true → is_whole (cond b x y) ≡ true
-cond_whole true x y h k = h
-cond_whole false x y h k = k
-
-pub check_whole : (b : Bool) (fault : FormFault) → is_other fault ≡ true → is_whole (check b fault) ≡ true
-check_whole true fault h = h
-check_whole false fault h = refl
+use Rattle.hk_wire.specs.Requests.{frame_taken, item_frame_at, item_count_at, no_place, items_at, whole_at, request_of, request_at}
+use Rattle.hk_session.specs.Protocols.{NeverCut}
+use Rattle.hk_session.specs.VersionOne.{version_one}
+use Rattle.hk_session.proofs.NeverCut.{is_other, is_whole, bind_whole, cond_whole, check_whole, Whole, framed_whole}
 
 -- ---- readers
-
-abbrev pub Whole : {A : Type 0} → (List ℕ → Result A FormFault) → Type 0
-Whole read = (bytes : List ℕ) → is_whole (read bytes) ≡ true
 
 pub number_whole : (w : Width) → Whole (number_at w)
 unfolding number_at
@@ -96,20 +71,6 @@ counted_whole place one k bytes = listed_whole (number_at w32) place one (number
 pub time_whole : Whole time_at
 unfolding time_at
 time_whole bytes = barred_whole (number_at w64) (λ n. ltb (2 ^ 62) n) BadNumber refl (number_whole w64) bytes
-
-pub framed_whole : {X : Type 0} (least most : ℕ) (read : List ℕ → Result X FormFault) → Whole read → Whole (framed least most read)
-unfolding framed rest_at
-framed_whole least most read h bytes =
-    bind_whole (rest_at least most bytes) _
-    (cond_whole (ltb (length bytes) 4) _ _ refl
-    (cond_whole (ltb most (len_of bytes)) _ _ refl
-    (cond_whole (ltb (len_of bytes) least) _ _ refl
-    (cond_whole (ltb (length bytes) (4 + len_of bytes)) _ _ refl refl))))
-    (value_whole read h)
-  where
-    value_whole : {X : Type 0} (read : List ℕ → Result X FormFault) → Whole read → (rest : Option (List ℕ)) → is_whole (value_of read rest) ≡ true
-    value_whole read h None = refl
-    value_whole read h (Some rest) = bind_whole (read rest) _ (h rest) (λ _. refl)
 
 -- ---- items
 
@@ -363,8 +324,8 @@ pub request_whole : Whole request_at
 unfolding request_at
 request_whole = message_whole request_of of_kind_whole
 
-pub never_cut : (text : List ℕ) (qs : List Request) → ReadsRequests text qs (Err Truncated) → ⊥
-never_cut text qs h =
-    let w : is_whole (framed 2 268435456 request_at h.2.0) ≡ true = framed_whole 2 268435456 request_at request_whole h.2.0 in
-    let v : is_whole (framed 2 268435456 request_at h.2.0) ≡ false = ap is_whole h.2.3 in
+pub requests_never_cut : NeverCut version_one
+requests_never_cut rest e =
+    let w : is_whole (request_at rest) ≡ true = request_whole rest in
+    let v : is_whole (request_at rest) ≡ false = ap is_whole e in
     absurd cc

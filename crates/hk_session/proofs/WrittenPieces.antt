@@ -4,7 +4,7 @@ use Rattle.std.specs.Io.KnownBytes.{Appends}
 use Rattle.std.proofs.KnownBytes.{Appends-trans}
 use Rattle.std.proofs.lemmas.List.{take-append-drop, take-take, drop-take, length-drop, length-take-le}
 use Rattle.std.proofs.Math.Seq.{take-length}
-use Rattle.hk_session.specs.Transcript.{IsPrefixOf, IsProperPrefixOf}
+use Rattle.hk_session.specs.Transcript.{IsProperPrefixOf}
 
 split_take : (text : List ℕ) (d n : ℕ) → take (d + n) text ≡ take d text ++ take n (drop d text)
 split_take text d n = sym (take-append-drop d (take (d + n) text)) ∙ ap (λ (t : List ℕ). take d (take (d + n) text) ++ t) (drop-take d n text) ∙ ap (λ (t : List ℕ). t ++ take n (drop d text)) (take-take d (d + n) text (omega arith))

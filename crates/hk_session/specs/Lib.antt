@@ -1,5 +1,7 @@
 pub mod Endings
+pub mod Protocols
 pub mod Steps
 pub mod Transcript
 pub mod Serving
 pub mod Values
+pub mod VersionOne

@@ -1,18 +1,19 @@
 //! A whole session.
 
-ghost use Rattle.std.specs.Prelude.{◌≡◌, ◌≢◌, ◌<◌, ◌≤◌, ◌+◌, ◌^◌, ℕ, List, [], Ok, Some, IfSome, IfNone, OnErr};
+ghost use Rattle.std.specs.Prelude.{◌≡◌, ◌≢◌, ◌<◌, ◌≤◌, ◌+◌, ◌^◌, ℕ, List, [], Ok, Some, IfSome, OnErr};
 ghost use Rattle.std.specs.Io.KnownBytes.{IsAtEnd};
 ghost use Rattle.hk_types.specs.declared.faults.FormFault.TheVariants as faults;
 ghost use Rattle.hk_session.specs.declared.ended.Ended.TheVariants as ends;
-ghost use Rattle.hk_session.specs.Serving.{AnswersAll, AnswersOne, EndsCut, EndsWith, FailsToRead, GoesOnWith, RefusesBy, Serves, ServesAll, ServesPart, StepsBy, StopsBy, TakesPiece, WritesAll, WritesPart, Wrote};
-ghost use Rattle.hk_session.specs.Transcript.{Ends, IsDone, IsMidway, IsStopped};
+ghost use Rattle.hk_session.specs.Serving.{AnswersAll, EndsCut, EndsWith, FailsToRead, GoesOnWith, RefusesBy, Replies, Serves, ServesAll, ServesPart, StepsBy, StopsBy, TakesPiece, WritesAll, WritesPart, Wrote};
+ghost use Rattle.hk_session.specs.Transcript.{Ends, IsMidway};
 
 use crate::counted::Counted;
 use crate::ended::Ended;
 use crate::host::Host;
+use crate::protocol::{Protocol, RequestOf};
 use crate::sending::send;
+use hk_frames::FrameFeeder;
 use hk_types::{FormFault, Refusal};
-use hk_wire::{Reply, Request, RequestFeeder};
 use std::alloc::{AllocError, Global};
 use std::io::{Read, Write};
 
@@ -20,8 +21,8 @@ use std::io::{Read, Write};
 const MOST_HELD: usize = 65_536;
 
 /// Answers one request. Its reply is held, where all that are held have at most `most` bytes, or written with them.
-fn answer_one<W: Write, H: Host>(
-    request: Request,
+fn answer_one<W: Write, P: Protocol, H: Host<Speaks = P>>(
+    asked: RequestOf<P>,
     most: usize,
     held: &mut Vec<u8>,
     writer: &mut Counted<W>,
@@ -29,27 +30,27 @@ fn answer_one<W: Write, H: Host>(
 ) -> Option<Ended>
     requires quiet { writer.old.faults ≡ 0 }
     requires ready { H.ready host.old }
-    ensures says { AnswersOne H.may host.old host.new W.contents writer.old writer.new
-        request held.old.items most held.new.items result }
+    ensures says { Replies P.wire H.may host.old host.new W.contents writer.old writer.new
+        asked held.old.items most held.new.items result }
     ensures ready { H.ready host.new }
     ensures quiet { result ≢ Some ends.WriteFault → writer.new.faults ≡ 0 }
     ensures fault { result ≡ Some ends.WriteFault → 0 < writer.new.faults }
 {
-    let reply = host.answer(request);
-    send(&reply, most, held, writer)
+    let reply = host.answer(asked);
+    send::<W, P>(&reply, most, held, writer)
 }
 
 /// Answers the requests in order, and writes the replies: in one piece, or as soon as so many bytes stand.
-fn answer_all<W: Write, H: Host>(
+fn answer_all<W: Write, P: Protocol, H: Host<Speaks = P>>(
     alloc: Global,
-    requests: Vec<Request>,
+    requests: Vec<RequestOf<P>>,
     writer: &mut Counted<W>,
     host: &mut H,
 ) -> Option<Ended>
     requires quiet { writer.old.faults ≡ 0 }
     requires ready { H.ready host.old }
-    ensures all { IfNone result (AnswersAll H.may host.old host.new W.contents writer.old writer.new requests.items) }
-    ensures part { IfSome result (StopsBy H.may host.old host.new W.contents writer.old writer.new requests.items) }
+    ensures all { AnswersAll P.wire H.may host.old host.new W.contents writer.old writer.new requests.items result }
+    ensures part { StopsBy P.wire H.may host.old host.new W.contents writer.old writer.new requests.items result }
     ensures ready { H.ready host.new }
     ensures quiet { result ≢ Some ends.WriteFault → writer.new.faults ≡ 0 }
     ensures fault { result ≡ Some ends.WriteFault → 0 < writer.new.faults }
@@ -70,15 +71,15 @@ fn answer_all<W: Write, H: Host>(
 }
 
 /// Says which fault the session ends with.
-fn refuse<W: Write>(alloc: Global, fault: FormFault, writer: &mut Counted<W>) -> Ended
+fn refuse<W: Write, P: Protocol>(alloc: Global, fault: FormFault, writer: &mut Counted<W>) -> Ended
     requires { writer.old.faults ≡ 0 }
     ensures sends { RefusesBy W.contents writer.old writer.new fault result }
     ensures quiet { result ≢ ends.WriteFault → writer.new.faults ≡ 0 }
     ensures fault { result ≡ ends.WriteFault → 0 < writer.new.faults }
 {
     let mut held = Vec::new(alloc);
-    let reply = Reply::Refused(Refusal::Form(fault));
-    match send(&reply, 0, &mut held, writer) {
+    let reply = P::refused(fault);
+    match send::<W, P>(&reply, 0, &mut held, writer) {
         None => Ended::Fault(fault),
         Some(ended) => ended,
     }
@@ -86,13 +87,13 @@ fn refuse<W: Write>(alloc: Global, fault: FormFault, writer: &mut Counted<W>) ->
 
 /// Takes the next piece of the stream into an empty list, and gives the fault that follows the requests, if one does.
 /// Where memory runs out the feeder and the list are as before.
-fn take_in(
-    feeder: &mut RequestFeeder,
+fn take_in<P: Protocol>(
+    feeder: &mut FrameFeeder<P::Requests>,
     piece: &[u8],
-    requests: &mut Vec<Request>,
+    requests: &mut Vec<RequestOf<P>>,
 ) -> Result<Option<FormFault>, AllocError>
     requires { requests.old.items ≡ [] }
-    ensures reads { TakesPiece feeder.old feeder.new piece.now requests.new.items result }
+    ensures reads { TakesPiece P.wire feeder.old feeder.new piece.now requests.new.items result }
     ensures err { OnErr result ((feeder.new ≡ feeder.old) × (requests.new.items ≡ requests.old.items)) }
 {
     match feeder.feed(piece, requests) {
@@ -105,26 +106,26 @@ fn take_in(
 }
 
 /// Takes the next piece of the stream, and answers the requests that are whole now. `None` goes on.
-fn handle_piece<W: Write, H: Host>(
+fn handle_piece<W: Write, P: Protocol, H: Host<Speaks = P>>(
     alloc: Global,
     piece: &[u8],
-    feeder: &mut RequestFeeder,
+    feeder: &mut FrameFeeder<P::Requests>,
     writer: &mut Counted<W>,
     host: &mut H,
 ) -> Option<Ended>
     requires quiet { writer.old.faults ≡ 0 }
     requires open { (left : List ℕ) × (feeder.old ≡ Ok left) }
     requires ready { H.ready host.old }
-    ensures goes_on { GoesOnWith H.may host.old host.new W.contents writer.old writer.new
+    ensures goes_on { GoesOnWith P.wire H.may host.old host.new W.contents writer.old writer.new
         feeder.old feeder.new piece.now result }
-    ensures ends { EndsWith H.may host.old host.new W.contents writer.old writer.new feeder.old piece.now result }
+    ensures ends { EndsWith P.wire H.may host.old host.new W.contents writer.old writer.new feeder.old piece.now result }
     ensures midway { IfSome result IsMidway }
     ensures ready { H.ready host.new }
     ensures quiet { result ≢ Some ends.WriteFault → writer.new.faults ≡ 0 }
     ensures fault { result ≡ Some ends.WriteFault → 0 < writer.new.faults }
 {
     let mut requests = Vec::new(alloc);
-    let fault = match take_in(feeder, piece, &mut requests) {
+    let fault = match take_in::<P>(feeder, piece, &mut requests) {
         Ok(fault) => fault,
         Err(_e) => return Some(Ended::Memory),
     };
@@ -133,12 +134,16 @@ fn handle_piece<W: Write, H: Host>(
     }
     match fault {
         None => None,
-        Some(fault) => Some(refuse(alloc, fault, writer)),
+        Some(fault) => Some(refuse::<W, P>(alloc, fault, writer)),
     }
 }
 
 /// Ends a session whose reader is at its end.
-fn finish<W: Write>(alloc: Global, feeder: RequestFeeder, writer: &mut Counted<W>) -> Ended
+fn finish<W: Write, P: Protocol>(
+    alloc: Global,
+    feeder: FrameFeeder<P::Requests>,
+    writer: &mut Counted<W>,
+) -> Ended
     requires quiet { writer.old.faults ≡ 0 }
     ensures clean { feeder ≡ Ok [] → (result ≡ ends.Clean) × Wrote W.contents writer.old writer.new [] }
     ensures cut { EndsCut W.contents writer.old writer.new feeder result }
@@ -146,7 +151,7 @@ fn finish<W: Write>(alloc: Global, feeder: RequestFeeder, writer: &mut Counted<W
     ensures fault { result ≡ ends.WriteFault → 0 < writer.new.faults }
 {
     match feeder.finish() {
-        Err(Refusal::Form(fault)) => refuse(alloc, fault, writer),
+        Err(Refusal::Form(fault)) => refuse::<W, P>(alloc, fault, writer),
         _ => Ended::Clean,
     }
 }
@@ -155,7 +160,7 @@ fn finish<W: Write>(alloc: Global, feeder: RequestFeeder, writer: &mut Counted<W
 const MOST_READS: u64 = 4_294_967_296;
 
 /// The session, by its parts.
-fn run<R: Read, W: Write, H: Host>(
+fn run<R: Read, W: Write, P: Protocol, H: Host<Speaks = P>>(
     alloc: Global,
     reader: &mut Counted<R>,
     writer: &mut Counted<W>,
@@ -165,7 +170,7 @@ fn run<R: Read, W: Write, H: Host>(
     requires writer { writer.old.faults ≡ 0 }
     requires ready { H.ready host.old }
     // The bytes read, and what was done and written for them.
-    ensures transcript { Serves H.may host.old host.new R.remaining reader.old reader.new
+    ensures transcript { Serves P.wire H.may host.old host.new R.remaining reader.old reader.new
         W.contents writer.old writer.new result }
     ensures ready { H.ready host.new }
     // All bytes were read.
@@ -180,14 +185,14 @@ fn run<R: Read, W: Write, H: Host>(
     ensures writes { result ≢ ends.WriteFault → writer.new.faults ≡ 0 }
 {
     let _known = reader.calls();
-    let mut feeder = RequestFeeder::new(alloc);
+    let mut feeder: FrameFeeder<P::Requests> = FrameFeeder::new(alloc);
     let mut buffer = [0; 65_536];
     for _ in 0..MOST_READS {
         match reader.read(&mut buffer) {
             Err(_e) => return Ended::ReadFault,
             Ok(count) => {
                 if count == 0 {
-                    return finish(alloc, feeder, writer);
+                    return finish::<W, P>(alloc, feeder, writer);
                 }
                 if let Some(ended) = handle_piece(
                     alloc,
@@ -206,19 +211,19 @@ fn run<R: Read, W: Write, H: Host>(
 
 /// Answers the requests that a reader gives, one after the other, and writes the replies.
 ///
-/// `Clean` is an end of the input between requests. A form fault, an end inside a frame included, is told by
-/// `Refused` with its number, after the replies to the requests before it, and ends the session. A reply without
-/// an encoding is told as `Refused` with 2. The replies to the requests of one read are written together, or as soon as
-/// they have more than 65,536 bytes. Where memory for the session's own buffers runs out, what stands is written and
-/// nothing more, and the last requests may stay unanswered. A failed write, or one that takes 0 bytes, ends it, and so
-/// does a failed read, an interrupted one too; so does the read number 2^32, where it does not end otherwise. After
-/// a failed write, and where memory ran out, no request is executed any more. Of those that were executed the last
-/// may stay without a reply, and before it others, whose replies have together at most 65,536 bytes. The writer is
-/// never flushed: who hands in one that keeps bytes back flushes it after.
+/// `Clean` is an end of the input between requests. A form fault, an end inside a frame included, is told by `Refused`
+/// with its number, after the replies to the requests before it, and ends the session. A reply is written as
+/// `Protocol::put` says: of version 1, where it has no encoding, as `Refused` with 2. The replies to the requests of
+/// one read are written together, or as soon as they have more than 65,536 bytes. Where memory for the session's own
+/// buffers runs out, what stands is written and nothing more, and the last requests may stay unanswered. A failed
+/// write, or one that takes 0 bytes, ends it, and so does a failed read, an interrupted one too; so does the read
+/// number 2^32, where it does not end otherwise. After a failed write, and where memory ran out, no request is executed
+/// any more. Of those that were executed the last may stay without a reply, and before it others, whose replies have
+/// together at most 65,536 bytes. The writer is never flushed: who hands in one that keeps bytes back flushes it after.
 ///
 /// The host has to be such as can be asked (`Host::ready`), and is left so, as the last request that it answered left
 /// it. Cost: that of the answers, a copy of each reply, and a pass over what is read; up to 65,536 bytes are read at a time.
-pub fn serve<R: Read, W: Write, H: Host>(
+pub fn serve<R: Read, W: Write, P: Protocol, H: Host<Speaks = P>>(
     alloc: Global,
     reader: &mut Counted<R>,
     writer: &mut Counted<W>,
@@ -227,17 +232,15 @@ pub fn serve<R: Read, W: Write, H: Host>(
     requires reader { reader.old.faults ≡ 0 }
     requires writer { writer.old.faults ≡ 0 }
     requires ready { H.ready host.old }
-    // What was written is the transcript of what was read.
-    ensures whole { IsDone result →
-        ServesAll H.may host.old host.new R.remaining reader.old reader.new
-        W.contents writer.old writer.new }
-    // What was written is the transcript of a front of what was read, of whole requests or of all bytes: all of it, or
-    // cut off in its last replies. Nothing but that front was executed.
-    ensures stopped { IsStopped result →
-        ServesPart H.may host.old host.new R.remaining reader.old reader.new
-        W.contents writer.old writer.new }
+    // Where it ends clean or with a fault, what was written is the transcript of what was read.
+    ensures whole { ServesAll P.wire H.may host.old host.new R.remaining reader.old reader.new
+        W.contents writer.old writer.new result }
+    // Where memory ran out or a write failed, what was written is the transcript of a front of what was read, of whole
+    // requests or of all bytes: all of it, or cut off in its last replies. Nothing but that front was executed.
+    ensures stopped { ServesPart P.wire H.may host.old host.new R.remaining reader.old reader.new
+        W.contents writer.old writer.new result }
     // The bytes read, and what was done and written for them.
-    ensures transcript { Serves H.may host.old host.new R.remaining reader.old reader.new
+    ensures transcript { Serves P.wire H.may host.old host.new R.remaining reader.old reader.new
         W.contents writer.old writer.new result }
     ensures ready { H.ready host.new }
     // All bytes were read.
@@ -255,7 +258,7 @@ pub fn serve<R: Read, W: Write, H: Host>(
 }
 
 /// The session of bytes, by its parts.
-fn run_bytes<W: Write, H: Host>(
+fn run_bytes<W: Write, P: Protocol, H: Host<Speaks = P>>(
     alloc: Global,
     bytes: &[u8],
     writer: &mut Counted<W>,
@@ -263,22 +266,22 @@ fn run_bytes<W: Write, H: Host>(
 ) -> Ended
     requires writer { writer.old.faults ≡ 0 }
     requires ready { H.ready host.old }
-    ensures transcript { StepsBy H.may host.old host.new W.contents writer.old writer.new bytes.now (Ends result) }
+    ensures transcript { StepsBy H.may host.old host.new W.contents writer.old writer.new bytes.now (Ends P.wire result) }
     ensures ready { H.ready host.new }
     ensures write_fault { result ≡ ends.WriteFault → 0 < writer.new.faults }
     ensures writes { result ≢ ends.WriteFault → writer.new.faults ≡ 0 }
 {
-    let mut feeder = RequestFeeder::new(alloc);
+    let mut feeder: FrameFeeder<P::Requests> = FrameFeeder::new(alloc);
     match handle_piece(alloc, bytes, &mut feeder, writer, host) {
         Some(ended) => ended,
-        None => finish(alloc, feeder, writer),
+        None => finish::<W, P>(alloc, feeder, writer),
     }
 }
 
 /// Answers the requests that these bytes encode, as a session that `serve` has with a reader of them, and makes no
 /// buffer to read into. All bytes are one piece: the replies are written together, or as soon as they have more than
 /// 65,536 bytes. Cost: that of the answers, a copy of each reply, and a pass over the bytes.
-pub fn serve_bytes<W: Write, H: Host>(
+pub fn serve_bytes<W: Write, P: Protocol, H: Host<Speaks = P>>(
     alloc: Global,
     bytes: &[u8],
     writer: &mut Counted<W>,
@@ -286,13 +289,13 @@ pub fn serve_bytes<W: Write, H: Host>(
 ) -> Ended
     requires writer { writer.old.faults ≡ 0 }
     requires ready { H.ready host.old }
-    // What was written is the transcript of the bytes.
-    ensures whole { IsDone result →
-        WritesAll H.may host.old host.new W.contents writer.old writer.new bytes.now }
-    // What was written is the transcript of a front of the bytes, of whole requests or of all of them: all of it, or
-    // cut off in its last replies. Nothing but that front was executed.
-    ensures stopped { IsStopped result →
-        WritesPart H.may host.old host.new W.contents writer.old writer.new bytes.now }
+    // Where it ends clean or with a fault, what was written is the transcript of the bytes.
+    ensures whole { WritesAll P.wire H.may host.old host.new W.contents writer.old writer.new
+        bytes.now result }
+    // Where memory ran out or a write failed, what was written is the transcript of a front of the bytes, of whole
+    // requests or of all of them: all of it, or cut off in its last replies. Nothing but that front was executed.
+    ensures stopped { WritesPart P.wire H.may host.old host.new W.contents writer.old writer.new
+        bytes.now result }
     ensures ready { H.ready host.new }
     ensures write_fault { result ≡ ends.WriteFault → 0 < writer.new.faults }
     ensures writes { result ≢ ends.WriteFault → writer.new.faults ≡ 0 }

@@ -7,6 +7,7 @@ ghost use Rattle.hk_model.specs.Replica.Rules.{join_result, prune_result};
 ghost use Rattle.hk_session.specs.Steps.{since, fragment_reply, gathered, with_items, Counts, GivesAnswer, HandsOut, IsGiven, JoinsItems, MakesChange, Step, Takes};
 
 use crate::host::Host;
+use crate::version_one::VersionOne;
 use hk_delta::{Fragment, delta_since, fragment_of, join, whole_of};
 use hk_log::Item;
 use hk_model::Query;
@@ -156,6 +157,8 @@ impl StateHost {
 }
 
 impl Host for StateHost {
+    type Speaks = VersionOne;
+
     ghost may = { Step };
 
     fn answer(&mut self, request: Request) -> Reply {

@@ -5,7 +5,7 @@ ghost use Rattle.hk_wire.specs.declared.reply.Reply.{Reply};
 ghost use Rattle.hk_wire.specs.declared.reply.Reply.TheVariants.{Done};
 ghost use Rattle.hk_wire.specs.declared.request.Request.{Request};
 
-use hk_session::{Counted, Host, serve};
+use hk_session::{Counted, Host, VersionOne, serve};
 use hk_tests_values::bytes_of;
 use hk_wire::{Reply, Request};
 use std::alloc::Global;
@@ -18,6 +18,8 @@ struct Tally {
 }
 
 impl Host for Tally {
+    type Speaks = VersionOne;
+
     ghost may = { λ old request reply new. reply ≡ Done old.count };
 
     fn answer(&mut self, _request: Request) -> Reply {
