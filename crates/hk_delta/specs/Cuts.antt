@@ -31,9 +31,13 @@ end_above base died = if at_most base died then None else died
 abbrev pub left_above : ℕ → VersionKey → VersionValue → Option VersionValue
 left_above base v known = if_known (record { row = row_above base v.born known.row; died = end_above base known.died })
 
+-- the same as a list
+abbrev pub known_left : ℕ → VersionKey → VersionValue → List Known
+known_left base v known = entry_if v (left_above base v known)
+
 -- what is left of versions
 abbrev pub all_left : ℕ → List Known → List Known
-all_left base versions = flat_map (λ e. entry_if e.0 (left_above base e.0 e.1)) versions
+all_left base versions = flat_map (λ e. known_left base e.0 e.1) versions
 
 -- the list has each version of which anything is left above the base, with what is known of it, in rising order
 pub record HasLeft (f : FactsValue) (base : ℕ) (versions : List Known) : Type 0 where

@@ -3,11 +3,10 @@
 ghost use Rattle.std.specs.Prelude.{◌≡◌, ◌⊎◌, ◌≤◌, ◌++◌, map, OnOk, IfOk, IfErr};
 ghost use Rattle.hk_types.specs.declared.faults.Refusal.TheVariants.{Memory, TooOld as Old};
 ghost use Rattle.hk_model.specs.Replica.Fragments.{cut};
-ghost use Rattle.hk_store.specs.Facts.{entry_if};
 ghost use Rattle.hk_store.specs.Reads.{facts_of_content};
 ghost use Rattle.hk_store.specs.Versions.{borrowed};
 ghost use Rattle.hk_delta.specs.Cuts as spec;
-ghost use Rattle.hk_delta.specs.Cuts.{Cuts, CutsOf, IsAllLeft, IsLeftOf, left_above, all_left};
+ghost use Rattle.hk_delta.specs.Cuts.{Cuts, CutsOf, IsAllLeft, IsLeftOf, all_left, known_left};
 
 use crate::Fragment;
 use hk_log::Version;
@@ -49,7 +48,7 @@ fn push_left(
     version: &VersionKey,
     known: &Version,
 ) -> Result<(), AllocError>
-    ensures { OnOk result (facts.new.items ≡ facts.old.items ++ entry_if version.now (left_above base version.now known.now)) }
+    ensures { OnOk result (facts.new.items ≡ facts.old.items ++ known_left base version.now known.now) }
 {
     let row = row_above(alloc, base, version, known)?;
     if let Some(left) = Version::new(row, end_above(base, known)) {

@@ -1,26 +1,24 @@
 -- The facts of stored chains, and what becomes of them.
-use Rattle.std.proofs.Common.{◌≡◌, refl, sym, ap, ◌∙◌, subst, ℕ, zero, suc, ◌<◌, Bool, true, false, cond, Option, Some, None, Result, Ok, Err, OnOk, OnErr, IfErr, IfSome, IsSome, ◌⊎◌, inl, inr, nat_cmp, Bor, arith}
+use Rattle.std.proofs.Common.{◌≡◌, refl, sym, ap, ◌∙◌, subst, ℕ, zero, suc, ◌<◌, Bool, true, false, cond, Option, Some, None, Ok, IfSome, IsSome, nat_cmp, Bor, arith}
 use Rattle.std.specs.Option.{option_copied, option_and_then, option_map, IfNone}
 use Rattle.std.specs.Ordering.{eq_by_cmp}
 use Rattle.std.specs.FinMap as finmap
 use Rattle.hk_types.specs.Values.{RowValue}
 use Rattle.hk_types.specs.declared.version_key.VersionKey.{VersionKey}
-use Rattle.hk_types.specs.declared.faults.Refusal.{Refusal}
-use Rattle.hk_types.specs.declared.faults.Refusal.TheVariants.{Memory}
 use Rattle.hk_model.specs.History.Rows.{RowKey, row_key_cmp, row_key_of, version_key_cmp, version_of}
-use Rattle.hk_model.proofs.Replica.Maps.{row_key_total, row_key_same}
+use Rattle.hk_model.proofs.Replica.Maps.{row_key_total}
 use Rattle.hk_facts.specs.declared.fact.Fact.{Fact}
 use Rattle.hk_facts.specs.declared.fact.Part.{Part}
 use Rattle.hk_facts.specs.declared.fact.Part.TheVariants.{Row as RowPart, End as EndPart, Whole}
 use Rattle.hk_facts.specs.Facts.{row_of, died_of, without}
 use Rattle.hk_facts.specs.Chains.{ChainValue, chain_put, chain_forget}
 use Rattle.hk_facts.proofs.ForgottenParts.{nothing_left}
-use Rattle.hk_facts.proofs.StoredTrees.{is_there, set_at_same, IfErr_map}
+use Rattle.hk_facts.proofs.StoredTrees.{is_there, set_at_same}
 use Rattle.hk_slots.specs.SlotMaps.{Slots, map_of, IsWritten}
-use Rattle.hk_store.specs.Facts.{ChainsValue, stored_version, facts_of, no_facts, known_at, AreStored, facts_put, facts_without}
+use Rattle.hk_store.specs.Facts.{ChainsValue, stored_version, facts_of, no_facts, known_at, AreStored, facts_without}
 use Rattle.hk_store.specs.Indexed.{tag_lost, end_lost, tag_of_part, end_of_part}
 use Rattle.hk_store.proofs.StoredFacts.{get_row, get_end, known_stored, nothing_known}
-use Rattle.hk_store.proofs.ChangedChains.{IsChainOf, IsChanged, row_is, same_facts, put_some, facts_put_ok, facts_put_err, known_put, facts_forgotten, known_forgotten}
+use Rattle.hk_store.proofs.ChangedChains.{IsChainOf, IsChanged, row_is, same_facts, put_some, known_put, facts_forgotten, known_forgotten}
 
 abbrev pub seen : Slots RowKey ChainValue → ChainsValue
 seen m = map_of row_key_cmp m

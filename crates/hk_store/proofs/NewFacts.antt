@@ -1,24 +1,14 @@
 -- Facts that are added where nothing like them is known.
-use Rattle.std.proofs.Common.{◌≡◌, refl, sym, ap, ◌∙◌, Bool, true, false, not, Option, Some, None, Result, Ok, Err, OnOk, OnErr, IfOk, IsSome}
-use Rattle.std.specs.Bool.{OnTrue, OnFalse}
+use Rattle.std.proofs.Common.{◌≡◌, refl, sym, ap, ◌∙◌, Bool, true, false, not, Option, Some, None}
 use Rattle.std.specs.Option.{is_some}
-use Rattle.std.specs.Ordering.{nat_cmp}
-use Rattle.std.specs.FinMap as finmap
 use Rattle.hk_types.specs.declared.version_key.VersionKey.{VersionKey}
-use Rattle.hk_types.specs.declared.faults.Refusal.{Refusal}
-use Rattle.hk_types.specs.declared.faults.Refusal.TheVariants.{Memory}
 use Rattle.hk_log.specs.Versions.{VersionValue}
-use Rattle.hk_model.specs.History.Rows.{RowKey, row_key_cmp, row_key_of}
 use Rattle.hk_facts.specs.declared.fact.Fact.{Fact}
 use Rattle.hk_facts.specs.declared.fact.Fact.TheVariants.{Row, End}
 use Rattle.hk_facts.specs.Facts.{row_of, died_of}
-use Rattle.hk_facts.specs.Chains.{ChainValue, chain_put}
-use Rattle.hk_slots.specs.SlotMaps.{Slots, IsWritten}
-use Rattle.hk_store.specs.Facts.{ChainsValue, stored_version, facts_of, has_like, with_fact_at, AreStored}
+use Rattle.hk_store.specs.Facts.{ChainsValue, stored_version, facts_of, has_like, with_fact_at}
 use Rattle.hk_store.specs.Indexed.{IsNew}
 use Rattle.hk_store.proofs.StoredFacts.{get_row, get_end}
-use Rattle.hk_store.proofs.FactsByRow.{seen, Updates, chain_there, chain_absent, put_new, put_there, there_stored, write_back}
-use Rattle.hk_store.proofs.Indexed.{put_is}
 use Rattle.hk_store.proofs.JournalUndone.{added_again, ended_again}
 
 none_of : {X : Type 0} (o : Option X) → is_some o ≡ false → o ≡ None

@@ -1,5 +1,5 @@
 -- A fact that is put in a row's chain, which begins empty where there is none.
-use Rattle.std.proofs.Common.{◌≡◌, refl, sym, ap, ◌∙◌, subst, ◌<◌, Bool, true, false, not, cond, Option, Some, None, Result, Ok, Err, ◌⊎◌, inl, inr, nat_cmp, true≢false, is_eq, arith}
+use Rattle.std.proofs.Common.{◌≡◌, refl, sym, ap, ◌∙◌, subst, ◌<◌, Bool, true, false, not, cond, Option, Some, None, Ok, inl, inr, nat_cmp, true≢false, is_eq, arith}
 use Rattle.std.specs.Cmp.{tied_itself}
 use Rattle.std.specs.Bool.{OnTrue, OnFalse}
 use Rattle.std.specs.Option.{unwrap_or}
@@ -7,7 +7,6 @@ use Rattle.std.specs.Ordering.{eq_by_cmp}
 use Rattle.std.specs.FinMap as finmap
 use Rattle.hk_types.specs.declared.version_key.VersionKey.{VersionKey}
 use Rattle.hk_types.specs.declared.faults.Refusal.{Refusal}
-use Rattle.hk_types.specs.declared.faults.Refusal.TheVariants.{Memory}
 use Rattle.hk_log.specs.Versions.{VersionValue}
 use Rattle.hk_model.specs.History.Rows.{RowKey, row_key_cmp, row_key_of}
 use Rattle.hk_model.proofs.Replica.Maps.{row_key_total, row_key_same}

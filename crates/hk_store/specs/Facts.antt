@@ -68,6 +68,14 @@ pub record AreStored (chains : ChainsValue) : Type 0 where
   pub filled : (k : RowKey) (c : ChainValue) → finmap.get chains k ≡ Some c → 0 < finmap.len c
   pub known : AllKnown chains
 
+-- a row's chain that is not empty leaves the chains as they were
+abbrev pub KeepsFilled : ChainsValue → RowKey → ChainsValue → Type 0
+KeepsFilled old row new = (c : ChainValue) → finmap.get old row ≡ Some c → 0 < finmap.len c → new ≡ old
+
+-- an empty one goes
+abbrev pub LosesEmpty : ChainsValue → RowKey → ChainsValue → Type 0
+LosesEmpty old row new = finmap.get old row ≡ Some finmap.empty → new ≡ finmap.remove old row
+
 -- ---- what calls do
 
 -- what is known of a version

@@ -10,10 +10,10 @@ ghost use Rattle.hk_types.specs.declared.faults.Refusal.TheVariants.{Memory};
 ghost use Rattle.hk_types.specs.declared.version_key.VersionKey.{VersionKey};
 ghost use Rattle.hk_model.specs.History.Rows.{row_key_cmp};
 ghost use Rattle.hk_model.specs.Replica.Answers.{visible, rows_where};
-ghost use Rattle.hk_facts.specs.Chains.{ChainValue, row_at, chain_put, RefusesPut};
+ghost use Rattle.hk_facts.specs.Chains.{row_at, chain_put, RefusesPut};
 ghost use Rattle.hk_slots.specs.SlotMaps.{map_of};
 ghost use Rattle.hk_store.specs.Reads.{with_facts, count_rows, rows_ranged};
-ghost use Rattle.hk_store.specs.Facts.{IsChainAt, IsUnknown, no_facts, known_at, has_like, with_fact_at, facts_put, facts_without};
+ghost use Rattle.hk_store.specs.Facts.{KeepsFilled, LosesEmpty, IsChainAt, IsUnknown, no_facts, known_at, has_like, with_fact_at, facts_put, facts_without};
 ghost use Rattle.hk_store.specs.Indexed.{IsNew, tag_lost, end_lost, tag_of_part, end_of_part, RefusesUnknown};
 
 use crate::ranges::rows_in_range;
@@ -213,10 +213,8 @@ impl Chains {
 
 /// Takes away a row's chain where it is empty.
 fn remove_if_empty(chains: &mut SlotMap<RowKey, Chain>, row: RowKey)
-    ensures kept { (c : ChainValue) → finmap.get (map_of row_key_cmp chains.old) row ≡ Some c → 0 < finmap.len c
-        → map_of row_key_cmp chains.new ≡ map_of row_key_cmp chains.old }
-    ensures gone { finmap.get (map_of row_key_cmp chains.old) row ≡ Some finmap.empty
-        → map_of row_key_cmp chains.new ≡ finmap.remove (map_of row_key_cmp chains.old) row }
+    ensures kept { KeepsFilled (map_of row_key_cmp chains.old) row (map_of row_key_cmp chains.new) }
+    ensures gone { LosesEmpty (map_of row_key_cmp chains.old) row (map_of row_key_cmp chains.new) }
 {
     let Some(chain) = chains.get(row) else {
         return;
