@@ -1,11 +1,11 @@
 -- Messages of both versions: what is read is encoded so, and what is encoded so is read again.
-use Rattle.std.proofs.Common.{◌≡◌, ℕ, ◌⊎◌, inl, inr, ◌^◌, ◌<◌, ◌≤◌, Bool, true, false, cond, eqb, List, ◌∷◌, length, Result, Ok, Err, refl, sym, ap, subst, ◌∙◌}
+use Rattle.std.proofs.Common.{◌≡◌, ℕ, ◌⊎◌, inl, inr, ◌≤◌, Bool, true, false, cond, eqb, List, ◌∷◌, length, Result, Ok, Err, refl, sym, ap, subst, ◌∙◌}
 use Rattle.hk_types.specs.declared.faults.FormFault.{FormFault}
-use Rattle.hk_frames.specs.Fields.{IsBytes, ◌>>=◌, mapped, byte_at}
+use Rattle.hk_frames.specs.Fields.{IsBytes, mapped, byte_at}
 use Rattle.hk_frames.specs.Framing.{IsFormat}
 use Rattle.hk_frames.proofs.ReadingSteps.{bind_ok}
-use Rattle.hk_wire.specs.Requests.{request_rest as first_request, IsRequest as IsFirst}
-use Rattle.hk_wire.specs.Replies.{reply_rest as first_reply, IsReply as IsFirstReply}
+use Rattle.hk_wire.specs.Requests.{request_rest as first_request}
+use Rattle.hk_wire.specs.Replies.{reply_rest as first_reply}
 use Rattle.hk_wire.proofs.RequestsReadAgain.{requests_are_sound as first_sound}
 use Rattle.hk_wire.proofs.RepliesReadAgain.{replies_are_sound as first_replies_sound}
 use Rattle.hk_later.specs.Requests.{request_rest}

@@ -1,9 +1,8 @@
 -- What is encoded is read back, and a text is read in one way.
-use Rattle.std.proofs.Common.{◌≡◌, refl, sym, ap, subst, ◌∙◌, ℕ, List, [], ◌∷◌, ◌++◌, map, Result, Ok}
-use Rattle.std.proofs.lemmas.List.{map-append}
+use Rattle.std.proofs.Common.{◌≡◌, refl, sym, ap, subst, ◌∙◌, ℕ, List, [], ◌∷◌, map, Result, Ok}
 use Rattle.hk_types.specs.declared.faults.FormFault.{FormFault}
 use Rattle.hk_frames.specs.Framing.{Begins, AddsBy}
-use Rattle.hk_frames.proofs.FrameStream.{one_value_begins, one_reading_only, pieces_join_up}
+use Rattle.hk_frames.proofs.FrameStream.{one_value_begins, one_reading_only}
 use Rattle.hk_later.specs.declared.request.Request.{Request}
 use Rattle.hk_later.specs.declared.reply.Reply.{Reply}
 use Rattle.hk_later.specs.Replies.{ReplyValue, reply_seen, reply_at, reply_rest, reply_text, IsReply, ReadsReplies, AddsReplies, reply_format}

@@ -1,22 +1,21 @@
 -- Parts and heads: what is read is encoded so, and what is encoded so is read again.
-use Rattle.std.proofs.Common.{◌≡◌, ℕ, ◌+◌, ◌^◌, ◌<◌, ◌≤◌, Bool, true, false, not, cond, ◌&&◌, ◌||◌, ltb, is_some, eqb, List, [], ◌∷◌, ◌++◌, length, map, Option, Some, None, Ok, refl, sym, ap, subst, ◌∙◌, append_assoc, arith, All}
-use Rattle.std.specs.Int.{w16, w32, w64}
+use Rattle.std.proofs.Common.{◌≡◌, ℕ, ◌^◌, ◌<◌, ◌≤◌, true, not, ltb, is_some, List, ◌++◌, length, Option, Some, None, refl, sym, ap, subst, ◌∙◌, append_assoc, arith, All}
+use Rattle.std.specs.Int.{w32}
 use Rattle.std.specs.List.{flat_map, AllByRecursion}
 use Rattle.std.proofs.lemmas.Bool.{and_from, lt-ltb, ltb-true}
 use Rattle.hk_types.specs.Values.{ConfigValue}
-use Rattle.hk_types.specs.declared.version_key.VersionKey.{VersionKey}
 use Rattle.hk_types.specs.declared.faults.FormFault.{FormFault}
 use Rattle.hk_model.specs.Replica.Streams.{StreamContent}
 use Rattle.hk_model.specs.Replica.Lawful.{IsLawfulStream}
 use Rattle.hk_marks.specs.Seen.{IsNumbered}
 use Rattle.hk_fragment.specs.Parts.{Known, facts_fault}
-use Rattle.hk_frames.specs.Fields.{number, number_at, ◌>>=◌}
+use Rattle.hk_frames.specs.Fields.{number_at}
 use Rattle.hk_frames.proofs.ReadingSteps.{bind_ok, both as both_true}
-use Rattle.hk_wire.specs.Readers.{after, Chained}
+use Rattle.hk_wire.specs.Readers.{after}
 use Rattle.hk_wire.specs.FragmentSteps.{fact_list_at}
-use Rattle.hk_wire.specs.Fragments.{WireStream, wire_stream_of, stream_text, facts_text, fragment_head_at, streams_at, facts_at, streams_are_counted, is_counted, KnownFits, FragmentFits}
+use Rattle.hk_wire.specs.Fragments.{WireStream, stream_text, facts_text, fragment_head_at, streams_at, streams_are_counted, is_counted, KnownFits}
 use Rattle.hk_wire.proofs.ReadersAndEncodings.{IsField, same_field, made_field}
-use Rattle.hk_wire.proofs.FragmentsReadAgain.{after_field, FragmentIs, fragment_there, fragment_back, HeadFits as StartFits, AreStreams, AreFacts, head_text as start_text, head_field as start_field, streams_field, facts_field, base_there}
+use Rattle.hk_wire.proofs.FragmentsReadAgain.{after_field, FragmentIs, fragment_there, fragment_back, HeadFits as StartFits, AreStreams, head_text as start_text, head_field as start_field, streams_field, facts_field, base_there}
 use Rattle.hk_wire.proofs.FragmentFits.{streams_fit, facts_chained, least_same, count_same}
 use Rattle.hk_wire.proofs.FactsRead.{facts_stand}
 use Rattle.hk_parts.specs.Heads.{head_with}
@@ -100,9 +99,6 @@ pub part_fits : (facts : List Known) → part_keeps_rules facts ≡ true → All
 part_fits facts keeps fit =
     let b = both_true (ltb (length facts) (2 ^ 32)) (not (is_some (facts_fault 0 0 None facts))) keeps in
     facts_chained 0 0 None facts (none_there (facts_fault 0 0 None facts) b.1) fit
-
-pub part_is_short : (facts : List Known) → part_keeps_rules facts ≡ true → length facts < 2 ^ 32
-part_is_short facts keeps = ltb-true _ _ (both_true (ltb (length facts) (2 ^ 32)) (not (is_some (facts_fault 0 0 None facts))) keeps).0
 
 pub head_fits : (config : ConfigValue) (base horizon : ℕ) (streams : List StreamContent) → config.log < 2 ^ 64 → 1 ≤ config.streams → config.streams ≤ 64 → base ≤ 2 ^ 62 → horizon ≤ 2 ^ 62
     → IsHead config base horizon streams → All IsLawfulStream streams → All IsNumbered streams → HeadFits (wire_head_of (head_with config base horizon streams))

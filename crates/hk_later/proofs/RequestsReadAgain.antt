@@ -1,7 +1,7 @@
 -- Requests: what is read is encoded so, and what is encoded so is read again.
-use Rattle.std.proofs.Common.{◌≡◌, ℕ, ◌^◌, ◌<◌, ◌≤◌, Bool, true, false, not, ◌&&◌, eqb, leb, List, ◌∷◌, ◌++◌, length, Ok, refl, sym}
+use Rattle.std.proofs.Common.{◌≡◌, ℕ, ◌^◌, ◌<◌, ◌≤◌, true, false, not, ◌&&◌, eqb, leb, List, ◌∷◌, ◌++◌, length, Ok, refl, sym}
 use Rattle.std.specs.Int.{w16, w32, w64}
-use Rattle.std.proofs.lemmas.Bool.{and_from, not-false, not_from_true, not-true}
+use Rattle.std.proofs.lemmas.Bool.{and_from, not-true}
 use Rattle.hk_types.specs.declared.faults.FormFault.TheVariants.{BadNumber, BadCount}
 use Rattle.hk_model.specs.declared.query.Query.{Query}
 use Rattle.hk_fragment.specs.Parts.{Known}

@@ -1,5 +1,5 @@
 -- How long the encodings of pages and of what is told of streams are.
-use Rattle.std.proofs.Common.{◌≡◌, ℕ, ◌+◌, length, refl, arith}
+use Rattle.std.proofs.Common.{◌≡◌, ◌+◌, length, refl, arith}
 use Rattle.std.specs.List.{flat_map}
 use Rattle.std.proofs.lemmas.List.{length-append}
 use Rattle.hk_codec.proofs.Lengths.{len16, len32, len64}

@@ -1,12 +1,12 @@
 -- Pages and what is told of streams: what is read is encoded so, and what is encoded so is read again.
-use Rattle.std.proofs.Common.{◌≡◌, ℕ, zero, suc, ◌^◌, ◌<◌, ◌≤◌, Bool, true, false, ◌&&◌, ◌||◌, ltb, leb, List, [], ◌∷◌, ◌++◌, length, Option, Some, None, Ok, refl, sym, arith}
+use Rattle.std.proofs.Common.{◌≡◌, ℕ, zero, suc, ◌^◌, ◌<◌, ◌≤◌, Bool, true, false, ◌&&◌, ltb, leb, List, [], ◌∷◌, ◌++◌, length, Option, Some, None, Ok, refl, sym, arith}
 use Rattle.std.specs.Int.{w16, w64}
-use Rattle.std.specs.List.{flat_map, AllByRecursion}
+use Rattle.std.specs.List.{AllByRecursion}
 use Rattle.std.proofs.lemmas.Bool.{and_from, ltb-false, le-ltb, le-leb, leb-true}
 use Rattle.hk_types.specs.Values.{RowValue}
 use Rattle.hk_frames.specs.Fields.{IsBytes, number, number_at, list_at}
 use Rattle.hk_frames.proofs.ReadingSteps.{Takes, neither, both as both_true}
-use Rattle.hk_wire.specs.Readers.{both, by_kind, list_by, time_at, Chained}
+use Rattle.hk_wire.specs.Readers.{both, list_by, time_at, Chained}
 use Rattle.hk_wire.specs.Answers.{rows_text, rows_at}
 use Rattle.hk_wire.specs.Fragments.{stream_count_at, DiedFits}
 use Rattle.hk_wire.specs.Replies.{is_ops, ops_at, front_at}

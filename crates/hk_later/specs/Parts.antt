@@ -11,7 +11,7 @@ use Rattle.hk_fragment.specs.Parts.{Known, facts_fault}
 use Rattle.hk_frames.specs.Fields.{number}
 use Rattle.hk_parts.specs.Heads.{Head}
 use Rattle.hk_wire.specs.Readers.{Reader, after, mapped_value, Chained}
-use Rattle.hk_wire.specs.Fragments.{WireStream, WireFragment, wire_stream_of, stream_text, facts_text, fragment_head_at, streams_at, facts_at, streams_are_counted, FactFits, FragmentFits}
+use Rattle.hk_wire.specs.Fragments.{WireStream, WireFragment, wire_stream_of, stream_text, fragment_head_at, streams_at, facts_at, streams_are_counted, FactFits, FragmentFits}
 
 -- ---- heads
 

@@ -1,11 +1,10 @@
 //! Heads of fragments.
 
-ghost use Rattle.std.specs.Prelude.{◌≡◌, ◌≤◌, ◌++◌, ◌^◌, true, length, map, take, OnOk, OnErr, IfOk, IfErr};
+ghost use Rattle.std.specs.Prelude.{◌≡◌, ◌≤◌, ◌++◌, ◌^◌, true, length, take, OnOk, OnErr, IfOk, IfErr};
 ghost use Rattle.hk_types.specs.declared.faults.Refusal.TheVariants.{Memory};
 ghost use Rattle.hk_frames.specs.Fields.{GivesOrRunsOut};
 ghost use Rattle.hk_model.specs.Replica.Content.{least_closed};
 ghost use Rattle.hk_parts.specs.Heads.{head_of, head_with, of_facts};
-ghost use Rattle.hk_wire.specs.Fragments.{streams_are_counted, wire_stream_of};
 ghost use Rattle.hk_later.specs.Parts as spec;
 
 use hk_fragment::Fragment;
