@@ -4,8 +4,7 @@ use hk_frames::Format;
 use hk_types::FormFault;
 use std::alloc::AllocError;
 
-/// What a session speaks: which requests it reads, and how it writes their replies. The last four members are laws, of
-/// which each `impl` gives a proof.
+/// What a session speaks: which requests it reads, and how it writes their replies.
 pub trait Protocol {
     ghost use Rattle.std.specs.Prelude.{◌≡◌, ◌++◌, OnOk, OnErr};
     ghost use Rattle.hk_session.specs.Protocols.{AddsOnly, HasBytes, NeverCut, TellsFaults, WireFormat};
@@ -29,17 +28,14 @@ pub trait Protocol {
     fn refused(fault: FormFault) -> Self::Reply
         ensures { result ≡ wire.fault_reply fault };
 
-    /// What is read of a stream of frames of `Requests` is what the wire format says.
-    ghost adds_only: { AddsOnly wire Self.Requests.Adds };
-
-    /// A whole frame is never told to be cut off: the end of the stream alone is.
-    ghost never_cut: { NeverCut wire };
-
-    /// A fault of form is told as in version 1.
-    ghost tells_faults: { TellsFaults wire };
-
-    /// Something is written for each reply.
-    ghost has_bytes: { HasBytes wire };
+    /// Does nothing: what is read of a stream of frames of `Requests` is what the wire format says; a whole frame is never
+    /// told to be cut off, the end of the stream alone is; a fault of form is told as in version 1; and something is
+    /// written for each reply.
+    fn laws()
+        ensures adds_only { AddsOnly wire Self.Requests.Adds }
+        ensures never_cut { NeverCut wire }
+        ensures tells_faults { TellsFaults wire }
+        ensures has_bytes { HasBytes wire };
 }
 
 /// What is asked in a protocol.

@@ -55,6 +55,7 @@ fn answer_all<W: Write, P: Protocol, H: Host<Speaks = P>>(
     ensures quiet { result ≢ Some ends.WriteFault → writer.new.faults ≡ 0 }
     ensures fault { result ≡ Some ends.WriteFault → 0 < writer.new.faults }
 {
+    P::laws();
     let mut held = Vec::new(alloc);
     let mut rest = requests.into_iter();
     'requests: loop {
@@ -77,6 +78,7 @@ fn refuse<W: Write, P: Protocol>(alloc: Global, fault: FormFault, writer: &mut C
     ensures quiet { result ≢ ends.WriteFault → writer.new.faults ≡ 0 }
     ensures fault { result ≡ ends.WriteFault → 0 < writer.new.faults }
 {
+    P::laws();
     let mut held = Vec::new(alloc);
     let reply = P::refused(fault);
     match send::<W, P>(&reply, 0, &mut held, writer) {
@@ -96,6 +98,7 @@ fn take_in<P: Protocol>(
     ensures reads { TakesPiece P.wire feeder.old feeder.new piece.now requests.new.items result }
     ensures err { OnErr result ((feeder.new ≡ feeder.old) × (requests.new.items ≡ requests.old.items)) }
 {
+    P::laws();
     match feeder.feed(piece, requests) {
         Ok(()) => Ok(None),
         Err(why) => match why {
@@ -124,6 +127,7 @@ fn handle_piece<W: Write, P: Protocol, H: Host<Speaks = P>>(
     ensures quiet { result ≢ Some ends.WriteFault → writer.new.faults ≡ 0 }
     ensures fault { result ≡ Some ends.WriteFault → 0 < writer.new.faults }
 {
+    P::laws();
     let mut requests = Vec::new(alloc);
     let fault = match take_in::<P>(feeder, piece, &mut requests) {
         Ok(fault) => fault,
@@ -184,6 +188,7 @@ fn run<R: Read, W: Write, P: Protocol, H: Host<Speaks = P>>(
     ensures reads { result ≢ ends.ReadFault → reader.new.faults ≡ 0 }
     ensures writes { result ≢ ends.WriteFault → writer.new.faults ≡ 0 }
 {
+    P::laws();
     let _known = reader.calls();
     let mut feeder: FrameFeeder<P::Requests> = FrameFeeder::new(alloc);
     let mut buffer = [0; 65_536];
@@ -271,6 +276,7 @@ fn run_bytes<W: Write, P: Protocol, H: Host<Speaks = P>>(
     ensures write_fault { result ≡ ends.WriteFault → 0 < writer.new.faults }
     ensures writes { result ≢ ends.WriteFault → writer.new.faults ≡ 0 }
 {
+    P::laws();
     let mut feeder: FrameFeeder<P::Requests> = FrameFeeder::new(alloc);
     match handle_piece(alloc, bytes, &mut feeder, writer, host) {
         Some(ended) => ended,

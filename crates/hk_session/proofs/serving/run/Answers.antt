@@ -13,7 +13,7 @@ returns-then-count-eq0-clause-transcript g c =
     let read = c.in-Ok.ensures.bytes in (
       inv.2,
       none_read _ _ _ inv.2 c.read.new.buf c.in-Ok.count inv.3 read.0 c.if-count-eq0.true,
-      finished g.P.Protocol.wire g.met.P.Protocol.tells_faults g.H.Host.may c.args.host.now c.loop.host _ _ _ inv.2 inv.0 c.loop.feeder c.finish.result inv.4 inv.1 c.finish.ensures.clean c.finish.ensures.cut,
+      finished g.P.Protocol.wire c.laws.ensures.tells_faults g.H.Host.may c.args.host.now c.loop.host _ _ _ inv.2 inv.0 c.loop.feeder c.finish.result inv.4 inv.1 c.finish.ensures.clean c.finish.ensures.cut,
     )
 
 pub returns-in-Some-clause-transcript : goal.returns-in-Some-clause-transcript
