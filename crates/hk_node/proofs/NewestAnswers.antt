@@ -29,3 +29,7 @@ gives_page c t table low high most (Err why) sound gives = elim gives [
   | inl e ↦ inr (ap (λ (d : Bool). page_reply most (if d then Err Damaged else reply c.content t (Range table low high))) sound ∙ e)
   | inr m ↦ inl m.0
 ]
+
+pub memory_alone : {X : Type 0} (r : Result X Refusal) → IfErr r (λ why. why ≡ Memory) → IfErr r (λ why. (why ≡ Memory) ⊎ (why ≡ Damaged))
+memory_alone (Ok x) err = tt
+memory_alone (Err why) err = inl err
