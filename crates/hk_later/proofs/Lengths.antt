@@ -12,7 +12,9 @@ use Rattle.hk_wire.specs.Answers.{answer_text}
 use Rattle.hk_wire.specs.Refusals.{refusal_text}
 use Rattle.hk_wire.specs.Fragments.{stream_text, fact_text, facts_text}
 use Rattle.hk_later.specs.Parts.{WireHead, head_text}
-use Rattle.hk_later.specs.Told.{PageValue, page_text, StreamsValue, streams_text}
+use Rattle.hk_model.specs.Replica.Pages.{PageValue}
+use Rattle.hk_model.specs.Replica.StreamsTold.{StreamsValue}
+use Rattle.hk_later.specs.Told.{page_text, streams_text}
 use Rattle.hk_later.specs.Replies.{Done, Streams as StreamsTold, Latest, Page as PageOf, Part, LastPart, Added, Held, Refused, reply_rest}
 use Rattle.hk_later.specs.Requests.{Streams, AskLatest, Page, Whole, More, AddPart, JoinParts, MergeParts, Hold, Release, request_rest}
 

@@ -18,7 +18,9 @@ use Rattle.hk_wire.proofs.ReadersAndEncodings.{IsField, field64, time_field, bot
 use Rattle.hk_wire.proofs.RepliesReadAgain.{ops_field}
 use Rattle.hk_later.specs.Parts.{WireHead, head_text, head_at, head_is_counted, HeadFits, part_at, part_keeps_rules, PartFits}
 use Rattle.hk_later.specs.Requests.{positive_at}
-use Rattle.hk_later.specs.Told.{PageValue, page_at, StreamsValue, streams_at}
+use Rattle.hk_model.specs.Replica.Pages.{PageValue}
+use Rattle.hk_model.specs.Replica.StreamsTold.{StreamsValue}
+use Rattle.hk_later.specs.Told.{page_at, streams_at}
 use Rattle.hk_later.specs.Replies.{ReplyValue, Done, Streams, Latest, Page, Part, LastPart, Added, Held, Refused, reply_kind, reply_body, reply_rest, keeps_rules, ReplyFits, IsReply, refusal_at, part_reply_of, reply_of, reply_at}
 use Rattle.hk_later.proofs.PartsReadAgain.{head_field, part_field}
 use Rattle.hk_later.proofs.RequestsReadAgain.{positive_field}

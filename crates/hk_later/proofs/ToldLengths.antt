@@ -4,8 +4,10 @@ use Rattle.std.specs.List.{flat_map}
 use Rattle.std.proofs.lemmas.List.{length-append}
 use Rattle.hk_codec.proofs.Lengths.{len16, len32, len64}
 use Rattle.hk_wire.specs.Answers.{keyed_text}
-use Rattle.hk_later.specs.declared.told.StreamTold.{StreamTold}
-use Rattle.hk_later.specs.Told.{PageValue, page_text, StreamsValue, told_text, hold_fields, streams_text}
+use Rattle.hk_model.specs.declared.streams_told.StreamTold.{StreamTold}
+use Rattle.hk_model.specs.Replica.Pages.{PageValue}
+use Rattle.hk_model.specs.Replica.StreamsTold.{StreamsValue}
+use Rattle.hk_later.specs.Told.{page_text, told_text, hold_fields, streams_text}
 
 pub page_text_len : (page : PageValue) → length (page_text page) ≡ 5 + length (flat_map keyed_text page.rows)
 page_text_len page = simp (length-append, len32) (omega arith)

@@ -14,8 +14,10 @@ use Rattle.hk_wire.proofs.ReadersAndEncodings.{IsField, field64, time_field, bot
 use Rattle.hk_wire.proofs.AnswersReadAgain.{rows_field, AreRows}
 use Rattle.hk_wire.proofs.FragmentsReadAgain.{stream_count_field, StreamCount, or_false}
 use Rattle.hk_wire.proofs.RepliesReadAgain.{ops_field, front_field, AreTimes}
-use Rattle.hk_later.specs.declared.told.StreamTold.{StreamTold}
-use Rattle.hk_later.specs.Told.{PageValue, flag, flag_text, flag_of, flag_at, page_text, page_at, page_keeps_rules, PageFits, StreamsValue, told_text, hold_flag, hold_fields, hold_text, told_streams_text, streams_text, are_streams, streams_keep_rules, ToldFits, StreamsFit, told_at, no_place, told_list_at, told_streams_at, hold_of, hold_at, streams_at}
+use Rattle.hk_model.specs.declared.streams_told.StreamTold.{StreamTold}
+use Rattle.hk_model.specs.Replica.Pages.{PageValue}
+use Rattle.hk_model.specs.Replica.StreamsTold.{StreamsValue}
+use Rattle.hk_later.specs.Told.{flag, flag_text, flag_of, flag_at, page_text, page_at, page_keeps_rules, PageFits, told_text, hold_flag, hold_fields, hold_text, told_streams_text, streams_text, are_streams, streams_keep_rules, ToldFits, StreamsFit, told_at, no_place, told_list_at, told_streams_at, hold_of, hold_at, streams_at}
 
 -- ---- flags
 

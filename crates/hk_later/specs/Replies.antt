@@ -20,7 +20,9 @@ use Rattle.hk_later.specs.declared.reply.Reply.{Reply}
 use Rattle.hk_later.specs.declared.reply.Reply.TheVariants as replied
 use Rattle.hk_later.specs.Parts.{WireHead, wire_head_of, head_text, head_at, head_is_counted, HeadFits, part_at, part_keeps_rules, PartFits}
 use Rattle.hk_later.specs.Requests.{positive_at}
-use Rattle.hk_later.specs.Told.{PageValue, page_seen, page_text, page_at, page_keeps_rules, PageFits, StreamsValue, streams_seen, streams_text, streams_at, streams_keep_rules, StreamsFit}
+use Rattle.hk_model.specs.Replica.Pages.{PageValue, page_seen}
+use Rattle.hk_model.specs.Replica.StreamsTold.{StreamsValue, streams_seen}
+use Rattle.hk_later.specs.Told.{page_text, page_at, page_keeps_rules, PageFits, streams_text, streams_at, streams_keep_rules, StreamsFit}
 
 -- the value of a `Reply`
 pub data ReplyValue : Type 0 where

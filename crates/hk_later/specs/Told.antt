@@ -9,41 +9,9 @@ use Rattle.hk_wire.specs.Readers.{Reader, both, mapped_value, nothing, by_kind, 
 use Rattle.hk_wire.specs.Answers.{rows_text, rows_at, keys_rise, KeyedFits}
 use Rattle.hk_wire.specs.Fragments.{stream_count_at, DiedFits}
 use Rattle.hk_wire.specs.Replies.{is_ops, ops_at, front_at}
-use Rattle.hk_later.specs.declared.told.Page.{Page}
-use Rattle.hk_later.specs.declared.told.StreamTold.{StreamTold}
-use Rattle.hk_later.specs.declared.told.StreamsTold.{StreamsTold}
-
--- the value of a `Page`
-pub record PageValue : Type 0 where
-  pub rows : List (ℕ × RowValue)
-  pub more : Bool
-
--- the value that a `Page` has
-abbrev pub page_seen : Page → PageValue
-page_seen page = record { rows = page.rows.items; more = page.more }
-
--- the value of a `StreamsTold`
-pub record StreamsValue : Type 0 where
-  pub log : ℕ
-  pub horizon : ℕ
-  pub readable : ℕ
-  pub damaged : Bool
-  pub operations : ℕ
-  pub least_hold : Option ℕ
-  pub streams : List StreamTold
-
--- the value that a `StreamsTold` has
-abbrev pub streams_seen : StreamsTold → StreamsValue
-streams_seen told =
-    record {
-      log = told.log;
-      horizon = told.horizon;
-      readable = told.readable;
-      damaged = told.damaged;
-      operations = told.operations;
-      least_hold = told.least_hold;
-      streams = told.streams.items;
-    }
+use Rattle.hk_model.specs.Replica.Pages.{PageValue}
+use Rattle.hk_model.specs.Replica.StreamsTold.{StreamsValue}
+use Rattle.hk_model.specs.declared.streams_told.StreamTold.{StreamTold}
 
 -- ---- yes or no
 

@@ -24,4 +24,3 @@ pub use reply::{Reply, ReplyFeeder, ReplyFormat};
 pub use reply_encoding::encode_reply;
 pub use request::{Request, RequestFeeder, RequestFormat};
 pub use request_encoding::encode_request;
-pub use told::{Page, StreamTold, StreamsTold};

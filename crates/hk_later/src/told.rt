@@ -3,57 +3,19 @@
 ghost use Rattle.std.specs.Prelude.{◌≡◌, ◌≤◌, ◌*◌, ◌^◌, ◌<◌, ◌++◌, None, true, All, length, take, OnOk, OnErr};
 ghost use Rattle.std.specs.List.{flat_map};
 ghost use Rattle.hk_frames.specs.Fields.{GivesValue, GivesOrRunsOut};
+ghost use Rattle.hk_model.specs.Replica.Pages.{page_seen};
+ghost use Rattle.hk_model.specs.Replica.StreamsTold.{streams_seen};
 ghost use Rattle.hk_wire.specs.Fragments.{DiedFits, stream_count_at};
 ghost use Rattle.hk_wire.specs.Replies.{is_ops};
 ghost use Rattle.hk_later.specs.Told as spec;
 
 use hk_frames::{Cursor, ReadError, put_u16, put_u64};
-use hk_types::{FormFault, Key, LAST_TIME, Row, Time};
+use hk_model::{Page, StreamTold, StreamsTold};
+use hk_types::{FormFault, LAST_TIME, Time};
 use hk_wire::fields::{
     keys_rise, number_len, put_rows, read_front, read_ops, read_rows, read_time, rows_len, time_len,
 };
 use std::alloc::{AllocError, Global};
-
-/// A page of the rows of a range.
-#[derive(Debug, PartialEq, Eq, Drop)]
-pub struct Page {
-    /// The rows with their keys, by rising key.
-    pub rows: Vec<(Key, Row)>,
-    /// Whether the range has more rows after these.
-    pub more: bool,
-}
-
-/// What is told of one stream: how much is known of it, and not which numbers and marks.
-#[derive(Clone, Copy, Debug, PartialEq, Eq)]
-pub struct StreamTold {
-    /// The greatest number up to which all entries are taken.
-    pub prefix: u64,
-    /// The time up to which the stream is closed.
-    pub closed: Time,
-    /// How many numbers above the prefix are taken.
-    pub extra: u64,
-    /// How many marks wait.
-    pub waiting: u64,
-}
-
-/// How far a node is, and each of its streams.
-#[derive(Debug, PartialEq, Eq, Drop)]
-pub struct StreamsTold {
-    /// The id of the log.
-    pub log: u64,
-    /// The horizon: the least time that can be read.
-    pub horizon: Time,
-    /// The readable mark: the greatest time that can be read.
-    pub readable: Time,
-    /// Whether the node met a conflict, so that it answers nothing else.
-    pub damaged: bool,
-    /// How many operations the node made.
-    pub operations: u64,
-    /// The least time that is held, where a hold stands.
-    pub least_hold: Option<Time>,
-    /// The streams, by their numbers.
-    pub streams: Vec<StreamTold>,
-}
 
 /// The bytes of what is told of a stream.
 const TOLD_BYTES: usize = 32;
@@ -75,7 +37,7 @@ fn read_flag(cursor: &mut Cursor) -> Result<bool, FormFault>
 /// Reads a page.
 #[tactic(auto, unfolding(crate::specs::Told::page_at))]
 pub(crate) fn read_page(alloc: Global, cursor: &mut Cursor) -> Result<Page, ReadError>
-    ensures { GivesOrRunsOut (λ x. (spec.page_seen x, cursor.new)) result (spec.page_at cursor.old) }
+    ensures { GivesOrRunsOut (λ x. (page_seen x, cursor.new)) result (spec.page_at cursor.old) }
 {
     let more = read_flag(cursor)?;
     let rows = read_rows(alloc, cursor)?;
@@ -151,7 +113,7 @@ fn read_hold(cursor: &mut Cursor) -> Result<Option<Time>, FormFault>
 /// Reads what is told of streams.
 #[tactic(auto, unfolding(crate::specs::Told::streams_at))]
 pub(crate) fn read_streams(alloc: Global, cursor: &mut Cursor) -> Result<StreamsTold, ReadError>
-    ensures { GivesOrRunsOut (λ x. (spec.streams_seen x, cursor.new)) result (spec.streams_at cursor.old) }
+    ensures { GivesOrRunsOut (λ x. (streams_seen x, cursor.new)) result (spec.streams_at cursor.old) }
 {
     let log = cursor.u64()?;
     let front = read_front(cursor)?;
@@ -181,14 +143,14 @@ pub(crate) fn is_ops(ops: u64) -> bool
 
 /// Whether the rows of a page can be counted and their keys rise strictly.
 pub(crate) fn keeps_page_rules(page: &Page) -> bool
-    ensures { result ≡ spec.page_keeps_rules (spec.page_seen page.now) }
+    ensures { result ≡ spec.page_keeps_rules (page_seen page.now) }
 {
     page.rows.len() < 4_294_967_296 && keys_rise(&page.rows)
 }
 
 /// Whether what is told of streams keeps its rules.
 pub(crate) fn keeps_streams_rules(told: &StreamsTold) -> bool
-    ensures { result ≡ spec.streams_keep_rules (spec.streams_seen told.now) }
+    ensures { result ≡ spec.streams_keep_rules (streams_seen told.now) }
 {
     let count = told.streams.len();
     told.horizon.number() <= told.readable.number()
@@ -200,10 +162,10 @@ pub(crate) fn keeps_streams_rules(told: &StreamsTold) -> bool
 /// How many bytes a page that keeps its rules has.
 #[tactic(auto, using(crate::proofs::ToldLengths::page_text_len))]
 pub(crate) fn page_len(page: &Page) -> u64
-    requires { spec.page_keeps_rules (spec.page_seen page.now) ≡ true }
-    ensures len { result ≡ length (spec.page_text (spec.page_seen page.now)) }
+    requires { spec.page_keeps_rules (page_seen page.now) ≡ true }
+    ensures len { result ≡ length (spec.page_text (page_seen page.now)) }
     ensures bound { result ≤ 2 ^ 45 }
-    ensures fits { spec.PageFits (spec.page_seen page.now) }
+    ensures fits { spec.PageFits (page_seen page.now) }
 {
     5 + rows_len(&page.rows)
 }
@@ -251,10 +213,10 @@ fn told_streams_len(streams: &[StreamTold]) -> u64
 /// How many bytes what is told of streams has, where it keeps its rules.
 #[tactic(auto, using(crate::proofs::ToldLengths::streams_text_len))]
 pub(crate) fn streams_len(told: &StreamsTold) -> u64
-    requires { spec.streams_keep_rules (spec.streams_seen told.now) ≡ true }
-    ensures len { result ≡ length (spec.streams_text (spec.streams_seen told.now)) }
+    requires { spec.streams_keep_rules (streams_seen told.now) ≡ true }
+    ensures len { result ≡ length (spec.streams_text (streams_seen told.now)) }
     ensures bound { result ≤ 2 ^ 12 }
-    ensures fits { spec.StreamsFit (spec.streams_seen told.now) }
+    ensures fits { spec.StreamsFit (streams_seen told.now) }
 {
     let front = time_len(told.horizon) + time_len(told.readable);
     let hold = hold_len(told.least_hold);
@@ -276,8 +238,8 @@ fn put_flag(out: &mut Vec<u8>, yes: bool) -> Result<(), AllocError>
 /// Adds a page's bytes.
 #[tactic(auto, using(std::proofs::Common::append_assoc, hk_frames::proofs::Prefix::kept_all, hk_frames::proofs::Prefix::kept_before, hk_frames::proofs::Prefix::kept_both))]
 pub(crate) fn put_page(out: &mut Vec<u8>, page: &Page) -> Result<(), AllocError>
-    requires { spec.page_keeps_rules (spec.page_seen page.now) ≡ true }
-    ensures ok { OnOk result (out.new.items ≡ out.old.items ++ spec.page_text (spec.page_seen page.now)) }
+    requires { spec.page_keeps_rules (page_seen page.now) ≡ true }
+    ensures ok { OnOk result (out.new.items ≡ out.old.items ++ spec.page_text (page_seen page.now)) }
     ensures kept { OnErr result (take (length out.old.items) out.new.items ≡ out.old.items) }
 {
     put_flag(out, page.more)?;
@@ -331,8 +293,8 @@ fn put_hold(out: &mut Vec<u8>, hold: Option<Time>) -> Result<(), AllocError>
 /// Adds what is told of streams.
 #[tactic(auto, using(std::proofs::Common::append_assoc, hk_frames::proofs::Prefix::kept_all, hk_frames::proofs::Prefix::kept_before, hk_frames::proofs::Prefix::kept_both), unfolding(crate::specs::Told::streams_text))]
 pub(crate) fn put_streams(out: &mut Vec<u8>, told: &StreamsTold) -> Result<(), AllocError>
-    requires { spec.streams_keep_rules (spec.streams_seen told.now) ≡ true }
-    ensures ok { OnOk result (out.new.items ≡ out.old.items ++ spec.streams_text (spec.streams_seen told.now)) }
+    requires { spec.streams_keep_rules (streams_seen told.now) ≡ true }
+    ensures ok { OnOk result (out.new.items ≡ out.old.items ++ spec.streams_text (streams_seen told.now)) }
     ensures kept { OnErr result (take (length out.old.items) out.new.items ≡ out.old.items) }
 {
     put_u64(out, told.log)?;

@@ -273,11 +273,7 @@ fn room_in<K, V>(entries: &mut Slab<(K, V)>) -> Result<Slot, AllocError>
 }
 
 /// The slot of a key. A key that is not there gets this one. The only error is out of memory, for such a key.
-fn slot_or<K: Key>(
-    slots: &mut BTreeMap<K, Slot>,
-    key: K,
-    vacant: Slot,
-) -> Result<Slot, AllocError>
+fn slot_or<K: Key>(slots: &mut BTreeMap<K, Slot>, key: K, vacant: Slot) -> Result<Slot, AllocError>
     ensures slot { IfOk result (λ slot. slot ≡ unwrap_or (tree.get K.cmp slots.old key) vacant) }
     ensures updates { IfOk result (λ slot. tree.Updates K.cmp slots.old slots.new key (Some slot)) }
     ensures ordered { OnOk result (tree.IsOrdered K.cmp slots.new) }

@@ -120,10 +120,10 @@ module _ (m n : Slots RowKey ChainValue) (k : RowKey) (v : VersionKey) (at : k �
         by None e =
             gone (here_now ∙ ap Some (same ∙ is ∙ ap (λ x. unwrap_or x finmap.empty) e))
             ∙ finmap.same_map row_key_total row_key_same (finmap.remove (seen n) k) (seen m) (λ q.
-                finmap.get-remove row_key_total (seen n) k q
-                ∙ ap (λ x. cond (eq_by_cmp row_key_cmp q k) None (finmap.get x q)) u
-                ∙ ap (cond (eq_by_cmp row_key_cmp q k) None) (finmap.get-insert row_key_total (seen m) k d q)
-                ∙ took_out e q (eq_by_cmp row_key_cmp q k) refl)
+            finmap.get-remove row_key_total (seen n) k q
+            ∙ ap (λ x. cond (eq_by_cmp row_key_cmp q k) None (finmap.get x q)) u
+            ∙ ap (cond (eq_by_cmp row_key_cmp q k) None) (finmap.get-insert row_key_total (seen m) k d q)
+            ∙ took_out e q (eq_by_cmp row_key_cmp q k) refl)
         by (Some x) e =
             let itself : d ≡ x = same ∙ is ∙ ap (λ o. unwrap_or o finmap.empty) e in
             kept d here_now (subst (λ (y : ChainValue). 0 < finmap.len y) (sym itself) (stored.filled k x e)) ∙ written_again x e same

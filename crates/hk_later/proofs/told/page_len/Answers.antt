@@ -2,7 +2,7 @@ use Rattle.std.proofs.Common.{◌≡◌, All, ap, arith, length, subst}
 use Rattle.std.specs.List.{flat_map}
 use Rattle.std.proofs.lemmas.List.Elements.{recursion_from_All}
 use Rattle.hk_wire.specs.Answers.{keyed_text, KeyedFits}
-use Rattle.hk_later.specs.Told.{page_seen}
+use Rattle.hk_model.specs.Replica.Pages.{page_seen}
 use Rattle.hk_later.proofs.ToldLengths.{page_text_len}
 use Rattle.hk_later.proofs.told.page_len.Goals as goal
 

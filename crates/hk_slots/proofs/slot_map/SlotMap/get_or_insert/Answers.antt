@@ -30,11 +30,14 @@ returns g c =
     let is = ap (map_of g.K.Ord.cmp) c.self.view_is ∙ c.in_ok-slot.ensures.map in
     let old = map_of g.K.Ord.cmp c.args.self.now in
     let here = ap (λ m. finmap.get m c.args.key) is ∙ new_here g.met.K.Ord.total g.met.K.Key.same old c.args.key c.args.fresh in
-    let value = value_at g.met.K.Ord.total g.met.K.Key.same t u c.self.invariant c.args.key c.in_ok-slot.slot at _ (ap (slab.get u) (sym c.index.ensures) ∙ c.index_mut-entry.ensures.value) in
-    (
-      (refl, λ w some.
-          (written_is g.met.K.Ord.total g.met.K.Key.same t u c.args.key c.in_ok-slot.slot c.index.result c.index_mut-entry.result.now c.self.invariant at c.index.ensures c.index_mut-entry.ensures.value w).map
-          ∙ ap (λ m. finmap.insert m c.args.key w) is
-          ∙ written_new g.met.K.Ord.total g.met.K.Key.same old c.args.key c.args.fresh w, tt),
+    let value = value_at g.met.K.Ord.total g.met.K.Key.same t u c.self.invariant c.args.key c.in_ok-slot.slot at _ (ap (slab.get u) (sym c.index.ensures) ∙ c.index_mut-entry.ensures.value) in (
+      (
+        refl,
+        λ w some.
+            (written_is g.met.K.Ord.total g.met.K.Key.same t u c.args.key c.in_ok-slot.slot c.index.result c.index_mut-entry.result.now c.self.invariant at c.index.ensures c.index_mut-entry.ensures.value w).map
+            ∙ ap (λ m. finmap.insert m c.args.key w) is
+            ∙ written_new g.met.K.Ord.total g.met.K.Key.same old c.args.key c.args.fresh w,
+        tt,
+      ),
       record { writes_back = tt; value = same_some _ _ (sym value ∙ here); absent = tt },
     )

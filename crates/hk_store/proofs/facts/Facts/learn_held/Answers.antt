@@ -36,8 +36,8 @@ returns-in_err-learn_version-clause-err c =
     let all = c.walk-version-items in
     let parted = sym c.into_iter-version-iterator.ensures.into_iter_gives ∙ one_more_taken c.into_iter-version-iterator.result l.yielded l.version-iterator c.next.new.self c.next.result (c.in-Some.version, c.in-Some.known) l.yielded_by c.in-Some.is c.next.ensures.steps in
     refused_on (RefusesTold f g) c.from_residual.result c.in_err-learn_version.field-0.0 c.from_residual.ensures.1
-      (refused_told f l.self g all.result (map borrowed l.yielded) c.next.new.self e c.in_err-learn_version.field-0.0 all.ensures parted l.invariant.agrees
-      (conflicts_as_before c.args.coming.now.old c.args.coming.now.horizon f l.self all.result (map borrowed l.yielded) c.next.new.self e all.ensures.rising parted l.invariant.facts) c.in_err-learn_version.ensures.err)
+    (refused_told f l.self g all.result (map borrowed l.yielded) c.next.new.self e c.in_err-learn_version.field-0.0 all.ensures parted l.invariant.agrees
+    (conflicts_as_before c.args.coming.now.old c.args.coming.now.horizon f l.self all.result (map borrowed l.yielded) c.next.new.self e all.ensures.rising parted l.invariant.facts) c.in_err-learn_version.ensures.err)
 
 pub returns-clause-ok : goal.returns-clause-ok
 returns-clause-ok c =

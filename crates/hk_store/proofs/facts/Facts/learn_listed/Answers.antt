@@ -35,8 +35,8 @@ returns-in_err-learn_version-clause-err c =
     let e = c.loop-version-item.result in
     let parted = walked all l.version-index e c.loop-version-item.is (omega arith) in
     refused_on (RefusesTold f (told_by all)) c.from_residual.result c.in_err-learn_version.field-0.0 c.from_residual.ensures.1
-      (refused_told f l.self (told_by all) all _ _ e c.in_err-learn_version.field-0.0 c.requires.told parted l.invariant.agrees
-      (conflicts_as_before c.args.coming.now.old c.args.coming.now.horizon f l.self all _ _ e c.requires.told.rising parted l.invariant.facts) c.in_err-learn_version.ensures.err)
+    (refused_told f l.self (told_by all) all _ _ e c.in_err-learn_version.field-0.0 c.requires.told parted l.invariant.agrees
+    (conflicts_as_before c.args.coming.now.old c.args.coming.now.horizon f l.self all _ _ e c.requires.told.rising parted l.invariant.facts) c.in_err-learn_version.ensures.err)
 
 pub returns-clause-ok : goal.returns-clause-ok
 returns-clause-ok c =
