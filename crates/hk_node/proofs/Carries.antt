@@ -107,7 +107,7 @@ untimed t (Ok a) told e = (cc, cc)
 untimed t (Err why) told e = absurd cc
 
 pub primary_answers_latest : (ops : List Op) (q : Query) (result : Result (ℕ × Answer) Refusal) → is_legal ops ≡ true → GivesSeen timed_seen (node_latest (replay ops) q) result → IsLatestOfPrimary ops q result
-primary_answers_latest ops q (Err why) legal gives history items h is b = tt
+primary_answers_latest ops q (Err why) legal gives = λ history items h is b. tt
 primary_answers_latest ops q (Ok told) legal gives =
     let t = readable (replay ops).content in
     let same = untimed t (node_reply (replay ops) t q) (timed_seen told) gives in

@@ -28,6 +28,8 @@ pub fn page(
 {
     match time_refusal(state, time) {
         Some(why) => Err(why),
-        None => state.facts().page(alloc, table, low, high, time, most, PAGE_BYTES),
+        None => state
+            .facts()
+            .page(alloc, table, low, high, time, most, PAGE_BYTES),
     }
 }

@@ -61,11 +61,7 @@ pub fn ask(
 ///
 /// The only refusal is `Memory`; a `Count` takes none, nor does a row that is not there. Cost: that of `ask`, and O(s),
 /// s streams.
-pub fn latest(
-    alloc: Global,
-    state: &ReplicaState,
-    query: &Query,
-) -> Result<(Time, Answer), Refusal>
+pub fn latest(alloc: Global, state: &ReplicaState, query: &Query) -> Result<(Time, Answer), Refusal>
     ensures time { IfOk result (λ told. told.0 ≡ readable state.now) }
     ensures answer { IfOk result (λ told. reply state.now told.0 query.now ≡ Ok (answer_seen told.1)) }
     ensures err { IfErr result (λ why. why ≡ Memory) }
