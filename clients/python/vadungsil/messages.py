@@ -113,7 +113,7 @@ def encode_reply(reply: Reply) -> bytes:
 
 
 def _is_told(number: int) -> bool:
-    return number in REASONS and not 30 <= number <= 36 and number <= 90
+    return number in REASONS and not 30 <= number <= 36 and not 46 <= number <= 47 and number <= 90
 
 
 # ---------------------------------------------------------------- reading
