@@ -1,3 +1,4 @@
+pub mod Bodies
 pub mod Values
 pub mod Numbers
 pub mod FaultNumbers

@@ -1,9 +1,11 @@
 //! A row.
 
-ghost use Rattle.std.specs.Prelude.{◌≡◌, ◌≤◌, ◌<◌, length, IfOk, MatchResult};
+ghost use Rattle.std.specs.Prelude.{◌≡◌, ◌≤◌, ◌<◌, length, IfErr, IfOk, OnOk, MatchResult};
+ghost use Rattle.hk_types.specs.Bodies.{IsRefusedBody};
 ghost use Rattle.hk_types.specs.declared.faults.FormFault.TheVariants.{BadBody};
 
-use crate::faults::FormFault;
+use crate::body::Body;
+use crate::faults::{FormFault, Refusal};
 use crate::tag::Tag;
 use std::alloc::{AllocError, Global};
 use std::marker::Model;
@@ -15,18 +17,15 @@ pub const MOST_BODY_BYTES: usize = 4_096;
 #[derive(Debug, Drop)]
 pub struct Row {
     tag: Tag,
-    body: Vec<u8>,
+    body: Body,
 }
 
 impl Model for Row {
-    ghost use Rattle.std.specs.Prelude.{◌≤◌, length};
     ghost use Rattle.hk_types.specs.Values.{RowValue};
 
     ghost Value = { RowValue };
 
-    ghost view = { λ a. record { tag = a.tag; body = a.body.items } };
-
-    ghost invariant = { λ a. length a.body.items ≤ 4096 };
+    ghost view = { λ a. record { tag = a.tag; body = a.body } };
 }
 
 impl PartialEq for Row {
@@ -38,7 +37,7 @@ impl PartialEq for Row {
     ghost laws = { same_row_per };
 
     fn eq(&self, other: &Row) -> bool {
-        self.tag == other.tag && self.body == other.body
+        self.tag == other.tag && self.body() == other.body()
     }
 }
 
@@ -59,6 +58,24 @@ impl Row {
         if body.len() > MOST_BODY_BYTES {
             return Err((body, FormFault::BadBody));
         }
+        Ok(Row {
+            tag,
+            body: Body::of_list(body),
+        })
+    }
+
+    /// The row of this tag and a copy of these bytes, which copies of the row share.
+    ///
+    /// A body above 4,096 bytes is refused `BadBody`, and then `Memory` comes where there is none. Cost: O(n), n bytes.
+    pub fn of_bytes(alloc: Global, tag: Tag, body: &[u8]) -> Result<Row, Refusal>
+        ensures ok { IfOk result (λ row. row ≡ record { tag = tag; body = body.now }) }
+        ensures bound { OnOk result (length body.now ≤ 4096) }
+        ensures err { IfErr result (λ why. IsRefusedBody body.now why) }
+    {
+        if body.len() > MOST_BODY_BYTES {
+            return Err(Refusal::Form(FormFault::BadBody));
+        }
+        let body = Body::of_bytes(alloc, body)?;
         Ok(Row { tag, body })
     }
 
@@ -74,14 +91,15 @@ impl Row {
         ensures value { result.now ≡ self.now.body }
         ensures bound { length result.now ≤ 4096 }
     {
-        self.body.as_slice()
+        self.body.bytes()
     }
 
-    /// The same row again, its body copied. The only error is out of memory. Cost: O(n), n bytes of the body.
+    /// The same row again. The only error is out of memory. Cost: O(1) where copies share the body, as those of
+    /// `of_bytes` and of any copy do, else O(n), n bytes of the body.
     pub fn copy(&self, alloc: Global) -> Result<Row, AllocError>
         ensures { IfOk result (λ row. row ≡ self.now) }
     {
-        let body = Vec::from_slice(alloc, &self.body)?;
+        let body = self.body.copy(alloc)?;
         Ok(Row {
             tag: self.tag,
             body,
