@@ -1,6 +1,6 @@
 //! A row.
 
-ghost use Rattle.std.specs.Prelude.{◌≡◌, ◌≤◌, ◌<◌, length, IfErr, IfOk, OnOk, MatchResult};
+ghost use Rattle.std.specs.Prelude.{◌≡◌, ◌≤◌, ◌<◌, nat_le, length, IfErr, IfOk, OnOk, MatchResult};
 ghost use Rattle.hk_types.specs.Bodies.{IsRefusedBody};
 ghost use Rattle.hk_types.specs.declared.faults.FormFault.TheVariants.{BadBody};
 
@@ -55,7 +55,7 @@ impl Row {
         ensures exact { MatchResult result (λ _. length body.items ≤ 4096)
             (λ e. (4096 < length body.items) × (e.0 ≡ body) × (e.1 ≡ BadBody)) }
     {
-        if body.len() > MOST_BODY_BYTES {
+        if !is_fit(&body) {
             return Err((body, FormFault::BadBody));
         }
         Ok(Row {
@@ -72,7 +72,7 @@ impl Row {
         ensures bound { OnOk result (length body.now ≤ 4096) }
         ensures err { IfErr result (λ why. IsRefusedBody body.now why) }
     {
-        if body.len() > MOST_BODY_BYTES {
+        if !is_fit(body) {
             return Err(Refusal::Form(FormFault::BadBody));
         }
         let body = Body::of_bytes(alloc, body)?;
@@ -105,4 +105,11 @@ impl Row {
             body,
         })
     }
+}
+
+/// Whether bytes are no more than a body has.
+fn is_fit(body: &[u8]) -> bool
+    ensures { result ≡ nat_le (length body.now) 4096 }
+{
+    body.len() <= MOST_BODY_BYTES
 }
