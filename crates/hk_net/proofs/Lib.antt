@@ -1,3 +1,5 @@
+mod BothNeverCut
+mod BothLaws
 mod JoinRequests
 mod Seen
 mod GuardedReplies

@@ -1,3 +1,4 @@
+pub mod BothVersions
 pub mod Faults
 pub mod Guarded
 pub mod Replying

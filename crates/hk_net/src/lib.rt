@@ -4,6 +4,7 @@
 //! links and runs a session of `hk_session` on each. What crosses threads and sockets is shown by tests.
 #![tactic(auto)]
 
+mod both_versions;
 mod fault;
 mod frame_watch;
 mod guarded_host;
@@ -15,6 +16,7 @@ mod seat_host;
 mod seats;
 mod staying;
 
+pub use both_versions::{BothVersions, both_versions_law};
 pub use fault::NetFault;
 pub use guarded_host::GuardedHost;
 pub use link_events::{LinkEvent, Watch};
