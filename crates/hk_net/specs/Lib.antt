@@ -3,3 +3,6 @@ pub mod Faults
 pub mod Guarded
 pub mod Replying
 pub mod Serving
+pub mod NodeSides
+pub mod LinkStates
+pub mod LaterReplying

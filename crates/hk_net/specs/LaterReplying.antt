@@ -1,0 +1,195 @@
+-- What a host that speaks both versions may reply, over a host for version 1.
+use Rattle.std.specs.Prelude.{◌≡◌, ◌⊎◌, ℕ, ◌-◌, ◌++◌, ◌∷◌, [], true, false, nat_lt, if◌then◌else◌, List, length, take, filter, Option, Some, None, Result, Ok, Err, MatchOption}
+use mathlib.Core.List.{IsPrefix}
+use Rattle.hk_types.specs.declared.faults.FormFault.{FormFault}
+use Rattle.hk_types.specs.declared.faults.FormFault.TheVariants.{BadKind, BadOrder}
+use Rattle.hk_types.specs.declared.faults.Refusal.{Refusal}
+use Rattle.hk_types.specs.declared.faults.Refusal.TheVariants as refusals
+use Rattle.hk_model.specs.declared.query.Query.{Query}
+use Rattle.hk_model.specs.Replica.Answers.{AnswerValue}
+use Rattle.hk_model.specs.Replica.Fragments.{FragmentValue}
+use Rattle.hk_model.specs.Replica.Pages.{PageValue}
+use Rattle.hk_fragment.specs.Parts.{Known}
+use Rattle.hk_parts.specs.Heads.{Head, of_facts}
+use Rattle.hk_parts.specs.Cutting.{rises}
+use Rattle.hk_wire.specs.declared.request.Request.{Request as FirstRequest}
+use Rattle.hk_wire.specs.declared.request.Request.TheVariants as first_asked
+use Rattle.hk_wire.specs.declared.reply.Reply.{Reply as FirstReply}
+use Rattle.hk_wire.specs.Replies as first
+use Rattle.hk_later.specs.declared.both.Asked.{Asked}
+use Rattle.hk_later.specs.declared.both.Asked.TheVariants as either_asked
+use Rattle.hk_later.specs.declared.both.Told.{Told}
+use Rattle.hk_later.specs.declared.both.Told.TheVariants as either_told
+use Rattle.hk_later.specs.declared.request.Request.{Request}
+use Rattle.hk_later.specs.declared.request.Request.TheVariants as asked
+use Rattle.hk_later.specs.declared.reply.Reply.{Reply}
+use Rattle.hk_later.specs.Replies.{ReplyValue, Done, Streams, Latest, Page, Added, Held, Refused, reply_seen}
+use Rattle.hk_node.specs.declared.op.Hold.{Hold}
+use Rattle.hk_node.specs.declared.op.Op.{Op}
+use Rattle.hk_node.specs.NodeContent.{NodeContent}
+use Rattle.hk_node.specs.Replay.{is_legal, replay}
+use Rattle.hk_node.specs.Replies.{node_latest, node_page, node_streams}
+use Rattle.hk_net.specs.LinkStates.{LinkValue, GivingValue, bytes_within, room_to_come, more_step, whole_step, held_by, is_other_hold}
+use Rattle.hk_net.specs.NodeSides.{cut_of}
+
+-- what the node of a host for version 1 holds, by the list that its seat knows
+abbrev pub content_of : {S : Type 0} → (S → List Op) → LinkValue S → NodeContent
+content_of list l = replay (list l.inner)
+
+-- a link over such a host that gives nothing, to which nothing came, and that has no hold
+abbrev pub fresh_link : {S : Type 0} → S → ℕ → LinkValue S
+fresh_link inner most = record { inner = inner; most = most; giving = None; came = []; holds = [] }
+
+-- ---- readings
+
+-- a reply is just this, or it says that memory ran out
+abbrev pub IsOrMemory : ReplyValue → ReplyValue → Type 0
+IsOrMemory wanted reply = (reply ≡ wanted) ⊎ (reply ≡ Refused refusals.Memory)
+
+-- the host's seat looked at its node, and nothing else of the link changed
+abbrev pub Looks : {S : Type 0} → (S → List Op) → LinkValue S → LinkValue S → Type 0
+Looks list old new = (is_legal (list new.inner) ≡ true) × IsPrefix (list old.inner) (list new.inner) × (new ≡ record old { inner = new.inner })
+
+abbrev pub latest_told : Result (ℕ × AnswerValue) Refusal → ReplyValue
+latest_told (Ok p) = Latest p.0 p.1
+latest_told (Err why) = Refused why
+
+abbrev pub page_told : Result PageValue Refusal → ReplyValue
+page_told (Ok page) = Page page
+page_told (Err why) = Refused why
+
+abbrev pub TellsStreams : {S : Type 0} → (S → List Op) → LinkValue S → ReplyValue → LinkValue S → Type 0
+TellsStreams list old reply new = Looks list old new × IsOrMemory (Streams (node_streams (content_of list new))) reply
+
+abbrev pub TellsLatest : {S : Type 0} → (S → List Op) → LinkValue S → Query → ReplyValue → LinkValue S → Type 0
+TellsLatest list old query reply new = Looks list old new × IsOrMemory (latest_told (node_latest (content_of list new) query)) reply
+
+abbrev pub TellsPage : {S : Type 0} → (S → List Op) → LinkValue S → ℕ → ℕ → ℕ → ℕ → ℕ → ReplyValue → LinkValue S → Type 0
+TellsPage list old t table low high most reply new = Looks list old new × IsOrMemory (page_told (node_page (content_of list new) t table low high most)) reply
+
+-- ---- parts
+
+-- what is given went this step, or memory ran out and it is this
+abbrev pub Steps : ReplyValue × Option GivingValue → Option GivingValue → ReplyValue → Option GivingValue → Type 0
+Steps step lacking reply giving = ((reply, giving) ≡ step) ⊎ ((reply ≡ Refused refusals.Memory) × (giving ≡ lacking))
+
+-- the next part of what is given is told
+abbrev pub IsMore : {S : Type 0} → LinkValue S → ReplyValue → LinkValue S → Type 0
+IsMore old reply new = Steps (more_step old.giving) old.giving reply new.giving × (new ≡ record old { giving = new.giving })
+
+-- a fragment is begun to be given, where nothing is
+abbrev pub IsBegun : {S : Type 0} → LinkValue S → FragmentValue → ℕ → ReplyValue → LinkValue S → Type 0
+IsBegun old f most reply new = Steps (whole_step old (Ok f) most) None reply new.giving × (new ≡ record old { giving = new.giving })
+
+-- what the node holds now is cut, and begun to be given in place of what was given
+abbrev pub IsWhole : {S : Type 0} → (S → List Op) → LinkValue S → ℕ → ℕ → ReplyValue → LinkValue S → Type 0
+IsWhole list old base most reply new =
+    (is_legal (list new.inner) ≡ true) × IsPrefix (list old.inner) (list new.inner)
+    × Steps (whole_step old (cut_of (content_of list new) base) most) None reply new.giving
+    × (new ≡ record old { inner = new.inner; giving = new.giving })
+
+-- facts come, where there is room for them: their bytes are known then
+abbrev pub come_step : {S : Type 0} → LinkValue S → Option ℕ → List Known → ReplyValue × List Known
+come_step l None facts = (Refused (refusals.LinkFull l.most), l.came)
+come_step l (Some bytes) facts =
+    if rises (l.came ++ facts) then (Added (length (l.came ++ facts)), l.came ++ facts) else (Refused (refusals.Form BadOrder), l.came)
+
+-- facts come behind those that came before
+abbrev pub IsAdded : {S : Type 0} → LinkValue S → List Known → ReplyValue → LinkValue S → Type 0
+IsAdded old facts reply new =
+    (((reply, new.came) ≡ come_step old (bytes_within (room_to_come old) facts) facts) ⊎ ((reply ≡ Refused refusals.Memory) × (new.came ≡ old.came)))
+    × (new ≡ record old { came = new.came })
+
+-- the reply of version 1 to a change, told in version 2
+abbrev pub change_told : first.ReplyValue → ReplyValue
+change_told (first.Done ops) = Done ops
+change_told (first.Refused why) = Refused why
+change_told other = Refused (refusals.Form BadKind)
+
+abbrev pub change_seen : FirstReply → ReplyValue
+change_seen answer = change_told (first.reply_seen answer)
+
+-- what is put together is joined as the host for version 1 joins it, or its first fault is told
+abbrev pub JoinsMade : {S : Type 0} → (S → FirstRequest → FirstReply → S → Type 0) → S → Result FragmentValue FormFault → ReplyValue → S → Type 0
+JoinsMade may old (Err fault) reply new = (reply ≡ Refused (refusals.Form fault)) × (new ≡ old)
+JoinsMade may old (Ok f) reply new = (answer : FirstReply) × may old (first_asked.JoinThis f) answer new × (reply ≡ change_seen answer)
+
+-- the facts that came are put together with the head, and none is kept
+abbrev pub IsJoined : {S : Type 0} → (S → FirstRequest → FirstReply → S → Type 0) → LinkValue S → Head → ReplyValue → LinkValue S → Type 0
+IsJoined may old head reply new = JoinsMade may old.inner (of_facts head old.came) reply new.inner × (new ≡ record old { inner = new.inner; came = [] })
+
+-- ---- holds
+
+-- how many holds a link has at most
+abbrev pub most_holds : ℕ
+most_holds = 1024
+
+-- the reply to a hold that came out so, and the holds of the link then: one that waits to be published is kept too
+abbrev pub hold_told : List Hold → Result Hold (Option Hold × Refusal) → ReplyValue × List Hold
+hold_told holds (Ok hold) = (Held hold.reader hold.at, holds ++ hold ∷ [])
+hold_told holds (Err (Some hold, why)) = (Refused why, holds ++ hold ∷ [])
+hold_told holds (Err (None, why)) = (Refused why, holds)
+
+-- a hold is asked for of the node, once there is room for it in the link's list
+abbrev pub AsksHold : {S : Type 0} → (S → ℕ → Result Hold (Option Hold × Refusal) → S → Type 0) → LinkValue S → ℕ → ReplyValue → LinkValue S → Type 0
+AsksHold may_hold old time reply new =
+    (result : Result Hold (Option Hold × Refusal)) × may_hold old.inner time result new.inner × ((reply, new.holds) ≡ hold_told old.holds result)
+    × (new ≡ record old { inner = new.inner; holds = new.holds })
+
+-- the same, where the last place of the link's list is free for it
+abbrev pub AsksHoldInPlace : {S : Type 0} → (S → ℕ → Result Hold (Option Hold × Refusal) → S → Type 0) → LinkValue S → ℕ → ReplyValue → LinkValue S → Type 0
+AsksHoldInPlace may_hold old time reply new = AsksHold may_hold (record old { holds = take (length old.holds - 1) old.holds }) time reply new
+
+-- a link has so many holds at most: the node is not asked for one more
+abbrev pub IsHeld : {S : Type 0} → (S → ℕ → Result Hold (Option Hold × Refusal) → S → Type 0) → LinkValue S → ℕ → ReplyValue → LinkValue S → Type 0
+IsHeld may_hold old time reply new =
+    ((nat_lt (length old.holds) most_holds ≡ false) × (reply ≡ Refused (refusals.LinkFull most_holds)) × (new ≡ old))
+    ⊎ ((reply ≡ Refused refusals.Memory) × (new ≡ old))
+    ⊎ AsksHold may_hold old time reply new
+
+-- the reply to a release that came out so, and the holds of the link then: one whose release waits is gone too
+abbrev pub release_told : List Hold → ℕ → Result ℕ (Option Hold × Refusal) → ReplyValue × List Hold
+release_told holds number (Ok ops) = (Done ops, filter (is_other_hold number) holds)
+release_told holds number (Err (Some hold, why)) = (Refused why, holds)
+release_told holds number (Err (None, why)) = (Refused why, filter (is_other_hold number) holds)
+
+-- the node is asked to release a hold of this link
+abbrev pub AsksRelease : {S : Type 0} → (S → Hold → Result ℕ (Option Hold × Refusal) → S → Type 0) → LinkValue S → ℕ → Hold → ReplyValue → LinkValue S → Type 0
+AsksRelease may_release old number hold reply new =
+    (result : Result ℕ (Option Hold × Refusal)) × may_release old.inner hold result new.inner × ((reply, new.holds) ≡ release_told old.holds number result)
+    × (new ≡ record old { inner = new.inner; holds = new.holds })
+
+-- a hold that this link doesn't have is not asked for
+abbrev pub IsReleased : {S : Type 0} → (S → Hold → Result ℕ (Option Hold × Refusal) → S → Type 0) → LinkValue S → ℕ → ReplyValue → LinkValue S → Type 0
+IsReleased may_release old number reply new =
+    MatchOption (held_by number old.holds) ((reply ≡ Refused refusals.NoHold) × (new ≡ old)) (λ hold. AsksRelease may_release old number hold reply new)
+
+-- ---- each request
+
+-- what is replied to a request of version 2, over a host whose seat knows this list, and that may reply so and do so with holds
+abbrev pub IsLaterReply : {S : Type 0} → (S → List Op) → (S → FirstRequest → FirstReply → S → Type 0)
+    → (S → ℕ → Result Hold (Option Hold × Refusal) → S → Type 0) → (S → Hold → Result ℕ (Option Hold × Refusal) → S → Type 0)
+    → LinkValue S → Request → ReplyValue → LinkValue S → Type 0
+IsLaterReply list may may_hold may_release old asked.Streams reply new = TellsStreams list old reply new
+IsLaterReply list may may_hold may_release old (asked.AskLatest query) reply new = TellsLatest list old query reply new
+IsLaterReply list may may_hold may_release old (asked.Page t table low high most) reply new = TellsPage list old t table low high most reply new
+IsLaterReply list may may_hold may_release old (asked.Whole base most) reply new = IsWhole list old base most reply new
+IsLaterReply list may may_hold may_release old asked.More reply new = IsMore old reply new
+IsLaterReply list may may_hold may_release old (asked.AddPart facts) reply new = IsAdded old facts.items reply new
+IsLaterReply list may may_hold may_release old (asked.JoinParts head) reply new = IsJoined may old head reply new
+IsLaterReply list may may_hold may_release old (asked.MergeParts head) reply new = IsJoined may old head reply new
+IsLaterReply list may may_hold may_release old (asked.Hold t) reply new = IsHeld may_hold old t reply new
+IsLaterReply list may may_hold may_release old (asked.Release number) reply new = IsReleased may_release old number reply new
+
+-- a request of version 1 goes to the host for version 1, and its reply comes back
+abbrev pub IsFirstReply : {S : Type 0} → (S → FirstRequest → FirstReply → S → Type 0) → LinkValue S → FirstRequest → FirstReply → LinkValue S → Type 0
+IsFirstReply may old request reply new = may old.inner request reply new.inner × (new ≡ record old { inner = new.inner })
+
+-- what a host over such a one may do: each request is replied to in its version
+abbrev pub MayReplyBoth : {S : Type 0} → (S → List Op) → (S → FirstRequest → FirstReply → S → Type 0)
+    → (S → ℕ → Result Hold (Option Hold × Refusal) → S → Type 0) → (S → Hold → Result ℕ (Option Hold × Refusal) → S → Type 0)
+    → LinkValue S → Asked → Told → LinkValue S → Type 0
+MayReplyBoth list may may_hold may_release old (either_asked.One request) (either_told.One reply) new = IsFirstReply may old request reply new
+MayReplyBoth list may may_hold may_release old (either_asked.Later request) (either_told.Later reply) new =
+    IsLaterReply list may may_hold may_release old request (reply_seen reply) new
+MayReplyBoth list may may_hold may_release old request reply new = ⊥

@@ -1,0 +1,352 @@
+//! A host that speaks both versions, over a host of a node for version 1.
+
+ghost use Rattle.std.specs.Prelude.{◌≡◌, ◌<◌, ◌++◌, ◌∷◌, [], ◌-◌, None, length, take, vec_len};
+ghost use Rattle.hk_later.specs.Replies.{reply_seen};
+ghost use Rattle.hk_net.specs.LaterReplying as spec;
+ghost use Rattle.hk_net.specs.LinkStates.{held_by, room_to_come, without_hold};
+
+use crate::both_versions::BothVersions;
+use crate::giving::{Giving, bytes_of};
+use crate::node_side::NodeSide;
+use hk_delta::Fragment;
+use hk_later::{Asked, Head, Reply, Request, Told};
+use hk_log::Version;
+use hk_model::Query;
+use hk_node::Hold;
+use hk_parts::Assembly;
+use hk_session::Host;
+use hk_types::{FormFault, Key, Refusal, Table, Time, VersionKey};
+use hk_wire::{Reply as FirstReply, Request as FirstRequest};
+use std::alloc::Global;
+use std::marker::Model;
+use std::mem::replace;
+
+/// How many holds a link has at most.
+const MOST_HOLDS: usize = 1_024;
+
+/// A host for both versions over one for version 1: what the link gives in parts, the parts that came, and its holds.
+/// Contracts see it as the state of a link.
+///
+/// A request of version 1 goes to the inner host, and changes nothing else of the link. A whole is cut once, when it is
+/// asked for, and its parts are told one after the other from what was cut then; a link keeps one. The parts that came
+/// are let go once a head is there, whether they make a fragment or not. What a link gives and what came have together
+/// at most so many bytes of facts as it was made with. Cost: that of the seat's and the node's calls, and a copy of
+/// each part that is told.
+#[derive(Drop)]
+pub struct PartsHost<H: NodeSide + Drop> {
+    inner: H,
+    alloc: Global,
+    most_bytes: u64,
+    giving: Option<Giving>,
+    came: Assembly,
+    holds: Vec<Hold>,
+}
+
+impl<H: NodeSide + Drop> Model for PartsHost<H> {
+    ghost use Rattle.hk_net.specs.LinkStates.{LinkValue, link_code};
+    ghost use Rattle.hk_node.specs.contracts.op.Hold as hold;
+
+    ghost Value = { LinkValue H };
+
+    ghost coded = { link_code H.code hold.the_row.coded };
+
+    ghost view = { λ h. record { inner = h.inner; most = h.most_bytes; giving = h.giving; came = h.came; holds = h.holds.items } };
+}
+
+/// The reply of version 1 to a change, in version 2.
+fn later_reply(answer: FirstReply) -> Reply
+    ensures { reply_seen result ≡ spec.change_seen answer }
+{
+    match answer {
+        FirstReply::Done { ops } => Reply::Done { ops },
+        FirstReply::Refused(why) => Reply::Refused(why),
+        _ => Reply::Refused(Refusal::Form(FormFault::BadKind)),
+    }
+}
+
+/// Puts a hold in the place of the last one.
+fn set_last(holds: &mut Vec<Hold>, hold: Hold)
+    requires { 0 < vec_len holds.old }
+    ensures { holds.new.items ≡ take (vec_len holds.old - 1) holds.old.items ++ hold ∷ [] }
+{
+    let last = holds.len() - 1;
+    holds[last] = hold;
+}
+
+/// The hold of this number, if there is one.
+fn hold_of(holds: &[Hold], number: u64) -> Option<Hold>
+    ensures { result ≡ held_by number holds.now }
+{
+    for hold in holds {
+        if hold.reader == number {
+            return Some(Hold {
+                reader: hold.reader,
+                at: hold.at,
+            });
+        }
+    }
+    None
+}
+
+impl<H: NodeSide + Drop> PartsHost<H> {
+    /// A host for both versions over one for version 1. It gives nothing, nothing came, it has no hold, and it keeps so
+    /// many bytes of facts at most. It takes no memory.
+    pub fn new(alloc: Global, inner: H, most_bytes: u64) -> PartsHost<H>
+        ensures { result ≡ spec.fresh_link inner most_bytes }
+    {
+        PartsHost {
+            inner,
+            alloc,
+            most_bytes,
+            giving: None,
+            came: Assembly::new(alloc),
+            holds: Vec::new(alloc),
+        }
+    }
+
+    /// Gives the inner host back. What the link gave and what came is dropped, and its holds stand.
+    pub fn into_inner(self) -> H
+        ensures { result ≡ self.inner }
+    {
+        self.inner
+    }
+
+    fn streams(&mut self) -> Reply
+        ensures told { spec.TellsStreams H.list self.old (reply_seen result) self.new }
+        ensures ready { H.ready self.old.inner → H.ready self.new.inner }
+    {
+        match self.inner.streams() {
+            Ok(told) => Reply::Streams(told),
+            Err(why) => Reply::Refused(why),
+        }
+    }
+
+    fn latest(&mut self, query: &Query) -> Reply
+        ensures told { spec.TellsLatest H.list self.old query.now (reply_seen result) self.new }
+        ensures ready { H.ready self.old.inner → H.ready self.new.inner }
+    {
+        match self.inner.latest(query) {
+            Ok((t, answer)) => Reply::Latest { t, answer },
+            Err(why) => Reply::Refused(why),
+        }
+    }
+
+    fn page(&mut self, time: Time, table: Table, low: Key, high: Key, most: u32) -> Reply
+        ensures told { spec.TellsPage H.list self.old time table low high most (reply_seen result) self.new }
+        ensures ready { H.ready self.old.inner → H.ready self.new.inner }
+    {
+        match self.inner.page(time, table, low, high, most) {
+            Ok(page) => Reply::Page(page),
+            Err(why) => Reply::Refused(why),
+        }
+    }
+
+    /// Cuts what the node holds, and tells the first part of it.
+    fn whole(&mut self, base: Time, most_bytes: u32) -> Reply
+        ensures told { spec.IsWhole H.list self.old base most_bytes (reply_seen result) self.new }
+        ensures ready { H.ready self.old.inner → H.ready self.new.inner }
+    {
+        // A link keeps one copy.
+        self.giving = None;
+        match self.inner.cut(base) {
+            Ok(fragment) => self.begin(fragment, most_bytes),
+            Err(why) => Reply::Refused(why),
+        }
+    }
+
+    /// Begins to give a fragment, where there is room for it, and tells the first part.
+    fn begin(&mut self, fragment: Fragment, most_bytes: u32) -> Reply
+        requires { self.old.giving ≡ None }
+        ensures told { spec.IsBegun self.old fragment most_bytes (reply_seen result) self.new }
+    {
+        let room = self.most_bytes.saturating_sub(self.came.bytes());
+        let Some(bytes) = bytes_of(fragment.facts(), room) else {
+            return Reply::Refused(Refusal::LinkFull {
+                most: self.most_bytes,
+            });
+        };
+        let giving = Giving::begin(fragment, u64::from(most_bytes), bytes);
+        match giving.told(self.alloc) {
+            Ok(reply) => {
+                self.giving = giving.next();
+                reply
+            }
+            Err(why) => Reply::Refused(why),
+        }
+    }
+
+    /// Tells the next part of what is given.
+    fn more(&mut self) -> Reply
+        ensures told { spec.IsMore self.old (reply_seen result) self.new }
+    {
+        let Some(giving) = self.giving.take() else {
+            return Reply::Refused(Refusal::NoPart);
+        };
+        match giving.told(self.alloc) {
+            Ok(reply) => {
+                self.giving = giving.next();
+                reply
+            }
+            Err(why) => {
+                self.giving = Some(giving);
+                Reply::Refused(why)
+            }
+        }
+    }
+
+    /// How many bytes of facts may come.
+    fn room(&self) -> u64
+        ensures { result ≡ room_to_come self.now }
+    {
+        let given = match &self.giving {
+            None => 0,
+            Some(giving) => giving.bytes(),
+        };
+        self.most_bytes
+            .saturating_sub(self.came.bytes())
+            .saturating_sub(given)
+    }
+
+    /// Takes a part behind those that came before.
+    fn add(&mut self, facts: Vec<(VersionKey, Version)>) -> Reply
+        ensures told { spec.IsAdded self.old facts.items (reply_seen result) self.new }
+    {
+        if bytes_of(&facts, self.room()).is_none() {
+            return Reply::Refused(Refusal::LinkFull {
+                most: self.most_bytes,
+            });
+        }
+        match self.came.add(facts) {
+            Ok(()) => Reply::Added {
+                count: self.came.count() as u64,
+            },
+            Err(why) => Reply::Refused(why),
+        }
+    }
+
+    /// Has the inner host join what the head and the parts that came make.
+    fn join(&mut self, head: Head) -> Reply
+        requires ready { H.ready self.old.inner }
+        ensures told { spec.IsJoined H.may self.old head (reply_seen result) self.new }
+        ensures ready { H.ready self.new.inner }
+    {
+        let came = replace(&mut self.came, Assembly::new(self.alloc));
+        match head.into_fragment(came) {
+            Ok(fragment) => later_reply(self.inner.answer(FirstRequest::JoinThis(fragment))),
+            Err(fault) => Reply::Refused(Refusal::Form(fault)),
+        }
+    }
+
+    /// Holds a time, once there is room for the hold in the link's list.
+    fn hold(&mut self, time: Time) -> Reply
+        ensures told { spec.IsHeld H.may_hold self.old time (reply_seen result) self.new }
+        ensures ready { H.ready self.old.inner → H.ready self.new.inner }
+    {
+        if self.holds.len() >= MOST_HOLDS {
+            return Reply::Refused(Refusal::LinkFull {
+                most: MOST_HOLDS as u64,
+            });
+        }
+        if self.holds.push(Hold { reader: 0, at: time }).is_err() {
+            return Reply::Refused(Refusal::Memory);
+        }
+        self.ask_hold(time)
+    }
+
+    /// Holds a time. The last place in the link's list is free for the hold.
+    fn ask_hold(&mut self, time: Time) -> Reply
+        requires { 0 < length self.old.holds }
+        ensures told { spec.AsksHoldInPlace H.may_hold self.old time (reply_seen result) self.new }
+        ensures ready { H.ready self.old.inner → H.ready self.new.inner }
+    {
+        match self.inner.hold(time) {
+            Ok(hold) => {
+                let reply = Reply::Held {
+                    number: hold.reader,
+                    t: hold.at,
+                };
+                set_last(&mut self.holds, hold);
+                reply
+            }
+            Err((Some(hold), why)) => {
+                set_last(&mut self.holds, hold);
+                Reply::Refused(why)
+            }
+            Err((None, why)) => {
+                let _free = self.holds.pop();
+                Reply::Refused(why)
+            }
+        }
+    }
+
+    /// Releases a hold of this link.
+    fn release(&mut self, number: u64) -> Reply
+        ensures told { spec.IsReleased H.may_release self.old number (reply_seen result) self.new }
+        ensures ready { H.ready self.old.inner → H.ready self.new.inner }
+    {
+        let Some(hold) = hold_of(&self.holds, number) else {
+            return Reply::Refused(Refusal::NoHold);
+        };
+        match self.inner.release(hold) {
+            Ok(ops) => {
+                self.forget(number);
+                Reply::Done { ops }
+            }
+            Err((Some(_stands), why)) => Reply::Refused(why),
+            Err((None, why)) => {
+                self.forget(number);
+                Reply::Refused(why)
+            }
+        }
+    }
+
+    /// Takes the hold of this number out of the link's list.
+    fn forget(&mut self, number: u64)
+        ensures { self.new ≡ without_hold number self.old }
+    {
+        self.holds.retain(|hold| !(hold.reader == number));
+    }
+
+    /// Answers a request of version 2.
+    fn answer_later(&mut self, request: Request) -> Reply
+        requires ready { H.ready self.old.inner }
+        ensures told { spec.IsLaterReply H.list H.may H.may_hold H.may_release self.old request
+            (reply_seen result) self.new }
+        ensures ready { H.ready self.new.inner }
+    {
+        match request {
+            Request::Streams => self.streams(),
+            Request::AskLatest { query } => self.latest(&query),
+            Request::Page {
+                t,
+                table,
+                low,
+                high,
+                most,
+            } => self.page(t, table, low, high, most),
+            Request::Whole { base, most_bytes } => self.whole(base, most_bytes),
+            Request::More => self.more(),
+            Request::AddPart(facts) => self.add(facts),
+            Request::JoinParts(head) | Request::MergeParts(head) => self.join(head),
+            Request::Hold { t } => self.hold(t),
+            Request::Release { number } => self.release(number),
+        }
+    }
+}
+
+impl<H: NodeSide + Drop> Host for PartsHost<H> {
+    ghost use Rattle.hk_net.specs.LaterReplying.{MayReplyBoth};
+
+    type Speaks = BothVersions;
+
+    ghost may = { MayReplyBoth H.list H.may H.may_hold H.may_release };
+
+    ghost ready = { λ h. H.ready h.inner };
+
+    fn answer(&mut self, request: Asked) -> Told {
+        match request {
+            Asked::One(first) => Told::One(self.inner.answer(first)),
+            Asked::Later(later) => Told::Later(self.answer_later(later)),
+        }
+    }
+}
