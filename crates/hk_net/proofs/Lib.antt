@@ -1,5 +1,6 @@
 mod BothNeverCut
 mod BothLaws
+mod GivenParts
 mod JoinRequests
 mod Seen
 mod GuardedReplies
