@@ -46,9 +46,13 @@ fresh_link inner most = record { inner = inner; most = most; giving = None; came
 abbrev pub IsOrMemory : ReplyValue → ReplyValue → Type 0
 IsOrMemory wanted reply = (reply ≡ wanted) ⊎ (reply ≡ Refused refusals.Memory)
 
--- the host's seat looked at its node, and nothing else of the link changed
-abbrev pub Looks : {S : Type 0} → (S → List Op) → LinkValue S → LinkValue S → Type 0
-Looks list old new = (is_legal (list new.inner) ≡ true) × IsPrefix (list old.inner) (list new.inner) × (new ≡ record old { inner = new.inner })
+-- the list of the host's seat is legal, and begins with the one before
+abbrev pub Grows : {S : Type 0} → (S → List Op) → S → S → Type 0
+Grows list old new = (is_legal (list new) ≡ true) × IsPrefix (list old) (list new)
+
+-- nothing changed but the host for version 1
+abbrev pub KeepsOther : {S : Type 0} → LinkValue S → LinkValue S → Type 0
+KeepsOther old new = new ≡ record old { inner = new.inner }
 
 abbrev pub latest_told : Result (ℕ × AnswerValue) Refusal → ReplyValue
 latest_told (Ok p) = Latest p.0 p.1
@@ -58,14 +62,18 @@ abbrev pub page_told : Result PageValue Refusal → ReplyValue
 page_told (Ok page) = Page page
 page_told (Err why) = Refused why
 
-abbrev pub TellsStreams : {S : Type 0} → (S → List Op) → LinkValue S → ReplyValue → LinkValue S → Type 0
-TellsStreams list old reply new = Looks list old new × IsOrMemory (Streams (node_streams (content_of list new))) reply
+abbrev pub streams_reply : NodeContent → ReplyValue
+streams_reply c = Streams (node_streams c)
 
-abbrev pub TellsLatest : {S : Type 0} → (S → List Op) → LinkValue S → Query → ReplyValue → LinkValue S → Type 0
-TellsLatest list old query reply new = Looks list old new × IsOrMemory (latest_told (node_latest (content_of list new) query)) reply
+abbrev pub latest_reply : NodeContent → Query → ReplyValue
+latest_reply c query = latest_told (node_latest c query)
 
-abbrev pub TellsPage : {S : Type 0} → (S → List Op) → LinkValue S → ℕ → ℕ → ℕ → ℕ → ℕ → ReplyValue → LinkValue S → Type 0
-TellsPage list old t table low high most reply new = Looks list old new × IsOrMemory (page_told (node_page (content_of list new) t table low high most)) reply
+abbrev pub page_reply : NodeContent → ℕ → ℕ → ℕ → ℕ → ℕ → ReplyValue
+page_reply c t table low high most = page_told (node_page c t table low high most)
+
+-- the host's seat looked at its node, nothing else of the link changed, and this is told of what the node holds
+abbrev pub Looks : {S : Type 0} → (S → List Op) → LinkValue S → (NodeContent → ReplyValue) → ReplyValue → LinkValue S → Type 0
+Looks list old wanted reply new = Grows list old.inner new.inner × KeepsOther old new × IsOrMemory (wanted (content_of list new)) reply
 
 -- ---- parts
 
@@ -73,20 +81,29 @@ TellsPage list old t table low high most reply new = Looks list old new × IsOrM
 abbrev pub Steps : ReplyValue × Option GivingValue → Option GivingValue → ReplyValue → Option GivingValue → Type 0
 Steps step lacking reply giving = ((reply, giving) ≡ step) ⊎ ((reply ≡ Refused refusals.Memory) × (giving ≡ lacking))
 
+-- nothing changed but what is given
+abbrev pub KeepsButGiving : {S : Type 0} → LinkValue S → LinkValue S → Type 0
+KeepsButGiving old new = new ≡ record old { giving = new.giving }
+
 -- the next part of what is given is told
+abbrev pub TellsMore : {S : Type 0} → LinkValue S → ReplyValue → LinkValue S → Type 0
+TellsMore old reply new = Steps (more_step old.giving) old.giving reply new.giving
+
 abbrev pub IsMore : {S : Type 0} → LinkValue S → ReplyValue → LinkValue S → Type 0
-IsMore old reply new = Steps (more_step old.giving) old.giving reply new.giving × (new ≡ record old { giving = new.giving })
+IsMore old reply new = TellsMore old reply new × KeepsButGiving old new
 
--- a fragment is begun to be given, where nothing is
-abbrev pub IsBegun : {S : Type 0} → LinkValue S → FragmentValue → ℕ → ReplyValue → LinkValue S → Type 0
-IsBegun old f most reply new = Steps (whole_step old (Ok f) most) None reply new.giving × (new ≡ record old { giving = new.giving })
+-- what was cut is begun to be given in place of what was given, and its first part is told
+abbrev pub TellsFirst : {S : Type 0} → LinkValue S → Result FragmentValue Refusal → ℕ → ReplyValue → LinkValue S → Type 0
+TellsFirst old cut most reply new = Steps (whole_step old cut most) None reply new.giving
 
--- what the node holds now is cut, and begun to be given in place of what was given
+-- nothing changed but the host for version 1, and what is given
+abbrev pub KeepsCameAndHolds : {S : Type 0} → LinkValue S → LinkValue S → Type 0
+KeepsCameAndHolds old new = new ≡ record old { inner = new.inner; giving = new.giving }
+
+-- what is cut is what the node holds when the reply is made
 abbrev pub IsWhole : {S : Type 0} → (S → List Op) → LinkValue S → ℕ → ℕ → ReplyValue → LinkValue S → Type 0
 IsWhole list old base most reply new =
-    (is_legal (list new.inner) ≡ true) × IsPrefix (list old.inner) (list new.inner)
-    × Steps (whole_step old (cut_of (content_of list new) base) most) None reply new.giving
-    × (new ≡ record old { inner = new.inner; giving = new.giving })
+    Grows list old.inner new.inner × TellsFirst old (cut_of (content_of list new) base) most reply new × KeepsCameAndHolds old new
 
 -- facts come, where there is room for them: their bytes are known then
 abbrev pub come_step : {S : Type 0} → LinkValue S → Option ℕ → List Known → ReplyValue × List Known
@@ -95,10 +112,16 @@ come_step l (Some bytes) facts =
     if rises (l.came ++ facts) then (Added (length (l.came ++ facts)), l.came ++ facts) else (Refused (refusals.Form BadOrder), l.came)
 
 -- facts come behind those that came before
+abbrev pub TellsCome : {S : Type 0} → LinkValue S → List Known → ReplyValue → LinkValue S → Type 0
+TellsCome old facts reply new =
+    ((reply, new.came) ≡ come_step old (bytes_within (room_to_come old) facts) facts) ⊎ ((reply ≡ Refused refusals.Memory) × (new.came ≡ old.came))
+
+-- nothing changed but what came
+abbrev pub KeepsButCame : {S : Type 0} → LinkValue S → LinkValue S → Type 0
+KeepsButCame old new = new ≡ record old { came = new.came }
+
 abbrev pub IsAdded : {S : Type 0} → LinkValue S → List Known → ReplyValue → LinkValue S → Type 0
-IsAdded old facts reply new =
-    (((reply, new.came) ≡ come_step old (bytes_within (room_to_come old) facts) facts) ⊎ ((reply ≡ Refused refusals.Memory) × (new.came ≡ old.came)))
-    × (new ≡ record old { came = new.came })
+IsAdded old facts reply new = TellsCome old facts reply new × KeepsButCame old new
 
 -- the reply of version 1 to a change, told in version 2
 abbrev pub change_told : first.ReplyValue → ReplyValue
@@ -114,9 +137,13 @@ abbrev pub JoinsMade : {S : Type 0} → (S → FirstRequest → FirstReply → S
 JoinsMade may old (Err fault) reply new = (reply ≡ Refused (refusals.Form fault)) × (new ≡ old)
 JoinsMade may old (Ok f) reply new = (answer : FirstReply) × may old (first_asked.JoinThis f) answer new × (reply ≡ change_seen answer)
 
+-- nothing came any more, and nothing else changed but the host for version 1
+abbrev pub LetsGo : {S : Type 0} → LinkValue S → LinkValue S → Type 0
+LetsGo old new = new ≡ record old { inner = new.inner; came = [] }
+
 -- the facts that came are put together with the head, and none is kept
 abbrev pub IsJoined : {S : Type 0} → (S → FirstRequest → FirstReply → S → Type 0) → LinkValue S → Head → ReplyValue → LinkValue S → Type 0
-IsJoined may old head reply new = JoinsMade may old.inner (of_facts head old.came) reply new.inner × (new ≡ record old { inner = new.inner; came = [] })
+IsJoined may old head reply new = JoinsMade may old.inner (of_facts head old.came) reply new.inner × LetsGo old new
 
 -- ---- holds
 
@@ -144,8 +171,7 @@ AsksHoldInPlace may_hold old time reply new = AsksHold may_hold (record old { ho
 abbrev pub IsHeld : {S : Type 0} → (S → ℕ → Result Hold (Option Hold × Refusal) → S → Type 0) → LinkValue S → ℕ → ReplyValue → LinkValue S → Type 0
 IsHeld may_hold old time reply new =
     ((nat_lt (length old.holds) most_holds ≡ false) × (reply ≡ Refused (refusals.LinkFull most_holds)) × (new ≡ old))
-    ⊎ ((reply ≡ Refused refusals.Memory) × (new ≡ old))
-    ⊎ AsksHold may_hold old time reply new
+    ⊎ (((reply ≡ Refused refusals.Memory) × (new ≡ old)) ⊎ AsksHold may_hold old time reply new)
 
 -- the reply to a release that came out so, and the holds of the link then: one whose release waits is gone too
 abbrev pub release_told : List Hold → ℕ → Result ℕ (Option Hold × Refusal) → ReplyValue × List Hold
@@ -170,9 +196,9 @@ IsReleased may_release old number reply new =
 abbrev pub IsLaterReply : {S : Type 0} → (S → List Op) → (S → FirstRequest → FirstReply → S → Type 0)
     → (S → ℕ → Result Hold (Option Hold × Refusal) → S → Type 0) → (S → Hold → Result ℕ (Option Hold × Refusal) → S → Type 0)
     → LinkValue S → Request → ReplyValue → LinkValue S → Type 0
-IsLaterReply list may may_hold may_release old asked.Streams reply new = TellsStreams list old reply new
-IsLaterReply list may may_hold may_release old (asked.AskLatest query) reply new = TellsLatest list old query reply new
-IsLaterReply list may may_hold may_release old (asked.Page t table low high most) reply new = TellsPage list old t table low high most reply new
+IsLaterReply list may may_hold may_release old asked.Streams reply new = Looks list old streams_reply reply new
+IsLaterReply list may may_hold may_release old (asked.AskLatest query) reply new = Looks list old (λ c. latest_reply c query) reply new
+IsLaterReply list may may_hold may_release old (asked.Page t table low high most) reply new = Looks list old (λ c. page_reply c t table low high most) reply new
 IsLaterReply list may may_hold may_release old (asked.Whole base most) reply new = IsWhole list old base most reply new
 IsLaterReply list may may_hold may_release old asked.More reply new = IsMore old reply new
 IsLaterReply list may may_hold may_release old (asked.AddPart facts) reply new = IsAdded old facts.items reply new
@@ -183,7 +209,7 @@ IsLaterReply list may may_hold may_release old (asked.Release number) reply new 
 
 -- a request of version 1 goes to the host for version 1, and its reply comes back
 abbrev pub IsFirstReply : {S : Type 0} → (S → FirstRequest → FirstReply → S → Type 0) → LinkValue S → FirstRequest → FirstReply → LinkValue S → Type 0
-IsFirstReply may old request reply new = may old.inner request reply new.inner × (new ≡ record old { inner = new.inner })
+IsFirstReply may old request reply new = may old.inner request reply new.inner × KeepsOther old new
 
 -- what a host over such a one may do: each request is replied to in its version
 abbrev pub MayReplyBoth : {S : Type 0} → (S → List Op) → (S → FirstRequest → FirstReply → S → Type 0)

@@ -1,8 +1,12 @@
 //! A host that speaks both versions, over a host of a node for version 1.
 
-ghost use Rattle.std.specs.Prelude.{◌≡◌, ◌<◌, ◌++◌, ◌∷◌, [], ◌-◌, None, length, take, vec_len};
+ghost use Rattle.std.specs.Prelude.{◌≡◌, ◌<◌, ◌++◌, ◌∷◌, [], ◌-◌, true, None, Ok, length, take, vec_len};
+ghost use mathlib.Core.List.{IsPrefix};
+ghost use Rattle.hk_parts.specs.Heads.{of_facts};
 ghost use Rattle.hk_later.specs.Replies.{reply_seen};
+ghost use Rattle.hk_node.specs.Replay.{is_legal};
 ghost use Rattle.hk_net.specs.LaterReplying as spec;
+ghost use Rattle.hk_net.specs.NodeSides.{cut_of};
 ghost use Rattle.hk_net.specs.LinkStates.{held_by, room_to_come, without_hold};
 
 use crate::both_versions::BothVersions;
@@ -112,7 +116,10 @@ impl<H: NodeSide + Drop> PartsHost<H> {
     }
 
     fn streams(&mut self) -> Reply
-        ensures told { spec.TellsStreams H.list self.old (reply_seen result) self.new }
+        ensures legal { is_legal (H.list self.new.inner) ≡ true }
+        ensures seen { IsPrefix (H.list self.old.inner) (H.list self.new.inner) }
+        ensures same { spec.KeepsOther self.old self.new }
+        ensures told { spec.IsOrMemory (spec.streams_reply (spec.content_of H.list self.new)) (reply_seen result) }
         ensures ready { H.ready self.old.inner → H.ready self.new.inner }
     {
         match self.inner.streams() {
@@ -122,7 +129,10 @@ impl<H: NodeSide + Drop> PartsHost<H> {
     }
 
     fn latest(&mut self, query: &Query) -> Reply
-        ensures told { spec.TellsLatest H.list self.old query.now (reply_seen result) self.new }
+        ensures legal { is_legal (H.list self.new.inner) ≡ true }
+        ensures seen { IsPrefix (H.list self.old.inner) (H.list self.new.inner) }
+        ensures same { spec.KeepsOther self.old self.new }
+        ensures told { spec.IsOrMemory (spec.latest_reply (spec.content_of H.list self.new) query.now) (reply_seen result) }
         ensures ready { H.ready self.old.inner → H.ready self.new.inner }
     {
         match self.inner.latest(query) {
@@ -132,7 +142,11 @@ impl<H: NodeSide + Drop> PartsHost<H> {
     }
 
     fn page(&mut self, time: Time, table: Table, low: Key, high: Key, most: u32) -> Reply
-        ensures told { spec.TellsPage H.list self.old time table low high most (reply_seen result) self.new }
+        ensures legal { is_legal (H.list self.new.inner) ≡ true }
+        ensures seen { IsPrefix (H.list self.old.inner) (H.list self.new.inner) }
+        ensures same { spec.KeepsOther self.old self.new }
+        ensures told { spec.IsOrMemory
+            (spec.page_reply (spec.content_of H.list self.new) time table low high most) (reply_seen result) }
         ensures ready { H.ready self.old.inner → H.ready self.new.inner }
     {
         match self.inner.page(time, table, low, high, most) {
@@ -143,7 +157,11 @@ impl<H: NodeSide + Drop> PartsHost<H> {
 
     /// Cuts what the node holds, and tells the first part of it.
     fn whole(&mut self, base: Time, most_bytes: u32) -> Reply
-        ensures told { spec.IsWhole H.list self.old base most_bytes (reply_seen result) self.new }
+        ensures legal { is_legal (H.list self.new.inner) ≡ true }
+        ensures seen { IsPrefix (H.list self.old.inner) (H.list self.new.inner) }
+        ensures told { spec.TellsFirst self.old (cut_of (spec.content_of H.list self.new) base) most_bytes
+            (reply_seen result) self.new }
+        ensures same { spec.KeepsCameAndHolds self.old self.new }
         ensures ready { H.ready self.old.inner → H.ready self.new.inner }
     {
         // A link keeps one copy.
@@ -157,7 +175,8 @@ impl<H: NodeSide + Drop> PartsHost<H> {
     /// Begins to give a fragment, where there is room for it, and tells the first part.
     fn begin(&mut self, fragment: Fragment, most_bytes: u32) -> Reply
         requires { self.old.giving ≡ None }
-        ensures told { spec.IsBegun self.old fragment most_bytes (reply_seen result) self.new }
+        ensures told { spec.TellsFirst self.old (Ok fragment) most_bytes (reply_seen result) self.new }
+        ensures same { spec.KeepsButGiving self.old self.new }
     {
         let room = self.most_bytes.saturating_sub(self.came.bytes());
         let Some(bytes) = bytes_of(fragment.facts(), room) else {
@@ -177,7 +196,8 @@ impl<H: NodeSide + Drop> PartsHost<H> {
 
     /// Tells the next part of what is given.
     fn more(&mut self) -> Reply
-        ensures told { spec.IsMore self.old (reply_seen result) self.new }
+        ensures told { spec.TellsMore self.old (reply_seen result) self.new }
+        ensures same { spec.KeepsButGiving self.old self.new }
     {
         let Some(giving) = self.giving.take() else {
             return Reply::Refused(Refusal::NoPart);
@@ -209,7 +229,8 @@ impl<H: NodeSide + Drop> PartsHost<H> {
 
     /// Takes a part behind those that came before.
     fn add(&mut self, facts: Vec<(VersionKey, Version)>) -> Reply
-        ensures told { spec.IsAdded self.old facts.items (reply_seen result) self.new }
+        ensures told { spec.TellsCome self.old facts.items (reply_seen result) self.new }
+        ensures same { spec.KeepsButCame self.old self.new }
     {
         if bytes_of(&facts, self.room()).is_none() {
             return Reply::Refused(Refusal::LinkFull {
@@ -227,7 +248,8 @@ impl<H: NodeSide + Drop> PartsHost<H> {
     /// Has the inner host join what the head and the parts that came make.
     fn join(&mut self, head: Head) -> Reply
         requires ready { H.ready self.old.inner }
-        ensures told { spec.IsJoined H.may self.old head (reply_seen result) self.new }
+        ensures told { spec.JoinsMade H.may self.old.inner (of_facts head self.old.came) (reply_seen result) self.new.inner }
+        ensures same { spec.LetsGo self.old self.new }
         ensures ready { H.ready self.new.inner }
     {
         let came = replace(&mut self.came, Assembly::new(self.alloc));
