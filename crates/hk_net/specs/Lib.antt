@@ -6,3 +6,4 @@ pub mod Serving
 pub mod NodeSides
 pub mod LinkStates
 pub mod LaterReplying
+pub mod GivenWhole

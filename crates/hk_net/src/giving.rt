@@ -1,16 +1,17 @@
 //! A fragment that a link gives part by part.
 
-ghost use Rattle.std.specs.Prelude.{◌≡◌, Some, IfOk, IfErr};
+ghost use Rattle.std.specs.Prelude.{◌≡◌, ℕ, Some, IfOk, IfErr};
 ghost use Rattle.hk_types.specs.declared.faults.Refusal.TheVariants.{Memory};
 ghost use Rattle.hk_later.specs.Replies.{reply_seen};
 ghost use Rattle.hk_parts.specs.Sizes.{facts_bytes};
 ghost use Rattle.hk_parts.specs.Heads.{facts_of};
+ghost use Rattle.hk_net.specs.GivenWhole.{IsGivenWhole};
 ghost use Rattle.hk_net.specs.LinkStates.{begun, bytes_within, given_bytes, giving_after, part_told};
 
 use hk_delta::Fragment;
 use hk_later::{Head, Reply, sizes_law};
 use hk_log::Version;
-use hk_parts::Split;
+use hk_parts::{Split, fragment_law};
 use hk_types::{Refusal, VersionKey};
 use hk_wire::fields::facts_len;
 use std::alloc::{AllocError, Global};
@@ -115,4 +116,13 @@ impl Giving {
         next.split.advance(next.most_bytes);
         Some(next)
     }
+}
+
+/// What a link tells of a fragment that was cut, from `Whole` to the last part, makes that fragment, however long its parts
+/// are: one head comes with the last of them, and the fragment is put together of it and the facts of all, one part after
+/// the other. A law: it does nothing.
+pub fn given_law(fragment: &Fragment)
+    ensures { (most : ℕ) → IsGivenWhole fragment.now most }
+{
+    fragment_law(fragment);
 }

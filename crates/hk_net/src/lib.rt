@@ -22,6 +22,7 @@ mod staying;
 
 pub use both_versions::{BothVersions, both_versions_law};
 pub use fault::NetFault;
+pub use giving::given_law;
 pub use guarded_host::GuardedHost;
 pub use link_events::{LinkEvent, Watch};
 pub use links::{guard_links, serve_links};
