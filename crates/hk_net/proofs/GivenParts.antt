@@ -18,7 +18,7 @@ at_next split most bytes facts part whole counted =
     let is_next : split.part ≡ first_part most (split.part ++ split.left) = part ∙ ap (first_part most) whole in
     let n : ℕ = part_len most (split.part ++ split.left) in
     let joined : split.part ++ drop n (split.part ++ split.left) ≡ split.part ++ split.left =
-        ap (λ (front : List Known). front ++ drop n (split.part ++ split.left)) is_next ∙ take-append-drop n (split.part ++ split.left) in
+    ap (λ (front : List Known). front ++ drop n (split.part ++ split.left)) is_next ∙ take-append-drop n (split.part ++ split.left) in
     record { is_next = is_next; is_after = append_cancel_left split.part split.left (drop n (split.part ++ split.left)) (sym joined); are_bytes = counted }
 
 -- what is told of these facts, before these others

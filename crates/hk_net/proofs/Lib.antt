@@ -3,6 +3,7 @@ mod BothLaws
 mod GivenParts
 mod WholeGiven
 mod LinkSteps
+mod LinkHolds
 mod JoinRequests
 mod Seen
 mod GuardedReplies

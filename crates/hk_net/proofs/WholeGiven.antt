@@ -26,7 +26,7 @@ last_tells : (n : ℕ) (whole : FragmentValue) (part rest left : List Known) →
     → Tells (LastPart part (wire_head_of (head_of whole)) ∷ replies_for n None) left whole
 last_tells n whole part rest left over joined =
     let facts : part ++ facts_of_parts (map facts_told (replies_for n None)) ≡ left =
-        ap (λ (l : List ReplyValue). part ++ facts_of_parts (map facts_told l)) (none_given n) ∙ (ap (λ (l : List Known). part ++ l) (sym over) ∙ joined) in
+    ap (λ (l : List ReplyValue). part ++ facts_of_parts (map facts_told l)) (none_given n) ∙ (ap (λ (l : List Known). part ++ l) (sym over) ∙ joined) in
     record { has_facts = facts; has_head = ap (λ (l : List ReplyValue). wire_head_of (head_of whole) ∷ heads_told l) (none_given n) }
 
 next_tells : (replies : List ReplyValue) (whole : FragmentValue) (count : ℕ) (part rest left : List Known) → part ++ rest ≡ left → Tells replies rest whole → Tells (Part count part ∷ replies) left whole

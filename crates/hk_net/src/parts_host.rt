@@ -5,7 +5,7 @@ ghost use mathlib.Core.List.{IsPrefix};
 ghost use Rattle.hk_parts.specs.Heads.{of_facts};
 ghost use Rattle.hk_later.specs.Replies.{reply_seen};
 ghost use Rattle.hk_node.specs.Replay.{is_legal};
-ghost use Rattle.hk_net.specs.LaterReplying as spec;
+ghost use Rattle.hk_net.specs.LaterReplying.{AsksHoldInPlace, IsHeld, IsLaterReply, IsOrMemory, IsReleased, JoinsMade, KeepsButCame, KeepsButGiving, KeepsCameAndHolds, KeepsOther, LetsGo, TellsCome, TellsFirst, TellsMore, change_seen, content_of, fresh_link, latest_reply, page_reply, streams_reply};
 ghost use Rattle.hk_net.specs.NodeSides.{cut_of};
 ghost use Rattle.hk_net.specs.LinkStates.{held_by, room_to_come, without_hold};
 
@@ -59,7 +59,7 @@ impl<H: NodeSide + Drop> Model for PartsHost<H> {
 
 /// The reply of version 1 to a change, in version 2.
 fn later_reply(answer: FirstReply) -> Reply
-    ensures { reply_seen result ≡ spec.change_seen answer }
+    ensures { reply_seen result ≡ change_seen answer }
 {
     match answer {
         FirstReply::Done { ops } => Reply::Done { ops },
@@ -96,7 +96,7 @@ impl<H: NodeSide + Drop> PartsHost<H> {
     /// A host for both versions over one for version 1. It gives nothing, nothing came, it has no hold, and it keeps so
     /// many bytes of facts at most. It takes no memory.
     pub fn new(alloc: Global, inner: H, most_bytes: u64) -> PartsHost<H>
-        ensures { result ≡ spec.fresh_link inner most_bytes }
+        ensures { result ≡ fresh_link inner most_bytes }
     {
         PartsHost {
             inner,
@@ -118,8 +118,8 @@ impl<H: NodeSide + Drop> PartsHost<H> {
     fn streams(&mut self) -> Reply
         ensures legal { is_legal (H.list self.new.inner) ≡ true }
         ensures seen { IsPrefix (H.list self.old.inner) (H.list self.new.inner) }
-        ensures same { spec.KeepsOther self.old self.new }
-        ensures told { spec.IsOrMemory (spec.streams_reply (spec.content_of H.list self.new)) (reply_seen result) }
+        ensures same { KeepsOther self.old self.new }
+        ensures told { IsOrMemory (streams_reply (content_of H.list self.new)) (reply_seen result) }
         ensures ready { H.ready self.old.inner → H.ready self.new.inner }
     {
         match self.inner.streams() {
@@ -131,8 +131,8 @@ impl<H: NodeSide + Drop> PartsHost<H> {
     fn latest(&mut self, query: &Query) -> Reply
         ensures legal { is_legal (H.list self.new.inner) ≡ true }
         ensures seen { IsPrefix (H.list self.old.inner) (H.list self.new.inner) }
-        ensures same { spec.KeepsOther self.old self.new }
-        ensures told { spec.IsOrMemory (spec.latest_reply (spec.content_of H.list self.new) query.now) (reply_seen result) }
+        ensures same { KeepsOther self.old self.new }
+        ensures told { IsOrMemory (latest_reply (content_of H.list self.new) query.now) (reply_seen result) }
         ensures ready { H.ready self.old.inner → H.ready self.new.inner }
     {
         match self.inner.latest(query) {
@@ -144,9 +144,9 @@ impl<H: NodeSide + Drop> PartsHost<H> {
     fn page(&mut self, time: Time, table: Table, low: Key, high: Key, most: u32) -> Reply
         ensures legal { is_legal (H.list self.new.inner) ≡ true }
         ensures seen { IsPrefix (H.list self.old.inner) (H.list self.new.inner) }
-        ensures same { spec.KeepsOther self.old self.new }
-        ensures told { spec.IsOrMemory
-            (spec.page_reply (spec.content_of H.list self.new) time table low high most) (reply_seen result) }
+        ensures same { KeepsOther self.old self.new }
+        ensures told { IsOrMemory
+            (page_reply (content_of H.list self.new) time table low high most) (reply_seen result) }
         ensures ready { H.ready self.old.inner → H.ready self.new.inner }
     {
         match self.inner.page(time, table, low, high, most) {
@@ -156,27 +156,27 @@ impl<H: NodeSide + Drop> PartsHost<H> {
     }
 
     /// Cuts what the node holds, and tells the first part of it.
-    fn whole(&mut self, base: Time, most_bytes: u32) -> Reply
+    fn whole(&mut self, base: Time, most: u32) -> Reply
         ensures legal { is_legal (H.list self.new.inner) ≡ true }
         ensures seen { IsPrefix (H.list self.old.inner) (H.list self.new.inner) }
-        ensures told { spec.TellsFirst self.old (cut_of (spec.content_of H.list self.new) base) most_bytes
+        ensures told { TellsFirst self.old (cut_of (content_of H.list self.new) base) most
             (reply_seen result) self.new }
-        ensures same { spec.KeepsCameAndHolds self.old self.new }
+        ensures same { KeepsCameAndHolds self.old self.new }
         ensures ready { H.ready self.old.inner → H.ready self.new.inner }
     {
         // A link keeps one copy.
         self.giving = None;
         match self.inner.cut(base) {
-            Ok(fragment) => self.begin(fragment, most_bytes),
+            Ok(fragment) => self.begin(fragment, most),
             Err(why) => Reply::Refused(why),
         }
     }
 
     /// Begins to give a fragment, where there is room for it, and tells the first part.
-    fn begin(&mut self, fragment: Fragment, most_bytes: u32) -> Reply
+    fn begin(&mut self, fragment: Fragment, most: u32) -> Reply
         requires { self.old.giving ≡ None }
-        ensures told { spec.TellsFirst self.old (Ok fragment) most_bytes (reply_seen result) self.new }
-        ensures same { spec.KeepsButGiving self.old self.new }
+        ensures told { TellsFirst self.old (Ok fragment) most (reply_seen result) self.new }
+        ensures same { KeepsButGiving self.old self.new }
     {
         let room = self.most_bytes.saturating_sub(self.came.bytes());
         let Some(bytes) = bytes_of(fragment.facts(), room) else {
@@ -184,7 +184,7 @@ impl<H: NodeSide + Drop> PartsHost<H> {
                 most: self.most_bytes,
             });
         };
-        let giving = Giving::begin(fragment, u64::from(most_bytes), bytes);
+        let giving = Giving::begin(fragment, u64::from(most), bytes);
         match giving.told(self.alloc) {
             Ok(reply) => {
                 self.giving = giving.next();
@@ -196,8 +196,8 @@ impl<H: NodeSide + Drop> PartsHost<H> {
 
     /// Tells the next part of what is given.
     fn more(&mut self) -> Reply
-        ensures told { spec.TellsMore self.old (reply_seen result) self.new }
-        ensures same { spec.KeepsButGiving self.old self.new }
+        ensures told { TellsMore self.old (reply_seen result) self.new }
+        ensures same { KeepsButGiving self.old self.new }
     {
         let Some(giving) = self.giving.take() else {
             return Reply::Refused(Refusal::NoPart);
@@ -229,8 +229,8 @@ impl<H: NodeSide + Drop> PartsHost<H> {
 
     /// Takes a part behind those that came before.
     fn add(&mut self, facts: Vec<(VersionKey, Version)>) -> Reply
-        ensures told { spec.TellsCome self.old facts.items (reply_seen result) self.new }
-        ensures same { spec.KeepsButCame self.old self.new }
+        ensures told { TellsCome self.old facts.items (reply_seen result) self.new }
+        ensures same { KeepsButCame self.old self.new }
     {
         if bytes_of(&facts, self.room()).is_none() {
             return Reply::Refused(Refusal::LinkFull {
@@ -248,8 +248,8 @@ impl<H: NodeSide + Drop> PartsHost<H> {
     /// Has the inner host join what the head and the parts that came make.
     fn join(&mut self, head: Head) -> Reply
         requires ready { H.ready self.old.inner }
-        ensures told { spec.JoinsMade H.may self.old.inner (of_facts head self.old.came) (reply_seen result) self.new.inner }
-        ensures same { spec.LetsGo self.old self.new }
+        ensures told { JoinsMade H.may self.old.inner (of_facts head self.old.came) (reply_seen result) self.new.inner }
+        ensures same { LetsGo self.old self.new }
         ensures ready { H.ready self.new.inner }
     {
         let came = replace(&mut self.came, Assembly::new(self.alloc));
@@ -261,7 +261,7 @@ impl<H: NodeSide + Drop> PartsHost<H> {
 
     /// Holds a time, once there is room for the hold in the link's list.
     fn hold(&mut self, time: Time) -> Reply
-        ensures told { spec.IsHeld H.may_hold self.old time (reply_seen result) self.new }
+        ensures told { IsHeld H.may_hold self.old time (reply_seen result) self.new }
         ensures ready { H.ready self.old.inner → H.ready self.new.inner }
     {
         if self.holds.len() >= MOST_HOLDS {
@@ -269,7 +269,14 @@ impl<H: NodeSide + Drop> PartsHost<H> {
                 most: MOST_HOLDS as u64,
             });
         }
-        if self.holds.push(Hold { reader: 0, at: time }).is_err() {
+        if self
+            .holds
+            .push(Hold {
+                reader: 0,
+                at: time,
+            })
+            .is_err()
+        {
             return Reply::Refused(Refusal::Memory);
         }
         self.ask_hold(time)
@@ -278,7 +285,7 @@ impl<H: NodeSide + Drop> PartsHost<H> {
     /// Holds a time. The last place in the link's list is free for the hold.
     fn ask_hold(&mut self, time: Time) -> Reply
         requires { 0 < length self.old.holds }
-        ensures told { spec.AsksHoldInPlace H.may_hold self.old time (reply_seen result) self.new }
+        ensures told { AsksHoldInPlace H.may_hold self.old time (reply_seen result) self.new }
         ensures ready { H.ready self.old.inner → H.ready self.new.inner }
     {
         match self.inner.hold(time) {
@@ -303,7 +310,7 @@ impl<H: NodeSide + Drop> PartsHost<H> {
 
     /// Releases a hold of this link.
     fn release(&mut self, number: u64) -> Reply
-        ensures told { spec.IsReleased H.may_release self.old number (reply_seen result) self.new }
+        ensures told { IsReleased H.may_release self.old number (reply_seen result) self.new }
         ensures ready { H.ready self.old.inner → H.ready self.new.inner }
     {
         let Some(hold) = hold_of(&self.holds, number) else {
@@ -332,7 +339,7 @@ impl<H: NodeSide + Drop> PartsHost<H> {
     /// Answers a request of version 2.
     fn answer_later(&mut self, request: Request) -> Reply
         requires ready { H.ready self.old.inner }
-        ensures told { spec.IsLaterReply H.list H.may H.may_hold H.may_release self.old request
+        ensures told { IsLaterReply H.list H.may H.may_hold H.may_release self.old request
             (reply_seen result) self.new }
         ensures ready { H.ready self.new.inner }
     {
