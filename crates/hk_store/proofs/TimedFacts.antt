@@ -148,11 +148,7 @@ stated_listed f births deaths born dead test vs ws first second index is q =
     ∙ list_any-append (eq_by_cmp version_key_cmp q) vs ws
     ∙ (λ i. (among vs q ∙ ap (λ s. set.contains s q) first ∙ timed_where (born_at f) births born test q) i || (among ws q ∙ ap (λ s. set.contains s q) second ∙ timed_where (died_at f) deaths dead test q) i)
 
--- as their calls answer
-pub until_ended : (f : FactsValue) (deaths : Times) → AreTimed (died_at f) deaths → (h : ℕ) {A E : Type 0} (r : Result A E) (items : A → List VersionKey) → IfOk r (λ w. set.from_list (items w) ≡ versions_where deaths (λ t. nat_le t h)) → IfOk r (λ w. (q : VersionKey) → is_among (items w) q ≡ ended_by f.ends h q)
-until_ended f deaths are h (Ok w) items is = ended_listed f deaths are h (items w) is
-until_ended f deaths are h (Err why) items is = tt
-
+-- as its call answers
 pub either_stated : (f : FactsValue) (births deaths : Times) → AreTimed (born_at f) births → AreTimed (died_at f) deaths → (test : ℕ → Bool) (vs ws : List VersionKey) → set.from_list vs ≡ versions_where births test → set.from_list ws ≡ versions_where deaths test
     → (more : List VersionKey) → more ≡ ws → {E : Type 0} (r : Result (set.FinSet version_key_cmp) E) → IfOk r (λ index. index ≡ set.from_list (vs ++ more)) → IfOk r (λ index. (q : VersionKey) → set.contains index q ≡ is_stated f test q)
 either_stated f births deaths born dead test vs ws first second more same (Ok index) is = stated_listed f births deaths born dead test vs ws first second index (is ∙ ap (λ l. set.from_list (vs ++ l)) same)

@@ -24,7 +24,7 @@ impl Facts {
     }
 
     /// Drops each version whose end is known and at most `until`. The only refusal is `Memory`, and it
-    /// changes nothing. Cost: O((1 + d) · log n), n facts, d versions that go.
+    /// changes nothing. Cost: O((1 + d) · log n), n facts, d versions that go, in the order of their births.
     pub fn drop_until(&mut self, until: Time) -> Result<(), Refusal>
         ensures ok { OnOk result (self.new ≡ pruned_facts self.old until) }
         ensures err { IfErr result (λ why. why ≡ Memory) }

@@ -14,14 +14,16 @@ use hk_types::{Refusal, Time, VersionKey};
 use std::alloc::Global;
 
 impl Facts {
-    /// The versions whose end is known and at most `until`. The only refusal is `Memory`.
-    /// Cost: O(log n + k), n facts, k versions given.
+    /// The versions whose end is known and at most `until`, in the order of their births, by which they lie in the index by
+    /// birth, and their rows in memory. The only refusal is `Memory`. Cost: O(log n + k · log k), n facts, k versions given.
     pub fn ended(&self, alloc: Global, until: Time) -> Result<Vec<VersionKey>, Refusal>
         ensures ok { IfOk result (λ versions. (q : VersionKey) → is_among versions.items q
             ≡ ended_by self.now.ends until q) }
         ensures err { IfErr result (λ why. why ≡ Memory) }
     {
-        self.deaths.until(alloc, until)
+        let mut versions = self.deaths.until(alloc, until)?;
+        versions.sort_unstable_by_key(|version| version.born);
+        Ok(versions)
     }
 
     /// The versions that have a row born up to a time, or an end up to it. The only refusal is `Memory`.
