@@ -1,6 +1,5 @@
 mod BothNeverCut
 mod BothLaws
-mod GivenParts
 mod WholeGiven
 mod LinkSteps
 mod LinkHolds

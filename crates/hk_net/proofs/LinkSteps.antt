@@ -60,16 +60,16 @@ Comes l bytes facts reply came = ((reply, came) ≡ come_step l bytes facts) ⊎
 pub come_refused : {S : Type 0} (l : LinkValue S) (bytes : Option ℕ) (facts : List Known) → is_none bytes ≡ true
     → ((Refused (refusals.LinkFull l.most), l.came) ≡ come_step l bytes facts) ⊎ ((Refused (refusals.LinkFull l.most) ≡ Refused refusals.Memory) × (l.came ≡ l.came))
 come_refused l None facts over = inl refl
-come_refused l (Some bytes) facts over = absurd over
+come_refused l (Some bytes) facts over = absurd cc
 
 come_by : {S : Type 0} (l : LinkValue S) (facts : List Known) (b : Bool) → b ≡ true
     → (Added (length (l.came ++ facts)), l.came ++ facts) ≡ cond b (Added (length (l.came ++ facts)), l.came ++ facts) (Refused (refusals.Form BadOrder), l.came)
 come_by l facts true rising = refl
-come_by l facts false rising = absurd rising
+come_by l facts false rising = absurd cc
 
 pub come_told : {S : Type 0} (l : LinkValue S) (bytes : Option ℕ) (facts came : List Known) (count : ℕ) → is_none bytes ≡ false → came ≡ l.came ++ facts → rises came ≡ true → count ≡ length came
     → Comes l bytes facts (Added count) came
-come_told l None facts came count some is rising counted = absurd some
+come_told l None facts came count some is rising counted = absurd cc
 come_told l (Some bytes) facts came count some is rising counted =
     inl (ap (λ (n : ℕ). (Added n, came)) counted ∙ (ap (λ (c : List Known). (Added (length c), c)) is ∙ come_by l facts (rises (l.came ++ facts)) (ap rises (sym is) ∙ rising)))
 
@@ -81,6 +81,6 @@ order_refused l facts false bytes = inl refl
 
 pub come_lacks : {S : Type 0} (l : LinkValue S) (bytes : Option ℕ) (facts : List Known) (why : Refusal) → is_none bytes ≡ false → why ≡ part_refusal l.came facts
     → Comes l bytes facts (Refused why) l.came
-come_lacks l None facts why some is = absurd some
+come_lacks l None facts why some is = absurd cc
 come_lacks l (Some bytes) facts why some is =
     subst (λ (w : Refusal). Comes l (Some bytes) facts (Refused w) l.came) (sym is) (order_refused l facts (rises (l.came ++ facts)) bytes)

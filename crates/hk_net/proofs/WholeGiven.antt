@@ -1,6 +1,6 @@
 -- What a link tells from Whole to the last part makes the fragment that was cut.
 use Rattle.std.proofs.Common.{◌≡◌, ℕ, zero, suc, ◌<◌, ◌-◌, Bool, true, false, cond, eqb, List, [], ◌∷◌, ◌++◌, length, map, take, drop, Option, Some, None, Result, Ok, refl, sym, ap, subst, ◌∙◌, append-nil, arith}
-use Rattle.std.proofs.lemmas.Bool.{eqb-eq}
+use Rattle.std.proofs.lemmas.Bool.{eqb-true}
 use Rattle.std.proofs.lemmas.List.{length-drop, nil_from_length, take-append-drop}
 use Rattle.hk_model.specs.Replica.Fragments.{FragmentValue}
 use Rattle.hk_types.specs.declared.faults.FormFault.{FormFault}
@@ -35,12 +35,12 @@ next_tells replies whole count part rest left joined told = record { has_facts =
 -- a part is told, the last one or another
 part_tells : (n : ℕ) (g : GivingValue) (part rest : List Known) (b : Bool) → eqb (length rest) 0 ≡ b → part ++ rest ≡ g.left → (b ≡ false → Tells (replies_for n (Some (record g { left = rest }))) rest g.whole)
     → Tells (cond b (LastPart part (wire_head_of (head_of g.whole))) (Part (length rest) part) ∷ replies_for n (cond b None (Some (record g { left = rest })))) g.left g.whole
-part_tells n g part rest true last joined after = last_tells n g.whole part rest g.left (nil_from_length rest (eqb-eq (length rest) 0 last)) joined
+part_tells n g part rest true last joined after = last_tells n g.whole part rest g.left (nil_from_length rest (eqb-true (length rest) 0 last)) joined
 part_tells n g part rest false more joined after = next_tells _ g.whole (length rest) part rest g.left joined (after refl)
 
 -- each part has a fact where one is left
 is_shorter : (most : ℕ) (facts : List Known) → eqb (length (rest_after most facts)) 0 ≡ false → length (rest_after most facts) < length facts
-is_shorter most [] more = absurd more
+is_shorter most [] more = absurd cc
 is_shorter most (e ∷ facts) more = let l = length-drop (count_within (most - fact_bytes e) facts) facts in omega (arith, l)
 
 goes_on : (n : ℕ) (g : GivingValue) → length g.left < n → Tells (replies_for n (Some g)) g.left g.whole
