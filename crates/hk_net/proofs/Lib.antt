@@ -1,7 +1,6 @@
 mod BothNeverCut
 mod BothLaws
 mod WholeGiven
-mod LinkSteps
 mod LinkHolds
 mod JoinRequests
 mod Seen

@@ -64,7 +64,10 @@ fn later_reply(answer: FirstReply) -> Reply
     match answer {
         FirstReply::Done { ops } => Reply::Done { ops },
         FirstReply::Refused(why) => Reply::Refused(why),
-        _ => Reply::Refused(Refusal::Form(FormFault::BadKind)),
+        other => {
+            drop(other);
+            Reply::Refused(Refusal::Form(FormFault::BadKind))
+        }
     }
 }
 
@@ -73,7 +76,7 @@ fn set_last(holds: &mut Vec<Hold>, hold: Hold)
     requires { 0 < vec_len holds.old }
     ensures { holds.new.items ≡ take (vec_len holds.old - 1) holds.old.items ++ hold ∷ [] }
 {
-    let last = holds.len() - 1;
+    let last = holds.as_slice().len() - 1;
     holds[last] = hold;
 }
 

@@ -63,8 +63,10 @@ impl<J: NodeName> SeatHost<J> {
 
     /// The log that the node is of.
     pub(crate) fn config(&self) -> Config
-        ensures { result ≡ J.config }
+        ensures log { result ≡ J.config }
+        ensures legal { is_legal self.now ≡ true }
     {
+        let _known = self.seat.seen();
         self.seat.config()
     }
 

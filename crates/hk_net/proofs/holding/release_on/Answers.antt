@@ -4,4 +4,4 @@ use Rattle.hk_net.proofs.GuardedReplies.{change_is}
 use Rattle.hk_net.proofs.holding.release_on.Goals as goal
 
 pub returns-in-Ok-clause-released : goal.returns-in-Ok-clause-released
-returns-in-Ok-clause-released g c = change_is _ _ _ c.in-Ok.receipt _ _ c.learn.ensures.told (ap Done c.ops.ensures) c.in-Ok.ensures.last
+returns-in-Ok-clause-released g c = change_is _ _ _ c.in-Ok.receipt _ _ c.learn.ensures.told (ap Done c.ops-ops.ensures) c.in-Ok.ensures.last
