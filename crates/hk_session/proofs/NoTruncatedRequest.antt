@@ -307,22 +307,22 @@ of_kind_whole kind bytes =
     (cond_whole (eqb kind 22) _ _ (made_whole _ whole_at whole_whole bytes)
     (cond_whole (eqb kind 23) _ _ (made_whole _ time_at time_whole bytes) refl)))))))
 
-pub message_head_whole : Whole message_head_at
+pub message_head_whole : (version : ℕ) → Whole (message_head_at version)
 unfolding message_head_at
-message_head_whole bytes =
-    bind_whole (byte_at bytes) _ (byte_whole bytes) (λ version.
-    bind_whole (check (cond (eqb version.0 1) false true) BadVersion) _ (check_whole _ BadVersion refl) (λ _. byte_whole version.1))
+message_head_whole version bytes =
+    bind_whole (byte_at bytes) _ (byte_whole bytes) (λ first.
+    bind_whole (check (cond (eqb first.0 version) false true) BadVersion) _ (check_whole _ BadVersion refl) (λ _. byte_whole first.1))
 
-pub message_whole : {X : Type 0} (body : ℕ → Reader X) → ((kind : ℕ) → Whole (body kind)) → Whole (message_at body)
+pub message_whole : {X : Type 0} (version : ℕ) (body : ℕ → Reader X) → ((kind : ℕ) → Whole (body kind)) → Whole (message_at version body)
 unfolding message_at
-message_whole body h bytes =
-    bind_whole (message_head_at bytes) _ (message_head_whole bytes) (λ kind.
+message_whole version body h bytes =
+    bind_whole (message_head_at version bytes) _ (message_head_whole version bytes) (λ kind.
     bind_whole (body kind.0 kind.1) _ (h kind.0 kind.1) (λ x.
     bind_whole (check (ltb 0 (length x.1)) WrongLength) _ (check_whole _ WrongLength refl) (λ _. refl)))
 
 pub request_whole : Whole request_at
 unfolding request_at
-request_whole = message_whole request_of of_kind_whole
+request_whole = message_whole 1 request_of of_kind_whole
 
 pub requests_never_cut : NeverCut version_one
 requests_never_cut rest e =
