@@ -14,7 +14,7 @@ ROOT = pathlib.Path(__file__).resolve().parent.parent
 # Debian's Python has Debian's modules
 PYTHON = "/usr/bin/python3" if os.path.exists("/usr/bin/python3") else sys.executable
 # the smallest number that is worth a run, and what it needs beside bin/hkrep
-SMALL = {"bench/run": ("500", ()), "bench/links": ("20", ()), "bench/python": ("1000", ("redis",)), "bench/connectors.py": ("50", ("redis",)),
+SMALL = {"bench/run": ("500", ()), "bench/links": ("20", ()), "bench/parts": ("1", ()), "bench/python": ("1000", ("redis",)), "bench/connectors.py": ("50", ("redis",)),
          "bench/c_library": ("2000", ("gcc", "lib/"))}
 
 

@@ -27,16 +27,17 @@ LIMIT = 30
 
 
 class Node:
-    """A node of `hkrep serve`, which is ended at the latest when the block is left; limits are of `resource`."""
+    """A node of `hkrep serve`, which is ended at the latest when the block is left; `words` are more of its command line, limits are of
+    `resource`."""
 
-    def __init__(self, links, log=7, streams=1, environment=None, port=None, **limits):
+    def __init__(self, links, log=7, streams=1, environment=None, port=None, words=(), **limits):
         def restrict():
             for name, limit in limits.items():
                 resource.setrlimit(getattr(resource, name), (limit, limit))
 
         self.port = port or free_port()
         self.child = subprocess.Popen(
-            [PROGRAM, "serve", "--log", str(log), "--streams", str(streams), "--port", str(self.port), "--links", str(links)],
+            [PROGRAM, "serve", "--log", str(log), "--streams", str(streams), "--port", str(self.port), "--links", str(links), *words],
             stdout=subprocess.PIPE, stderr=subprocess.PIPE, text=True, env=environment, preexec_fn=restrict)
         lines = queue.Queue()
         threading.Thread(target=lambda: lines.put(self.child.stdout.readline()), daemon=True).start()
@@ -448,7 +449,9 @@ def push_to_bad_peers():
             ("the replies end after one", [say.done(2), b""], False, ["done 2", "refused 1"]),
             ("a reply is cut", [say.done(2)[:9]], False, ["refused 1"]),
             ("a reply of a request's kind", [say.front()], False, ["refused 4"]),
-            ("a reply of another version", [say.framed(b"\2\x20")], False, ["refused 3"]),
+            ("a reply of another version", [say.framed(b"\3\x20")], False, ["refused 3"]),
+            ("a kind of version 1 in version 2", [say.framed(b"\2\x20")], False, ["refused 4"]),
+            ("a reply in version 2", [say.framed(b"\2\x46" + bytes(8))], False, ["refused 3"]),
             ("a reply that is too long", [say.u32(2 ** 28 + 1)], False, ["refused 2"]),
             ("done with 0", [say.done(0)], False, ["refused 6"]),
             ("the link is cut off", [], True, ["refused 91"])):

@@ -114,9 +114,8 @@ def fields_of_items(frames):
     return message(16, [("count", u32(len(frames)))] + [("frame", frame) for frame in frames])
 
 
-def fields_of_fragment(base=0, horizon=0, streams=((0, 0, (), ()),), facts=(), log=7):
-    """streams: (prefix, closed, extra numbers, waiting marks); facts: (table, key, born, row or None, died or None), a row
-    being (tag, body)"""
+def fields_of_head(base=0, horizon=0, streams=((0, 0, (), ()),), log=7):
+    """streams: (prefix, closed, extra numbers, waiting marks)"""
     fields = [("log", u64(log)), ("streams", u16(len(streams))), ("base", u64(base)), ("horizon", u64(horizon))]
     for prefix, closed, extra, waiting in streams:
         fields += [("prefix", u64(prefix)), ("closed", u64(closed)), ("count of extra numbers", u32(len(extra)))]
@@ -124,7 +123,12 @@ def fields_of_fragment(base=0, horizon=0, streams=((0, 0, (), ()),), facts=(), l
         fields.append(("count of waiting marks", u32(len(waiting))))
         for n, m in waiting:
             fields += [("n", u64(n)), ("m", u64(m))]
-    fields.append(("count of facts", u32(len(facts))))
+    return fields
+
+
+def fields_of_facts(facts):
+    """facts: (table, key, born, row or None, died or None), a row being (tag, body)"""
+    fields = [("count of facts", u32(len(facts)))]
     for table, key, born, row, died in facts:
         flags = (1 if row is not None else 0) + (2 if died is not None else 0)
         fields += [("table", u16(table)), ("key", u64(key)), ("born", u64(born)), ("flags", u8(flags))]
@@ -133,6 +137,10 @@ def fields_of_fragment(base=0, horizon=0, streams=((0, 0, (), ()),), facts=(), l
         if died is not None:
             fields.append(("died", u64(died)))
     return fields
+
+
+def fields_of_fragment(base=0, horizon=0, streams=((0, 0, (), ()),), facts=(), log=7):
+    return fields_of_head(base, horizon, streams, log) + fields_of_facts(facts)
 
 
 def get(table, key):
@@ -195,11 +203,16 @@ def fields_of_one(row):
     return message(35, [("kind of answer", u8(1)), ("presence", u8(row is not None))] + ([] if row is None else [("tag", u32(row[0]))] + fields_of_body(row[1])))
 
 
-def fields_of_rows(rows):
-    fields = [("kind of answer", u8(2)), ("count of rows", u32(len(rows)))]
+def fields_of_list(rows):
+    """Rows behind their count."""
+    fields = [("count of rows", u32(len(rows)))]
     for key, tag, body in rows:
         fields += fields_of_row(key, tag, body)
-    return message(35, fields)
+    return fields
+
+
+def fields_of_rows(rows):
+    return message(35, [("kind of answer", u8(2))] + fields_of_list(rows))
 
 
 def fields_of_number(number):
@@ -213,6 +226,52 @@ def fields_of_refused(number, first=0, second=0):
 def refused(number, first=0, second=0):
     return spelled(fields_of_refused(number, first, second))
 
+
+# ---- messages of version 2
+
+def later(kind, fields=()):
+    return [("version", u8(2)), ("kind", u8(kind)), *fields]
+
+
+def fields_of_page_of(time, table, low, high, most):
+    """What a page is asked of."""
+    return later(50, [("time", u64(time)), ("table", u16(table)), ("low", u64(low)), ("high", u64(high)), ("most rows", u32(most))])
+
+
+def fields_of_whole(base, part_bytes):
+    return later(51, [("base", u64(base)), ("bytes of a part", u32(part_bytes))])
+
+
+def fields_of_told(horizon=0, readable=0, operations=1, hold=None, streams=((0, 0, 0, 0),), damaged=0, log=7):
+    """streams: (prefix, closed, how many extra numbers, how many waiting marks)"""
+    fields = [("log", u64(log)), ("horizon", u64(horizon)), ("readable", u64(readable)), ("damaged", u8(damaged)), ("operations", u64(operations)),
+              ("hold", u8(hold is not None))] + ([] if hold is None else [("least hold", u64(hold))]) + [("streams", u16(len(streams)))]
+    for prefix, closed, extra, waiting in streams:
+        fields += [("prefix", u64(prefix)), ("closed", u64(closed)), ("extra", u64(extra)), ("waiting", u64(waiting))]
+    return later(65, fields)
+
+
+def fields_of_page(rows, more):
+    return later(67, [("more", u8(more))] + fields_of_list(rows))
+
+
+def fields_of_part(facts, left):
+    return later(68, [("facts to come", u64(left))] + fields_of_facts(facts))
+
+
+def fields_of_last_part(facts, **head):
+    return later(69, fields_of_facts(facts) + fields_of_head(**head))
+
+
+def fields_of_held(hold, time):
+    return later(71, [("number", u64(hold)), ("time", u64(time))])
+
+
+def fields_of_later_refused(number, first=0, second=0):
+    return later(72, [("number", u8(number)), ("first", u64(first)), ("second", u64(second))])
+
+
+# ---- frames with a field that is changed
 
 def patched(fields, name, text, which=0):
     """The frame with the bytes of a named field changed; `which` counts the fields of that name from 0."""

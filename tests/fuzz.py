@@ -245,18 +245,30 @@ def random_request(source):
         lambda: say.merge_this(**{**fragment, "base": 0}), lambda: say.prune(time_)])()
 
 
-def session_of(source):
-    return mutated_frames(source, [random_request(source) for _ in range(source.randint(1, 12))])
+def random_later(source):
+    """A request of version 2. What is added is mostly in order, and heads are such as parts of it may have."""
+    key, time_, base = source.randint(1, 4), source.choice([0, 1, 2, 9, 2 ** 62]), source.choice([0, 0, 1, 3])
+    facts = [(1, it, 4, (9, bytes([it])), source.choice([None, 5])) for it in range(source.randint(1, 3), 6)]
+    head = {"base": base, "horizon": source.choice([0, base]), "streams": [(4, 4, source.choice([(), (6, 8)]), source.choice([(), ((7, 9),)]))]}
+    return source.choice([
+        say.status, lambda: say.latest(say.get(1, key)), lambda: say.latest(say.scan(1, 0, key)), lambda: say.page(time_, 1, 0, key, source.randint(1, 3)),
+        lambda: say.whole(base, source.choice([0, 50, 2 ** 32 - 1])), say.more, say.more, lambda: say.add(facts), lambda: say.add(facts[:1]),
+        lambda: say.join_parts(**head), lambda: say.merge_parts(**{**head, "base": 0}), lambda: say.hold(time_), lambda: say.release(key)])()
+
+
+def session_of(source, makes):
+    return mutated_frames(source, [source.choice(makes)(source) for _ in range(source.randint(1, 12))])
 
 
 def replies_to(node, data):
-    """What is replied until the node ends the link."""
+    """What is replied until the node ends the link; of version 2 by its kind, since none of that version ends a link."""
     with node.link() as link:
         link.send(data)
         link.half_close()
         found = []
-        while (reply := link.reply()) is not None:
-            found.append(reply)
+        while (rest := link.rest()) is not None:
+            reply = say.read_reply(rest)
+            found.append(reply if rest[0] == 1 else ("version 2", rest[1]))
         return found
 
 
@@ -267,9 +279,9 @@ def end_of(found):
     return faults[-1] if faults else 0
 
 
-def problems_of_node(datas, seed):
+def problems_of_node(datas, seed, words):
     """Sessions with one node, one after the other."""
-    with Node(len(datas)) as node:
+    with Node(len(datas), words=words) as node:
         problems, wanted = [], []
         for number, data in enumerate(datas):
             try:
@@ -286,13 +298,27 @@ def problems_of_node(datas, seed):
         return problems
 
 
-def sessions(cases, seed):
-    source = random.Random(f"{seed} sessions")
-    datas = [session_of(source) for _ in range(cases)]
+def sessions(cases, seed, makes=(random_request,), words=()):
+    source = random.Random(f"{seed} sessions of {len(makes)}")
+    datas = [session_of(source, makes) for _ in range(cases)]
     problems = []
     for at in range(0, cases, 64):
-        problems += problems_of_node(datas[at:at + 64], f"seed {seed} from {at}")
+        problems += problems_of_node(datas[at:at + 64], f"seed {seed} from {at}", words)
     return problems + problems_of_memory()
+
+
+def later_sessions(cases, seed):
+    """The same with a node that reads version 2, of requests of both versions."""
+    return sessions(cases, seed, (random_request, random_later, random_later), ("--messages", "2", "--parts-bytes", "2000"))
+
+
+def random_later_reply(source):
+    rows = b"\2\x43\1" + say.u32(2) + b"".join(say.u64(key) + say.u32(9) + say.u16(1) + b"x" for key in (5, 6))
+    told = say.fields.fields_of_told(1, 3, 9, 2, [(3, 3, 0, 0), (0, 4, 1, 2)])
+    facts = [(1, 5, 1, (9, b"a"), 3), (1, 6, 2, None, 4)]
+    return source.choice([say.spelled(told), say.framed(rows), say.spelled(say.fields.fields_of_part(facts, 1)), say.framed(b"\2\x46" + say.u64(7)),
+                          say.spelled(say.fields.fields_of_last_part(facts, streams=[(1, 1, (4,), ((5, 6),))])), say.spelled(say.fields.fields_of_held(1, 2)),
+                          say.framed(b"\2\x42" + say.u64(3) + b"\3" + say.u64(7)), say.spelled(say.fields.fields_of_later_refused(46, 9))])
 
 
 def random_reply(source):
@@ -304,8 +330,9 @@ def random_reply(source):
 
 def problem_of_push(source):
     """`push` of a few requests to a peer that replies mutated bytes and ends the link."""
-    answer = mutated_frames(source, [random_reply(source) for _ in range(3)])
-    request = mutated_frames(source, [say.front() for _ in range(3)])
+    make, asked = source.choice([(random_reply, say.front()), (random_later_reply, say.status())])
+    answer = mutated_frames(source, [make(source) for _ in range(3)])
+    request = mutated_frames(source, [asked] * 3)
     with socket.create_server(("127.0.0.1", 0)) as listener:
         listener.settimeout(LIMIT)
         words = [PROGRAM, "push", "--port", str(listener.getsockname()[1])]
@@ -339,6 +366,7 @@ KINDS = {
     "world": lambda cases, seed: runs("world", of_world, cases, seed),
     "lines": lambda cases, seed: runs("lines", of_lines, cases, seed),
     "sessions": sessions,
+    "later": later_sessions,
     "push": pushes,
 }
 

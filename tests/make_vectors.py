@@ -13,11 +13,13 @@ import sys
 
 sys.dont_write_bytecode = True
 import fields as of
+import later_vectors as later
 import reference
 
 FOLDER = pathlib.Path(__file__).resolve().parent / "vectors"
 LAST, MOST = 2 ** 62, 2 ** 64 - 1
 OVER = of.u64(LAST + 1)
+QUERIES = {"get": of.get, "range": of.scan, "tag": of.by_tag, "count": of.count}
 
 
 # ---------------------------------------------------------------- items
@@ -285,21 +287,28 @@ class Session:
     def front(self):
         self.step(of.front(), of.spelled(of.fields_of_front(self.horizon, self.readable())))
 
-    def ask(self, time, kind, *words):
-        query = {"get": of.get, "range": of.scan, "tag": of.by_tag, "count": of.count}[kind](*words)
-        if time < self.horizon:
-            return self.refuse(of.ask(time, query), 25, self.horizon)
-        if time > self.readable():
-            return self.refuse(of.ask(time, query), 26, self.readable())
-        rows = {key: row for (table, key), row in reference.shown(self.items, time).items() if table == words[0]}
+    def unread(self, time):
+        """Why a time can't be read: the number of the refusal and its field."""
+        return (25, self.horizon) if time < self.horizon else (26, self.readable()) if time > self.readable() else None
+
+    def rows(self, time, table, low=0, high=MOST):
+        shown = reference.shown(self.items, time).items()
+        return sorted((key, *row) for (of_table, key), row in shown if of_table == table and low <= key <= high)
+
+    def answer(self, time, kind, *words):
+        """The message of an answer at a time that can be read."""
+        rows = self.rows(time, words[0], *(words[1:] if kind == "range" else ()))
         if kind == "get":
-            told = of.fields_of_one(rows.get(words[1]))
-        elif kind == "count":
-            told = of.fields_of_number(len(rows))
-        else:
-            low, high = words[1:] if kind == "range" else (0, MOST)
-            told = of.fields_of_rows([(key, *row) for key, row in sorted(rows.items()) if low <= key <= high and (kind == "range" or row[0] == words[1])])
-        return self.step(of.ask(time, query), of.spelled(told))
+            return of.fields_of_one(next(((tag, body) for key, tag, body in rows if key == words[1]), None))
+        if kind == "count":
+            return of.fields_of_number(len(rows))
+        return of.fields_of_rows([row for row in rows if kind == "range" or row[1] == words[1]])
+
+    def ask(self, time, kind, *words):
+        query = QUERIES[kind](*words)
+        if self.unread(time):
+            return self.refuse(of.ask(time, query), *self.unread(time))
+        return self.step(of.ask(time, query), of.spelled(self.answer(time, kind, *words)))
 
     def prune(self, time):
         if time > self.readable():
@@ -347,6 +356,111 @@ class Session:
 
     def told(self):
         return {"name": self.name, "log": self.log, "streams": self.streams, "steps": self.steps, "ends": self.ends}
+
+
+class LaterSession(Session):
+    """The same with messages of version 2: what the link gives and took in parts, and its holds."""
+
+    def __init__(self, name, log=7, streams=1):
+        super().__init__(name, log, streams)
+        self.giving, self.came, self.holds, self.next_hold = None, [], {}, 1
+
+    def later_step(self, request, reply):
+        self.step(of.spelled(request), of.spelled(reply))
+
+    def later_refuse(self, request, *refused):
+        self.later_step(request, of.fields_of_later_refused(*refused))
+
+    def later_done(self, request):
+        self.ops += 1
+        self.later_step(request, of.later(64, [("operations", of.u64(self.ops))]))
+
+    def told(self):
+        return {**super().told(), "version": 2}
+
+    def status(self):
+        known = self.fragment(0)
+        streams = [(prefix, closed, len(extra), len(waiting)) for prefix, closed, extra, waiting in known["streams"]]
+        least = min(self.holds.values(), default=None)
+        self.later_step(of.later(48), of.fields_of_told(self.horizon, self.readable(), self.ops, least, streams, log=self.log))
+
+    def latest(self, kind, *words):
+        time = self.readable()
+        self.later_step(of.later(49, QUERIES[kind](*words)), of.later(66, [("time", of.u64(time))] + self.answer(time, kind, *words)[2:]))
+
+    def page(self, time, table, low, high, most):
+        request = of.fields_of_page_of(time, table, low, high, most)
+        if self.unread(time):
+            return self.later_refuse(request, *self.unread(time))
+        rows = self.rows(time, table, low, high)
+        return self.later_step(request, of.fields_of_page(rows[:most], len(rows) > most))
+
+    def whole(self, base, part_bytes):
+        request = of.fields_of_whole(base, part_bytes)
+        self.giving = None
+        if 0 < base < self.horizon:
+            return self.later_refuse(request, 25, self.horizon)
+        self.giving = self.fragment(base), part_bytes
+        return self.next_part(request)
+
+    def more(self):
+        if self.giving is None:
+            return self.later_refuse(of.later(52), 47)
+        return self.next_part(of.later(52))
+
+    def next_part(self, request):
+        """The longest front that has at most so many bytes, or one fact; with the last one the head."""
+        (fragment, part_bytes), room, count = self.giving, self.giving[1], 0
+        for fact in fragment["facts"]:
+            room -= sum(len(text) for _, text in of.fields_of_facts([fact])[1:])
+            count += room >= 0 or count == 0
+            if room < 0:
+                break
+        part, left = fragment["facts"][:count], fragment["facts"][count:]
+        if left:
+            self.giving = {**fragment, "facts": left}, part_bytes
+            return self.later_step(request, of.fields_of_part(part, len(left)))
+        self.giving = None
+        return self.later_step(request, of.fields_of_last_part(part, **{name: it for name, it in fragment.items() if name != "facts"}))
+
+    def add(self, facts):
+        request = of.later(53, of.fields_of_facts(facts))
+        if self.came and facts and facts[0][:3] <= self.came[-1][:3]:
+            return self.later_refuse(request, 7)
+        self.came += facts
+        return self.later_step(request, of.later(70, [("count", of.u64(len(self.came)))]))
+
+    def take_parts(self, other, base, refused=None, is_merge=False):
+        """Joins what another holds, of which all facts came, or is refused."""
+        head = {name: it for name, it in other.fragment(base).items() if name != "facts"}
+        request, self.came = of.later(55 if is_merge else 54, of.fields_of_head(**head)), []
+        if refused:
+            return self.later_refuse(request, *refused)
+        self.items += [it for it in other.items if not any(value_of(it) == value_of(known) for known in self.items)]
+        self.horizon = max(self.horizon, other.horizon)
+        return self.later_done(request)
+
+    def hold(self, time):
+        request = of.later(56, [("time", of.u64(time))])
+        if time < self.horizon:
+            return self.later_refuse(request, 25, self.horizon)
+        number, self.next_hold, self.ops = self.next_hold, self.next_hold + 1, self.ops + 1
+        self.holds[number] = time
+        return self.later_step(request, of.fields_of_held(number, time))
+
+    def release(self, number):
+        request = of.later(57, [("number", of.u64(number))])
+        if number not in self.holds:
+            return self.later_refuse(request, 44)
+        del self.holds[number]
+        return self.later_done(request)
+
+    def prune(self, time):
+        """Up to the time, or to the least hold below it."""
+        if time > self.readable():
+            return self.refuse(of.prune(time), 24, self.readable())
+        self.horizon = max(self.horizon, min(time, *self.holds.values(), time))
+        return self.done(of.prune(time))
 
 
 def day():
@@ -425,10 +539,106 @@ def sessions():
     return [it.told() for it in [*found, conflict]]
 
 
+def later_day():
+    """Every request of version 2 once or more, between those of version 1, on two streams."""
+    it, other = LaterSession("a day in version 2", streams=2), LaterSession("", streams=2)
+    mark = lambda stream, n, m: reference.Mark(7, stream, n, m)
+    second = entry(1, 4, [(2, 1, 8, b"x")], [(1, 6, 3)], stream=2)
+    it.status()
+    it.latest("get", 1, 5)
+    it.more()
+    it.take(E1, E2, E3, mark(1, 3, 3), mark(2, 0, 3))
+    for kind, *words in (("get", 1, 5), ("range", 1, 0, MOST), ("tag", 1, 9), ("count", 1), ("get", 2, 5)):
+        it.latest(kind, *words)
+    for words in ((3, 1, 0, MOST, 1), (3, 1, 6, MOST, 1), (3, 1, 0, MOST, 2), (3, 1, 9, 0, 5), (1, 1, 0, 9, 2 ** 32 - 1), (4, 1, 0, 9, 1)):
+        it.page(*words)
+    return it, other, mark, second
+
+
+def later_parts():
+    """Parts of one moment, and parts of another node, between changes."""
+    it, other, mark, second = later_day()
+    # parts of one moment, whatever is changed between them
+    it.whole(0, 0)
+    it.take(entry(4, 4, [(1, 9, 9, b"new")]))
+    it.more()
+    it.more()
+    it.more()
+    it.whole(2, 2 ** 32 - 1)
+    it.whole(0, 60)
+    it.whole(0, 23)
+    it.more()
+    it.status()
+    other.items = [E1, E2, E3, second, mark(1, 3, 5), mark(2, 1, 5)]
+    facts = other.fragment(3)["facts"]
+    it.add(facts[:1])
+    it.add(facts[:1])
+    it.add([])
+    it.add(facts[1:])
+    it.take_parts(other, 3)
+    it.take_parts(LaterSession("", log=8, streams=2), 0, (20,))
+    it.take_parts(LaterSession("", streams=1), 0, (21,))
+    it.latest("range", 1, 0, 9)
+    # what a head says of the facts that came: born at the base with a row, which no delta has
+    it.add([(1, 1, 1, (9, b""), None)])
+    it.take_parts(other, 3, (6,))
+    it.status()
+    return it
+
+
+def later_holds():
+    """Holds, prunes and a merge that would pass one."""
+    it, other = LaterSession("holds", streams=1), LaterSession("", streams=1)
+    it.take(E1, E2, E3, reference.Mark(7, 1, 3, 3))
+    it.hold(2)
+    it.hold(1)
+    it.prune(3)
+    it.status()
+    it.release(3)
+    it.release(2)
+    it.release(2)
+    it.prune(3)
+    it.hold(1)
+    it.hold(9)
+    it.ask(1, "get", 1, 5)
+    it.page(1, 1, 0, 9, 9)
+    it.whole(1, 9)
+    other.items, other.horizon = it.items, 3
+    it.add(other.fragment(0)["facts"])
+    it.take_parts(other, 0, (40, 1, 2), is_merge=True)
+    it.release(1)
+    it.add(other.fragment(0)["facts"])
+    it.take_parts(other, 0, is_merge=True)
+    it.status()
+    it.release(3)
+    it.status()
+    return it
+
+
+def later_faulty(name, data, number):
+    it = LaterSession(name)
+    it.take(E1, reference.Mark(7, 1, 1, 1))
+    it.hold(1)
+    it.fault(data, number)
+    return it
+
+
+def later_sessions():
+    """Sessions with a node that reads both versions. A fault of form is told in version 1 in either."""
+    found = [later_parts(), later_holds(), later_faulty("facts of a part that fall", of.spelled(of.later(53, of.fields_of_facts([FACT, FACT]))), 7),
+             later_faulty("a kind of version 1 in version 2", of.framed(b"\2\x11"), 4), later_faulty("a version 3", of.framed(b"\3\x30"), 3),
+             later_faulty("a half of a frame", of.spelled(of.later(52))[:5], 1)]
+    return [it.told() for it in found]
+
+
+FACT = (1, 5, 1, (9, b"a"), None)
+
+
 # ---------------------------------------------------------------- files
 
 FILES = {"items": items, "item_faults": item_faults, "requests": requests, "request_faults": request_faults, "replies": replies,
-         "reply_faults": reply_faults, "sessions": sessions}
+         "reply_faults": reply_faults, "sessions": sessions, "later_requests": later.requests, "later_request_faults": later.request_faults,
+         "later_replies": later.replies, "later_reply_faults": later.reply_faults, "later_sessions": later_sessions}
 
 
 def text_of(vectors):

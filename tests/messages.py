@@ -107,6 +107,56 @@ def merge_this(**parts):
     return either(lambda **it: request(vadungsil.MergeThis(made_fragment(**it))), fields.merge_this, **parts)
 
 
+# ---- requests of version 2
+
+def later(it):
+    return vadungsil.later.encode_request(it)
+
+
+def status():
+    return later(vadungsil.later.AskStreams())
+
+
+def latest(query):
+    return later(vadungsil.later.AskLatest(query))
+
+
+def page(*words):
+    """time, table, low, high, most rows"""
+    return later(vadungsil.later.AskPage(*words))
+
+
+def whole(base, part_bytes):
+    return later(vadungsil.later.Whole(base, part_bytes))
+
+
+def more():
+    return later(vadungsil.later.More())
+
+
+def add(facts):
+    """facts: as those of `join_this`"""
+    return later(vadungsil.later.AddPart(made_fragment(facts=facts).facts))
+
+
+def join_parts(**head):
+    return later(vadungsil.later.JoinParts(vadungsil.later.Head.of(made_fragment(**head))))
+
+
+def merge_parts(**head):
+    return later(vadungsil.later.MergeParts(vadungsil.later.Head.of(made_fragment(**head))))
+
+
+def hold(time):
+    return later(vadungsil.later.AskHold(time))
+
+
+def release(number):
+    return later(vadungsil.later.Release(number))
+
+
+# ---- replies
+
 def done(ops):
     return either(lambda it: vadungsil.encode_reply(vadungsil.Done(it)), fields.done, ops)
 
@@ -125,9 +175,33 @@ def fragment_of(it):
             "facts": [(of.version.table, of.version.key, of.version.born, row_of(of.row), of.died) for of in it.facts]}
 
 
+def known_of(facts):
+    return [(it.version.table, it.version.key, it.version.born, row_of(it.row), it.died) for it in facts]
+
+
+def read_later(it):
+    """The same of a reply of version 2."""
+    later_ = vadungsil.later
+    if isinstance(it, later_.Done):
+        return "done", it.operations
+    if isinstance(it, later_.Held):
+        return "held", it.number, it.time
+    if isinstance(it, later_.Added):
+        return "added", it.count
+    if isinstance(it, later_.Part):
+        return "part", known_of(it.facts), it.left
+    if isinstance(it, later_.LastPart):
+        return "last part", known_of(it.facts), fragment_of(it.head.with_facts(()))
+    if isinstance(it, vadungsil.Refused):
+        return ("refused", it.number, *(*it.values, 0, 0)[:2])
+    return type(it).__name__.lower(), it
+
+
 def read_reply(rest):
     """What the rest of a reply's frame says, as a tuple whose first part names it."""
     try:
+        if rest[:1] == b"\2":
+            return read_later(vadungsil.later.decode_reply(framed(rest)))
         it = vadungsil.decode_reply(framed(rest))
     except vadungsil.Fault as fault:
         raise ValueError(str(fault)) from fault
@@ -178,13 +252,15 @@ class Link:
             data.append(piece)
         return b"".join(data)
 
+    def rest(self):
+        """The rest of the next reply's frame, and None where the link ended between replies."""
+        first = self.socket.recv(1)
+        return self.read(int.from_bytes(first + self.read(3), "big")) if first else None
+
     def reply(self):
         """The next reply, and None where the link ended between replies."""
-        first = self.socket.recv(1)
-        if not first:
-            return None
-        length = int.from_bytes(first + self.read(3), "big")
-        return read_reply(self.read(length))
+        rest = self.rest()
+        return None if rest is None else read_reply(rest)
 
     def ask(self, it):
         self.send(it)

@@ -39,7 +39,7 @@ UNTYPED = {
 
 # What stands in a command of a page for something of the reader's own; a port is a free one.
 STAND_INS = {"FRAMES": "examples/first.bin", "NAME": "half_fed", "TIME": "1"}
-PORTS = r"\b(47000|47110|(?<=--port )P|(?<=--port )Q)\b"
+PORTS = r"\b(47000|4711[01]|(?<=--port )P|(?<=--port )Q)\b"
 
 
 def sources():
@@ -100,7 +100,7 @@ def as_said(printed, said):
 
 
 def serving(port):
-    node = subprocess.Popen([PROGRAM, "serve", "--log", "7", "--streams", "1", "--port", port, "--links", "30"], stdout=subprocess.PIPE)
+    node = subprocess.Popen([PROGRAM, "serve", "--log", "7", "--streams", "1", "--port", port, "--links", "30", "--messages", "2"], stdout=subprocess.PIPE)
     node.stdout.readline()
     return node
 
@@ -311,9 +311,9 @@ def toolchain():
         problems += [] if re.search(rf"\b(?:rt |\|){word}\b", said) else [f"{text} is no command"]
         problems += [] if word in ("version", "doc", "fmt") or untyped(text) else [f"nothing types {text}"]
         problems += [word for word in re.findall(r" (--\w+)", text) if word not in said]
-    kits = {kit for page in PAGES for kit in re.findall(r"`(rattle-kit-\S+ logic \w+)`", page.read_text())}
-    problems += [kit for kit in kits if kit not in bash("rt version 2>&1")[0]] + ([] if pathlib.Path(bash("rt doc")[0].strip()).is_file() else ["rt doc names no page"])
-    report("each rt of a page is one of the toolchain's, and the kit is this one", problems + formatted())
+    logics = {it for page in PAGES for it in re.findall(r"`(logic \w+)`", page.read_text())}
+    problems += [it for it in logics if it not in bash("rt version 2>&1")[0]] + ([] if pathlib.Path(bash("rt doc")[0].strip()).is_file() else ["rt doc names no page"])
+    report("each rt of a page is one of the toolchain's, and the logic is this one", problems + formatted())
 
 
 def installed_by_pip(lines):
@@ -442,12 +442,13 @@ def bytes_shown():
 def messages_shown():
     """Each message of the table in docs/FORMATS.md is read by the Python client, and written by it as it stands there."""
     sys.path.insert(0, str(ROOT / "clients" / "python"))
-    from vadungsil import messages as them
-    rows = re.findall(r"^\| ([A-Z].*) \| `([0-9a-f]{8} 01 [0-9a-f ]+)` \|$", (ROOT / "docs" / "FORMATS.md").read_text(), re.M)
+    from vadungsil import later, messages
+    rows = re.findall(r"^\| ([A-Z].*) \| `([0-9a-f]{8} 0[12] [0-9a-f ]+)` \|$", (ROOT / "docs" / "FORMATS.md").read_text(), re.M)
     pairs = []
     for name, text in rows:
         data = bytes.fromhex(text)
-        decode, encode = (them.decode_request, them.encode_request) if data[5] < 32 else (them.decode_reply, them.encode_reply)
+        them, first_reply = (messages, 32) if data[4] == 1 else (later, 64)
+        decode, encode = (them.decode_request, them.encode_request) if data[5] < first_reply else (them.decode_reply, them.encode_reply)
         pairs.append((name, encode(decode(data)).hex(), data.hex()))
     report(f"the messages of docs/FORMATS.md ({len(pairs)})", differ(pairs) + ([] if len(pairs) >= 10 else ["too few"]))
 

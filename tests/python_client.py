@@ -32,15 +32,12 @@ import reference
 import vadungsil as va
 from checks import differ, ended, is_built, report
 from shown import of
+from vector_values import is_of_version_2, item_of, later_reply_of, later_request_of, reply_of, request_of, vectors
 from client import Node as Served
 from client import PROGRAM, free_port
 
 LIMIT = 30
 POOL = concurrent.futures.ThreadPoolExecutor(4)
-
-
-def vectors(name):
-    return json.loads((ROOT / "tests" / "vectors" / f"{name}.json").read_text(encoding="utf-8"))
 
 
 def refusal_of(call):
@@ -85,6 +82,9 @@ def values():
         ("a mark that does not wait", lambda: va.Stream(2, 2, [], [(2, 2)]), 6), ("waiting marks that fall", lambda: va.Stream(2, 2, [], [(4, 4), (3, 3)]), 7),
         ("a base of a merge", lambda: va.MergeThis(fragment(1)), 6), ("a prune", lambda: va.Prune(last + 1), 6), ("a delta", lambda: va.Delta(-1), 6),
         ("65,537 items", lambda: va.Items([b""] * 65537), 8), ("done with 0", lambda: va.Done(0), 6), ("keys that fall", lambda: va.Rows([(6, row), (5, row)]), 7),
+        ("a head below its horizon", lambda: va.later.Head(7, 2, 3, (va.Stream(3, 3),)), 6), ("a merge of parts since a base", lambda: va.later.MergeParts(va.later.Head(7, 2, 0, (va.Stream(),))), 6),
+        ("a page of no rows", lambda: va.later.AskPage(1, 1, most=0), 8), ("hold 0", lambda: va.later.Release(0), 6), ("no facts to come", lambda: va.later.Part((), 0), 6),
+        ("facts of a part that fall", lambda: va.later.AddPart([fact(2, row), fact(1, row)]), 7), ("told of no streams", lambda: va.later.Streams(7, 0, 0, False, 1, None, ()), 5),
         ("version 3", lambda: va.encode(va.Mark(7, 1, 1, 1), 3), 3), ("a refusal without bytes", lambda: va.encode_reply(va.Refused(31, 1, 2)), 2),
     ]
     problems = differ([(name, refusal_of(call), wanted) for name, call, wanted in cases])
@@ -110,40 +110,6 @@ def reasons():
 
 
 # ---------------------------------------------------------------- vectors against the package
-
-def item_of(value):
-    if value["kind"] == "mark":
-        return va.Mark(value["log"], value["stream"], value["n"], value["m"])
-    ends = tuple(va.VersionKey(*it) for it in value["ends"])
-    return va.Entry(value["log"], value["stream"], value["number"], value["time"], ends,
-                    tuple(va.Put(table, key, va.Row(tag, bytes.fromhex(body))) for table, key, tag, body in value["rows"]))
-
-
-def row_of(value):
-    return None if value is None else va.Row(value[0], bytes.fromhex(value[1]))
-
-
-def fragment_of(value):
-    facts = [va.Fact(va.VersionKey(table, key, born), row_of(row), died) for table, key, born, row, died in value["facts"]]
-    return va.Fragment(value["log"], value["base"], value["horizon"], tuple(va.Stream(**it) for it in value["streams"]), tuple(facts))
-
-
-def request_of(value):
-    kind = value["kind"]
-    if kind == "ask":
-        name, *words = value["query"]
-        return va.Ask(value["time"], {"get": va.Get, "range": va.Range, "tag": va.ByTag, "count": va.Count}[name](*words))
-    return {"items": lambda: va.Items(tuple(map(item_of, value["items"]))), "front": va.AskFront, "full": va.Full, "delta": lambda: va.Delta(value["base"]),
-            "prune": lambda: va.Prune(value["horizon"]), "join": lambda: va.JoinThis(fragment_of(value["fragment"])),
-            "merge": lambda: va.MergeThis(fragment_of(value["fragment"]))}[kind]()
-
-
-def reply_of(value):
-    return {"done": lambda: va.Done(value["operations"]), "front": lambda: va.Front(value["horizon"], value["readable"]),
-            "fragment": lambda: fragment_of(value["fragment"]), "one": lambda: va.One(row_of(value["row"])),
-            "rows": lambda: va.Rows(tuple((key, va.Row(tag, bytes.fromhex(body))) for key, tag, body in value["rows"])),
-            "number": lambda: va.Number(value["count"]), "refused": lambda: va.Refused(value["number"], *value["values"])}[value["kind"]]()
-
 
 def fed(feeder, data, size):
     """The values of data that comes in pieces of a size, and the number of the fault behind them, or 0."""
@@ -189,7 +155,9 @@ def client_items():
 def client_messages():
     problems = []
     for name, of, encode, decode, make in (("requests", request_of, va.encode_request, va.decode_request, va.RequestFeeder),
-                                           ("replies", reply_of, va.encode_reply, va.decode_reply, va.ReplyFeeder)):
+                                           ("replies", reply_of, va.encode_reply, va.decode_reply, va.ReplyFeeder),
+                                           ("later_requests", later_request_of, va.later.encode_request, va.later.decode_request, va.later.RequestFeeder),
+                                           ("later_replies", later_reply_of, va.later.encode_reply, va.later.decode_reply, va.later.ReplyFeeder)):
         data, all_values = b"", []
         for it in vectors(name):
             value, text = of(it["value"]), bytes.fromhex(it["bytes"])
@@ -203,12 +171,13 @@ def client_messages():
             if len(text) < 500:
                 data, all_values = data + text, [*all_values, value]
         problems += pieces_of(make, all_values, data)
-    report("requests and replies of the vectors, however they are cut", problems)
+    report("requests and replies of the vectors, of both versions, however they are cut", problems)
 
 
 def client_faults():
     problems, count = [], 0
-    for name, make, size in (("item_faults", va.Feeder, 7), ("request_faults", va.RequestFeeder, 7), ("reply_faults", va.ReplyFeeder, 7)):
+    for name, make, size in (("item_faults", va.Feeder, 7), ("request_faults", va.RequestFeeder, 7), ("reply_faults", va.ReplyFeeder, 7),
+                             ("later_request_faults", va.later.RequestFeeder, 7), ("later_reply_faults", va.later.ReplyFeeder, 7)):
         for it in vectors(name):
             data, count = bytes.fromhex(it["bytes"]), count + 1
             for step in (size, len(data)):
@@ -221,7 +190,7 @@ def client_faults():
 def stored():
     """The vectors are what the reference writes."""
     got = run([sys.executable, ROOT / "tests" / "make_vectors.py", "--check"])
-    own = [name for name in ("reference.py", "fields.py", "make_vectors.py") if re.search(r"import (vadungsil|messages)", (ROOT / "tests" / name).read_text())]
+    own = [name for name in ("reference.py", "fields.py", "make_vectors.py", "later_vectors.py") if re.search(r"import (vadungsil|messages)", (ROOT / "tests" / name).read_text())]
     report("the stored vectors are what tests/make_vectors.py writes, which asks no client", differ([("check", (got.stdout, got.returncode), (b"", 0)), ("own", own, [])]))
 
 
@@ -247,13 +216,13 @@ def program_items():
     report(f"items and their faults against `hkrep items` ({len(wanted)} and {len(faults)})", problems)
 
 
-def pushed(replies, ends):
-    """What `hkrep push` prints where a peer replies these bytes."""
+def pushed(replies, ends, request=va.encode_request(va.AskFront())):
+    """What `hkrep push` prints where a peer replies these bytes, to so many requests of 6 bytes."""
     with socket.create_server(("127.0.0.1", 0)) as listener:
         listener.settimeout(LIMIT)
         with subprocess.Popen([PROGRAM, "push", "--port", str(listener.getsockname()[1])], stdin=subprocess.PIPE, stdout=subprocess.PIPE,
                               stderr=subprocess.DEVNULL) as child:
-            child.stdin.write(va.encode_request(va.AskFront()) * ends)
+            child.stdin.write(request * ends)
             child.stdin.close()
             link, _ = listener.accept()
             with link, contextlib.suppress(OSError):
@@ -267,39 +236,18 @@ def pushed(replies, ends):
 
 
 def program_replies():
+    """Those of version 2 are replied to requests of version 2; a frame of that version is read by its own rules."""
     known = vectors("replies")
     told = pushed([bytes.fromhex(it["bytes"]) for it in known], len(known))
+    later = vectors("later_replies")
+    told += pushed([bytes.fromhex(it["bytes"]) for it in later], len(later), va.later.encode_request(va.later.AskStreams()))
+    known += later
     problems = differ([("replies", told, [line for it in known for line in it["lines"]])])
-    faults = [it for number, it in enumerate(vectors("reply_faults")) if it["number"] != 1 or number % 8 == 0]
+    faults = [it for it in vectors("reply_faults") if not is_of_version_2(it)] + vectors("later_reply_faults")
+    faults = [it for number, it in enumerate(faults) if it["number"] != 1 or number % 8 == 0]
     found = POOL.map(lambda it: pushed([bytes.fromhex(it["bytes"])], 1), faults)
     problems += differ([(it["name"], got, [f"refused {it['number']}"]) for it, got in zip(faults, found)])
     report(f"replies and their faults against `hkrep push` ({len(known)} and {len(faults)})", problems)
-
-
-def program_sessions():
-    """Whole sessions, step by step; and each request of the vectors, which is no fault."""
-    problems, steps = [], 0
-    for it in vectors("sessions"):
-        with Served(1, it["log"], it["streams"]) as node, node.link() as link:
-            for number, (sent, told) in enumerate(it["steps"]):
-                link.send(bytes.fromhex(sent))
-                if number == len(it["steps"]) - 1 and it["ends"] == 1:
-                    link.half_close()
-                try:
-                    got = link.read(len(told) // 2).hex()
-                except EOFError:
-                    got = "the link ended"
-                problems += differ([(f"{it['name']}, step {number}", got, told)])
-                steps += 1
-            with contextlib.suppress(OSError):
-                link.half_close()
-            problems += differ([(f"{it['name']}: behind it", link.read_all(), b""), (f"{it['name']}: ends", node.ends()[0], [it["ends"]])])
-    with Served(1) as node, node.link() as link:
-        for it in vectors("requests"):
-            reply = link.ask(bytes.fromhex(it["bytes"]))
-            if reply is None or (reply[0] == "refused" and reply[1] <= 10):
-                problems.append(f"{it['name']}: {reply}")
-    report(f"sessions against `hkrep serve` ({steps} steps), and each request", problems)
 
 
 # ---------------------------------------------------------------- one node
@@ -790,7 +738,7 @@ def page():
     problems, count = [], 0
     for name in ("docs/PYTHON.md", "README.md"):
         blocks = listings_of(name)
-        with Served(20) as served, tempfile.TemporaryDirectory() as folder:
+        with Served(20, words=("--messages", "2")) as served, tempfile.TemporaryDirectory() as folder:
             state = {}
             for block, said in blocks:
                 count += 1
@@ -812,7 +760,7 @@ def page():
     report(f"the listings and commands of docs/PYTHON.md and of README.md ({count})", problems + ([] if count >= 8 else ["too few"]))
 
 
-CHECKS = (values, reasons, client_items, client_messages, client_faults, stored, syntax, program_items, program_replies, program_sessions, a_node, pipelines,
+CHECKS = (values, reasons, client_items, client_messages, client_faults, stored, syntax, program_items, program_replies, a_node, pipelines,
           limits_and_links, asynchronous, many_nodes, log_writer, writer_refusals, resumed, commands, exports, wheel, page)
 
 

@@ -79,8 +79,8 @@ def command_lines():
     check_help("help of world", ["world", "--help"], ["Usage: hkrep world", "Example"])
     check_help("the version", ["--version"], ["hkrep"])
     if shutil.which("rt"):
-        kit = subprocess.run(["rt", "version"], stdout=subprocess.PIPE, text=True, check=False).stdout.strip()
-        check_help("the version names the kit", ["--version"], [kit or "the kit"])
+        logic = subprocess.run(["rt", "version"], stdout=subprocess.PIPE, text=True, check=False).stdout.strip().rpartition("logic ")[2]
+        check_help("the version names the logic", ["--version"], [f"logic {logic or '?'}"])
     text = run(["world", "--help"]).stdout.decode()
     table = (ROOT / "docs" / "FORMATS.md").read_text().split("## The world script")[1]
     forms = [row.split("`")[1] for row in table.splitlines() if row.startswith("| `")]

@@ -1,4 +1,5 @@
 """Reads from nodes of Vadungsil, and writes logs for them: docs/PYTHON.md. Standard library only."""
+from . import later
 from .aio import AsyncMoment, AsyncNode
 from .errors import Fault, LinkBroken, NotResumable, Refused, TimeLimit, VadungsilError
 from .items import Feeder, Head, decode, encode, head_of
@@ -7,6 +8,7 @@ from .export import export
 from .node import Later, Node, NodeMoment, Pipeline
 from .nodes import NoNode, Nodes, NodesMoment
 from .reasons import REASONS, explain
+from .transfer import Hold
 from .values import (LAST_KEY, LAST_TIME, Ask, AskFront, ByTag, Count, Delta, Done, Entry, Fact, Fragment, Front, Full, Get, Item, Items, JoinThis, KeyRow,
                      Mark, MergeThis, Number, One, Prune, Put, Range, Row, Rows, Stream, VersionKey)
 from .writer import LogWriter, Transaction

@@ -6,7 +6,8 @@ import ctypes.util
 import os
 from typing import Any, List, Optional
 
-from .errors import Refused
+from .errors import Fault, Refused
+from .link import Link
 from .node import Node
 from .reading import Bytes
 from .values import Row, key_of, number_in, table_of, time_of
@@ -92,6 +93,9 @@ class Replica(Node):
         if len(found) < len(requests):
             self._done(number or 90)
         return found
+
+    def _own_link(self) -> Link:
+        raise Fault(3, place=f"{self.name}: no node, and without messages of version 2")
 
     def call(self, requests: Bytes) -> bytes:
         """The bytes of the replies to the bytes of whole request frames, with that of a fault in the last of them."""

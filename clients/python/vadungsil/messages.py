@@ -2,7 +2,7 @@
 from __future__ import annotations
 
 import struct
-from typing import Iterable, List, Optional, Union
+from typing import Any, Callable, Dict, Iterable, List, Optional, Sequence, Tuple, Union
 
 from . import items as _items
 from .errors import Fault, Refused, refusal
@@ -20,11 +20,11 @@ Reply = Union[Done, Front, Fragment, One, Rows, Number, Refused]
 _U64 = struct.Struct(">Q").pack
 
 
-def framed(kind: int, body: bytes) -> bytes:
+def framed(kind: int, body: bytes, version: int = 1) -> bytes:
     """The frame of a message; 2 where it is too long."""
     if len(body) + 2 > MOST_MESSAGE:
         raise Fault(2, place=f"a message of {len(body) + 2} bytes")
-    return struct.pack(">IBB", len(body) + 2, 1, kind) + body
+    return struct.pack(">IBB", len(body) + 2, version, kind) + body
 
 
 # ---------------------------------------------------------------- writing
@@ -45,13 +45,19 @@ def _row_bytes(row: Row) -> bytes:
     return struct.pack(">IH", row.tag, len(row.body)) + row.body
 
 
-def fragment_bytes(it: Fragment) -> bytes:
-    parts = [struct.pack(">QHQQ", it.log, len(it.streams), it.base, it.horizon)]
-    for stream in it.streams:
+def head_bytes(log: int, base: int, horizon: int, streams: Sequence[Stream]) -> bytes:
+    """A fragment up to the count of its facts."""
+    parts = [struct.pack(">QHQQ", log, len(streams), base, horizon)]
+    for stream in streams:
         parts += [struct.pack(">QQI", stream.prefix, stream.closed, len(stream.extra)), *map(_U64, stream.extra)]
         parts += [struct.pack(">I", len(stream.waiting)), *(struct.pack(">QQ", n, m) for n, m in stream.waiting)]
-    parts.append(struct.pack(">I", len(it.facts)))
-    for fact in it.facts:
+    return b"".join(parts)
+
+
+def facts_bytes(facts: Sequence[Fact]) -> bytes:
+    """Facts behind their count."""
+    parts = [struct.pack(">I", len(facts))]
+    for fact in facts:
         flags = (fact.row is not None) + 2 * (fact.died is not None)
         parts.append(struct.pack(">HQQB", fact.version.table, fact.version.key, fact.version.born, flags))
         if fact.row is not None:
@@ -59,6 +65,33 @@ def fragment_bytes(it: Fragment) -> bytes:
         if fact.died is not None:
             parts.append(_U64(fact.died))
     return b"".join(parts)
+
+
+def fragment_bytes(it: Fragment) -> bytes:
+    return head_bytes(it.log, it.base, it.horizon, it.streams) + facts_bytes(it.facts)
+
+
+def rows_bytes(rows: Sequence[KeyRow]) -> bytes:
+    """Rows behind their count."""
+    return len(rows).to_bytes(4, "big") + b"".join(_U64(key) + _row_bytes(row) for key, row in rows)
+
+
+def answer_bytes(answer: Answer) -> bytes:
+    if isinstance(answer, One):
+        return b"\1\0" if answer.row is None else b"\1\1" + _row_bytes(answer.row)
+    if isinstance(answer, Rows):
+        return b"\2" + rows_bytes(answer.rows)
+    if isinstance(answer, Number):
+        return b"\3" + _U64(answer.count)
+    raise TypeError(f"no answer: {type(answer).__name__}")
+
+
+def refused_bytes(why: Refused, is_told: Callable[[int], bool]) -> bytes:
+    """A refusal's number and its two fields; 2 where it isn't told in a reply."""
+    if not is_told(why.number):
+        raise Fault(2, place=f"refusal {why.number} has no encoding")
+    first, second = (*why.values, 0, 0)[:2]
+    return struct.pack(">BQQ", why.number, first, second)
 
 
 def items_frame(frames: Iterable[Union[Item, Bytes]], version: int = 2) -> bytes:
@@ -98,21 +131,15 @@ def encode_reply(reply: Reply) -> bytes:
         return framed(33, struct.pack(">QQ", reply.horizon, reply.readable))
     if isinstance(reply, Fragment):
         return framed(34, fragment_bytes(reply))
-    if isinstance(reply, One):
-        return framed(35, b"\1\0" if reply.row is None else b"\1\1" + _row_bytes(reply.row))
-    if isinstance(reply, Rows):
-        return framed(35, b"\2" + len(reply.rows).to_bytes(4, "big") + b"".join(_U64(key) + _row_bytes(row) for key, row in reply.rows))
-    if isinstance(reply, Number):
-        return framed(35, b"\3" + _U64(reply.count))
+    if isinstance(reply, (One, Rows, Number)):
+        return framed(35, answer_bytes(reply))
     if isinstance(reply, Refused):
-        if not _is_told(reply.number):
-            raise Fault(2, place=f"refusal {reply.number} has no encoding")
-        first, second = (*reply.values, 0, 0)[:2]
-        return framed(36, struct.pack(">BQQ", reply.number, first, second))
+        return framed(36, refused_bytes(reply, is_told))
     raise TypeError(f"no reply: {type(reply).__name__}")
 
 
-def _is_told(number: int) -> bool:
+def is_told(number: int) -> bool:
+    """Whether a reply of version 1 may refuse with this number."""
     return number in REASONS and not 30 <= number <= 36 and not 46 <= number <= 47 and number <= 90
 
 
@@ -136,7 +163,7 @@ def _items_of(reader: Reader) -> Items:
     return Items(tuple(found))
 
 
-def _query_of(reader: Reader) -> Query:
+def query_at(reader: Reader) -> Query:
     kind = reader.u8("kind of a query")
     if not 1 <= kind <= 4:
         raise reader.fault(6, "kind of a query", 1)
@@ -192,7 +219,8 @@ def _fact_of(reader: Reader, base: int, horizon: int, before: Optional[VersionKe
     return fact
 
 
-def _fragment_of(reader: Reader) -> Fragment:
+def head_at(reader: Reader) -> Tuple[int, int, int, Tuple[Stream, ...]]:
+    """The log, the base, the horizon and the streams of a fragment."""
     log, count = reader.u64("log"), reader.u16("number of streams")
     if not 1 <= count <= MOST_STREAMS:
         raise reader.fault(5, "number of streams", 2)
@@ -202,12 +230,22 @@ def _fragment_of(reader: Reader) -> Fragment:
     streams = [_stream_of(reader) for _ in range(count)]
     if horizon > min(it.closed for it in streams):
         raise reader.fault(6, "horizon, which is above the least closed time")
+    return log, base, horizon, tuple(streams)
+
+
+def facts_at(reader: Reader, base: int = 0, horizon: int = 0) -> Tuple[Fact, ...]:
+    """Facts behind their count, as a fragment of this base and horizon has them."""
     count = reader.u32("count of facts")
     facts: List[Fact] = []
     for _ in range(count):
         facts.append(_fact_of(reader, base, horizon, facts[-1].version if facts else None))
+    return tuple(facts)
+
+
+def _fragment_of(reader: Reader) -> Fragment:
+    log, base, horizon, streams = head_at(reader)
     it = object.__new__(Fragment)
-    it.__dict__.update(log=log, base=base, horizon=horizon, streams=tuple(streams), facts=tuple(facts))
+    it.__dict__.update(log=log, base=base, horizon=horizon, streams=streams, facts=facts_at(reader, base, horizon))
     return it
 
 
@@ -218,9 +256,10 @@ def _merge_of(reader: Reader) -> MergeThis:
     return MergeThis(fragment)
 
 
-def _refused_of(reader: Reader) -> Refused:
+def refused_at(reader: Reader, is_told: Callable[[int], bool]) -> Refused:
+    """A refusal, of those that are told."""
     number = reader.u8("number of a refusal")
-    if not _is_told(number):
+    if not is_told(number):
         raise reader.fault(6, "number of a refusal", 1)
     values = (reader.u64("first field"), reader.u64("second field"))
     names = REASONS[number].fields
@@ -231,7 +270,20 @@ def _refused_of(reader: Reader) -> Refused:
     return refusal(number, *values[:len(names)])
 
 
-def _answer_of(reader: Reader) -> Answer:
+def rows_at(reader: Reader) -> Tuple[KeyRow, ...]:
+    """Rows behind their count, by rising key."""
+    count, rows = reader.u32("count of rows"), []
+    last = -1
+    for _ in range(count):
+        key = reader.u64("key")
+        if key <= last:
+            raise reader.fault(7, "key", 8)
+        last = key
+        rows.append(KeyRow(key, reader.row()))
+    return tuple(rows)
+
+
+def answer_at(reader: Reader) -> Answer:
     kind = reader.u8("kind of an answer")
     if kind == 1:
         some = reader.u8("presence")
@@ -242,42 +294,35 @@ def _answer_of(reader: Reader) -> Answer:
         return Number(reader.u64("count"))
     if kind != 2:
         raise reader.fault(6, "kind of an answer", 1)
-    count, rows = reader.u32("count of rows"), []
-    last = -1
-    for _ in range(count):
-        key = reader.u64("key")
-        if key <= last:
-            raise reader.fault(7, "key", 8)
-        last = key
-        rows.append(KeyRow(key, reader.row()))
     it = object.__new__(Rows)
-    it.__dict__["rows"] = tuple(rows)
+    it.__dict__["rows"] = rows_at(reader)
     return it
 
 
-def _front_of(reader: Reader) -> Front:
+def front_at(reader: Reader) -> Front:
     horizon, readable = reader.u64("horizon"), reader.u64("readable")
     if not horizon <= readable <= LAST_TIME:
         raise reader.fault(6, "horizon and readable", 16)
     return Front(horizon, readable)
 
 
-def _done_of(reader: Reader) -> Done:
+def operations_at(reader: Reader) -> int:
     operations = reader.u64("operations")
     if not 1 <= operations <= LAST_TIME:
         raise reader.fault(6, "operations", 8)
-    return Done(operations)
+    return operations
 
 
 _REQUESTS = {16: _items_of, 17: lambda _: AskFront(), 18: lambda it: Delta(it.time("base")), 19: lambda _: Full(),
-             20: lambda it: Ask(it.time("time"), _query_of(it)), 21: lambda it: JoinThis(_fragment_of(it)), 22: _merge_of,
+             20: lambda it: Ask(it.time("time"), query_at(it)), 21: lambda it: JoinThis(_fragment_of(it)), 22: _merge_of,
              23: lambda it: Prune(it.time("horizon"))}
-_REPLIES = {32: _done_of, 33: _front_of, 34: _fragment_of, 35: _answer_of, 36: _refused_of}
+_REPLIES = {32: lambda it: Done(operations_at(it)), 33: front_at, 34: _fragment_of, 35: answer_at, 36: lambda it: refused_at(it, is_told)}
 
 
-def _message_of(rest: bytes, kinds: dict):
+def message_of(rest: bytes, kinds: Dict[int, Callable[[Reader], Any]], version: int = 1) -> Any:
+    """The message of the rest of a frame, by its kind."""
     reader = Reader(rest, 4)
-    if reader.u8("version") != 1:
+    if reader.u8("version") != version:
         raise reader.fault(3, "version", 1)
     read = kinds.get(reader.u8("kind"))
     if read is None:
@@ -289,12 +334,12 @@ def _message_of(rest: bytes, kinds: dict):
 
 def request_of(rest: bytes) -> Request:
     """The request of the rest of a frame."""
-    return _message_of(rest, _REQUESTS)
+    return message_of(rest, _REQUESTS)
 
 
 def reply_of(rest: bytes) -> Reply:
     """The reply of the rest of a frame; a refusal is given, not raised."""
-    return _message_of(rest, _REPLIES)
+    return message_of(rest, _REPLIES)
 
 
 def decode_request(frame: Bytes) -> Request:

@@ -3,12 +3,14 @@ from __future__ import annotations
 
 import threading
 from types import TracebackType
-from typing import Any, Generic, Iterable, List, Optional, Tuple, Type, TypeVar
+from typing import Any, Generic, Iterable, Iterator, List, Optional, Tuple, Type, TypeVar
 
 from .errors import Fault, LinkBroken, TimeLimit
+from .later import PART_BYTES
 from .link import Address, Link, address_of
 from .requests import FRONT, Moment, Read, Requests, ask_frame, read_front
-from .values import LAST_TIME, Fragment, Front, KeyRow, Query, Row, Stream, time_of
+from .transfer import AnyPart, Hold, parts_from, parts_to
+from .values import LAST_KEY, LAST_TIME, Fact, Fragment, Front, KeyRow, Query, Row, Stream, time_of
 
 Result = TypeVar("Result")
 Rows_ = List[KeyRow]
@@ -63,6 +65,38 @@ class Node(Requests[Optional[Row], Rows_, int, Front, Fragment]):
         """How far each stream is: for feeders, which go on behind each `prefix`. A delta since the last time of all has no facts."""
         return self.delta(LAST_TIME).streams
 
+    def rows(self, table: int, low: int = 0, high: int = LAST_KEY, at: Optional[int] = None, most: int = 1_000) -> Iterator[KeyRow]:
+        """Each row of the keys from low to high at one time, asked for page by page (`page`), so there is no limit on their number."""
+        time = self.front().readable if at is None else at
+        while True:
+            page = self.page(table, low, high, at=time, most=most)
+            yield from page.rows
+            if not page.more:
+                return
+            low = page.rows[-1].key + 1
+
+    def hold(self, time: int) -> Hold:
+        """Keeps a time readable, over a link of its own: `with node.hold(5):`. 25: it is below the horizon."""
+        return Hold(self._own_link(), time_of(time))
+
+    def whole(self, part_bytes: Optional[int] = None) -> Fragment:
+        """All that the node holds. More than 2^28 bytes of it are refused 2, but where it comes in parts of so many bytes (version 2)."""
+        if part_bytes is None:
+            return super().whole()
+        facts: List[Fact] = []
+        for part in self.parts(0, part_bytes):
+            facts += part.facts
+        return part.head.with_facts(facts)
+
+    def parts(self, base: int = 0, part_bytes: int = PART_BYTES) -> Iterator[AnyPart]:
+        """What happened since a base, or all that is held since 0, in parts of one moment, over a link of its own: `later.Part`, and at last
+        `later.LastPart` with the head. 46: the node gives no more bytes for parts."""
+        return parts_from(self._own_link, base, part_bytes)
+
+    def take_parts(self, parts: Iterable[AnyPart]) -> int:
+        """Takes what another node gives: `node.take_parts(other.parts())`. Nothing is taken before all parts are there."""
+        return parts_to(self._own_link, parts)
+
     def at(self, time: Optional[int] = None) -> "NodeMoment":
         """One moment: all questions at this time, or at the readable mark of now."""
         return NodeMoment(self, self.front().readable if time is None else time_of(time))
@@ -107,6 +141,10 @@ class Node(Requests[Optional[Row], Rows_, int, Front, Fragment]):
                 self._drop()
                 if len(found) < len(requests):
                     raise LinkBroken(f"{self.name}: the node ended the link")
+
+    def _own_link(self) -> Link:
+        """Another link, for what the node keeps for a link."""
+        return Link(self.address, self.limit)
 
     def _drop(self) -> None:
         if self._link is not None:

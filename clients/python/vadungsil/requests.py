@@ -4,6 +4,7 @@ from __future__ import annotations
 from typing import Any, Callable, Generic, Iterable, List, Optional, TypeVar, Union
 
 from .errors import Fault, Refused
+from .later import AskLatest, AskPage, AskStreams, encode_request as encode_later, read_latest, read_page, read_streams
 from .messages import encode_request, framed, items_frame, query_bytes, reply_of
 from .reading import Bytes
 from .values import LAST_KEY, ByTag, Count, Delta, Done, Fragment, Front, Get, Item, JoinThis, KeyRow, MergeThis, Number, One, Prune, Query, Range, Row, Rows, time_of
@@ -154,3 +155,17 @@ class Requests(Reads[RowT, RowsT, NumberT], Generic[RowT, RowsT, NumberT, FrontT
     def prune(self, horizon: int) -> NumberT:
         """Drops the versions that ended up to a time, which becomes the horizon. 24: it is above the readable mark."""
         return self._call(encode_request(Prune(horizon)), read_done)
+
+    # ------------------------------------------------------------ messages of version 2, which a node reads with `--messages 2`; else 3
+
+    def status(self) -> Any:
+        """How far the node is, and each of its streams (`later.Streams`): also of a damaged node."""
+        return self._call(encode_later(AskStreams()), read_streams)
+
+    def latest(self, query: Query) -> Any:
+        """The readable mark, and the answer to a question at it: `node.latest(Get(1, 5))`, in one exchange."""
+        return self._call(encode_later(AskLatest(query)), read_latest)
+
+    def page(self, table: int, low: int = 0, high: int = LAST_KEY, *, at: int, most: int = 1_000) -> Any:
+        """The rows of the keys from low to high at a time, and as many as `most` of them, and whether more follow (`later.Page`)."""
+        return self._call(encode_later(AskPage(time_of(at), table, low, high, most)), read_page)

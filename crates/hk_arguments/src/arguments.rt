@@ -69,6 +69,8 @@ pub enum Call<'a> {
         links: Links,
         /// Whether each change is tested before it is added.
         is_guarded: bool,
+        /// How many bytes all links keep for messages of version 2; none where those of version 1 alone are answered.
+        parts_bytes: Option<u64>,
     },
     /// Start a node, and serve links to it without an end.
     Stay(Staying),
@@ -134,8 +136,11 @@ error; 'hkrep explain' lists all refusals. The status is 0; 1 where a line 'refu
 command' or 'ended N' with N above 0 was printed, where 'frames', 'rewrite' or 'save' was stopped, \
 which standard error alone tells, or where a write failed; 2 for a bad command line.";
 
-/// The program's version, and the kit that it is proved with.
-const VERSION: &str = "0.1.0 (rattle-kit-13f logic dac8208d650f15bf)";
+/// The program's version, and the logic that it is proved in.
+const VERSION: &str = "0.1.0 (rattle logic dac8208d650f15bf)";
+
+/// How many bytes all links keep for messages of version 2 where that isn't said.
+const PARTS_BYTES: u64 = 1_073_741_824;
 
 const SERVE_ABOUT: &str =
     "Start a node, and serve links to it on a port of 127.0.0.1; with --stay without an end";
@@ -157,6 +162,8 @@ It serves as many links as --links says, side by side, and ends when all have en
 
 With --guard a change that contradicts what the node holds is refused 23 and changes nothing, where \
 else it damages the node for good.
+
+With --messages 2 it answers messages of version 2 too: the whole in parts, pages of rows, the latest answer, and holds, which end with their link. What the links keep for these is at most --parts-bytes, all together; what would be more is refused 46.
 
 With --stay it serves links without an end, --links of them at once: a further link waits until one ends. \
 It prints 'ended' and a number as each link ends. --read-port opens a second port, whose links may \
@@ -218,6 +225,14 @@ pub(crate) fn config_of(matches: &ArgMatches<'_>) -> Option<Config> {
     Config::new(log, streams).ok()
 }
 
+/// How many bytes all links keep for messages of version 2, where these are answered.
+pub(crate) fn parts_bytes_of(matches: &ArgMatches<'_>) -> Option<u64> {
+    if matches.get_one::<u64>("messages")? < 2 {
+        return None;
+    }
+    Some(matches.get_one::<u64>("parts-bytes").unwrap_or(PARTS_BYTES))
+}
+
 /// The call that the arguments of `serve` make, where each of them is in its range.
 fn serve_call<'a>(matches: &ArgMatches<'a>) -> Option<Call<'a>> {
     if matches.get_flag("stay") {
@@ -229,6 +244,7 @@ fn serve_call<'a>(matches: &ArgMatches<'a>) -> Option<Call<'a>> {
         port: matches.get_one::<u16>("port")?,
         links: Links::new(links)?,
         is_guarded: matches.get_flag("guard"),
+        parts_bytes: parts_bytes_of(matches),
     })
 }
 

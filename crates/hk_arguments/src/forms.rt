@@ -199,6 +199,24 @@ const REFUSAL: Number = Number {
     need: Need::Never,
 };
 
+const MESSAGES: Number = Number {
+    name: "messages",
+    value: "V",
+    help: "The latest version of messages that is answered: 1 or 2; 1 where it isn't given",
+    range: Range::Within(1, 2),
+    is_option: true,
+    need: Need::Never,
+};
+
+const PARTS_BYTES: Number = Number {
+    name: "parts-bytes",
+    value: "N",
+    help: "How many bytes all links keep for --messages 2 at most; 1073741824 where it isn't given",
+    range: Range::Any,
+    is_option: true,
+    need: Need::With(&["messages"]),
+};
+
 const READ_SECONDS: Number = Number {
     name: "read-seconds",
     value: "N",
@@ -246,17 +264,26 @@ const SERVE_PORT: Number = Number {
 };
 
 /// The numbers of `serve`.
-pub(crate) const SERVE_NUMBERS: [Number; 4] = [LOG, SERVE_STREAMS, SERVE_PORT, LINKS];
+pub(crate) const SERVE_NUMBERS: [Number; 6] = [
+    LOG,
+    SERVE_STREAMS,
+    SERVE_PORT,
+    LINKS,
+    MESSAGES,
+    PARTS_BYTES,
+];
 
 /// Those that are of a node that stays.
 pub(crate) const STAY_NUMBERS: [Number; 4] = [READ_SECONDS, READ_PORT, READ_LINKS, REPORT_CHANGES];
 
 /// Both, in the order in which a bad word is looked for.
-pub(crate) const SERVE_WORDS: [Number; 8] = [
+pub(crate) const SERVE_WORDS: [Number; 10] = [
     LOG,
     SERVE_STREAMS,
     SERVE_PORT,
     LINKS,
+    MESSAGES,
+    PARTS_BYTES,
     READ_PORT,
     READ_LINKS,
     READ_SECONDS,

@@ -1,6 +1,6 @@
 //! The options of `serve` for a node that stays, and for one that tests each change.
 
-use crate::arguments::{Call, config_of};
+use crate::arguments::{Call, config_of, parts_bytes_of};
 use crate::forms::{STAY_NUMBERS, flag, with_numbers};
 use clap::{Arg, ArgAction, ArgMatches, Command};
 use hk_types::{Config, Links};
@@ -35,6 +35,8 @@ pub struct Staying {
     pub read_seconds: u64,
     /// Whether each change is tested before it is added.
     pub is_guarded: bool,
+    /// How many bytes all links keep for messages of version 2; none where those of version 1 alone are answered.
+    pub parts_bytes: Option<u64>,
     /// Whether only faults are told on standard error.
     pub is_quiet: bool,
     /// Whether each change that takes effect is told there too.
@@ -104,6 +106,7 @@ pub(crate) fn stay_call<'a>(matches: &ArgMatches<'a>) -> Option<Call<'a>> {
         reading: reading_of(matches, links.saturating_add(telling))?,
         read_seconds: matches.get_one::<u64>("read-seconds").unwrap_or(0),
         is_guarded: matches.get_flag("guard"),
+        parts_bytes: parts_bytes_of(matches),
         is_quiet: matches.get_flag("quiet"),
         is_verbose: matches.get_flag("verbose"),
         report_changes,

@@ -4,7 +4,7 @@ ghost use Rattle.std.specs.Prelude.{◌≡◌, ◌≤◌, IfOk};
 
 use crate::notice::Notice;
 use hk_commands::{Output, Stop};
-use hk_net::{NetFault, guard_links, serve_links};
+use hk_net::{NetFault, PartsBudget, guard_links, serve_links, serve_links_in_both};
 use hk_node::{NewList, NodeName, start};
 use hk_reasons::Place;
 use hk_session::Ended;
@@ -66,6 +66,7 @@ fn serve_list<
     list: NewList,
     links: Links,
     is_guarded: bool,
+    parts_bytes: Option<u64>,
     output: &mut Output<'_, W, E>,
 ) -> Result<u8, Stop>
     requires { list ≡ (J.book, J.config) }
@@ -75,10 +76,13 @@ fn serve_list<
     let (node, seats) = start::<J, &R>(rt, alloc, list, links.count())?;
     output.print(&Notice::Listening(port))?;
     output.flush()?;
-    let served = if is_guarded {
-        guard_links(rt, alloc, &listener, &node, seats)
-    } else {
-        serve_links(rt, alloc, &listener, &node, seats)
+    let served = match parts_bytes {
+        Some(most) => {
+            let budget = PartsBudget::new(most);
+            serve_links_in_both(rt, alloc, &listener, &node, is_guarded, &budget, seats)
+        }
+        None if is_guarded => guard_links(rt, alloc, &listener, &node, seats),
+        None => serve_links(rt, alloc, &listener, &node, seats),
     };
     let ends = served.map_err(stop_of)?;
     print_ends(&ends, output)
@@ -88,7 +92,8 @@ fn serve_list<
 /// Prints `listening` and the port once links can be opened, and at the end a line for each link in the order in which
 /// they were accepted: `ended` and its number, which is 0, the fault's of a request, 90, 91 or 92. Where it is guarded,
 /// each change that a link asks for is tested before it is added: what contradicts is refused 23 with nothing changed, so
-/// that no link damages the node.
+/// that no link damages the node. Messages of version 1 are answered, and where a number of bytes is given those of version
+/// 2 too: the links keep at most so many bytes for them, all together.
 ///
 /// The status is 0, or 1 where a number above 0 or one of these lines was printed:
 ///
@@ -96,8 +101,8 @@ fn serve_list<
 /// - `refused 90` where memory ran out for the node or the list of links;
 /// - no line where a write failed or took no bytes: the status alone tells it.
 ///
-/// Each number above 0 and each such line is told to `errors` in words. Cost: that of `start`, and of `serve_links` or
-/// `guard_links`.
+/// Each number above 0 and each such line is told to `errors` in words. Cost: that of `start`, and of `serve_links`, of
+/// `guard_links` or of `serve_links_in_both`.
 pub fn run_serve<
     R: Net<Listener = TcpListener, Stream = TcpStream> + Threads + Wait + Sync,
     W: Write,
@@ -109,6 +114,7 @@ pub fn run_serve<
     config: Config,
     links: Links,
     is_guarded: bool,
+    parts_bytes: Option<u64>,
     writer: &mut W,
     errors: &mut E,
 ) -> u8
@@ -116,7 +122,16 @@ pub fn run_serve<
 {
     let mut output = Output::new(alloc, writer, errors);
     let list = NewList::new(config);
-    match serve_list::<Brand, R, W, E>(rt, alloc, port, list, links, is_guarded, &mut output) {
+    match serve_list::<Brand, R, W, E>(
+        rt,
+        alloc,
+        port,
+        list,
+        links,
+        is_guarded,
+        parts_bytes,
+        &mut output,
+    ) {
         Ok(status) => status,
         Err(stop) => output.stop(stop),
     }

@@ -6,7 +6,7 @@ use crate::notice::Notice;
 use crate::serve::{listener_of, stop_of};
 use crate::telling::{Level, Reports, Telling};
 use hk_commands::{Output, Stop};
-use hk_net::{Door, serve_forever};
+use hk_net::{Door, PartsBudget, serve_forever};
 use hk_node::{NewList, Node, NodeName, ReaderSeat, start};
 use hk_types::{Config, Links, Refusal};
 use std::alloc::Global;
@@ -41,6 +41,8 @@ pub struct Stay {
     pub read_seconds: u64,
     /// Whether each change is tested before it is added, so that none damages the node.
     pub is_guarded: bool,
+    /// How many bytes all links keep at most for messages of version 2; without it those of version 1 alone are answered.
+    pub parts_bytes: Option<u64>,
     /// What is told of links.
     pub level: Level,
     /// After how many changes the node's front is told each time; 0 is never.
@@ -62,6 +64,23 @@ fn reading_listener<R: Net<Listener = TcpListener, Stream = TcpStream>, W: Write
     }
 }
 
+/// A door as its node has them: which messages its links are answered in, and whether changes are told.
+fn furnished<'d, J: NodeName, N: Wait + Drop>(
+    door: Door<'d, J, N>,
+    stay: &Stay,
+    budget: Option<&'d PartsBudget>,
+) -> Door<'d, J, N> {
+    let door = match budget {
+        Some(budget) => door.with_parts(budget),
+        None => door,
+    };
+    if stay.report_changes > 0 || stay.level == Level::Changes {
+        door.with_changes()
+    } else {
+        door
+    }
+}
+
 /// A place for each seat: the first of them behind the open door, the others behind the reading one.
 fn places_of<'d, J: NodeName, N: Wait + Drop>(
     alloc: Global,
@@ -70,6 +89,7 @@ fn places_of<'d, J: NodeName, N: Wait + Drop>(
     stay: &Stay,
     listener: &'d TcpListener,
     reading: &'d Option<TcpListener>,
+    budget: Option<&'d PartsBudget>,
 ) -> Result<Vec<(Door<'d, J, N>, ReaderSeat<J>)>, Refusal> {
     let mut places = Vec::with_capacity(alloc, seats.len())?;
     for seat in seats {
@@ -80,13 +100,7 @@ fn places_of<'d, J: NodeName, N: Wait + Drop>(
             _ if stay.is_guarded => Door::guarded(listener, node, stay.read_seconds),
             _ => Door::open(listener, node, stay.read_seconds),
         };
-        let tells_changes = stay.report_changes > 0 || stay.level == Level::Changes;
-        let door = if tells_changes {
-            door.with_changes()
-        } else {
-            door
-        };
-        places.push((door, seat))?;
+        places.push((furnished(door, stay, budget), seat))?;
     }
     Ok(places)
 }
@@ -126,7 +140,16 @@ fn stay_list<
         0 => None,
         every => seats.pop().map(|seat| Reports::new(seat, every)),
     };
-    let places = places_of(alloc, &node, seats, stay, &listener, &reading)?;
+    let budget = stay.parts_bytes.map(PartsBudget::new);
+    let places = places_of(
+        alloc,
+        &node,
+        seats,
+        stay,
+        &listener,
+        &reading,
+        budget.as_ref(),
+    )?;
     output.print(&Notice::Listening(stay.port))?;
     if let Some(reading) = stay.reading {
         output.print(&Notice::Reading(reading.port))?;

@@ -83,11 +83,8 @@ pub(crate) fn read_keyed_row(
         return Err(ReadError::Fault(FormFault::BadOrder));
     }
     let tag = Tag::new(cursor.u32()?);
-    let body = cursor.body(alloc)?;
-    match Row::new(tag, body) {
-        Ok(row) => Ok((table, key, row)),
-        Err((_body, fault)) => Err(ReadError::Fault(fault)),
-    }
+    let row = cursor.row(alloc, tag)?;
+    Ok((table, key, row))
 }
 
 #[tactic(auto, unfolding(crate::specs::Reading::row_at))]

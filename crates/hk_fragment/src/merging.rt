@@ -1,7 +1,8 @@
 //! Two rising lists of versions, merged into one.
 
-ghost use Rattle.std.specs.Prelude.{◌≡◌, ◌≤◌, ◌<◌, ◌+◌, ◌++◌, ◌∷◌, [], None};
+ghost use Rattle.std.specs.Prelude.{◌≡◌, ◌⊎◌, ◌≤◌, ◌<◌, ◌+◌, ◌++◌, ◌∷◌, [], None};
 ghost use Rattle.std.specs.Vec.{vec_capacity, vec_len};
+ghost use Rattle.hk_model.specs.Replica.Maps.{or_else};
 ghost use Rattle.hk_fragment.specs.Parts.{facts_fault};
 ghost use Rattle.hk_fragment.specs.Merging as spec;
 ghost use Rattle.hk_fragment.specs.Merging.{ComparesLast, SaysBoth, TakesGreatest};
@@ -10,12 +11,20 @@ use hk_log::Version;
 use hk_types::VersionKey;
 use std::cmp::Ordering;
 
+/// The one of two whose row is known, the first where both rows are.
+fn with_row(own: Version, coming: Version) -> Version
+    ensures row { result.row ≡ or_else own.row coming.row }
+    ensures died { (result.died ≡ own.died) ⊎ (result.died ≡ coming.died) }
+{
+    if own.row().is_some() { own } else { coming }
+}
+
 /// What two say of one version, the first where both say it.
 fn both_known(own: Version, coming: Version) -> Version
     ensures { result ≡ spec.both_known own coming }
 {
     let died = own.died().or(coming.died());
-    let mut known = if own.row().is_some() { own } else { coming };
+    let mut known = with_row(own, coming);
     if let Some(died) = died {
         known.set_died(died);
     }

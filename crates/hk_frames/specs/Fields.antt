@@ -1,6 +1,7 @@
 -- Fields: how numbers are encoded, and how bytes are read from left to right up to the first fault.
 use Rattle.std.specs.Prelude.{◌≡◌, ◌<◌, ℕ, zero, suc, Bool, true, nat_lt, if◌then◌else◌, List, [], ◌∷◌, length, take, drop, slice_index, Option, Some, Result, Ok, Err}
 use Rattle.std.specs.Int.{Width, w16, byte_len, from_be_bytes, to_be_bytes}
+use Rattle.hk_types.specs.Values.{RowValue}
 use Rattle.hk_types.specs.declared.faults.FormFault.{FormFault}
 use Rattle.hk_types.specs.declared.faults.FormFault.TheVariants.{WrongLength, BadBody}
 use Rattle.hk_frames.specs.declared.cursor.ReadError.{ReadError}
@@ -48,6 +49,10 @@ body_at bytes = do
   len ← number_at w16 bytes
   _ ← check (nat_lt 4096 len.0) BadBody
   bytes_at len.0 len.1
+
+-- a row with a tag: its body, and the bytes after it
+abbrev pub row_of : ℕ → List ℕ → Result (RowValue × List ℕ) FormFault
+row_of tag bytes = mapped (λ p. (record { tag = tag; body = p.0 }, p.1)) (body_at bytes)
 
 -- so many elements, each read by `one`, which is told the place of the element before it; and the bytes after them
 unfoldable pub list_at : {X P : Type 0} → (X → P) → (Option P → List ℕ → Result (X × List ℕ) FormFault) → ℕ → Option P → List ℕ → Result (List X × List ℕ) FormFault

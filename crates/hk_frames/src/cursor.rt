@@ -4,7 +4,7 @@ ghost use Rattle.std.specs.Prelude.{◌≡◌, ◌≤◌, ◌==◌, length, IfOk
 ghost use Rattle.std.specs.Int.{w16, w32, w64};
 ghost use Rattle.hk_frames.specs.Fields as spec;
 
-use hk_types::{FormFault, MOST_BODY_BYTES};
+use hk_types::{FormFault, MOST_BODY_BYTES, Refusal, Row, Tag};
 use std::alloc::{AllocError, AllocFailed, Global};
 use std::marker::Model;
 
@@ -167,20 +167,30 @@ impl<'a> Cursor<'a> {
         ]))
     }
 
-    /// Reads a body of at most 4,096 bytes behind its length of two bytes, into a list of its own. A
-    /// length above that is a bad body, and one above what is left a wrong length; `Memory` where the list
-    /// is refused. After an error the length may have been read. Cost: O(n), n bytes of the body, which is
-    /// copied.
+    /// Reads a body of at most 4,096 bytes behind its length of two bytes. A length above that is a bad body, and one
+    /// above what is left a wrong length. After an error the length may have been read.
     #[tactic(auto, unfolding(crate::specs::Fields::body_at))]
-    pub fn body(&mut self, alloc: Global) -> Result<Vec<u8>, ReadError>
-        ensures read { spec.GivesOrRunsOut (λ x. (x.items, self.new)) result (spec.body_at self.old) }
-        ensures most { IfOk result (λ x. length x.items ≤ 4096) }
+    pub fn body(&mut self) -> Result<&'a [u8], FormFault>
+        ensures read { spec.GivesValue (λ x. (x.now, self.new)) result (spec.body_at self.old) }
+        ensures most { IfOk result (λ x. length x.now ≤ 4096) }
     {
         let count = self.u16()? as usize;
         if count > MOST_BODY_BYTES {
-            return Err(ReadError::Fault(FormFault::BadBody));
+            return Err(FormFault::BadBody);
         }
-        let bytes = self.bytes(count)?;
-        Ok(Vec::from_slice(alloc, bytes)?)
+        self.bytes(count)
+    }
+
+    /// Reads the body of a row with a tag, as `body` does; copies of the row share it. `Memory` where there is none for
+    /// it. Cost: O(n), n bytes of the body, which is copied.
+    pub fn row(&mut self, alloc: Global, tag: Tag) -> Result<Row, ReadError>
+        ensures { spec.GivesOrRunsOut (λ row. (row, self.new)) result (spec.row_of tag self.old) }
+    {
+        let body = self.body()?;
+        match Row::of_bytes(alloc, tag, body) {
+            Ok(row) => Ok(row),
+            Err(Refusal::Form(fault)) => Err(ReadError::Fault(fault)),
+            Err(_) => Err(ReadError::Memory),
+        }
     }
 }

@@ -39,6 +39,11 @@ impl BirthIndex {
         }
     }
 
+    /// About how many versions there are: some that were removed count too, so it promises nothing. Cost: O(1).
+    pub fn count_about(&self) -> usize {
+        self.versions.count_about()
+    }
+
     /// Adds a version with the time of its birth. One that is there already changes nothing.
     ///
     /// The only refusal is `Memory`; then nothing is changed. Cost: O(1) in the order of birth and O(log n) out of order,
@@ -54,7 +59,8 @@ impl BirthIndex {
         Ok(())
     }
 
-    /// Removes a version, where it is there. Cost: O(log n), amortized, n versions in the set.
+    /// Removes a version, where it is there. Cost: O(log n), amortized, n versions in the set; O(1) for most of those that are
+    /// removed one after the other in the order of birth, then of table and key.
     pub fn remove(&mut self, version: VersionKey)
         ensures { self.new ≡ set.remove self.old (record { time = version.born; version = version }) }
     {

@@ -9,7 +9,7 @@ ghost use Rattle.hk_index.specs.Entries.{entry_cmp, live_members, marked, shown}
 
 use crate::merge::merge_into;
 use crate::packed::{Packed, Stamp};
-use crate::search::{after, comes_last, count_below, count_until, place_of};
+use crate::search::{after, comes_last, count_below, count_until, place_near};
 use crate::timed::TimedVersion;
 use std::alloc::{AllocError, Global};
 use std::marker::Model;
@@ -20,6 +20,8 @@ pub(crate) struct Run<T: Stamp> {
     entries: Vec<Packed<T>>,
     start: usize,
     dead: usize,
+    /// Where the next member may stand that is removed, counted from `start`: a guess.
+    near: usize,
 }
 
 impl<T: Stamp> Model for Run<T> {
@@ -47,12 +49,19 @@ impl<T: Stamp> Run<T> {
             entries: Vec::new(alloc),
             start: 0,
             dead: 0,
+            near: 0,
         }
+    }
+
+    /// How many entries there are, gone ones among them; the count promises nothing.
+    pub(crate) fn len(&self) -> usize {
+        self.entries[self.start..].len()
     }
 
     /// How many entries stand from a member on; the count promises nothing. Cost: O(log n).
     pub(crate) fn len_from(&self, member: TimedVersion) -> usize {
-        self.entries[self.start..].len() - count_below(after(&self.entries, self.start), member)
+        let below = count_below(after(&self.entries, self.start), member);
+        self.len().saturating_sub(below)
     }
 
     /// Adds a member above all, or answers `false`, as where its time can't be kept.
@@ -76,13 +85,15 @@ impl<T: Stamp> Run<T> {
         }
     }
 
-    /// Removes a member, where it is there. Cost: O(log n), amortized.
+    /// Removes a member, where it is there. Cost: O(log n), amortized; O(1) for one that stands a few places behind the one
+    /// that was removed last.
     pub(crate) fn remove(&mut self, member: TimedVersion)
         ensures { self.new ≡ set.remove self.old member }
     {
-        match place_of(after(&self.entries, self.start), member) {
+        match place_near(after(&self.entries, self.start), self.near, member) {
             Some(place) => {
                 mark(&mut self.entries, self.start + place);
+                self.near = place + 1;
                 self.dead = self.dead.saturating_add(1);
             }
             None => {}
@@ -165,6 +176,7 @@ impl<T: Stamp> Run<T> {
             entries,
             start: 0,
             dead: self.dead,
+            near: 0,
         })
     }
 }

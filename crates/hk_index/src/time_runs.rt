@@ -47,6 +47,11 @@ impl<T: Stamp> TimeRuns<T> {
         }
     }
 
+    /// About how many members there are; the count promises nothing. Cost: O(1).
+    pub fn count_about(&self) -> usize {
+        self.run.len().saturating_add(self.loose.len())
+    }
+
     /// Adds a member. One that is there already changes nothing.
     ///
     /// The only error is out of memory; then nothing is changed. Cost: O(1) in the order of time and O(log n) out of
@@ -65,7 +70,7 @@ impl<T: Stamp> TimeRuns<T> {
         Ok(())
     }
 
-    /// Removes a member, where it is there. Cost: O(log n), amortized.
+    /// Removes a member, where it is there. Cost: O(log n), amortized; O(1) for most that are removed in the order of time.
     pub fn remove(&mut self, member: TimedVersion)
         ensures { self.new ≡ set.remove self.old member }
     {

@@ -1,2 +1,3 @@
+pub mod LaterReplies
 pub mod Lines
 pub mod Replies

@@ -1,6 +1,7 @@
 //! The lines that the program prints of values.
 #![tactic(auto)]
 
+mod later_reply;
 mod line;
 mod reply;
 

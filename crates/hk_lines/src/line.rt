@@ -46,7 +46,11 @@ fn put_row(alloc: Global, row: &Row, out: &mut String) -> Result<(), AllocError>
 }
 
 #[tactic(auto, using(std::proofs::Common::append_assoc))]
-fn put_rows(alloc: Global, rows: &[(Key, Row)], out: &mut String) -> Result<(), AllocError>
+pub(crate) fn put_rows(
+    alloc: Global,
+    rows: &[(Key, Row)],
+    out: &mut String,
+) -> Result<(), AllocError>
     ensures { OnOk result (string_bytes out.new ≡ string_bytes out.old ++ flat_map spec.keyed_line rows.now) }
 {
     for (key, row) in rows {

@@ -1,4 +1,5 @@
 pub mod Items
 pub mod SameItems
 pub mod SameVersions
+pub mod StoredVersions
 pub mod Versions

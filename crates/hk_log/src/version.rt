@@ -2,31 +2,38 @@
 
 ghost use Rattle.std.specs.Prelude.{◌≡◌, ◌||◌, true, false, Some, None, IfOk, IsSome, is_some};
 ghost use Rattle.std.specs.Option.{option_copied};
+ghost use Rattle.hk_log.specs.StoredVersions.{stored};
 ghost use Rattle.hk_log.specs.Versions.{IsVersionOf, VersionValue, is_known};
 
 use hk_types::{Row, Time};
 use std::alloc::{AllocError, Global};
 use std::marker::Model;
+use std::mem;
 
 /// What is known of one version of a row: its row, the time at which it ended, or both. At least one of
 /// them is there.
 #[derive(Debug, Drop)]
 pub struct Version {
-    row: Option<Row>,
-    died: Option<Time>,
+    known: Known,
+}
+
+/// A row, an end, or both. An optional row beside an optional end would take eight bytes more.
+#[derive(Debug, Drop)]
+enum Known {
+    Row(Row),
+    End(Time),
+    Both(Row, Time),
 }
 
 impl Model for Version {
-    ghost use Rattle.std.specs.Prelude.{◌≡◌, true};
-    ghost use Rattle.hk_log.specs.Versions.{VersionValue, version_code, is_known};
+    ghost use Rattle.hk_log.specs.Versions.{VersionValue, version_code};
+    ghost use Rattle.hk_log.specs.StoredVersions.{stored};
 
     ghost Value = { VersionValue };
 
     ghost coded = { version_code };
 
-    ghost view = { λ a. record { row = a.row; died = a.died } };
-
-    ghost invariant = { λ a. is_known (record { row = a.row; died = a.died }) ≡ true };
+    ghost view = { λ a. stored a.known };
 }
 
 impl Version {
@@ -34,10 +41,13 @@ impl Version {
     pub fn new(row: Option<Row>, died: Option<Time>) -> Option<Version>
         ensures { IsVersionOf row died result }
     {
-        if row.is_none() && died.is_none() {
-            return None;
-        }
-        Some(Version { row, died })
+        let known = match (row, died) {
+            (Some(row), Some(died)) => Known::Both(row, died),
+            (Some(row), None) => Known::Row(row),
+            (None, Some(died)) => Known::End(died),
+            (None, None) => return None,
+        };
+        Some(Version { known })
     }
 
     /// A version of which the row alone is known.
@@ -45,8 +55,7 @@ impl Version {
         ensures { result ≡ record { row = Some row; died = None } }
     {
         Version {
-            row: Some(row),
-            died: None,
+            known: Known::Row(row),
         }
     }
 
@@ -55,8 +64,7 @@ impl Version {
         ensures { result ≡ record { row = None; died = Some died } }
     {
         Version {
-            row: None,
-            died: Some(died),
+            known: Known::End(died),
         }
     }
 
@@ -65,7 +73,10 @@ impl Version {
         ensures value { option_copied result ≡ self.now.row }
         ensures known { is_known self.now ≡ true }
     {
-        self.row.as_ref()
+        match &self.known {
+            Known::Row(row) | Known::Both(row, _) => Some(row),
+            Known::End(_) => None,
+        }
     }
 
     /// The time at which the version ended, where it is known.
@@ -73,21 +84,26 @@ impl Version {
         ensures value { result ≡ self.now.died }
         ensures known { is_known self.now ≡ true }
     {
-        self.died
+        match &self.known {
+            Known::End(died) | Known::Both(_, died) => Some(*died),
+            Known::Row(_) => None,
+        }
     }
 
     /// Makes this row known, in place of the one that was, if one was.
     pub fn set_row(&mut self, row: Row)
         ensures { self.new ≡ record { row = Some row; died = self.old.died } }
     {
-        self.row = Some(row);
+        let known = mem::replace(&mut self.known, Known::End(Time::zero()));
+        self.known = with_row(known, row);
     }
 
     /// Makes this end known, in place of the one that was, if one was.
     pub fn set_died(&mut self, died: Time)
         ensures { self.new ≡ record { row = self.old.row; died = Some died } }
     {
-        self.died = Some(died);
+        let known = mem::replace(&mut self.known, Known::End(died));
+        self.known = with_died(known, died);
     }
 
     /// Forgets the row of a version whose end is known.
@@ -95,7 +111,9 @@ impl Version {
         requires { IsSome self.old.died }
         ensures { self.new ≡ record { row = None; died = self.old.died } }
     {
-        self.row = None;
+        if let Some(died) = self.died() {
+            self.known = Known::End(died);
+        }
     }
 
     /// Forgets the end of a version whose row is known.
@@ -103,7 +121,8 @@ impl Version {
         requires { IsSome self.old.row }
         ensures { self.new ≡ record { row = self.old.row; died = None } }
     {
-        self.died = None;
+        let known = mem::replace(&mut self.known, Known::End(Time::zero()));
+        self.known = without_died(known);
     }
 
     /// The same version again, its row copied. The only error is out of memory. Cost: O(n), n bytes of
@@ -111,14 +130,43 @@ impl Version {
     pub fn copy(&self, alloc: Global) -> Result<Version, AllocError>
         ensures { IfOk result (λ version. version ≡ self.now) }
     {
-        let row = match &self.row {
-            Some(row) => Some(row.copy(alloc)?),
-            None => None,
+        let known = match &self.known {
+            Known::Row(row) => Known::Row(row.copy(alloc)?),
+            Known::End(died) => Known::End(*died),
+            Known::Both(row, died) => Known::Both(row.copy(alloc)?, *died),
         };
-        Ok(Version {
-            row,
-            died: self.died,
-        })
+        Ok(Version { known })
+    }
+}
+
+/// The same with this row.
+fn with_row(known: Known, row: Row) -> Known
+    ensures { stored result ≡ record { row = Some row; died = (stored known).died } }
+{
+    match known {
+        Known::Row(_) => Known::Row(row),
+        Known::End(died) | Known::Both(_, died) => Known::Both(row, died),
+    }
+}
+
+/// The same with this end.
+fn with_died(known: Known, died: Time) -> Known
+    ensures { stored result ≡ record { row = (stored known).row; died = Some died } }
+{
+    match known {
+        Known::End(_) => Known::End(died),
+        Known::Row(row) | Known::Both(row, _) => Known::Both(row, died),
+    }
+}
+
+/// The same without the end, where a row is known.
+fn without_died(known: Known) -> Known
+    requires { IsSome (stored known).row }
+    ensures { stored result ≡ record { row = (stored known).row; died = None } }
+{
+    match known {
+        Known::Row(row) | Known::Both(row, _) => Known::Row(row),
+        Known::End(died) => Known::End(died),
     }
 }
 
@@ -130,7 +178,7 @@ impl PartialEq for Version {
     ghost laws = { same_version_per };
 
     fn eq(&self, other: &Version) -> bool {
-        self.row == other.row && self.died == other.died
+        self.row() == other.row() && self.died() == other.died()
     }
 }
 

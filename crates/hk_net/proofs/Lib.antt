@@ -1,3 +1,9 @@
+mod BothNeverCut
+mod BothLaws
+mod WholeGiven
+mod LettingGo
+mod LinkHolds
 mod JoinRequests
 mod Seen
 mod GuardedReplies
+mod BothSeen

@@ -1,4 +1,9 @@
+pub mod BothVersions
 pub mod Faults
 pub mod Guarded
 pub mod Replying
 pub mod Serving
+pub mod NodeSides
+pub mod LinkStates
+pub mod LaterReplying
+pub mod GivenWhole

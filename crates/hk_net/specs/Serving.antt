@@ -6,7 +6,13 @@ use Rattle.hk_session.specs.Serving.{Serves}
 use Rattle.hk_session.specs.Values.{CountedValue}
 use Rattle.hk_session.specs.VersionOne.{version_one}
 use Rattle.hk_node.specs.declared.op.Op.{Op}
+use Rattle.hk_wire.specs.declared.request.Request.{Request}
+use Rattle.hk_wire.specs.declared.reply.Reply.{Reply}
+use Rattle.hk_net.specs.BothVersions.{both_versions}
 use Rattle.hk_net.specs.Guarded.{MayReplyGuarded}
+use Rattle.hk_net.specs.LaterReplying.{AreLetGo, MayReplyBoth}
+use Rattle.hk_net.specs.LinkStates.{LinkValue}
+use Rattle.hk_net.specs.NodeSides.{Sided}
 use Rattle.hk_net.specs.Replying.{MayOnlyRead, MayReply}
 
 -- how the session ended, and the seat's list after it
@@ -26,3 +32,14 @@ ServesGuarded config seat remaining reader reader_after contents old new result 
 -- the same of a host that only reads
 abbrev pub ServesReader : {R W : Type 0} → List Op → (R → Option (List ℕ)) → CountedValue R → CountedValue R → (W → Option (List ℕ)) → CountedValue W → CountedValue W → Outcome → Type 0
 ServesReader seat remaining reader reader_after contents old new result = Serves version_one MayOnlyRead seat result.1 remaining reader reader_after contents old new result.0
+
+-- how the session of a link ended, the host for version 1 after it, and what is left beside
+abbrev pub LinkOutcome : Type 0 → Type 0 → Type 0
+LinkOutcome S V = Ended × S × V
+
+-- a session of a link in both versions: each of the holds that the link has at its end is then asked to be released, and no other
+abbrev pub Runs : {S R W V : Type 0} → (S → Request → Reply → S → Type 0) → Sided S → LinkValue S → (R → Option (List ℕ)) → CountedValue R → CountedValue R
+    → (W → Option (List ℕ)) → CountedValue W → CountedValue W → LinkOutcome S V → Type 0
+Runs {S} may side link remaining reader reader_after contents old new result =
+    (last : LinkValue S) × Serves both_versions (MayReplyBoth side may) link last remaining reader reader_after contents old new result.0
+    × AreLetGo side.may_release last.inner last.holds result.1

@@ -11,10 +11,15 @@ const KIND_PLACE: u64 = 5;
 /// How many bytes stand before the body of a frame.
 const HEAD_BYTES: u64 = 6;
 
-/// The kind bytes of the requests that change nothing: Front, Delta, Full and Ask.
+/// The kind bytes of the requests of version 1 that change nothing: Front, Delta, Full and Ask.
 const FIRST_READING: u8 = 17;
 
 const LAST_READING: u8 = 20;
+
+/// The kind bytes of those of version 2: Streams, AskLatest, Page, Whole and More.
+const FIRST_LATER_READING: u8 = 48;
+
+const LAST_LATER_READING: u8 = 52;
 
 /// A kind byte that no message has.
 const NO_KIND: u8 = 255;
@@ -31,6 +36,12 @@ pub(crate) struct FrameWatch {
     at: u64,
     length: u64,
     reads: u64,
+}
+
+/// Whether this is the kind of a request that changes nothing, in either version.
+fn is_reading(kind: u8) -> bool {
+    (FIRST_READING..=LAST_READING).contains(&kind)
+        || (FIRST_LATER_READING..=LAST_LATER_READING).contains(&kind)
 }
 
 impl FrameWatch {
@@ -58,9 +69,9 @@ impl FrameWatch {
         if self.at < LENGTH_BYTES {
             self.length = self.length.wrapping_mul(256).wrapping_add(u64::from(byte));
         }
-        let is_reading = self.at != KIND_PLACE || (FIRST_READING..=LAST_READING).contains(&byte);
+        let passes = self.at != KIND_PLACE || is_reading(byte);
         self.at = self.at.saturating_add(1);
-        is_reading
+        passes
     }
 
     /// Begins with the next frame where this one is over.

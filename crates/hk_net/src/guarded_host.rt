@@ -9,13 +9,16 @@ ghost use Rattle.hk_node.specs.Replay.{is_legal};
 ghost use Rattle.hk_net.specs.Guarded.{IsTold, MayReplyGuarded};
 ghost use Rattle.hk_net.specs.Replying.{IsChangeReply};
 
+use crate::holding::{hold_on, release_on};
 use crate::link_events::{LinkEvent, Teller};
+use crate::node_side::NodeSide;
 use crate::seat_host::SeatHost;
 use hk_delta::Fragment;
 use hk_log::Item;
-use hk_node::{Node, NodeName, ReaderSeat, Receipt};
+use hk_model::{Answer, Page, Query, StreamsTold};
+use hk_node::{Hold, Node, NodeName, ReaderSeat, Receipt};
 use hk_session::{Host, VersionOne};
-use hk_types::{Refusal, Time};
+use hk_types::{Key, Refusal, Table, Time};
 use hk_wire::{Reply, Request};
 use std::marker::Model;
 use std::sync::Wait;
@@ -172,4 +175,43 @@ impl<'a, J: NodeName, N: Wait + Drop, R: Wait> Host for GuardedHost<'a, J, N, R>
             Request::Prune { horizon } => self.prune(horizon),
         }
     }
+}
+
+impl<'a, J: NodeName, N: Wait + Drop, R: Wait> NodeSide for GuardedHost<'a, J, N, R> {
+    ghost use Rattle.hk_net.specs.NodeSides.{ReleasesHold, TakesHold};
+
+    ghost side = { record { list = λ l. l; may_hold = TakesHold J.config; may_release = ReleasesHold J.config } };
+
+    fn latest(&mut self, query: &Query) -> Result<(Time, Answer), Refusal> {
+        self.reads.latest(query)
+    }
+
+    fn page(
+        &mut self,
+        time: Time,
+        table: Table,
+        low: Key,
+        high: Key,
+        most: u32,
+    ) -> Result<Page, Refusal> {
+        self.reads.page(time, table, low, high, most)
+    }
+
+    fn streams(&mut self) -> Result<StreamsTold, Refusal> {
+        self.reads.streams()
+    }
+
+    fn cut(&mut self, base: Time) -> Result<Fragment, Refusal> {
+        self.reads.cut(base)
+    }
+
+    fn hold(&mut self, time: Time) -> Result<Hold, (Option<Hold>, Refusal)> {
+        hold_on(self.rt, self.node, &mut self.reads, self.teller, time)
+    }
+
+    fn release(&mut self, hold: Hold) -> Result<u64, (Option<Hold>, Refusal)> {
+        release_on(self.rt, self.node, &mut self.reads, self.teller, hold)
+    }
+
+    fn laws() {}
 }

@@ -2,9 +2,12 @@
 
 ghost use Rattle.std.specs.Prelude.{◌≡◌, length, IfOk};
 
+use crate::both_sessions::serve_both;
 use crate::fault::NetFault;
 use crate::guarded_host::GuardedHost;
 use crate::node_host::NodeHost;
+use crate::parts_budget::PartsBudget;
+use crate::parts_host::PartsHost;
 use hk_node::{Node, NodeName, ReaderSeat};
 use hk_session::{Counted, Ended, serve};
 use std::alloc::Global;
@@ -46,12 +49,20 @@ pub(crate) fn drain(stream: &TcpStream) {
     }
 }
 
-/// Runs the session of a link to its end; where it is guarded, each change is tested before it is added.
+/// How links are served: whether each change is tested before it is added, and the budget of a node that answers both
+/// versions.
+#[derive(Clone, Copy)]
+struct Serving<'a> {
+    is_guarded: bool,
+    budget: Option<&'a PartsBudget>,
+}
+
+/// Runs the session of a link to its end.
 fn serve_link<J: NodeName, N: Wait + Drop, R: Threads + Wait + Sync>(
     rt: &R,
     alloc: Global,
     node: &Node<J, N>,
-    is_guarded: bool,
+    serving: Serving<'_>,
     seat: ReaderSeat<J>,
     stream: TcpStream,
 ) -> Ended {
@@ -59,12 +70,25 @@ fn serve_link<J: NodeName, N: Wait + Drop, R: Threads + Wait + Sync>(
     let _at_once = stream.set_nodelay(true);
     let mut reader = Counted::new(&stream);
     let mut writer = Counted::new(&stream);
-    let ended = if is_guarded {
-        let mut host = GuardedHost::new(rt, node, seat);
-        serve(alloc, &mut reader, &mut writer, &mut host)
-    } else {
-        let mut host = NodeHost::new(rt, alloc, node, seat);
-        serve(alloc, &mut reader, &mut writer, &mut host)
+    let ended = match serving.budget {
+        Some(budget) if serving.is_guarded => {
+            let host = GuardedHost::new(rt, node, seat);
+            let link = PartsHost::new(alloc, host, budget, Vec::new(alloc));
+            serve_both(alloc, link, &mut reader, &mut writer).0
+        }
+        Some(budget) => {
+            let host = NodeHost::new(rt, alloc, node, seat);
+            let link = PartsHost::new(alloc, host, budget, Vec::new(alloc));
+            serve_both(alloc, link, &mut reader, &mut writer).0
+        }
+        None if serving.is_guarded => {
+            let mut host = GuardedHost::new(rt, node, seat);
+            serve(alloc, &mut reader, &mut writer, &mut host)
+        }
+        None => {
+            let mut host = NodeHost::new(rt, alloc, node, seat);
+            serve(alloc, &mut reader, &mut writer, &mut host)
+        }
     };
     drain(&stream);
     ended
@@ -89,7 +113,11 @@ pub fn serve_links<
 ) -> Result<Vec<Ended>, NetFault>
     ensures { IfOk result (λ ends. length ends.items ≡ length seats.items) }
 {
-    serve_each(rt, alloc, listener, node, false, seats)
+    let serving = Serving {
+        is_guarded: false,
+        budget: None,
+    };
+    serve_each(rt, alloc, listener, node, serving, seats)
 }
 
 /// As `serve_links`, but each change that a link asks for is tested before it is added (`GuardedHost`): what contradicts
@@ -107,7 +135,36 @@ pub fn guard_links<
 ) -> Result<Vec<Ended>, NetFault>
     ensures { IfOk result (λ ends. length ends.items ≡ length seats.items) }
 {
-    serve_each(rt, alloc, listener, node, true, seats)
+    let serving = Serving {
+        is_guarded: true,
+        budget: None,
+    };
+    serve_each(rt, alloc, listener, node, serving, seats)
+}
+
+/// As `serve_links`, or as `guard_links` where it is guarded, but each link is answered in both versions (`PartsHost`), and
+/// its holds are released when it ends. All links together keep at most as many bytes as the budget has. Cost: that of the
+/// sessions.
+pub fn serve_links_in_both<
+    J: NodeName + Send + Sync,
+    N: Wait + Drop + Send + Sync,
+    R: Threads + Wait + Sync,
+>(
+    rt: &R,
+    alloc: Global,
+    listener: &TcpListener,
+    node: &Node<J, N>,
+    is_guarded: bool,
+    budget: &PartsBudget,
+    seats: Vec<ReaderSeat<J>>,
+) -> Result<Vec<Ended>, NetFault>
+    ensures { IfOk result (λ ends. length ends.items ≡ length seats.items) }
+{
+    let serving = Serving {
+        is_guarded,
+        budget: Some(budget),
+    };
+    serve_each(rt, alloc, listener, node, serving, seats)
 }
 
 /// Serves a link on each seat.
@@ -116,7 +173,7 @@ fn serve_each<J: NodeName + Send + Sync, N: Wait + Drop + Send + Sync, R: Thread
     alloc: Global,
     listener: &TcpListener,
     node: &Node<J, N>,
-    is_guarded: bool,
+    serving: Serving<'_>,
     seats: Vec<ReaderSeat<J>>,
 ) -> Result<Vec<Ended>, NetFault>
     ensures { IfOk result (λ ends. length ends.items ≡ length seats.items) }
@@ -135,7 +192,7 @@ fn serve_each<J: NodeName + Send + Sync, N: Wait + Drop + Send + Sync, R: Thread
                 match listener.accept() {
                     Ok((stream, _address)) => {
                         let link = scope
-                            .spawn(move || serve_link(rt, alloc, node, is_guarded, seat, stream))
+                            .spawn(move || serve_link(rt, alloc, node, serving, seat, stream))
                             .ok();
                         if links.push(link).is_err() {
                             fault = Some(NetFault::Memory);

@@ -14,15 +14,17 @@ ghost use Rattle.hk_node.specs.Replay.{is_legal, replay};
 ghost use Rattle.hk_node.specs.Replies.{node_delta, node_front, node_reply, node_whole};
 ghost use Rattle.hk_net.specs.Replying.{IsChangeReply, IsItemsReply, IsOrOutOfMemory, MayReply, front_reply};
 
+use crate::holding::{hold_on, release_on};
 use crate::link_events::{LinkEvent, Teller};
+use crate::node_side::NodeSide;
 use crate::seat_host::SeatHost;
 use hk_batch::{OpenGate, build};
 use hk_delta::{Fragment, fragment_of};
 use hk_log::Item;
-use hk_model::Query;
-use hk_node::{Node, NodeName, ReaderSeat, Receipt};
+use hk_model::{Answer, Page, Query, StreamsTold};
+use hk_node::{Hold, Node, NodeName, ReaderSeat, Receipt};
 use hk_session::{Host, VersionOne};
-use hk_types::{Refusal, Time};
+use hk_types::{Key, Refusal, Table, Time};
 use hk_wire::{Reply, Request};
 use std::alloc::Global;
 use std::marker::Model;
@@ -124,7 +126,7 @@ impl<'a, J: NodeName, N: Wait + Drop, R: Threads + Wait + Sync> NodeHost<'a, J, 
     fn learn(&mut self, receipt: Receipt<J>) -> Reply
         ensures legal { is_legal self.new ≡ true }
         ensures seen { IsPrefix self.old self.new }
-        ensures told { (op : Op) → last_of receipt ≡ Some op → IsChangeReply J.config self.old self.new op (reply_seen result) }
+        ensures told { (o : Op) → last_of receipt ≡ Some o → IsChangeReply J.config self.old self.new o (reply_seen result) }
     {
         let ops = receipt.ops();
         self.reads.learn(receipt);
@@ -251,4 +253,43 @@ impl<'a, J: NodeName, N: Wait + Drop, R: Threads + Wait + Sync> Host for NodeHos
             Request::Prune { horizon } => self.prune(horizon),
         }
     }
+}
+
+impl<'a, J: NodeName, N: Wait + Drop, R: Threads + Wait + Sync> NodeSide for NodeHost<'a, J, N, R> {
+    ghost use Rattle.hk_net.specs.NodeSides.{ReleasesHold, TakesHold};
+
+    ghost side = { record { list = λ l. l; may_hold = TakesHold J.config; may_release = ReleasesHold J.config } };
+
+    fn latest(&mut self, query: &Query) -> Result<(Time, Answer), Refusal> {
+        self.reads.latest(query)
+    }
+
+    fn page(
+        &mut self,
+        time: Time,
+        table: Table,
+        low: Key,
+        high: Key,
+        most: u32,
+    ) -> Result<Page, Refusal> {
+        self.reads.page(time, table, low, high, most)
+    }
+
+    fn streams(&mut self) -> Result<StreamsTold, Refusal> {
+        self.reads.streams()
+    }
+
+    fn cut(&mut self, base: Time) -> Result<Fragment, Refusal> {
+        self.reads.cut(base)
+    }
+
+    fn hold(&mut self, time: Time) -> Result<Hold, (Option<Hold>, Refusal)> {
+        hold_on(self.rt, self.node, &mut self.reads, self.teller, time)
+    }
+
+    fn release(&mut self, hold: Hold) -> Result<u64, (Option<Hold>, Refusal)> {
+        release_on(self.rt, self.node, &mut self.reads, self.teller, hold)
+    }
+
+    fn laws() {}
 }

@@ -10,10 +10,12 @@ ghost use Rattle.hk_node.specs.Replay.{is_legal, replay};
 ghost use Rattle.hk_node.specs.Replies.{node_delta, node_front, node_reply, node_whole};
 ghost use Rattle.hk_net.specs.Replying.{IsOrOutOfMemory, MayOnlyRead, front_reply};
 
-use hk_model::Query;
-use hk_node::{NodeName, ReaderSeat, Receipt};
+use crate::node_side::NodeSide;
+use hk_delta::Fragment;
+use hk_model::{Answer, Page, Query, StreamsTold};
+use hk_node::{Hold, NodeName, ReaderSeat, Receipt};
 use hk_session::{Host, VersionOne};
-use hk_types::{Config, FormFault, Refusal, Time};
+use hk_types::{Config, FormFault, Key, Refusal, Table, Time};
 use hk_wire::{Reply, Request};
 use std::marker::Model;
 
@@ -61,8 +63,10 @@ impl<J: NodeName> SeatHost<J> {
 
     /// The log that the node is of.
     pub(crate) fn config(&self) -> Config
-        ensures { result ≡ J.config }
+        ensures log { result ≡ J.config }
+        ensures legal { is_legal self.now ≡ true }
     {
+        let _known = self.seat.seen();
         self.seat.config()
     }
 
@@ -146,4 +150,49 @@ impl<J: NodeName> Host for SeatHost<J> {
             Request::Prune { horizon } => self.no_kind(horizon),
         }
     }
+}
+
+impl<J: NodeName> NodeSide for SeatHost<J> {
+    ghost use Rattle.hk_net.specs.NodeSides.{RefusesHold, RefusesRelease};
+
+    ghost side = { record { list = λ l. l; may_hold = RefusesHold; may_release = RefusesRelease } };
+
+    fn latest(&mut self, query: &Query) -> Result<(Time, Answer), Refusal> {
+        self.seat.latest(query)
+    }
+
+    fn page(
+        &mut self,
+        time: Time,
+        table: Table,
+        low: Key,
+        high: Key,
+        most: u32,
+    ) -> Result<Page, Refusal> {
+        self.seat.page(time, table, low, high, most)
+    }
+
+    fn streams(&mut self) -> Result<StreamsTold, Refusal> {
+        self.seat.streams()
+    }
+
+    fn cut(&mut self, base: Time) -> Result<Fragment, Refusal> {
+        if base.number() == 0 {
+            self.seat.whole()
+        } else {
+            self.seat.delta_since(base)
+        }
+    }
+
+    fn hold(&mut self, _time: Time) -> Result<Hold, (Option<Hold>, Refusal)> {
+        let _known = self.seat.seen();
+        Err((None, Refusal::Form(FormFault::BadKind)))
+    }
+
+    fn release(&mut self, hold: Hold) -> Result<u64, (Option<Hold>, Refusal)> {
+        let _known = self.seat.seen();
+        Err((Some(hold), Refusal::Form(FormFault::BadKind)))
+    }
+
+    fn laws() {}
 }

@@ -4,15 +4,19 @@ ghost use Rattle.std.specs.Prelude.{◌≡◌};
 ghost use Rattle.std.specs.Thread.{IsSend, IsSync};
 ghost use mathlib.Core.List.{IsPrefix};
 
+use crate::both_sessions::serve_both;
 use crate::fault::NetFault;
 use crate::guarded_host::GuardedHost;
 use crate::link_events::{EVENTS, LinkEvent, Teller, Watch, hand_on};
 use crate::link_reader::LinkReader;
 use crate::links::drain;
 use crate::node_host::NodeHost;
+use crate::parts_budget::PartsBudget;
+use crate::parts_host::PartsHost;
+use crate::seat_host::SeatHost;
 use crate::seats::{read_on_seat, serve_guarded, serve_host};
 use crossbeam_channel::{Sender, bounded};
-use hk_node::{Node, NodeName, ReaderSeat};
+use hk_node::{Hold, Node, NodeName, ReaderSeat};
 use hk_session::{Counted, Ended};
 use std::alloc::{AllocError, Global};
 use std::net::{TcpListener, TcpStream};
@@ -36,6 +40,8 @@ pub struct Door<'a, J: NodeName, N: Wait + Drop> {
     is_guarded: bool,
     tells_changes: bool,
     read_seconds: u64,
+    /// What all links keep, where they are answered in both versions.
+    budget: Option<&'a PartsBudget>,
 }
 
 impl<'a, J: NodeName, N: Wait + Drop> Door<'a, J, N> {
@@ -52,6 +58,7 @@ impl<'a, J: NodeName, N: Wait + Drop> Door<'a, J, N> {
             is_guarded: false,
             tells_changes: false,
             read_seconds,
+            budget: None,
         }
     }
 
@@ -68,6 +75,7 @@ impl<'a, J: NodeName, N: Wait + Drop> Door<'a, J, N> {
             is_guarded: true,
             tells_changes: false,
             read_seconds,
+            budget: None,
         }
     }
 
@@ -80,7 +88,17 @@ impl<'a, J: NodeName, N: Wait + Drop> Door<'a, J, N> {
             is_guarded: false,
             tells_changes: false,
             read_seconds,
+            budget: None,
         }
+    }
+
+    /// The same door, whose links are answered in both versions: they keep at most as many bytes as this budget has, together
+    /// with those of other doors that have it. The holds of a link are released when it ends. Of version 2, a reading door
+    /// answers Streams, AskLatest, Page, Whole and More.
+    pub fn with_parts(self, budget: &'a PartsBudget) -> Door<'a, J, N> {
+        let mut door = self;
+        door.budget = Some(budget);
+        door
     }
 
     /// The same door, of whose links each change that takes effect is told too.
@@ -91,8 +109,15 @@ impl<'a, J: NodeName, N: Wait + Drop> Door<'a, J, N> {
     }
 }
 
-/// Runs the session of a link to its end, and gives the seat back.
-fn serve_stream<J: NodeName, N: Wait + Drop, R: Threads + Wait + Sync>(
+/// What a place has between two links: its seat, and holds of its last link whose release was refused.
+#[derive(Drop)]
+struct Place<J: NodeName> {
+    seat: ReaderSeat<J>,
+    holds: Vec<Hold>,
+}
+
+/// Runs the session of a link in version 1 to its end, and gives the seat back.
+fn serve_first<J: NodeName, N: Wait + Drop, R: Threads + Wait + Sync>(
     rt: &R,
     alloc: Global,
     door: &Door<'_, J, N>,
@@ -102,8 +127,6 @@ fn serve_stream<J: NodeName, N: Wait + Drop, R: Threads + Wait + Sync>(
 ) -> (Ended, ReaderSeat<J>)
     ensures { IsPrefix seat result.1 }
 {
-    // A reply is sent at once; where that can't be had, replies come later.
-    let _at_once = stream.set_nodelay(true);
     let only_readings = door.node.is_none();
     let mut reader = Counted::new(LinkReader::new(stream, door.read_seconds, only_readings));
     let mut writer = Counted::new(stream);
@@ -120,20 +143,82 @@ fn serve_stream<J: NodeName, N: Wait + Drop, R: Threads + Wait + Sync>(
     }
 }
 
-/// Serves the next link on a seat, and gives the seat back.
+/// Runs the session of a link in both versions to its end, and gives the place back.
+fn serve_later<J: NodeName, N: Wait + Drop, R: Threads + Wait + Sync>(
+    rt: &R,
+    alloc: Global,
+    door: &Door<'_, J, N>,
+    budget: &PartsBudget,
+    place: Place<J>,
+    stream: &TcpStream,
+    teller: &Teller,
+) -> (Ended, Place<J>)
+    ensures { IsPrefix place.seat result.1.seat }
+{
+    let only_readings = door.node.is_none();
+    let mut reader = Counted::new(LinkReader::new(stream, door.read_seconds, only_readings));
+    let mut writer = Counted::new(stream);
+    let Place { seat, holds } = place;
+    match door.node {
+        Some(node) if door.is_guarded => {
+            let host = GuardedHost::telling(rt, node, seat, teller);
+            let link = PartsHost::new(alloc, host, budget, holds);
+            let (ended, host, holds) = serve_both(alloc, link, &mut reader, &mut writer);
+            let seat = host.into_seat();
+            (ended, Place { seat, holds })
+        }
+        Some(node) => {
+            let host = NodeHost::telling(rt, alloc, node, seat, teller);
+            let link = PartsHost::new(alloc, host, budget, holds);
+            let (ended, host, holds) = serve_both(alloc, link, &mut reader, &mut writer);
+            let seat = host.into_seat();
+            (ended, Place { seat, holds })
+        }
+        None => {
+            let host = SeatHost::new(seat);
+            let link = PartsHost::new(alloc, host, budget, holds);
+            let (ended, host, holds) = serve_both(alloc, link, &mut reader, &mut writer);
+            let seat = host.into_seat();
+            (ended, Place { seat, holds })
+        }
+    }
+}
+
+/// Runs the session of a link to its end, and gives the place back.
+fn serve_stream<J: NodeName, N: Wait + Drop, R: Threads + Wait + Sync>(
+    rt: &R,
+    alloc: Global,
+    door: &Door<'_, J, N>,
+    place: Place<J>,
+    stream: &TcpStream,
+    teller: &Teller,
+) -> (Ended, Place<J>)
+    ensures { IsPrefix place.seat result.1.seat }
+{
+    // A reply is sent at once; where that can't be had, replies come later.
+    let _at_once = stream.set_nodelay(true);
+    if let Some(budget) = door.budget {
+        return serve_later(rt, alloc, door, budget, place, stream, teller);
+    }
+    let Place { seat, holds } = place;
+    let (ended, seat) = serve_first(rt, alloc, door, seat, stream, teller);
+    (ended, Place { seat, holds })
+}
+
+/// Serves the next link of a place, and gives the place back.
 fn serve_next<J: NodeName, N: Wait + Drop, R: Threads + Wait + Clock + Sync>(
     rt: &R,
     alloc: Global,
     door: &Door<'_, J, N>,
-    seat: ReaderSeat<J>,
+    place: Place<J>,
     teller: &Teller,
-) -> ReaderSeat<J>
-    ensures { IsPrefix seat result }
+) -> Place<J>
+    ensures { IsPrefix place.seat result.seat }
 {
     match door.listener.accept() {
         Ok((stream, _address)) => {
             teller.tell(rt, LinkEvent::Opened);
-            let (ended, back) = serve_stream(rt, alloc, door, seat, &stream, teller);
+            let (ended, back) = serve_stream(rt, alloc, door, place, &stream, teller);
             drain(&stream);
             drop(stream);
             teller.tell(rt, LinkEvent::Ended(ended));
@@ -142,7 +227,7 @@ fn serve_next<J: NodeName, N: Wait + Drop, R: Threads + Wait + Clock + Sync>(
         Err(_error) => {
             teller.tell(rt, LinkEvent::NotAccepted);
             thread::sleep(rt, Duration::from_millis(ACCEPT_PAUSE));
-            seat
+            place
         }
     }
 }
@@ -157,11 +242,12 @@ fn serve_place<J: NodeName, N: Wait + Drop, R: Threads + Wait + Clock + Sync>(
 ) -> ReaderSeat<J>
     ensures { IsPrefix seat result }
 {
-    let mut seat = seat;
+    let holds = Vec::new(alloc);
+    let mut place = Place { seat, holds };
     for _ in 0..MOST_LINKS {
-        seat = serve_next(rt, alloc, &door, seat, &teller);
+        place = serve_next(rt, alloc, &door, place, &teller);
     }
-    seat
+    place.seat
 }
 
 /// Starts the thread of a place, which serves its links. Gives false where it can't be started.

@@ -6,6 +6,7 @@ mod change;
 mod feed;
 mod link;
 mod order;
+mod parts;
 mod push;
 mod read;
 mod shell;

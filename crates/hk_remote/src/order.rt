@@ -37,14 +37,15 @@ pub enum Order {
     Status {
         form: Form,
     },
-    /// To hand out all that it holds: the frame of a request that hands it to a node, or lines of JSON.
+    /// To hand out all that it holds: the frame of a request that hands it to a node, those of its parts where one message
+    /// has no room for it, or lines of JSON.
     Save {
         form: Form,
     },
-    /// To take the fragments of the input, as `Save` hands them out.
+    /// To take the fragments of the input, whole or in parts, as `Save` hands them out.
     Load,
     /// To take what the node on another port of 127.0.0.1 has learnt since this one's readable mark, or all that it holds
-    /// where it refuses the delta for its base.
+    /// where it refuses the delta for its base; in parts where one message has no room for it.
     Pull {
         from: u16,
     },
@@ -121,11 +122,13 @@ where
 
 /// Has the node on a port of 127.0.0.1 do what is asked, over a link that is opened for it, and prints its replies.
 ///
-/// `Push` sends a request, waits for its reply and prints it, and then sends the next; a reply that is a refusal is printed
-/// and told, and the next request goes on. `Load` does the same with fragments alone; another request is not sent, and ends it
-/// with 4. `Shell` reads lines such as `get 1 5`, `at 5 range 1 0 9`, `front` and `status`, prints rows as a table, and on a
+/// `Push` sends a request, of version 1 or 2, waits for its reply and prints it, and then sends the next; a reply that is a
+/// refusal is printed and told, and the next request goes on, but behind a part that is refused. `Load` does the same with fragments and parts alone; another
+/// request is not sent, and ends it with 4. `Shell` reads lines such as `get 1 5`, `at 5 range 1 0 9`, `front` and `status`, prints rows as a table, and on a
 /// terminal a prompt before each line; a line of another form is told to `errors`, a refusal is printed and told, and the next
 /// line goes on. `Status` reads a delta since the readable mark, and is refused as too old where the node is pruned between.
+/// `Save` and `Pull` go by parts of up to 8,388,608 bytes, or of one fact, where a node refuses the whole as too long and both
+/// nodes read version 2; else they end with 2, as it was refused. Of what goes by parts nothing is joined before all is there.
 /// `Pull`, `Prune` and `Feed` print `done` and the number of the node's last operation; `Feed` ends at the first batch that is
 /// refused, and tells `errors` how many items a second went.
 ///
@@ -140,8 +143,8 @@ where
 /// - 93 where the link could not be opened, as to a port that nobody listens to;
 /// - a write of the output that failed or took no bytes.
 ///
-/// Each but the last is printed as `refused` and the number, in the order's form (where `Save` writes a frame it writes all of
-/// it or nothing), and told to `errors` in words. What the node took before stays. It waits for a reply without a limit, and
+/// Each but the last is printed as `refused` and the number, in the order's form (where `Save` writes one frame it writes
+/// all of it or nothing, and where it writes parts the last frame comes with the last of them or not at all), and told to `errors` in words. What the node took before stays. It waits for a reply without a limit, and
 /// holds 65,536 bytes of the input, a batch, and one reply. Cost: O(n · log n), n bytes of the requests and the replies,
 /// beside the node's answers; `Status` O(s²) for s streams.
 pub fn run_order<R, I: Read, W: Write, E: Write>(

@@ -1,11 +1,15 @@
 //! What reads a node: `ask`, `front`, `status` and `save`.
 
 use crate::link::{Link, unasked};
+use crate::parts::{Parts, hand_parts, is_too_long, taking};
 use hk_commands::{Form, Output, Stop, put_status};
 use hk_fragment::Fragment;
 use hk_json::Head;
+use hk_later::{Request as LaterRequest, encode_request as encode_later};
+use hk_log::Version;
 use hk_model::{Answer, Front, Query};
-use hk_types::Time;
+use hk_reasons::Asked;
+use hk_types::{Refusal, Time, VersionKey};
 use hk_wire::{Reply, Request, encode_request};
 use std::alloc::Global;
 use std::io::Write;
@@ -100,16 +104,80 @@ fn print_whole<W: Write, E: Write>(
     Ok(())
 }
 
+/// Parts on their way to an output, as the requests that hand them to a node.
+#[derive(Drop)]
+struct Writer<'o, 'p, W: Write, E: Write> {
+    output: &'o mut Output<'p, W, E>,
+    frame: Vec<u8>,
+}
+
+impl<'o, 'p, W: Write, E: Write> Writer<'o, 'p, W, E> {
+    fn new(alloc: Global, output: &'o mut Output<'p, W, E>) -> Writer<'o, 'p, W, E> {
+        Writer {
+            output,
+            frame: Vec::new(alloc),
+        }
+    }
+
+    /// Writes a request.
+    fn send(&mut self, request: &LaterRequest) -> Result<(), Stop> {
+        self.frame.clear();
+        encode_later(request, &mut self.frame)?;
+        self.output.send(&self.frame)
+    }
+}
+
+impl<W: Write, E: Write> Parts for Writer<'_, '_, W, E> {
+    fn take(&mut self, facts: Vec<(VersionKey, Version)>) -> Result<(), Stop> {
+        self.send(&LaterRequest::AddPart(facts))
+    }
+}
+
+/// Writes the requests that hand the parts of a whole to a node.
+fn send_parts<W: Write, E: Write>(
+    link: &mut Link<'_>,
+    output: &mut Output<'_, W, E>,
+) -> Result<(), Stop> {
+    let mut writer = Writer::new(link.alloc(), output);
+    let head = hand_parts(link, Time::zero(), &mut writer)?;
+    writer.send(&taking(head))
+}
+
+/// The same of a whole that was refused, where a message has no room for it and the node reads requests of parts. Else it
+/// stops for what was refused.
+fn send_refused<W: Write, E: Write>(
+    link: &mut Link<'_>,
+    why: Refusal,
+    output: &mut Output<'_, W, E>,
+) -> Result<(), Stop> {
+    let origin = link.origin(Asked::Nothing);
+    if is_too_long(&why) && link.reads_later()? {
+        return send_parts(link, output);
+    }
+    Err(Stop::RefusedAt(why, origin))
+}
+
+/// Writes all that the node holds as the request that hands it to a node, or in parts where a message has no room for it.
+fn save_frames<W: Write, E: Write>(
+    link: &mut Link<'_>,
+    output: &mut Output<'_, W, E>,
+) -> Result<(), Stop> {
+    let reply = link.ask(&Request::Full)?;
+    match reply {
+        Reply::Fragment(whole) => send_whole(link.alloc(), whole, output),
+        Reply::Refused(why) => send_refused(link, why, output),
+        _none => Err(unasked()),
+    }
+}
+
 /// Writes all that the node holds.
 pub(crate) fn save<W: Write, E: Write>(
     link: &mut Link<'_>,
     form: Form,
     output: &mut Output<'_, W, E>,
 ) -> Result<(), Stop> {
-    let alloc = link.alloc();
-    let whole = fragment_at(link, &Request::Full)?;
     match form {
-        Form::Json => print_whole(&whole, output),
-        Form::Lines | Form::Bytes => send_whole(alloc, whole, output),
+        Form::Json => print_whole(&fragment_at(link, &Request::Full)?, output),
+        Form::Lines | Form::Bytes => save_frames(link, output),
     }
 }

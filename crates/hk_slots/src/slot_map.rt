@@ -1,6 +1,6 @@
 //! The map.
 
-ghost use Rattle.std.specs.Prelude.{◌≡◌, Some, None, IfOk, IfSome, IfNone, IsTrue, OnErr, OnOk, length, ◌==◌, ◌<◌, ◌^◌};
+ghost use Rattle.std.specs.Prelude.{◌≡◌, Some, None, IfOk, IfSome, IfNone, IsTrue, OnErr, OnOk, length, ℕ, ◌==◌, ◌<◌, ◌^◌};
 ghost use Rattle.std.specs.Option.{option_copied, option_copied_mut};
 ghost use Rattle.std.specs.Borrow.{sem};
 ghost use Rattle.std.specs.FinMap as finmap;
@@ -156,6 +156,24 @@ impl<K: Key, V> SlotMap<K, V> {
             keys: self.slots.range(range),
             entries: &self.entries,
         }
+    }
+
+    /// A number above that of each slot that a key has. It is at most that of the entries for which there is room.
+    pub fn slot_bound(&self) -> usize
+        ensures above { (key : K) (slot : ℕ)
+            → finmap.get (slots_of K.cmp self.now) key ≡ Some slot → slot < result }
+        ensures own { AreOwn K.cmp self.now }
+    {
+        self.entries.capacity()
+    }
+
+    /// The key that has the slot with a number, where one has. Cost: O(1).
+    pub fn key_at(&self, slot: usize) -> Option<K>
+        ensures some { IfSome result (λ key. finmap.get (slots_of K.cmp self.now) key ≡ Some slot) }
+        ensures none { IfNone result (IsFree K.cmp self.now slot) }
+    {
+        let (key, _value) = self.entries.get(slot)?;
+        Some(key).copied()
     }
 
     /// The value of a key to write to. Cost: O(log n), n keys.

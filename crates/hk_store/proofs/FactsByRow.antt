@@ -46,7 +46,7 @@ empty_facts = same_facts (facts_of finmap.empty) no_facts
 
 -- ---- what is looked up
 
-get_updated : (m n : Slots RowKey ChainValue) (k : RowKey) (w : Option ChainValue) → Updates m n k w → IsChanged (seen m) (seen n) k w
+pub get_updated : (m n : Slots RowKey ChainValue) (k : RowKey) (w : Option ChainValue) → Updates m n k w → IsChanged (seen m) (seen n) k w
 get_updated m n k (Some c) u q = ap (λ x. finmap.get x q) u ∙ finmap.get-insert row_key_total (seen m) k c q
 get_updated m n k None u q = ap (λ x. finmap.get x q) u ∙ finmap.get-remove row_key_total (seen m) k q
 
@@ -87,24 +87,24 @@ no_end Whole = refl
 
 -- ---- chains that are not empty
 
-filled_by : (c : ChainValue) → (c ≡ finmap.empty → ⊥) → 0 < finmap.len c
+pub filled_by : (c : ChainValue) → (c ≡ finmap.empty → ⊥) → 0 < finmap.len c
 filled_by c some = size (finmap.len c) refl
   where
     size : (n : ℕ) → finmap.len c ≡ n → 0 < finmap.len c
     size zero e = absurd (some (finmap.empty_of_len c e))
     size (suc n) e = omega arith
 
-filled_changed : (m n : ChainsValue) (k : RowKey) (w : Option ChainValue) → IsChanged m n k w → ((c : ChainValue) → w ≡ Some c → 0 < finmap.len c) → AreStored m → (q : RowKey) (c : ChainValue) → finmap.get n q ≡ Some c → 0 < finmap.len c
+pub filled_changed : (m n : ChainsValue) (k : RowKey) (w : Option ChainValue) → IsChanged m n k w → ((c : ChainValue) → w ≡ Some c → 0 < finmap.len c) → AreStored m → (q : RowKey) (c : ChainValue) → finmap.get n q ≡ Some c → 0 < finmap.len c
 filled_changed m n k w is new stored q c has = cases (eq_by_cmp row_key_cmp q k) (sym (is q) ∙ has)
   where
     cases : (b : Bool) → cond b w (finmap.get m q) ≡ Some c → 0 < finmap.len c
     cases true e = new c e
     cases false e = stored.filled q c e
 
-some_filled : (d : ChainValue) → 0 < finmap.len d → (c : ChainValue) → Some d ≡ Some c → 0 < finmap.len c
+pub some_filled : (d : ChainValue) → 0 < finmap.len d → (c : ChainValue) → Some d ≡ Some c → 0 < finmap.len c
 some_filled d above c e = let same : d ≡ c = cc in subst (λ (x : ChainValue). 0 < finmap.len x) same above
 
-none_filled : (c : ChainValue) → None ≡ Some c → 0 < finmap.len c
+pub none_filled : (c : ChainValue) → None ≡ Some c → 0 < finmap.len c
 none_filled c e = cc
 
 module _ (m : Slots RowKey ChainValue) (k : RowKey) (v : VersionKey) (at : k ≡ row_key_of v) where

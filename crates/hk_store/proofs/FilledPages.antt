@@ -1,10 +1,10 @@
 -- A page that is filled row by row is the first page of all rows.
-use Rattle.std.proofs.Common.{◌≡◌, refl, sym, ap, subst, ◌∙◌, ℕ, zero, suc, ◌+◌, ◌-◌, ◌<◌, ◌≤◌, ◌==◌, ◌&&◌, ◌||◌, Bool, true, false, cond, nat_le, nat_lt, min, List, [], ◌∷◌, ◌++◌, length, take, append_assoc, length-append, arith}
+use Rattle.std.proofs.Common.{◌≡◌, sym, ap, subst, ◌∙◌, ℕ, ◌+◌, ◌<◌, Bool, true, false, nat_lt, List, [], ◌∷◌, ◌++◌, length, take, append_assoc, length-append, arith}
 use Rattle.std.proofs.lemmas.Bool.Decides.{nat_tests}
 use Rattle.std.proofs.lemmas.List.{append-nil}
 use Rattle.std.proofs.Math.Seq.{take-append_seam, take-length}
 use Rattle.hk_types.specs.Values.{RowValue}
-use Rattle.hk_model.specs.Replica.Pages.{page_len, page_of, row_size, rows_within}
+use Rattle.hk_model.specs.Replica.Pages.{page_len, page_of}
 use Rattle.hk_model.specs.History.Rows.{RowKey}
 use Rattle.hk_facts.specs.Chains.{ChainValue, row_at}
 use Rattle.hk_store.specs.Paging.{Takes, IsFull, final_len}

@@ -4,12 +4,14 @@ pub mod ChangedChains
 pub mod FactsByRow
 pub mod FilledPages
 pub mod JournalUndone
+pub mod SweptChains
 mod NewFacts
 pub mod Conflicts
 pub mod EntryConflicts
 pub mod EntryPut
 pub mod TimedFacts
 pub mod DroppedVersions
+pub mod LeftBirths
 pub mod Indexed
 pub mod ChainsAtTime
 pub mod CountedRows

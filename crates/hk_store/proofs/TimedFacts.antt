@@ -31,10 +31,10 @@ Times = set.FinSet timed_cmp
 abbrev pub at_time : ℕ → VersionKey → TimedVersion
 at_time time v = record { time = time; version = v }
 
-tied_at : (t n : ℕ) (q v : VersionKey) → eq_by_cmp timed_cmp (at_time t q) (at_time n v) ≡ ((t == n) && tied q v)
+pub tied_at : (t n : ℕ) (q v : VersionKey) → eq_by_cmp timed_cmp (at_time t q) (at_time n v) ≡ ((t == n) && tied q v)
 tied_at t n q v = tied_parts (at_time t q) (at_time n v) ∙ ap (λ b. (t == n) && b) (key_tied q v)
 
-same_number : (a b : ℕ) → (a == b) ≡ (b == a)
+pub same_number : (a b : ℕ) → (a == b) ≡ (b == a)
 same_number a b = grind (arith, nat_tests)
 
 with_time : (index : Times) (t n : ℕ) (q v : VersionKey) → set.contains (set.insert index (at_time n v)) (at_time t q) ≡ (((t == n) && tied q v) || set.contains index (at_time t q))

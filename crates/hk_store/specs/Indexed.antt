@@ -1,5 +1,5 @@
 -- What the indexes of facts hold.
-use Rattle.std.specs.Prelude.{◌≡◌, ℕ, Bool, true, false, ◌==◌, ◌||◌, ◌&&◌, ◌++◌, is_some, if◌then◌else◌, List, Option, Some, None, ◌⊎◌, Err}
+use Rattle.std.specs.Prelude.{◌≡◌, ℕ, Bool, true, false, ◌==◌, ◌||◌, ◌&&◌, ◌++◌, is_some, not, if◌then◌else◌, List, Option, Some, None, ◌⊎◌, Err}
 use Rattle.std.specs.List.{flat_map, list_any}
 use Rattle.std.specs.Ordering.{eq_by_cmp}
 use Rattle.std.specs.Option.{option_map}
@@ -13,6 +13,7 @@ use Rattle.hk_log.specs.Versions.{VersionValue}
 use Rattle.hk_model.specs.History.Rows.{version_key_cmp}
 use Rattle.hk_model.specs.History.Histories.{Tables}
 use Rattle.hk_index.specs.Tags.{TagKeysValue, is_listed, is_one_of}
+use Rattle.hk_index.specs.declared.timed.TimedVersion.{TimedVersion}
 use Rattle.hk_index.specs.Timed.{timed_cmp, AreTimed, passes_at}
 use Rattle.hk_facts.specs.declared.fact.Fact.{Fact}
 use Rattle.hk_facts.specs.declared.fact.Fact.TheVariants.{Row, End}
@@ -133,3 +134,11 @@ end_of_part known Whole = died_of known
 abbrev pub times_without : set.FinSet timed_cmp → VersionKey → Option ℕ → set.FinSet timed_cmp
 times_without index v None = index
 times_without index v (Some time) = set.remove index (record { time = time; version = v })
+
+-- whether a version's birth is that of one of these
+abbrev pub is_birth_of : List VersionKey → TimedVersion → Bool
+is_birth_of versions t = list_any (λ v. eq_by_cmp timed_cmp t (record { time = v.born; version = v })) versions
+
+-- an index by birth without these versions
+abbrev pub BirthsLeft : set.FinSet timed_cmp → List VersionKey → set.FinSet timed_cmp → Type 0
+BirthsLeft old versions new = (t : TimedVersion) → set.contains new t ≡ (not (is_birth_of versions t) && set.contains old t)

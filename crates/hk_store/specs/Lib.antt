@@ -6,4 +6,5 @@ pub mod Journal
 pub mod Learning
 pub mod Paging
 pub mod Reads
+pub mod Sweeps
 pub mod Versions

@@ -2,15 +2,19 @@
 
 ghost use Rattle.std.specs.Prelude.{◌≡◌, OnOk, OnErr, IfErr};
 ghost use Rattle.hk_types.specs.declared.faults.Refusal.TheVariants.{Memory};
-ghost use Rattle.hk_index.specs.Timed.{AreTimed};
-ghost use Rattle.hk_store.specs.Drops.{without_all, pruned_facts};
-ghost use Rattle.hk_store.specs.Indexed.{AllListed, born_at};
+ghost use Rattle.hk_types.specs.declared.version_key.VersionKey.{VersionKey};
+ghost use Rattle.hk_model.specs.Replica.Content.{ended_by};
+ghost use Rattle.hk_store.specs.Drops.{is_among, pruned_facts, without_all};
+ghost use Rattle.hk_store.specs.Indexed.{BirthsLeft};
 
 use crate::chains::Chains;
-use crate::facts::{Facts, forget_birth};
+use crate::facts::Facts;
 use hk_facts::Part;
 use hk_index::{BirthIndex, TagKeys};
 use hk_types::{Refusal, Time, VersionKey};
+
+/// The chains are gone over where more than one of so many versions that are held go.
+const FEW: usize = 8;
 
 impl Facts {
     /// Drops all that is known of these versions. It cannot fail. Cost: O(d · log n), d versions dropped,
@@ -24,35 +28,61 @@ impl Facts {
     }
 
     /// Drops each version whose end is known and at most `until`. The only refusal is `Memory`, and it
-    /// changes nothing. Cost: O((1 + d) · log n), n facts, d versions that go, in the order of their births.
+    /// changes nothing. Cost: O((1 + d) · log n), n facts, d versions that go. Where they are many the chains are gone over
+    /// as they lie in memory, else each version is looked up, in the order of their births.
     pub fn drop_until(&mut self, until: Time) -> Result<(), Refusal>
         ensures ok { OnOk result (self.new ≡ pruned_facts self.old until) }
         ensures err { IfErr result (λ why. why ≡ Memory) }
         ensures kept { OnErr result (self.new ≡ self.old) }
     {
         let ended = self.ended(self.allocator(), until)?;
-        forget_all(&mut self.chains, &mut self.tags, &mut self.births, &ended);
+        let many = self.is_many(ended.len());
+        drop_ended(&mut self.chains, &ended, until, many);
+        forget_births(&mut self.tags, &mut self.births, &ended);
         self.deaths.drop_until(until);
         self.tidy();
         Ok(())
     }
+
+    /// Whether so many versions are at least a few of all that are held. It promises nothing.
+    fn is_many(&self, versions: usize) -> bool {
+        let held = self
+            .births
+            .count_about()
+            .max(self.deaths.count_about())
+            .max(self.chains.bound());
+        versions > held / FEW
+    }
 }
 
-/// Drops all that is known of these versions, out of the chains and the indexes of those whose row is known.
-fn forget_all(
-    chains: &mut Chains,
-    tags: &mut TagKeys,
-    births: &mut BirthIndex,
-    versions: &[VersionKey],
-)
-    requires tagged { AllListed chains.old tags.old }
-    requires born { AreTimed (born_at chains.old) births.old }
-    ensures left { chains.new ≡ without_all chains.old versions.now }
-    ensures tagged { AllListed chains.new tags.new }
-    ensures born { AreTimed (born_at chains.new) births.new }
+/// Drops the versions that ended by a time: in one pass over the chains, or one after the other by the list of them.
+fn drop_ended(chains: &mut Chains, ended: &[VersionKey], until: Time, in_one_pass: bool)
+    requires { (q : VersionKey) → is_among ended.now q ≡ ended_by chains.old.ends until q }
+    ensures { chains.new ≡ pruned_facts chains.old until }
+{
+    if in_one_pass {
+        chains.sweep(until);
+    } else {
+        forget_all(chains, ended);
+    }
+}
+
+/// Drops all that is known of these versions.
+fn forget_all(chains: &mut Chains, versions: &[VersionKey])
+    ensures { chains.new ≡ without_all chains.old versions.now }
 {
     for version in versions {
-        let lost = chains.forget(version, Part::Whole);
-        forget_birth(tags, births, version, lost.tag);
+        chains.forget(version, Part::Whole);
+    }
+}
+
+/// Takes these versions out of the index by birth, and notes that their rows went.
+fn forget_births(tags: &mut TagKeys, births: &mut BirthIndex, versions: &[VersionKey])
+    ensures tags { tags.new ≡ tags.old }
+    ensures births { BirthsLeft births.old versions.now births.new }
+{
+    for version in versions {
+        tags.note_gone();
+        births.remove(*version);
     }
 }

@@ -251,12 +251,7 @@ fn add_birth(
 }
 
 /// Takes a version out of the index of those whose row is known, where a row goes that has this tag.
-pub(crate) fn forget_birth(
-    tags: &mut TagKeys,
-    births: &mut BirthIndex,
-    version: &VersionKey,
-    tag: Option<Tag>,
-)
+fn forget_birth(tags: &mut TagKeys, births: &mut BirthIndex, version: &VersionKey, tag: Option<Tag>)
     ensures tags { tags.new ≡ tags.old }
     ensures births { births.new ≡ times_without births.old version.now (option_map (λ t. version.now.born) tag) }
 {

@@ -1,6 +1,7 @@
 //! The facts that are held: the rows and the ends of versions.
 #![tactic(auto)]
 
+mod ahead;
 mod chains;
 mod conflicts_with_entry;
 mod copy;
@@ -15,6 +16,7 @@ mod replace;
 mod row_key;
 mod shown;
 mod stated;
+mod sweep;
 mod tag_index;
 mod tagged;
 mod version_map;

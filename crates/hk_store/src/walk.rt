@@ -6,6 +6,7 @@ ghost use Rattle.std.specs.Iterator.{YieldsFirstBy, item_count};
 ghost use Rattle.hk_model.specs.History.Rows.{version_key_cmp};
 ghost use Rattle.hk_store.specs.Versions.{AreVersions, AreVersionsOf, NextOf, borrowed};
 
+use crate::ahead::Ahead;
 use crate::chains::Chains;
 use crate::row_key::RowKey;
 use hk_facts::Chain;
@@ -26,6 +27,8 @@ pub struct Walk<'a> {
     after: Option<Time>,
     /// The rows to come.
     rows: Range<'a, RowKey, Chain>,
+    /// What touches them before.
+    ahead: Ahead<'a>,
 }
 
 impl<'a> Model for Walk<'a> {
@@ -55,17 +58,21 @@ impl<'a> Iterator for Walk<'a> {
             }
             self.here = self.rows.next();
             self.after = None;
+            self.ahead.step();
         }
         None
     }
 }
 
 impl Chains {
-    /// A walk over all versions of which anything is known. It takes no memory. Cost: O(log k), k keys of all tables.
+    /// A walk over all versions of which anything is known, which looks ahead. It takes no memory.
+    /// Cost: O(log k), k keys of all tables.
     pub(crate) fn walk(&self) -> Walk<'_>
         ensures { AreVersions self.now result }
     {
-        self.walk_from(Table::new(0), Key::new(0))
+        let mut walk = self.walk_from(Table::new(0), Key::new(0));
+        walk.ahead = Ahead::over(&self.chains);
+        walk
     }
 
     /// A walk over the versions of which anything is known from a key of a table on. It takes no memory.
@@ -80,6 +87,7 @@ impl Chains {
             here: rows.next(),
             after: None,
             rows,
+            ahead: Ahead::nowhere(),
         }
     }
 }

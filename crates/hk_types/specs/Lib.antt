@@ -1,3 +1,4 @@
+pub mod StoredRows
 pub mod Values
 pub mod Numbers
 pub mod FaultNumbers

@@ -1,32 +1,57 @@
 //! A row.
 
-ghost use Rattle.std.specs.Prelude.{◌≡◌, ◌≤◌, ◌<◌, length, IfOk, MatchResult};
+ghost use Rattle.std.specs.Prelude.{◌≡◌, ◌≤◌, ◌<◌, nat_le, length, take, IfErr, IfOk, OnOk, MatchResult};
+ghost use Rattle.std.specs.Arc.{arc_value};
+ghost use Rattle.hk_types.specs.StoredRows.{IsRefusedBody, stored};
 ghost use Rattle.hk_types.specs.declared.faults.FormFault.TheVariants.{BadBody};
 
-use crate::faults::FormFault;
+use crate::faults::{FormFault, Refusal};
 use crate::tag::Tag;
 use std::alloc::{AllocError, Global};
+use std::fmt::{self, Debug, Formatter, Write};
 use std::marker::Model;
+use std::sync::Arc;
 
 /// The most bytes that a body has.
 pub const MOST_BODY_BYTES: usize = 4_096;
 
 /// A row of a table: a tag, and a body of 0 to 4,096 bytes.
-#[derive(Debug, Drop)]
+#[derive(Drop)]
 pub struct Row {
-    tag: Tag,
-    body: Vec<u8>,
+    form: Form,
+}
+
+/// How a row is kept. Where its body was not given as a list of its own, copies of the row share it: a body of up to 128 bytes stands behind
+/// a count of its owners in one piece of memory, of a size just above its own. The tag stands in each form, since beside them it would take
+/// eight bytes.
+#[derive(Drop)]
+enum Form {
+    Own(Tag, Vec<u8>),
+    To16(Tag, u16, Arc<[u8; 16]>),
+    To32(Tag, u16, Arc<[u8; 32]>),
+    To48(Tag, u16, Arc<[u8; 48]>),
+    To64(Tag, u16, Arc<[u8; 64]>),
+    To96(Tag, u16, Arc<[u8; 96]>),
+    To128(Tag, u16, Arc<[u8; 128]>),
+    Long(Tag, Arc<Vec<u8>>),
 }
 
 impl Model for Row {
-    ghost use Rattle.std.specs.Prelude.{◌≤◌, length};
     ghost use Rattle.hk_types.specs.Values.{RowValue};
+    ghost use Rattle.hk_types.specs.StoredRows.{stored, AreWithin};
 
     ghost Value = { RowValue };
 
-    ghost view = { λ a. record { tag = a.tag; body = a.body.items } };
+    ghost view = { λ a. stored a.form };
 
-    ghost invariant = { λ a. length a.body.items ≤ 4096 };
+    ghost invariant = { λ a. AreWithin a.form };
+}
+
+impl Debug for Row {
+    fn fmt<W: Write>(&self, f: &mut Formatter<W>) -> Result<(), fmt::Error> {
+        self.tag().fmt(f)?;
+        self.body().fmt(f)
+    }
 }
 
 impl PartialEq for Row {
@@ -38,7 +63,7 @@ impl PartialEq for Row {
     ghost laws = { same_row_per };
 
     fn eq(&self, other: &Row) -> bool {
-        self.tag == other.tag && self.body == other.body
+        self.tag() == other.tag() && self.body() == other.body()
     }
 }
 
@@ -56,17 +81,61 @@ impl Row {
         ensures exact { MatchResult result (λ _. length body.items ≤ 4096)
             (λ e. (4096 < length body.items) × (e.0 ≡ body) × (e.1 ≡ BadBody)) }
     {
-        if body.len() > MOST_BODY_BYTES {
+        if !is_fit(&body) {
             return Err((body, FormFault::BadBody));
         }
-        Ok(Row { tag, body })
+        Ok(Row {
+            form: Form::Own(tag, body),
+        })
+    }
+
+    /// The row of this tag and a copy of these bytes, which copies of the row share.
+    ///
+    /// A body above 4,096 bytes is refused `BadBody`, and then `Memory` comes where there is none. Cost: O(n), n bytes.
+    pub fn of_bytes(alloc: Global, tag: Tag, body: &[u8]) -> Result<Row, Refusal>
+        ensures ok { IfOk result (λ row. row ≡ record { tag = tag; body = body.now }) }
+        ensures bound { OnOk result (length body.now ≤ 4096) }
+        ensures err { IfErr result (λ why. IsRefusedBody body.now why) }
+    {
+        if !is_fit(body) {
+            return Err(Refusal::Form(FormFault::BadBody));
+        }
+        let row = Row::sharing(alloc, tag, body)?;
+        Ok(row)
+    }
+
+    /// The row of this tag and a copy of these bytes, in the form that copies share. The only error is out of memory.
+    fn sharing(alloc: Global, tag: Tag, body: &[u8]) -> Result<Row, AllocError>
+        requires { length body.now ≤ 4096 }
+        ensures { IfOk result (λ row. row ≡ record { tag = tag; body = body.now }) }
+    {
+        let count = body.len() as u16;
+        let form = match body.len() {
+            0..=16 => Form::To16(tag, count, shared(alloc, body)?),
+            17..=32 => Form::To32(tag, count, shared(alloc, body)?),
+            33..=48 => Form::To48(tag, count, shared(alloc, body)?),
+            49..=64 => Form::To64(tag, count, shared(alloc, body)?),
+            65..=96 => Form::To96(tag, count, shared(alloc, body)?),
+            97..=128 => Form::To128(tag, count, shared(alloc, body)?),
+            _ => Form::Long(tag, Arc::new(alloc, Vec::from_slice(alloc, body)?)?),
+        };
+        Ok(Row { form })
     }
 
     /// The tag of the row.
     pub fn tag(&self) -> Tag
         ensures { result ≡ self.now.tag }
     {
-        self.tag
+        match &self.form {
+            Form::Own(tag, _) => *tag,
+            Form::To16(tag, _, _) => *tag,
+            Form::To32(tag, _, _) => *tag,
+            Form::To48(tag, _, _) => *tag,
+            Form::To64(tag, _, _) => *tag,
+            Form::To96(tag, _, _) => *tag,
+            Form::To128(tag, _, _) => *tag,
+            Form::Long(tag, _) => *tag,
+        }
     }
 
     /// The bytes of the body, at most 4,096.
@@ -74,17 +143,50 @@ impl Row {
         ensures value { result.now ≡ self.now.body }
         ensures bound { length result.now ≤ 4096 }
     {
-        self.body.as_slice()
+        match &self.form {
+            Form::Own(_, bytes) => bytes.as_slice(),
+            Form::To16(_, count, block) => &block[..*count as usize],
+            Form::To32(_, count, block) => &block[..*count as usize],
+            Form::To48(_, count, block) => &block[..*count as usize],
+            Form::To64(_, count, block) => &block[..*count as usize],
+            Form::To96(_, count, block) => &block[..*count as usize],
+            Form::To128(_, count, block) => &block[..*count as usize],
+            Form::Long(_, bytes) => bytes.as_slice(),
+        }
     }
 
-    /// The same row again, its body copied. The only error is out of memory. Cost: O(n), n bytes of the body.
+    /// The same row again. The only error is out of memory. Cost: O(1) where copies share the body, as those of
+    /// `of_bytes` and of any copy do, else O(n), n bytes of the body.
     pub fn copy(&self, alloc: Global) -> Result<Row, AllocError>
         ensures { IfOk result (λ row. row ≡ self.now) }
     {
-        let body = Vec::from_slice(alloc, &self.body)?;
-        Ok(Row {
-            tag: self.tag,
-            body,
-        })
+        let form = match &self.form {
+            Form::Own(tag, bytes) => return Row::sharing(alloc, *tag, bytes),
+            Form::To16(tag, count, block) => Form::To16(*tag, *count, Arc::try_clone(block)?),
+            Form::To32(tag, count, block) => Form::To32(*tag, *count, Arc::try_clone(block)?),
+            Form::To48(tag, count, block) => Form::To48(*tag, *count, Arc::try_clone(block)?),
+            Form::To64(tag, count, block) => Form::To64(*tag, *count, Arc::try_clone(block)?),
+            Form::To96(tag, count, block) => Form::To96(*tag, *count, Arc::try_clone(block)?),
+            Form::To128(tag, count, block) => Form::To128(*tag, *count, Arc::try_clone(block)?),
+            Form::Long(tag, bytes) => Form::Long(*tag, Arc::try_clone(bytes)?),
+        };
+        Ok(Row { form })
     }
+}
+
+/// Whether bytes are no more than a body has.
+fn is_fit(body: &[u8]) -> bool
+    ensures { result ≡ nat_le (length body.now) 4096 }
+{
+    body.len() <= MOST_BODY_BYTES
+}
+
+/// A block that begins with these bytes. The only error is out of memory.
+fn shared<const N: usize>(alloc: Global, bytes: &[u8]) -> Result<Arc<[u8; N]>, AllocError>
+    requires { length bytes.now ≤ N }
+    ensures { IfOk result (λ block. take (length bytes.now) (arc_value block) ≡ bytes.now) }
+{
+    let mut block = [0; N];
+    block[..bytes.len()].copy_from_slice(bytes);
+    Ok(Arc::new(alloc, block)?)
 }

@@ -28,11 +28,7 @@ pub(crate) fn read_row(alloc: Global, cursor: &mut Cursor) -> Result<Row, ReadEr
     ensures { GivesOrRunsOut (λ x. (x, cursor.new)) result (spec.row_at cursor.old) }
 {
     let tag = Tag::new(cursor.u32()?);
-    let body = cursor.body(alloc)?;
-    match Row::new(tag, body) {
-        Ok(row) => Ok(row),
-        Err((_body, fault)) => Err(ReadError::Fault(fault)),
-    }
+    cursor.row(alloc, tag)
 }
 
 /// Whether a key comes after the one before it, where there is one.

@@ -165,6 +165,7 @@ fn stay_of(staying: &Staying) -> Stay {
         reading: reading_of(staying.reading),
         read_seconds: staying.read_seconds,
         is_guarded: staying.is_guarded,
+        parts_bytes: staying.parts_bytes,
         level: level_of(staying.is_quiet, staying.is_verbose),
         report_changes: staying.report_changes,
     }
@@ -189,6 +190,7 @@ where
             port,
             links,
             is_guarded,
+            parts_bytes,
         } => {
             run_serve(
                 rt,
@@ -197,6 +199,7 @@ where
                 *config,
                 *links,
                 *is_guarded,
+                *parts_bytes,
                 &mut output,
                 errors,
             )

@@ -6,4 +6,4 @@ pub loop-init : goal.loop-init
 loop-init g c = same_prefix _ _ refl
 
 pub loop-preserved : goal.loop-preserved
-loop-preserved g c = then_prefix _ _ _ c.loop.invariant c.serve_next-seat.ensures
+loop-preserved g c = then_prefix _ _ _ c.loop.invariant c.serve_next-place.ensures

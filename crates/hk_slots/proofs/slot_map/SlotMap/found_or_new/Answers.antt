@@ -1,8 +1,6 @@
-use Rattle.std.proofs.Common.{◌≡◌, sym, ap, ◌∙◌, Some}
-use Rattle.std.specs.FinMap as finmap
-use Rattle.hk_slots.specs.SlotMaps.{map_of}
+use Rattle.std.proofs.Common.{sym, ◌∙◌}
 use Rattle.hk_slots.proofs.SeenSlots.{get_slot, no_value}
-use Rattle.hk_slots.proofs.ChangedSlots.{put_in_laid, put_in_map, put_in_slots, new_absent}
+use Rattle.hk_slots.proofs.ChangedSlots.{put_in_laid, put_in_map, new_absent}
 use Rattle.hk_slots.proofs.FoundSlots.{new_slot, found_laid, found_map, always_err, told_ok, there_ok, gone_err}
 use Rattle.hk_slots.proofs.slot_map.SlotMap.found_or_new.Goals as goal
 

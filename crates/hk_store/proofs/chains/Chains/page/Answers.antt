@@ -1,10 +1,10 @@
-use Rattle.std.proofs.Common.{◌∙◌, ap, false, sym}
+use Rattle.std.proofs.Common.{◌∙◌, ap, sym}
 use Rattle.std.proofs.lemmas.Result.{IfOk-weaker}
 use Rattle.std.specs.FinMap as finmap
 use Rattle.std.specs.BTreeMap.Range.{entries_between}
 use Rattle.std.specs.declared.ops.Bound.TheVariants.{Included}
 use Rattle.hk_model.specs.History.Rows.{row_key_cmp}
-use Rattle.hk_model.specs.Replica.Pages.{PageValue, page_of}
+use Rattle.hk_model.specs.Replica.Pages.{page_of}
 use Rattle.hk_slots.specs.SlotMaps.{map_of}
 use Rattle.hk_store.specs.Reads.{rows_at}
 use Rattle.hk_store.proofs.FilledPages.{empty_page}

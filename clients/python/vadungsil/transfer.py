@@ -1,0 +1,85 @@
+"""What a node keeps for a link: a whole that it gives in parts, parts that it takes, and holds. Each has a link of its own, which is never
+opened anew: where it breaks, the node has let go of all of it."""
+from __future__ import annotations
+
+from types import TracebackType
+from typing import Any, Callable, Iterable, Iterator, List, Optional, Type, Union
+
+from .errors import Fault
+from .later import AddPart, Added, AskHold, Done, Held, JoinParts, LastPart, MergeParts, More, Part, Release, Request, Whole, encode_request, told_of
+from .link import Link
+
+AnyPart = Union[Part, LastPart]
+
+
+class OwnLink:
+    """A link for one transfer or one hold."""
+
+    def __init__(self, link: Link) -> None:
+        self._link = link
+
+    def ask(self, request: Request, *kinds: type) -> Any:
+        """The reply, of one of these kinds. After any error the link is closed."""
+        found: List[bytes] = []
+        try:
+            self._link.exchange(encode_request(request), 1, found)
+            return told_of(found[0], *kinds)
+        except BaseException:
+            self.close()
+            raise
+
+    def close(self) -> None:
+        self._link.close()
+
+    def __enter__(self) -> Any:
+        return self
+
+    def __exit__(self, kind: Optional[Type[BaseException]], error: Optional[BaseException], trace: Optional[TracebackType]) -> None:
+        self.close()
+
+
+class Hold(OwnLink):
+    """A time of a node that stays readable: no prune goes above it. `number` and `time` are the hold's. It lasts until `release`, until
+    `close`, which lets the node see the link's end, or until the link breaks, which `release` tells (`LinkBroken`).
+
+        with node.hold(5): node.range(1, at=5)"""
+
+    def __init__(self, link: Link, time: int) -> None:
+        super().__init__(link)
+        held = self.ask(AskHold(time), Held)
+        self.number, self.time = held.number, held.time
+
+    def release(self) -> int:
+        """Lets it go; gives the number of the node's operations that ends with that."""
+        operations: int = self.ask(Release(self.number), Done).operations
+        self.close()
+        return operations
+
+    def __exit__(self, kind: Optional[Type[BaseException]], error: Optional[BaseException], trace: Optional[TracebackType]) -> None:
+        if kind is None:
+            self.release()
+        self.close()
+
+
+def parts_from(opened: Callable[[], Link], base: int, part_bytes: int) -> Iterator[AnyPart]:
+    """The parts of what a node learnt since a base, or of all that it holds since 0; the last one is a `LastPart`. All are of the moment of
+    the first."""
+    with OwnLink(opened()) as link:
+        part = link.ask(Whole(base, part_bytes), Part, LastPart)
+        while isinstance(part, Part):
+            yield part
+            part = link.ask(More(), Part, LastPart)
+        yield part
+
+
+def parts_to(opened: Callable[[], Link], parts: Iterable[AnyPart]) -> int:
+    """Has a node take parts, of which the last is a `LastPart`; gives the number of its operations. Nothing of them is taken before all are
+    there."""
+    with OwnLink(opened()) as link:
+        for part in parts:
+            link.ask(AddPart(part.facts), Added)
+            if isinstance(part, LastPart):
+                request = MergeParts(part.head) if part.head.base == 0 else JoinParts(part.head)
+                operations: int = link.ask(request, Done).operations
+                return operations
+    raise Fault(1, place="the parts end before the last one")

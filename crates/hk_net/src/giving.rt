@@ -1,0 +1,123 @@
+//! A fragment that a link gives part by part.
+
+ghost use Rattle.std.specs.Prelude.{◌≡◌, ℕ, IfOk, IfErr, IfSome};
+ghost use Rattle.hk_types.specs.declared.faults.Refusal.TheVariants.{Memory};
+ghost use Rattle.hk_later.specs.Replies.{reply_seen};
+ghost use Rattle.hk_net.specs.GivenWhole.{IsGivenWhole};
+ghost use Rattle.hk_net.specs.LinkStates.{begun, giving_after, part_told, weight};
+
+use crate::coming::weight_of;
+use crate::parts_budget::{PartsBudget, Room};
+use hk_delta::Fragment;
+use hk_later::{Head, Reply};
+use hk_log::Version;
+use hk_parts::{Split, fragment_law};
+use hk_types::{Refusal, VersionKey};
+use std::alloc::{AllocError, Global};
+use std::marker::Model;
+
+/// The same facts again.
+fn copied(
+    alloc: Global,
+    facts: &[(VersionKey, Version)],
+) -> Result<Vec<(VersionKey, Version)>, AllocError>
+    ensures { IfOk result (λ copy. copy.items ≡ facts.now) }
+{
+    let mut copy = Vec::with_capacity(alloc, facts.len())?;
+    for (version, known) in facts {
+        copy.push((*version, known.copy(alloc)?))?;
+    }
+    Ok(copy)
+}
+
+/// Room for facts, where there is so much.
+fn room_for<'a>(facts: &[(VersionKey, Version)], budget: &'a PartsBudget) -> Option<Room<'a>>
+    ensures { IfSome result (λ room. room ≡ weight facts.now) }
+{
+    let bytes = weight_of(facts)?;
+    let mut room = Room::none(budget);
+    if !room.grow(bytes) {
+        return None;
+    }
+    Some(room)
+}
+
+/// A fragment that a link gives part by part. It holds the fragment whole, with room for it, and stands at the part that
+/// is told next.
+#[derive(Drop)]
+pub(crate) struct Giving<'a> {
+    split: Split,
+    most_bytes: u64,
+    room: Room<'a>,
+}
+
+impl<'a> Model for Giving<'a> {
+    ghost use Rattle.hk_net.specs.LinkStates.{GivingValue, IsAtNext, giving_code, giving_seen};
+
+    ghost Value = { GivingValue };
+
+    ghost coded = { giving_code };
+
+    ghost view = { λ g. giving_seen g.split g.most_bytes };
+
+    ghost invariant = { λ g. IsAtNext g.split g.most_bytes g.room };
+}
+
+impl<'a> Giving<'a> {
+    /// A fragment of which nothing was told yet, where there is room for it.
+    pub(crate) fn begin(
+        fragment: Fragment,
+        most_bytes: u64,
+        budget: &'a PartsBudget,
+    ) -> Option<Giving<'a>>
+        ensures { IfSome result (λ giving. giving ≡ begun fragment most_bytes) }
+    {
+        let room = room_for(fragment.facts(), budget)?;
+        let mut split = Split::new(fragment);
+        split.advance(most_bytes);
+        Some(Giving {
+            split,
+            most_bytes,
+            room,
+        })
+    }
+
+    /// The reply that tells the next part: its facts are copied, and with the last of them the head.
+    pub(crate) fn told(&self, alloc: Global) -> Result<Reply, Refusal>
+        ensures ok { IfOk result (λ reply. reply_seen reply ≡ part_told self.now) }
+        ensures err { IfErr result (λ why. why ≡ Memory) }
+    {
+        let facts = copied(alloc, self.split.part())?;
+        let left = self.split.left();
+        if left == 0 {
+            let head = Head::of_fragment(alloc, self.split.whole())?;
+            return Ok(Reply::LastPart { facts, head });
+        }
+        Ok(Reply::Part {
+            left: left as u64,
+            facts,
+        })
+    }
+
+    /// What is given once that part is told: nothing where it was the last one. Cost: O(n), n facts of the part after it.
+    pub(crate) fn next(self) -> Option<Giving<'a>>
+        ensures { result ≡ giving_after self.entry }
+    {
+        if self.split.left() == 0 {
+            return None;
+        }
+        let most_bytes = self.most_bytes;
+        let mut next = self;
+        next.split.advance(most_bytes);
+        Some(next)
+    }
+}
+
+/// What a link tells of a fragment that was cut, from `Whole` to the last part, makes that fragment, however long its parts
+/// are: one head comes with the last of them, and the fragment is put together of it and the facts of all, one part after
+/// the other. A law: it does nothing.
+pub fn given_law(fragment: &Fragment)
+    ensures { (most : ℕ) → IsGivenWhole fragment.now most }
+{
+    fragment_law(fragment);
+}

@@ -1,0 +1,59 @@
+//! Versions that are dropped in one pass over all chains.
+
+ghost use Rattle.std.specs.Prelude.{◌≡◌};
+ghost use Rattle.hk_model.specs.History.Rows.{row_key_cmp};
+ghost use Rattle.hk_slots.specs.SlotMaps.{AreOwn, map_of};
+ghost use Rattle.hk_store.specs.Drops.{pruned_facts};
+ghost use Rattle.hk_store.specs.Facts.{AreStored};
+ghost use Rattle.hk_store.specs.Sweeps.{ArePruned, HasFewerSlots, IsSwept};
+
+use crate::chains::Chains;
+use crate::row_key::RowKey;
+use hk_facts::Chain;
+use hk_slots::SlotMap;
+use hk_types::Time;
+
+impl Chains {
+    /// Drops each version whose end is known and at most `until`, chain by chain, as they lie in memory. It takes no memory.
+    /// Cost: O(n + c · log n), n facts, c chains of which nothing is left.
+    pub(crate) fn sweep(&mut self, until: Time)
+        ensures { self.new ≡ pruned_facts self.old until }
+    {
+        sweep_all(&mut self.chains, until);
+    }
+
+    /// A number that is at least that of the chains; more than that it does not promise.
+    pub(crate) fn bound(&self) -> usize {
+        self.chains.slot_bound()
+    }
+}
+
+fn sweep_all(chains: &mut SlotMap<RowKey, Chain>, until: Time)
+    requires { AreStored (map_of row_key_cmp chains.old) }
+    ensures stored { AreStored (map_of row_key_cmp chains.new) }
+    ensures swept { ArePruned (map_of row_key_cmp chains.old) (map_of row_key_cmp chains.new) until }
+{
+    for slot in 0..chains.slot_bound() {
+        if let Some(row) = chains.key_at(slot) {
+            sweep_row(chains, row, until);
+        }
+    }
+}
+
+/// Drops the versions of a row that ended by a time, and the row's chain where nothing is left of it.
+fn sweep_row(chains: &mut SlotMap<RowKey, Chain>, row: RowKey, until: Time)
+    requires own { AreOwn row_key_cmp chains.old }
+    requires stored { AreStored (map_of row_key_cmp chains.old) }
+    ensures own { AreOwn row_key_cmp chains.new }
+    ensures stored { AreStored (map_of row_key_cmp chains.new) }
+    ensures slots { HasFewerSlots chains.old chains.new }
+    ensures swept { IsSwept (map_of row_key_cmp chains.old) (map_of row_key_cmp chains.new) row until }
+{
+    let Some(chain) = chains.get_mut(row) else {
+        return;
+    };
+    chain.drop_until(until);
+    if chain.is_empty() {
+        chains.remove(row);
+    }
+}
