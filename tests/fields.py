@@ -114,8 +114,8 @@ def fields_of_items(frames):
     return message(16, [("count", u32(len(frames)))] + [("frame", frame) for frame in frames])
 
 
-def fields_of_head(base=0, horizon=0, streams=((0, 0, (), ()),), log=7):
-    """streams: (prefix, closed, extra numbers, waiting marks)"""
+def fields_of_start(base=0, horizon=0, streams=((0, 0, (), ()),), log=7):
+    """A fragment up to its facts. streams: (prefix, closed, extra numbers, waiting marks)"""
     fields = [("log", u64(log)), ("streams", u16(len(streams))), ("base", u64(base)), ("horizon", u64(horizon))]
     for prefix, closed, extra, waiting in streams:
         fields += [("prefix", u64(prefix)), ("closed", u64(closed)), ("count of extra numbers", u32(len(extra)))]
@@ -124,6 +124,11 @@ def fields_of_head(base=0, horizon=0, streams=((0, 0, (), ()),), log=7):
         for n, m in waiting:
             fields += [("n", u64(n)), ("m", u64(m))]
     return fields
+
+
+def fields_of_head(count=0, **start):
+    """The head of a fragment with so many facts."""
+    return fields_of_start(**start) + [("facts of the whole", u64(count))]
 
 
 def fields_of_facts(facts):
@@ -140,7 +145,7 @@ def fields_of_facts(facts):
 
 
 def fields_of_fragment(base=0, horizon=0, streams=((0, 0, (), ()),), facts=(), log=7):
-    return fields_of_head(base, horizon, streams, log) + fields_of_facts(facts)
+    return fields_of_start(base, horizon, streams, log) + fields_of_facts(facts)
 
 
 def get(table, key):

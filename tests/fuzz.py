@@ -249,7 +249,8 @@ def random_later(source):
     """A request of version 2. What is added is mostly in order, and heads are such as parts of it may have."""
     key, time_, base = source.randint(1, 4), source.choice([0, 1, 2, 9, 2 ** 62]), source.choice([0, 0, 1, 3])
     facts = [(1, it, 4, (9, bytes([it])), source.choice([None, 5])) for it in range(source.randint(1, 3), 6)]
-    head = {"base": base, "horizon": source.choice([0, base]), "streams": [(4, 4, source.choice([(), (6, 8)]), source.choice([(), ((7, 9),)]))]}
+    head = {"base": base, "horizon": source.choice([0, base]), "streams": [(4, 4, source.choice([(), (6, 8)]), source.choice([(), ((7, 9),)]))],
+            "count": source.choice([0, 1, len(facts)])}
     return source.choice([
         say.status, lambda: say.latest(say.get(1, key)), lambda: say.latest(say.scan(1, 0, key)), lambda: say.page(time_, 1, 0, key, source.randint(1, 3)),
         lambda: say.whole(base, source.choice([0, 50, 2 ** 32 - 1])), say.more, say.more, lambda: say.add(facts), lambda: say.add(facts[:1]),

@@ -8,17 +8,17 @@ OVER = of.u64(LAST + 1)
 QUERIES = {"get": of.get, "range": of.scan, "tag": of.by_tag, "count": of.count}
 FACTS = [(1, 5, 1, (9, b"a"), 2), (1, 5, 2, (9, b""), None), (2, 1, 1, None, 9)]
 HEADS = [
-    ("nothing known", {}), ("gaps and waiting marks", {"streams": [(2, 2, [4, 6], [(4, 4), (6, 7)]), (0, 3, [], [])]}),
-    ("64 streams, pruned", {"horizon": 3, "streams": [(n, 3 + n, [], []) for n in range(64)], "log": MOST}),
-    ("a base", {"base": 4, "horizon": 3, "streams": [(3, 6, [], [])]})]
+    ("nothing known", {}), ("gaps and waiting marks", {"streams": [(2, 2, [4, 6], [(4, 4), (6, 7)]), (0, 3, [], [])], "count": 3}),
+    ("64 streams, pruned", {"horizon": 3, "streams": [(n, 3 + n, [], []) for n in range(64)], "log": MOST, "count": MOST}),
+    ("a base", {"base": 4, "horizon": 3, "streams": [(3, 6, [], [])], "count": 2 ** 32})]
 
 
 def value_of_facts(facts):
     return [[table, key, born, None if row is None else [row[0], row[1].hex()], died] for table, key, born, row, died in facts]
 
 
-def value_of_head(base=0, horizon=0, streams=((0, 0, (), ()),), log=7):
-    return {"log": log, "base": base, "horizon": horizon, "streams": [
+def value_of_head(base=0, horizon=0, streams=((0, 0, (), ()),), log=7, count=0):
+    return {"log": log, "base": base, "horizon": horizon, "count": count, "streams": [
         {"prefix": prefix, "closed": closed, "extra": list(extra), "waiting": [list(it) for it in waiting]} for prefix, closed, extra, waiting in streams]}
 
 
@@ -121,6 +121,7 @@ def head_faults(spell):
             ("count of extra numbers", spell_ended(spell, whole, "count of extra numbers", b"\xff" * 4), 10),
             ("extra number at the prefix", turned("extra number", of.u64(3)), 6), ("order of extra numbers", turned("extra number", of.u64(4), 1), 7),
             ("n at the prefix", turned("n", of.u64(2)), 6), ("order of waiting marks", turned("n", of.u64(4), 1), 7), ("m below n", turned("m", of.u64(3)), 6),
+            ("no count of facts", spell_ended(spell, whole, "facts of the whole", b""), 10), ("half a count", spell_ended(spell, whole, "facts of the whole", bytes(4)), 10),
             ("a byte behind", of.spelled(spell(whole) + [("more", b"\0")]), 10)]
 
 
@@ -153,8 +154,8 @@ def request_faults():
         ("time of a page", of.patched(page, "time", OVER), 6), ("no rows", of.patched(page, "most rows", of.u32(0)), 8),
         ("a page that is cut", of.spelled(page[:-1] + [("most rows", b"\0\0\0")]), 10), ("a page and a byte", of.spelled(page + [("more", b"\0")]), 10),
         ("base of a whole", of.patched(whole, "base", OVER), 6), ("a whole without bytes", of.spelled(whole[:-1]), 10),
-        ("base below the horizon", of.spelled(of.later(54, of.fields_of_head(2, 3, [(3, 3, [], [])]))), 6),
-        ("base of a merge", of.spelled(of.later(55, of.fields_of_head(1, 0, [(3, 3, [], [])]))), 6), ("time of a hold", of.patched(hold, "time", OVER), 6),
+        ("base below the horizon", of.spelled(of.later(54, of.fields_of_head(base=2, horizon=3, streams=[(3, 3, [], [])]))), 6),
+        ("base of a merge", of.spelled(of.later(55, of.fields_of_head(base=1, streams=[(3, 3, [], [])]))), 6), ("time of a hold", of.patched(hold, "time", OVER), 6),
         ("a hold without a time", of.framed(b"\2\x38"), 10), ("hold 0", of.spelled(of.later(57, [("number", of.u64(0))])), 6),
         ("a number that is cut", of.spelled(of.later(57, [("number", b"\1")])), 10)]
     cases += [(f"add: {name}", data, number) for name, data, number in part_faults(lambda fields: of.later(53, fields))]

@@ -400,7 +400,8 @@ class LaterSession(Session):
         self.giving = None
         if 0 < base < self.horizon:
             return self.later_refuse(request, 25, self.horizon)
-        self.giving = self.fragment(base), part_bytes
+        fragment = self.fragment(base)
+        self.giving = {**fragment, "count": len(fragment["facts"])}, part_bytes
         return self.next_part(request)
 
     def more(self):
@@ -430,9 +431,10 @@ class LaterSession(Session):
         self.came += facts
         return self.later_step(request, of.later(70, [("count", of.u64(len(self.came)))]))
 
-    def take_parts(self, other, base, refused=None, is_merge=False):
-        """Joins what another holds, of which all facts came, or is refused."""
+    def take_parts(self, other, base, refused=None, is_merge=False, count=None):
+        """Joins what another holds, of which all facts came, or is refused. The head tells of as many facts as came, or of another number."""
         head = {name: it for name, it in other.fragment(base).items() if name != "facts"}
+        head["count"] = len(self.came) if count is None else count
         request, self.came = of.later(55 if is_merge else 54, of.fields_of_head(**head)), []
         if refused:
             return self.later_refuse(request, *refused)
@@ -576,6 +578,10 @@ def later_parts():
     it.add([])
     it.add(facts[1:])
     it.take_parts(other, 3)
+    # a part that was left out, the first or the last, or one too many: nothing is taken
+    for some, count in ((facts[1:], len(facts)), (facts[:1], len(facts)), ([], len(facts)), (facts, len(facts) - 1), (facts, 2 ** 64 - 1)):
+        it.add(some)
+        it.take_parts(other, 3, (8,), count=count)
     it.take_parts(LaterSession("", log=8, streams=2), 0, (20,))
     it.take_parts(LaterSession("", streams=1), 0, (21,))
     it.latest("range", 1, 0, 9)

@@ -434,8 +434,8 @@ def refused_requests():
 
 # A request by its name, behind those that make the node's state and those that make the link's.
 FIRST_FACT, LATER_FACTS = (1, 5, 2, None, 4), [row(5, 4), row(7, 6)]
-JOINED = say.join_parts(base=2, streams=[(4, 4, [6, 8], [(7, 9)])])
-MERGED = say.merge_parts(streams=[(4, 4, [], [])])
+JOINED = say.join_parts(base=2, streams=[(4, 4, [6, 8], [(7, 9)])], count=1 + len(LATER_FACTS))
+MERGED = say.merge_parts(streams=[(4, 4, [], [])], count=4)
 LATER_CASES = [
     ("streams", [ALL], [], say.status()), ("the latest answer", [ALL], [], say.latest(say.scan(1, 0, 9))), ("a page", [ALL], [], say.page(3, 1, 0, 9, 1)),
     ("a whole in parts", [ALL], [], say.whole(0, 0)), ("a delta in parts", [ALL], [], say.whole(1, 99)), ("the next part", [ALL], [say.whole(0, 0)], say.more()),

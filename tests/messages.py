@@ -1,5 +1,6 @@
 """Requests and replies for the tests, by the package of clients/python. What breaks a rule is spelled field by field (tests/fields.py),
 since the package makes no such value. Tests, measures and examples of nodes take their frames from here, but for tests/reference.py."""
+import dataclasses
 import pathlib
 import socket
 import sys
@@ -139,12 +140,17 @@ def add(facts):
     return later(vadungsil.later.AddPart(made_fragment(facts=facts).facts))
 
 
+def head_of(count=0, **start):
+    """The head of a fragment with so many facts."""
+    return dataclasses.replace(vadungsil.later.Head.of(made_fragment(**start)), count=count)
+
+
 def join_parts(**head):
-    return later(vadungsil.later.JoinParts(vadungsil.later.Head.of(made_fragment(**head))))
+    return later(vadungsil.later.JoinParts(head_of(**head)))
 
 
 def merge_parts(**head):
-    return later(vadungsil.later.MergeParts(vadungsil.later.Head.of(made_fragment(**head))))
+    return later(vadungsil.later.MergeParts(head_of(**head)))
 
 
 def hold(time):
@@ -169,10 +175,13 @@ def row_of(row):
     return None if row is None else (row.tag, row.body)
 
 
-def fragment_of(it):
+def start_of(it):
     return {"log": it.log, "base": it.base, "horizon": it.horizon,
-            "streams": [(of.prefix, of.closed, list(of.extra), list(of.waiting)) for of in it.streams],
-            "facts": [(of.version.table, of.version.key, of.version.born, row_of(of.row), of.died) for of in it.facts]}
+            "streams": [(of.prefix, of.closed, list(of.extra), list(of.waiting)) for of in it.streams]}
+
+
+def fragment_of(it):
+    return {**start_of(it), "facts": known_of(it.facts)}
 
 
 def known_of(facts):
@@ -191,7 +200,7 @@ def read_later(it):
     if isinstance(it, later_.Part):
         return "part", known_of(it.facts), it.left
     if isinstance(it, later_.LastPart):
-        return "last part", known_of(it.facts), fragment_of(it.head.with_facts(()))
+        return "last part", known_of(it.facts), {**start_of(it.head), "count": it.head.count}
     if isinstance(it, vadungsil.Refused):
         return ("refused", it.number, *(*it.values, 0, 0)[:2])
     return type(it).__name__.lower(), it

@@ -56,7 +56,7 @@ def facts_of(value):
 
 
 def head_of(value):
-    return va.later.Head(value["log"], value["base"], value["horizon"], tuple(va.Stream(**it) for it in value["streams"]))
+    return va.later.Head(value["log"], value["base"], value["horizon"], tuple(va.Stream(**it) for it in value["streams"]), value["count"])
 
 
 def query_of(value):

@@ -1,5 +1,5 @@
 """Messages of version 2, which a node reads where it was started with `--messages 2`: their values, and their bytes (docs/FORMATS.md,
-"Messages of version 2"). A part of a fragment is some of its facts; its head is what it is without them."""
+"Messages of version 2"). A part of a fragment is some of its facts; its head is what it is without them, and how many they are."""
 from __future__ import annotations
 
 import struct
@@ -21,24 +21,29 @@ PART_BYTES = 8 * 2 ** 20
 
 @dataclass(frozen=True)
 class Head:
-    """What a fragment is without its facts."""
+    """What a fragment is without its facts, and how many of these it has."""
 
     log: int
     base: int
     horizon: int
     streams: Tuple[Stream, ...]
+    count: int
 
     def __post_init__(self) -> None:
+        number_in(self.count, 0, LAST_KEY, "facts of the whole")
         bare = Fragment(self.log, self.base, self.horizon, self.streams)
         object.__setattr__(self, "streams", bare.streams)
 
     @classmethod
     def of(cls, fragment: Fragment) -> "Head":
-        return cls(fragment.log, fragment.base, fragment.horizon, fragment.streams)
+        return cls(fragment.log, fragment.base, fragment.horizon, fragment.streams, len(fragment.facts))
 
     def with_facts(self, facts: Iterable[Fact]) -> Fragment:
-        """The fragment of this head and of these facts, with all its rules (6, 7)."""
-        return Fragment(self.log, self.base, self.horizon, self.streams, tuple(facts))
+        """The fragment of this head and of these facts, with all its rules (6, 7). 8: they are not so many."""
+        found = tuple(facts)
+        if len(found) != self.count:
+            raise Fault(8, place=f"{len(found)} facts of {self.count}")
+        return Fragment(self.log, self.base, self.horizon, self.streams, found)
 
 
 def _facts_of(facts: Iterable[Fact]) -> Tuple[Fact, ...]:
@@ -106,7 +111,8 @@ class AddPart:
 
 @dataclass(frozen=True)
 class JoinParts:
-    """Take the fragment of this head and of all parts that were added."""
+    """Take the fragment of this head and of all parts that were added. A node refuses it (8) where these have not as many facts as the head
+    tells."""
 
     head: Head
 
@@ -296,7 +302,7 @@ def _framed(kind: int, body: bytes = b"") -> bytes:
 
 
 def _head_bytes(head: Head) -> bytes:
-    return head_bytes(head.log, head.base, head.horizon, head.streams)
+    return head_bytes(head.log, head.base, head.horizon, head.streams) + _U64(head.count)
 
 
 _WRITERS: Dict[type, Tuple[int, Callable[[Any], bytes]]] = {
@@ -374,7 +380,7 @@ def _positive_at(reader: Reader, what: str) -> int:
 
 def _head_at(reader: Reader) -> Head:
     it = object.__new__(Head)
-    it.__dict__.update(zip(("log", "base", "horizon", "streams"), head_at(reader)))
+    it.__dict__.update(zip(("log", "base", "horizon", "streams"), head_at(reader)), count=reader.u64("facts of the whole"))
     return it
 
 

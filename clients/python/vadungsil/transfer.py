@@ -74,7 +74,7 @@ def parts_from(opened: Callable[[], Link], base: int, part_bytes: int) -> Iterat
 
 def parts_to(opened: Callable[[], Link], parts: Iterable[AnyPart]) -> int:
     """Has a node take parts, of which the last is a `LastPart`; gives the number of its operations. Nothing of them is taken before all are
-    there."""
+    there, which the node sees by the count in the head (8)."""
     with OwnLink(opened()) as link:
         for part in parts:
             link.ask(AddPart(part.facts), Added)
