@@ -175,22 +175,37 @@ fn serve_command<'a>(alloc: Global) -> Result<Command<'a>, AllocError> {
     with_stay(alloc, with_numbers(alloc, command, &SERVE_NUMBERS)?)
 }
 
+/// A command of this name. (A function for each of the next steps, since a proof of several together takes a minute.)
+pub(crate) fn named<'a>(alloc: Global, name: &'a str, about: &'a str) -> Command<'a> {
+    Command::new(alloc, name).about(about)
+}
+
+fn with_example<'a>(command: Command<'a>, example: &'a str) -> Command<'a> {
+    command.after_help(example)
+}
+
 pub(crate) fn plain<'a>(
     alloc: Global,
     name: &'a str,
     about: &'a str,
     example: &'a str,
 ) -> Command<'a> {
-    Command::new(alloc, name).about(about).after_help(example)
+    with_example(named(alloc, name, about), example)
+}
+
+fn with_program_texts<'a>(command: Command<'a>) -> Command<'a> {
+    command.long_about(LONG_ABOUT).version(VERSION)
+}
+
+/// A command that needs another one behind it.
+fn with_need_of_command<'a>(command: Command<'a>) -> Command<'a> {
+    command
+        .subcommand_required(true)
+        .arg_required_else_help(true)
 }
 
 fn whole<'a>(alloc: Global) -> Command<'a> {
-    Command::new(alloc, "hkrep")
-        .about(ABOUT)
-        .long_about(LONG_ABOUT)
-        .version(VERSION)
-        .subcommand_required(true)
-        .arg_required_else_help(true)
+    with_need_of_command(with_program_texts(named(alloc, "hkrep", ABOUT)))
 }
 
 fn program<'a>(alloc: Global) -> Result<Command<'a>, AllocError> {

@@ -1,6 +1,6 @@
 //! The commands but `serve`, as tables of what they take.
 
-use crate::arguments::plain;
+use crate::arguments::{named, plain};
 use crate::texts;
 use clap::builder::ValueParser;
 use clap::{Arg, ArgAction, Command, value_parser};
@@ -552,8 +552,7 @@ fn plain_command<'a>(alloc: Global, form: &Form) -> Result<Command<'a>, AllocErr
 }
 
 fn query_command<'a>(alloc: Global, query: &Form) -> Result<Command<'a>, AllocError> {
-    let command = Command::new(alloc, query.name).about(query.about);
-    with_numbers(alloc, command, query.numbers)
+    with_numbers(alloc, named(alloc, query.name, query.about), query.numbers)
 }
 
 fn with_queries<'a>(alloc: Global, command: Command<'a>) -> Result<Command<'a>, AllocError> {

@@ -45,28 +45,46 @@ pub struct Staying {
     pub report_changes: u64,
 }
 
-/// A command with the options of a node that stays, and of one that tests each change.
-pub(crate) fn with_stay<'a>(
-    alloc: Global,
-    command: Command<'a>,
-) -> Result<Command<'a>, AllocError> {
-    let stay = flag(alloc, "stay", STAY_HELP);
-    let quiet = flag(alloc, "quiet", QUIET_HELP)
+fn quiet_flag<'a>(alloc: Global) -> Result<Arg<'a>, AllocError> {
+    flag(alloc, "quiet", QUIET_HELP)
         .short('q')
-        .requires_arg("stay")?;
-    let verbose = flag(alloc, "verbose", VERBOSE_HELP)
+        .requires_arg("stay")
+}
+
+fn verbose_flag<'a>(alloc: Global) -> Result<Arg<'a>, AllocError> {
+    flag(alloc, "verbose", VERBOSE_HELP)
         .short('v')
         .requires_arg("stay")?
-        .conflicts_with("quiet")?;
-    let guard = flag(alloc, "guard", GUARD_HELP);
-    let address = Arg::new(alloc, "address")
+        .conflicts_with("quiet")
+}
+
+fn address_arg<'a>(alloc: Global) -> Result<Arg<'a>, AllocError> {
+    Arg::new(alloc, "address")
         .long("address")
         .value_name("A")
         .help(ADDRESS_HELP)
         .action(ArgAction::Set)
-        .requires_arg("stay")?;
-    let command = command.arg(stay)?.arg(guard)?.arg(quiet)?;
-    let command = command.arg(verbose)?.arg(address)?;
+        .requires_arg("stay")
+}
+
+fn with_kind<'a>(alloc: Global, command: Command<'a>) -> Result<Command<'a>, AllocError> {
+    command
+        .arg(flag(alloc, "stay", STAY_HELP))?
+        .arg(flag(alloc, "guard", GUARD_HELP))
+}
+
+fn with_telling<'a>(alloc: Global, command: Command<'a>) -> Result<Command<'a>, AllocError> {
+    command.arg(quiet_flag(alloc)?)?.arg(verbose_flag(alloc)?)
+}
+
+/// A command with the options of a node that stays, and of one that tests each change. (A function for each few of them,
+/// since a proof of all together takes minutes.)
+pub(crate) fn with_stay<'a>(
+    alloc: Global,
+    command: Command<'a>,
+) -> Result<Command<'a>, AllocError> {
+    let command = with_telling(alloc, with_kind(alloc, command)?)?;
+    let command = command.arg(address_arg(alloc)?)?;
     with_numbers(alloc, command, &STAY_NUMBERS)
 }
 
