@@ -18,7 +18,7 @@ use Rattle.hk_later.specs.Told.{page_text, streams_text}
 use Rattle.hk_later.specs.Replies.{Done, Streams as StreamsTold, Latest, Page as PageOf, Part, LastPart, Added, Held, Refused, reply_rest}
 use Rattle.hk_later.specs.Requests.{Streams, AskLatest, Page, Whole, More, AddPart, JoinParts, MergeParts, Hold, Release, request_rest}
 
-pub head_text_len : (h : WireHead) → length (head_text h) ≡ 26 + length (flat_map stream_text h.streams)
+pub head_text_len : (h : WireHead) → length (head_text h) ≡ 34 + length (flat_map stream_text h.streams)
 unfolding head_text
 head_text_len h = simp (length-append, len64, len16) (omega arith)
 

@@ -1,5 +1,5 @@
 -- Parts and heads of fragments: what their bytes tell, their encoding and their reading.
-use Rattle.std.specs.Prelude.{◌≡◌, ℕ, ◌≤◌, ◌^◌, Bool, true, not, ◌&&◌, ◌||◌, ◌==◌, nat_le, nat_lt, is_some, List, [], ◌++◌, length, map, None, refl}
+use Rattle.std.specs.Prelude.{◌≡◌, ℕ, ◌≤◌, ◌<◌, ◌^◌, Bool, true, not, ◌&&◌, ◌||◌, ◌==◌, nat_le, nat_lt, is_some, List, [], ◌++◌, length, map, None, refl}
 use Rattle.std.specs.Coded.{Coded, code_by, coded×, coded_ℕ, coded_list}
 use Rattle.std.specs.Int.{w16, w64}
 use Rattle.std.specs.List.{flat_map}
@@ -8,9 +8,9 @@ use Rattle.hk_model.specs.Replica.Streams.{StreamContent}
 use Rattle.hk_model.specs.Replica.Content.{least_closed}
 use Rattle.hk_model.specs.Replica.Codes.{stream_code}
 use Rattle.hk_fragment.specs.Parts.{Known, facts_fault}
-use Rattle.hk_frames.specs.Fields.{number}
+use Rattle.hk_frames.specs.Fields.{number, number_at}
 use Rattle.hk_parts.specs.Heads.{Head}
-use Rattle.hk_wire.specs.Readers.{Reader, after, mapped_value, Chained}
+use Rattle.hk_wire.specs.Readers.{Reader, both, after, mapped_value, Chained}
 use Rattle.hk_wire.specs.Fragments.{WireStream, WireFragment, wire_stream_of, stream_text, fragment_head_at, streams_at, facts_at, streams_are_counted, FactFits, FragmentFits}
 
 -- ---- heads
@@ -18,8 +18,8 @@ use Rattle.hk_wire.specs.Fragments.{WireStream, WireFragment, wire_stream_of, st
 -- the code of the value of a `Head`, by which proofs tell such values apart
 abbrev pub head_code : Coded Head
 head_code =
-    code_by (ℕ × (ℕ × (ℕ × List StreamContent))) (coded× coded_ℕ (coded× coded_ℕ (coded× coded_ℕ (coded_list stream_code))))
-    (λ h. (h.log, (h.base, (h.horizon, h.streams)))) (λ p. record { log = p.0; base = p.1.0; horizon = p.1.1.0; streams = p.1.1.1 }) (λ _. refl)
+    code_by (ℕ × (ℕ × (ℕ × (List StreamContent × ℕ)))) (coded× coded_ℕ (coded× coded_ℕ (coded× coded_ℕ (coded× (coded_list stream_code) coded_ℕ))))
+    (λ h. (h.log, (h.base, (h.horizon, (h.streams, h.count))))) (λ p. record { log = p.0; base = p.1.0; horizon = p.1.1.0; streams = p.1.1.1.0; count = p.1.1.1.1 }) (λ _. refl)
 
 -- whether the base of a head is 0 or at least the horizon
 abbrev pub is_base : ℕ → ℕ → Bool
@@ -37,21 +37,22 @@ pub record WireHead : Type 0 where
   pub base : ℕ
   pub horizon : ℕ
   pub streams : List WireStream
+  pub count : ℕ
 
 abbrev pub wire_head_of : Head → WireHead
-wire_head_of h = record { log = h.log; base = h.base; horizon = h.horizon; streams = map wire_stream_of h.streams }
+wire_head_of h = record { log = h.log; base = h.base; horizon = h.horizon; streams = map wire_stream_of h.streams; count = h.count }
 
 -- a head as a fragment that has no facts
 abbrev pub bare : WireHead → WireFragment
 bare h = record { log = h.log; base = h.base; horizon = h.horizon; streams = h.streams; facts = [] }
 
--- the encoding of a head: that of a fragment up to its facts
+-- the encoding of a head: that of a fragment up to its facts, and how many facts it has
 unfoldable pub head_text : WireHead → List ℕ
-head_text h = number w64 h.log ++ (number w16 (length h.streams) ++ (number w64 h.base ++ (number w64 h.horizon ++ flat_map stream_text h.streams)))
+head_text h = number w64 h.log ++ (number w16 (length h.streams) ++ (number w64 h.base ++ (number w64 h.horizon ++ (flat_map stream_text h.streams ++ number w64 h.count))))
 
 -- a head whose parts fit their fields and keep the rules of fragments
 abbrev pub HeadFits : WireHead → Type 0
-HeadFits h = FragmentFits (bare h)
+HeadFits h = FragmentFits (bare h) × (h.count < 2 ^ 64)
 
 -- whether the numbers and marks of a head can be counted
 abbrev pub head_is_counted : WireHead → Bool
@@ -60,8 +61,8 @@ head_is_counted h = streams_are_counted h.streams
 -- a head
 unfoldable pub head_at : Reader WireHead
 head_at bytes =
-    mapped_value (λ p. record { log = p.0.0; base = p.0.1.1.0; horizon = p.0.1.1.1; streams = p.1 })
-    (after fragment_head_at (λ h. streams_at h.1.1.1 h.1.0)) bytes
+    mapped_value (λ p. record { log = p.0.0.0; base = p.0.0.1.1.0; horizon = p.0.0.1.1.1; streams = p.0.1; count = p.1 })
+    (both (after fragment_head_at (λ h. streams_at h.1.1.1 h.1.0)) (number_at w64)) bytes
 
 -- ---- parts
 

@@ -13,12 +13,14 @@ use hk_marks::Got;
 use hk_parts::Assembly;
 use hk_types::{Config, FormFault, Refusal, Time};
 use hk_wire::fields::{
-    head_len, put_streams, read_fragment_head, read_got, streams_are_counted, streams_len,
+    head_len, number_len, put_streams, read_fragment_head, read_got, streams_are_counted,
+    streams_len,
 };
 use std::alloc::{AllocError, Global};
 use std::marker::Model;
 
-/// What a fragment is without its facts: the log, the base, the horizon, and the numbers and marks of its streams.
+/// What a fragment is without its facts: the log, the base, the horizon, the numbers and marks of its streams, and how
+/// many facts it has.
 ///
 /// The base is 0 or at least the horizon, and the horizon is at most the least closed time of the streams.
 #[derive(Drop)]
@@ -27,6 +29,7 @@ pub struct Head {
     base: Time,
     horizon: Time,
     got: Got,
+    count: u64,
 }
 
 impl Model for Head {
@@ -37,28 +40,29 @@ impl Model for Head {
 
     ghost coded = { head_code };
 
-    ghost view = { λ a. head_with a.config a.base a.horizon a.got };
+    ghost view = { λ a. head_with a.config a.base a.horizon a.got a.count };
 
     ghost invariant = { λ a. IsHead a.config a.base a.horizon a.got };
 }
 
 impl Head {
     /// The head of these parts.
-    fn of_parts(config: Config, base: Time, horizon: Time, got: Got) -> Head
+    fn of_parts(config: Config, base: Time, horizon: Time, got: Got, count: u64) -> Head
         requires many { length got ≡ config.streams }
         requires above { spec.is_base base horizon ≡ true }
         requires within { horizon ≤ least_closed got }
-        ensures { result ≡ head_with config base horizon got }
+        ensures { result ≡ head_with config base horizon got count }
     {
         Head {
             config,
             base,
             horizon,
             got,
+            count,
         }
     }
 
-    /// The head of a fragment, whose numbers and marks are copied. The only refusal is `Memory`. Cost: O(w · log w),
+    /// The head of a fragment, whose numbers and marks are copied and whose facts are counted. The only refusal is `Memory`. Cost: O(w · log w),
     /// w extra numbers and waiting marks.
     pub fn of_fragment(alloc: Global, fragment: &Fragment) -> Result<Head, Refusal>
         ensures ok { IfOk result (λ head. head ≡ head_of fragment.now) }
@@ -66,7 +70,9 @@ impl Head {
     {
         let got = fragment.got().copy(alloc)?;
         let base = fragment.base();
-        Ok(Head::of_parts(fragment.config(), base, fragment.horizon(), got))
+        let horizon = fragment.horizon();
+        let count = fragment.facts().len() as u64;
+        Ok(Head::of_parts(fragment.config(), base, horizon, got, count))
     }
 
     /// The time up to which a replica must be readable to join what the head is of. 0 is a whole. Cost: O(1).
@@ -77,11 +83,12 @@ impl Head {
     }
 
     /// The fragment of this head and of all facts that were added, or its first fault, as `Assembly::into_fragment`
-    /// tells it. Both are moved, and dropped with a fault. It takes no memory. Cost: O(s + n), s streams, n facts.
+    /// tells it: `BadCount` where other than so many facts were added as the head says. Both are moved, and dropped with
+    /// a fault. It takes no memory. Cost: O(s + n), s streams, n facts.
     pub fn into_fragment(self, came: Assembly) -> Result<Fragment, FormFault>
         ensures { result ≡ of_facts self came }
     {
-        came.into_fragment(self.config, self.base, self.horizon, self.got)
+        came.into_fragment(self.config, self.base, self.horizon, self.got, self.count)
     }
 
     /// Whether its numbers and marks can be counted.
@@ -99,7 +106,8 @@ impl Head {
         ensures fits { spec.HeadFits (spec.wire_head_of self.now) }
     {
         let _known = self.got.streams();
-        head_len(self.config, self.base, self.horizon) + streams_len(&self.got)
+        let start = head_len(self.config, self.base, self.horizon);
+        start + streams_len(&self.got) + number_len(self.count)
     }
 
     /// Adds a head's bytes.
@@ -113,7 +121,8 @@ impl Head {
         put_u16(out, self.config.streams())?;
         put_u64(out, self.base.number())?;
         put_u64(out, self.horizon.number())?;
-        put_streams(out, &self.got)
+        put_streams(out, &self.got)?;
+        put_u64(out, self.count)
     }
 }
 
@@ -124,5 +133,6 @@ pub(crate) fn read_head(alloc: Global, cursor: &mut Cursor) -> Result<Head, Read
 {
     let start = read_fragment_head(cursor)?;
     let got = read_got(alloc, cursor, start.config, start.horizon)?;
-    Ok(Head::of_parts(start.config, start.base, start.horizon, got))
+    let count = cursor.u64()?;
+    Ok(Head::of_parts(start.config, start.base, start.horizon, got, count))
 }

@@ -36,7 +36,7 @@ pub enum Reply {
         left: u64,
         facts: Vec<(VersionKey, Version)>,
     },
-    /// The last part of it, and the head of all parts.
+    /// The last part of it, and the head of all parts, which says how many facts they have.
     LastPart {
         facts: Vec<(VersionKey, Version)>,
         head: Head,

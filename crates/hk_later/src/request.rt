@@ -43,7 +43,7 @@ pub enum Request {
     More,
     /// To keep these facts until the other parts and the head are there.
     AddPart(Vec<(VersionKey, Version)>),
-    /// To take the fragment of this head and of all parts that were added.
+    /// To take the fragment of this head and of all parts that were added, which have as many facts as the head says.
     JoinParts(Head),
     /// To take the whole of them: the base of the head is 0.
     MergeParts(Head),

@@ -1,5 +1,6 @@
 -- A fragment is the one of its head and its facts, and what is put together has them.
-use Rattle.std.proofs.Common.{◌≡◌, refl, sym, ap, ◌∙◌, ℕ, ◌≤◌, ◌⊎◌, true, false, cond, ◌||◌, ◌==◌, nat_le, nat_lt, is_some, List, Option, Some, None, Ok, T, arith}
+use Rattle.std.proofs.Common.{◌≡◌, refl, sym, ap, ◌∙◌, ℕ, ◌≤◌, ◌⊎◌, Bool, true, false, cond, ◌||◌, ◌==◌, eqb, nat_le, nat_lt, is_some, List, length, Option, Some, None, Ok, Err, T, arith}
+use Rattle.std.proofs.lemmas.Bool.{eqb-true, eq-eqb}
 use Rattle.std.proofs.lemmas.Bool.Decides.{nat_tests}
 use Rattle.std.specs.Option.{option_and_then}
 use Rattle.std.specs.FinMap as finmap
@@ -7,13 +8,14 @@ use Rattle.std.specs.FinMap.Entries.{find}
 use Rattle.hk_types.specs.Values.{RowValue}
 use Rattle.hk_types.specs.declared.version_key.VersionKey.{VersionKey}
 use Rattle.hk_types.specs.declared.faults.FormFault.{FormFault}
+use Rattle.hk_types.specs.declared.faults.FormFault.TheVariants.{BadCount}
 use Rattle.hk_log.specs.Versions.{VersionValue, is_known}
 use Rattle.hk_model.specs.History.Rows.{version_key_cmp}
 use Rattle.hk_model.specs.Replica.Content.{Content, least_closed}
 use Rattle.hk_model.specs.Replica.Fragments.{FragmentValue}
 use Rattle.hk_model.specs.Replica.Lawful.{IsLawfulFragment}
 use Rattle.hk_model.proofs.Replica.Maps.{version_key_total, version_key_same}
-use Rattle.hk_fragment.specs.Parts.{Known, known_of, versions_listed, values_by_version, facts_fault, fragment_fault, fragment_seen, unless}
+use Rattle.hk_fragment.specs.Parts.{Known, known_of, versions_listed, values_by_version, facts_fault, fragment_fault, fragment_seen, checked_fragment, unless}
 use Rattle.hk_fragment.proofs.ListedVersions.{pairs, listed_of, get-among}
 use Rattle.hk_fragment.proofs.FragmentRules.{listed, facts_tested}
 use Rattle.hk_parts.specs.Cutting.{facts_of_parts}
@@ -49,6 +51,10 @@ module _ (c : Content) where
 
 -- ---- a fragment of its head and facts
 
+-- as many facts as the head says are tested by the rules of fragments alone
+of_counted : (head : Head) (facts : List Known) → length facts ≡ head.count → of_facts head facts ≡ checked_fragment (config_of head) head.base head.horizon head.streams facts
+of_counted head facts same = ap (λ b. cond b (checked_fragment (config_of head) head.base head.horizon head.streams facts) (Err BadCount)) (eq-eqb (length facts) head.count same)
+
 base_test : (base horizon : ℕ) → (base ≡ 0) ⊎ (horizon ≤ base) → ((base == 0) || nat_le horizon base) ≡ true
 base_test base horizon h = grind (arith, nat_tests)
 
@@ -66,7 +72,7 @@ module _ (f : FragmentValue) (lawful : IsLawfulFragment f) (faultless : facts_fa
   own_faultless = rw (base_test f.base f.content.horizon lawful.base_above, reach_test (least_closed f.content.streams) f.content.horizon lawful.content.in_reach) faultless
 
   pub of_own_facts : of_facts (head_of f) (facts_of f) ≡ Ok f
-  of_own_facts = ap (λ o. unless o (fragment_seen (config_of (head_of f)) f.base f.content.horizon f.content.streams (facts_of f))) own_faultless ∙ ap Ok own_seen
+  of_own_facts = of_counted (head_of f) (facts_of f) refl ∙ ap (λ o. unless o (fragment_seen (config_of (head_of f)) f.base f.content.horizon f.content.streams (facts_of f))) own_faultless ∙ ap Ok own_seen
 
   pub of_own_parts : IsOfItsParts f
   of_own_parts most = ap (of_facts (head_of f)) (are_parts most (facts_of f)).whole ∙ of_own_facts
@@ -74,16 +80,22 @@ module _ (f : FragmentValue) (lawful : IsLawfulFragment f) (faultless : facts_fa
 -- ---- what is put together
 
 pub put_together : (head : Head) (parts : List (List Known)) (f : FragmentValue) → of_parts head parts ≡ Ok f → IsPutTogether head parts f
-put_together head parts f e = by (fragment_fault head.base head.horizon head.streams (facts_of_parts parts)) refl e
+put_together head parts f e = by_count (eqb (length (facts_of_parts parts)) head.count) refl e
   where
     made : FragmentValue
     made = fragment_seen (config_of head) head.base head.horizon head.streams (facts_of_parts parts)
 
-    by : (o : Option FormFault) → fragment_fault head.base head.horizon head.streams (facts_of_parts parts) ≡ o → unless o made ≡ Ok f → IsPutTogether head parts f
-    by (Some fault) t e = absurd cc
-    by None t e =
+    by : (o : Option FormFault) → fragment_fault head.base head.horizon head.streams (facts_of_parts parts) ≡ o → length (facts_of_parts parts) ≡ head.count → unless o made ≡ Ok f → IsPutTogether head parts f
+    by (Some fault) t same e = absurd cc
+    by None t same e =
         let is : made ≡ f = cc in
+        let facts : facts_of made ≡ facts_of_parts parts =
+        listed (config_of head) head.base head.horizon head.streams (facts_of_parts parts) (facts_tested head.base head.horizon head.streams (facts_of_parts parts) t) in
         record {
-          has_head = ap head_of (sym is);
-          has_facts = ap facts_of (sym is) ∙ listed (config_of head) head.base head.horizon head.streams (facts_of_parts parts) (facts_tested head.base head.horizon head.streams (facts_of_parts parts) t);
+          has_head = ap head_of (sym is) ∙ ap (λ (n : ℕ). record head { count = n }) (ap length facts ∙ same);
+          has_facts = ap facts_of (sym is) ∙ facts;
         }
+
+    by_count : (b : Bool) → eqb (length (facts_of_parts parts)) head.count ≡ b → cond b (checked_fragment (config_of head) head.base head.horizon head.streams (facts_of_parts parts)) (Err BadCount) ≡ Ok f → IsPutTogether head parts f
+    by_count true t e = by (fragment_fault head.base head.horizon head.streams (facts_of_parts parts)) refl (eqb-true (length (facts_of_parts parts)) head.count t) e
+    by_count false t e = absurd cc

@@ -94,20 +94,28 @@ impl Assembly {
         Ok(())
     }
 
-    /// The fragment of this head and all added facts, or its first fault: the faults of `Fragment::new`, in its
-    /// order. Of the facts only `BadNumber` is left, since their order was tested as they came. The facts are moved,
-    /// and dropped with a fault. It takes no memory. Cost: O(s + n), s streams, n facts.
+    /// The fragment of this head, which says how many facts it has, and all added facts, or the first of these faults:
+    ///
+    /// - `BadCount`: it is not so many facts that were added;
+    /// - then the faults of `Fragment::new`, in its order. Of the facts only `BadNumber` is left, since their order was
+    ///   tested as they came.
+    ///
+    /// The facts are moved, and dropped with a fault. It takes no memory. Cost: O(s + n), s streams, n facts.
     pub fn into_fragment(
         self,
         config: Config,
         base: Time,
         horizon: Time,
         got: Got,
+        count: u64,
     ) -> Result<Fragment, FormFault>
         requires { length got ≡ config.streams }
-        ensures checked { result ≡ checked_fragment config base horizon got self }
-        ensures head { result ≡ of_facts (head_with config base horizon got) self }
+        ensures checked { length self ≡ count → result ≡ checked_fragment config base horizon got self }
+        ensures head { result ≡ of_facts (head_with config base horizon got count) self }
     {
+        if self.facts.len() as u64 != count {
+            return Err(FormFault::BadCount);
+        }
         Fragment::new(config, base, horizon, got, self.facts)
     }
 }

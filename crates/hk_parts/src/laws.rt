@@ -36,7 +36,7 @@ pub fn together_law()
 {}
 
 /// The same fragment again, by way of parts that are at most so many bytes long: it is split, each part is copied and
-/// added, and the head and all of them are put together. The only refusal is `Memory`. Cost: O(n + w · log w + b),
+/// added, and the head, with the count of its facts, and all of them are put together. The only refusal is `Memory`. Cost: O(n + w · log w + b),
 /// n facts, w extra numbers and waiting marks, b bytes of bodies, all copied.
 pub fn copy_by_parts(
     alloc: Global,
@@ -55,6 +55,7 @@ pub fn copy_by_parts(
     let whole = split.whole();
     fragment_law(whole);
     let got = whole.got().copy(alloc)?;
-    let again = came.into_fragment(whole.config(), whole.base(), whole.horizon(), got)?;
+    let count = whole.facts().len() as u64;
+    let again = came.into_fragment(whole.config(), whole.base(), whole.horizon(), got, count)?;
     Ok(again)
 }
