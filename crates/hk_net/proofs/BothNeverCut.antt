@@ -39,7 +39,9 @@ streamed_whole bytes = front_whole (after fragment_head_at (λ h. streams_at h.1
 
 head_whole : Whole head_at
 unfolding head_at
-head_whole bytes = made_whole _ (after fragment_head_at (λ h. streams_at h.1.1.1 h.1.0)) streamed_whole bytes
+head_whole bytes =
+    made_whole _ (both (after fragment_head_at (λ h. streams_at h.1.1.1 h.1.0)) (number_at w64))
+    (both_whole (after fragment_head_at (λ h. streams_at h.1.1.1 h.1.0)) (number_at w64) streamed_whole (number_whole w64)) bytes
 
 whole_head_whole : Whole whole_head_at
 unfolding whole_head_at

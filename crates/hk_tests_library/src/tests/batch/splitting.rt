@@ -48,6 +48,14 @@ fn part(
     Ok(part)
 }
 
+/// The fragment of the head of this one and of the parts that came.
+fn made(alloc: Global, came: Assembly, whole: &Fragment) -> Result<Fragment, Refusal> {
+    let got = whole.got().copy(alloc)?;
+    let count = whole.facts().len() as u64;
+    let made = came.into_fragment(whole.config(), whole.base(), whole.horizon(), got, count)?;
+    Ok(made)
+}
+
 #[test]
 fn a_refused_part_leaves_those_before_it(rt: HostRuntime) -> Result<(), Fail> {
     let alloc = rt.alloc();
@@ -60,9 +68,27 @@ fn a_refused_part_leaves_those_before_it(rt: HostRuntime) -> Result<(), Fail> {
         assert_eq!(rt; came.bytes(), *bytes);
     }
     assert_eq!(rt; came.count(), 3);
-    let got = whole.got().copy(alloc)?;
-    let made = came.into_fragment(whole.config(), whole.base(), whole.horizon(), got)?;
-    assert!(rt; is_whole(&made));
+    assert!(rt; is_whole(&made(alloc, came, &whole)?));
+    Ok(())
+}
+
+#[test]
+fn a_part_that_is_missing_is_told(rt: HostRuntime) -> Result<(), Fail> {
+    let alloc = rt.alloc();
+    let whole = whole(alloc)?;
+    for missing in 0..whole.facts().len() {
+        let mut came = Assembly::new(alloc);
+        for (index, fact) in whole.facts().iter().enumerate() {
+            if index != missing {
+                came.add(part(alloc, fact)?)?;
+            }
+        }
+        let told = made(alloc, came, &whole);
+        assert!(rt;
+            matches!(told, Err(Refusal::Form(FormFault::BadCount))),
+            "{missing}"
+        );
+    }
     Ok(())
 }
 

@@ -4,7 +4,7 @@ use hk_delta::fragment_of;
 use hk_later::{Asked, AskedFeeder, Head, Reply, Request, encode_reply, encode_request};
 use hk_log::Version;
 use hk_model::Query;
-use hk_tests_values::{bytes_of, mark, row, time, version};
+use hk_tests_values::{bytes_of, entry, mark, row, time, version};
 use hk_types::{Config, FormFault, Key, Refusal, Table, VersionKey};
 use hk_wire::Request as FirstRequest;
 use std::alloc::Global;
@@ -17,10 +17,11 @@ fn facts(alloc: Global) -> Result<Vec<(VersionKey, Version)>, Fail> {
     Ok(facts)
 }
 
-/// The head of the mark up to time 1 of the only stream of log 7.
+/// The head of all that the only stream of log 7 has up to time 1: that row.
 fn head(alloc: Global) -> Result<Head, Fail> {
     let mut items = Vec::new(alloc);
-    items.push(mark(1, 0, 1)?)?;
+    items.push(entry(alloc, 7, (1, 1, 1), (None, Some((5, &[0x41]))))?)?;
+    items.push(mark(1, 1, 1)?)?;
     let fragment = fragment_of(alloc, Config::new(7, 1)?, &items)?;
     Ok(Head::of_fragment(alloc, &fragment)?)
 }
@@ -32,8 +33,8 @@ const REQUESTS: [&str; 10] = [
     "0000000e 02 33 0000000000000003 00800000",
     "00000002 02 34",
     "00000020 02 35 00000001 0001 0000000000000005 0000000000000001 01 00000009 0001 41",
-    "00000034 02 36 0000000000000007 0001 0000000000000000 0000000000000000 0000000000000000 0000000000000001 00000000 00000000",
-    "00000034 02 37 0000000000000007 0001 0000000000000000 0000000000000000 0000000000000000 0000000000000001 00000000 00000000",
+    "0000003c 02 36 0000000000000007 0001 0000000000000000 0000000000000000 0000000000000001 0000000000000001 00000000 00000000 0000000000000001",
+    "0000003c 02 37 0000000000000007 0001 0000000000000000 0000000000000000 0000000000000001 0000000000000001 00000000 00000000 0000000000000001",
     "0000000a 02 38 0000000000000004",
     "0000000a 02 39 0000000000000003",
 ];
@@ -87,9 +88,10 @@ fn encodes_each_request_of_version_2(rt: HostRuntime) -> Result<(), Fail> {
     Ok(())
 }
 
-const REPLIES: [&str; 4] = [
+const REPLIES: [&str; 5] = [
     "0000000a 02 40 0000000000000005",
     "00000028 02 44 0000000000000003 00000001 0001 0000000000000005 0000000000000001 01 00000009 0001 41",
+    "0000005a 02 45 00000001 0001 0000000000000005 0000000000000001 01 00000009 0001 41 0000000000000007 0001 0000000000000000 0000000000000000 0000000000000001 0000000000000001 00000000 00000000 0000000000000001",
     "0000000a 02 46 0000000000000003",
     "00000013 02 48 2f 0000000000000000 0000000000000000",
 ];
@@ -101,7 +103,11 @@ fn reply(alloc: Global, which: usize) -> Result<Reply, Fail> {
             left: 3,
             facts: facts(alloc)?,
         }),
-        2 => Ok(Reply::Added { count: 3 }),
+        2 => Ok(Reply::LastPart {
+            facts: facts(alloc)?,
+            head: head(alloc)?,
+        }),
+        3 => Ok(Reply::Added { count: 3 }),
         _ => Ok(Reply::Refused(Refusal::NoPart)),
     }
 }
