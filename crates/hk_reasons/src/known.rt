@@ -44,13 +44,13 @@ fn fault(number: u8) -> Option<Known> {
         ),
         3 => told(
             "BadVersion",
-            "the version byte is not 1, nor 2 in an item frame",
-            "mend the sender: items have version 1 or 2, messages version 1",
+            "the version byte is not 1, nor 2 where that is read",
+            "mend the sender: items have version 1 or 2, messages 1, and 2 for a node with --messages 2",
         ),
         4 => told(
             "BadKind",
             "the kind byte has no meaning there",
-            "mend the sender: items have kind 1 or 2, requests 16 to 23, replies 32 to 36",
+            "mend the sender: items have kind 1 or 2, requests 16 to 23 or 48 to 57, replies 32 to 36 or 64 to 72",
         ),
         5 => told(
             "BadStream",
@@ -75,8 +75,8 @@ fn fault_of_lists(number: u8) -> Option<Known> {
         ),
         8 => told(
             "BadCount",
-            "a count above its limit, or both lists of an entry empty",
-            "mend the sender: an entry has 1 to 1024 ends or rows",
+            "a count above its limit, both lists of an entry empty, or other than so many facts in parts",
+            "mend the sender: an entry has 1 to 1024 ends or rows, and each part of a whole is sent once",
         ),
         9 => told(
             "BadBody",
