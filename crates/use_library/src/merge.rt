@@ -16,17 +16,20 @@ fn replica_of(alloc: Global, items: &[Item]) -> Result<ReplicaState, Refusal> {
     Ok(replica)
 }
 
+/// A replica that took these items, into which one of the others is merged.
+fn merged(alloc: Global, first: &[Item], others: &[Item]) -> Result<ReplicaState, Refusal> {
+    let other = replica_of(alloc, others)?;
+    let mut replica = replica_of(alloc, first)?;
+    merge(&mut replica, &other)?;
+    Ok(replica)
+}
+
 /// How many rows table 1 has at time 1, on a replica of the first item into which one of the others is merged.
 pub(crate) fn count(alloc: Global, items: &[Item]) -> Result<Answer, Refusal> {
     let (first, others) = items.split_at(items.len() / 2);
-    let mut replica = replica_of(alloc, first)?;
-    merge(&mut replica, &replica_of(alloc, others)?)?;
-    ask(
-        alloc,
-        &replica,
-        Time::new(1)?,
-        &Query::Count {
-            table: Table::new(1),
-        },
-    )
+    let replica = merged(alloc, first, others)?;
+    let query = Query::Count {
+        table: Table::new(1),
+    };
+    ask(alloc, &replica, Time::new(1)?, &query)
 }

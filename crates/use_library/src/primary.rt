@@ -22,15 +22,25 @@ fn put(alloc: Global, primary: &mut Primary, key: u64, byte: u8) -> Result<u64, 
     Ok(time.map_or(0, |time| time.number()))
 }
 
-/// The log of two transactions of one stream, with the mark that closes it up to the last.
-pub(crate) fn log_of(alloc: Global) -> Result<Vec<u8>, Refusal> {
+/// A primary after two transactions of one stream, with the mark that closes it up to the last.
+fn committed(alloc: Global) -> Result<Primary, Refusal> {
     let mut primary = Primary::new(alloc, Config::new(7, 1)?)?;
     put(alloc, &mut primary, 5, 0x41)?;
     put(alloc, &mut primary, 5, 0x42)?;
     primary.mark(StreamNo::new(1)?)?;
+    Ok(primary)
+}
+
+/// The bytes of a primary's log.
+fn bytes_of(alloc: Global, primary: &Primary) -> Result<Vec<u8>, Refusal> {
     let mut bytes = Vec::new(alloc);
     for item in primary.log() {
         encode(item, &mut bytes)?;
     }
     Ok(bytes)
+}
+
+/// The log of two transactions, as bytes.
+pub(crate) fn log_of(alloc: Global) -> Result<Vec<u8>, Refusal> {
+    bytes_of(alloc, &committed(alloc)?)
 }
