@@ -65,6 +65,7 @@ impl Chain {
     /// that differs from what is known is a conflict. `Memory` comes only where nothing is known of the
     /// version. A refusal changes nothing. Cost: O(log n + b), n versions, b bytes of a body that is
     /// compared; once in its life a chain of 32 versions copies their bodies, when it goes over into maps.
+    #[inline(always)]
     pub fn put(&mut self, born: Time, fact: Fact) -> Result<(), Refusal>
         ensures ok { OnOk result (chain_put self.old born fact ≡ Ok self.new) }
         ensures err { IfErr result (λ why. RefusesPut self.old born fact why) }
@@ -137,6 +138,7 @@ impl Chain {
     }
 
     /// What is known of the version that was born then. Cost: O(log n), n versions.
+    #[inline(always)]
     pub fn version(&self, born: Time) -> Option<&Version>
         ensures { option_copied result ≡ finmap.get self.now born }
     {

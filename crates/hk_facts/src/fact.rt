@@ -24,6 +24,7 @@ pub enum Part {
 }
 
 /// The version of which this fact alone is known.
+#[inline(always)]
 pub fn version_of(fact: Fact) -> Version
     ensures { put_result fact None ≡ Ok result }
 {
@@ -34,6 +35,7 @@ pub fn version_of(fact: Fact) -> Version
 }
 
 /// Adds a fact to a version, unless the version has another row or another end there.
+#[inline(always)]
 pub fn join(version: &mut Version, fact: Fact) -> Result<(), Refusal>
     ensures ok { OnOk result (put_result fact (Some version.old) ≡ Ok version.new) }
     ensures err { IfErr result (λ why. put_result fact (Some version.old) ≡ Err why) }
@@ -45,6 +47,7 @@ pub fn join(version: &mut Version, fact: Fact) -> Result<(), Refusal>
     }
 }
 
+#[inline(always)]
 fn join_row(version: &mut Version, row: Row) -> Result<(), Refusal>
     ensures ok { OnOk result (put_result (KnownRow row) (Some version.old) ≡ Ok version.new) }
     ensures err { IfErr result (λ why. put_result (KnownRow row) (Some version.old) ≡ Err why) }
@@ -60,6 +63,7 @@ fn join_row(version: &mut Version, row: Row) -> Result<(), Refusal>
     Ok(())
 }
 
+#[inline(always)]
 fn join_end(version: &mut Version, died: Time) -> Result<(), Refusal>
     ensures ok { OnOk result (put_result (KnownEnd died) (Some version.old) ≡ Ok version.new) }
     ensures err { IfErr result (λ why. put_result (KnownEnd died) (Some version.old) ≡ Err why) }

@@ -61,6 +61,7 @@ impl Few {
     }
 
     /// The versions in order.
+    #[inline(always)]
     pub(crate) fn list(&self) -> &[(Time, Version)]
         ensures same { listed result.now ≡ self.now }
         ensures sorted { AreByBirth result.now }
@@ -69,6 +70,7 @@ impl Few {
     }
 
     /// Whether the list has as many versions as it is to have.
+    #[inline(always)]
     pub(crate) fn is_full(&self) -> bool {
         self.versions.len() >= MOST
     }
@@ -76,6 +78,7 @@ impl Few {
     /// Adds a fact on the version that was born then. One that is known already changes nothing, and one
     /// that differs from what is known is a conflict. `Memory` comes only where nothing is known of the
     /// version. A refusal changes nothing. Cost: O(n + b), n versions, b bytes of a body that is compared.
+    #[inline(always)]
     pub(crate) fn put(&mut self, born: Time, fact: Fact) -> Result<(), Refusal>
         ensures ok { OnOk result (chain_put self.old born fact ≡ Ok self.new) }
         ensures err { IfErr result (λ why. RefusesPut self.old born fact why) }
@@ -127,6 +130,7 @@ impl Few {
 }
 
 /// Adds a fact to the version at a place.
+#[inline(always)]
 fn join_at(
     versions: &mut Vec<(Time, Version)>,
     place: usize,
@@ -157,6 +161,7 @@ fn forget_at(versions: &mut Vec<(Time, Version)>, place: usize, born: Time, part
 }
 
 /// Puts a version in at a place.
+#[inline(always)]
 fn insert_at(
     versions: &mut Vec<(Time, Version)>,
     place: usize,

@@ -30,6 +30,7 @@ impl Form {
     /// that differs from what is known is a conflict. `Memory` comes only where nothing is known of the
     /// version. A refusal changes nothing. Cost: O(log n + b), n versions, b bytes of a body that is compared; the
     /// bodies of a list are copied once, when it goes over into maps.
+    #[inline(always)]
     pub(crate) fn put(&mut self, alloc: Global, born: Time, fact: Fact) -> Result<(), Refusal>
         ensures ok { OnOk result (chain_put (stored self.old) born fact ≡ Ok (stored self.new)) }
         ensures err { IfErr result (λ why. RefusesPut (stored self.old) born fact why) }
@@ -93,6 +94,7 @@ impl Form {
     }
 
     /// What is known of the version that was born then. Cost: O(log n), n versions.
+    #[inline(always)]
     pub(crate) fn version(&self, born: Time) -> Option<&Version>
         ensures { option_copied result ≡ finmap.get (stored self.now) born }
     {
@@ -139,6 +141,7 @@ impl Form {
 }
 
 /// The version that there is, as a list.
+#[inline(always)]
 fn only(first: &Option<(Time, Version)>) -> &[(Time, Version)]
     ensures same { listed result.now ≡ first_only first.now }
     ensures sorted { AreByBirth result.now }
@@ -147,6 +150,7 @@ fn only(first: &Option<(Time, Version)>) -> &[(Time, Version)]
 }
 
 /// Whether there is a version that was born at another time.
+#[inline(always)]
 fn has_other(first: &Option<(Time, Version)>, born: Time) -> bool
     ensures { result ≡ is_other first.now born }
 {
@@ -157,6 +161,7 @@ fn has_other(first: &Option<(Time, Version)>, born: Time) -> bool
 }
 
 /// Adds a fact on the version that was born then, where there is no other.
+#[inline(always)]
 fn put_first(first: &mut Option<(Time, Version)>, born: Time, fact: Fact) -> Result<(), Refusal>
     requires { is_other first.old born ≡ false }
     ensures ok { OnOk result (chain_put (first_only first.old) born fact ≡ Ok (first_only first.new)) }

@@ -12,6 +12,7 @@ use hk_types::Time;
 use std::cmp::Ordering;
 
 /// Where the version that was born then stands, or where it would. Cost: O(log n), and O(1) where it is the last.
+#[inline(always)]
 pub(crate) fn place_of(list: &[(Time, Version)], born: Time) -> Result<usize, usize>
     requires { AreByBirth list.now }
     ensures found { IfOk result (StandsAt list.now born) }
@@ -43,6 +44,7 @@ pub(crate) fn count_until(list: &[(Time, Version)], time: Time) -> usize
 }
 
 /// What is known of the version that was born then. Cost: O(log n).
+#[inline(always)]
 pub(crate) fn version_in(list: &[(Time, Version)], born: Time) -> Option<&Version>
     requires { AreByBirth list.now }
     ensures { option_copied result ≡ finmap.get (listed list.now) born }

@@ -92,6 +92,7 @@ impl<'a> Cursor<'a> {
 
     /// Reads so many bytes. Where fewer are left the fault is a wrong length, and nothing is read.
     #[tactic(auto, unfolding(crate::specs::Fields::bytes_at))]
+    #[inline(always)]
     pub fn bytes(&mut self, count: usize) -> Result<&'a [u8], FormFault>
         ensures read { spec.GivesValue (λ x. (x.now, self.new)) result (spec.bytes_at count self.old) }
         ensures len { IfOk result (λ x. length x.now ≡ count) }
@@ -107,6 +108,7 @@ impl<'a> Cursor<'a> {
 
     /// Reads a byte. Where none is left the fault is a wrong length.
     #[tactic(auto, unfolding(crate::specs::Fields::byte_at))]
+    #[inline(always)]
     pub fn u8(&mut self) -> Result<u8, FormFault>
         ensures read { spec.GivesValue (λ x. (x, self.new)) result (spec.byte_at self.old) }
         ensures err { OnErr result (self.new ≡ self.old) }
@@ -123,6 +125,7 @@ impl<'a> Cursor<'a> {
     /// Reads a number of two bytes, the high one first. Where they are not there the fault is a wrong
     /// length, and nothing is read.
     #[tactic(auto, unfolding(crate::specs::Fields::number_at))]
+    #[inline(always)]
     pub fn u16(&mut self) -> Result<u16, FormFault>
         ensures read { spec.GivesValue (λ x. (x, self.new)) result (spec.number_at w16 self.old) }
         ensures err { OnErr result (self.new ≡ self.old) }
@@ -138,6 +141,7 @@ impl<'a> Cursor<'a> {
     /// Reads a number of four bytes, the high one first. Where they are not there the fault is a wrong
     /// length, and nothing is read.
     #[tactic(auto, unfolding(crate::specs::Fields::number_at))]
+    #[inline(always)]
     pub fn u32(&mut self) -> Result<u32, FormFault>
         ensures read { spec.GivesValue (λ x. (x, self.new)) result (spec.number_at w32 self.old) }
         ensures err { OnErr result (self.new ≡ self.old) }
@@ -153,6 +157,7 @@ impl<'a> Cursor<'a> {
     /// Reads a number of eight bytes, the high one first. Where they are not there the fault is a wrong
     /// length, and nothing is read.
     #[tactic(auto, unfolding(crate::specs::Fields::number_at))]
+    #[inline(always)]
     pub fn u64(&mut self) -> Result<u64, FormFault>
         ensures read { spec.GivesValue (λ x. (x, self.new)) result (spec.number_at w64 self.old) }
         ensures err { OnErr result (self.new ≡ self.old) }
@@ -170,6 +175,7 @@ impl<'a> Cursor<'a> {
     /// Reads a body of at most 4,096 bytes behind its length of two bytes. A length above that is a bad body, and one
     /// above what is left a wrong length. After an error the length may have been read.
     #[tactic(auto, unfolding(crate::specs::Fields::body_at))]
+    #[inline(always)]
     pub fn body(&mut self) -> Result<&'a [u8], FormFault>
         ensures read { spec.GivesValue (λ x. (x.now, self.new)) result (spec.body_at self.old) }
         ensures most { IfOk result (λ x. length x.now ≤ 4096) }
@@ -183,6 +189,7 @@ impl<'a> Cursor<'a> {
 
     /// Reads the body of a row with a tag, as `body` does; copies of the row share it. `Memory` where there is none for
     /// it. Cost: O(n), n bytes of the body, which is copied.
+    #[inline(always)]
     pub fn row(&mut self, alloc: Global, tag: Tag) -> Result<Row, ReadError>
         ensures { spec.GivesOrRunsOut (λ row. (row, self.new)) result (spec.row_of tag self.old) }
     {

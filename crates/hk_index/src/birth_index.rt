@@ -48,6 +48,7 @@ impl BirthIndex {
     ///
     /// The only refusal is `Memory`; then nothing is changed. Cost: O(1) in the order of birth and O(log n) out of order,
     /// both amortized, n versions in the set.
+    #[inline(always)]
     pub fn add(&mut self, version: VersionKey) -> Result<(), Refusal>
         ensures ok { OnOk result (self.new
             ≡ set.insert self.old (record { time = version.born; version = version })) }

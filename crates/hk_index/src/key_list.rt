@@ -38,6 +38,7 @@ impl KeyList {
     }
 
     /// Adds a key at the end. The only refusal is `Memory`, and it changes nothing.
+    #[inline(always)]
     pub(crate) fn push(&mut self, key: Key) -> Result<(), Refusal>
         ensures ok { OnOk result (self.new ≡ self.old ++ key ∷ []) }
         ensures err { IfErr result (λ why. why ≡ Memory) }

@@ -67,6 +67,7 @@ impl<T: Stamp> Run<T> {
     /// Adds a member above all, or answers `false`, as where its time can't be kept.
     ///
     /// The only error is out of memory; then nothing is changed. Cost: O(1), amortized.
+    #[inline(always)]
     pub(crate) fn add_last(&mut self, member: TimedVersion) -> Result<bool, AllocError>
         ensures added { IfOk result (λ added. OnTrue added (self.new ≡ set.insert self.old member)) }
         ensures passed { IfOk result (λ added. OnFalse added (self.new ≡ self.old)) }

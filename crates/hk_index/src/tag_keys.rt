@@ -62,6 +62,7 @@ impl TagKeys {
         Ok(())
     }
 
+    #[inline(always)]
     fn put(&mut self, table: Table, tag: Tag, key: Key) -> Result<(), Refusal>
         ensures ok { OnOk result (self.new ≡ with_key self.old (record { table = table; tag = tag }) key) }
         ensures kept { OnErr result (self.new ≡ self.old) }

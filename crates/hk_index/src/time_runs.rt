@@ -56,6 +56,7 @@ impl<T: Stamp> TimeRuns<T> {
     ///
     /// The only error is out of memory; then nothing is changed. Cost: O(1) in the order of time and O(log n) out of
     /// order, both amortized, n members in the set.
+    #[inline(always)]
     pub fn add(&mut self, member: TimedVersion) -> Result<(), AllocError>
         ensures ok { OnOk result (self.new ≡ set.insert self.old member) }
         ensures kept { OnErr result (self.new ≡ self.old) }

@@ -51,6 +51,7 @@ impl Version {
     }
 
     /// A version of which the row alone is known.
+    #[inline(always)]
     pub fn of_row(row: Row) -> Version
         ensures { result ≡ record { row = Some row; died = None } }
     {
@@ -60,6 +61,7 @@ impl Version {
     }
 
     /// A version of which the end alone is known.
+    #[inline(always)]
     pub fn of_end(died: Time) -> Version
         ensures { result ≡ record { row = None; died = Some died } }
     {
@@ -69,6 +71,7 @@ impl Version {
     }
 
     /// The row, where it is known.
+    #[inline(always)]
     pub fn row(&self) -> Option<&Row>
         ensures value { option_copied result ≡ self.now.row }
         ensures known { is_known self.now ≡ true }
@@ -80,6 +83,7 @@ impl Version {
     }
 
     /// The time at which the version ended, where it is known.
+    #[inline(always)]
     pub fn died(&self) -> Option<Time>
         ensures value { result ≡ self.now.died }
         ensures known { is_known self.now ≡ true }
@@ -91,6 +95,7 @@ impl Version {
     }
 
     /// Makes this row known, in place of the one that was, if one was.
+    #[inline(always)]
     pub fn set_row(&mut self, row: Row)
         ensures { self.new ≡ record { row = Some row; died = self.old.died } }
     {
@@ -99,6 +104,7 @@ impl Version {
     }
 
     /// Makes this end known, in place of the one that was, if one was.
+    #[inline(always)]
     pub fn set_died(&mut self, died: Time)
         ensures { self.new ≡ record { row = self.old.row; died = Some died } }
     {
@@ -140,6 +146,7 @@ impl Version {
 }
 
 /// The same with this row.
+#[inline(always)]
 fn with_row(known: Known, row: Row) -> Known
     ensures { stored result ≡ record { row = Some row; died = (stored known).died } }
 {
@@ -150,6 +157,7 @@ fn with_row(known: Known, row: Row) -> Known
 }
 
 /// The same with this end.
+#[inline(always)]
 fn with_died(known: Known, died: Time) -> Known
     ensures { stored result ≡ record { row = (stored known).row; died = Some died } }
 {

@@ -177,6 +177,7 @@ impl<K: Key, V> SlotMap<K, V> {
     }
 
     /// The value of a key to write to. Cost: O(log n), n keys.
+    #[inline(always)]
     pub fn get_mut(&mut self, key: K) -> Option<&mut V>
         ensures* writes_back { sem 𝓛 (lends_value K.row V.row K.Ord self.entry key result) }
         ensures value { option_copied_mut result ≡ finmap.get (map_of K.cmp self.old) key }
@@ -190,6 +191,7 @@ impl<K: Key, V> SlotMap<K, V> {
     ///
     /// The only error is out of memory, for a key that is not there; it comes too where all 2^32 slots are taken. Then
     /// nothing is changed. Cost: O(log n), n keys: one way down, or none where the key is known.
+    #[inline(always)]
     pub fn get_or_insert(&mut self, key: K, fresh: V) -> Result<&mut V, AllocError>
     where
         V: Drop,
@@ -203,6 +205,7 @@ impl<K: Key, V> SlotMap<K, V> {
     }
 
     /// The slot of a key. A key that is not there is put in, with the value `fresh`.
+    #[inline(always)]
     fn slot_or_new(&mut self, key: K, fresh: V) -> Result<Slot, AllocError>
     where
         V: Drop,
@@ -240,6 +243,7 @@ impl<K: Key, V> SlotMap<K, V> {
     }
 
     /// The slot of a key, which is noted where no hint told it.
+    #[inline(always)]
     fn slot_noted(&mut self, key: K) -> Option<Slot>
         ensures slot { result ≡ finmap.get (slots_of K.cmp self.old) key }
         ensures own { AreOwn K.cmp self.old }
@@ -256,6 +260,7 @@ impl<K: Key, V> SlotMap<K, V> {
     }
 
     /// The slot of a key, where a hint tells it.
+    #[inline(always)]
     fn hinted(&self, key: K) -> Option<Slot>
         ensures slot { IfSome result (λ slot. finmap.get (slots_of K.cmp self.now) key ≡ Some slot) }
         ensures own { AreOwn K.cmp self.now }
@@ -269,6 +274,7 @@ impl<K: Key, V> SlotMap<K, V> {
     }
 
     /// Whether the slot is in use, and this key is in it.
+    #[inline(always)]
     fn is_slot_of(&self, slot: Slot, key: K) -> bool
         ensures { IsTrue result → finmap.get (slots_of K.cmp self.now) key ≡ Some slot }
     {

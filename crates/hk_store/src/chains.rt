@@ -269,6 +269,7 @@ fn count_from(chains: &SlotMap<RowKey, Chain>, first: RowKey, time: Time) -> usi
 }
 
 /// Adds a fact where nothing like it is known of the version that was born then, and says whether it did.
+#[inline(always)]
 fn put_where_new(chain: &mut Chain, born: Time, fact: Fact) -> Result<bool, Refusal>
     ensures told { IfOk result (λ is. is ≡ not (has_like (finmap.get chain.old born) fact)) }
     ensures new { IfOk result (λ is. OnTrue is (chain_put chain.old born fact ≡ Ok chain.new)) }
@@ -284,6 +285,7 @@ fn put_where_new(chain: &mut Chain, born: Time, fact: Fact) -> Result<bool, Refu
 }
 
 /// Adds a fact on the version that was born then, and says whether nothing like it was known.
+#[inline(always)]
 fn insert_in_chain(chain: &mut Chain, born: Time, fact: Fact) -> Result<bool, Refusal>
     ensures told { IfOk result (λ is. is ≡ not (has_like (finmap.get chain.old born) fact)) }
     ensures ok { OnOk result (chain_put chain.old born fact ≡ Ok chain.new) }
@@ -296,6 +298,7 @@ fn insert_in_chain(chain: &mut Chain, born: Time, fact: Fact) -> Result<bool, Re
 }
 
 /// Whether a row is known of a version, where the fact is one, or an end, where it is one.
+#[inline(always)]
 fn has_like(version: Option<&Version>, fact: &Fact) -> bool
     ensures { result ≡ has_like (option_copied version.entry) fact.now }
 {

@@ -117,6 +117,7 @@ impl Facts {
     /// another row, or another end, than is known is refused `Conflict`, and any other only for `Memory`; what
     /// was added until then stays, and is named in the journal. Cost: O(w · log n + b), w writes, n facts,
     /// b bytes of bodies that are compared: those that are new are moved.
+    #[inline(always)]
     pub fn put_writes(
         &mut self,
         journal: &mut Vec<(VersionKey, Part)>,
@@ -257,6 +258,7 @@ impl Facts {
 
     /// Adds a row where none is known, and names it in the journal. The only refusal is
     /// `Memory`. Cost: O(log n), n facts: the body is moved.
+    #[inline(always)]
     pub fn add_row(
         &mut self,
         journal: &mut Vec<(VersionKey, Part)>,
@@ -280,6 +282,7 @@ impl Facts {
 
     /// Adds an end where none is known, and names it in the journal. The only refusal is
     /// `Memory`. Cost: O(log n), n facts.
+    #[inline(always)]
     pub fn add_end(
         &mut self,
         journal: &mut Vec<(VersionKey, Part)>,

@@ -92,6 +92,7 @@ impl Row {
     /// The row of this tag and a copy of these bytes, which copies of the row share.
     ///
     /// A body above 4,096 bytes is refused `BadBody`, and then `Memory` comes where there is none. Cost: O(n), n bytes.
+    #[inline(always)]
     pub fn of_bytes(alloc: Global, tag: Tag, body: &[u8]) -> Result<Row, Refusal>
         ensures ok { IfOk result (λ row. row ≡ record { tag = tag; body = body.now }) }
         ensures bound { OnOk result (length body.now ≤ 4096) }
@@ -105,6 +106,7 @@ impl Row {
     }
 
     /// The row of this tag and a copy of these bytes, in the form that copies share. The only error is out of memory.
+    #[inline(always)]
     fn sharing(alloc: Global, tag: Tag, body: &[u8]) -> Result<Row, AllocError>
         requires { length body.now ≤ 4096 }
         ensures { IfOk result (λ row. row ≡ record { tag = tag; body = body.now }) }
@@ -123,6 +125,7 @@ impl Row {
     }
 
     /// The tag of the row.
+    #[inline(always)]
     pub fn tag(&self) -> Tag
         ensures { result ≡ self.now.tag }
     {
@@ -139,6 +142,7 @@ impl Row {
     }
 
     /// The bytes of the body, at most 4,096.
+    #[inline(always)]
     pub fn body(&self) -> &[u8]
         ensures value { result.now ≡ self.now.body }
         ensures bound { length result.now ≤ 4096 }
@@ -175,6 +179,7 @@ impl Row {
 }
 
 /// Whether bytes are no more than a body has.
+#[inline(always)]
 fn is_fit(body: &[u8]) -> bool
     ensures { result ≡ nat_le (length body.now) 4096 }
 {
@@ -182,6 +187,7 @@ fn is_fit(body: &[u8]) -> bool
 }
 
 /// A block that begins with these bytes. The only error is out of memory.
+#[inline(always)]
 fn shared<const N: usize>(alloc: Global, bytes: &[u8]) -> Result<Arc<[u8; N]>, AllocError>
     requires { length bytes.now ≤ N }
     ensures { IfOk result (λ block. take (length bytes.now) (arc_value block) ≡ bytes.now) }
