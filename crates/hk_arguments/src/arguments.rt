@@ -1,126 +1,16 @@
 //! The command line.
 
-use crate::calls::call_of;
+use crate::calls::{call_of, is_second};
 use crate::forms::{
     FORMS, Form, Number, QUERIES, SERVE_NUMBERS, SERVE_WORDS, form_named, numbers_of, with_forms,
     with_numbers,
 };
-use crate::stay::{Staying, stay_call, with_stay};
+use crate::stay::{stay_call, with_stay};
 use clap::error::ErrorKind;
 use clap::{ArgMatches, Command, Error};
-use hk_model::Query;
-use hk_types::{Config, Key, Links, Table, Time};
+use hk_cli_calls::{Call, VERSION};
+use hk_types::{Config, Links};
 use std::alloc::{AllocError, Global};
-
-/// What is done over standard input and output alone.
-#[derive(Clone, Copy)]
-pub enum Alone {
-    /// Absorb item frames, and print the row at a table and a key at a time.
-    At {
-        config: Config,
-        time: Time,
-        table: Table,
-        key: Key,
-    },
-    /// Absorb item frames, and print the answer to a query at a time, in JSON or in lines, as what follows.
-    Ask {
-        config: Config,
-        time: Time,
-        query: Query,
-        is_json: bool,
-    },
-    /// Absorb item frames, and print from where to where can be read.
-    Front {
-        config: Config,
-        is_json: bool,
-    },
-    /// Absorb item frames, and print how far each stream is.
-    Status {
-        config: Config,
-        is_json: bool,
-    },
-    /// Print what the number of a refusal means, or what all mean.
-    Explain {
-        number: Option<u64>,
-    },
-    /// Print item frames.
-    Items {
-        is_json: bool,
-    },
-    /// Write the frames of items in JSON.
-    Frames,
-    /// Write item frames in version 2.
-    Rewrite,
-}
-
-/// What the program is asked to do.
-#[derive(Clone, Copy)]
-pub enum Call<'a> {
-    /// What needs no file and no network.
-    Alone(Alone),
-    /// Play a script of a primary and its replicas, and write the items to a file of this name where one is given.
-    World {
-        items: Option<&'a str>,
-    },
-    /// Start a node, and serve so many links on a port.
-    Serve {
-        config: Config,
-        port: u16,
-        links: Links,
-        /// Whether each change is tested before it is added.
-        is_guarded: bool,
-        /// How many bytes all links keep for messages of version 2; none where those of version 1 alone are answered.
-        parts_bytes: Option<u64>,
-    },
-    /// Start a node, and serve links to it without an end.
-    Stay(Staying),
-    /// Have the node on a port do something.
-    Node {
-        port: u16,
-        order: Order,
-    },
-}
-
-/// What is asked of a node that runs.
-#[derive(Clone, Copy)]
-pub enum Order {
-    /// To answer requests.
-    Push,
-    /// To answer lines.
-    Shell,
-    /// To answer a query, at the readable mark where no time is given.
-    Ask {
-        time: Option<Time>,
-        query: Query,
-        is_json: bool,
-    },
-    /// To tell from where to where it can be read.
-    Front {
-        is_json: bool,
-    },
-    /// To tell how far each stream is.
-    Status {
-        is_json: bool,
-    },
-    /// To hand out all that it holds.
-    Save {
-        is_json: bool,
-    },
-    /// To take what was saved.
-    Load,
-    /// To take what the node on another port has.
-    Pull {
-        from: u16,
-    },
-    /// To forget what is below a time.
-    Prune {
-        horizon: Time,
-    },
-    /// To take items, in batches of so many.
-    Feed {
-        batch: u64,
-    },
-}
 
 const ABOUT: &str = "Read replicas of an in-memory multiversion primary";
 
@@ -135,9 +25,6 @@ Answers and refusals go to standard output, and why something was refused, in wo
 error; 'hkrep explain' lists all refusals. The status is 0; 1 where a line 'refused', 'line N: bad \
 command' or 'ended N' with N above 0 was printed, where 'frames', 'rewrite' or 'save' was stopped, \
 which standard error alone tells, or where a write failed; 2 for a bad command line.";
-
-/// The program's version, and the logic that it is proved in.
-const VERSION: &str = "0.1.0 (rattle logic dac8208d650f15bf)";
 
 /// How many bytes all links keep for messages of version 2 where that isn't said.
 const PARTS_BYTES: u64 = 1_073_741_824;
@@ -160,8 +47,8 @@ const SERVE_LONG_ABOUT: &str = "Start a node, and serve links to it on a port of
 It serves as many links as --links says, side by side, and ends when all have ended. It prints \
 'refused 93' where the port can't be listened to. docs/PROTOCOL.md says what goes over a link.
 
-With --guard a change that contradicts what the node holds is refused 23 and changes nothing, where \
-else it damages the node for good.
+With --guard a change that says another thing of a version than the node has is refused 23 and changes \
+nothing, where else it damages the node for good; docs/SECURITY.md has what it doesn't refuse.
 
 With --messages 2 it answers messages of version 2 too: the whole in parts, pages of rows, the latest answer, and holds, which end with their link. What the links keep for these is at most --parts-bytes, all together; what would be more is refused 46.
 
@@ -242,7 +129,7 @@ pub(crate) fn config_of(matches: &ArgMatches<'_>) -> Option<Config> {
 
 /// How many bytes all links keep for messages of version 2, where these are answered.
 pub(crate) fn parts_bytes_of(matches: &ArgMatches<'_>) -> Option<u64> {
-    if matches.get_one::<u64>("messages")? < 2 {
+    if !is_second(matches) {
         return None;
     }
     Some(matches.get_one::<u64>("parts-bytes").unwrap_or(PARTS_BYTES))

@@ -1,12 +1,19 @@
 //! The calls that the arguments of the commands make.
 
-use crate::arguments::{Alone, Call, Order, config_of};
+use crate::arguments::config_of;
 use clap::ArgMatches;
+use hk_cli_calls::{Alone, Call, Form, Limits, NodeCall, Order};
 use hk_model::Query;
 use hk_types::{Key, Table, Tag, Time};
 
 /// How many items a batch has where that isn't said.
 const BATCH: u64 = 4_096;
+
+/// For how many seconds a command tries to connect where that isn't said.
+const CONNECT_SECONDS: u64 = 3;
+
+/// For how many seconds a command that only asks waits for a reply where that isn't said; the others wait without a limit.
+const REPLY_SECONDS: u64 = 30;
 
 fn table_of(matches: &ArgMatches<'_>) -> Option<Table> {
     Some(Table::new(matches.get_one::<u16>("table")?))
@@ -24,8 +31,42 @@ fn port_of(matches: &ArgMatches<'_>) -> Option<u16> {
     matches.get_one::<u16>("port")
 }
 
-fn is_json(matches: &ArgMatches<'_>) -> bool {
-    matches.get_flag("json")
+/// The form of lines.
+fn form_of(matches: &ArgMatches<'_>) -> Form {
+    if matches.get_flag("json") {
+        Form::Json
+    } else {
+        Form::Lines
+    }
+}
+
+/// The form of a whole.
+fn whole_form_of(matches: &ArgMatches<'_>) -> Form {
+    if matches.get_flag("json") {
+        Form::Json
+    } else {
+        Form::Bytes
+    }
+}
+
+/// How long a command waits that waits for so many seconds for a reply where that isn't said.
+fn limits_of(matches: &ArgMatches<'_>, reply: u64) -> Limits {
+    let connect_seconds = matches.get_one::<u64>("connect-seconds");
+    let reply_seconds = matches.get_one::<u64>("reply-seconds");
+    Limits {
+        connect_seconds: connect_seconds.unwrap_or(CONNECT_SECONDS),
+        reply_seconds: reply_seconds.unwrap_or(reply),
+    }
+}
+
+/// The call of an order to the node on a port.
+fn node_of<'a>(matches: &ArgMatches<'a>, port: u16, reply: u64, order: Order) -> Call<'a> {
+    let limits = limits_of(matches, reply);
+    Call::Node(NodeCall {
+        port,
+        limits,
+        order,
+    })
 }
 
 /// The query that the words behind the time make.
@@ -59,59 +100,62 @@ fn at_call<'a>(matches: &ArgMatches<'a>) -> Option<Call<'a>> {
     }))
 }
 
+/// The call of an order that only asks, to a node where a port is given, else of what is done alone.
+fn either<'a>(matches: &ArgMatches<'a>, order: Order, alone: Option<Alone>) -> Option<Call<'a>> {
+    match port_of(matches) {
+        Some(port) => Some(node_of(matches, port, REPLY_SECONDS, order)),
+        None => Some(Call::Alone(alone?)),
+    }
+}
+
 /// The call of a query over a link, or of item frames.
 fn ask_call<'a>(matches: &ArgMatches<'a>) -> Option<Call<'a>> {
     let (name, words) = matches.subcommand()?;
     let query = query_of(name, words)?;
     let time = time_of(matches);
-    let is_json = is_json(matches);
+    let form = form_of(matches);
     if let Some(port) = port_of(matches) {
-        let order = Order::Ask {
-            time,
-            query,
-            is_json,
-        };
-        return Some(Call::Node { port, order });
+        let order = Order::Ask { time, query, form };
+        return Some(node_of(matches, port, REPLY_SECONDS, order));
     }
     Some(Call::Alone(Alone::Ask {
         config: config_of(matches)?,
         time: time?,
         query,
-        is_json,
+        form,
     }))
 }
 
-/// The call of an order to a node where a port is given, else of what is done alone.
-fn either<'a>(matches: &ArgMatches<'a>, order: Order, alone: Option<Alone>) -> Option<Call<'a>> {
-    match port_of(matches) {
-        Some(port) => Some(Call::Node { port, order }),
-        None => Some(Call::Alone(alone?)),
-    }
-}
-
 fn front_call<'a>(matches: &ArgMatches<'a>) -> Option<Call<'a>> {
-    let is_json = is_json(matches);
-    let alone = config_of(matches).map(|config| Alone::Front { config, is_json });
-    either(matches, Order::Front { is_json }, alone)
+    let form = form_of(matches);
+    let alone = config_of(matches).map(|config| Alone::Front { config, form });
+    either(matches, Order::Front { form }, alone)
 }
 
 fn status_call<'a>(matches: &ArgMatches<'a>) -> Option<Call<'a>> {
-    let is_json = is_json(matches);
-    let alone = config_of(matches).map(|config| Alone::Status { config, is_json });
-    either(matches, Order::Status { is_json }, alone)
+    let form = form_of(matches);
+    let alone = config_of(matches).map(|config| Alone::Status { config, form });
+    either(matches, Order::Status { form }, alone)
 }
 
 fn batch_of(matches: &ArgMatches<'_>) -> u64 {
     matches.get_one::<u64>("batch").unwrap_or(BATCH)
 }
 
+/// Whether messages of version 2 are meant too.
+pub(crate) fn is_second(matches: &ArgMatches<'_>) -> bool {
+    matches.get_one::<u64>("messages").unwrap_or(1) > 1
+}
+
 /// What a command asks of a node alone.
 fn order_of(name: &str, matches: &ArgMatches<'_>) -> Option<Order> {
     Some(match name {
-        "push" => Order::Push,
+        "push" => Order::Push {
+            with_second: is_second(matches),
+        },
         "shell" => Order::Shell,
         "save" => Order::Save {
-            is_json: is_json(matches),
+            form: whole_form_of(matches),
         },
         "load" => Order::Load,
         "pull" => Order::Pull {
@@ -130,12 +174,12 @@ fn order_of(name: &str, matches: &ArgMatches<'_>) -> Option<Order> {
 fn node_call<'a>(name: &str, matches: &ArgMatches<'a>) -> Option<Call<'a>> {
     let order = order_of(name, matches)?;
     let port = port_of(matches)?;
-    Some(Call::Node { port, order })
+    Some(node_of(matches, port, 0, order))
 }
 
 fn items_call<'a>(matches: &ArgMatches<'a>) -> Call<'a> {
-    let is_json = is_json(matches);
-    Call::Alone(Alone::Items { is_json })
+    let form = form_of(matches);
+    Call::Alone(Alone::Items { form })
 }
 
 fn explain_call<'a>(matches: &ArgMatches<'a>) -> Call<'a> {

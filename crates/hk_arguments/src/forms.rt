@@ -199,6 +199,40 @@ const REFUSAL: Number = Number {
     need: Need::Never,
 };
 
+const CONNECT_SECONDS: Number = Number {
+    name: "connect-seconds",
+    value: "N",
+    help: "Try again to connect for so long where nobody listens: 0 (once) to 86400; 3 where it isn't given",
+    range: Range::Within(0, 86_400),
+    is_option: true,
+    need: Need::Never,
+};
+
+const OR_CONNECT_SECONDS: Number = Number {
+    need: Need::With(&["port"]),
+    ..CONNECT_SECONDS
+};
+
+const REPLY_SECONDS: Number = Number {
+    name: "reply-seconds",
+    value: "N",
+    help: "End where the node replies nothing for so long: 0 (never) to 86400; 0 where it isn't given",
+    range: Range::Within(0, 86_400),
+    is_option: true,
+    need: Need::Never,
+};
+
+const OR_REPLY_SECONDS: Number = Number {
+    help: "End where the node replies nothing for so long: 0 (never) to 86400; 30 where it isn't given",
+    need: Need::With(&["port"]),
+    ..REPLY_SECONDS
+};
+
+const PUSH_MESSAGES: Number = Number {
+    help: "The latest version of requests that is sent: 1 or 2; 1 where it isn't given",
+    ..MESSAGES
+};
+
 const MESSAGES: Number = Number {
     name: "messages",
     value: "V",
@@ -313,7 +347,14 @@ pub(crate) const FORMS: [Form; 16] = [
         name: "ask",
         about: texts::ASK_ABOUT,
         example: texts::ASK_EXAMPLE,
-        numbers: &[OR_LOG, OR_STREAMS, OR_PORT, OR_TIME],
+        numbers: &[
+            OR_LOG,
+            OR_STREAMS,
+            OR_PORT,
+            OR_TIME,
+            OR_CONNECT_SECONDS,
+            OR_REPLY_SECONDS,
+        ],
         extra: Extra::Json,
         has_queries: true,
     },
@@ -321,7 +362,13 @@ pub(crate) const FORMS: [Form; 16] = [
         name: "front",
         about: texts::FRONT_ABOUT,
         example: texts::FRONT_EXAMPLE,
-        numbers: &[OR_LOG, OR_STREAMS, OR_PORT],
+        numbers: &[
+            OR_LOG,
+            OR_STREAMS,
+            OR_PORT,
+            OR_CONNECT_SECONDS,
+            OR_REPLY_SECONDS,
+        ],
         extra: Extra::Json,
         ..BARE
     },
@@ -329,7 +376,13 @@ pub(crate) const FORMS: [Form; 16] = [
         name: "status",
         about: texts::STATUS_ABOUT,
         example: texts::STATUS_EXAMPLE,
-        numbers: &[OR_LOG, OR_STREAMS, OR_PORT],
+        numbers: &[
+            OR_LOG,
+            OR_STREAMS,
+            OR_PORT,
+            OR_CONNECT_SECONDS,
+            OR_REPLY_SECONDS,
+        ],
         extra: Extra::Json,
         ..BARE
     },
@@ -363,21 +416,21 @@ pub(crate) const FORMS: [Form; 16] = [
         name: "push",
         about: texts::PUSH_ABOUT,
         example: texts::PUSH_EXAMPLE,
-        numbers: &[PORT],
+        numbers: &[PORT, PUSH_MESSAGES, CONNECT_SECONDS, REPLY_SECONDS],
         ..BARE
     },
     Form {
         name: "feed",
         about: texts::FEED_ABOUT,
         example: texts::FEED_EXAMPLE,
-        numbers: &[PORT, BATCH],
+        numbers: &[PORT, BATCH, CONNECT_SECONDS, REPLY_SECONDS],
         ..BARE
     },
     Form {
         name: "save",
         about: texts::SAVE_ABOUT,
         example: texts::SAVE_EXAMPLE,
-        numbers: &[PORT],
+        numbers: &[PORT, CONNECT_SECONDS, REPLY_SECONDS],
         extra: Extra::Json,
         ..BARE
     },
@@ -385,28 +438,28 @@ pub(crate) const FORMS: [Form; 16] = [
         name: "load",
         about: texts::LOAD_ABOUT,
         example: texts::LOAD_EXAMPLE,
-        numbers: &[PORT],
+        numbers: &[PORT, CONNECT_SECONDS, REPLY_SECONDS],
         ..BARE
     },
     Form {
         name: "pull",
         about: texts::PULL_ABOUT,
         example: texts::PULL_EXAMPLE,
-        numbers: &[PORT, FROM],
+        numbers: &[PORT, FROM, CONNECT_SECONDS, REPLY_SECONDS],
         ..BARE
     },
     Form {
         name: "prune",
         about: texts::PRUNE_ABOUT,
         example: texts::PRUNE_EXAMPLE,
-        numbers: &[PORT, HORIZON],
+        numbers: &[PORT, HORIZON, CONNECT_SECONDS, REPLY_SECONDS],
         ..BARE
     },
     Form {
         name: "shell",
         about: texts::SHELL_ABOUT,
         example: texts::SHELL_EXAMPLE,
-        numbers: &[PORT],
+        numbers: &[PORT, CONNECT_SECONDS, REPLY_SECONDS],
         ..BARE
     },
     Form {

@@ -7,5 +7,4 @@ mod forms;
 mod stay;
 mod texts;
 
-pub use arguments::{Alone, Call, Order, read_call};
-pub use stay::Staying;
+pub use arguments::read_call;

@@ -1,9 +1,10 @@
 //! The options of `serve` for a node that stays, and for one that tests each change.
 
-use crate::arguments::{Call, config_of, parts_bytes_of};
+use crate::arguments::{config_of, parts_bytes_of};
 use crate::forms::{STAY_NUMBERS, flag, with_numbers};
 use clap::{Arg, ArgAction, ArgMatches, Command};
-use hk_types::{Config, Links};
+use hk_cli_calls::{Call, Level, ReadPort, Stay};
+use hk_types::Links;
 use std::alloc::{AllocError, Global};
 use std::net::Ipv4Addr;
 
@@ -14,36 +15,13 @@ const QUIET_HELP: &str = "Tell standard error of faults alone, and not of each l
 const VERBOSE_HELP: &str = "Tell standard error of each change that takes effect, too";
 
 const GUARD_HELP: &str =
-    "Test each change first: what contradicts is refused 23, and changes nothing";
+    "Test each change first: another thing of a version is refused 23, and changes nothing";
 
 const ADDRESS_HELP: &str =
     "Where the ports are opened, in place of 127.0.0.1. Nothing is encrypted or authenticated";
 
 /// How many links a node serves at once at most, of both kinds.
 const MOST_LINKS: u16 = 64;
-
-/// How a node that stays serves its links.
-#[derive(Clone, Copy)]
-pub struct Staying {
-    pub config: Config,
-    pub address: Ipv4Addr,
-    pub port: u16,
-    pub links: Links,
-    /// The port for links that only read, and how many of them are served at once.
-    pub reading: Option<(u16, Links)>,
-    /// How many seconds a read inside a frame is waited for; 0 is no limit.
-    pub read_seconds: u64,
-    /// Whether each change is tested before it is added.
-    pub is_guarded: bool,
-    /// How many bytes all links keep for messages of version 2; none where those of version 1 alone are answered.
-    pub parts_bytes: Option<u64>,
-    /// Whether only faults are told on standard error.
-    pub is_quiet: bool,
-    /// Whether each change that takes effect is told there too.
-    pub is_verbose: bool,
-    /// After how many changes the front is told there each time; 0 is never.
-    pub report_changes: u64,
-}
 
 fn quiet_flag<'a>(alloc: Global) -> Result<Arg<'a>, AllocError> {
     flag(alloc, "quiet", QUIET_HELP)
@@ -89,7 +67,7 @@ pub(crate) fn with_stay<'a>(
 }
 
 /// The port for links that only read and how many they are, where they and these seats are not too many.
-fn reading_of(matches: &ArgMatches<'_>, seats: u16) -> Option<Option<(u16, Links)>> {
+fn reading_of(matches: &ArgMatches<'_>, seats: u16) -> Option<Option<ReadPort>> {
     let Some(port) = matches.get_one::<u16>("read-port") else {
         return Some(None);
     };
@@ -97,7 +75,8 @@ fn reading_of(matches: &ArgMatches<'_>, seats: u16) -> Option<Option<(u16, Links
     if reading > MOST_LINKS.saturating_sub(seats) {
         return None;
     }
-    Some(Some((port, Links::new(reading)?)))
+    let links = Links::new(reading)?;
+    Some(Some(ReadPort { port, links }))
 }
 
 /// The address that is named, or that of this machine alone.
@@ -105,6 +84,17 @@ fn address_of(matches: &ArgMatches<'_>) -> Option<Ipv4Addr> {
     match matches.get_str("address") {
         None => Some(Ipv4Addr::LOCALHOST),
         Some(word) => word.parse::<Ipv4Addr>().ok(),
+    }
+}
+
+/// What is told of links.
+fn level_of(matches: &ArgMatches<'_>) -> Level {
+    if matches.get_flag("quiet") {
+        Level::Faults
+    } else if matches.get_flag("verbose") {
+        Level::Changes
+    } else {
+        Level::Links
     }
 }
 
@@ -116,8 +106,8 @@ pub(crate) fn stay_call<'a>(matches: &ArgMatches<'a>) -> Option<Call<'a>> {
     if telling > MOST_LINKS.saturating_sub(links) {
         return None;
     }
-    Some(Call::Stay(Staying {
-        config: config_of(matches)?,
+    let config = config_of(matches)?;
+    let stay = Stay {
         address: address_of(matches)?,
         port: matches.get_one::<u16>("port")?,
         links: Links::new(links)?,
@@ -125,8 +115,8 @@ pub(crate) fn stay_call<'a>(matches: &ArgMatches<'a>) -> Option<Call<'a>> {
         read_seconds: matches.get_one::<u64>("read-seconds").unwrap_or(0),
         is_guarded: matches.get_flag("guard"),
         parts_bytes: parts_bytes_of(matches),
-        is_quiet: matches.get_flag("quiet"),
-        is_verbose: matches.get_flag("verbose"),
+        level: level_of(matches),
         report_changes,
-    }))
+    };
+    Some(Call::Stay(config, stay))
 }

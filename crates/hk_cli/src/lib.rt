@@ -7,12 +7,10 @@ mod stay;
 mod telling;
 
 pub use hk_commands::{
-    Form, run_ask, run_at, run_explain, run_frames, run_front, run_items, run_rewrite, run_status,
+    run_ask, run_at, run_explain, run_frames, run_front, run_items, run_rewrite, run_status,
     run_world,
 };
 pub use hk_lines::{Printed, line_of};
-pub use hk_remote::{Order, run_order};
-pub use hk_types::Links;
+pub use hk_remote::run_order;
 pub use serve::run_serve;
-pub use stay::{ReadPort, Stay, run_stay};
-pub use telling::Level;
+pub use stay::run_stay;

@@ -3,6 +3,7 @@
 ghost use Rattle.std.specs.Prelude.{◌≡◌, ◌≤◌, IfOk};
 
 use crate::notice::Notice;
+use hk_cli_calls::IS_PROVED;
 use hk_commands::{Output, Stop};
 use hk_net::{NetFault, PartsBudget, guard_links, serve_links, serve_links_in_both};
 use hk_node::{NewList, NodeName, start};
@@ -24,6 +25,17 @@ pub(crate) fn stop_of(fault: NetFault) -> Stop {
     }
 }
 
+/// What is told of a program that was built without proofs.
+const UNPROVED: &str =
+    "unproved: this program was built without one proof, to be looked at; make builds the proved one\n";
+
+/// Tells where the program was built without proofs.
+pub(crate) fn tell_unproved<W: Write, E: Write>(output: &mut Output<'_, W, E>) {
+    if !IS_PROVED {
+        output.note(UNPROVED);
+    }
+}
+
 /// Listens to a port of an address.
 pub(crate) fn listener_of<R: Net<Listener = TcpListener, Stream = TcpStream>, W: Write, E: Write>(
     rt: &R,
@@ -33,7 +45,7 @@ pub(crate) fn listener_of<R: Net<Listener = TcpListener, Stream = TcpStream>, W:
 ) -> Result<TcpListener, Stop> {
     match TcpListener::bind(rt, (address, port)) {
         Ok(listener) => Ok(listener),
-        Err(error) => Err(output.net_fault("listen on", port, &error)),
+        Err(error) => Err(output.listen_fault(port, &error)),
     }
 }
 
@@ -121,6 +133,7 @@ pub fn run_serve<
     ensures { result ≤ 1 }
 {
     let mut output = Output::new(alloc, writer, errors);
+    tell_unproved(&mut output);
     let list = NewList::new(config);
     match serve_list::<Brand, R, W, E>(
         rt,

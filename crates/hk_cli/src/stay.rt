@@ -3,12 +3,13 @@
 ghost use Rattle.std.specs.Prelude.{◌≡◌, ◌<◌, ◌≤◌};
 
 use crate::notice::Notice;
-use crate::serve::{listener_of, stop_of};
-use crate::telling::{Level, Reports, Telling};
+use crate::serve::{listener_of, stop_of, tell_unproved};
+use crate::telling::{Reports, Telling};
+use hk_cli_calls::{Level, Stay};
 use hk_commands::{Output, Stop};
 use hk_net::{Door, PartsBudget, serve_forever};
 use hk_node::{NewList, Node, NodeName, ReaderSeat, start};
-use hk_types::{Config, Links, Refusal};
+use hk_types::{Config, Refusal};
 use std::alloc::Global;
 use std::io::Write;
 use std::marker::Brand;
@@ -16,38 +17,6 @@ use std::net::{Ipv4Addr, Net, TcpListener, TcpStream};
 use std::rt::Clock;
 use std::sync::Wait;
 use std::thread::Threads;
-
-/// A second port of a node that stays: its links only read.
-#[derive(Clone, Copy, Debug, PartialEq, Eq)]
-pub struct ReadPort {
-    /// The port.
-    pub port: u16,
-    /// How many links to it are served at once.
-    pub links: Links,
-}
-
-/// How a node that stays serves its links.
-#[derive(Clone, Copy, Debug)]
-pub struct Stay {
-    /// The address that its ports are opened at.
-    pub address: Ipv4Addr,
-    /// The port for links of every kind.
-    pub port: u16,
-    /// How many links to that port are served at once.
-    pub links: Links,
-    /// The port for links that only read, if there is one.
-    pub reading: Option<ReadPort>,
-    /// How many seconds a read inside a frame is waited for; 0 is no limit.
-    pub read_seconds: u64,
-    /// Whether each change is tested before it is added, so that none damages the node.
-    pub is_guarded: bool,
-    /// How many bytes all links keep at most for messages of version 2; without it those of version 1 alone are answered.
-    pub parts_bytes: Option<u64>,
-    /// What is told of links.
-    pub level: Level,
-    /// After how many changes the node's front is told each time; 0 is never.
-    pub report_changes: u64,
-}
 
 /// The listener of the links that only read, if there are any.
 fn reading_listener<R: Net<Listener = TcpListener, Stream = TcpStream>, W: Write, E: Write>(
@@ -176,6 +145,7 @@ pub fn run_stay<
     ensures { result ≤ 1 }
 {
     let mut output = Output::new(alloc, writer, errors);
+    tell_unproved(&mut output);
     let list = NewList::new(config);
     match stay_list::<Brand, R, W, E>(rt, alloc, stay, list, &mut output) {
         Ok(()) => 0,

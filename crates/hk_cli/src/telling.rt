@@ -1,6 +1,7 @@
 //! What a node that stays tells of its links.
 
 use crate::notice::Notice;
+use hk_cli_calls::Level;
 use hk_commands::Output;
 use hk_net::{LinkEvent, Watch};
 use hk_node::{NodeName, ReaderSeat};
@@ -12,17 +13,6 @@ use std::io::Write;
 
 /// How many places a node has at most.
 const MOST_PLACES: usize = 64;
-
-/// What a node that stays tells of its links.
-#[derive(Clone, Copy, Debug, PartialEq, Eq)]
-pub enum Level {
-    /// Faults, and changes that were refused.
-    Faults,
-    /// Each link that opens or ends too.
-    Links,
-    /// Each change that takes effect too.
-    Changes,
-}
 
 /// A seat that asks for the front, and after how many changes it does.
 #[derive(Drop)]

@@ -3,9 +3,10 @@
 ghost use Rattle.std.specs.Prelude.{◌≤◌};
 
 use crate::frames::{Sink, hand_items};
-use crate::output::{Form, Output};
+use crate::output::Output;
 use crate::status::put_status;
 use crate::stop::Stop;
+use hk_cli_calls::Form;
 use hk_log::Item;
 use hk_query::{Answer, Query, ask};
 use hk_reasons::{Asked, Origin, Place};

@@ -3,8 +3,9 @@
 ghost use Rattle.std.specs.Prelude.{◌≤◌};
 
 use crate::frames::{Sink, hand_items};
-use crate::output::{Form, Output};
+use crate::output::Output;
 use crate::stop::Stop;
+use hk_cli_calls::Form;
 use hk_log::Item;
 use std::alloc::Global;
 use std::io::{Read, Write};

@@ -2,9 +2,10 @@
 
 ghost use Rattle.std.specs.Prelude.{◌≤◌};
 
-use crate::output::{Form, Output};
+use crate::output::Output;
 use crate::pieces::{Lines, read_lines};
 use crate::stop::Stop;
+use hk_cli_calls::Form;
 use hk_codec::encode;
 use hk_json::{BadItem, item_of};
 use hk_types::Refusal;

@@ -25,7 +25,7 @@ pub use explain::run_explain;
 pub use frames::{Sink, hand_items};
 pub use items::run_items;
 pub use json::run_frames;
-pub use output::{Form, Output};
+pub use output::Output;
 pub use pieces::{Lines, MOST_READS, PIECE_BYTES, Pieces, read_lines, read_pieces};
 pub use rewrite::run_rewrite;
 pub use status::{Standing, StreamStatus, put_status, stream_status};

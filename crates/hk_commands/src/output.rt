@@ -5,6 +5,7 @@ ghost use Rattle.std.specs.Prelude.{◌≡◌};
 use crate::flaw::{Flaw, put_bad_line};
 use crate::json::{LineFault, put_bad_item};
 use crate::stop::Stop;
+use hk_cli_calls::Form;
 use hk_json::InJson;
 use hk_lines::Printed;
 use hk_model::{Front, Told};
@@ -28,17 +29,6 @@ const NO_ITEMS: &[u8] = b"stopped: the file of items can't be written; see where
 
 /// What is told where a write of the output failed.
 const NO_OUTPUT: &[u8] = b"stopped: the output can't be written; see where standard output goes\n";
-
-/// The form of what a command prints.
-#[derive(Clone, Copy)]
-pub enum Form {
-    /// The lines of hk_lines.
-    Lines,
-    /// Lines of JSON.
-    Json,
-    /// Bytes that are no lines, so why the command stopped goes to standard error alone.
-    Bytes,
-}
 
 /// The lines of a command on their way to a writer, and what is told of refusals in words on its way to another.
 #[derive(Drop)]
@@ -160,12 +150,34 @@ impl<'a, W: Write, E: Write> Output<'a, W, E> {
         self.keep_reason(made);
     }
 
-    /// Tells what failed at a port of 127.0.0.1, in the system's words, and gives what stops the command. Cost: O(1).
-    pub fn net_fault(&mut self, what: &str, port: u16, error: &io::Error) -> Stop {
+    /// Adds that a node replied nothing for so long. Cost: O(1).
+    fn tell_late(&mut self, request: u64, seconds: u64) {
         self.next.clear();
         let made = writeln!(
             self.next,
-            "refused 93: can't {what} port {port}: {error}; see that a node listens there, or that no other program does"
+            "request {request}: refused 91: no reply for {seconds} s; see whether the node runs, and whether all its links are taken, or give --reply-seconds more"
+        );
+        self.keep_reason(made);
+    }
+
+    /// Tells that a link to a port of 127.0.0.1 can't be opened, in the system's words, and gives what stops the command.
+    /// Cost: O(1).
+    pub fn connect_fault(&mut self, port: u16, error: &io::Error) -> Stop {
+        self.next.clear();
+        let made = writeln!(
+            self.next,
+            "refused 93: can't connect to port {port}: {error}; see that a node listens there"
+        );
+        self.keep_reason(made);
+        Stop::NetTold
+    }
+
+    /// The same of a port that can't be listened to. Cost: O(1).
+    pub fn listen_fault(&mut self, port: u16, error: &io::Error) -> Stop {
+        self.next.clear();
+        let made = writeln!(
+            self.next,
+            "refused 93: can't listen on port {port}: {error}; see that no other program has the port"
         );
         self.keep_reason(made);
         Stop::NetTold
@@ -267,6 +279,7 @@ impl<'a, W: Write, E: Write> Output<'a, W, E> {
             Stop::SendFault => self.tell_known(Place::Whole, "refused", 92),
             Stop::NetFault => self.tell_known(Place::Whole, "refused", 93),
             Stop::LinkCut(request) => self.tell_cut(*request),
+            Stop::ReplyLate { request, seconds } => self.tell_late(*request, *seconds),
             Stop::ItemsFault => self.say(NO_ITEMS),
             Stop::WriteFault => self.say_no_output(),
             Stop::BadCommand(_) | Stop::NetTold => (),
@@ -279,7 +292,9 @@ impl<'a, W: Write, E: Write> Output<'a, W, E> {
         match stop {
             Stop::Refused(refusal) | Stop::RefusedAt(refusal, _) => self.print_refusal(refusal),
             Stop::BadCommand(line) => self.print_bad(*line),
-            Stop::ReadFault => self.print_device(b"refused 91\n", b"{\"refused\":91}\n"),
+            Stop::ReadFault | Stop::ReplyLate { .. } => {
+                self.print_device(b"refused 91\n", b"{\"refused\":91}\n")
+            }
             Stop::WriteFault | Stop::ItemsFault => Ok(()),
             Stop::SendFault => self.print_device(b"refused 92\n", b"{\"refused\":92}\n"),
             Stop::LinkCut(_request) => self.print_device(b"refused 1\n", b"{\"refused\":1}\n"),

@@ -2,9 +2,10 @@
 
 ghost use Rattle.std.specs.Prelude.{◌≤◌};
 
-use crate::output::{Form, Output};
+use crate::output::Output;
 use crate::pieces::{Pieces, read_pieces};
 use crate::stop::Stop;
+use hk_cli_calls::Form;
 use hk_codec::rewrite;
 use std::alloc::Global;
 use std::io::{Read, Write};

@@ -31,6 +31,8 @@ pub enum Stop {
     NetTold,
     /// A link ended before the reply to the request of this number, counted from 1.
     LinkCut(u64),
+    /// A node let the request of this number, counted from 1, wait for so many seconds.
+    ReplyLate { request: u64, seconds: u64 },
 }
 
 impl From<Refusal> for Stop {

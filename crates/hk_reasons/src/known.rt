@@ -112,7 +112,9 @@ fn of_items(number: u8) -> Option<Known> {
         23 => told(
             "Conflict",
             "a conflict",
-            "find the wrong feed: the items are not of one log, or the log was begun anew under its id",
+            "find the wrong feed: the items are not of one log, or it was begun anew under its id. Tested are: of items, what they say of one \
+version, and closed times where they are absorbed or the node has --guard; of a fragment, two facts of one version. Not tested \
+are late rows of a fragment, horizons and marks, and entries whose number is taken",
         ),
         24 => told(
             "AheadOfMark {readable}",
@@ -246,7 +248,7 @@ fn of_devices(number: u8) -> Option<Known> {
         93 => told(
             "NetFault",
             "bind, accept or connect failed",
-            "see that a node listens on the port, or that no other program does",
+            "where a node is asked, see that one listens on the port; where one is served, that no other program has the port",
         ),
         _none => None,
     }

@@ -11,6 +11,7 @@ use hk_types::{Refusal, Time, VersionKey};
 use hk_wire::{Reply, Request};
 use std::io::Write;
 use std::net::{Net, TcpListener, TcpStream};
+use std::rt::Clock;
 
 /// Sends a request, and prints its reply.
 fn tell<W: Write, E: Write>(
@@ -124,14 +125,14 @@ fn pull_parts<W: Write, E: Write>(
 }
 
 /// Has the node take what the one on another port has learnt since its readable mark, and prints its number.
-pub(crate) fn pull<R: Net<Listener = TcpListener, Stream = TcpStream>, W: Write, E: Write>(
+pub(crate) fn pull<R: Net<Listener = TcpListener, Stream = TcpStream> + Clock, W: Write, E: Write>(
     rt: &R,
     own: &mut Link<'_>,
     from: u16,
     output: &mut Output<'_, W, E>,
 ) -> Result<(), Stop> {
-    let stream = opened(rt, from, output)?;
-    let mut other = Link::new(own.alloc(), &stream)?;
+    let stream = opened(rt, from, own.limits(), output)?;
+    let mut other = Link::new(own.alloc(), &stream, own.limits())?;
     let front = front_at(own)?;
     match handed_on(&mut other, front.readable)? {
         Handed::Frame(request) => tell(own, &request, output),

@@ -12,4 +12,4 @@ mod read;
 mod shell;
 mod table;
 
-pub use order::{Order, run_order};
+pub use order::run_order;

@@ -1,5 +1,6 @@
 //! An open link to a node.
 
+use hk_cli_calls::Limits;
 use hk_commands::{MOST_READS, Output, PIECE_BYTES, Stop};
 use hk_later::{
     Asked as EitherRequest, Reply as LaterReply, Request as LaterRequest, Told as EitherReply,
@@ -9,14 +10,18 @@ use hk_reasons::{Asked, Origin, Place};
 use hk_types::{FormFault, Refusal};
 use hk_wire::{Reply, Request, encode_request};
 use std::alloc::Global;
-use std::io::{Read, Write};
+use std::io::{ErrorKind, Read, Write};
 use std::net::{Ipv4Addr, Net, TcpListener, TcpStream};
+use std::rt::Clock;
+use std::time::Duration;
+use std::{io, thread};
 
 /// An open link to a node.
 #[derive(Drop)]
 pub(crate) struct Link<'a> {
     alloc: Global,
     stream: &'a TcpStream,
+    limits: Limits,
     feeder: ToldFeeder,
     /// Replies that came and are not handed out yet: more than one where the node says more than it was asked.
     replies: Vec<EitherReply>,
@@ -48,27 +53,88 @@ pub(crate) fn later_asked_of(request: &LaterRequest) -> Asked {
 /// The refusal of a message of another version.
 const OTHER_VERSION: Refusal = Refusal::Form(FormFault::BadVersion);
 
-/// Opens a stream to the node on a port of 127.0.0.1; where that fails the system's words are told.
-pub(crate) fn opened<R: Net<Listener = TcpListener, Stream = TcpStream>, W: Write, E: Write>(
+/// How often a second a command tries to connect where nobody listens.
+const TRIES_A_SECOND: u64 = 50;
+
+/// How many milliseconds it waits between two tries.
+const TRY_MILLIS: u64 = 20;
+
+/// A stream to the node on a port of 127.0.0.1. A stream that the system joined with itself, as it may where nobody listens on a
+/// port that it also hands out, is refused.
+fn connected<R: Net<Listener = TcpListener, Stream = TcpStream>>(
     rt: &R,
     port: u16,
-    output: &mut Output<'_, W, E>,
-) -> Result<TcpStream, Stop> {
-    match TcpStream::connect(rt, (Ipv4Addr::LOCALHOST, port)) {
+) -> io::Result<TcpStream> {
+    let stream = TcpStream::connect(rt, (Ipv4Addr::LOCALHOST, port))?;
+    if stream.local_addr()? == stream.peer_addr()? {
+        return Err(ErrorKind::ConnectionRefused.into());
+    }
+    Ok(stream)
+}
+
+/// The same, tried again for so many seconds while nobody listens.
+fn connected_within<R: Net<Listener = TcpListener, Stream = TcpStream> + Clock>(
+    rt: &R,
+    port: u16,
+    seconds: u64,
+) -> io::Result<TcpStream> {
+    for _ in 0..seconds.saturating_mul(TRIES_A_SECOND) {
+        match connected(rt, port) {
+            Err(error) if error.kind() == ErrorKind::ConnectionRefused => {
+                thread::sleep(rt, Duration::from_millis(TRY_MILLIS));
+            }
+            other => return other,
+        }
+    }
+    connected(rt, port)
+}
+
+/// Has reads and writes of a stream wait for so many seconds at most; 0 is no limit.
+fn with_limit(stream: TcpStream, seconds: u64) -> io::Result<TcpStream> {
+    if seconds > 0 {
+        let limit = Duration::from_secs(seconds);
+        stream.set_read_timeout(Some(limit))?;
+        stream.set_write_timeout(Some(limit))?;
+    }
+    Ok(stream)
+}
+
+/// The same stream with these limits.
+fn limited<R: Net<Listener = TcpListener, Stream = TcpStream> + Clock>(
+    rt: &R,
+    port: u16,
+    limits: Limits,
+) -> io::Result<TcpStream> {
+    let stream = connected_within(rt, port, limits.connect_seconds)?;
+    with_limit(stream, limits.reply_seconds)
+}
+
+/// Opens a stream to the node on a port of 127.0.0.1; where that fails the system's words are told.
+pub(crate) fn opened<
+    R: Net<Listener = TcpListener, Stream = TcpStream> + Clock,
+    W: Write,
+    E: Write,
+>(rt: &R, port: u16, limits: Limits, output: &mut Output<'_, W, E>) -> Result<TcpStream, Stop> {
+    match limited(rt, port, limits) {
         Ok(stream) => {
             // A request is sent at once; where that can't be had, it comes later.
             let _at_once = stream.set_nodelay(true);
             Ok(stream)
         }
-        Err(error) => Err(output.net_fault("connect to", port, &error)),
+        Err(error) => Err(output.connect_fault(port, &error)),
     }
 }
 
 impl<'a> Link<'a> {
-    pub(crate) fn new(alloc: Global, stream: &'a TcpStream) -> Result<Link<'a>, Stop> {
+    pub(crate) fn new(
+        alloc: Global,
+        stream: &'a TcpStream,
+        limits: Limits,
+    ) -> Result<Link<'a>, Stop> {
         Ok(Link {
             alloc,
             stream,
+            limits,
             feeder: ToldFeeder::new(alloc),
             replies: Vec::new(alloc),
             piece: vec![in alloc; 0u8; PIECE_BYTES]?,
@@ -80,6 +146,22 @@ impl<'a> Link<'a> {
     /// What its memory grows by.
     pub(crate) fn alloc(&self) -> Global {
         self.alloc
+    }
+
+    /// How long it waits.
+    pub(crate) fn limits(&self) -> Limits {
+        self.limits
+    }
+
+    /// Why a read or a write of the stream stops the command: the node let it wait too long, or this.
+    fn stop_of(&self, error: &io::Error, stop: Stop) -> Stop {
+        match error.kind() {
+            ErrorKind::WouldBlock => Stop::ReplyLate {
+                request: self.sent,
+                seconds: self.limits.reply_seconds,
+            },
+            _other => stop,
+        }
     }
 
     /// Where a refusal comes from that answers a request, or a fault of the link behind it.
@@ -107,7 +189,7 @@ impl<'a> Link<'a> {
         let mut writer = self.stream;
         match writer.write_all(&self.text) {
             Ok(()) => Ok(()),
-            Err(_error) => Err(Stop::SendFault),
+            Err(error) => Err(self.stop_of(&error, Stop::SendFault)),
         }
     }
 
@@ -116,7 +198,7 @@ impl<'a> Link<'a> {
         let mut reader = self.stream;
         let count = match reader.read(self.piece.as_mut_slice()) {
             Ok(count) => count,
-            Err(_error) => return Err(Stop::ReadFault),
+            Err(error) => return Err(self.stop_of(&error, Stop::ReadFault)),
         };
         if count == 0 {
             return Err(Stop::LinkCut(self.sent));

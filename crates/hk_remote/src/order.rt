@@ -1,4 +1,4 @@
-//! What a node that runs is asked to do.
+//! How a node that runs is asked to do something.
 
 ghost use Rattle.std.specs.Prelude.{◌≤◌};
 
@@ -8,71 +8,12 @@ use crate::link::{Link, opened};
 use crate::push::{Accepted, push_all};
 use crate::read::{save, tell_answer, tell_front, tell_status};
 use crate::shell::answer_lines;
-use hk_commands::{Form, Output, Stop};
-use hk_model::Query;
-use hk_types::Time;
+use hk_cli_calls::{NodeCall, Order};
+use hk_commands::{Output, Stop};
 use std::alloc::Global;
 use std::io::{Read, Write};
 use std::net::{Net, TcpListener, TcpStream};
 use std::rt::Clock;
-
-/// What a node is asked to do.
-#[derive(Clone, Copy)]
-pub enum Order {
-    /// To answer the requests of the input.
-    Push,
-    /// To answer the lines of the input.
-    Shell,
-    /// To answer a query, at the readable mark where no time is given.
-    Ask {
-        time: Option<Time>,
-        query: Query,
-        form: Form,
-    },
-    /// To tell from where to where it can be read.
-    Front {
-        form: Form,
-    },
-    /// To tell how far each stream is.
-    Status {
-        form: Form,
-    },
-    /// To hand out all that it holds: the frame of a request that hands it to a node, those of its parts where one message
-    /// has no room for it, or lines of JSON.
-    Save {
-        form: Form,
-    },
-    /// To take the fragments of the input, whole or in parts, as `Save` hands them out.
-    Load,
-    /// To take what the node on another port of 127.0.0.1 has learnt since this one's readable mark, or all that it holds
-    /// where it refuses the delta for its base; in parts where one message has no room for it.
-    Pull {
-        from: u16,
-    },
-    /// To forget what is below a time.
-    Prune {
-        horizon: Time,
-    },
-    /// To take the items of the input, in batches of so many, or of 67,108,864 bytes.
-    Feed {
-        batch: u64,
-    },
-}
-
-impl Order {
-    /// The form of what is printed.
-    fn form(&self) -> Form {
-        match self {
-            Order::Ask { form, .. } | Order::Front { form } | Order::Status { form } => *form,
-            Order::Save { form } => match form {
-                Form::Json => Form::Json,
-                Form::Lines | Form::Bytes => Form::Bytes,
-            },
-            Order::Push | Order::Shell | Order::Load => Form::Lines,
-            Order::Pull { .. } | Order::Prune { .. } | Order::Feed { .. } => Form::Lines,
-        }
-    }
-}
 
 /// Has a node do what is asked, and says whether a reply was a refusal that the command went on behind.
 fn obey<R, I: Read, W: Write, E: Write>(
@@ -87,7 +28,9 @@ where
     R: Net<Listener = TcpListener, Stream = TcpStream> + Clock,
 {
     let told = match order {
-        Order::Push => return push_all(link, input, Accepted::All, output),
+        Order::Push { with_second } => {
+            return push_all(link, input, Accepted::of_version(*with_second), output);
+        }
         Order::Load => return push_all(link, input, Accepted::Fragments, output),
         Order::Shell => return answer_lines(link, input, is_terminal, output),
         Order::Ask { time, query, .. } => tell_answer(link, *time, *query, output),
@@ -105,25 +48,28 @@ where
 fn obey_at<R, I: Read, W: Write, E: Write>(
     rt: &R,
     alloc: Global,
-    port: u16,
+    call: &NodeCall,
     input: &mut I,
     is_terminal: bool,
     output: &mut Output<'_, W, E>,
-    order: &Order,
 ) -> Result<bool, Stop>
 where
     R: Net<Listener = TcpListener, Stream = TcpStream> + Clock,
 {
-    let stream = opened(rt, port, output)?;
-    let mut link = Link::new(alloc, &stream)?;
-    let is_refused = obey(rt, &mut link, input, is_terminal, output, order)?;
+    let stream = opened(rt, call.port, call.limits, output)?;
+    let mut link = Link::new(alloc, &stream, call.limits)?;
+    let is_refused = obey(rt, &mut link, input, is_terminal, output, &call.order)?;
     output.flush().map(|_written| is_refused)
 }
 
 /// Has the node on a port of 127.0.0.1 do what is asked, over a link that is opened for it, and prints its replies.
 ///
-/// `Push` sends a request, of version 1 or 2, waits for its reply and prints it, and then sends the next; a reply that is a
-/// refusal is printed and told, and the next request goes on, but behind a part that is refused. `Load` does the same with fragments and parts alone; another
+/// Where nobody listens on the port it tries again to connect, for as many seconds as the call's limits have it. Where the node
+/// then replies nothing for as many seconds as they have it, or takes nothing of a request, the command ends.
+///
+/// `Push` sends a request, waits for its reply and prints it, and then sends the next; a reply that is a
+/// refusal is printed and told, and the next request goes on, but behind a part that is refused. A request of version 2 is sent only
+/// where the order has it so, and else is one that can't be read: 3. `Load` does the same with fragments and parts alone; another
 /// request is not sent, and ends it with 4. `Shell` reads lines such as `get 1 5`, `at 5 range 1 0 9`, `front` and `status`, prints rows as a table, and on a
 /// terminal a prompt before each line; a line of another form is told to `errors`, a refusal is printed and told, and the next
 /// line goes on. `Status` reads a delta since the readable mark, and is refused as too old where the node is pruned between.
@@ -138,20 +84,19 @@ where
 /// - the fault of the input, 1 to 10, behind the replies to the requests before it, or the items before it;
 /// - the fault of a reply, 1 to 10: 1 where the link was cut before the reply, 4 where the reply is none to its request;
 /// - 90 where memory ran out;
-/// - 91 where a read failed, of the input or the link, or 2^32 reads did not come to an end;
+/// - 91 where a read failed, of the input or the link, 2^32 reads did not come to an end, or the node replied nothing in time;
 /// - 92 where a write to the link failed or took no bytes;
 /// - 93 where the link could not be opened, as to a port that nobody listens to;
 /// - a write of the output that failed or took no bytes.
 ///
 /// Each but the last is printed as `refused` and the number, in the order's form (where `Save` writes one frame it writes
-/// all of it or nothing, and where it writes parts the last frame comes with the last of them or not at all), and told to `errors` in words. What the node took before stays. It waits for a reply without a limit, and
+/// all of it or nothing, and where it writes parts the last frame comes with the last of them or not at all), and told to `errors` in words. What the node took before stays. It
 /// holds 65,536 bytes of the input, a batch, and one reply. Cost: O(n · log n), n bytes of the requests and the replies,
 /// beside the node's answers; `Status` O(s²) for s streams.
 pub fn run_order<R, I: Read, W: Write, E: Write>(
     rt: &R,
     alloc: Global,
-    port: u16,
-    order: &Order,
+    call: &NodeCall,
     input: &mut I,
     is_terminal: bool,
     writer: &mut W,
@@ -161,8 +106,8 @@ where
     R: Net<Listener = TcpListener, Stream = TcpStream> + Clock,
     ensures { result ≤ 1 }
 {
-    let mut output = Output::of_form(alloc, order.form(), writer, errors);
-    match obey_at(rt, alloc, port, input, is_terminal, &mut output, order) {
+    let mut output = Output::of_form(alloc, call.order.form(), writer, errors);
+    match obey_at(rt, alloc, call, input, is_terminal, &mut output) {
         Ok(is_refused) => u8::from(is_refused),
         Err(stop) => output.stop(stop),
     }

@@ -5,7 +5,8 @@ use hk_commands::{Output, Pieces, Stop, read_pieces};
 use hk_later::{Asked, AskedFeeder, Reply as LaterReply, Request as LaterRequest, Told};
 use hk_reasons::Asked as AskedTime;
 use hk_types::{FormFault, Refusal};
-use hk_wire::{Reply, Request};
+use hk_wire::{Reply, Request, RequestFeeder};
+use std::alloc::Global;
 use std::io::{Read, Write};
 use std::mem;
 
@@ -58,14 +59,84 @@ fn print_reply<W: Write, E: Write>(
 /// Which requests are sent.
 #[derive(Clone, Copy)]
 pub(crate) enum Accepted {
+    /// Those of version 1; the input can't be read where one of version 2 stands.
+    FirstVersion,
+    /// Those of both versions.
     All,
     /// Those that hand a fragment to a node.
     Fragments,
 }
 
-/// Whether a request is sent.
-fn is_accepted(accepted: Accepted, request: &Asked) -> bool {
-    matches!(accepted, Accepted::All) || is_fragment(request)
+impl Accepted {
+    /// Those of version 1, or of version 2 too.
+    pub(crate) fn of_version(with_second: bool) -> Accepted {
+        if with_second {
+            Accepted::All
+        } else {
+            Accepted::FirstVersion
+        }
+    }
+
+    /// Whether a request that was read is sent.
+    fn has(self, request: &Asked) -> bool {
+        match self {
+            Accepted::FirstVersion | Accepted::All => true,
+            Accepted::Fragments => is_fragment(request),
+        }
+    }
+}
+
+/// What reads the requests.
+#[derive(Drop)]
+enum Feeder {
+    FirstVersion(RequestFeeder),
+    Both(AskedFeeder),
+}
+
+impl Feeder {
+    fn new(alloc: Global, accepted: Accepted) -> Feeder {
+        match accepted {
+            Accepted::FirstVersion => Feeder::FirstVersion(RequestFeeder::new(alloc)),
+            Accepted::All | Accepted::Fragments => Feeder::Both(AskedFeeder::new(alloc)),
+        }
+    }
+
+    /// Reads what is whole by now.
+    fn feed(
+        &mut self,
+        alloc: Global,
+        piece: &[u8],
+        requests: &mut Vec<Asked>,
+    ) -> Result<(), Refusal> {
+        match self {
+            Feeder::FirstVersion(feeder) => feed_first(feeder, alloc, piece, requests),
+            Feeder::Both(feeder) => feeder.feed(piece, requests),
+        }
+    }
+
+    fn finish(self) -> Result<(), Refusal> {
+        match self {
+            Feeder::FirstVersion(feeder) => feeder.finish(),
+            Feeder::Both(feeder) => feeder.finish(),
+        }
+    }
+}
+
+/// The same with a feeder of version 1.
+fn feed_first(
+    feeder: &mut RequestFeeder,
+    alloc: Global,
+    piece: &[u8],
+    requests: &mut Vec<Asked>,
+) -> Result<(), Refusal> {
+    let mut first = Vec::new(alloc);
+    let fed = feeder.feed(piece, &mut first);
+    for request in first {
+        if requests.push(Asked::One(request)).is_err() {
+            return Err(Refusal::Memory);
+        }
+    }
+    fed
 }
 
 /// Requests on their way to a node.
@@ -74,7 +145,7 @@ struct Pusher<'k, 'l, 'o, 'p, W: Write, E: Write> {
     link: &'k mut Link<'l>,
     output: &'o mut Output<'p, W, E>,
     accepted: Accepted,
-    feeder: AskedFeeder,
+    feeder: Feeder,
     /// Those of a read.
     requests: Vec<Asked>,
     /// Whether a reply was a refusal.
@@ -92,7 +163,7 @@ impl<'k, 'l, 'o, 'p, W: Write, E: Write> Pusher<'k, 'l, 'o, 'p, W, E> {
             link,
             output,
             accepted,
-            feeder: AskedFeeder::new(alloc),
+            feeder: Feeder::new(alloc, accepted),
             requests: Vec::new(alloc),
             is_refused: false,
         }
@@ -101,7 +172,7 @@ impl<'k, 'l, 'o, 'p, W: Write, E: Write> Pusher<'k, 'l, 'o, 'p, W, E> {
     /// Sends each request, waits for its reply and prints it, before the next. It stops at a part that is refused.
     fn ask_all(&mut self) -> Result<(), Stop> {
         for request in &self.requests {
-            if !is_accepted(self.accepted, request) {
+            if !self.accepted.has(request) {
                 return Err(Stop::RefusedAt(BAD_KIND, self.link.next_origin()));
             }
             let reply = self.link.ask_either(request)?;
@@ -130,20 +201,22 @@ impl<'k, 'l, 'o, 'p, W: Write, E: Write> Pusher<'k, 'l, 'o, 'p, W, E> {
 
 impl<W: Write, E: Write> Pieces for Pusher<'_, '_, '_, '_, W, E> {
     fn take(&mut self, piece: &[u8]) -> Result<(), Stop> {
-        let fed = self.feeder.feed(piece, &mut self.requests);
+        let alloc = self.link.alloc();
+        let fed = self.feeder.feed(alloc, piece, &mut self.requests);
         self.ask_all()?;
         self.requests.clear();
         self.checked(fed)
     }
 
     fn end(&mut self) -> Result<(), Stop> {
-        let feeder = mem::replace(&mut self.feeder, AskedFeeder::new(self.link.alloc()));
+        let next = Feeder::new(self.link.alloc(), self.accepted);
+        let feeder = mem::replace(&mut self.feeder, next);
         self.checked(feeder.finish())
     }
 }
 
 /// Sends the requests of the input, one after the other, up to its end or to what stops them first, and says whether a reply
-/// was a refusal. Where `accepted` is the fragments alone, another request stops them before it is sent.
+/// was a refusal. A request that is not accepted stops them before it is sent.
 pub(crate) fn push_all<I: Read, W: Write, E: Write>(
     link: &mut Link<'_>,
     input: &mut I,

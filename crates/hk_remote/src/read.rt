@@ -2,7 +2,8 @@
 
 use crate::link::{Link, unasked};
 use crate::parts::{Parts, hand_parts, is_too_long, taking};
-use hk_commands::{Form, Output, Stop, put_status};
+use hk_cli_calls::Form;
+use hk_commands::{Output, Stop, put_status};
 use hk_fragment::Fragment;
 use hk_json::Head;
 use hk_later::{Request as LaterRequest, encode_request as encode_later};

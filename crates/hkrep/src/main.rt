@@ -4,11 +4,12 @@
 mod watched;
 
 use crate::watched::Watched;
-use hk_arguments::{Alone, Call, Order as Asked, Staying, read_call};
+use hk_arguments::read_call;
 use hk_cli::{
-    Form, Level, Links, Order, ReadPort, Stay, run_ask, run_at, run_explain, run_frames, run_front,
-    run_items, run_order, run_rewrite, run_serve, run_status, run_stay, run_world,
+    run_ask, run_at, run_explain, run_frames, run_front, run_items, run_order, run_rewrite,
+    run_serve, run_status, run_stay, run_world,
 };
+use hk_cli_calls::{Alone, Call};
 use std::alloc::Global;
 use std::fs::Files;
 use std::io::{IsTerminal, Read, Write};
@@ -30,11 +31,6 @@ fn words<R: Env + Alloc<A = Global>>(rt: &R) -> io::Result<Vec<String>> {
     Ok(std::env::args(rt)?.collect(rt.alloc())?)
 }
 
-/// The form of what is printed.
-fn form_of(is_json: bool) -> Form {
-    if is_json { Form::Json } else { Form::Lines }
-}
-
 /// The status of what is done over the input and the outputs alone.
 fn run_alone<I: Read, W: Write, E: Write>(
     alloc: Global,
@@ -54,51 +50,14 @@ fn run_alone<I: Read, W: Write, E: Write>(
             config,
             time,
             query,
-            is_json,
-        } => {
-            let form = form_of(*is_json);
-            run_ask(alloc, input, output, errors, *config, *time, query, form)
-        }
-        Alone::Front { config, is_json } => {
-            run_front(alloc, input, output, errors, *config, form_of(*is_json))
-        }
-        Alone::Status { config, is_json } => {
-            run_status(alloc, input, output, errors, *config, form_of(*is_json))
-        }
+            form,
+        } => run_ask(alloc, input, output, errors, *config, *time, query, *form),
+        Alone::Front { config, form } => run_front(alloc, input, output, errors, *config, *form),
+        Alone::Status { config, form } => run_status(alloc, input, output, errors, *config, *form),
         Alone::Explain { number } => run_explain(alloc, *number, output, errors),
-        Alone::Items { is_json } => run_items(alloc, input, output, errors, form_of(*is_json)),
+        Alone::Items { form } => run_items(alloc, input, output, errors, *form),
         Alone::Frames => run_frames(alloc, input, output, errors),
         Alone::Rewrite => run_rewrite(alloc, input, output, errors),
-    }
-}
-
-/// What is asked of a node, as the commands take it.
-fn order_of(order: Asked) -> Order {
-    match order {
-        Asked::Push => Order::Push,
-        Asked::Shell => Order::Shell,
-        Asked::Ask {
-            time,
-            query,
-            is_json,
-        } => Order::Ask {
-            time,
-            query,
-            form: form_of(is_json),
-        },
-        Asked::Front { is_json } => Order::Front {
-            form: form_of(is_json),
-        },
-        Asked::Status { is_json } => Order::Status {
-            form: form_of(is_json),
-        },
-        Asked::Save { is_json } => Order::Save {
-            form: form_of(is_json),
-        },
-        Asked::Load => Order::Load,
-        Asked::Pull { from } => Order::Pull { from },
-        Asked::Prune { horizon } => Order::Prune { horizon },
-        Asked::Feed { batch } => Order::Feed { batch },
     }
 }
 
@@ -137,40 +96,6 @@ fn run_script<R: Files + Alloc<A = Global>, I: Read, W: Write, E: Write>(
     }
 }
 
-/// The port for links that only read, as the command takes it.
-fn reading_of(reading: Option<(u16, Links)>) -> Option<ReadPort> {
-    match reading {
-        Some((port, links)) => Some(ReadPort { port, links }),
-        None => None,
-    }
-}
-
-/// What a node that stays tells of its links.
-fn level_of(is_quiet: bool, is_verbose: bool) -> Level {
-    if is_quiet {
-        Level::Faults
-    } else if is_verbose {
-        Level::Changes
-    } else {
-        Level::Links
-    }
-}
-
-/// How a node that stays serves its links, as the command takes it.
-fn stay_of(staying: &Staying) -> Stay {
-    Stay {
-        address: staying.address,
-        port: staying.port,
-        links: staying.links,
-        reading: reading_of(staying.reading),
-        read_seconds: staying.read_seconds,
-        is_guarded: staying.is_guarded,
-        parts_bytes: staying.parts_bytes,
-        level: level_of(staying.is_quiet, staying.is_verbose),
-        report_changes: staying.report_changes,
-    }
-}
-
 /// The status of a call over standard output and these.
 fn run<R, I: Read, E: Write>(
     rt: &R,
@@ -204,17 +129,12 @@ where
                 errors,
             )
         }
-        Call::Stay(staying) => {
-            let stay = stay_of(staying);
-            run_stay(rt, rt.alloc(), staying.config, &stay, &mut output, errors)
-        }
-        Call::Node { port, order } => {
-            let order = order_of(*order);
+        Call::Stay(config, stay) => { run_stay(rt, rt.alloc(), *config, stay, &mut output, errors) }
+        Call::Node(call) => {
             run_order(
                 rt,
                 rt.alloc(),
-                *port,
-                &order,
+                call,
                 input,
                 is_terminal,
                 &mut output,

@@ -1,0 +1,83 @@
+//! What the program is asked to do.
+
+use crate::node::NodeCall;
+use crate::serving::Stay;
+use hk_model::Query;
+use hk_types::{Config, Key, Links, Table, Time};
+
+/// The form of what a command prints.
+#[derive(Clone, Copy)]
+pub enum Form {
+    /// Lines of words and numbers.
+    Lines,
+    /// Lines of JSON.
+    Json,
+    /// Bytes that are no lines, so why the command stopped goes to standard error alone.
+    Bytes,
+}
+
+/// What is done over standard input and output alone.
+#[derive(Clone, Copy)]
+pub enum Alone {
+    /// Absorb item frames, and print the row at a table and a key at a time.
+    At {
+        config: Config,
+        time: Time,
+        table: Table,
+        key: Key,
+    },
+    /// Absorb item frames, and print the answer to a query at a time.
+    Ask {
+        config: Config,
+        time: Time,
+        query: Query,
+        form: Form,
+    },
+    /// Absorb item frames, and print from where to where can be read.
+    Front {
+        config: Config,
+        form: Form,
+    },
+    /// Absorb item frames, and print how far each stream is.
+    Status {
+        config: Config,
+        form: Form,
+    },
+    /// Print what the number of a refusal means, or what all mean.
+    Explain {
+        number: Option<u64>,
+    },
+    /// Print item frames.
+    Items {
+        form: Form,
+    },
+    /// Write the frames of items in JSON.
+    Frames,
+    /// Write item frames in version 2.
+    Rewrite,
+}
+
+/// What the program is asked to do.
+#[derive(Clone, Copy)]
+pub enum Call<'a> {
+    /// What needs no file and no network.
+    Alone(Alone),
+    /// Play a script of a primary and its replicas, and write the items to a file of this name where one is given.
+    World {
+        items: Option<&'a str>,
+    },
+    /// Start a node, and serve so many links on a port.
+    Serve {
+        config: Config,
+        port: u16,
+        links: Links,
+        /// Whether each change is tested before it is added.
+        is_guarded: bool,
+        /// How many bytes all links keep for messages of version 2; none where those of version 1 alone are answered.
+        parts_bytes: Option<u64>,
+    },
+    /// Start a node of a log, and serve links to it without an end.
+    Stay(Config, Stay),
+    /// Have a node that runs do something.
+    Node(NodeCall),
+}

@@ -1,0 +1,12 @@
+//! What the command line asks for, as plain values: read in one crate, done in others.
+#![tactic(auto)]
+
+mod call;
+mod node;
+mod serving;
+mod version;
+
+pub use call::{Alone, Call, Form};
+pub use node::{Limits, NodeCall, Order};
+pub use serving::{Level, ReadPort, Stay};
+pub use version::{IS_PROVED, VERSION};

@@ -1,0 +1,79 @@
+//! What a node that runs is asked to do.
+
+use crate::call::Form;
+use hk_model::Query;
+use hk_types::Time;
+
+/// What a node is asked to do.
+#[derive(Clone, Copy)]
+pub enum Order {
+    /// To answer the requests of the input: those of version 1, or of version 2 too.
+    Push {
+        with_second: bool,
+    },
+    /// To answer the lines of the input.
+    Shell,
+    /// To answer a query, at the readable mark where no time is given.
+    Ask {
+        time: Option<Time>,
+        query: Query,
+        form: Form,
+    },
+    /// To tell from where to where it can be read.
+    Front {
+        form: Form,
+    },
+    /// To tell how far each stream is.
+    Status {
+        form: Form,
+    },
+    /// To hand out all that it holds: in bytes, the frame of a request that hands it to a node, or those of its parts where one
+    /// message has no room for it; or lines of JSON.
+    Save {
+        form: Form,
+    },
+    /// To take the fragments of the input, whole or in parts, as `Save` hands them out in bytes.
+    Load,
+    /// To take what the node on another port of 127.0.0.1 has learnt since this one's readable mark, or all that it holds
+    /// where it refuses the delta for its base; in parts where one message has no room for it.
+    Pull {
+        from: u16,
+    },
+    /// To forget what is below a time.
+    Prune {
+        horizon: Time,
+    },
+    /// To take the items of the input, in batches of so many, or of 67,108,864 bytes.
+    Feed {
+        batch: u64,
+    },
+}
+
+impl Order {
+    /// The form of what is printed.
+    pub fn form(&self) -> Form {
+        match self {
+            Order::Ask { form, .. } | Order::Front { form } => *form,
+            Order::Status { form } | Order::Save { form } => *form,
+            Order::Push { .. } | Order::Shell | Order::Load => Form::Lines,
+            Order::Pull { .. } | Order::Prune { .. } | Order::Feed { .. } => Form::Lines,
+        }
+    }
+}
+
+/// How long a command waits for a node.
+#[derive(Clone, Copy)]
+pub struct Limits {
+    /// For how many seconds it tries again to connect where nobody listens; 0: it tries once.
+    pub connect_seconds: u64,
+    /// For how many seconds it waits until a byte of a reply comes, or one of a request goes; 0: without a limit.
+    pub reply_seconds: u64,
+}
+
+/// What the node on a port of 127.0.0.1 is asked to do.
+#[derive(Clone, Copy)]
+pub struct NodeCall {
+    pub port: u16,
+    pub limits: Limits,
+    pub order: Order,
+}
