@@ -1,4 +1,4 @@
-# make quick  makes bin/hkrep-unproved: the program without any proof, in about two minutes, which says so at --version
+# make quick  makes bin/hkrep-unproved: the program without any proof, in two to five minutes, which says so at --version and serve
 # make try    the same, and runs the first example with it
 # make        proves and builds bin/hkrep
 # make demo   the same, and runs the first example
@@ -28,7 +28,7 @@ bin/hkrep: $(SOURCES) tests/build
 	tests/build
 	touch bin/hkrep
 
-bin/hkrep-unproved: $(SOURCES) VERSION tests/quick
+bin/hkrep-unproved: $(SOURCES) VERSION tests/quick tests/plain_module.py
 	tests/quick
 
 quick: bin/hkrep-unproved
