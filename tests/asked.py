@@ -185,16 +185,51 @@ def shell():
     report("lines that a person asks", differ(pairs))
 
 
+def begun(*words):
+    """A command that was begun, with nothing on its input."""
+    return subprocess.Popen([PROGRAM, *map(str, words)], stdin=subprocess.DEVNULL, stdout=subprocess.PIPE, stderr=subprocess.PIPE, text=True)
+
+
+def connected_later():
+    """A command that was begun before its node waits for it, for as long as it is told to; 3 seconds where it isn't told."""
+    port = free_port()
+    early = [begun("feed", "--port", port, "--connect-seconds", LIMIT), begun("front", "--port", port, "--connect-seconds", LIMIT)]
+    time.sleep(0.5)
+    pairs = [("they wait", [it.poll() for it in early], [None, None])]
+    node = begun("serve", "--log", 7, "--streams", 1, "--port", port, "--links", 2)
+    pairs += [("a node that came later", [it.communicate(timeout=LIMIT)[0] for it in (*early, node)],
+               ["done 2\n", "front horizon 0 readable 0\n", f"listening {port}\nended 0\nended 0\n"])]
+    start = time.monotonic()
+    out, status, _ = run("front", "--port", free_port())
+    pairs += [("nobody comes", (out, status, time.monotonic() - start > 2.9), (b"refused 93\n", 1, True))]
+    report("a command waits for its node", differ(pairs))
+
+
+def silent_nodes():
+    """A node that takes a link and says nothing: a command ends after as many seconds as it is told."""
+    pairs = []
+    with socket.create_server(("127.0.0.1", 0)) as silent:
+        port = silent.getsockname()[1]
+        for words, sent in ((["front"], b""), (["status"], b""), (["ask", "get", 1, 5], b""), (["save"], b""), (["prune", 1], b""), (["shell"], b"front\n"),
+                            (["feed"], b""), (["push"], say.front()), (["load"], say.merge_this()), (["pull", "--from", port], b"")):
+            out, status, told = run(words[0], "--port", port, "--reply-seconds", 1, *words[1:], data=sent)
+            wanted = b"" if words == ["save"] else b"refused 91\n"
+            pairs += [(f"a silent node and {words[0]}", (out, status, told.startswith("request 1: refused 91: no reply for 1 s; see whether the node runs")), (wanted, 1, True))]
+    helped = {command: run("help", command)[0].decode() for command in ("front", "status", "ask", "push", "load", "feed", "pull", "save", "prune", "shell")}
+    pairs += [(f"how long {command} waits", "30 where it isn't given" in text, command in ("front", "status", "ask")) for command, text in helped.items()]
+    report("a node that replies nothing", differ(pairs))
+
+
 def told_apart():
     """A link that can't be opened, one that is cut, and input that is cut are told apart."""
     pairs, nobody = [], free_port()
     for words in (["front"], ["status"], ["ask", "get", 1, 5], ["save"], ["load"], ["feed"], ["push"], ["shell"]):
-        out, status, told = run(*words, "--port", nobody) if words[0] != "ask" else run("ask", "--port", nobody, *words[1:])
+        out, status, told = run(words[0], "--port", nobody, "--connect-seconds", 0, *words[1:])
         wanted = b"" if words == ["save"] else b"refused 93\n"
-        pairs += [(f"nobody listens to {words}", (out, status, f"can't connect to port {nobody}: " in told, "efused" in told.split("port", 1)[1]), (wanted, 1, True, True))]
+        pairs += [(f"nobody listens to {words}", (out, status, f"can't connect to port {nobody}: " in told, "; see that a node listens there\n" in told), (wanted, 1, True, True))]
     with socket.create_server(("127.0.0.1", 0)) as taken:
         told = run("serve", *["--log", 7, "--streams", 1, "--links", 1, "--port", taken.getsockname()[1]])[2]
-        pairs += [("a port in use", f"refused 93: can't listen on port {taken.getsockname()[1]}: " in told, True)]
+        pairs += [("a port in use", (f"refused 93: can't listen on port {taken.getsockname()[1]}: " in told, "; see that no other program has the port\n" in told), (True, True))]
     with Node(1) as node:
         out, status, told = run("push", "--port", node.port, data=say.front() + say.front()[:3])
         pairs += [("the input is cut", (out, status, told.startswith("request 2: refused 1: the input ends")), (b"front horizon 0 readable 0\nrefused 1\n", 1, True))]
@@ -242,7 +277,7 @@ def main():
     if not is_built(PROGRAM):
         return ended()
     start = time.monotonic()
-    for check in (there_and_back, bad_lines, json_answers, over_a_link, shell, told_apart, words_that_mislead):
+    for check in (there_and_back, bad_lines, json_answers, over_a_link, shell, connected_later, silent_nodes, told_apart, words_that_mislead):
         if not sys.argv[1:] or check.__name__ in sys.argv[1:]:
             guarded(check)
     print(f"asked: {time.monotonic() - start:.1f} s")

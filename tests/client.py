@@ -377,7 +377,7 @@ def run(args, data=b""):
 
 
 def push(port, data):
-    return run(["push", "--port", str(port)], data)
+    return run(["push", "--port", str(port), "--connect-seconds", "0"], data)
 
 
 def pushes():

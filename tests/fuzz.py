@@ -175,8 +175,18 @@ def of_world(source):
     return [(["world"], text.encode("latin-1"), told(*reference.played(text)))]
 
 
-LINES = [["at", "--log", "7", "--streams", "1", "1", "1", "5"], ["items"], ["items", "--json"], ["frames"], ["rewrite"], ["world"], ["--help"], ["--version"], ["push", "--port", "1"], ["ask", "--port", "1", "get", "1", "5"], ["feed", "--port", "1", "--batch", "7"],
+LINES = [["at", "--log", "7", "--streams", "1", "1", "1", "5"], ["items"], ["items", "--json"], ["frames"], ["rewrite"], ["world"], ["--help"], ["--version"], ["push", "--port", "1"], ["ask", "--port", "1", "get", "1", "5"],
+         ["feed", "--port", "1", "--batch", "7"],
          ["serve", "--log", "7", "--streams", "1", "--port", "0", "--links", "1"], ["help", "at"], ["at", "--help"]]
+
+
+def once(words):
+    """The words of a command line, which sees at once that nobody listens on its port."""
+    kept = [word for word in words if not word.startswith("--connect-seconds")]
+    if "--port" in kept and "serve" not in kept:
+        at = kept.index("--port")
+        kept[at:at] = ["--connect-seconds", "0"]
+    return kept
 
 
 def of_lines(source):
@@ -196,7 +206,7 @@ def of_lines(source):
             words[place] = mutated(source, words[place].encode("utf-8", "surrogateescape")).replace(b"\0", b"").decode("utf-8", "surrogateescape")
     if "serve" in words and "--port" in words and "0" not in words[words.index("--port") + 1:]:
         words = ["serve"]
-    return [(words, (compare.Frames.random(source).parts or [b""])[0] if source.random() < 0.5 else b"", None)]
+    return [(once(words), (compare.Frames.random(source).parts or [b""])[0] if source.random() < 0.5 else b"", None)]
 
 
 def problem_of_run(words, data, wanted):

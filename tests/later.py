@@ -21,6 +21,7 @@ from staying import PROGRAM, Staying
 from vector_values import is_of_version_2, vectors
 
 LIMIT = 30
+PUSH = ["push", "--messages", "2"]
 LATER = ("--messages", "2")
 ALL = say.items(E1, E2, E3, say.mark(1, 3, 3))
 # What the three versions of ALL count in parts: their bytes in a message, and 128 for each.
@@ -402,8 +403,9 @@ def commands():
         # a part that is refused stops what comes behind it, which would lack it
         with Node(20, words=LATER) as target:
             wrong = frames[0] + frames[0] + frames[1] + frames[2]
-            pairs += [(f"a {command} of a part twice", ran(command, "--port", target.port, data=wrong), ("added 1\nrefused 7\n", 1)) for command in ("load", "push")]
-            pairs += [("takes nothing", target.link().ask(say.front()), ("front", 0, 0)), ("and goes on else", ran("push", "--port", target.port, data=say.release(1) + frames[0]), ("refused 44\nadded 1\n", 1))]
+            pairs += [(f"a {command[0]} of a part twice", ran(*command, "--port", target.port, data=wrong), ("added 1\nrefused 7\n", 1)) for command in (["load"], PUSH)]
+            pairs += [("takes nothing", target.link().ask(say.front()), ("front", 0, 0)), ("and goes on else", ran(*PUSH, "--port", target.port, data=say.release(1) + frames[0]), ("refused 44\nadded 1\n", 1)),
+                      ("a push of version 1 alone", ran("push", "--port", target.port, data=say.front() + frames[0] + say.front()), ("front horizon 0 readable 0\nrefused 3\n", 1))]
         # where one of the two reads version 1 alone, what was refused stays refused
         with Node(20, words=LATER) as target:
             pairs.append(("from a node of version 1", ran("pull", "--port", target.port, "--from", old_large.port), ("refused 2\n", 1)))

@@ -1,7 +1,11 @@
 #!/usr/bin/env python3
 """What the pages show is what there is: listings are lines of files that the gate proves or runs, commands run and print
 what the page says, the pictures are what their scripts draw, and each link leads to a file. Each command and listing of a page has a
-check that types it (tests/shown.py), or stands below in UNTYPED with the reason. Needs bin/hkrep, or bin/hkrep-unproved."""
+check that types it (tests/shown.py), or stands below in UNTYPED with the reason. Needs bin/hkrep, or bin/hkrep-unproved.
+
+    pages.py            all checks
+    pages.py NAME..     these
+    pages.py 10         the pages that a new user pastes (tests/pasted.py), ten times each: by hand"""
 import functools
 import os
 import pathlib
@@ -13,6 +17,7 @@ import sys
 import tempfile
 
 from checks import differ, ended, free_port, is_built, report, skip
+from pasted import pasted
 from shown import PAGES, all_shown, checker, of
 
 ROOT = pathlib.Path(__file__).resolve().parent.parent
@@ -27,7 +32,7 @@ UNTYPED = {
     "rt try": "builds a crate with the compiler's checks of memory: half a minute each",
     "rt must-fail": "a part of rt ci",
     "rt plant": "runs for hours, by hand",
-    "make quick": "two minutes of the compiler; a program that is proved is what the gate has",
+    "make quick": "minutes of the compiler; a program that is proved is what the gate has",
     "make lib": "proves anew what tests/library --gate took from the gate",
     "make test": "is the gate",
     "make": "proves what the gate has proved",
@@ -39,7 +44,7 @@ UNTYPED = {
 
 # What stands in a command of a page for something of the reader's own; a port is a free one.
 STAND_INS = {"FRAMES": "examples/first.bin", "NAME": "half_fed", "TIME": "1"}
-PORTS = r"\b(47000|4711[01]|(?<=--port )P|(?<=--port )Q)\b"
+PORTS = r"\b(4700[01]|4701[01]|4711[01]|(?<=--port )P|(?<=--port )Q)\b"
 
 
 def sources():
@@ -182,30 +187,10 @@ def names():
     report("each command of hkrep that a page names is there", problems)
 
 
-def typed_here():
-    """The listings of docs/GETTING_STARTED.md, each with what it has to print; a line that starts a node is followed by a wait for it."""
-    waits = r"\1\nfor _ in $(seq 100); do grep -q listening \2 && break; sleep 0.1; done"
-    listed = []
-    for it in of("pages.py started"):
-        if it.how == "sh":
-            listed.append([re.sub(r"^(hkrep serve .* > (\S+) &)$", waits, it.text, flags=re.M), ""])
-        else:
-            listed[-1][1] = it.text
-    return listed
-
-
 def started():
-    """docs/GETTING_STARTED.md from its first line to its last, in one shell, with free ports for its nodes."""
-    listed = typed_here()
-    script = "".join(f"{block}\necho '<end {number}>'\n" for number, (block, _) in enumerate(listed))
-    for port in sorted(set(re.findall(r"\b4700\d\b", script))):
-        script = script.replace(port, str(free_port()))
-    script = script.replace("$PWD/bin/hkrep-unproved", str(PROGRAM))
-    ran = subprocess.run(["bash"], input=script, cwd=ROOT, stdout=subprocess.PIPE, stderr=subprocess.PIPE, text=True, timeout=120, check=False)
-    pieces = re.split(r"<end \d+>\n", ran.stdout)
-    problems = [f"{block.splitlines()[-1]}: printed {got!r}, wanted {said!r}" for (block, said), got in zip(listed, pieces) if got != said]
-    problems += [] if len(pieces) == len(listed) + 1 and len(listed) >= 10 else [f"{len(listed)} listings, {len(pieces) - 1} ended: {ran.stderr[-300:]}"]
-    report(f"docs/GETTING_STARTED.md, typed from its first line to its last ({len(listed)} listings)", problems)
+    """The pages that a new user pastes."""
+    of("pages.py pasted")
+    pasted(PROGRAM, 1)
 
 
 def examples_of(command):
@@ -494,6 +479,9 @@ def links():
 
 def main(words):
     if not is_built(PROGRAM):
+        return ended()
+    if words and words[0].isdecimal():
+        pasted(PROGRAM, int(words[0]))
         return ended()
     for check in (accounted, listings, pictures, calling, commands, crates, drawn_paths, bytes_shown, messages_shown, words_shown, names, shown_commands, started, helped,
                   made, toolchain, packages, history, scripts, asked_node, links):

@@ -221,7 +221,7 @@ def pushed(replies, ends, request=va.encode_request(va.AskFront())):
     """What `hkrep push` prints where a peer replies these bytes, to so many requests of 6 bytes."""
     with socket.create_server(("127.0.0.1", 0)) as listener:
         listener.settimeout(LIMIT)
-        with subprocess.Popen([PROGRAM, "push", "--port", str(listener.getsockname()[1])], stdin=subprocess.PIPE, stdout=subprocess.PIPE,
+        with subprocess.Popen([PROGRAM, "push", "--messages", "2", "--port", str(listener.getsockname()[1])], stdin=subprocess.PIPE, stdout=subprocess.PIPE,
                               stderr=subprocess.DEVNULL) as child:
             child.stdin.write(request * ends)
             child.stdin.close()
@@ -723,46 +723,8 @@ def syntax():
     report("the package is typed, Python 3.9, and of the standard library alone", problems)
 
 
-def listings_of(page):
-    """The listings of a page, each with what has to be printed."""
-    found = []
-    for it in of("python_client.py listings"):
-        if it.page == page and it.how == "python":
-            found.append([it.text, ""])
-        elif it.page == page:
-            found[-1][1] = it.text
-    return found
-
-
-def page():
-    """docs/PYTHON.md and README.md: each listing runs, one after the other of a page, and prints what stands below it."""
-    problems, count = [], 0
-    for name in ("docs/PYTHON.md", "README.md"):
-        blocks = listings_of(name)
-        with Served(20, words=("--messages", "2")) as served, tempfile.TemporaryDirectory() as folder:
-            state = {}
-            for block, said in blocks:
-                count += 1
-                out = io.StringIO()
-                try:
-                    with contextlib.redirect_stdout(out), contextlib.chdir(folder):
-                        exec(compile(block.replace("47000", str(served.port)), name, "exec"), state)
-                except Exception as error:  # pylint: disable=broad-except
-                    problems.append(f"{name}: {type(error).__name__}: {error}, in {block}")
-                if name != "README.md":
-                    problems += differ([(block, out.getvalue(), said)])
-                elif "# prints " in block:
-                    problems += differ([(block, out.getvalue().splitlines(), re.findall(r"# prints (.*)", block))])
-            for it in [it for it in of("python_client.py commands") if it.page == name]:
-                count += 1
-                words = it.text.removeprefix("python3 -m vadungsil ").replace("47000", str(served.port)).split()
-                got = command([f"{folder}/{word}" if word.startswith("report") else word for word in words])
-                problems += differ([(it.text, got[0].strip(), it.printed)])
-    report(f"the listings and commands of docs/PYTHON.md and of README.md ({count})", problems + ([] if count >= 8 else ["too few"]))
-
-
 CHECKS = (values, reasons, client_items, client_messages, client_faults, stored, syntax, program_items, program_replies, a_node, pipelines,
-          limits_and_links, asynchronous, many_nodes, log_writer, writer_refusals, resumed, commands, exports, wheel, page)
+          limits_and_links, asynchronous, many_nodes, log_writer, writer_refusals, resumed, commands, exports, wheel)
 
 
 def main(words):

@@ -35,7 +35,10 @@ REASONS: Dict[int, Reason] = {
     20: _of("ForeignLog", "another log id", "feed each log to a replica of its own"),
     21: _of("WrongStreams", "a stream above the configured number, or another number of streams", "give the replica the number of streams that the log has"),
     22: _of("Gap", "a delta begins above the target's readable mark", "ask for a delta since the readable mark, or for the whole", "base", "readable"),
-    23: _of("Conflict", "a conflict", "find the wrong feed: the items are not of one log, or the log was begun anew under its id"),
+    23: _of("Conflict", "a conflict",
+            "find the wrong feed: the items are not of one log, or it was begun anew under its id. Tested are: of items, what they say of one "
+            "version, and closed times where they are absorbed or the node has --guard; of a fragment, two facts of one version. Not tested "
+            "are late rows of a fragment, horizons and marks, and entries whose number is taken"),
     24: _of("AheadOfMark", "a prune above the readable mark", "prune to the readable mark at most", "readable"),
     25: _of("TooOld", "a time below the horizon", "ask at the horizon or later", "horizon"),
     26: _of("NotYet", "a time above the readable mark", "feed the marks of all streams, or ask at the readable mark", "readable"),
@@ -58,7 +61,8 @@ REASONS: Dict[int, Reason] = {
     90: _of("Memory", "a growth was refused", "free memory, and make the same call again"),
     91: _of("ReadFault", "a read failed, or the bound on reads (2^32) was met", "look at the device or the link that is read"),
     92: _of("WriteFault", "a write failed or took 0 bytes", "look at the device or the link that is written to"),
-    93: _of("NetFault", "bind, accept or connect failed", "see that a node listens on the port, or that no other program does"),
+    93: _of("NetFault", "bind, accept or connect failed", 
+            "where a node is asked, see that one listens on the port; where one is served, that no other program has the port"),
 }
 
 
