@@ -17,16 +17,17 @@ import socket
 import subprocess
 import sys
 import tempfile
-import threading
 import time
 import zipfile
 
 sys.dont_write_bytecode = True
 ROOT = pathlib.Path(__file__).resolve().parent.parent
+import python_servers
 import reference
 from checks import differ, ended, is_built, report
 from packaged import LIMIT, PACKAGE, command, refusal_of, run, va
 from python_exports import export_places, exports
+from python_servers import Peer
 from shown import of
 from vector_values import is_of_version_2, item_of, later_reply_of, later_request_of, reply_of, request_of, vectors
 from client import Node as Served
@@ -316,38 +317,6 @@ def pipelines():
         threads = [POOL.submit(lambda: [node.count(1, at=2) for _ in range(50)]) for _ in range(4)]
         problems += differ([("threads", [set(it.result(LIMIT)) for it in threads], [{200}] * 4)])
     report("pipelines, and threads that share a node", problems)
-
-
-class Peer:
-    """A server that takes links one after the other: each is given so many replies and is then closed, or left silent."""
-
-    def __init__(self, plans, reply=bytes.fromhex("0000001201210000000000000000 0000000000000003".replace(" ", ""))):
-        self.listener = socket.create_server(("127.0.0.1", 0))
-        self.port, self.seen, self.stop = self.listener.getsockname()[1], [], threading.Event()
-        self.thread = threading.Thread(target=self.serve, args=(plans, reply), daemon=True)
-        self.thread.start()
-
-    def serve(self, plans, reply):
-        for count, cut, is_silent in plans:
-            with contextlib.suppress(OSError):
-                link, _ = self.listener.accept()
-                with link:
-                    got = 0
-                    for _ in range(count):
-                        size = int.from_bytes(link.recv(4, socket.MSG_WAITALL), "big")
-                        got += len(link.recv(size, socket.MSG_WAITALL)) == size > 0
-                        link.sendall(reply)
-                    self.seen.append(got)
-                    link.sendall(reply[:cut])
-                    if is_silent:
-                        self.stop.wait(LIMIT)
-
-    def __enter__(self):
-        return self
-
-    def __exit__(self, *_):
-        self.stop.set()
-        self.listener.close()
 
 
 def limits_and_links():
@@ -699,7 +668,7 @@ def page():
 
 
 CHECKS = (values, reasons, client_items, client_messages, client_faults, stored, syntax, program_items, program_replies, a_node, pipelines,
-          limits_and_links, asynchronous, many_nodes, log_writer, writer_refusals, resumed, commands, exports, export_places, wheel, page)
+          limits_and_links, *python_servers.CHECKS, asynchronous, many_nodes, log_writer, writer_refusals, resumed, commands, exports, export_places, wheel, page)
 
 
 def main(words):

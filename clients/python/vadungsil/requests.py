@@ -164,8 +164,9 @@ class Requests(Reads[RowT, RowsT, NumberT], Generic[RowT, RowsT, NumberT, FrontT
 
     def latest(self, query: Query) -> Any:
         """The readable mark, and the answer to a question at it: `node.latest(Get(1, 5))`, in one exchange."""
-        return self._call(encode_later(AskLatest(query)), read_latest)
+        return self._call(encode_later(AskLatest(query)), lambda rest: read_latest(rest, query))
 
     def page(self, table: int, low: int = 0, high: int = LAST_KEY, *, at: int, most: int = 1_000) -> Any:
         """The rows of the keys from low to high at a time, and as many as `most` of them, and whether more follow (`later.Page`)."""
-        return self._call(encode_later(AskPage(time_of(at), table, low, high, most)), read_page)
+        asked = AskPage(time_of(at), table, low, high, most)
+        return self._call(encode_later(asked), lambda rest: read_page(rest, asked))
