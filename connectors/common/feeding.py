@@ -163,6 +163,11 @@ class Feed(Link):
         return TimeLimit(f"{self.name}: no reply within {self.limit} s")
 
 
+def short(text: str) -> str:
+    """What is said of a failure: in one line, and in 400 letters at most."""
+    return " ".join(text.split())[:400]
+
+
 class Patience:
     """Waits after failures, each time twice as long, from 50 ms to 5 s; and says on standard error why, once for each reason in a row."""
 
@@ -170,7 +175,7 @@ class Patience:
         self.name, self.pause, self.said = name, 0.05, ""
 
     def say(self, text: str) -> None:
-        print(f"{self.name}: {text}", file=sys.stderr, flush=True)
+        print(f"{self.name}: {short(text)}", file=sys.stderr, flush=True)
 
     def wait(self, reason: object) -> None:
         text = f"{type(reason).__name__}: {reason}"
