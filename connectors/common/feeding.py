@@ -108,8 +108,9 @@ class Feed(Link):
         return read_front(self._ask(FRONT))
 
     def streams(self) -> Tuple[Stream, ...]:
-        """How far each stream is. No request of its own tells it, but each delta does at its head, and one whose base is the last time of
-        all has no facts behind it: 36 bytes and 24 a stream, 8 for each extra number and 16 for each waiting mark."""
+        """How far each stream is, by a delta, which each node answers: Streams wants one that reads messages of version 2. It tells that at
+        its head, and where its base is the last time of all it has no facts behind: 36 bytes and 24 a stream, 8 for each extra number and
+        16 for each waiting mark."""
         return read_fragment(self._ask(encode_request(Delta(LAST_TIME)))).streams
 
     def facts_since(self, base: int) -> bytes:
