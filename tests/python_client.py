@@ -617,8 +617,11 @@ def wheel():
 
 
 def syntax():
-    """Each file of the package is Python 3.9, and imports only the package and the standard library."""
-    problems = []
+    """Each file of the package is Python 3.9, and imports only the package and the standard library; what it gives is in its __all__, or a
+    strict look at types takes `from vadungsil import Node` for a name that isn't there."""
+    tree = ast.parse((PACKAGE / "vadungsil" / "__init__.py").read_text(encoding="utf-8"))
+    given = {it.name for node in tree.body if isinstance(node, ast.ImportFrom) for it in node.names}
+    problems = differ([("__all__", sorted(va.__all__), sorted(given))])
     for path in sorted((PACKAGE / "vadungsil").rglob("*.py")):
         tree = ast.parse(path.read_text(encoding="utf-8"), feature_version=(3, 9))
         for node in ast.walk(tree):

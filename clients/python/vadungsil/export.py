@@ -9,7 +9,7 @@ import sqlite3
 import stat
 import sys
 import time as clock
-from contextlib import contextmanager, nullcontext
+from contextlib import contextmanager
 from typing import Any, Dict, Iterable, Iterator, List, Optional, TextIO, Tuple
 
 from .errors import Refused
@@ -163,7 +163,9 @@ def export(node: Any, path: str, form: str = "sqlite", at: Optional[int] = None,
         if is_file:
             with _beside(os.path.realpath(path), force) as (part, text):
                 return _written(node.at(at), tables, form, text, part)
-        with (nullcontext(sys.stdout) if is_standard else open(os.open(path, os.O_WRONLY), "w", encoding="utf-8", newline="")) as text:
+        if is_standard:
+            return _written(node.at(at), tables, form, sys.stdout)
+        with open(os.open(path, os.O_WRONLY), "w", encoding="utf-8", newline="") as text:
             return _written(node.at(at), tables, form, text)
     except OSError as error:
         raise OSError(error.errno, error.strerror, name) from error
