@@ -2,7 +2,9 @@
    Link with -lhekaton (pkg-config hekaton). docs/EMBEDDING.md tells the rest.
 
    What each function does is proved, for callers that keep to this:
-   - a handle begins as HK_CLOSED; it is never written to, copied or moved by the caller while it is open;
+   - a handle begins as HK_CLOSED, and from then on only the functions write to its fields. Between two calls it may be
+     moved, for the library keeps no address of it: all of it goes to another place, which is the handle from then on,
+     and the place before is forgotten, or made HK_CLOSED again. Two places are never both used;
    - one call at a time for a handle, on any thread; calls for two handles may run at once;
    - each pointer points to what its type says, also where a length is 0 (then to anything but NULL); and what two
      pointers of one call point to does not overlap, the two handles of hk_merge included;

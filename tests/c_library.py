@@ -113,7 +113,7 @@ def in_c():
     valgrind = ["valgrind", "-q", "--error-exitcode=9", "--leak-check=full", "--errors-for-leak-kinds=all"] if shutil.which("valgrind") else []
     if not valgrind:
         skip("valgrind is not installed: bad input runs without it")
-    for name, command in (("each front of requests and items", [program, "cut", links]), ("10,000 mutated calls", [program, "mutate", links, "10000"]),
+    for name, command in (("handles that are moved", [program, "moved"]), ("each front of requests and items", [program, "cut", links]), ("10,000 mutated calls", [program, "mutate", links, "10000"]),
                           ("10,000 mutated calls of items", [program, "mutate", FIRST, "10000"]),
                           ("each request for memory refused in turn", [starved, "starve", links])):
         said, status = run([*valgrind, *command])

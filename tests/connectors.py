@@ -408,6 +408,128 @@ def poisoned(it):
     it.same(it.other_port)
 
 
+class Aside:
+    """Stream 1 of a log of its own, of which `publish --confirm` is given some of the entries 1 to 9."""
+
+    def __init__(self, bench, log):
+        self.bench, self.words, self.key = bench, ["--log", log, "--streams", 1], f"hekaton:{log}:1"
+        self.frames = [encode(Entry.of(log, 1, number, number, rows=[(1, 5, 0, b"row %d" % number)])) for number in range(1, 10)]
+
+    def add(self, message, frame, field="f"):
+        """Something else than `publish` adds a message."""
+        self.bench.client.xadd(self.key, {field: frame}, id=message)
+
+    def ran(self, program, *more, **options):
+        """What it printed, its status, and what it said."""
+        (self.bench.folder / "said").write_bytes(b"")
+        child = self.bench.start(CONNECTORS / program, *self.bench.url(), *self.words, *more, stdout=subprocess.PIPE, **options)
+        out = child.communicate(timeout=PATIENCE)[0].decode()
+        return out, child.returncode, self.bench.said()
+
+    def publish(self, numbers):
+        self.bench.write("aside.bin", [self.frames[number - 1] for number in numbers])
+        with open(self.bench.folder / "aside.bin", "rb") as source:
+            return self.ran("publish", "--confirm", stdin=source)
+
+    def is_refused(self, numbers, *words):
+        """`publish` confirms nothing, ends with 3, and says these words."""
+        out, code, said = self.publish(numbers)
+        holds((out, code) == ("", 3) and all(word in said for word in words), f"{self.key}: printed {out!r}, status {code}, said {said!r}")
+
+    def is_kept(self, numbers, *words):
+        out, code, said = self.publish(numbers)
+        is_told = all(word in said for word in words)
+        holds((out, code) == (f"kept 1 {max(numbers)}\n", 0) and is_told, f"{self.key}: {out!r}, {code}, {said!r}")
+
+
+def never_there(it):
+    """Entries that Redis never had, or that were deleted, behind or below what somebody else put there: they are named, and never
+    confirmed. What was trimmed is confirmed."""
+    for log, adds, numbers in ((100, {"18446744073709551615-0": 9}, "1 to 8"), (101, {"9-0": 9}, "1 to 8"), (102, {"5-0": 5}, "3 to 4")):
+        aside = Aside(it, log)
+        if log == 102:
+            aside.is_kept([1, 2])
+        for message, number in adds.items():
+            aside.add(message, aside.frames[number - 1])
+        aside.is_refused(range(1, 9), "not what its id says" if log == 100 else f"stream 1: entries {numbers} are not in {aside.key}")
+    emptied = Aside(it, 103)
+    emptied.add("9-0", emptied.frames[8])
+    it.client.xtrim(emptied.key, maxlen=0, approximate=False)
+    emptied.is_refused(range(1, 9), "entries 1 to 8 are not in")
+    deleted = Aside(it, 104)
+    deleted.is_kept(range(1, 9))
+    it.client.xdel(deleted.key, "3-0", "4-0")
+    deleted.is_refused(range(1, 9), "entries 3 to 4 are not in")
+    trimmed_ = Aside(it, 105)
+    trimmed_.is_kept(range(1, 9))
+    it.client.xtrim(trimmed_.key, minid=4, approximate=False)
+    trimmed_.is_kept(range(1, 9), "5 were there, 3 not compared, as Redis no longer has them")
+    trimmed_.is_kept(range(1, 3), "2 not compared")
+    it.client.xtrim(trimmed_.key, maxlen=0, approximate=False)
+    trimmed_.is_kept(range(1, 10), "1 frames added, 0 were there, 8 not compared")
+
+
+def no_messages_of_ours(it):
+    """A message without the field f, with a frame that is none, or of another place: publish, follow and status name it alike."""
+    other = Aside(it, 300)
+    for log, field, frame in ((200, "g", other.frames[8]), (201, "f", b""), (202, "f", b"abc"), (203, "f", b"?" * 100),
+                              (204, "f", other.frames[8])):
+        aside = Aside(it, log)
+        aside.is_kept([1, 2])
+        aside.add("3-0", frame, field)
+        named = f"stream 1: message 3-0 of {aside.key} is {'no item frame' if log < 203 else 'not what its id says'}"
+        aside.is_refused(range(1, 9), named)
+        node = it.start(HKREP, "serve", *aside.words, "--port", it.other_port, "--links", 4, stdout=subprocess.PIPE)
+        holds(node.stdout.readline().startswith(b"listening"), "the node doesn't listen")
+        out, code, said = aside.ran("follow", "--node", it.other_port, "--once")
+        holds((out, code) == ("", 3) and named in said, f"follow: {out!r}, {code}, {said!r}")
+        kill(node)
+        out, code, said = aside.ran("status")
+        first, _, row = out.splitlines()
+        holds((code, said) == (3, "") and first.startswith(named) and row.split() == ["1", "1", "3", "0"], f"{out!r}, {code}, {said!r}")
+
+
+def added_beneath(it):
+    """A message of somebody else that comes while the publisher runs, and one that stands below more marks than the publisher looks at, are
+    named where the entry of that number is published."""
+    aside, low = Aside(it, 400), Aside(it, 401)
+    writer = it.start(CONNECTORS / "publish", *it.url(), *aside.words, "--confirm", stdin=subprocess.PIPE, stdout=subprocess.PIPE)
+    writer.stdin.write(b"".join(aside.frames[:2]))
+    writer.stdin.flush()
+    holds(writer.stdout.readline() == b"kept 1 2\n", "not confirmed while the input is open")
+    aside.add("3-0", b"abc")
+    writer.stdin.write(aside.frames[2])
+    writer.stdin.close()
+    status(writer, 3)
+    holds(writer.stdout.read() == b"" and f"message 3-0 of {aside.key} is no item frame" in it.said(), it.said())
+    low.is_kept([1, 2])
+    low.add("3-0", b"abc")
+    for beside in range(1, 41):
+        low.add(f"3-{beside}", encode(Mark(401, 1, 1, beside)))
+    low.is_refused(range(1, 9), f"message 3-0 of {low.key} is no item frame")
+
+
+def told_in_short(it):
+    """What Redis refuses is told in a line of 400 letters at most, without what was sent; where it may pass, the publisher goes on."""
+    frame = encode(Entry.of(LOG, 1, 1, 1, rows=[(1, key, 0, b"a secret row " * 300) for key in range(20)]))
+    it.write("secret.bin", [frame])
+    it.client.replicaof("127.0.0.1", free_port())
+    writer = it.publish("secret.bin")
+    waited(lambda: "trying again" in it.said(), "the publisher says nothing")
+    holds("read only replica" in it.said(), f"not told: {it.said()}")
+    it.client.replicaof("NO", "ONE")
+    status(writer)
+    holds(it.numbers(1) == [1], "not published")
+    it.client.execute_command("ACL", "SETUSER", "default", "-eval", "-xinfo", "-xread")
+    status(it.publish("secret.bin"), 1)
+    status(it.follow("--once"), 1)
+    told = it.start(CONNECTORS / "status", *it.url(), *WORDS, stdout=subprocess.PIPE, text=True)
+    lines = [*told.communicate(timeout=PATIENCE)[0].splitlines(), *(it.folder / "said").read_text().splitlines()]
+    holds(told.returncode == 1 and sum("permission" in line for line in lines) == 3, f"{lines}")
+    long = [line for line in lines if len(line) > 410 or "secret" in line]
+    holds(not long, f"{long[:1]}")
+
+
 def large_numbers(it):
     """Entries and marks around 2^53 and at the last time of all, past what Lua's numbers tell apart."""
     start = 2 ** 53 - 2
@@ -515,7 +637,8 @@ def as_in_the_page(it):
 
 
 STORIES = [killed_followers, killed_publisher, killed_redis, killed_node, lost_tail, trimmed, forked, two_followers, two_publishers, out_of_order,
-           twice_fed, lacking_input, poisoned, large_numbers, kept, secured, told_by_status, as_in_the_page]
+           twice_fed, lacking_input, poisoned, never_there, no_messages_of_ours, added_beneath, told_in_short, large_numbers, kept, secured,
+           told_by_status, as_in_the_page]
 
 
 def tables_of(frames, entries):

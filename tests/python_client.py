@@ -9,49 +9,29 @@ import ast
 import asyncio
 import concurrent.futures
 import contextlib
-import csv
-import io
-import json
 import pathlib
 import random
 import re
 import socket
-import sqlite3
 import subprocess
 import sys
 import tempfile
-import threading
 import time
 import zipfile
 
 sys.dont_write_bytecode = True
 ROOT = pathlib.Path(__file__).resolve().parent.parent
-PACKAGE = ROOT / "clients" / "python"
-sys.path.insert(0, str(PACKAGE))
+import python_servers
 import reference
-import vadungsil as va
 from checks import differ, ended, is_built, report
-from shown import of
+from packaged import LIMIT, PACKAGE, command, refusal_of, run, va
+from python_exports import export_places, exports
+from python_servers import Peer
 from vector_values import is_of_version_2, item_of, later_reply_of, later_request_of, reply_of, request_of, vectors
 from client import Node as Served
 from client import PROGRAM, free_port
 
-LIMIT = 30
 POOL = concurrent.futures.ThreadPoolExecutor(4)
-
-
-def refusal_of(call):
-    """The number that a call is refused with, 0 where it isn't; a refusal says words and a number."""
-    try:
-        call()
-    except va.Refused as refused:
-        text = str(refused)
-        return refused.number if f"refused {refused.number}" in text and refused.meaning in text and refused.advice in text else -1
-    return 0
-
-
-def run(words, data=b"", **more):
-    return subprocess.run([str(it) for it in words], input=data, stdout=subprocess.PIPE, stderr=subprocess.PIPE, timeout=LIMIT, check=False, **more)
 
 
 # ---------------------------------------------------------------- values
@@ -337,38 +317,6 @@ def pipelines():
     report("pipelines, and threads that share a node", problems)
 
 
-class Peer:
-    """A server that takes links one after the other: each is given so many replies and is then closed, or left silent."""
-
-    def __init__(self, plans, reply=bytes.fromhex("0000001201210000000000000000 0000000000000003".replace(" ", ""))):
-        self.listener = socket.create_server(("127.0.0.1", 0))
-        self.port, self.seen, self.stop = self.listener.getsockname()[1], [], threading.Event()
-        self.thread = threading.Thread(target=self.serve, args=(plans, reply), daemon=True)
-        self.thread.start()
-
-    def serve(self, plans, reply):
-        for count, cut, is_silent in plans:
-            with contextlib.suppress(OSError):
-                link, _ = self.listener.accept()
-                with link:
-                    got = 0
-                    for _ in range(count):
-                        size = int.from_bytes(link.recv(4, socket.MSG_WAITALL), "big")
-                        got += len(link.recv(size, socket.MSG_WAITALL)) == size > 0
-                        link.sendall(reply)
-                    self.seen.append(got)
-                    link.sendall(reply[:cut])
-                    if is_silent:
-                        self.stop.wait(LIMIT)
-
-    def __enter__(self):
-        return self
-
-    def __exit__(self, *_):
-        self.stop.set()
-        self.listener.close()
-
-
 def limits_and_links():
     """A silent peer, a peer that ends links, and nobody."""
     problems = []
@@ -613,11 +561,6 @@ def resumed():
 
 # ---------------------------------------------------------------- commands, export, wheel, pages
 
-def command(words, data=b""):
-    got = run([sys.executable, "-m", "vadungsil", *words], data, cwd=PACKAGE)
-    return got.stdout.decode(), got.returncode, got.stderr.decode()
-
-
 def commands():
     problems = []
     first = (ROOT / "examples" / "first.bin").read_bytes()
@@ -639,45 +582,6 @@ def commands():
                         ("no command", command(["x"])[1], 2), ("explain", command(["explain", "99"])[1], 2),
                         ("version", command(["--version"])[:2], (f"vadungsil {va.__version__}\n", 0))])
     report("the command `python3 -m vadungsil`", problems)
-
-
-def exports():
-    """All rows of a moment, in each form, while the log goes on; a failed export leaves no file."""
-    problems = []
-    writer = va.LogWriter(7, 1)
-    rows = {(table, key): (table, bytes([key % 256])) for table in (1, 9, 65535) for key in (0, 5, 2 ** 63, 2 ** 64 - 1, *range(100, 400))}
-    puts = [(*place, *row) for place, row in rows.items()]
-    with Served(8) as served, va.Node(served.port) as node, tempfile.TemporaryDirectory() as folder:
-        node.items([writer.commit(puts), *writer.marks()])
-        node.items([writer.commit([(1, 7, 9, b"later")]), *writer.marks()])
-        path = pathlib.Path(folder)
-        tables = ["--tables", "0,1,2,9,65535"]
-        port = ["--port", str(served.port)]
-        for name in ("all.db", "all.csv", "all.jsonl"):
-            got = command([*port, "export", "--at", "1", "--out", str(path / name), *tables])
-            problems += differ([(name, got, (f"rows {len(rows)}\n", 0, ""))])
-        base = sqlite3.connect(path / "all.db")
-        found = {(table, int(key)): (tag, body) for table in (1, 9, 65535) for key, tag, body in base.execute(f"SELECT * FROM table_{table} ORDER BY key")}
-        problems += differ([("sqlite", found, rows), ("moment", base.execute("SELECT * FROM moment").fetchall(), [(1, 3, len(rows))]),
-                            ("in order", [int(it[0]) for it in base.execute("SELECT key FROM table_1 ORDER BY key")], sorted(key for table, key in rows if table == 1))])
-        base.close()
-        found = {(int(table), int(key)): (int(tag), bytes.fromhex(body)) for table, key, tag, body in list(csv.reader(io.StringIO((path / "all.csv").read_text())))[1:]}
-        problems += differ([("csv", found, rows)])
-        lines = [json.loads(line) for line in (path / "all.jsonl").read_text().splitlines()]
-        problems += differ([("jsonl", {(it["table"], it["key"]): (it["tag"], bytes.fromhex(it["body"])) for it in lines}, rows)])
-        printed = command([*port, "export", "--at", "2", "--form", "csv", "--tables", "1"])[0].splitlines()
-        problems += differ([("standard output", len(printed), 1 + sum(table == 1 for table, _ in rows) + 1)])
-        problems += differ([("not yet", command([*port, "export", "--at", "3", "--out", str(path / "no.db"), *tables])[:2], ("refused 26 readable 2\n", 1)),
-                            ("files", sorted(it.name for it in path.iterdir()), ["all.csv", "all.db", "all.jsonl"])])
-        nodes = va.Nodes([free_port(), served.port])
-        problems += differ([("by many nodes", va.export(nodes, str(path / "many.csv"), "csv", 1, [1, 9, 65535]), len(rows)),
-                            ("the same", (path / "many.csv").read_text(), (path / "all.csv").read_text())])
-        problems += differ([("of all tables", va.export(node, str(path / "all_tables.csv"), "csv", 1), len(rows)),
-                            ("of all tables, by many nodes", va.export(nodes, str(path / "many_tables.csv"), "csv", 1), len(rows)),
-                            ("as of these", [(path / it).read_text() == (path / "all.csv").read_text() for it in ("all_tables.csv", "many_tables.csv")], [True, True])])
-        problems += differ([("a table that is none", refusal_of(lambda: nodes.at(1).counts([70000])), refusal_of(lambda: node.at(1).count(70000)))])
-        nodes.close()
-    report("an export of one moment as SQLite, CSV and JSON lines", problems)
 
 
 def wheel():
@@ -711,8 +615,11 @@ def wheel():
 
 
 def syntax():
-    """Each file of the package is Python 3.9, and imports only the package and the standard library."""
-    problems = []
+    """Each file of the package is Python 3.9, and imports only the package and the standard library; what it gives is in its __all__, or a
+    strict look at types takes `from vadungsil import Node` for a name that isn't there."""
+    tree = ast.parse((PACKAGE / "vadungsil" / "__init__.py").read_text(encoding="utf-8"))
+    given = {it.name for node in tree.body if isinstance(node, ast.ImportFrom) for it in node.names}
+    problems = differ([("__all__", sorted(va.__all__), sorted(given))])
     for path in sorted((PACKAGE / "vadungsil").rglob("*.py")):
         tree = ast.parse(path.read_text(encoding="utf-8"), feature_version=(3, 9))
         for node in ast.walk(tree):
@@ -724,7 +631,7 @@ def syntax():
 
 
 CHECKS = (values, reasons, client_items, client_messages, client_faults, stored, syntax, program_items, program_replies, a_node, pipelines,
-          limits_and_links, asynchronous, many_nodes, log_writer, writer_refusals, resumed, commands, exports, wheel)
+          limits_and_links, *python_servers.CHECKS, asynchronous, many_nodes, log_writer, writer_refusals, resumed, commands, exports, export_places, wheel)
 
 
 def main(words):

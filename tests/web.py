@@ -533,6 +533,9 @@ def deployed():
     asked = json.dumps([it.get("targets") for it in dashboard["panels"]])
     for name, text in (("alerts.yml", rules), ("grafana-dashboard.json", asked), ("LOOKING.md", looking), ("OPERATING.md", operating)):
         problems += [f"{name}: no metric {it}" for it in sorted(set(re.findall(r"vadungsil_[a-z_]+", text)) - known)]
+    # a total only grows: what is looked at is how it grew
+    problems += [f"alerts.yml: the total itself in {it}" for it in re.findall(r"^ +expr: (.*)$", rules, re.M)
+                 if re.search(r"(?<!increase\()(?<!rate\()\bvadungsil_\w+_total", it)]
     alerts = re.findall(r"^ +- alert: (\w+)$", rules, re.M)
     problems += [f"{it} is not told in docs/OPERATING.md" for it in alerts if f"`{it}`" not in operating] + ([] if len(alerts) >= 5 else ["fewer than five alerts"])
     if shutil.which("promtool"):

@@ -108,8 +108,9 @@ class Feed(Link):
         return read_front(self._ask(FRONT))
 
     def streams(self) -> Tuple[Stream, ...]:
-        """How far each stream is. No request of its own tells it, but each delta does at its head, and one whose base is the last time of
-        all has no facts behind it: 36 bytes and 24 a stream, 8 for each extra number and 16 for each waiting mark."""
+        """How far each stream is, by a delta, which each node answers: Streams wants one that reads messages of version 2. It tells that at
+        its head, and where its base is the last time of all it has no facts behind: 36 bytes and 24 a stream, 8 for each extra number and
+        16 for each waiting mark."""
         return read_fragment(self._ask(encode_request(Delta(LAST_TIME)))).streams
 
     def facts_since(self, base: int) -> bytes:
@@ -163,6 +164,11 @@ class Feed(Link):
         return TimeLimit(f"{self.name}: no reply within {self.limit} s")
 
 
+def short(text: str) -> str:
+    """What is said of a failure: in one line, and in 400 letters at most."""
+    return " ".join(text.split())[:400]
+
+
 class Patience:
     """Waits after failures, each time twice as long, from 50 ms to 5 s; and says on standard error why, once for each reason in a row."""
 
@@ -170,7 +176,7 @@ class Patience:
         self.name, self.pause, self.said = name, 0.05, ""
 
     def say(self, text: str) -> None:
-        print(f"{self.name}: {text}", file=sys.stderr, flush=True)
+        print(f"{self.name}: {short(text)}", file=sys.stderr, flush=True)
 
     def wait(self, reason: object) -> None:
         text = f"{type(reason).__name__}: {reason}"

@@ -88,14 +88,14 @@ class LogInRedis:
     # ------------------------------------------------------------ how far it is
 
     def tail(self, stream: int) -> Tail:
-        """Looks back from the end for the last mark, which is 100,000 messages at most."""
+        """Looks back from the end for the last mark, which is 100,000 messages at most. `Broken` where one of them isn't what its id says."""
         number: Optional[int] = None
         end = "+"
         for _ in range(100):
             page = self.client.xrevrange(self.key(stream), max=end, count=1000)
             for message, fields in page:
                 number = number_of(message)[0] if number is None else number
-                place = place_of(fields[b"f"])
+                place = self.place(stream, number_of(message), fields.get(b"f", b""))
                 if not place.is_entry:
                     return Tail(number, place.second)
             if len(page) < 1000:
@@ -133,7 +133,8 @@ class LogInRedis:
     def append(self, stream: int, batch: Sequence[Tuple[Head, bytes]]) -> Appended:
         """Adds frames, of which each entry is at most one above the last one: the new ones; the others are compared. When it returns they
         are kept as was asked for: in the memory of Redis, in its file, by so many replicas. `Broken` where the log forks (2), where a time
-        or a mark is not true of what is there (2), and where Redis lost what it had (3)."""
+        or a mark is not true of what is there (2), where Redis lost what it had (3), where entries aren't there that weren't trimmed (3),
+        and where a message isn't what its id says (3)."""
         words: List[Any] = [int(self.replicas > 0 or self.fsync)]
         for head, frame in batch:
             words += [head.first, head.first - 1 if head.is_entry else head.first + 1, frame]
@@ -144,18 +145,36 @@ class LogInRedis:
         if self.replicas:
             line.wait(self.replicas, 10_000)
         try:
-            told, *kept = line.execute()
+            told, *kept = self.replies(line)
         except redis.RedisError:
             self.is_checked = False
             raise
         if told[0] != b"ok":
-            raise self.broken(stream, told[0].decode(), int(told[1]))
+            raise self.broken(stream, told[0].decode(), [word.decode() for word in told[1:]], batch)
         if kept and kept[0] < self.replicas:
             raise redis.TimeoutError(f"{kept[0]} replicas of {self.replicas} have it")
         return Appended(*map(int, told[1:]))
 
     @staticmethod
-    def broken(stream: int, what: str, number: int) -> Broken:
+    def replies(line: Any) -> List[Any]:
+        """What the commands of a pipeline are replied. An error has Redis's words alone: `execute` would put all that was sent before
+        them."""
+        found: List[Any] = line.execute(raise_on_error=False)
+        for it in found:
+            if isinstance(it, Exception):
+                raise it
+        return found
+
+    def broken(self, stream: int, what: str, words: List[str], batch: Sequence[Tuple[Head, bytes]]) -> Broken:
+        """What append.lua found wrong, in words."""
+        if what == "message":
+            return self.broken_message(stream, words[0])
+        number = int(words[0])
+        if what == "missing":
+            first, beside = number_of(words[1].encode())
+            upto = min(first - (beside == 0), max(head.first for head, _ in batch if head.is_entry))
+            return Broken(3, f"stream {stream}: entries {number} to {upto} are not in {self.key(stream)} and were not trimmed, and there "
+                             "are higher ones: they were deleted, or something else writes to this stream")
         if what == "gap":
             return Broken(3, f"stream {stream}: Redis has entries to {number} only, and had more: it lost its tail. "
                              f"Start again with the log from entry {number + 1} at the latest")
@@ -163,6 +182,15 @@ class LogInRedis:
                  "past": f"entry {number} is of a time that the entries or marks before it have closed",
                  "untrue": f"a mark of the first {number} entries is not true of the entries"}
         return Broken(2, f"stream {stream}: {words[what]}")
+
+    def broken_message(self, stream: int, message: str) -> Broken:
+        """What is wrong with a message that is none of this stream."""
+        for here, fields in self.client.xrange(self.key(stream), message, message):
+            try:
+                self.place(stream, number_of(here), fields.get(b"f", b""))
+            except Broken as broken:
+                return broken
+        return Broken(3, f"stream {stream}: message {message} of {self.key(stream)} was no item frame of this stream")
 
     def check_file(self) -> None:
         """Where entries have to be in the file before they count: 1 where Redis says that they aren't."""
@@ -189,6 +217,10 @@ class LogInRedis:
         lacks_to = here[0] - (here[1] == 0)
         if lacks_to >= next_entry:
             raise Missing({stream: (next_entry, lacks_to)})
+        return self.place(stream, here, frame)
+
+    def place(self, stream: int, here: Id, frame: bytes) -> Place:
+        """The place of the frame of a message; 3 where it isn't what the id says."""
         try:
             place = place_of(frame)
         except Fault as fault:

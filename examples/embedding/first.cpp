@@ -16,7 +16,7 @@ public:
     ~Replica() { hk_close(&handle); }
     Replica(const Replica &) = delete;
     Replica &operator=(const Replica &) = delete;
-    // the one that is moved from is closed, so that the handle stands once
+    // a handle may be moved: the library keeps no address of it; the place before is closed, so that the handle stands once
     Replica(Replica &&other) noexcept : handle(other.handle) { other.handle = hk_handle HK_CLOSED; }
 
     void absorb(const std::vector<uint8_t> &piece) { uint8_t none = 0; done(hk_absorb(&handle, piece.empty() ? &none : piece.data(), piece.size())); }

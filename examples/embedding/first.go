@@ -18,7 +18,7 @@ import (
 	"unsafe"
 )
 
-// Replica holds a handle that C allocated, so that it never moves. One call at a time.
+// Replica points to its handle, so that a copy of the Replica is the same one. One call at a time.
 type Replica struct{ handle *C.hk_handle }
 
 // Refused is the number of a refusal.

@@ -7,4 +7,5 @@ with Replica(7, 1) as replica:
     with open(sys.argv[1], "rb") as file:
         replica.absorb(file.read())
     row = replica.get(1, 5)
-    print(f"tag {row.tag} body {row.body.hex()}")
+    if row is not None:
+        print(f"tag {row.tag} body {row.body.hex()}")

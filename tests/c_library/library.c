@@ -1,4 +1,5 @@
 /* Calls each function of the library as C89. library: checks, one line each, and then 'N passed, M failed'.
+   library moved: those of handles that are moved alone.
    library play: lines 'open LOG STREAMS' and 'call HEX' from standard input, each answered by a line 'NUMBER HEX'.
    library cut FILE: a replica is sent each front of the file's bytes. library mutate FILE COUNT: that many calls whose bytes are mutated.
    library starve FILE: each request for memory is refused in turn (linked with -Wl,--wrap=malloc -Wl,--wrap=realloc).
@@ -123,6 +124,30 @@ static void replies(void) {
     want("reply: beyond", hk_reply(&h, whole + 9, rest, sizeof rest) == 0 && hk_reply(&h, (size_t)-1, rest, sizeof rest) == 0 && hk_reply(&h, 0, rest, 0) == 0);
     want("call: cut", hk_call(&h, FRONT, 5, out, sizeof out, &n) == 1 && n == 23 && out[5] == 0x24 && out[6] == 1);
     hk_close(&h);
+}
+
+/* A handle in one place after the other: what it keeps goes with it, and nothing looks at a place before, which is overwritten or freed. */
+static void moved(void) {
+    hk_handle h = fresh(), peer = fresh(), *there = malloc(sizeof *there), *last = malloc(sizeof *last);
+    hk_bounds bounds; hk_found found; uint8_t out[64], rest[64]; size_t n, whole; uint64_t count;
+    fill(&h);
+    want("moved: a reply", hk_call(&h, FRONT, sizeof FRONT, out, sizeof out, &whole) == 0 && whole == 22);
+    want("moved: a frame that is cut off", hk_absorb(&h, ITEM, 20) == 0);
+    *there = h; memset(&h, 0x5a, sizeof h);
+    want("moved: the reply", hk_reply(there, 0, rest, sizeof rest) == whole && !memcmp(rest, out, whole));
+    want("moved: its rest", hk_absorb(there, ITEM + 20, sizeof ITEM - 20) == 0 && hk_absorb(there, ITEM, 7) == 0);
+    memcpy(last, there, sizeof *last); free(there);
+    want("moved: finish", hk_finish(last) == 1 && hk_absorb(last, MARK, sizeof MARK) == 0 && hk_finish(last) == 0);
+    want("moved: get", hk_get(last, 1, 1, 5, &found, out, sizeof out) == 0 && found.row && found.tag == 9 && out[0] == 0x41);
+    want("moved: count, front", hk_count(last, 1, 1, &count) == 0 && count == 1 && hk_front(last, &bounds) == 0 && bounds.readable == 1);
+    want("moved: range", hk_range(last, 1, 1, 0, 9, out, 4, &n) == 0 && n == sizeof ROW && hk_reply(last, 4, out, sizeof out) == n - 4);
+    want("moved: by tag", hk_by_tag(last, 1, 1, 9, 0, out, sizeof out, &n) == 0 && n == sizeof ROW && !memcmp(out, ROW, n));
+    want("moved: merge from it", hk_open(&peer, 7, 1) == 0 && hk_merge(&peer, last) == 0 && hk_count(&peer, 1, 1, &count) == 0 && count == 1);
+    h = peer; memset(&peer, 0x5a, sizeof peer);
+    want("moved: merge into it", hk_merge(last, &h) == 0 && hk_prune(last, 1) == 0 && hk_front(last, &bounds) == 0 && bounds.horizon == 1);
+    want("moved: opened again", hk_open(last, 7, 2) == 0 && last->live && hk_open(last, 7, 0) == 5 && !last->live);
+    hk_close(&h); hk_close(last); free(last);
+    want("moved: closed", !h.live && h.at == NULL);
 }
 
 static void words(void) {
@@ -285,7 +310,8 @@ int main(int argc, char **argv) {
     if (!strcmp(mode, "mutate")) return mutate(argc > 3 ? atol(argv[3]) : 10000);
     if (!strcmp(mode, "starve")) return starve();
     if (!strcmp(mode, "time")) return times(argc > 3 ? atol(argv[3]) : 1000000);
-    sizes(); closed(); reads(); feeding(); changes(); replies(); words(); threads();
+    if (!strcmp(mode, "moved")) moved();
+    else { sizes(); closed(); reads(); feeding(); changes(); replies(); moved(); words(); threads(); }
     printf("%d passed, %d failed\n", passed, failed);
     return failed != 0;
 }

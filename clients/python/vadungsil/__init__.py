@@ -14,3 +14,9 @@ from .values import (LAST_KEY, LAST_TIME, Ask, AskFront, ByTag, Count, Delta, Do
 from .writer import LogWriter, Transaction
 
 __version__ = "0.1.0"
+__all__ = ["LAST_KEY", "LAST_TIME", "REASONS", "Ask", "AskFront", "AsyncMoment", "AsyncNode", "ByTag", "Count", "Delta", "Done", "Entry",
+           "Fact", "Fault", "Feeder", "Fragment", "Front", "Full", "Get", "Head", "Hold", "Item", "Items", "JoinThis", "KeyRow", "Later",
+           "LinkBroken", "LogWriter", "Mark", "MergeThis", "NoNode", "Node", "NodeMoment", "Nodes", "NodesMoment", "NotResumable",
+           "Number", "One", "Pipeline", "Prune", "Put", "Range", "Refused", "ReplyFeeder", "RequestFeeder", "Row", "Rows", "Stream",
+           "TimeLimit", "Transaction", "VadungsilError", "VersionKey", "decode", "decode_reply", "decode_request", "encode",
+           "encode_reply", "encode_request", "explain", "export", "head_of", "later"]

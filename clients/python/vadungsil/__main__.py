@@ -2,12 +2,13 @@
 from __future__ import annotations
 
 import argparse
+import os
 import sys
 from typing import Any, List, Optional
 
 from . import __version__
 from .errors import LinkBroken, Refused, VadungsilError
-from .export import FORMS, export
+from .export import FORMS, export, is_standard_output
 from .items import Feeder
 from .node import Node
 from .nodes import Nodes
@@ -45,7 +46,8 @@ def parser() -> argparse.ArgumentParser:
     of = commands.add_parser("export", help="write all rows of one moment")
     of.add_argument("--at", type=int, metavar="T", help="the time; without it the readable mark")
     of.add_argument("--form", choices=FORMS, help="sqlite unless the file's ending says csv or jsonl")
-    of.add_argument("--out", default="-", metavar="FILE", help="where to; - is standard output, for csv and jsonl")
+    of.add_argument("--out", default="-", metavar="FILE", help="where to; - is standard output; into a device or a pipe go csv and jsonl")
+    of.add_argument("--force", action="store_true", help="also over a file that stands")
     of.add_argument("--tables", metavar="T,T", help="these tables alone")
     return it
 
@@ -60,12 +62,10 @@ def asked(node: Any, words: argparse.Namespace) -> str:
         return Rows(tuple(node.by_tag(words.table, words.tag, at=words.at))).line()
     if words.command == "count":
         return Number(node.count(words.table, at=words.at)).line()
-    form = words.form or (words.out.rsplit(".", 1)[-1] if words.out.endswith((".csv", ".jsonl")) else "sqlite")
-    if form == "sqlite" and words.out == "-":
-        form = "jsonl"
+    ending = words.out.rsplit(".", 1)[-1] if words.out.endswith((".csv", ".jsonl")) else "jsonl" if words.out == "-" else "sqlite"
     tables = [int(word) for word in words.tables.split(",")] if words.tables else None
-    rows = export(node, words.out, form, words.at, tables)
-    return "" if words.out == "-" else f"rows {rows}"
+    rows = export(node, words.out, words.form or ending, words.at, tables, words.force)
+    return "" if is_standard_output(words.out) else f"rows {rows}"
 
 
 def told(node: Node, words: argparse.Namespace, frames: Bytes) -> str:
@@ -106,6 +106,8 @@ def main(arguments: Optional[List[str]] = None) -> int:
         words_of.error("name a node: --port PORT, or --node HOST:PORT")
     try:
         lines = run(words)
+        if lines:
+            print(lines, flush=True)
     except Refused as refused:
         print(refused.line)
         print(refused, file=sys.stderr)
@@ -114,11 +116,19 @@ def main(arguments: Optional[List[str]] = None) -> int:
         print("refused 93")
         print(f"refused 93: {broken}; {REASONS[93].advice}", file=sys.stderr)
         return 1
+    except OSError as error:
+        return _failed(error)
     except (ValueError, VadungsilError) as error:
-        words_of.error(str(error))
-    if lines:
-        print(lines)
+        print(f"vadungsil: {error}", file=sys.stderr)
+        return 2
     return 0
+
+
+def _failed(error: OSError) -> int:
+    """Says what the system refused. What standard output still keeps goes nowhere, or Python would try again at its end."""
+    print(f"vadungsil: {error.filename or 'standard output'}: {error.strerror or error}", file=sys.stderr)
+    os.dup2(os.open(os.devnull, os.O_WRONLY), 1)
+    return 1
 
 
 if __name__ == "__main__":

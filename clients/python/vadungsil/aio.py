@@ -7,6 +7,7 @@ from collections import deque
 from typing import Any, Awaitable, Deque, List, Optional, Tuple
 
 from .errors import Fault, LinkBroken, TimeLimit
+from .later import Page, Streams
 from .link import Address, address_of
 from .messages import MOST_MESSAGE
 from .node import _ends_link
@@ -54,7 +55,9 @@ class _AsyncLink:
                 future.set_exception(error or LinkBroken(f"{self.name}: the link was closed"))
 
 
-class AsyncNode(Requests[Awaitable[Optional[Row]], Awaitable[List[KeyRow]], Awaitable[int], Awaitable[Front], Awaitable[Fragment]]):
+class AsyncNode(Requests[Awaitable[Optional[Row]], Awaitable[List[KeyRow]], Awaitable[int], Awaitable[Front], Awaitable[Fragment],
+                         Awaitable[Streams], Awaitable[Page], Awaitable[Tuple[int, Optional[Row]]], Awaitable[Tuple[int, List[KeyRow]]],
+                         Awaitable[Tuple[int, int]]]):
     """As `Node`, with awaitable answers: `async with AsyncNode(47000) as node:`, `await node.get(1, 5)`. `asyncio.gather` of many
     questions is a pipeline. `limit` is the most seconds from a request to its reply; past it the link is closed."""
 

@@ -2,12 +2,15 @@
 from __future__ import annotations
 
 import csv
+import errno
 import json
 import os
 import sqlite3
+import stat
 import sys
 import time as clock
-from typing import Any, Dict, Iterable, Iterator, List, Optional, TextIO
+from contextlib import contextmanager
+from typing import Any, Dict, Iterable, Iterator, List, Optional, TextIO, Tuple
 
 from .errors import Refused
 from .values import LAST_KEY, KeyRow
@@ -70,8 +73,11 @@ def _sqlite_key(key: int) -> Any:
 
 
 class _Sqlite:
+    """A SQLite file. It has no journal, for one that isn't whole is thrown away."""
+
     def __init__(self, path: str, time: int, tables: Dict[int, int]) -> None:
         self.base = sqlite3.connect(path)
+        self.base.execute("PRAGMA journal_mode = OFF")
         self.base.execute("CREATE TABLE moment (time INTEGER, tables INTEGER, rows INTEGER)")
         self.base.execute("INSERT INTO moment VALUES (?, ?, ?)", (time, len(tables), sum(tables.values())))
         for table in tables:
@@ -80,8 +86,10 @@ class _Sqlite:
     def write(self, table: int, rows: List[KeyRow]) -> None:
         self.base.executemany(f"INSERT INTO table_{table} VALUES (?, ?, ?)", ((_sqlite_key(key), row.tag, row.body) for key, row in rows))
 
-    def close(self) -> None:
+    def end(self) -> None:
         self.base.commit()
+
+    def close(self) -> None:
         self.base.close()
 
 
@@ -89,10 +97,11 @@ class _Text:
     def __init__(self, out: TextIO) -> None:
         self.out = out
 
-    def close(self) -> None:
+    def end(self) -> None:
         self.out.flush()
-        if self.out is not sys.stdout:
-            self.out.close()
+
+    def close(self) -> None:
+        """Whoever opened the file closes it."""
 
 
 class _Csv(_Text):
@@ -114,33 +123,81 @@ class _Json(_Text):
 FORMS = ("sqlite", "csv", "jsonl")
 
 
-def export(node: Any, path: str, form: str = "sqlite", at: Optional[int] = None, tables: Optional[Iterable[int]] = None) -> int:
-    """Writes all rows of one moment, and gives how many. `node` is a `Node` or `Nodes`; `path` may be `-` for CSV and JSON lines. The file
-    gets its name when it is whole: it is written beside it as `PATH.part`, which is taken away where the export fails."""
+def is_standard_output(path: str) -> bool:
+    """Whether a path leads to where standard output goes: `-`, or /dev/stdout under any name."""
+    try:
+        return path == "-" or os.path.samestat(os.stat(path), os.fstat(sys.stdout.fileno()))
+    except (OSError, ValueError, AttributeError):
+        return False
+
+
+def _is_new(path: str, force: bool) -> bool:
+    """Whether a file is to be made there. Else there is something that is no file, and is written into; a file that stands is refused."""
+    try:
+        found = os.stat(path).st_mode
+    except FileNotFoundError:
+        return True
+    if stat.S_ISDIR(found):
+        raise IsADirectoryError(errno.EISDIR, os.strerror(errno.EISDIR), path)
+    if stat.S_ISREG(found) and not force:
+        raise FileExistsError(errno.EEXIST, "a file of this name stands; --force puts the export in its place", path)
+    return stat.S_ISREG(found)
+
+
+def export(node: Any, path: str, form: str = "sqlite", at: Optional[int] = None, tables: Optional[Iterable[int]] = None,
+           force: bool = False) -> int:
+    """Writes all rows of one moment, and gives how many. `node` is a `Node` or `Nodes`.
+
+    A file is written beside its place, as `PATH.part`, and gets its name when it is whole; where the export fails it is taken away. A
+    file that stands is refused (`FileExistsError`), and so is a `PATH.part`, but with `force`. What stands and is no file, as a device or
+    a pipe, is never replaced: CSV and JSON lines are written into it, and what was written before a failure stays there; `-` is standard
+    output. SQLite needs a file (`ValueError`). What the system refuses is an `OSError` with the path and the reason."""
     if form not in FORMS:
         raise ValueError(f"no form: {form}")
-    moment = node.at(at)
-    counts = tables_at(moment, tables)
-    if path == "-":
-        if form == "sqlite":
-            raise ValueError("a SQLite file needs a name")
-        return _written((_Csv if form == "csv" else _Json)(sys.stdout), moment, counts)
+    is_standard = is_standard_output(path)
+    name = "standard output" if is_standard else path
+    is_file = not is_standard and _is_new(path, force)
+    if form == "sqlite" and not is_file:
+        raise ValueError(f"SQLite needs a file, and {name} is none: --form csv or jsonl can be written there")
+    try:
+        if is_file:
+            with _beside(os.path.realpath(path), force) as (part, text):
+                return _written(node.at(at), tables, form, text, part)
+        if is_standard:
+            return _written(node.at(at), tables, form, sys.stdout)
+        with open(os.open(path, os.O_WRONLY), "w", encoding="utf-8", newline="") as text:
+            return _written(node.at(at), tables, form, text)
+    except OSError as error:
+        raise OSError(error.errno, error.strerror, name) from error
+    except sqlite3.Error as error:
+        raise OSError(errno.EIO, str(error), name) from error
+
+
+@contextmanager
+def _beside(path: str, force: bool) -> Iterator[Tuple[str, TextIO]]:
+    """A new file beside a path, which gets its name at the end. It has no more rights than one that stands there."""
     part = f"{path}.part"
-    if os.path.exists(part):
+    rights = stat.S_IMODE(os.stat(path).st_mode) & 0o666 if os.path.exists(path) else 0o666
+    if force and os.path.isfile(part) and not os.path.islink(part):
         os.unlink(part)
     try:
-        out: Any = _Sqlite(part, moment.time, counts) if form == "sqlite" else \
-            (_Csv if form == "csv" else _Json)(open(part, "w", encoding="utf-8", newline=""))
-        rows = _written(out, moment, counts)
+        place = os.open(part, os.O_WRONLY | os.O_CREAT | os.O_EXCL, rights)
+    except FileExistsError:
+        raise FileExistsError(errno.EEXIST, f"{part} stands: another export is writing it, or was killed; --force takes it away") from None
+    try:
+        with open(place, "w", encoding="utf-8", newline="") as text:
+            yield part, text
+        if not _is_new(path, force):
+            raise FileExistsError(errno.EEXIST, "something that is no file has come to stand there")
         os.replace(part, path)
     except BaseException:
-        if os.path.exists(part):
-            os.unlink(part)
+        os.unlink(part)
         raise
-    return rows
 
 
-def _written(out: Any, moment: Any, counts: Dict[int, int]) -> int:
+def _written(moment: Any, tables: Optional[Iterable[int]], form: str, text: TextIO, part: str = "") -> int:
+    counts = tables_at(moment, tables)
+    out: Any = _Sqlite(part, moment.time, counts) if form == "sqlite" else (_Csv if form == "csv" else _Json)(text)
     progress = Progress(sum(counts.values()))
     try:
         for table, count in counts.items():
@@ -151,6 +208,7 @@ def _written(out: Any, moment: Any, counts: Dict[int, int]) -> int:
                 progress.add(len(rows))
                 if got == count:
                     break
+        out.end()
     finally:
         progress.end()
         out.close()

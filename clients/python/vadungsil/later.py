@@ -10,7 +10,8 @@ from .errors import Fault, Refused
 from .messages import (MOST_MESSAGE, Answer, answer_at, answer_bytes, facts_at, facts_bytes, framed, front_at, head_at, head_bytes, is_told, message_of,
                        operations_at, query_at, query_bytes, refused_at, refused_bytes, rows_at, rows_bytes)
 from .reading import Bytes, FrameFeeder, Reader, whole_frame
-from .values import LAST_KEY, LAST_TIME, MOST_STREAMS, Fact, Fragment, Front, KeyRow, Number, One, Query, Rows, Stream, key_of, number_in, rising, table_of, time_of
+from .values import (LAST_KEY, LAST_TIME, MOST_STREAMS, ByTag, Count, Fact, Fragment, Front, Get, KeyRow, Number, One, Query, Range, Rows, Stream, key_of,
+                     number_in, rising, table_of, time_of)
 
 _U32, _U64 = struct.Struct(">I").pack, struct.Struct(">Q").pack
 MOST_ROWS = 2 ** 32 - 1
@@ -507,8 +508,14 @@ def told_of(rest: bytes, *kinds: type) -> Any:
     return value
 
 
-def value_of_answer(answer: Answer) -> Any:
-    """A row or None, a list of rows, or a count."""
+_ANSWERS: Dict[type, type] = {Get: One, Range: Rows, ByTag: Rows, Count: Number}
+
+
+def value_of_answer(answer: Answer, query: Query) -> Any:
+    """A row or None, a list of rows, or a count, as the query asks for; an answer of another kind is 4."""
+    kind = _ANSWERS[type(query)]
+    if not isinstance(answer, kind):
+        raise Fault(4, place=f"an answer of {type(answer).__name__}, where {kind.__name__} was asked for")
     if isinstance(answer, One):
         return answer.row
     return answer.count if isinstance(answer, Number) else list(answer.rows)
@@ -519,11 +526,18 @@ def read_streams(rest: bytes) -> Streams:
     return streams
 
 
-def read_latest(rest: bytes) -> Tuple[int, Any]:
+def read_latest(rest: bytes, query: Query) -> Tuple[int, Any]:
     latest: Latest = told_of(rest, Latest)
-    return latest.time, value_of_answer(latest.answer)
+    return latest.time, value_of_answer(latest.answer, query)
 
 
-def read_page(rest: bytes) -> Page:
+def read_page(rest: bytes, asked: AskPage) -> Page:
+    """The page, of the keys that were asked for (6) and of so many rows at most (8). Where more follow, it has rows, and keys are left
+    behind them (8): so who asks for page after page comes to an end."""
     page: Page = told_of(rest, Page)
+    keys = [row.key for row in page.rows]
+    if keys and not asked.low <= keys[0] <= keys[-1] <= asked.high:
+        raise Fault(6, place=f"a page of the keys {keys[0]} to {keys[-1]}, where {asked.low} to {asked.high} were asked for")
+    if len(keys) > asked.most or (page.more and (not keys or keys[-1] == asked.high)):
+        raise Fault(8, place=f"a page of {len(keys)} rows{', behind which more follow' if page.more else ''}")
     return page

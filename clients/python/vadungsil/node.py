@@ -6,13 +6,14 @@ from types import TracebackType
 from typing import Any, Generic, Iterable, Iterator, List, Optional, Tuple, Type, TypeVar
 
 from .errors import Fault, LinkBroken, TimeLimit
-from .later import PART_BYTES
+from .later import PART_BYTES, Page, Streams
 from .link import Address, Link, address_of
 from .requests import FRONT, Moment, Read, Requests, ask_frame, read_front
 from .transfer import AnyPart, Hold, parts_from, parts_to
 from .values import LAST_KEY, LAST_TIME, Fact, Fragment, Front, KeyRow, Query, Row, Stream, time_of
 
 Result = TypeVar("Result")
+Own = TypeVar("Own", bound="Node")
 Rows_ = List[KeyRow]
 
 # So much of a pipeline is sent before its replies are looked at.
@@ -37,7 +38,8 @@ class Later(Generic[Result]):
         return value
 
 
-class Node(Requests[Optional[Row], Rows_, int, Front, Fragment]):
+class Node(Requests[Optional[Row], Rows_, int, Front, Fragment,
+                    Streams, Page, Tuple[int, Optional[Row]], Tuple[int, Rows_], Tuple[int, int]]):
     """A node: `Node(47000)`, `Node("127.0.0.1:47000")`. The link is opened with the first request, kept, and opened anew where it broke;
     a request whose reply did not come is then made once more, which is safe for all of them: a change made twice is as made once (the
     number that it tells is another). A time limit is not tried again: `TimeLimit` is raised.
@@ -156,7 +158,7 @@ class Node(Requests[Optional[Row], Rows_, int, Front, Fragment]):
         with self._lock:
             self._drop()
 
-    def __enter__(self) -> "Node":
+    def __enter__(self: Own) -> Own:
         return self
 
     def __exit__(self, kind: Optional[Type[BaseException]], error: Optional[BaseException], trace: Optional[TracebackType]) -> None:
@@ -197,7 +199,9 @@ class NodeMoment(Moment[Optional[Row], Rows_, int]):
         pass
 
 
-class Pipeline(Requests["Later[Optional[Row]]", "Later[Rows_]", "Later[int]", "Later[Front]", "Later[Fragment]"]):
+class Pipeline(Requests["Later[Optional[Row]]", "Later[Rows_]", "Later[int]", "Later[Front]", "Later[Fragment]",
+                        "Later[Streams]", "Later[Page]", "Later[Tuple[int, Optional[Row]]]", "Later[Tuple[int, Rows_]]",
+                        "Later[Tuple[int, int]]"]):
     """Requests that are sent together when the block is left, or by `run`. Each gives a `Later`; what a node refuses is raised by its
     `result`. Questions without a time are asked at the readable mark of when the first of them was written."""
 

@@ -88,7 +88,8 @@ class FrameFeeder(Generic[Value]):
     least, most, noun = 2, 2 ** 28, "frame"
 
     def __init__(self) -> None:
-        self._kept = bytearray()
+        # what came of the next frame, and how many bytes it has to be before it is looked at: till then a piece costs its own bytes alone
+        self._kept, self._wanted = bytearray(), 4
         self._fault: Optional[Refused] = None
         self.count = 0
 
@@ -106,13 +107,16 @@ class FrameFeeder(Generic[Value]):
             raise self._fault
         self._kept += piece
         found: List[Tuple[Value, bytes]] = []
-        data, at = bytes(self._kept), 0
+        if len(self._kept) < self._wanted:
+            return found
+        data, at, self._wanted = bytes(self._kept), 0, 4
         try:
             while len(data) - at >= 4:
                 size = int.from_bytes(data[at:at + 4], "big")
                 if size > self.most or size < self.least:
                     raise Fault(2 if size > self.most else 10, place=f"byte 0, length {size}")
                 if len(data) - at < 4 + size:
+                    self._wanted = 4 + size
                     break
                 found.append((self.decode(data[at + 4:at + 4 + size]), data[at:at + 4 + size]))
                 at += 4 + size

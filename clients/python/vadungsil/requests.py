@@ -1,7 +1,7 @@
 """What can be asked, for every kind of asker: a node, a pipeline, one moment, and their asyncio twins."""
 from __future__ import annotations
 
-from typing import Any, Callable, Generic, Iterable, List, Optional, TypeVar, Union
+from typing import Any, Callable, Generic, Iterable, List, Optional, TypeVar, Union, overload
 
 from .errors import Fault, Refused
 from .later import AskLatest, AskPage, AskStreams, encode_request as encode_later, read_latest, read_page, read_streams
@@ -14,6 +14,11 @@ RowsT = TypeVar("RowsT")
 NumberT = TypeVar("NumberT")
 FrontT = TypeVar("FrontT")
 FragmentT = TypeVar("FragmentT")
+StreamsT = TypeVar("StreamsT")
+PageT = TypeVar("PageT")
+LatestRowT = TypeVar("LatestRowT")
+LatestRowsT = TypeVar("LatestRowsT")
+LatestNumberT = TypeVar("LatestNumberT")
 Read = Callable[[bytes], Any]
 
 FRONT = framed(17, b"")
@@ -121,7 +126,8 @@ class Reads(Generic[RowT, RowsT, NumberT]):
         return self._read(at, Count(table), read_number)
 
 
-class Requests(Reads[RowT, RowsT, NumberT], Generic[RowT, RowsT, NumberT, FrontT, FragmentT]):
+class Requests(Reads[RowT, RowsT, NumberT],
+               Generic[RowT, RowsT, NumberT, FrontT, FragmentT, StreamsT, PageT, LatestRowT, LatestRowsT, LatestNumberT]):
     """All requests of docs/PROTOCOL.md. A change gives the number of the node's operations that ends with it."""
 
     def _call(self, request: bytes, read: Read) -> Any:
@@ -158,14 +164,24 @@ class Requests(Reads[RowT, RowsT, NumberT], Generic[RowT, RowsT, NumberT, FrontT
 
     # ------------------------------------------------------------ messages of version 2, which a node reads with `--messages 2`; else 3
 
-    def status(self) -> Any:
+    def status(self) -> StreamsT:
         """How far the node is, and each of its streams (`later.Streams`): also of a damaged node."""
         return self._call(encode_later(AskStreams()), read_streams)
 
+    @overload
+    def latest(self, query: Get) -> LatestRowT: ...
+
+    @overload
+    def latest(self, query: Union[Range, ByTag]) -> LatestRowsT: ...
+
+    @overload
+    def latest(self, query: Count) -> LatestNumberT: ...
+
     def latest(self, query: Query) -> Any:
         """The readable mark, and the answer to a question at it: `node.latest(Get(1, 5))`, in one exchange."""
-        return self._call(encode_later(AskLatest(query)), read_latest)
+        return self._call(encode_later(AskLatest(query)), lambda rest: read_latest(rest, query))
 
-    def page(self, table: int, low: int = 0, high: int = LAST_KEY, *, at: int, most: int = 1_000) -> Any:
+    def page(self, table: int, low: int = 0, high: int = LAST_KEY, *, at: int, most: int = 1_000) -> PageT:
         """The rows of the keys from low to high at a time, and as many as `most` of them, and whether more follow (`later.Page`)."""
-        return self._call(encode_later(AskPage(time_of(at), table, low, high, most)), read_page)
+        asked = AskPage(time_of(at), table, low, high, most)
+        return self._call(encode_later(asked), lambda rest: read_page(rest, asked))

@@ -6,8 +6,10 @@ from types import TracebackType
 from typing import Any, Callable, Iterable, Iterator, List, Optional, Type, Union
 
 from .errors import Fault
-from .later import AddPart, Added, AskHold, Done, Held, JoinParts, LastPart, MergeParts, More, Part, Release, Request, Whole, encode_request, told_of
+from .later import (AddPart, Added, AskHold, Done, Held, JoinParts, LastPart, MergeParts, More, Part, Release, Request, Whole, encode_request,
+                    told_of)
 from .link import Link
+from .values import VersionKey
 
 AnyPart = Union[Part, LastPart]
 
@@ -61,15 +63,40 @@ class Hold(OwnLink):
         self.close()
 
 
+class _Given:
+    """What the parts of one whole have told so far."""
+
+    def __init__(self) -> None:
+        self.count, self.whole, self.last = 0, None, None  # type: int, Optional[int], Optional[VersionKey]
+
+    def take(self, part: AnyPart) -> None:
+        """A part that goes on where the one before it ended: its facts come behind (7). Those so far and those to come are as many as the
+        first part told, and as the head tells; a part that isn't the last one has some (8). So the parts come to an end."""
+        if part.facts:
+            if self.last is not None and part.facts[0].version <= self.last:
+                raise Fault(7, place=f"a part from {part.facts[0].version}, behind {self.last}")
+            self.last = part.facts[-1].version
+        self.count += len(part.facts)
+        whole = self.count + part.left if isinstance(part, Part) else part.head.count
+        is_last = isinstance(part, LastPart)
+        if self.whole not in (None, whole) or (self.count != whole if is_last else not part.facts):
+            raise Fault(8, place=f"{self.count} facts with a part of {len(part.facts)}, which tells that the whole has {whole}")
+        self.whole = whole
+
+
 def parts_from(opened: Callable[[], Link], base: int, part_bytes: int) -> Iterator[AnyPart]:
     """The parts of what a node learnt since a base, or of all that it holds since 0; the last one is a `LastPart`. All are of the moment of
     the first."""
+    given = _Given()
     with OwnLink(opened()) as link:
-        part = link.ask(Whole(base, part_bytes), Part, LastPart)
-        while isinstance(part, Part):
+        request: Request = Whole(base, part_bytes)
+        while True:
+            part: AnyPart = link.ask(request, Part, LastPart)
+            given.take(part)
             yield part
-            part = link.ask(More(), Part, LastPart)
-        yield part
+            if isinstance(part, LastPart):
+                return
+            request = More()
 
 
 def parts_to(opened: Callable[[], Link], parts: Iterable[AnyPart]) -> int:

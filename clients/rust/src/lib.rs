@@ -54,7 +54,8 @@ pub struct Bounds {
     pub ops: u64,
 }
 
-/// A replica of one log. It may go to another thread, and is let go with the value.
+/// A replica of one log. It may go to another thread, and is let go with the value. The handle moves with it: the
+/// library keeps no address of a handle, and Rust lets nobody use the place that it was moved from.
 pub struct Replica {
     handle: sys::Handle,
     buffer: Vec<u8>,

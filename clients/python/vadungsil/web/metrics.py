@@ -43,7 +43,8 @@ NODE: List[Tuple[Family, Callable[[Watched], Any]]] = [
     (Family("vadungsil_horizon", "gauge", "The oldest time that can be asked for."), lambda it: it.state.horizon if it.state.is_known else None),
     (Family("vadungsil_readable", "gauge", "The readable mark: the newest time that can be asked for."),
      lambda it: it.state.readable if it.state.is_known else None),
-    (Family("vadungsil_links_opened_total", "counter", "Links to the node that were opened; a node gives out each of its links once."),
+    (Family("vadungsil_links_opened_total", "counter", "Links to the node that were opened. With --stay a node gives a link's place out again when the link has ended; without it each "
+            "place once."),
      lambda it: it.meters.links()[0]),
     (Family("vadungsil_links_failed_total", "counter", "Links to the node that broke or could not be opened."), lambda it: it.meters.links()[1]),
 ]
