@@ -358,6 +358,36 @@ def limits_and_links():
     report("time limits, links that break and are opened anew, and replies that are none", problems)
 
 
+def waited_for():
+    """A node that is asked before it listens is waited for, and only at first."""
+    port, problems = free_port(), []
+
+    async def late():
+        async with va.AsyncNode(port, wait=LIMIT) as node:
+            return await node.front()
+
+    with va.Node(port, wait=LIMIT) as node:
+        early = [POOL.submit(node.front), POOL.submit(asyncio.run, late())]
+        time.sleep(0.3)
+        with subprocess.Popen([PROGRAM, "serve", "--log", "7", "--streams", "1", "--port", str(port), "--links", "2"], stdout=subprocess.DEVNULL) as child:
+            problems += differ([("fronts", [it.result(LIMIT) for it in early], [va.Front(0, 0)] * 2)])
+            node.close()
+            problems += differ([("the end", child.wait(LIMIT), 0)])
+        start = time.monotonic()
+        try:
+            node.front()
+            problems.append("nobody listens, and it is answered")
+        except va.LinkBroken:
+            problems += differ([("once it was there", time.monotonic() - start < 2, True)])
+    start = time.monotonic()
+    try:
+        va.Node(free_port(), wait=0.3).front()
+        problems.append("nobody listens, and it is answered")
+    except va.LinkBroken as broken:
+        problems += differ([("how long", 0.3 <= time.monotonic() - start < 2, True), ("words", "refused" in str(broken), True)])
+    report("a node that listens later is waited for", problems)
+
+
 def asynchronous():
     problems = []
 
@@ -631,7 +661,7 @@ def syntax():
 
 
 CHECKS = (values, reasons, client_items, client_messages, client_faults, stored, syntax, program_items, program_replies, a_node, pipelines,
-          limits_and_links, *python_servers.CHECKS, asynchronous, many_nodes, log_writer, writer_refusals, resumed, commands, exports, export_places, wheel)
+          limits_and_links, waited_for, *python_servers.CHECKS, asynchronous, many_nodes, log_writer, writer_refusals, resumed, commands, exports, export_places, wheel)
 
 
 def main(words):

@@ -7,7 +7,7 @@ import sys
 from typing import Any, List, Optional
 
 from . import __version__
-from .errors import LinkBroken, Refused, VadungsilError
+from .errors import LinkBroken, Refused, TimeLimit, VadungsilError
 from .export import FORMS, export, is_standard_output
 from .items import Feeder
 from .node import Node
@@ -112,9 +112,13 @@ def main(arguments: Optional[List[str]] = None) -> int:
         print(refused.line)
         print(refused, file=sys.stderr)
         return 1
+    except TimeLimit as late:
+        print("refused 91")
+        print(f"refused 91: {late}; see whether the node runs, and whether all its links are taken, or give --limit more", file=sys.stderr)
+        return 1
     except LinkBroken as broken:
         print("refused 93")
-        print(f"refused 93: {broken}; {REASONS[93].advice}", file=sys.stderr)
+        print(f"refused 93: {broken}; see that a node listens there", file=sys.stderr)
         return 1
     except OSError as error:
         return _failed(error)

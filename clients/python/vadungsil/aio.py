@@ -2,13 +2,15 @@
 from __future__ import annotations
 
 import asyncio
+import errno
+import os
 import socket
 from collections import deque
 from typing import Any, Awaitable, Deque, List, Optional, Tuple
 
 from .errors import Fault, LinkBroken, TimeLimit
 from .later import Page, Streams
-from .link import Address, address_of
+from .link import PAUSE, Address, address_of, is_joined_with_itself
 from .messages import MOST_MESSAGE
 from .node import _ends_link
 from .requests import Moment, Read, Requests, ask_frame
@@ -61,8 +63,8 @@ class AsyncNode(Requests[Awaitable[Optional[Row]], Awaitable[List[KeyRow]], Awai
     """As `Node`, with awaitable answers: `async with AsyncNode(47000) as node:`, `await node.get(1, 5)`. `asyncio.gather` of many
     questions is a pipeline. `limit` is the most seconds from a request to its reply; past it the link is closed."""
 
-    def __init__(self, address: Address, limit: Optional[float] = 20.0, tries: int = 2) -> None:
-        self.address, self.limit, self.tries = address_of(address), limit, max(tries, 1)
+    def __init__(self, address: Address, limit: Optional[float] = 20.0, tries: int = 2, wait: float = 3.0) -> None:
+        self.address, self.limit, self.tries, self.wait = address_of(address), limit, max(tries, 1), wait
         self._link: Optional[_AsyncLink] = None
         self._opening: Optional[asyncio.Lock] = None
 
@@ -106,12 +108,27 @@ class AsyncNode(Requests[Awaitable[Optional[Row]], Awaitable[List[KeyRow]], Awai
         await link.writer.drain()
         return await future
 
+    async def _connected(self) -> Tuple[asyncio.StreamReader, asyncio.StreamWriter]:
+        """A connection; the first is tried again while nobody listens."""
+        until, self.wait = asyncio.get_running_loop().time() + self.wait, 0.0
+        while True:
+            try:
+                reader, writer = await asyncio.open_connection(*self.address, limit=2 ** 20)
+                if not is_joined_with_itself(writer.get_extra_info("socket")):
+                    return reader, writer
+                writer.close()
+                raise ConnectionRefusedError(errno.ECONNREFUSED, os.strerror(errno.ECONNREFUSED))
+            except ConnectionRefusedError:
+                if asyncio.get_running_loop().time() >= until:
+                    raise
+                await asyncio.sleep(PAUSE)
+
     async def _opened(self) -> _AsyncLink:
         if self._opening is None:
             self._opening = asyncio.Lock()
         async with self._opening:
             if self._link is None or not self._link.is_open:
-                reader, writer = await asyncio.open_connection(*self.address, limit=2 ** 20)
+                reader, writer = await self._connected()
                 writer.get_extra_info("socket").setsockopt(socket.IPPROTO_TCP, socket.TCP_NODELAY, 1)
                 self._link = _AsyncLink(self.name, reader, writer)
             return self._link

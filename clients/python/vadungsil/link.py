@@ -1,8 +1,11 @@
 """A link to a node: requests go out, replies come back in their order, within a time limit."""
 from __future__ import annotations
 
+import errno
+import os
 import select
 import socket
+import time
 from typing import List, Optional, Tuple, Union
 
 from .errors import Fault, LinkBroken, TimeLimit
@@ -25,13 +28,38 @@ def address_of(address: Address) -> Tuple[str, int]:
     return host, port
 
 
+# how long is waited between two tries to connect, in seconds
+PAUSE = 0.02
+
+
+def is_joined_with_itself(own: socket.socket) -> bool:
+    """Whether a socket is its own peer, as may come where nobody listens on a port that the system also hands out to clients."""
+    return bool(own.getsockname() == own.getpeername())
+
+
+def connected(address: Tuple[str, int], limit: Optional[float], wait: float) -> socket.socket:
+    """A connection, tried again for so many seconds while nobody listens."""
+    until = time.monotonic() + wait
+    while True:
+        try:
+            found = socket.create_connection(address, timeout=limit)
+            if not is_joined_with_itself(found):
+                return found
+            found.close()
+            raise ConnectionRefusedError(errno.ECONNREFUSED, os.strerror(errno.ECONNREFUSED))
+        except ConnectionRefusedError:
+            if time.monotonic() >= until:
+                raise
+            time.sleep(PAUSE)
+
+
 class Link:
     """One connection. After any error it is closed; it isn't opened again."""
 
-    def __init__(self, address: Tuple[str, int], limit: Optional[float]) -> None:
+    def __init__(self, address: Tuple[str, int], limit: Optional[float], wait: float = 0.0) -> None:
         self.name, self.limit = f"{address[0]}:{address[1]}", limit
         try:
-            self.socket = socket.create_connection(address, timeout=limit)
+            self.socket = connected(address, limit, wait)
         except socket.timeout:
             raise TimeLimit(f"{self.name}: no link within {limit} s") from None
         except OSError as error:

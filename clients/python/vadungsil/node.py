@@ -44,10 +44,11 @@ class Node(Requests[Optional[Row], Rows_, int, Front, Fragment,
     a request whose reply did not come is then made once more, which is safe for all of them: a change made twice is as made once (the
     number that it tells is another). A time limit is not tried again: `TimeLimit` is raised.
 
-    Threads may share a node; their requests go one after the other. `limit` is the most seconds of each wait, None without one."""
+    Threads may share a node; their requests go one after the other. `limit` is the most seconds of each wait, None without one. While
+    nobody listens the first link is tried again for `wait` seconds, so that a node may be asked that was started just before."""
 
-    def __init__(self, address: Address, limit: Optional[float] = 20.0, tries: int = 2) -> None:
-        self.address, self.limit, self.tries = address_of(address), limit, max(tries, 1)
+    def __init__(self, address: Address, limit: Optional[float] = 20.0, tries: int = 2, wait: float = 3.0) -> None:
+        self.address, self.limit, self.tries, self.wait = address_of(address), limit, max(tries, 1), wait
         self._link: Optional[Link] = None
         self._lock = threading.RLock()
 
@@ -131,7 +132,7 @@ class Node(Requests[Optional[Row], Rows_, int, Front, Fragment,
 
     def _exchange_once(self, requests: List[bytes], found: List[bytes]) -> None:
         if self._link is None:
-            self._link = Link(self.address, self.limit)
+            self._link = self._own_link()
         while len(found) < len(requests):
             part = requests[len(found):len(found) + WINDOW]
             come: List[bytes] = []
@@ -146,7 +147,8 @@ class Node(Requests[Optional[Row], Rows_, int, Front, Fragment,
 
     def _own_link(self) -> Link:
         """Another link, for what the node keeps for a link."""
-        return Link(self.address, self.limit)
+        wait, self.wait = self.wait, 0.0
+        return Link(self.address, self.limit, wait)
 
     def _drop(self) -> None:
         if self._link is not None:

@@ -32,7 +32,7 @@ class Nodes(Reads[Optional[Row], List[KeyRow], int]):
     """`Nodes([47000, "other:47000"])`: each question goes to the next node in turn that can read its time. Threads may share it."""
 
     def __init__(self, addresses: Iterable[Address], limit: Optional[float] = 20.0) -> None:
-        self.nodes = [Node(address, limit) for address in addresses]
+        self.nodes = [Node(address, limit, wait=0.0) for address in addresses]
         if not self.nodes:
             raise ValueError("no addresses")
         self._turn, self._lock = 0, threading.Lock()

@@ -95,7 +95,7 @@ class Watched:
     """A node that is asked how it stands every so many seconds, by a thread of its own, and questions between. Threads may share it."""
 
     def __init__(self, address: Address, limit: float = 10.0, every: float = 1.0, changed: Optional[Callable[[], None]] = None) -> None:
-        self.node = Node(address, limit, tries=1)
+        self.node = Node(address, limit, tries=1, wait=0.0)
         self.name, self.limit, self.every = self.node.name, limit, every
         self.meters = Meters()
         self.state = State()
