@@ -151,6 +151,7 @@ def where_it_can_not(export, path):
         device.unlink()
     with open("/dev/full", "wb") as full:
         problems += told("a full standard output", export("-", stdout=full), 1, "standard output: No space left on device")
+    problems += told("a closed standard output", export("-", before=["bash", "-c", 'exec "$@" >&-', "-"]), 1, "standard output: is closed")
     problems += differ([("nothing is left", sorted(it.name for it in path.iterdir()), [])])
     return problems
 

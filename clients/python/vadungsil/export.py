@@ -9,7 +9,7 @@ import sqlite3
 import stat
 import sys
 import time as clock
-from contextlib import contextmanager
+from contextlib import contextmanager, suppress
 from typing import Any, Dict, Iterable, Iterator, List, Optional, TextIO, Tuple
 
 from .errors import Refused
@@ -164,6 +164,8 @@ def export(node: Any, path: str, form: str = "sqlite", at: Optional[int] = None,
             with _beside(os.path.realpath(path), force) as (part, text):
                 return _written(node.at(at), tables, form, text, part)
         if is_standard:
+            if sys.stdout is None:
+                raise OSError(errno.EBADF, "is closed")
             return _written(node.at(at), tables, form, sys.stdout)
         with open(os.open(path, os.O_WRONLY), "w", encoding="utf-8", newline="") as text:
             return _written(node.at(at), tables, form, text)
@@ -191,7 +193,8 @@ def _beside(path: str, force: bool) -> Iterator[Tuple[str, TextIO]]:
             raise FileExistsError(errno.EEXIST, "something that is no file has come to stand there")
         os.replace(part, path)
     except BaseException:
-        os.unlink(part)
+        with suppress(FileNotFoundError):
+            os.unlink(part)
         raise
 
 
