@@ -1,11 +1,9 @@
 //! Requests as bytes: `push` and `load`.
 
-use crate::link::{Link, asked_of, later_asked_of};
+use crate::link::{Link, asked_of};
 use hk_commands::{Output, Pieces, Stop, read_pieces};
-use hk_later::{Asked, AskedFeeder, Reply as LaterReply, Request as LaterRequest, Told};
-use hk_reasons::Asked as AskedTime;
 use hk_types::{FormFault, Refusal};
-use hk_wire::{Reply, Request};
+use hk_wire::{LaterReply, LaterRequest, Reply, Request, RequestFeeder};
 use std::io::{Read, Write};
 use std::mem;
 
@@ -13,45 +11,27 @@ use std::mem;
 const BAD_KIND: Refusal = Refusal::Form(FormFault::BadKind);
 
 /// Whether a request hands a whole or a part of one to a node.
-fn is_fragment(request: &Asked) -> bool {
-    match request {
-        Asked::One(request) => matches!(request, Request::JoinThis(_) | Request::MergeThis(_)),
-        Asked::Later(request) => matches!(
-            request,
-            LaterRequest::AddPart(_) | LaterRequest::JoinParts(_) | LaterRequest::MergeParts(_)
-        ),
-    }
+fn is_fragment(request: &Request) -> bool {
+    matches!(
+        request,
+        Request::JoinThis(_)
+            | Request::MergeThis(_)
+            | Request::Later(
+                LaterRequest::AddPart(_) | LaterRequest::JoinParts(_) | LaterRequest::MergeParts(_)
+            )
+    )
 }
 
 /// Whether a request hands a part to a node: where it is refused, those behind it would make a fragment that lacks it.
-fn is_part(request: &Asked) -> bool {
-    matches!(request, Asked::Later(LaterRequest::AddPart(_)))
-}
-
-/// The time that a request asks for.
-fn time_of(request: &Asked) -> AskedTime {
-    match request {
-        Asked::One(request) => asked_of(request),
-        Asked::Later(request) => later_asked_of(request),
-    }
+fn is_part(request: &Request) -> bool {
+    matches!(request, Request::Later(LaterRequest::AddPart(_)))
 }
 
 /// Why a reply refuses its request.
-fn refusal_of(reply: &Told) -> Option<Refusal> {
+fn refusal_of(reply: &Reply) -> Option<Refusal> {
     match reply {
-        Told::One(Reply::Refused(why)) | Told::Later(LaterReply::Refused(why)) => Some(*why),
+        Reply::Refused(why) | Reply::Later(LaterReply::Refused(why)) => Some(*why),
         _other => None,
-    }
-}
-
-/// Prints a reply.
-fn print_reply<W: Write, E: Write>(
-    reply: &Told,
-    output: &mut Output<'_, W, E>,
-) -> Result<(), Stop> {
-    match reply {
-        Told::One(reply) => output.print(reply),
-        Told::Later(reply) => output.print(reply),
     }
 }
 
@@ -64,7 +44,7 @@ pub(crate) enum Accepted {
 }
 
 /// Whether a request is sent.
-fn is_accepted(accepted: Accepted, request: &Asked) -> bool {
+fn is_accepted(accepted: Accepted, request: &Request) -> bool {
     matches!(accepted, Accepted::All) || is_fragment(request)
 }
 
@@ -74,9 +54,9 @@ struct Pusher<'k, 'l, 'o, 'p, W: Write, E: Write> {
     link: &'k mut Link<'l>,
     output: &'o mut Output<'p, W, E>,
     accepted: Accepted,
-    feeder: AskedFeeder,
+    feeder: RequestFeeder<2>,
     /// Those of a read.
-    requests: Vec<Asked>,
+    requests: Vec<Request>,
     /// Whether a reply was a refusal.
     is_refused: bool,
 }
@@ -92,7 +72,7 @@ impl<'k, 'l, 'o, 'p, W: Write, E: Write> Pusher<'k, 'l, 'o, 'p, W, E> {
             link,
             output,
             accepted,
-            feeder: AskedFeeder::new(alloc),
+            feeder: RequestFeeder::new(alloc),
             requests: Vec::new(alloc),
             is_refused: false,
         }
@@ -104,16 +84,16 @@ impl<'k, 'l, 'o, 'p, W: Write, E: Write> Pusher<'k, 'l, 'o, 'p, W, E> {
             if !is_accepted(self.accepted, request) {
                 return Err(Stop::RefusedAt(BAD_KIND, self.link.next_origin()));
             }
-            let reply = self.link.ask_either(request)?;
+            let reply = self.link.ask(request)?;
             if let Some(why) = refusal_of(&reply) {
-                let origin = self.link.origin(time_of(request));
+                let origin = self.link.origin(asked_of(request));
                 if is_part(request) {
                     return Err(Stop::RefusedAt(why, origin));
                 }
                 self.is_refused = true;
                 self.output.tell(origin, &why);
             }
-            print_reply(&reply, self.output)?;
+            self.output.print(&reply)?;
             self.output.flush()?;
         }
         Ok(())
@@ -137,7 +117,7 @@ impl<W: Write, E: Write> Pieces for Pusher<'_, '_, '_, '_, W, E> {
     }
 
     fn end(&mut self) -> Result<(), Stop> {
-        let feeder = mem::replace(&mut self.feeder, AskedFeeder::new(self.link.alloc()));
+        let feeder = mem::replace(&mut self.feeder, RequestFeeder::new(self.link.alloc()));
         self.checked(feeder.finish())
     }
 }

@@ -300,7 +300,8 @@ pub fn serve_bytes<const LATEST: u8, W: Write, H: Host>(
     ensures stopped { WritesPart LATEST H.may host.old host.new W.contents writer.old writer.new
         bytes.now result }
     // What was done and written for the bytes.
-    ensures transcript { StepsBy H.may host.old host.new W.contents writer.old writer.new bytes.now (Ends LATEST result) }
+    ensures transcript { StepsBy H.may host.old host.new W.contents writer.old writer.new
+        bytes.now (Ends LATEST result) }
     ensures ready { H.ready host.new }
     // They stand in memory, so no read fails.
     ensures reads { result ≢ ends.ReadFault }

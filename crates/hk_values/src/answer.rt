@@ -83,7 +83,7 @@ fn read_many(alloc: Global, cursor: &mut Cursor, count: u32) -> Result<Vec<(Key,
 
 /// Reads the rows behind their count. A key that isn't above the one before it is `BadOrder`.
 #[tactic(auto, unfolding(crate::specs::Answers::rows_at))]
-pub fn read_rows(alloc: Global, cursor: &mut Cursor) -> Result<Vec<(Key, Row)>, ReadError>
+pub(crate) fn read_rows(alloc: Global, cursor: &mut Cursor) -> Result<Vec<(Key, Row)>, ReadError>
     ensures { GivesOrRunsOut (λ x. (x.items, cursor.new)) result (spec.rows_at cursor.old) }
 {
     let count = cursor.u32()?;
@@ -138,7 +138,7 @@ pub fn read_answer(alloc: Global, cursor: &mut Cursor) -> Result<Answer, ReadErr
 }
 
 /// Whether the keys rise strictly.
-pub fn keys_rise(rows: &[(Key, Row)]) -> bool
+pub(crate) fn keys_rise(rows: &[(Key, Row)]) -> bool
     ensures { result ≡ spec.keys_rise None rows.now }
 {
     let mut before = None;
@@ -179,7 +179,7 @@ fn keyed_len(keyed: &(Key, Row)) -> u64
 }
 
 /// How many bytes the rows have, without their count.
-pub fn rows_len(rows: &[(Key, Row)]) -> u64
+pub(crate) fn rows_len(rows: &[(Key, Row)]) -> u64
     requires { length rows.now < 2 ^ 32 }
     ensures len { result ≡ length (flat_map spec.keyed_text rows.now) }
     ensures bound { result ≤ 4110 * length rows.now }
@@ -229,7 +229,7 @@ fn put_keyed(out: &mut Vec<u8>, key: Key, row: &Row) -> Result<(), AllocError>
 
 /// Adds the rows behind their count.
 #[tactic(auto, using(std::proofs::Common::append_assoc, hk_frames::proofs::Prefix::kept_all, hk_frames::proofs::Prefix::kept_before, hk_frames::proofs::Prefix::kept_both))]
-pub fn put_rows(out: &mut Vec<u8>, rows: &[(Key, Row)]) -> Result<(), AllocError>
+pub(crate) fn put_rows(out: &mut Vec<u8>, rows: &[(Key, Row)]) -> Result<(), AllocError>
     requires { length rows.now < 2 ^ 32 }
     ensures ok { OnOk result (out.new.items ≡ out.old.items ++ spec.rows_text rows.now) }
     ensures kept { OnErr result (take (length out.old.items) out.new.items ≡ out.old.items) }

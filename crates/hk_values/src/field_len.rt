@@ -38,7 +38,7 @@ pub fn key_len(key: Key) -> u64
 }
 
 /// How many bytes a tag has.
-pub fn tag_len(tag: Tag) -> u64
+pub(crate) fn tag_len(tag: Tag) -> u64
     ensures len { result ≡ 4 }
     ensures fits { tag < 2 ^ 32 }
 {

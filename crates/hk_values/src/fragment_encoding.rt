@@ -40,7 +40,7 @@ fn stream_is_counted(got: &Got, s: StreamNo) -> bool
 }
 
 /// Whether the numbers and the marks of the streams can be counted: no count is above 2^32 - 1.
-pub fn streams_are_counted(got: &Got) -> bool
+pub(crate) fn streams_are_counted(got: &Got) -> bool
     ensures { result ≡ spec.streams_are_counted (map spec.wire_stream_of got.now) }
 {
     for index in 0..got.streams() {
@@ -73,7 +73,7 @@ fn stream_len(got: &Got, s: StreamNo) -> u64
 }
 
 /// How many bytes the streams have.
-pub fn streams_len(got: &Got) -> u64
+pub(crate) fn streams_len(got: &Got) -> u64
     requires { spec.streams_are_counted (map spec.wire_stream_of got.now) ≡ true }
     ensures len { result ≡ length (spec.streams_text got.now) }
     ensures bound { result ≤ 2 ^ 43 }
@@ -147,7 +147,7 @@ pub fn facts_len(facts: &[(VersionKey, Version)]) -> u64
 }
 
 /// How many bytes stand before the streams. The number of streams is read for what its type says of it.
-pub fn head_len(config: Config, base: Time, horizon: Time) -> u64
+pub(crate) fn head_len(config: Config, base: Time, horizon: Time) -> u64
     ensures len { result ≡ 26 }
     ensures log { config.log < 2 ^ 64 }
     ensures streams { (1 ≤ config.streams) × (config.streams ≤ 64) }
@@ -234,7 +234,7 @@ fn put_stream(out: &mut Vec<u8>, got: &Got, s: StreamNo) -> Result<(), AllocErro
 
 /// Adds what is told of the streams.
 #[tactic(auto, using(std::proofs::Common::append_assoc, hk_frames::proofs::Prefix::kept_all, hk_frames::proofs::Prefix::kept_before, hk_frames::proofs::Prefix::kept_both))]
-pub fn put_streams(out: &mut Vec<u8>, got: &Got) -> Result<(), AllocError>
+pub(crate) fn put_streams(out: &mut Vec<u8>, got: &Got) -> Result<(), AllocError>
     requires { spec.streams_are_counted (map spec.wire_stream_of got.now) ≡ true }
     ensures ok { OnOk result (out.new.items ≡ out.old.items ++ spec.streams_text got.now) }
     ensures kept { OnErr result (take (length out.old.items) out.new.items ≡ out.old.items) }
@@ -315,7 +315,8 @@ pub fn put_facts(out: &mut Vec<u8>, facts: &[(VersionKey, Version)]) -> Result<(
 #[tactic(auto, using(std::proofs::Common::append_assoc, hk_frames::proofs::Prefix::kept_all, hk_frames::proofs::Prefix::kept_before, hk_frames::proofs::Prefix::kept_both), unfolding(crate::specs::Fragments::fragment_text))]
 pub fn put_fragment(out: &mut Vec<u8>, fragment: &Fragment) -> Result<(), AllocError>
     requires { spec.is_counted (spec.wire_fragment_of fragment.now) ≡ true }
-    ensures ok { OnOk result (out.new.items ≡ out.old.items ++ spec.fragment_text (spec.wire_fragment_of fragment.now)) }
+    ensures ok { OnOk result (out.new.items ≡ out.old.items
+        ++ spec.fragment_text (spec.wire_fragment_of fragment.now)) }
     ensures kept { OnErr result (take (length out.old.items) out.new.items ≡ out.old.items) }
 {
     let config = fragment.config();

@@ -29,10 +29,10 @@ const LEAST_FACT_BYTES: usize = 25;
 
 /// What a fragment begins with: the log, the number of its streams, the base and the horizon.
 #[derive(Clone, Copy)]
-pub struct Start {
-    pub config: Config,
-    pub base: Time,
-    pub horizon: Time,
+pub(crate) struct Start {
+    pub(crate) config: Config,
+    pub(crate) base: Time,
+    pub(crate) horizon: Time,
 }
 
 /// Reads the base and the horizon.
@@ -52,7 +52,7 @@ fn read_bounds(cursor: &mut Cursor) -> Result<(Time, Time), FormFault>
 /// Reads the log, the number of its streams, the base and the horizon. A number of streams outside 1 to 64 is
 /// `BadStream`, a time above 2^62 and a base that is neither 0 nor at least the horizon `BadNumber`.
 #[tactic(auto, unfolding(crate::specs::Fragments::stream_count_at))]
-pub fn read_fragment_head(cursor: &mut Cursor) -> Result<Start, FormFault>
+pub(crate) fn read_fragment_head(cursor: &mut Cursor) -> Result<Start, FormFault>
     ensures read { GivesValue (λ x. (steps.head_seen x, cursor.new)) result (spec.fragment_head_at cursor.old) }
     ensures above { IfOk result (λ x. ((x.base == 0) || nat_le x.horizon x.base) ≡ true) }
 {
@@ -225,7 +225,7 @@ fn read_streams(cursor: &mut Cursor, got: &mut Got, count: u16) -> Result<(), Re
 /// Reads the streams of a log, none of them closed below the horizon. Numbers or marks that don't rise are `BadOrder`,
 /// and those outside their range, or a horizon above the least closed time, `BadNumber`.
 #[tactic(auto, unfolding(crate::specs::Fragments::streams_at))]
-pub fn read_got(
+pub(crate) fn read_got(
     alloc: Global,
     cursor: &mut Cursor,
     config: Config,
@@ -347,7 +347,7 @@ fn read_fact(
 
 /// Reads so many facts. No more is reserved for them than what is left can hold. Versions that don't rise are
 /// `BadOrder`, and what may not stand in a fragment with this base and this horizon `BadNumber`.
-pub fn read_facts(
+pub(crate) fn read_facts(
     alloc: Global,
     cursor: &mut Cursor,
     base: Time,
@@ -371,7 +371,8 @@ pub fn read_facts(
 /// growth is refused. Cost: O(n · log n), n bytes of it.
 #[tactic(auto, unfolding(crate::specs::Fragments::fragment_at))]
 pub fn read_fragment(alloc: Global, cursor: &mut Cursor) -> Result<Fragment, ReadError>
-    ensures { GivesOrRunsOut (λ x. (spec.wire_fragment_of x, cursor.new)) result (spec.fragment_at cursor.old) }
+    ensures { GivesOrRunsOut (λ x. (spec.wire_fragment_of x, cursor.new)) result
+        (spec.fragment_at cursor.old) }
 {
     let head = read_fragment_head(cursor)?;
     let got = read_got(alloc, cursor, head.config, head.horizon)?;

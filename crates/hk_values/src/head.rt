@@ -113,7 +113,8 @@ impl Head {
     #[tactic(auto, using(std::proofs::Common::append_assoc, hk_frames::proofs::Prefix::kept_all, hk_frames::proofs::Prefix::kept_before, hk_frames::proofs::Prefix::kept_both), unfolding(crate::specs::Parts::head_text))]
     pub fn put_to(&self, out: &mut Vec<u8>) -> Result<(), AllocError>
         requires { spec.head_is_counted (spec.wire_head_of self.now) ≡ true }
-        ensures ok { OnOk result (out.new.items ≡ out.old.items ++ spec.head_text (spec.wire_head_of self.now)) }
+        ensures ok { OnOk result (out.new.items ≡ out.old.items
+            ++ spec.head_text (spec.wire_head_of self.now)) }
         ensures kept { OnErr result (take (length out.old.items) out.new.items ≡ out.old.items) }
     {
         put_u64(out, self.config.log())?;

@@ -1,4 +1,4 @@
-//! One session over a host of a node, in both versions.
+//! One session of both versions, over a host of parts and holds.
 
 ghost use Rattle.std.specs.Prelude.{◌≡◌};
 ghost use mathlib.Core.List.{IsPrefix};
@@ -15,7 +15,7 @@ use std::io::{Read, Write};
 /// then is asked to be released, and no other, as `PartsHost::end` does. Gives how it ended, the host for version 1, and of
 /// the link's holds those that stand, with which the next link of the place begins. Cost: that of the session and of the
 /// releases.
-pub fn serve_both<H: NodeSide + Drop, I: Read + Drop, O: Write + Drop>(
+pub fn serve_parts<H: NodeSide + Drop, I: Read + Drop, O: Write + Drop>(
     alloc: Global,
     link: PartsHost<'_, H>,
     reader: &mut Counted<I>,
@@ -30,7 +30,7 @@ pub fn serve_both<H: NodeSide + Drop, I: Read + Drop, O: Write + Drop>(
         I.remaining reader.old reader.new O.contents writer.old writer.new result }
 {
     let mut served = link;
-    let ended = serve(alloc, reader, writer, &mut served);
+    let ended = serve::<2, _, _, _>(alloc, reader, writer, &mut served);
     let (inner, left) = served.end();
     (ended, inner, left)
 }

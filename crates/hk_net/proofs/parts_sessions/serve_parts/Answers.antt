@@ -1,5 +1,5 @@
 use Rattle.hk_net.proofs.BothSeen.{both_step}
-use Rattle.hk_net.proofs.both_sessions.serve_both.Goals as goal
+use Rattle.hk_net.proofs.parts_sessions.serve_parts.Goals as goal
 
 pub returns-clause-seen : goal.returns-clause-seen
 returns-clause-seen g c = let told = c.serve-ended.ensures.transcript in both_step _ _ _ _ _ _ _ told.0 _ told.2 c.end-inner.ensures.seen
