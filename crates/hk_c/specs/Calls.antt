@@ -14,9 +14,11 @@ use Rattle.hk_model.specs.Replica.Answers.{AnswerValue, reply, One, Rows, Number
 use Rattle.hk_model.specs.Replica.Content.{Content, readable}
 use Rattle.hk_model.specs.Replica.Fragments.{cut}
 use Rattle.hk_codec.specs.Frames.{Adds, Feeds, KeepsFault, KeepsOnMemory, last_answer}
-use Rattle.hk_wire.specs.Answers.{keyed_text}
+use Rattle.hk_values.specs.Answers.{keyed_text}
 use Rattle.hk_wire.specs.declared.reply.Reply.{Reply}
 use Rattle.hk_wire.specs.declared.reply.Reply.TheVariants as replied
+use Rattle.hk_wire.specs.declared.later_reply.LaterReply.{LaterReply}
+use Rattle.hk_wire.specs.declared.later_reply.LaterReply.TheVariants as later
 use Rattle.hk_wire.specs.declared.request.Request.{Request}
 use Rattle.hk_wire.specs.declared.request.Request.TheVariants as requests
 use Rattle.hk_c.specs.declared.found.Found.{Found}
@@ -26,10 +28,10 @@ use Rattle.hk_types.specs.Numbers.{checked_config}
 use Rattle.hk_model.specs.Replica.Replicas.{empty_content}
 use Rattle.hk_session.specs.Values.{HostValue}
 use Rattle.hk_session.specs.Steps.{Step}
-use Rattle.hk_session.specs.VersionOne.{version_one}
 use Rattle.hk_session.specs.Transcript.{Transcript, PartialTranscript, IsDone, IsStopped}
 use Rattle.hk_session.specs.Endings.{ended_number}
 use Rattle.hk_session.specs.declared.ended.Ended.{Ended}
+use Rattle.hk_session.specs.declared.ended.Ended.TheVariants.{ReadFault}
 use Rattle.hk_c.specs.declared.replica.Replica.{Replica}
 
 -- the handle holds a replica of this log that took nothing, where the number is 0, and nothing where it is another
@@ -41,15 +43,15 @@ Opened (Some r) log streams number = (number ≡ 0) × (config : ConfigValue) ×
 -- that where memory ran out.
 abbrev pub Answered : Replica → Replica → List ℕ → Ended → Type 0
 Answered old new bytes ended =
-    (IsDone ended → Transcript version_one Step old.host new.host bytes new.reply.items)
-    × (IsStopped ended → PartialTranscript version_one Step old.host new.host bytes new.reply.items)
+    (IsDone ended → Transcript 1 Step old.host new.host bytes new.reply.items)
+    × (IsStopped ended → PartialTranscript 1 Step old.host new.host bytes new.reply.items)
 
 -- the same by the number, at what a handle holds
 abbrev pub Called : Option Replica → Option Replica → List ℕ → ℕ → Type 0
 Called None None bytes number = number ≡ 255
 Called None (Some new) bytes number = ⊥
 Called (Some old) None bytes number = ⊥
-Called (Some old) (Some new) bytes number = (ended : Ended) × (number ≡ ended_number ended) × Answered old new bytes ended × (new.feeder ≡ old.feeder)
+Called (Some old) (Some new) bytes number = (ended : Ended) × (number ≡ ended_number ended) × (ended ≢ ReadFault) × Answered old new bytes ended × (new.feeder ≡ old.feeder)
 
 -- the reply that a handle keeps
 abbrev pub kept_reply : Option Replica → List ℕ
@@ -135,13 +137,19 @@ Tagged old new time table tag low needed before after number = Listed old new ti
 
 -- ---- changes
 
--- 0 where a host did not refuse, else the number of the refusal
+-- 0 where a reply of version 2 is no refusal, else the number of the refusal
+abbrev pub later_number : LaterReply → ℕ
+later_number (later.Refused why) = refusal_number why
+later_number other = 0
+
+-- the same of a reply
 abbrev pub reply_number : Reply → ℕ
 reply_number (replied.Done ops) = 0
 reply_number (replied.Front front) = 0
 reply_number (replied.Fragment fragment) = 0
 reply_number (replied.Answer answer) = 0
 reply_number (replied.Refused why) = refusal_number why
+reply_number (replied.Later reply) = later_number reply
 
 abbrev pub done_number : Result (Unit {0}) Refusal → ℕ
 done_number (Ok done) = 0
@@ -162,6 +170,7 @@ IsItems (requests.Ask t query) items = ⊥
 IsItems (requests.JoinThis fragment) items = ⊥
 IsItems (requests.MergeThis fragment) items = ⊥
 IsItems (requests.Prune horizon) items = ⊥
+IsItems (requests.Later request) items = ⊥
 
 -- the items were taken, where there are some, as the host takes them
 abbrev pub Taken : Replica → Replica → List Item → ℕ → Type 0

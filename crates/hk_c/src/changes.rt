@@ -10,7 +10,7 @@ use hk_delta::whole_of;
 use hk_log::Item;
 use hk_session::Host;
 use hk_types::{Refusal, Time};
-use hk_wire::{Reply, Request};
+use hk_wire::{LaterReply, Reply, Request};
 use std::alloc::Global;
 use std::mem::replace;
 
@@ -19,7 +19,7 @@ fn number_of(reply: &Reply) -> u8
     ensures { result ≡ reply_number reply.now }
 {
     match reply {
-        Reply::Refused(why) => why.number(),
+        Reply::Refused(why) | Reply::Later(LaterReply::Refused(why)) => why.number(),
         _done => 0,
     }
 }

@@ -97,6 +97,7 @@ fn copy_prefix(from: &[u8], to: &mut [u8]) -> usize
 #[unsafe(no_mangle)]
 pub extern "C" fn hk_reply(alloc: Global, handle: &mut Handle, from: usize, out: &mut [u8]) -> usize
     ensures kept { handle.new.replica ≡ handle.old.replica }
+    ensures count { result ≡ min (length (drop from (kept_reply handle.old.replica))) (length out.old) }
     ensures copied { out.new ≡ take result (drop from (kept_reply handle.old.replica)) ++ drop result out.old }
 {
     match replace(handle, Handle::none()).into_box(alloc) {

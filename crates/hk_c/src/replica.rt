@@ -1,8 +1,9 @@
 //! A replica that answers requests, with what is cut off of its items, and its last reply.
 
-ghost use Rattle.std.specs.Prelude.{◌≡◌, [], Ok, Some, ⊤, MatchResult, IfOk, IfErr, OnOk, OnErr};
+ghost use Rattle.std.specs.Prelude.{◌≡◌, ◌≢◌, [], Ok, Some, ⊤, MatchResult, IfOk, IfErr, OnOk, OnErr};
 ghost use Rattle.hk_model.specs.Replica.Answers.{answer_seen, One, Rows, Number};
 ghost use Rattle.hk_model.specs.declared.query.Query.TheVariants.{Get, Count};
+ghost use Rattle.hk_session.specs.declared.ended.Ended.TheVariants.{ReadFault};
 ghost use Rattle.hk_c.specs.Calls.{Answered, Lists, Opened, WhyNot, asked_reply};
 
 use crate::listing::put_rows;
@@ -39,10 +40,11 @@ impl Replica {
     /// Answers these requests, one after the other, and keeps the replies.
     pub(crate) fn answer(&mut self, alloc: Global, requests: &[u8]) -> Ended
         ensures answered { Answered self.old self.new requests.now result }
+        ensures reads { result ≢ ReadFault }
         ensures fed { self.new.feeder ≡ self.old.feeder }
     {
         let mut writer = Counted::new(Vec::new(alloc));
-        let ended = serve_bytes(alloc, requests, &mut writer, &mut self.host);
+        let ended = serve_bytes::<1, _, _>(alloc, requests, &mut writer, &mut self.host);
         self.reply = writer.into_inner();
         ended
     }

@@ -5,7 +5,7 @@ ghost use Rattle.std.specs.Prelude.{◌≡◌, ◌≤◌, IfOk};
 use crate::notice::Notice;
 use hk_cli_calls::IS_PROVED;
 use hk_commands::{Output, Stop};
-use hk_net::{NetFault, PartsBudget, guard_links, serve_links, serve_links_in_both};
+use hk_net::{NetFault, PartsBudget, guard_links, serve_links};
 use hk_node::{NewList, NodeName, start};
 use hk_reasons::Place;
 use hk_session::Ended;
@@ -88,13 +88,14 @@ fn serve_list<
     let (node, seats) = start::<J, &R>(rt, alloc, list, links.count())?;
     output.print(&Notice::Listening(port))?;
     output.flush()?;
-    let served = match parts_bytes {
-        Some(most) => {
-            let budget = PartsBudget::new(most);
-            serve_links_in_both(rt, alloc, &listener, &node, is_guarded, &budget, seats)
-        }
-        None if is_guarded => guard_links(rt, alloc, &listener, &node, seats),
-        None => serve_links(rt, alloc, &listener, &node, seats),
+    let budget = match parts_bytes {
+        Some(most) => Some(PartsBudget::new(most)),
+        None => None,
+    };
+    let served = if is_guarded {
+        guard_links(rt, alloc, &listener, &node, budget.as_ref(), seats)
+    } else {
+        serve_links(rt, alloc, &listener, &node, budget.as_ref(), seats)
     };
     let ends = served.map_err(stop_of)?;
     print_ends(&ends, output)
@@ -113,8 +114,8 @@ fn serve_list<
 /// - `refused 90` where memory ran out for the node or the list of links;
 /// - no line where a write failed or took no bytes: the status alone tells it.
 ///
-/// Each number above 0 and each such line is told to `errors` in words. Cost: that of `start`, and of `serve_links`, of
-/// `guard_links` or of `serve_links_in_both`.
+/// Each number above 0 and each such line is told to `errors` in words. Cost: that of `start`, and of `serve_links` or
+/// `guard_links`.
 pub fn run_serve<
     R: Net<Listener = TcpListener, Stream = TcpStream> + Threads + Wait + Sync,
     W: Write,

@@ -1,10 +1,11 @@
 -- The lines that are printed of replies, each with its line feed.
 use Rattle.std.specs.Prelude.{ℕ, List, ◌++◌, length, codes}
 use Rattle.std.specs.Fmt.{decimal}
-use Rattle.hk_wire.specs.Fragments.{WireFragment}
+use Rattle.hk_values.specs.Fragments.{WireFragment}
 use Rattle.hk_wire.specs.Replies.{ReplyValue}
-use Rattle.hk_wire.specs.Replies.ReplyValue.{Done, Front, Fragment, Answer, Refused}
+use Rattle.hk_wire.specs.Replies.ReplyValue.{Done, Front, Fragment, Answer, Refused, Later}
 use Rattle.hk_lines.specs.Lines.{line_end, answer_lines, refusal_line, front_line}
+use Rattle.hk_lines.specs.LaterReplies as later
 
 -- what is printed of a fragment: where it begins, its horizon, and of how many versions it tells
 abbrev pub part_line : ℕ → ℕ → ℕ → List ℕ
@@ -20,3 +21,4 @@ reply_lines (Front horizon readable) = front_line horizon readable
 reply_lines (Fragment f) = fragment_line f
 reply_lines (Answer a) = answer_lines a
 reply_lines (Refused why) = refusal_line why
+reply_lines (Later reply) = later.reply_lines reply

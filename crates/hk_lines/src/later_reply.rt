@@ -4,13 +4,13 @@ ghost use Rattle.std.specs.Prelude.{◌≡◌, ◌++◌, length, OnOk};
 ghost use Rattle.std.specs.String.{string_bytes};
 ghost use Rattle.hk_model.specs.Replica.Pages.{page_seen};
 ghost use Rattle.hk_model.specs.Replica.StreamsTold.{streams_seen as seen};
-ghost use Rattle.hk_later.specs.Replies.{reply_seen};
+ghost use Rattle.hk_wire.specs.LaterReplies.{reply_seen};
 ghost use Rattle.hk_lines.specs.LaterReplies as spec;
 
 use crate::line::{Printed, put_rows};
-use hk_later::Reply;
 use hk_model::{Page, StreamTold, StreamsTold};
 use hk_types::Time;
+use hk_wire::LaterReply;
 use std::alloc::{AllocError, Global};
 
 fn put_taken(stream: usize, told: &StreamTold, out: &mut String) -> Result<(), AllocError>
@@ -116,30 +116,30 @@ fn put_page(alloc: Global, page: &Page, out: &mut String) -> Result<(), AllocErr
     out.push('\n')
 }
 
-impl Printed for Reply {
+impl Printed for LaterReply {
     ghost text = { λ reply. spec.reply_lines (reply_seen reply) };
 
     fn print_to(&self, alloc: Global, out: &mut String) -> Result<(), AllocError> {
         match self {
-            Reply::Done { ops } => writeln!(out, "done {ops}"),
-            Reply::Streams(told) => put_streams(told, out),
-            Reply::Latest { t, answer } => {
+            LaterReply::Done { ops } => writeln!(out, "done {ops}"),
+            LaterReply::Streams(told) => put_streams(told, out),
+            LaterReply::Latest { t, answer } => {
                 writeln!(out, "latest {t}")?;
                 answer.print_to(alloc, out)
             }
-            Reply::Page(page) => put_page(alloc, page, out),
-            Reply::Part { facts, left } => {
+            LaterReply::Page(page) => put_page(alloc, page, out),
+            LaterReply::Part { facts, left } => {
                 let count = facts.len();
                 writeln!(out, "part {count} left {left}")
             }
-            Reply::LastPart { facts, head } => {
+            LaterReply::LastPart { facts, head } => {
                 let count = facts.len();
                 let base = head.base();
                 writeln!(out, "last part {count} base {base}")
             }
-            Reply::Added { count } => writeln!(out, "added {count}"),
-            Reply::Held { number, t } => writeln!(out, "held {number} at {t}"),
-            Reply::Refused(refusal) => refusal.print_to(alloc, out),
+            LaterReply::Added { count } => writeln!(out, "added {count}"),
+            LaterReply::Held { number, t } => writeln!(out, "held {number} at {t}"),
+            LaterReply::Refused(refusal) => refusal.print_to(alloc, out),
         }
     }
 }

@@ -29,6 +29,7 @@ impl Printed for Reply {
             }
             Reply::Answer(answer) => answer.print_to(alloc, out),
             Reply::Refused(refusal) => refusal.print_to(alloc, out),
+            Reply::Later(later) => later.print_to(alloc, out),
         }
     }
 }

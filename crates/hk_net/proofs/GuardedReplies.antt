@@ -11,7 +11,6 @@ use Rattle.hk_wire.specs.declared.reply.Reply.{Reply}
 use Rattle.hk_wire.specs.Replies.{ReplyValue, Done}
 use Rattle.hk_session.specs.declared.ended.Ended.{Ended}
 use Rattle.hk_session.specs.Transcript.{Answers, Ends, SessionStep}
-use Rattle.hk_session.specs.VersionOne.{version_one}
 use Rattle.hk_node.specs.declared.op.Op.{Op}
 use Rattle.hk_node.specs.Guarded.{JoinsAgreedSome}
 use Rattle.hk_node.specs.Lists.{last_of}
@@ -47,6 +46,6 @@ guarded_seen config old new (q ∷ qs) [] h = absurd h
 
 -- so it is of a session's seat
 pub guarded_step : (config : ConfigValue) (seat old new back : List Op) (before after : Option (List ℕ)) (bytes : List ℕ) (e : Ended) → old ≡ seat → back ≡ new
-    → SessionStep (MayReplyGuarded config) old new before after bytes (Ends version_one e) → IsPrefix seat back
+    → SessionStep (MayReplyGuarded config) old new before after bytes (Ends 1 e) → IsPrefix seat back
 guarded_step config seat old new back before after bytes e made given step =
     subst (λ (s : List Op). IsPrefix s back) made (subst (λ (s : List Op). IsPrefix old s) (sym given) (guarded_seen config old new step.requests step.replies step.answers))

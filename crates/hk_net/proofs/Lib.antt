@@ -1,5 +1,3 @@
-mod BothNeverCut
-mod BothLaws
 mod WholeGiven
 mod LettingGo
 mod LinkHolds
@@ -7,3 +5,4 @@ mod JoinRequests
 mod Seen
 mod GuardedReplies
 mod BothSeen
+mod LinkReplies

@@ -4,7 +4,7 @@ use Rattle.std.proofs.Math.Seq.{take-append_seam}
 use Rattle.std.proofs.lemmas.Grind.{take-set_at}
 use Rattle.std.proofs.lemmas.List.{length-set, take_all}
 use Rattle.hk_types.specs.declared.faults.Refusal.{Refusal}
-use Rattle.hk_later.specs.Replies.{ReplyValue}
+use Rattle.hk_wire.specs.LaterReplies.{ReplyValue}
 use Rattle.hk_node.specs.declared.op.Hold.{Hold}
 use Rattle.hk_net.specs.LinkStates.{LinkValue}
 use Rattle.hk_net.specs.LaterReplying.{AsksHold, AsksHoldInPlace}

@@ -6,7 +6,6 @@ use Rattle.hk_wire.specs.declared.request.Request.{Request}
 use Rattle.hk_wire.specs.declared.reply.Reply.{Reply}
 use Rattle.hk_session.specs.declared.ended.Ended.{Ended}
 use Rattle.hk_session.specs.Transcript.{Answers, Ends, SessionStep}
-use Rattle.hk_session.specs.VersionOne.{version_one}
 use Rattle.hk_node.specs.declared.op.Op.{Op}
 use Rattle.hk_wire.specs.declared.request.Request.TheVariants.{JoinThis, MergeThis}
 use Rattle.hk_wire.specs.Replies.{ReplyValue}
@@ -39,11 +38,11 @@ no_change_is old new request f reply (inr is) told = subst (λ (q : Request). Is
 
 -- so it is of a session's seat, from which the host was made and which it gives back
 pub served_step : (config : ConfigValue) (seat old new back : List Op) (before after : Option (List ℕ)) (bytes : List ℕ) (e : Ended) → old ≡ seat → back ≡ new
-    → SessionStep (MayReply config) old new before after bytes (Ends version_one e) → IsPrefix seat back
+    → SessionStep (MayReply config) old new before after bytes (Ends 1 e) → IsPrefix seat back
 served_step config seat old new back before after bytes e made given step =
     subst (λ (s : List Op). IsPrefix s back) made (subst (λ (s : List Op). IsPrefix old s) (sym given) (served_seen config old new step.requests step.replies step.answers))
 
 pub read_step : (seat old new back : List Op) (before after : Option (List ℕ)) (bytes : List ℕ) (e : Ended) → old ≡ seat → back ≡ new
-    → SessionStep MayOnlyRead old new before after bytes (Ends version_one e) → IsPrefix seat back
+    → SessionStep MayOnlyRead old new before after bytes (Ends 1 e) → IsPrefix seat back
 read_step seat old new back before after bytes e made given step =
     subst (λ (s : List Op). IsPrefix s back) made (subst (λ (s : List Op). IsPrefix old s) (sym given) (read_seen old new step.requests step.replies step.answers))

@@ -7,8 +7,8 @@ use Rattle.hk_fragment.specs.Parts.{Known}
 use Rattle.hk_parts.specs.Cutting.{count_within, facts_of_parts, first_part, part_len, rest_after}
 use Rattle.hk_parts.specs.Heads.{facts_of, head_of, of_facts}
 use Rattle.hk_parts.specs.Sizes.{fact_bytes}
-use Rattle.hk_later.specs.Parts.{wire_head_of}
-use Rattle.hk_later.specs.Replies.{ReplyValue, Part, LastPart}
+use Rattle.hk_values.specs.Parts.{wire_head_of}
+use Rattle.hk_wire.specs.LaterReplies.{ReplyValue, Part, LastPart}
 use Rattle.hk_net.specs.LinkStates.{GivingValue, begun}
 use Rattle.hk_net.specs.GivenWhole.{IsGivenWhole, all_replies, facts_told, heads_told, replies_for}
 

@@ -3,8 +3,8 @@ use Rattle.std.specs.Prelude.{◌≡◌, ℕ, zero, suc, List, [], ◌∷◌, le
 use Rattle.hk_model.specs.Replica.Fragments.{FragmentValue}
 use Rattle.hk_fragment.specs.Parts.{Known}
 use Rattle.hk_parts.specs.Heads.{facts_of, head_of, of_parts}
-use Rattle.hk_later.specs.Parts.{WireHead, wire_head_of}
-use Rattle.hk_later.specs.Replies.{ReplyValue, Part, LastPart}
+use Rattle.hk_values.specs.Parts.{WireHead, wire_head_of}
+use Rattle.hk_wire.specs.LaterReplies.{ReplyValue, Part, LastPart}
 use Rattle.hk_net.specs.LinkStates.{GivingValue, begun, giving_after, part_told}
 
 -- the replies to so many requests for a next part, as long as there is one

@@ -12,17 +12,14 @@ use Rattle.hk_model.specs.Replica.Pages.{PageValue}
 use Rattle.hk_fragment.specs.Parts.{Known}
 use Rattle.hk_parts.specs.Heads.{Head, of_facts}
 use Rattle.hk_parts.specs.Cutting.{rises}
-use Rattle.hk_wire.specs.declared.request.Request.{Request as FirstRequest}
+use Rattle.hk_wire.specs.declared.request.Request.{Request}
 use Rattle.hk_wire.specs.declared.request.Request.TheVariants as first_asked
-use Rattle.hk_wire.specs.declared.reply.Reply.{Reply as FirstReply}
+use Rattle.hk_wire.specs.declared.reply.Reply.{Reply}
+use Rattle.hk_wire.specs.declared.reply.Reply.TheVariants as first_told
 use Rattle.hk_wire.specs.Replies as first
-use Rattle.hk_later.specs.declared.both.Asked.{Asked}
-use Rattle.hk_later.specs.declared.both.Asked.TheVariants as either_asked
-use Rattle.hk_later.specs.declared.both.Told.{Told}
-use Rattle.hk_later.specs.declared.both.Told.TheVariants as either_told
-use Rattle.hk_later.specs.declared.request.Request.{Request}
-use Rattle.hk_later.specs.declared.request.Request.TheVariants as asked
-use Rattle.hk_later.specs.Replies.{ReplyValue, Done, Streams, Latest, Page, Added, Held, Refused, reply_seen}
+use Rattle.hk_wire.specs.declared.later_request.LaterRequest.{LaterRequest}
+use Rattle.hk_wire.specs.declared.later_request.LaterRequest.TheVariants as asked
+use Rattle.hk_wire.specs.LaterReplies.{ReplyValue, Done, Streams, Latest, Page, Added, Held, Refused, reply_seen}
 use Rattle.hk_node.specs.declared.op.Hold.{Hold}
 use Rattle.hk_node.specs.NodeContent.{NodeContent}
 use Rattle.hk_node.specs.Replay.{is_legal, replay}
@@ -124,20 +121,20 @@ change_told (first.Done ops) = Done ops
 change_told (first.Refused why) = Refused why
 change_told other = Refused (refusals.Form BadKind)
 
-abbrev pub change_seen : FirstReply → ReplyValue
+abbrev pub change_seen : Reply → ReplyValue
 change_seen answer = change_told (first.reply_seen answer)
 
 -- what is put together is joined as the host for version 1 joins it, or its first fault is told
-abbrev pub JoinsMade : {S : Type 0} → (S → FirstRequest → FirstReply → S → Type 0) → S → Result FragmentValue FormFault → ReplyValue → S → Type 0
+abbrev pub JoinsMade : {S : Type 0} → (S → Request → Reply → S → Type 0) → S → Result FragmentValue FormFault → ReplyValue → S → Type 0
 JoinsMade may old (Err fault) reply new = (reply ≡ Refused (refusals.Form fault)) × (new ≡ old)
-JoinsMade may old (Ok f) reply new = (answer : FirstReply) × may old (first_asked.JoinThis f) answer new × (reply ≡ change_seen answer)
+JoinsMade may old (Ok f) reply new = (answer : Reply) × may old (first_asked.JoinThis f) answer new × (reply ≡ change_seen answer)
 
 -- nothing came any more, and nothing else changed but the host for version 1
 abbrev pub LetsGo : {S : Type 0} → LinkValue S → LinkValue S → Type 0
 LetsGo old new = new ≡ record old { inner = new.inner; came = [] }
 
 -- the facts that came are put together with the head, and none is kept
-abbrev pub IsJoined : {S : Type 0} → (S → FirstRequest → FirstReply → S → Type 0) → LinkValue S → Head → ReplyValue → LinkValue S → Type 0
+abbrev pub IsJoined : {S : Type 0} → (S → Request → Reply → S → Type 0) → LinkValue S → Head → ReplyValue → LinkValue S → Type 0
 IsJoined may old head reply new = JoinsMade may old.inner (of_facts head old.came) reply new.inner × LetsGo old new
 
 -- ---- holds
@@ -197,7 +194,7 @@ AreLetGo {S} may_release old (hold ∷ holds) new = (mid : S) × IsLetGo may_rel
 -- ---- each request
 
 -- what is replied to a request of version 2, over a host that is as this says, and may reply so to requests of version 1
-abbrev pub IsLaterReply : {S : Type 0} → Sided S → (S → FirstRequest → FirstReply → S → Type 0) → LinkValue S → Request → ReplyValue → LinkValue S → Type 0
+abbrev pub IsLaterReply : {S : Type 0} → Sided S → (S → Request → Reply → S → Type 0) → LinkValue S → LaterRequest → ReplyValue → LinkValue S → Type 0
 IsLaterReply side may old asked.Streams reply new = Looks side old streams_reply reply new
 IsLaterReply side may old (asked.AskLatest query) reply new = Looks side old (λ c. latest_reply c query) reply new
 IsLaterReply side may old (asked.Page t table low high most) reply new = Looks side old (λ c. page_reply c t table low high most) reply new
@@ -210,15 +207,15 @@ IsLaterReply side may old (asked.Hold t) reply new = IsHeld side.may_hold old t 
 IsLaterReply side may old (asked.Release number) reply new = IsReleased side.may_release old number reply new
 
 -- a request of version 1 goes to the host for version 1, and its reply comes back
-abbrev pub IsFirstReply : {S : Type 0} → (S → FirstRequest → FirstReply → S → Type 0) → LinkValue S → FirstRequest → FirstReply → LinkValue S → Type 0
+abbrev pub IsFirstReply : {S : Type 0} → (S → Request → Reply → S → Type 0) → LinkValue S → Request → Reply → LinkValue S → Type 0
 IsFirstReply may old request reply new = may old.inner request reply new.inner × KeepsOther old new
 
 -- each request is replied to in its version
-abbrev pub IsBothReply : {S : Type 0} → Sided S → (S → FirstRequest → FirstReply → S → Type 0) → LinkValue S → Asked → Told → LinkValue S → Type 0
-IsBothReply side may old (either_asked.One request) (either_told.One reply) new = IsFirstReply may old request reply new
-IsBothReply side may old (either_asked.Later request) (either_told.Later reply) new = IsLaterReply side may old request (reply_seen reply) new
-IsBothReply side may old request reply new = ⊥
+abbrev pub IsLinkReply : {S : Type 0} → Sided S → (S → Request → Reply → S → Type 0) → LinkValue S → Request → Reply → LinkValue S → Type 0
+IsLinkReply side may old (first_asked.Later request) (first_told.Later reply) new = IsLaterReply side may old request (reply_seen reply) new
+IsLinkReply side may old (first_asked.Later request) reply new = ⊥
+IsLinkReply side may old request reply new = IsFirstReply may old request reply new
 
 -- what a host over such a one may do: its seat's list begins with the one before, and the reply is so
-abbrev pub MayReplyBoth : {S : Type 0} → Sided S → (S → FirstRequest → FirstReply → S → Type 0) → LinkValue S → Asked → Told → LinkValue S → Type 0
-MayReplyBoth side may old request reply new = IsPrefix (side.list old.inner) (side.list new.inner) × IsBothReply side may old request reply new
+abbrev pub MayReplyBoth : {S : Type 0} → Sided S → (S → Request → Reply → S → Type 0) → LinkValue S → Request → Reply → LinkValue S → Type 0
+MayReplyBoth side may old request reply new = IsPrefix (side.list old.inner) (side.list new.inner) × IsLinkReply side may old request reply new

@@ -1,4 +1,3 @@
-pub mod BothVersions
 pub mod Faults
 pub mod Guarded
 pub mod Replying

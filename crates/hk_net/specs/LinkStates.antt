@@ -10,8 +10,8 @@ use Rattle.hk_parts.specs.Sizes.{facts_bytes}
 use Rattle.hk_parts.specs.Cutting.{first_part, rest_after}
 use Rattle.hk_parts.specs.Heads.{facts_of, head_of}
 use Rattle.hk_parts.specs.Values.{SplitValue, known_code}
-use Rattle.hk_later.specs.Parts.{wire_head_of}
-use Rattle.hk_later.specs.Replies.{ReplyValue, Part, LastPart, Refused}
+use Rattle.hk_values.specs.Parts.{wire_head_of}
+use Rattle.hk_wire.specs.LaterReplies.{ReplyValue, Part, LastPart, Refused}
 use Rattle.hk_node.specs.declared.op.Hold.{Hold}
 
 -- ---- what a link keeps

@@ -42,6 +42,10 @@ abbrev pub IsItemsReply : ConfigValue → List Op → List Op → Result Fragmen
 IsItemsReply config old new (Ok fragment) reply = IsChangeReply config old new (Join fragment) reply ⊎ ((reply ≡ Refused refusals.Memory) × (new ≡ old))
 IsItemsReply config old new (Err why) reply = (reply ≡ Refused why) × (new ≡ old)
 
+-- the reply to a request that has no meaning for a host: its kind is refused, and the seat's list is as before
+abbrev pub IsNoChange : List Op → List Op → ReplyValue → Type 0
+IsNoChange old new reply = (reply ≡ Refused (refusals.Form BadKind)) × (new ≡ old)
+
 -- what is replied to a request by a host of a node of this log, whose seat had a list and has another after it
 abbrev pub IsReplyTo : ConfigValue → List Op → List Op → Request → ReplyValue → Type 0
 IsReplyTo config old new asked.Front reply = IsOrOutOfMemory (front_reply (node_front (replay new))) reply
@@ -52,14 +56,11 @@ IsReplyTo config old new (asked.Items items) reply = IsItemsReply config old new
 IsReplyTo config old new (asked.JoinThis fragment) reply = IsChangeReply config old new (Join fragment) reply
 IsReplyTo config old new (asked.MergeThis fragment) reply = IsChangeReply config old new (Join fragment) reply
 IsReplyTo config old new (asked.Prune horizon) reply = IsChangeReply config old new (PruneTo horizon) reply
+IsReplyTo config old new (asked.Later request) reply = IsNoChange old new reply
 
 -- what a host over a node of this log may do: its seat's list is legal and begins with the one before, and the reply is so
 abbrev pub MayReply : ConfigValue → List Op → Request → Reply → List Op → Type 0
 MayReply config old request answer new = (is_legal new ≡ true) × IsPrefix old new × IsReplyTo config old new request (reply_seen answer)
-
--- the reply to a change by a host that only reads: its kind has no meaning there, and the seat's list is as before
-abbrev pub IsNoChange : List Op → List Op → ReplyValue → Type 0
-IsNoChange old new reply = (reply ≡ Refused (refusals.Form BadKind)) × (new ≡ old)
 
 -- what is replied to a request by a host that only reads
 abbrev pub IsReading : List Op → List Op → Request → ReplyValue → Type 0
@@ -71,6 +72,7 @@ IsReading old new (asked.Items items) reply = IsNoChange old new reply
 IsReading old new (asked.JoinThis fragment) reply = IsNoChange old new reply
 IsReading old new (asked.MergeThis fragment) reply = IsNoChange old new reply
 IsReading old new (asked.Prune horizon) reply = IsNoChange old new reply
+IsReading old new (asked.Later request) reply = IsNoChange old new reply
 
 -- what a host over a seat alone may do: its list is legal and begins with the one before, and the reply is so
 abbrev pub MayOnlyRead : List Op → Request → Reply → List Op → Type 0

@@ -4,11 +4,9 @@ use Rattle.hk_types.specs.Values.{ConfigValue}
 use Rattle.hk_session.specs.declared.ended.Ended.{Ended}
 use Rattle.hk_session.specs.Serving.{Serves}
 use Rattle.hk_session.specs.Values.{CountedValue}
-use Rattle.hk_session.specs.VersionOne.{version_one}
 use Rattle.hk_node.specs.declared.op.Op.{Op}
 use Rattle.hk_wire.specs.declared.request.Request.{Request}
 use Rattle.hk_wire.specs.declared.reply.Reply.{Reply}
-use Rattle.hk_net.specs.BothVersions.{both_versions}
 use Rattle.hk_net.specs.Guarded.{MayReplyGuarded}
 use Rattle.hk_net.specs.LaterReplying.{AreLetGo, MayReplyBoth}
 use Rattle.hk_net.specs.LinkStates.{LinkValue}
@@ -22,16 +20,16 @@ Outcome = Ended × List Op
 -- a session of a host over a node of this log
 abbrev pub ServesNode : {R W : Type 0} → ConfigValue → List Op → (R → Option (List ℕ)) → CountedValue R → CountedValue R → (W → Option (List ℕ)) → CountedValue W → CountedValue W → Outcome → Type 0
 ServesNode config seat remaining reader reader_after contents old new result =
-    Serves version_one (MayReply config) seat result.1 remaining reader reader_after contents old new result.0
+    Serves 1 (MayReply config) seat result.1 remaining reader reader_after contents old new result.0
 
 -- the same of a host that tests changes first
 abbrev pub ServesGuarded : {R W : Type 0} → ConfigValue → List Op → (R → Option (List ℕ)) → CountedValue R → CountedValue R → (W → Option (List ℕ)) → CountedValue W → CountedValue W → Outcome → Type 0
 ServesGuarded config seat remaining reader reader_after contents old new result =
-    Serves version_one (MayReplyGuarded config) seat result.1 remaining reader reader_after contents old new result.0
+    Serves 1 (MayReplyGuarded config) seat result.1 remaining reader reader_after contents old new result.0
 
 -- the same of a host that only reads
 abbrev pub ServesReader : {R W : Type 0} → List Op → (R → Option (List ℕ)) → CountedValue R → CountedValue R → (W → Option (List ℕ)) → CountedValue W → CountedValue W → Outcome → Type 0
-ServesReader seat remaining reader reader_after contents old new result = Serves version_one MayOnlyRead seat result.1 remaining reader reader_after contents old new result.0
+ServesReader seat remaining reader reader_after contents old new result = Serves 1 MayOnlyRead seat result.1 remaining reader reader_after contents old new result.0
 
 -- how the session of a link ended, the host for version 1 after it, and what is left beside
 abbrev pub LinkOutcome : Type 0 → Type 0 → Type 0
@@ -41,5 +39,5 @@ LinkOutcome S V = Ended × S × V
 abbrev pub Runs : {S R W V : Type 0} → (S → Request → Reply → S → Type 0) → Sided S → LinkValue S → (R → Option (List ℕ)) → CountedValue R → CountedValue R
     → (W → Option (List ℕ)) → CountedValue W → CountedValue W → LinkOutcome S V → Type 0
 Runs {S} may side link remaining reader reader_after contents old new result =
-    (last : LinkValue S) × Serves both_versions (MayReplyBoth side may) link last remaining reader reader_after contents old new result.0
+    (last : LinkValue S) × Serves 2 (MayReplyBoth side may) link last remaining reader reader_after contents old new result.0
     × AreLetGo side.may_release last.inner last.holds result.1

@@ -1,16 +1,17 @@
 //! The parts that came over a link, with the room that is taken for them.
 
 ghost use Rattle.std.specs.Prelude.{◌≡◌, [], IfSome};
-ghost use Rattle.hk_later.specs.Replies.{reply_seen};
+ghost use Rattle.hk_wire.specs.LaterReplies.{reply_seen};
 ghost use Rattle.hk_net.specs.LaterReplying.{TellsCome};
 ghost use Rattle.hk_net.specs.LinkStates.{weight, weight_counted};
 
 use crate::parts_budget::{PartsBudget, Room};
-use hk_later::{Reply, sizes_law};
 use hk_log::Version;
 use hk_parts::Assembly;
 use hk_types::{Refusal, VersionKey};
-use hk_wire::fields::facts_len;
+use hk_values::fragment_encoding::facts_len;
+use hk_values::sizes_law;
+use hk_wire::LaterReply;
 use std::alloc::Global;
 use std::marker::Model;
 
@@ -64,10 +65,10 @@ impl<'a> Coming<'a> {
 
     /// Takes a part behind those that came before, and replies how many facts came, or why they did not: `LinkFull` with
     /// this limit where there is no room for them, the refusals of `Assembly::add` else.
-    pub(crate) fn add(&mut self, part: Vec<(VersionKey, Version)>, most: u64) -> Reply
+    pub(crate) fn add(&mut self, part: Vec<(VersionKey, Version)>, most: u64) -> LaterReply
         ensures { TellsCome most self.old part.items (reply_seen result) self.new }
     {
-        let full = Reply::Refused(Refusal::LinkFull { most });
+        let full = LaterReply::Refused(Refusal::LinkFull { most });
         let Some(bytes) = weight_of(&part) else {
             return full;
         };
@@ -75,12 +76,12 @@ impl<'a> Coming<'a> {
             return full;
         }
         match self.facts.add(part) {
-            Ok(()) => Reply::Added {
+            Ok(()) => LaterReply::Added {
                 count: self.facts.count() as u64,
             },
             Err(why) => {
                 self.room.shrink(bytes);
-                Reply::Refused(why)
+                LaterReply::Refused(why)
             }
         }
     }

@@ -2,17 +2,18 @@
 
 ghost use Rattle.std.specs.Prelude.{◌≡◌, ℕ, IfOk, IfErr, IfSome};
 ghost use Rattle.hk_types.specs.declared.faults.Refusal.TheVariants.{Memory};
-ghost use Rattle.hk_later.specs.Replies.{reply_seen};
+ghost use Rattle.hk_wire.specs.LaterReplies.{reply_seen};
 ghost use Rattle.hk_net.specs.GivenWhole.{IsGivenWhole};
 ghost use Rattle.hk_net.specs.LinkStates.{begun, giving_after, part_told, weight};
 
 use crate::coming::weight_of;
 use crate::parts_budget::{PartsBudget, Room};
 use hk_delta::Fragment;
-use hk_later::{Head, Reply};
 use hk_log::Version;
 use hk_parts::{Split, fragment_law};
 use hk_types::{Refusal, VersionKey};
+use hk_values::Head;
+use hk_wire::LaterReply;
 use std::alloc::{AllocError, Global};
 use std::marker::Model;
 
@@ -83,7 +84,7 @@ impl<'a> Giving<'a> {
     }
 
     /// The reply that tells the next part: its facts are copied, and with the last of them the head.
-    pub(crate) fn told(&self, alloc: Global) -> Result<Reply, Refusal>
+    pub(crate) fn told(&self, alloc: Global) -> Result<LaterReply, Refusal>
         ensures ok { IfOk result (λ reply. reply_seen reply ≡ part_told self.now) }
         ensures err { IfErr result (λ why. why ≡ Memory) }
     {
@@ -91,9 +92,9 @@ impl<'a> Giving<'a> {
         let left = self.split.left();
         if left == 0 {
             let head = Head::of_fragment(alloc, self.split.whole())?;
-            return Ok(Reply::LastPart { facts, head });
+            return Ok(LaterReply::LastPart { facts, head });
         }
-        Ok(Reply::Part {
+        Ok(LaterReply::Part {
             left: left as u64,
             facts,
         })

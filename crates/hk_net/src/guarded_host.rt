@@ -17,7 +17,7 @@ use hk_delta::Fragment;
 use hk_log::Item;
 use hk_model::{Answer, Page, Query, StreamsTold};
 use hk_node::{Hold, Node, NodeName, ReaderSeat, Receipt};
-use hk_session::{Host, VersionOne};
+use hk_session::Host;
 use hk_types::{Key, Refusal, Table, Time};
 use hk_wire::{Reply, Request};
 use std::marker::Model;
@@ -160,8 +160,6 @@ impl<'a, J: NodeName, N: Wait + Drop, R: Wait> GuardedHost<'a, J, N, R> {
 }
 
 impl<'a, J: NodeName, N: Wait + Drop, R: Wait> Host for GuardedHost<'a, J, N, R> {
-    type Speaks = VersionOne;
-
     ghost may = { MayReplyGuarded J.config };
 
     fn answer(&mut self, request: Request) -> Reply {
@@ -173,6 +171,7 @@ impl<'a, J: NodeName, N: Wait + Drop, R: Wait> Host for GuardedHost<'a, J, N, R>
             Request::Ask { t, query } => self.reads.ask(t, &query),
             Request::JoinThis(fragment) | Request::MergeThis(fragment) => self.join(fragment),
             Request::Prune { horizon } => self.prune(horizon),
+            Request::Later(later) => self.reads.no_kind(later),
         }
     }
 }

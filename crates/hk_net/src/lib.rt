@@ -4,8 +4,6 @@
 //! links and runs a session of `hk_session` on each. What crosses threads and sockets is shown by tests.
 #![tactic(auto)]
 
-mod both_sessions;
-mod both_versions;
 mod coming;
 mod fault;
 mod frame_watch;
@@ -20,21 +18,21 @@ mod node_host;
 mod node_side;
 mod parts_budget;
 mod parts_host;
+mod parts_sessions;
 mod seat_host;
 mod seats;
 mod staying;
 
-pub use both_sessions::serve_both;
-pub use both_versions::{BothVersions, both_versions_law};
 pub use fault::NetFault;
 pub use giving::given_law;
 pub use guarded_host::GuardedHost;
 pub use link_events::{LinkEvent, Watch};
-pub use links::{guard_links, serve_links, serve_links_in_both};
+pub use links::{guard_links, serve_links};
 pub use node_host::NodeHost;
 pub use node_side::NodeSide;
 pub use parts_budget::PartsBudget;
 pub use parts_host::PartsHost;
+pub use parts_sessions::serve_parts;
 pub use seat_host::SeatHost;
 pub use seats::{guard_on_seat, read_on_seat, serve_on_seat};
 pub use staying::{Door, serve_forever};

@@ -2,12 +2,12 @@
 
 ghost use Rattle.std.specs.Prelude.{◌≡◌, length, IfOk};
 
-use crate::both_sessions::serve_both;
 use crate::fault::NetFault;
 use crate::guarded_host::GuardedHost;
 use crate::node_host::NodeHost;
 use crate::parts_budget::PartsBudget;
 use crate::parts_host::PartsHost;
+use crate::parts_sessions::serve_parts;
 use hk_node::{Node, NodeName, ReaderSeat};
 use hk_session::{Counted, Ended, serve};
 use std::alloc::Global;
@@ -74,20 +74,20 @@ fn serve_link<J: NodeName, N: Wait + Drop, R: Threads + Wait + Sync>(
         Some(budget) if serving.is_guarded => {
             let host = GuardedHost::new(rt, node, seat);
             let link = PartsHost::new(alloc, host, budget, Vec::new(alloc));
-            serve_both(alloc, link, &mut reader, &mut writer).0
+            serve_parts(alloc, link, &mut reader, &mut writer).0
         }
         Some(budget) => {
             let host = NodeHost::new(rt, alloc, node, seat);
             let link = PartsHost::new(alloc, host, budget, Vec::new(alloc));
-            serve_both(alloc, link, &mut reader, &mut writer).0
+            serve_parts(alloc, link, &mut reader, &mut writer).0
         }
         None if serving.is_guarded => {
             let mut host = GuardedHost::new(rt, node, seat);
-            serve(alloc, &mut reader, &mut writer, &mut host)
+            serve::<1, _, _, _>(alloc, &mut reader, &mut writer, &mut host)
         }
         None => {
             let mut host = NodeHost::new(rt, alloc, node, seat);
-            serve(alloc, &mut reader, &mut writer, &mut host)
+            serve::<1, _, _, _>(alloc, &mut reader, &mut writer, &mut host)
         }
     };
     drain(&stream);
@@ -96,6 +96,10 @@ fn serve_link<J: NodeName, N: Wait + Drop, R: Threads + Wait + Sync>(
 
 /// Accepts as many links as there are seats, and runs the session of each in a thread of its own, with one of the
 /// seats. Gives how each ended, in the order in which they were accepted, once all have ended.
+///
+/// With a budget each link is answered in both versions (`PartsHost`), and its holds are released when it ends; all links
+/// together keep at most as many bytes as the budget has. Without one it is answered in version 1, and a request of version 2
+/// ends it with `BadVersion`.
 ///
 /// A link whose thread can't be started ends with `Memory`. `NetFault::Memory` comes where the list of ends can't be
 /// made, which is tested before the first accept; `NetFault::Socket` where an accept failed, after the links that
@@ -109,13 +113,14 @@ pub fn serve_links<
     alloc: Global,
     listener: &TcpListener,
     node: &Node<J, N>,
+    budget: Option<&PartsBudget>,
     seats: Vec<ReaderSeat<J>>,
 ) -> Result<Vec<Ended>, NetFault>
     ensures { IfOk result (λ ends. length ends.items ≡ length seats.items) }
 {
     let serving = Serving {
         is_guarded: false,
-        budget: None,
+        budget,
     };
     serve_each(rt, alloc, listener, node, serving, seats)
 }
@@ -131,38 +136,14 @@ pub fn guard_links<
     alloc: Global,
     listener: &TcpListener,
     node: &Node<J, N>,
+    budget: Option<&PartsBudget>,
     seats: Vec<ReaderSeat<J>>,
 ) -> Result<Vec<Ended>, NetFault>
     ensures { IfOk result (λ ends. length ends.items ≡ length seats.items) }
 {
     let serving = Serving {
         is_guarded: true,
-        budget: None,
-    };
-    serve_each(rt, alloc, listener, node, serving, seats)
-}
-
-/// As `serve_links`, or as `guard_links` where it is guarded, but each link is answered in both versions (`PartsHost`), and
-/// its holds are released when it ends. All links together keep at most as many bytes as the budget has. Cost: that of the
-/// sessions.
-pub fn serve_links_in_both<
-    J: NodeName + Send + Sync,
-    N: Wait + Drop + Send + Sync,
-    R: Threads + Wait + Sync,
->(
-    rt: &R,
-    alloc: Global,
-    listener: &TcpListener,
-    node: &Node<J, N>,
-    is_guarded: bool,
-    budget: &PartsBudget,
-    seats: Vec<ReaderSeat<J>>,
-) -> Result<Vec<Ended>, NetFault>
-    ensures { IfOk result (λ ends. length ends.items ≡ length seats.items) }
-{
-    let serving = Serving {
-        is_guarded,
-        budget: Some(budget),
+        budget,
     };
     serve_each(rt, alloc, listener, node, serving, seats)
 }

@@ -23,7 +23,7 @@ use hk_delta::{Fragment, fragment_of};
 use hk_log::Item;
 use hk_model::{Answer, Page, Query, StreamsTold};
 use hk_node::{Hold, Node, NodeName, ReaderSeat, Receipt};
-use hk_session::{Host, VersionOne};
+use hk_session::Host;
 use hk_types::{Key, Refusal, Table, Time};
 use hk_wire::{Reply, Request};
 use std::alloc::Global;
@@ -236,8 +236,6 @@ impl<'a, J: NodeName, N: Wait + Drop, R: Threads + Wait + Sync> NodeHost<'a, J, 
 }
 
 impl<'a, J: NodeName, N: Wait + Drop, R: Threads + Wait + Sync> Host for NodeHost<'a, J, N, R> {
-    type Speaks = VersionOne;
-
     ghost may = { MayReply J.config };
 
     ghost ready = { λ _. IsSync R.row };
@@ -251,6 +249,7 @@ impl<'a, J: NodeName, N: Wait + Drop, R: Threads + Wait + Sync> Host for NodeHos
             Request::Ask { t, query } => self.ask(t, &query),
             Request::JoinThis(fragment) | Request::MergeThis(fragment) => self.join(fragment),
             Request::Prune { horizon } => self.prune(horizon),
+            Request::Later(later) => self.reads.no_kind(later),
         }
     }
 }

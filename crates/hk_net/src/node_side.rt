@@ -3,12 +3,12 @@
 use hk_delta::Fragment;
 use hk_model::{Answer, Page, Query, StreamsTold};
 use hk_node::Hold;
-use hk_session::{Host, VersionOne};
+use hk_session::Host;
 use hk_types::{Key, Refusal, Table, Time};
 
 /// What a host over a seat of a node offers beside the requests of version 1. Each call that reads is answered by the
 /// seat, and takes no lock.
-pub trait NodeSide: Host<Speaks = VersionOne> {
+pub trait NodeSide: Host {
     ghost use Rattle.std.specs.Prelude.{◌≡◌, ℕ, true, List, Option, Result, IfOk, IfErr};
     ghost use mathlib.Core.List.{IsPrefix};
     ghost use Rattle.hk_types.specs.declared.faults.Refusal.{Refusal};

@@ -3,26 +3,25 @@
 ghost use Rattle.std.specs.Prelude.{◌≡◌, ◌<◌, ◌++◌, ◌∷◌, [], ◌-◌, true, None, Ok, length, take, vec_len, All, Contains};
 ghost use mathlib.Core.List.{IsPrefix};
 ghost use Rattle.hk_parts.specs.Heads.{of_facts};
-ghost use Rattle.hk_later.specs.Replies.{reply_seen};
+ghost use Rattle.hk_wire.specs.LaterReplies.{reply_seen};
 ghost use Rattle.hk_node.specs.Replay.{is_legal};
 ghost use Rattle.hk_net.specs.LaterReplying.{AreLetGo, AsksHoldInPlace, IsFirstReply, IsHeld, IsLaterReply, IsOrMemory, IsReleased, JoinsMade, KeepsButCame, KeepsButGiving, KeepsCameAndHolds, KeepsOther, LetsGo, TellsCome, TellsFirst, TellsMore, change_seen, content_of, fresh_link, latest_reply, page_reply, streams_reply};
 ghost use Rattle.hk_net.specs.NodeSides.{cut_of};
 ghost use Rattle.hk_net.specs.LinkStates.{held_by, without_hold};
 
-use crate::both_versions::BothVersions;
 use crate::coming::Coming;
 use crate::giving::Giving;
 use crate::link_holds::{hold_of, release_each, set_last};
 use crate::node_side::NodeSide;
 use crate::parts_budget::PartsBudget;
 use hk_delta::Fragment;
-use hk_later::{Asked, Head, Reply, Request, Told};
 use hk_log::Version;
 use hk_model::Query;
 use hk_node::Hold;
 use hk_session::Host;
 use hk_types::{FormFault, Key, Refusal, Table, Time, VersionKey};
-use hk_wire::{Reply as FirstReply, Request as FirstRequest};
+use hk_values::Head;
+use hk_wire::{LaterReply, LaterRequest, Reply, Request};
 use std::alloc::Global;
 use std::marker::Model;
 use std::mem::replace;
@@ -59,15 +58,15 @@ impl<'a, H: NodeSide + Drop> Model for PartsHost<'a, H> {
 }
 
 /// The reply of version 1 to a change, in version 2.
-fn later_reply(answer: FirstReply) -> Reply
+fn later_reply(answer: Reply) -> LaterReply
     ensures { reply_seen result ≡ change_seen answer }
 {
     match answer {
-        FirstReply::Done { ops } => Reply::Done { ops },
-        FirstReply::Refused(why) => Reply::Refused(why),
+        Reply::Done { ops } => LaterReply::Done { ops },
+        Reply::Refused(why) => LaterReply::Refused(why),
         other => {
             drop(other);
-            Reply::Refused(Refusal::Form(FormFault::BadKind))
+            LaterReply::Refused(Refusal::Form(FormFault::BadKind))
         }
     }
 }
@@ -106,7 +105,7 @@ impl<'a, H: NodeSide + Drop> PartsHost<'a, H> {
         (inner, left)
     }
 
-    fn streams(&mut self) -> Reply
+    fn streams(&mut self) -> LaterReply
         ensures legal { is_legal (H.side.list self.new.inner) ≡ true }
         ensures seen { IsPrefix (H.side.list self.old.inner) (H.side.list self.new.inner) }
         ensures same { KeepsOther self.old self.new }
@@ -114,12 +113,12 @@ impl<'a, H: NodeSide + Drop> PartsHost<'a, H> {
         ensures ready { H.ready self.old.inner → H.ready self.new.inner }
     {
         match self.inner.streams() {
-            Ok(told) => Reply::Streams(told),
-            Err(why) => Reply::Refused(why),
+            Ok(told) => LaterReply::Streams(told),
+            Err(why) => LaterReply::Refused(why),
         }
     }
 
-    fn latest(&mut self, query: &Query) -> Reply
+    fn latest(&mut self, query: &Query) -> LaterReply
         ensures legal { is_legal (H.side.list self.new.inner) ≡ true }
         ensures seen { IsPrefix (H.side.list self.old.inner) (H.side.list self.new.inner) }
         ensures same { KeepsOther self.old self.new }
@@ -127,12 +126,12 @@ impl<'a, H: NodeSide + Drop> PartsHost<'a, H> {
         ensures ready { H.ready self.old.inner → H.ready self.new.inner }
     {
         match self.inner.latest(query) {
-            Ok((t, answer)) => Reply::Latest { t, answer },
-            Err(why) => Reply::Refused(why),
+            Ok((t, answer)) => LaterReply::Latest { t, answer },
+            Err(why) => LaterReply::Refused(why),
         }
     }
 
-    fn page(&mut self, time: Time, table: Table, low: Key, high: Key, most: u32) -> Reply
+    fn page(&mut self, time: Time, table: Table, low: Key, high: Key, most: u32) -> LaterReply
         ensures legal { is_legal (H.side.list self.new.inner) ≡ true }
         ensures seen { IsPrefix (H.side.list self.old.inner) (H.side.list self.new.inner) }
         ensures same { KeepsOther self.old self.new }
@@ -141,13 +140,13 @@ impl<'a, H: NodeSide + Drop> PartsHost<'a, H> {
         ensures ready { H.ready self.old.inner → H.ready self.new.inner }
     {
         match self.inner.page(time, table, low, high, most) {
-            Ok(page) => Reply::Page(page),
-            Err(why) => Reply::Refused(why),
+            Ok(page) => LaterReply::Page(page),
+            Err(why) => LaterReply::Refused(why),
         }
     }
 
     /// Cuts what the node holds, and tells the first part of it.
-    fn whole(&mut self, base: Time, most: u32) -> Reply
+    fn whole(&mut self, base: Time, most: u32) -> LaterReply
         ensures legal { is_legal (H.side.list self.new.inner) ≡ true }
         ensures seen { IsPrefix (H.side.list self.old.inner) (H.side.list self.new.inner) }
         ensures told { TellsFirst self.old (cut_of (content_of H.side self.new) base) most
@@ -159,18 +158,18 @@ impl<'a, H: NodeSide + Drop> PartsHost<'a, H> {
         self.giving = None;
         match self.inner.cut(base) {
             Ok(fragment) => self.begin(fragment, most),
-            Err(why) => Reply::Refused(why),
+            Err(why) => LaterReply::Refused(why),
         }
     }
 
     /// Begins to give a fragment, where there is room for it, and tells the first part.
-    fn begin(&mut self, fragment: Fragment, most: u32) -> Reply
+    fn begin(&mut self, fragment: Fragment, most: u32) -> LaterReply
         requires { self.old.giving ≡ None }
         ensures told { TellsFirst self.old (Ok fragment) most (reply_seen result) self.new }
         ensures same { KeepsButGiving self.old self.new }
     {
         let Some(giving) = Giving::begin(fragment, u64::from(most), self.budget) else {
-            return Reply::Refused(Refusal::LinkFull {
+            return LaterReply::Refused(Refusal::LinkFull {
                 most: self.budget.most(),
             });
         };
@@ -179,18 +178,18 @@ impl<'a, H: NodeSide + Drop> PartsHost<'a, H> {
                 self.giving = giving.next();
                 reply
             }
-            Err(why) => Reply::Refused(why),
+            Err(why) => LaterReply::Refused(why),
         }
     }
 
     /// Tells the next part of what is given.
-    fn more(&mut self) -> Reply
+    fn more(&mut self) -> LaterReply
         ensures seen { IsPrefix (H.side.list self.old.inner) (H.side.list self.new.inner) }
         ensures told { TellsMore self.old (reply_seen result) self.new }
         ensures same { KeepsButGiving self.old self.new }
     {
         let Some(giving) = self.giving.take() else {
-            return Reply::Refused(Refusal::NoPart);
+            return LaterReply::Refused(Refusal::NoPart);
         };
         match giving.told(self.alloc) {
             Ok(reply) => {
@@ -199,13 +198,13 @@ impl<'a, H: NodeSide + Drop> PartsHost<'a, H> {
             }
             Err(why) => {
                 self.giving = Some(giving);
-                Reply::Refused(why)
+                LaterReply::Refused(why)
             }
         }
     }
 
     /// Takes a part behind those that came before.
-    fn add(&mut self, facts: Vec<(VersionKey, Version)>) -> Reply
+    fn add(&mut self, facts: Vec<(VersionKey, Version)>) -> LaterReply
         ensures seen { IsPrefix (H.side.list self.old.inner) (H.side.list self.new.inner) }
         ensures told { TellsCome self.old.most self.old.came facts.items (reply_seen result) self.new.came }
         ensures same { KeepsButCame self.old self.new }
@@ -214,7 +213,7 @@ impl<'a, H: NodeSide + Drop> PartsHost<'a, H> {
     }
 
     /// Has the inner host join what the head and the parts that came make.
-    fn join(&mut self, head: Head) -> Reply
+    fn join(&mut self, head: Head) -> LaterReply
         requires ready { H.ready self.old.inner }
         ensures seen { IsPrefix (H.side.list self.old.inner) (H.side.list self.new.inner) }
         ensures told { JoinsMade H.may self.old.inner (of_facts head self.old.came) (reply_seen result) self.new.inner }
@@ -225,19 +224,19 @@ impl<'a, H: NodeSide + Drop> PartsHost<'a, H> {
         // The room is given back once they are joined.
         let (came, _room) = came.into_parts();
         match head.into_fragment(came) {
-            Ok(fragment) => later_reply(self.answer_first(FirstRequest::JoinThis(fragment))),
-            Err(fault) => Reply::Refused(Refusal::Form(fault)),
+            Ok(fragment) => later_reply(self.answer_first(Request::JoinThis(fragment))),
+            Err(fault) => LaterReply::Refused(Refusal::Form(fault)),
         }
     }
 
     /// Holds a time, once there is room for the hold in the link's list.
-    fn hold(&mut self, time: Time) -> Reply
+    fn hold(&mut self, time: Time) -> LaterReply
         ensures seen { IsPrefix (H.side.list self.old.inner) (H.side.list self.new.inner) }
         ensures told { IsHeld H.side.may_hold self.old time (reply_seen result) self.new }
         ensures ready { H.ready self.old.inner → H.ready self.new.inner }
     {
         if self.holds.len() >= MOST_HOLDS {
-            return Reply::Refused(Refusal::LinkFull {
+            return LaterReply::Refused(Refusal::LinkFull {
                 most: MOST_HOLDS as u64,
             });
         }
@@ -249,13 +248,13 @@ impl<'a, H: NodeSide + Drop> PartsHost<'a, H> {
             })
             .is_err()
         {
-            return Reply::Refused(Refusal::Memory);
+            return LaterReply::Refused(Refusal::Memory);
         }
         self.ask_hold(time)
     }
 
     /// Holds a time. The last place in the link's list is free for the hold.
-    fn ask_hold(&mut self, time: Time) -> Reply
+    fn ask_hold(&mut self, time: Time) -> LaterReply
         requires { 0 < length self.old.holds }
         ensures seen { IsPrefix (H.side.list self.old.inner) (H.side.list self.new.inner) }
         ensures told { AsksHoldInPlace H.side.may_hold self.old time (reply_seen result) self.new }
@@ -263,7 +262,7 @@ impl<'a, H: NodeSide + Drop> PartsHost<'a, H> {
     {
         match self.inner.hold(time) {
             Ok(hold) => {
-                let reply = Reply::Held {
+                let reply = LaterReply::Held {
                     number: hold.reader,
                     t: hold.at,
                 };
@@ -272,33 +271,33 @@ impl<'a, H: NodeSide + Drop> PartsHost<'a, H> {
             }
             Err((Some(hold), why)) => {
                 set_last(&mut self.holds, hold);
-                Reply::Refused(why)
+                LaterReply::Refused(why)
             }
             Err((None, why)) => {
                 let _free = self.holds.pop();
-                Reply::Refused(why)
+                LaterReply::Refused(why)
             }
         }
     }
 
     /// Releases a hold of this link.
-    fn release(&mut self, number: u64) -> Reply
+    fn release(&mut self, number: u64) -> LaterReply
         ensures seen { IsPrefix (H.side.list self.old.inner) (H.side.list self.new.inner) }
         ensures told { IsReleased H.side.may_release self.old number (reply_seen result) self.new }
         ensures ready { H.ready self.old.inner → H.ready self.new.inner }
     {
         let Some(hold) = hold_of(&self.holds, number) else {
-            return Reply::Refused(Refusal::NoHold);
+            return LaterReply::Refused(Refusal::NoHold);
         };
         match self.inner.release(hold) {
             Ok(ops) => {
                 self.forget(number);
-                Reply::Done { ops }
+                LaterReply::Done { ops }
             }
-            Err((Some(_stands), why)) => Reply::Refused(why),
+            Err((Some(_stands), why)) => LaterReply::Refused(why),
             Err((None, why)) => {
                 self.forget(number);
-                Reply::Refused(why)
+                LaterReply::Refused(why)
             }
         }
     }
@@ -311,7 +310,7 @@ impl<'a, H: NodeSide + Drop> PartsHost<'a, H> {
     }
 
     /// Answers a request of version 1.
-    fn answer_first(&mut self, request: FirstRequest) -> FirstReply
+    fn answer_first(&mut self, request: Request) -> Reply
         requires ready { H.ready self.old.inner }
         ensures seen { IsPrefix (H.side.list self.old.inner) (H.side.list self.new.inner) }
         ensures told { IsFirstReply H.may self.old request result self.new }
@@ -322,28 +321,28 @@ impl<'a, H: NodeSide + Drop> PartsHost<'a, H> {
     }
 
     /// Answers a request of version 2.
-    fn answer_later(&mut self, request: Request) -> Reply
+    fn answer_later(&mut self, request: LaterRequest) -> LaterReply
         requires ready { H.ready self.old.inner }
         ensures seen { IsPrefix (H.side.list self.old.inner) (H.side.list self.new.inner) }
         ensures told { IsLaterReply H.side H.may self.old request (reply_seen result) self.new }
         ensures ready { H.ready self.new.inner }
     {
         match request {
-            Request::Streams => self.streams(),
-            Request::AskLatest { query } => self.latest(&query),
-            Request::Page {
+            LaterRequest::Streams => self.streams(),
+            LaterRequest::AskLatest { query } => self.latest(&query),
+            LaterRequest::Page {
                 t,
                 table,
                 low,
                 high,
                 most,
             } => self.page(t, table, low, high, most),
-            Request::Whole { base, most_bytes } => self.whole(base, most_bytes),
-            Request::More => self.more(),
-            Request::AddPart(facts) => self.add(facts),
-            Request::JoinParts(head) | Request::MergeParts(head) => self.join(head),
-            Request::Hold { t } => self.hold(t),
-            Request::Release { number } => self.release(number),
+            LaterRequest::Whole { base, most_bytes } => self.whole(base, most_bytes),
+            LaterRequest::More => self.more(),
+            LaterRequest::AddPart(facts) => self.add(facts),
+            LaterRequest::JoinParts(head) | LaterRequest::MergeParts(head) => self.join(head),
+            LaterRequest::Hold { t } => self.hold(t),
+            LaterRequest::Release { number } => self.release(number),
         }
     }
 }
@@ -351,16 +350,14 @@ impl<'a, H: NodeSide + Drop> PartsHost<'a, H> {
 impl<'a, H: NodeSide + Drop> Host for PartsHost<'a, H> {
     ghost use Rattle.hk_net.specs.LaterReplying.{MayReplyBoth};
 
-    type Speaks = BothVersions;
-
     ghost may = { MayReplyBoth H.side H.may };
 
     ghost ready = { λ h. H.ready h.inner };
 
-    fn answer(&mut self, request: Asked) -> Told {
+    fn answer(&mut self, request: Request) -> Reply {
         match request {
-            Asked::One(first) => Told::One(self.answer_first(first)),
-            Asked::Later(later) => Told::Later(self.answer_later(later)),
+            Request::Later(later) => Reply::Later(self.answer_later(later)),
+            first => self.answer_first(first),
         }
     }
 }

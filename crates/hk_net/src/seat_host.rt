@@ -14,7 +14,7 @@ use crate::node_side::NodeSide;
 use hk_delta::Fragment;
 use hk_model::{Answer, Page, Query, StreamsTold};
 use hk_node::{Hold, NodeName, ReaderSeat, Receipt};
-use hk_session::{Host, VersionOne};
+use hk_session::Host;
 use hk_types::{Config, FormFault, Key, Refusal, Table, Time};
 use hk_wire::{Reply, Request};
 use std::marker::Model;
@@ -80,8 +80,8 @@ impl<J: NodeName> SeatHost<J> {
         let _known = self.seat.seen();
     }
 
-    /// The reply to a change, which is let go.
-    fn no_kind<C: Drop>(&self, _change: C) -> Reply
+    /// The reply to a request that has no meaning here, which is let go.
+    pub(crate) fn no_kind<C: Drop>(&self, _asked: C) -> Reply
         ensures legal { is_legal self.now ≡ true }
         ensures told { reply_seen result ≡ Refused (Form BadKind) }
     {
@@ -135,8 +135,6 @@ impl<J: NodeName> SeatHost<J> {
 }
 
 impl<J: NodeName> Host for SeatHost<J> {
-    type Speaks = VersionOne;
-
     ghost may = { MayOnlyRead };
 
     fn answer(&mut self, request: Request) -> Reply {
@@ -148,6 +146,7 @@ impl<J: NodeName> Host for SeatHost<J> {
             Request::Items(items) => self.no_kind(items),
             Request::JoinThis(fragment) | Request::MergeThis(fragment) => self.no_kind(fragment),
             Request::Prune { horizon } => self.no_kind(horizon),
+            Request::Later(later) => self.no_kind(later),
         }
     }
 }

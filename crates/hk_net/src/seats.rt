@@ -37,7 +37,7 @@ pub(crate) fn serve_host<
         O.contents writer.old writer.new result }
 {
     let mut served = host;
-    let ended = serve(alloc, reader, writer, &mut served);
+    let ended = serve::<1, _, _, _>(alloc, reader, writer, &mut served);
     (ended, served.into_seat())
 }
 
@@ -84,7 +84,7 @@ pub fn read_on_seat<J: NodeName, I: Read + Drop, O: Write + Drop>(
         O.contents writer.old writer.new result }
 {
     let mut host = SeatHost::new(seat);
-    let ended = serve(alloc, reader, writer, &mut host);
+    let ended = serve::<1, _, _, _>(alloc, reader, writer, &mut host);
     (ended, host.into_seat())
 }
 
@@ -103,7 +103,7 @@ pub(crate) fn serve_guarded<J: NodeName, N: Wait + Drop, R: Wait, I: Read + Drop
         O.contents writer.old writer.new result }
 {
     let mut guarded = host;
-    let ended = serve(alloc, reader, writer, &mut guarded);
+    let ended = serve::<1, _, _, _>(alloc, reader, writer, &mut guarded);
     (ended, guarded.into_seat())
 }
 

@@ -4,7 +4,6 @@ ghost use Rattle.std.specs.Prelude.{◌≡◌};
 ghost use Rattle.std.specs.Thread.{IsSend, IsSync};
 ghost use mathlib.Core.List.{IsPrefix};
 
-use crate::both_sessions::serve_both;
 use crate::fault::NetFault;
 use crate::guarded_host::GuardedHost;
 use crate::link_events::{EVENTS, LinkEvent, Teller, Watch, hand_on};
@@ -13,6 +12,7 @@ use crate::links::drain;
 use crate::node_host::NodeHost;
 use crate::parts_budget::PartsBudget;
 use crate::parts_host::PartsHost;
+use crate::parts_sessions::serve_parts;
 use crate::seat_host::SeatHost;
 use crate::seats::{read_on_seat, serve_guarded, serve_host};
 use crossbeam_channel::{Sender, bounded};
@@ -163,21 +163,21 @@ fn serve_later<J: NodeName, N: Wait + Drop, R: Threads + Wait + Sync>(
         Some(node) if door.is_guarded => {
             let host = GuardedHost::telling(rt, node, seat, teller);
             let link = PartsHost::new(alloc, host, budget, holds);
-            let (ended, host, holds) = serve_both(alloc, link, &mut reader, &mut writer);
+            let (ended, host, holds) = serve_parts(alloc, link, &mut reader, &mut writer);
             let seat = host.into_seat();
             (ended, Place { seat, holds })
         }
         Some(node) => {
             let host = NodeHost::telling(rt, alloc, node, seat, teller);
             let link = PartsHost::new(alloc, host, budget, holds);
-            let (ended, host, holds) = serve_both(alloc, link, &mut reader, &mut writer);
+            let (ended, host, holds) = serve_parts(alloc, link, &mut reader, &mut writer);
             let seat = host.into_seat();
             (ended, Place { seat, holds })
         }
         None => {
             let host = SeatHost::new(seat);
             let link = PartsHost::new(alloc, host, budget, holds);
-            let (ended, host, holds) = serve_both(alloc, link, &mut reader, &mut writer);
+            let (ended, host, holds) = serve_parts(alloc, link, &mut reader, &mut writer);
             let seat = host.into_seat();
             (ended, Place { seat, holds })
         }

@@ -4,11 +4,10 @@ use crate::link::{Link, opened, unasked};
 use crate::parts::{Parts, TOO_LONG, hand_parts, is_too_long, taking};
 use crate::read::front_at;
 use hk_commands::{Output, Stop};
-use hk_later::{Reply as LaterReply, Request as LaterRequest};
 use hk_log::Version;
 use hk_reasons::{Asked, Origin};
 use hk_types::{Refusal, Time, VersionKey};
-use hk_wire::{Reply, Request};
+use hk_wire::{LaterReply, LaterRequest, Reply, Request};
 use std::io::Write;
 use std::net::{Net, TcpListener, TcpStream};
 use std::rt::Clock;
@@ -99,7 +98,7 @@ struct Adder<'k, 'l> {
 impl Parts for Adder<'_, '_> {
     /// Has the node keep the facts until the head is there.
     fn take(&mut self, facts: Vec<(VersionKey, Version)>) -> Result<(), Stop> {
-        match self.link.granted_later(&LaterRequest::AddPart(facts))? {
+        match self.link.granted_later(LaterRequest::AddPart(facts))? {
             LaterReply::Added { .. } => Ok(()),
             _none => Err(unasked()),
         }
@@ -120,7 +119,7 @@ fn pull_parts<W: Write, E: Write>(
     }
     let mut adder = Adder { link: own };
     let head = hand_parts(other, base, &mut adder)?;
-    let reply = own.granted_later(&taking(head))?;
+    let reply = own.granted_later(taking(head))?;
     output.print(&reply)
 }
 

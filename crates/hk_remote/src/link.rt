@@ -2,13 +2,9 @@
 
 use hk_cli_calls::Limits;
 use hk_commands::{MOST_READS, Output, PIECE_BYTES, Stop};
-use hk_later::{
-    Asked as EitherRequest, Reply as LaterReply, Request as LaterRequest, Told as EitherReply,
-    ToldFeeder, encode_request as encode_later,
-};
 use hk_reasons::{Asked, Origin, Place};
 use hk_types::{FormFault, Refusal};
-use hk_wire::{Reply, Request, encode_request};
+use hk_wire::{LaterReply, LaterRequest, Reply, ReplyFeeder, Request, encode_request};
 use std::alloc::Global;
 use std::io::{ErrorKind, Read, Write};
 use std::net::{Ipv4Addr, Net, TcpListener, TcpStream};
@@ -22,9 +18,9 @@ pub(crate) struct Link<'a> {
     alloc: Global,
     stream: &'a TcpStream,
     limits: Limits,
-    feeder: ToldFeeder,
+    feeder: ReplyFeeder,
     /// Replies that came and are not handed out yet: more than one where the node says more than it was asked.
-    replies: Vec<EitherReply>,
+    replies: Vec<Reply>,
     piece: Vec<u8>,
     text: Vec<u8>,
     /// How many requests were sent.
@@ -36,16 +32,10 @@ pub(crate) fn asked_of(request: &Request) -> Asked {
     match request {
         Request::Ask { t, .. } => Asked::At(*t),
         Request::Prune { horizon } => Asked::At(*horizon),
-        Request::Delta { base } => Asked::At(*base),
-        _other => Asked::Nothing,
-    }
-}
-
-/// The same of a request of version 2.
-pub(crate) fn later_asked_of(request: &LaterRequest) -> Asked {
-    match request {
-        LaterRequest::Page { t, .. } | LaterRequest::Hold { t } => Asked::At(*t),
-        LaterRequest::Whole { base, .. } => Asked::At(*base),
+        Request::Delta { base } | Request::Later(LaterRequest::Whole { base, .. }) => {
+            Asked::At(*base)
+        }
+        Request::Later(LaterRequest::Page { t, .. } | LaterRequest::Hold { t }) => Asked::At(*t),
         _other => Asked::Nothing,
     }
 }
@@ -135,7 +125,7 @@ impl<'a> Link<'a> {
             alloc,
             stream,
             limits,
-            feeder: ToldFeeder::new(alloc),
+            feeder: ReplyFeeder::new(alloc),
             replies: Vec::new(alloc),
             piece: vec![in alloc; 0u8; PIECE_BYTES]?,
             text: Vec::new(alloc),
@@ -211,7 +201,7 @@ impl<'a> Link<'a> {
     }
 
     /// The next reply.
-    fn reply(&mut self) -> Result<EitherReply, Stop> {
+    fn reply(&mut self) -> Result<Reply, Stop> {
         for _ in 0..MOST_READS {
             if !self.replies.is_empty() {
                 return Ok(self.replies.remove(0));
@@ -221,59 +211,40 @@ impl<'a> Link<'a> {
         Err(Stop::ReadFault)
     }
 
-    /// Sends a request and waits for its reply, which has its version.
+    /// Sends a request and waits for its reply. One of version 2 has no meaning where version 1 was asked; a node that reads
+    /// version 1 alone refuses a request of version 2 in version 1.
     pub(crate) fn ask(&mut self, request: &Request) -> Result<Reply, Stop> {
         self.begin();
         encode_request(request, &mut self.text)?;
         self.send()?;
-        match self.reply()? {
-            EitherReply::One(reply) => Ok(reply),
-            EitherReply::Later(_other) => Err(Stop::Refused(OTHER_VERSION)),
+        let reply = self.reply()?;
+        if matches!(reply, Reply::Later(_)) && !matches!(request, Request::Later(_)) {
+            return Err(Stop::Refused(OTHER_VERSION));
         }
-    }
-
-    /// The same with a request of version 2, which a node that reads version 1 alone refuses in version 1.
-    fn ask_later(&mut self, request: &LaterRequest) -> Result<EitherReply, Stop> {
-        self.begin();
-        encode_later(request, &mut self.text)?;
-        self.send()?;
-        self.reply()
-    }
-
-    /// The same with a request of either version.
-    pub(crate) fn ask_either(&mut self, request: &EitherRequest) -> Result<EitherReply, Stop> {
-        match request {
-            EitherRequest::One(request) => Ok(EitherReply::One(self.ask(request)?)),
-            EitherRequest::Later(request) => self.ask_later(request),
-        }
+        Ok(reply)
     }
 
     /// Sends a request and waits for its reply, which stops the command where it is a refusal.
     pub(crate) fn granted(&mut self, request: &Request) -> Result<Reply, Stop> {
         match self.ask(request)? {
-            Reply::Refused(why) => Err(Stop::RefusedAt(why, self.origin(asked_of(request)))),
+            Reply::Refused(why) | Reply::Later(LaterReply::Refused(why)) => {
+                Err(Stop::RefusedAt(why, self.origin(asked_of(request))))
+            }
             other => Ok(other),
         }
     }
 
-    /// The same with a request of version 2.
-    pub(crate) fn granted_later(&mut self, request: &LaterRequest) -> Result<LaterReply, Stop> {
-        match self.ask_later(request)? {
-            EitherReply::One(Reply::Refused(why)) => Err(self.refused(request, why)),
-            EitherReply::Later(LaterReply::Refused(why)) => Err(self.refused(request, why)),
-            EitherReply::Later(other) => Ok(other),
-            EitherReply::One(_other) => Err(unasked()),
+    /// The same with a request of version 2, whose reply has its version.
+    pub(crate) fn granted_later(&mut self, request: LaterRequest) -> Result<LaterReply, Stop> {
+        match self.granted(&Request::Later(request))? {
+            Reply::Later(reply) => Ok(reply),
+            _other => Err(unasked()),
         }
-    }
-
-    /// Why the command stops where a request of version 2 is refused.
-    fn refused(&self, request: &LaterRequest, why: Refusal) -> Stop {
-        Stop::RefusedAt(why, self.origin(later_asked_of(request)))
     }
 
     /// Whether the node reads requests of version 2. Where it doesn't, it ends the link.
     pub(crate) fn reads_later(&mut self) -> Result<bool, Stop> {
-        match self.granted_later(&LaterRequest::Streams) {
+        match self.granted_later(LaterRequest::Streams) {
             Ok(_told) => Ok(true),
             Err(Stop::RefusedAt(Refusal::Form(FormFault::BadVersion), _origin)) => Ok(false),
             Err(stop) => Err(stop),

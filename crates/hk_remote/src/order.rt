@@ -28,10 +28,13 @@ where
     R: Net<Listener = TcpListener, Stream = TcpStream> + Clock,
 {
     let told = match order {
-        Order::Push { with_second } => {
-            return push_all(link, input, Accepted::of_version(*with_second), output);
+        Order::Push { with_second: false } => {
+            return push_all::<_, _, _, 1>(link, input, Accepted::All, output);
         }
-        Order::Load => return push_all(link, input, Accepted::Fragments, output),
+        Order::Push { with_second: true } => {
+            return push_all::<_, _, _, 2>(link, input, Accepted::All, output);
+        }
+        Order::Load => return push_all::<_, _, _, 2>(link, input, Accepted::Fragments, output),
         Order::Shell => return answer_lines(link, input, is_terminal, output),
         Order::Ask { time, query, .. } => tell_answer(link, *time, *query, output),
         Order::Front { .. } => tell_front(link, output),

@@ -2,9 +2,10 @@
 
 use crate::link::{Link, unasked};
 use hk_commands::Stop;
-use hk_later::{Head, Reply, Request};
 use hk_log::Version;
 use hk_types::{FormFault, Refusal, Time, VersionKey};
+use hk_values::Head;
+use hk_wire::{LaterReply, LaterRequest};
 
 /// The refusal of what a message has no room for.
 pub(crate) const TOO_LONG: Refusal = Refusal::Form(FormFault::TooLong);
@@ -34,25 +35,25 @@ pub(crate) fn hand_parts<P: Parts>(
     parts: &mut P,
 ) -> Result<Head, Stop> {
     let most_bytes = PART_BYTES;
-    let mut request = Request::Whole { base, most_bytes };
+    let mut request = LaterRequest::Whole { base, most_bytes };
     for _ in 0..MOST_PARTS {
-        match from.granted_later(&request)? {
-            Reply::Part { facts, .. } => parts.take(facts)?,
-            Reply::LastPart { facts, head } => {
+        match from.granted_later(request)? {
+            LaterReply::Part { facts, .. } => parts.take(facts)?,
+            LaterReply::LastPart { facts, head } => {
                 parts.take(facts)?;
                 return Ok(head);
             }
             _none => return Err(unasked()),
         }
-        request = Request::More;
+        request = LaterRequest::More;
     }
     Err(Stop::ReadFault)
 }
 
 /// The request by which a node takes the parts that were added to it.
-pub(crate) fn taking(head: Head) -> Request {
+pub(crate) fn taking(head: Head) -> LaterRequest {
     if head.base().number() == 0 {
-        return Request::MergeParts(head);
+        return LaterRequest::MergeParts(head);
     }
-    Request::JoinParts(head)
+    LaterRequest::JoinParts(head)
 }

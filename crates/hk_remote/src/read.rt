@@ -6,12 +6,11 @@ use hk_cli_calls::Form;
 use hk_commands::{Output, Stop, put_status};
 use hk_fragment::Fragment;
 use hk_json::Head;
-use hk_later::{Request as LaterRequest, encode_request as encode_later};
 use hk_log::Version;
 use hk_model::{Answer, Front, Query};
 use hk_reasons::Asked;
 use hk_types::{Refusal, Time, VersionKey};
-use hk_wire::{Reply, Request, encode_request};
+use hk_wire::{LaterRequest, Reply, Request, encode_request};
 use std::alloc::Global;
 use std::io::Write;
 
@@ -121,16 +120,16 @@ impl<'o, 'p, W: Write, E: Write> Writer<'o, 'p, W, E> {
     }
 
     /// Writes a request.
-    fn send(&mut self, request: &LaterRequest) -> Result<(), Stop> {
+    fn send(&mut self, request: LaterRequest) -> Result<(), Stop> {
         self.frame.clear();
-        encode_later(request, &mut self.frame)?;
+        encode_request(&Request::Later(request), &mut self.frame)?;
         self.output.send(&self.frame)
     }
 }
 
 impl<W: Write, E: Write> Parts for Writer<'_, '_, W, E> {
     fn take(&mut self, facts: Vec<(VersionKey, Version)>) -> Result<(), Stop> {
-        self.send(&LaterRequest::AddPart(facts))
+        self.send(LaterRequest::AddPart(facts))
     }
 }
 
@@ -141,7 +140,7 @@ fn send_parts<W: Write, E: Write>(
 ) -> Result<(), Stop> {
     let mut writer = Writer::new(link.alloc(), output);
     let head = hand_parts(link, Time::zero(), &mut writer)?;
-    writer.send(&taking(head))
+    writer.send(taking(head))
 }
 
 /// The same of a whole that was refused, where a message has no room for it and the node reads requests of parts. Else it

@@ -1,10 +1,9 @@
 -- A whole frame is never told to be cut off: a feeder alone tells it, at the end.
 use Rattle.std.proofs.Common.{◌≡◌, ℕ, ◌+◌, Bool, true, false, cond, ltb, List, length, Option, Some, None, Result, Ok, Err, refl, ap}
 use Rattle.hk_types.specs.declared.faults.FormFault.{FormFault}
-use Rattle.hk_types.specs.declared.faults.FormFault.TheVariants.{Truncated, BadVersion, BadKind, BadStream, BadNumber, BadOrder, BadCount, BadBody, TooLong, WrongLength}
+use Rattle.hk_types.specs.declared.faults.FormFault.TheVariants.{Truncated}
 use Rattle.hk_frames.specs.Fields.{◌>>=◌, check}
-use Rattle.hk_frames.specs.Framing.{len_of, rest_at, framed, value_of}
-use Rattle.hk_session.specs.Protocols.{NeverCut, ReadsBy, WireFormat}
+use Rattle.hk_frames.specs.Framing.{len_of, rest_at, framed, value_of, BeginsAs}
 
 -- is the fault another one
 abbrev pub is_other : FormFault → Bool
@@ -47,22 +46,10 @@ framed_whole least most read h bytes =
     value_whole read h None = refl
     value_whole read h (Some rest) = bind_whole (read rest) _ (h rest) (λ _. refl)
 
--- what is never told to be cut off is whole, or has another fault
-is_whole_of : {A : Type 0} (r : Result A FormFault) → (r ≡ Err Truncated → ⊥) → is_whole r ≡ true
-is_whole_of (Ok x) never = refl
-is_whole_of (Err Truncated) never = absurd (never refl)
-is_whole_of (Err BadVersion) never = refl
-is_whole_of (Err BadKind) never = refl
-is_whole_of (Err BadStream) never = refl
-is_whole_of (Err BadNumber) never = refl
-is_whole_of (Err BadOrder) never = refl
-is_whole_of (Err BadCount) never = refl
-is_whole_of (Err BadBody) never = refl
-is_whole_of (Err TooLong) never = refl
-is_whole_of (Err WrongLength) never = refl
-
-pub never_cut : {Q A : Type 0} (wire : WireFormat Q A) → NeverCut wire → (text : List ℕ) (qs : List Q) → ReadsBy wire text qs (Err Truncated) → ⊥
-never_cut wire never text qs h =
-    let w : is_whole (framed wire.least wire.most wire.format.read h.2.0) ≡ true = framed_whole wire.least wire.most wire.format.read (λ rest. is_whole_of (wire.format.read rest) (never rest)) h.2.0 in
-    let v : is_whole (framed wire.least wire.most wire.format.read h.2.0) ≡ false = ap is_whole h.2.3 in
+-- what is read of frames whose rests are never told to be cut off
+pub never_cut : {X Y T : Type 0} (seen : X → Y) (meant : T → Y) (least most : ℕ) (read : List ℕ → Result T FormFault) (rest_text : T → List ℕ) (HasText : T → Type 0) → Whole read
+    → (text : List ℕ) (xs : List X) → BeginsAs seen meant least most read rest_text HasText text xs (Err Truncated) → ⊥
+never_cut seen meant least most read rest_text HasText whole text xs h =
+    let w : is_whole (framed least most read h.2.0) ≡ true = framed_whole least most read whole h.2.0 in
+    let v : is_whole (framed least most read h.2.0) ≡ false = ap is_whole h.2.3 in
     absurd cc

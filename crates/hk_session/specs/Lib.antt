@@ -1,7 +1,6 @@
 pub mod Endings
-pub mod Protocols
+pub mod Said
 pub mod Steps
 pub mod Transcript
 pub mod Serving
 pub mod Values
-pub mod VersionOne

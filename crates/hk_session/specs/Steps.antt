@@ -1,6 +1,7 @@
 -- What a host over a state answers, and what state it is left in.
-use Rattle.std.specs.Prelude.{ℕ, ◌≡◌, ◌⊎◌, ◌+◌, ◌^◌, ◌&&◌, Bool, true, false, List, length, nat_lt, is_ok, if◌then◌else◌, Option, Some, None, Result, Ok, Err}
+use Rattle.std.specs.Prelude.{ℕ, ◌≡◌, ◌⊎◌, ◌+◌, ◌^◌, ◌&&◌, Bool, true, false, List, length, nat_lt, is_ok, if◌then◌else◌, Some, None, Result, Ok, Err}
 use Rattle.hk_types.specs.Values.{ConfigValue}
+use Rattle.hk_types.specs.declared.faults.FormFault.TheVariants.{BadKind}
 use Rattle.hk_types.specs.declared.faults.Refusal.{Refusal}
 use Rattle.hk_types.specs.declared.faults.Refusal.TheVariants as refusals
 use Rattle.hk_log.specs.declared.item.Item.{Item}
@@ -11,7 +12,7 @@ use Rattle.hk_model.specs.Replica.Rules.{gather_result, join_result, prune_resul
 use Rattle.hk_wire.specs.declared.reply.Reply.{Reply}
 use Rattle.hk_wire.specs.declared.request.Request.{Request}
 use Rattle.hk_wire.specs.declared.request.Request.TheVariants as asked
-use Rattle.hk_wire.specs.Fragments.{wire_fragment_of}
+use Rattle.hk_values.specs.Fragments.{wire_fragment_of}
 use Rattle.hk_wire.specs.Replies.{ReplyValue, Done, Front, Fragment, Answer, Refused, reply_seen}
 use Rattle.hk_session.specs.Values.{HostValue}
 
@@ -47,7 +48,7 @@ abbrev pub fragment_reply : Result FragmentValue Refusal → ReplyValue
 fragment_reply (Ok f) = Fragment (wire_fragment_of f)
 fragment_reply (Err why) = Refused why
 
--- the reply to a request, and the host after it
+-- the reply to a request, and the host after it; one of version 2 has no meaning here
 abbrev pub answer_step : HostValue → Request → ReplyValue × HostValue
 answer_step h (asked.Items items) = change_step h (joined_if h.content (gather_result (config_of h.content) items.items))
 answer_step h asked.Front = (Front h.content.horizon (readable h.content), h)
@@ -57,6 +58,7 @@ answer_step h (asked.Ask t query) = (query_reply (reply h.content t query), h)
 answer_step h (asked.JoinThis fragment) = change_step h (join_result h.content fragment)
 answer_step h (asked.MergeThis fragment) = change_step h (join_result h.content fragment)
 answer_step h (asked.Prune horizon) = change_step h (prune_result h.content horizon)
+answer_step h (asked.Later request) = (Refused (refusals.Form BadKind), h)
 
 -- whether an answer takes memory: a number takes none, nor does it to say that there is no row
 abbrev pub takes_memory : AnswerValue → Bool
@@ -85,6 +87,7 @@ may_lack h (asked.Ask t query) = asking_may_lack (reply h.content t query)
 may_lack h (asked.JoinThis fragment) = has_room_for h (join_result h.content fragment)
 may_lack h (asked.MergeThis fragment) = has_room_for h (join_result h.content fragment)
 may_lack h (asked.Prune horizon) = has_room_for h (prune_result h.content horizon)
+may_lack h (asked.Later request) = false
 
 -- a host replied and was left so: as it is told; or it refused because memory ran out, where it may, and nothing changed
 abbrev pub IsGiven : Bool → HostValue → ReplyValue × HostValue → Reply → HostValue → Type 0

@@ -1,29 +1,32 @@
--- What a session writes, by what it read, in what it speaks.
+-- What a session writes, by what it read: requests up to the latest version that it reads.
 use Rattle.std.specs.Prelude.{◌≡◌, ◌≢◌, ◌⊎◌, ◌<◌, ◌≤◌, ℕ, List, [], ◌∷◌, ◌++◌, length, map, Option, Some, None, Result, Ok, Err}
 use Rattle.std.specs.List.{flat_map, AllByRecursion}
 use Rattle.std.specs.Io.KnownBytes.{Appends}
 use Rattle.hk_types.specs.declared.faults.FormFault.{FormFault}
 use Rattle.hk_types.specs.declared.faults.FormFault.TheVariants.{Truncated}
 use Rattle.hk_frames.specs.Framing.{encoded}
-use Rattle.hk_session.specs.Protocols.{ReadsBy, WireFormat, refused_text}
+use Rattle.hk_wire.specs.declared.request.Request.{Request}
+use Rattle.hk_wire.specs.declared.reply.Reply.{Reply}
+use Rattle.hk_wire.specs.Requests.{WrittenRequest, request_seen, request_meant, request_rest, IsRequestUpTo, ReadsRequests}
+use Rattle.hk_session.specs.Said.{reply_bytes, fault_reply, refused_text}
 use Rattle.hk_session.specs.declared.ended.Ended.{Ended}
 use Rattle.hk_session.specs.declared.ended.Ended.TheVariants.{Clean, Fault, Memory, ReadFault, WriteFault}
 
 -- what a host may do: which reply it gives to a request, and how it is left
-abbrev pub May : Type 0 → Type 0 → Type 0 → Type 1
-May H Q A = H → Q → A → H → Type 0
+abbrev pub May : Type 0 → Type 1
+May H = H → Request → Reply → H → Type 0
 
 -- The host gives these replies to these requests, one each and in order, each as it may in the state that the one
 -- before left.
-abbrev pub Answers : {H Q A : Type 0} → May H Q A → H → List Q → List A → H → Type 0
+abbrev pub Answers : {H : Type 0} → May H → H → List Request → List Reply → H → Type 0
 Answers may old [] [] new = new ≡ old
 Answers {H} may old (q ∷ qs) (r ∷ rs) new = (mid : H) × may old q r mid × Answers may mid qs rs new
 Answers may old [] (r ∷ rs) new = ⊥
 Answers may old (q ∷ qs) [] new = ⊥
 
 -- the replies one after the other
-abbrev pub replies_bytes : {Q A : Type 0} → WireFormat Q A → List A → List ℕ
-replies_bytes wire rs = flat_map wire.reply_bytes rs
+abbrev pub replies_bytes : List Reply → List ℕ
+replies_bytes rs = flat_map reply_bytes rs
 
 -- what is written at the end, by what is left of the bytes
 abbrev pub closing_bytes : Result (List ℕ) FormFault → List ℕ
@@ -33,13 +36,13 @@ closing_bytes (Err f) = refused_text f
 
 -- The text is what a host answers to all of the bytes: the replies to the requests that they encode, one each and in
 -- order, up to the first fault, which is then told. Bytes that end inside a frame have the fault `Truncated`.
-pub record Transcript {H Q A : Type 0} (wire : WireFormat Q A) (may : May H Q A) (old new : H) (bytes text : List ℕ) : Type 0 where
-  pub requests : List Q
+pub record Transcript {H : Type 0} (latest : ℕ) (may : May H) (old new : H) (bytes text : List ℕ) : Type 0 where
+  pub requests : List Request
   pub left : Result (List ℕ) FormFault
-  pub reads : ReadsBy wire bytes requests left
-  pub replies : List A
+  pub reads : ReadsRequests latest bytes requests left
+  pub replies : List Reply
   pub answers : Answers may old requests replies new
-  pub told : text ≡ replies_bytes wire replies ++ closing_bytes left
+  pub told : text ≡ replies_bytes replies ++ closing_bytes left
 
 -- the first of the two texts begins the second
 abbrev pub IsPrefixOf : List ℕ → List ℕ → Type 0
@@ -51,23 +54,23 @@ IsProperPrefixOf front text = IsPrefixOf front text × (length front < length te
 
 -- The text of the replies is cut off. Those before the cut were written whole, and of the text of the others a front that
 -- is not all of it. The others are a last reply, and those that were held back before it: at most 65,536 bytes.
-pub record IsCut {Q A : Type 0} (wire : WireFormat Q A) (written : List ℕ) (replies : List A) : Type 0 where
-  pub said : List A
-  pub held : List A
-  pub last : A
+pub record IsCut (written : List ℕ) (replies : List Reply) : Type 0 where
+  pub said : List Reply
+  pub held : List Reply
+  pub last : Reply
   pub order : replies ≡ said ++ (held ++ last ∷ [])
-  pub few : length (replies_bytes wire held) ≤ 65536
+  pub few : length (replies_bytes held) ≤ 65536
   pub part : List ℕ
-  pub front : IsProperPrefixOf part (replies_bytes wire (held ++ last ∷ []))
-  pub wrote : written ≡ replies_bytes wire said ++ part
+  pub front : IsProperPrefixOf part (replies_bytes (held ++ last ∷ []))
+  pub wrote : written ≡ replies_bytes said ++ part
 
 -- the text of the replies, all of it or cut off
-abbrev pub IsAllOrCut : {Q A : Type 0} → WireFormat Q A → List ℕ → List A → Type 0
-IsAllOrCut wire written replies = (written ≡ replies_bytes wire replies) ⊎ IsCut wire written replies
+abbrev pub IsAllOrCut : List ℕ → List Reply → Type 0
+IsAllOrCut written replies = (written ≡ replies_bytes replies) ⊎ IsCut written replies
 
 -- bytes that are whole requests
-abbrev pub AreWhole : {Q A : Type 0} → WireFormat Q A → List ℕ → Type 0
-AreWhole {Q} wire bytes = (requests : List Q) × ReadsBy wire bytes requests (Ok [])
+abbrev pub AreWhole : ℕ → List ℕ → Type 0
+AreWhole latest bytes = (requests : List Request) × ReadsRequests latest bytes requests (Ok [])
 
 -- the fault that bytes have after whole requests, by what is left of them
 abbrev pub fault_of : Result (List ℕ) FormFault → Option FormFault
@@ -76,19 +79,19 @@ fault_of (Ok (b ∷ left)) = Some Truncated
 fault_of (Err f) = Some f
 
 -- the replies that close a session, by the fault that ends it
-abbrev pub closing : {Q A : Type 0} → WireFormat Q A → Option FormFault → List A
-closing wire None = []
-closing wire (Some f) = wire.fault_reply f ∷ []
+abbrev pub closing : Option FormFault → List Reply
+closing None = []
+closing (Some f) = fault_reply f ∷ []
 
 -- What a host answers to a front of the bytes, which is whole requests or all of them: all of it, or cut off.
-pub record PartialTranscript {H Q A : Type 0} (wire : WireFormat Q A) (may : May H Q A) (old new : H) (bytes part : List ℕ) : Type 0 where
+pub record PartialTranscript {H : Type 0} (latest : ℕ) (may : May H) (old new : H) (bytes part : List ℕ) : Type 0 where
   pub front : List ℕ
   pub back : List ℕ
   pub parted : bytes ≡ front ++ back
-  pub whole : AreWhole wire front ⊎ (back ≡ [])
+  pub whole : AreWhole latest front ⊎ (back ≡ [])
   pub text : List ℕ
-  pub told : Transcript wire may old new front text
-  pub cut : IsAllOrCut wire part (told.replies ++ closing wire (fault_of told.left))
+  pub told : Transcript latest may old new front text
+  pub cut : IsAllOrCut part (told.replies ++ closing (fault_of told.left))
 
 -- the fault that a feeder met
 abbrev pub fault_met : Result (List ℕ) FormFault → Option FormFault
@@ -96,36 +99,36 @@ fault_met (Ok left) = None
 fault_met (Err f) = Some f
 
 -- the bytes begin with encodings of these requests
-abbrev pub BeginsWith : {Q A : Type 0} → WireFormat Q A → List ℕ → List Q → Type 0
-BeginsWith wire bytes requests =
-    (written : List wire.format.Told) × (map wire.format.seen requests ≡ map wire.format.meant written) × (rest : List ℕ) × (bytes ≡ flat_map (encoded wire.format.rest_text) written ++ rest)
-    × AllByRecursion wire.format.IsEncodable written
+abbrev pub BeginsWith : ℕ → List ℕ → List Request → Type 0
+BeginsWith latest bytes requests =
+    (written : List WrittenRequest) × (map request_seen requests ≡ map request_meant written) × (rest : List ℕ) × (bytes ≡ flat_map (encoded request_rest) written ++ rest)
+    × AllByRecursion (IsRequestUpTo latest) written
 
 -- A session that goes on has written the replies to all whole requests, and less than one is left.
-abbrev pub GoesOn : {Q A : Type 0} → WireFormat Q A → List ℕ → List ℕ → List Q → List A → List ℕ → Type 0
-GoesOn wire left bytes requests replies written = ReadsBy wire bytes requests (Ok left) × (written ≡ replies_bytes wire replies)
+abbrev pub GoesOn : ℕ → List ℕ → List ℕ → List Request → List Reply → List ℕ → Type 0
+GoesOn latest left bytes requests replies written = ReadsRequests latest bytes requests (Ok left) × (written ≡ replies_bytes replies)
 
 -- What was read and written where a session ended so. The requests are those that were answered: no other was executed.
-abbrev pub Ends : {Q A : Type 0} → WireFormat Q A → Ended → List ℕ → List Q → List A → List ℕ → Type 0
+abbrev pub Ends : ℕ → Ended → List ℕ → List Request → List Reply → List ℕ → Type 0
 -- the bytes are whole requests, and the replies to them were written
-Ends wire Clean bytes requests replies written = ReadsBy wire bytes requests (Ok []) × (written ≡ replies_bytes wire replies)
+Ends latest Clean bytes requests replies written = ReadsRequests latest bytes requests (Ok []) × (written ≡ replies_bytes replies)
 -- after the replies to the whole requests it was said which fault follows them
-Ends wire (Fault f) bytes requests replies written =
-    (left : Result (List ℕ) FormFault) × ReadsBy wire bytes requests left × (fault_of left ≡ Some f) × (written ≡ replies_bytes wire replies ++ refused_text f)
+Ends latest (Fault f) bytes requests replies written =
+    (left : Result (List ℕ) FormFault) × ReadsRequests latest bytes requests left × (fault_of left ≡ Some f) × (written ≡ replies_bytes replies ++ refused_text f)
 -- the replies to the whole requests were written and no more
-Ends wire ReadFault bytes requests replies written = (left : List ℕ) × ReadsBy wire bytes requests (Ok left) × (written ≡ replies_bytes wire replies)
+Ends latest ReadFault bytes requests replies written = (left : List ℕ) × ReadsRequests latest bytes requests (Ok left) × (written ≡ replies_bytes replies)
 -- the replies to some of the requests, all of them or cut off
-Ends wire Memory bytes requests replies written = BeginsWith wire bytes requests × IsAllOrCut wire written replies
+Ends latest Memory bytes requests replies written = BeginsWith latest bytes requests × IsAllOrCut written replies
 -- the replies to some of the requests, cut off; or all replies and the fault that follows them, cut off
-Ends wire WriteFault bytes requests replies written =
-    (BeginsWith wire bytes requests × IsCut wire written replies)
-    ⊎ ((left : Result (List ℕ) FormFault) × (f : FormFault) × ReadsBy wire bytes requests left × (fault_of left ≡ Some f) × IsCut wire written (replies ++ wire.fault_reply f ∷ []))
+Ends latest WriteFault bytes requests replies written =
+    (BeginsWith latest bytes requests × IsCut written replies)
+    ⊎ ((left : Result (List ℕ) FormFault) × (f : FormFault) × ReadsRequests latest bytes requests left × (fault_of left ≡ Some f) × IsCut written (replies ++ fault_reply f ∷ []))
 
 -- What was said to the bytes: which requests of theirs were answered how, and what was written.
-pub record SessionStep {H Q A : Type 0} (may : May H Q A) (old new : H) (before after : Option (List ℕ)) (bytes : List ℕ)
-    (How : List ℕ → List Q → List A → List ℕ → Type 0) : Type 0 where
-  pub requests : List Q
-  pub replies : List A
+pub record SessionStep {H : Type 0} (may : May H) (old new : H) (before after : Option (List ℕ)) (bytes : List ℕ)
+    (How : List ℕ → List Request → List Reply → List ℕ → Type 0) : Type 0 where
+  pub requests : List Request
+  pub replies : List Reply
   pub answers : Answers may old requests replies new
   pub written : List ℕ
   pub appended : Appends before after written
@@ -170,10 +173,10 @@ Refuses f before after Clean = ⊥
 Refuses f before after ReadFault = ⊥
 
 -- what a call that answers these requests did, where it answers so: some of them were answered, and the replies cut off
-abbrev pub Stops : {H Q A : Type 0} → WireFormat Q A → May H Q A → H → H → Option (List ℕ) → Option (List ℕ) → List Q → Ended → Type 0
-Stops {H} {Q} {A} wire may old new before after requests e =
-    (front back : List Q) × (requests ≡ front ++ back) × (replies : List A) × Answers may old front replies new
-    × (part : List ℕ) × IsCut wire part replies × Appends before after part × ((e ≡ Memory) ⊎ (e ≡ WriteFault))
+abbrev pub Stops : {H : Type 0} → May H → H → H → Option (List ℕ) → Option (List ℕ) → List Request → Ended → Type 0
+Stops may old new before after requests e =
+    (front back : List Request) × (requests ≡ front ++ back) × (replies : List Reply) × Answers may old front replies new
+    × (part : List ℕ) × IsCut part replies × Appends before after part × ((e ≡ Memory) ⊎ (e ≡ WriteFault))
 
 -- a session that ended by what it read
 abbrev pub IsDone : Ended → Type 0

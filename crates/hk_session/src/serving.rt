@@ -10,10 +10,9 @@ ghost use Rattle.hk_session.specs.Transcript.{Ends, IsMidway};
 use crate::counted::Counted;
 use crate::ended::Ended;
 use crate::host::Host;
-use crate::protocol::{Protocol, RequestOf};
 use crate::sending::send;
-use hk_frames::FrameFeeder;
 use hk_types::{FormFault, Refusal};
+use hk_wire::{Reply, Request, RequestFeeder};
 use std::alloc::{AllocError, Global};
 use std::io::{Read, Write};
 
@@ -21,8 +20,8 @@ use std::io::{Read, Write};
 const MOST_HELD: usize = 65_536;
 
 /// Answers one request. Its reply is held, where all that are held have at most `most` bytes, or written with them.
-fn answer_one<W: Write, P: Protocol, H: Host<Speaks = P>>(
-    asked: RequestOf<P>,
+fn answer_one<W: Write, H: Host>(
+    asked: Request,
     most: usize,
     held: &mut Vec<u8>,
     writer: &mut Counted<W>,
@@ -30,32 +29,31 @@ fn answer_one<W: Write, P: Protocol, H: Host<Speaks = P>>(
 ) -> Option<Ended>
     requires quiet { writer.old.faults ≡ 0 }
     requires ready { H.ready host.old }
-    ensures says { Replies P.wire H.may host.old host.new W.contents writer.old writer.new
+    ensures says { Replies H.may host.old host.new W.contents writer.old writer.new
         asked held.old.items most held.new.items result }
     ensures ready { H.ready host.new }
     ensures quiet { result ≢ Some ends.WriteFault → writer.new.faults ≡ 0 }
     ensures fault { result ≡ Some ends.WriteFault → 0 < writer.new.faults }
 {
     let reply = host.answer(asked);
-    send::<W, P>(&reply, most, held, writer)
+    send(&reply, most, held, writer)
 }
 
 /// Answers the requests in order, and writes the replies: in one piece, or as soon as so many bytes stand.
-fn answer_all<W: Write, P: Protocol, H: Host<Speaks = P>>(
+fn answer_all<W: Write, H: Host>(
     alloc: Global,
-    requests: Vec<RequestOf<P>>,
+    requests: Vec<Request>,
     writer: &mut Counted<W>,
     host: &mut H,
 ) -> Option<Ended>
     requires quiet { writer.old.faults ≡ 0 }
     requires ready { H.ready host.old }
-    ensures all { AnswersAll P.wire H.may host.old host.new W.contents writer.old writer.new requests.items result }
-    ensures part { StopsBy P.wire H.may host.old host.new W.contents writer.old writer.new requests.items result }
+    ensures all { AnswersAll H.may host.old host.new W.contents writer.old writer.new requests.items result }
+    ensures part { StopsBy H.may host.old host.new W.contents writer.old writer.new requests.items result }
     ensures ready { H.ready host.new }
     ensures quiet { result ≢ Some ends.WriteFault → writer.new.faults ≡ 0 }
     ensures fault { result ≡ Some ends.WriteFault → 0 < writer.new.faults }
 {
-    P::laws();
     let mut held = Vec::new(alloc);
     let mut rest = requests.into_iter();
     'requests: loop {
@@ -72,16 +70,16 @@ fn answer_all<W: Write, P: Protocol, H: Host<Speaks = P>>(
 }
 
 /// Says which fault the session ends with.
-fn refuse<W: Write, P: Protocol>(alloc: Global, fault: FormFault, writer: &mut Counted<W>) -> Ended
+fn refuse<W: Write>(alloc: Global, fault: FormFault, writer: &mut Counted<W>) -> Ended
     requires { writer.old.faults ≡ 0 }
     ensures sends { RefusesBy W.contents writer.old writer.new fault result }
+    ensures reads { result ≢ ends.ReadFault }
     ensures quiet { result ≢ ends.WriteFault → writer.new.faults ≡ 0 }
     ensures fault { result ≡ ends.WriteFault → 0 < writer.new.faults }
 {
-    P::laws();
     let mut held = Vec::new(alloc);
-    let reply = P::refused(fault);
-    match send::<W, P>(&reply, 0, &mut held, writer) {
+    let reply = Reply::Refused(Refusal::Form(fault));
+    match send(&reply, 0, &mut held, writer) {
         None => Ended::Fault(fault),
         Some(ended) => ended,
     }
@@ -89,16 +87,15 @@ fn refuse<W: Write, P: Protocol>(alloc: Global, fault: FormFault, writer: &mut C
 
 /// Takes the next piece of the stream into an empty list, and gives the fault that follows the requests, if one does.
 /// Where memory runs out the feeder and the list are as before.
-fn take_in<P: Protocol>(
-    feeder: &mut FrameFeeder<P::Requests>,
+fn take_in<const LATEST: u8>(
+    feeder: &mut RequestFeeder<LATEST>,
     piece: &[u8],
-    requests: &mut Vec<RequestOf<P>>,
+    requests: &mut Vec<Request>,
 ) -> Result<Option<FormFault>, AllocError>
     requires { requests.old.items ≡ [] }
-    ensures reads { TakesPiece P.wire feeder.old feeder.new piece.now requests.new.items result }
+    ensures reads { TakesPiece LATEST feeder.old feeder.new piece.now requests.new.items result }
     ensures err { OnErr result ((feeder.new ≡ feeder.old) × (requests.new.items ≡ requests.old.items)) }
 {
-    P::laws();
     match feeder.feed(piece, requests) {
         Ok(()) => Ok(None),
         Err(why) => match why {
@@ -109,27 +106,26 @@ fn take_in<P: Protocol>(
 }
 
 /// Takes the next piece of the stream, and answers the requests that are whole now. `None` goes on.
-fn handle_piece<W: Write, P: Protocol, H: Host<Speaks = P>>(
+fn handle_piece<const LATEST: u8, W: Write, H: Host>(
     alloc: Global,
     piece: &[u8],
-    feeder: &mut FrameFeeder<P::Requests>,
+    feeder: &mut RequestFeeder<LATEST>,
     writer: &mut Counted<W>,
     host: &mut H,
 ) -> Option<Ended>
     requires quiet { writer.old.faults ≡ 0 }
     requires open { (left : List ℕ) × (feeder.old ≡ Ok left) }
     requires ready { H.ready host.old }
-    ensures goes_on { GoesOnWith P.wire H.may host.old host.new W.contents writer.old writer.new
+    ensures goes_on { GoesOnWith LATEST H.may host.old host.new W.contents writer.old writer.new
         feeder.old feeder.new piece.now result }
-    ensures ends { EndsWith P.wire H.may host.old host.new W.contents writer.old writer.new feeder.old piece.now result }
+    ensures ends { EndsWith LATEST H.may host.old host.new W.contents writer.old writer.new feeder.old piece.now result }
     ensures midway { IfSome result IsMidway }
     ensures ready { H.ready host.new }
     ensures quiet { result ≢ Some ends.WriteFault → writer.new.faults ≡ 0 }
     ensures fault { result ≡ Some ends.WriteFault → 0 < writer.new.faults }
 {
-    P::laws();
     let mut requests = Vec::new(alloc);
-    let fault = match take_in::<P>(feeder, piece, &mut requests) {
+    let fault = match take_in(feeder, piece, &mut requests) {
         Ok(fault) => fault,
         Err(_e) => return Some(Ended::Memory),
     };
@@ -138,24 +134,25 @@ fn handle_piece<W: Write, P: Protocol, H: Host<Speaks = P>>(
     }
     match fault {
         None => None,
-        Some(fault) => Some(refuse::<W, P>(alloc, fault, writer)),
+        Some(fault) => Some(refuse(alloc, fault, writer)),
     }
 }
 
 /// Ends a session whose reader is at its end.
-fn finish<W: Write, P: Protocol>(
+fn finish<const LATEST: u8, W: Write>(
     alloc: Global,
-    feeder: FrameFeeder<P::Requests>,
+    feeder: RequestFeeder<LATEST>,
     writer: &mut Counted<W>,
 ) -> Ended
     requires quiet { writer.old.faults ≡ 0 }
-    ensures clean { feeder ≡ Ok [] → (result ≡ ends.Clean) × Wrote W.contents writer.old writer.new [] }
-    ensures cut { EndsCut W.contents writer.old writer.new feeder result }
+    ensures clean { feeder.entry ≡ Ok [] → (result ≡ ends.Clean) × Wrote W.contents writer.old writer.new [] }
+    ensures cut { EndsCut W.contents writer.old writer.new feeder.entry result }
+    ensures reads { result ≢ ends.ReadFault }
     ensures quiet { result ≢ ends.WriteFault → writer.new.faults ≡ 0 }
     ensures fault { result ≡ ends.WriteFault → 0 < writer.new.faults }
 {
     match feeder.finish() {
-        Err(Refusal::Form(fault)) => refuse::<W, P>(alloc, fault, writer),
+        Err(Refusal::Form(fault)) => refuse(alloc, fault, writer),
         _ => Ended::Clean,
     }
 }
@@ -164,7 +161,7 @@ fn finish<W: Write, P: Protocol>(
 const MOST_READS: u64 = 4_294_967_296;
 
 /// The session, by its parts.
-fn run<R: Read, W: Write, P: Protocol, H: Host<Speaks = P>>(
+fn run<const LATEST: u8, R: Read, W: Write, H: Host>(
     alloc: Global,
     reader: &mut Counted<R>,
     writer: &mut Counted<W>,
@@ -174,7 +171,7 @@ fn run<R: Read, W: Write, P: Protocol, H: Host<Speaks = P>>(
     requires writer { writer.old.faults ≡ 0 }
     requires ready { H.ready host.old }
     // The bytes read, and what was done and written for them.
-    ensures transcript { Serves P.wire H.may host.old host.new R.remaining reader.old reader.new
+    ensures transcript { Serves LATEST H.may host.old host.new R.remaining reader.old reader.new
         W.contents writer.old writer.new result }
     ensures ready { H.ready host.new }
     // All bytes were read.
@@ -188,16 +185,15 @@ fn run<R: Read, W: Write, P: Protocol, H: Host<Speaks = P>>(
     ensures reads { result ≢ ends.ReadFault → reader.new.faults ≡ 0 }
     ensures writes { result ≢ ends.WriteFault → writer.new.faults ≡ 0 }
 {
-    P::laws();
     let _known = reader.calls();
-    let mut feeder: FrameFeeder<P::Requests> = FrameFeeder::new(alloc);
+    let mut feeder: RequestFeeder<LATEST> = RequestFeeder::new(alloc);
     let mut buffer = [0; 65_536];
     for _ in 0..MOST_READS {
         match reader.read(&mut buffer) {
             Err(_e) => return Ended::ReadFault,
             Ok(count) => {
                 if count == 0 {
-                    return finish::<W, P>(alloc, feeder, writer);
+                    return finish(alloc, feeder, writer);
                 }
                 if let Some(ended) = handle_piece(
                     alloc,
@@ -217,8 +213,9 @@ fn run<R: Read, W: Write, P: Protocol, H: Host<Speaks = P>>(
 /// Answers the requests that a reader gives, one after the other, and writes the replies.
 ///
 /// `Clean` is an end of the input between requests. A form fault, an end inside a frame included, is told by `Refused`
-/// with its number, after the replies to the requests before it, and ends the session. A reply is written as
-/// `Protocol::put` says: of version 1, where it has no encoding, as `Refused` with 2. The replies to the requests of
+/// with its number, after the replies to the requests before it, and ends the session: so does a request of a version
+/// above `LATEST`, which is 1 or 2, with `BadVersion`. A reply is written as its encoding, and where it has none as `Refused`
+/// with 2, in its version; a fault of form is told in version 1, whatever was asked. The replies to the requests of
 /// one read are written together, or as soon as they have more than 65,536 bytes. Where memory for the session's own
 /// buffers runs out, what stands is written and nothing more, and the last requests may stay unanswered. A failed
 /// write, or one that takes 0 bytes, ends it, and so does a failed read, an interrupted one too; so does the read
@@ -228,7 +225,7 @@ fn run<R: Read, W: Write, P: Protocol, H: Host<Speaks = P>>(
 ///
 /// The host has to be such as can be asked (`Host::ready`), and is left so, as the last request that it answered left
 /// it. Cost: that of the answers, a copy of each reply, and a pass over what is read; up to 65,536 bytes are read at a time.
-pub fn serve<R: Read, W: Write, P: Protocol, H: Host<Speaks = P>>(
+pub fn serve<const LATEST: u8, R: Read, W: Write, H: Host>(
     alloc: Global,
     reader: &mut Counted<R>,
     writer: &mut Counted<W>,
@@ -238,14 +235,14 @@ pub fn serve<R: Read, W: Write, P: Protocol, H: Host<Speaks = P>>(
     requires writer { writer.old.faults ≡ 0 }
     requires ready { H.ready host.old }
     // Where it ends clean or with a fault, what was written is the transcript of what was read.
-    ensures whole { ServesAll P.wire H.may host.old host.new R.remaining reader.old reader.new
+    ensures whole { ServesAll LATEST H.may host.old host.new R.remaining reader.old reader.new
         W.contents writer.old writer.new result }
     // Where memory ran out or a write failed, what was written is the transcript of a front of what was read, of whole
     // requests or of all bytes: all of it, or cut off in its last replies. Nothing but that front was executed.
-    ensures stopped { ServesPart P.wire H.may host.old host.new R.remaining reader.old reader.new
+    ensures stopped { ServesPart LATEST H.may host.old host.new R.remaining reader.old reader.new
         W.contents writer.old writer.new result }
     // The bytes read, and what was done and written for them.
-    ensures transcript { Serves P.wire H.may host.old host.new R.remaining reader.old reader.new
+    ensures transcript { Serves LATEST H.may host.old host.new R.remaining reader.old reader.new
         W.contents writer.old writer.new result }
     ensures ready { H.ready host.new }
     // All bytes were read.
@@ -259,11 +256,11 @@ pub fn serve<R: Read, W: Write, P: Protocol, H: Host<Speaks = P>>(
     ensures reads { result ≢ ends.ReadFault → reader.new.faults ≡ 0 }
     ensures writes { result ≢ ends.WriteFault → writer.new.faults ≡ 0 }
 {
-    run(alloc, reader, writer, host)
+    run::<LATEST, _, _, _>(alloc, reader, writer, host)
 }
 
 /// The session of bytes, by its parts.
-fn run_bytes<W: Write, P: Protocol, H: Host<Speaks = P>>(
+fn run_bytes<const LATEST: u8, W: Write, H: Host>(
     alloc: Global,
     bytes: &[u8],
     writer: &mut Counted<W>,
@@ -271,23 +268,23 @@ fn run_bytes<W: Write, P: Protocol, H: Host<Speaks = P>>(
 ) -> Ended
     requires writer { writer.old.faults ≡ 0 }
     requires ready { H.ready host.old }
-    ensures transcript { StepsBy H.may host.old host.new W.contents writer.old writer.new bytes.now (Ends P.wire result) }
+    ensures transcript { StepsBy H.may host.old host.new W.contents writer.old writer.new bytes.now (Ends LATEST result) }
     ensures ready { H.ready host.new }
+    ensures reads { result ≢ ends.ReadFault }
     ensures write_fault { result ≡ ends.WriteFault → 0 < writer.new.faults }
     ensures writes { result ≢ ends.WriteFault → writer.new.faults ≡ 0 }
 {
-    P::laws();
-    let mut feeder: FrameFeeder<P::Requests> = FrameFeeder::new(alloc);
+    let mut feeder: RequestFeeder<LATEST> = RequestFeeder::new(alloc);
     match handle_piece(alloc, bytes, &mut feeder, writer, host) {
         Some(ended) => ended,
-        None => finish::<W, P>(alloc, feeder, writer),
+        None => finish(alloc, feeder, writer),
     }
 }
 
 /// Answers the requests that these bytes encode, as a session that `serve` has with a reader of them, and makes no
 /// buffer to read into. All bytes are one piece: the replies are written together, or as soon as they have more than
 /// 65,536 bytes. Cost: that of the answers, a copy of each reply, and a pass over the bytes.
-pub fn serve_bytes<W: Write, P: Protocol, H: Host<Speaks = P>>(
+pub fn serve_bytes<const LATEST: u8, W: Write, H: Host>(
     alloc: Global,
     bytes: &[u8],
     writer: &mut Counted<W>,
@@ -296,15 +293,20 @@ pub fn serve_bytes<W: Write, P: Protocol, H: Host<Speaks = P>>(
     requires writer { writer.old.faults ≡ 0 }
     requires ready { H.ready host.old }
     // Where it ends clean or with a fault, what was written is the transcript of the bytes.
-    ensures whole { WritesAll P.wire H.may host.old host.new W.contents writer.old writer.new
+    ensures whole { WritesAll LATEST H.may host.old host.new W.contents writer.old writer.new
         bytes.now result }
     // Where memory ran out or a write failed, what was written is the transcript of a front of the bytes, of whole
     // requests or of all of them: all of it, or cut off in its last replies. Nothing but that front was executed.
-    ensures stopped { WritesPart P.wire H.may host.old host.new W.contents writer.old writer.new
+    ensures stopped { WritesPart LATEST H.may host.old host.new W.contents writer.old writer.new
         bytes.now result }
+    // What was done and written for the bytes.
+    ensures transcript { StepsBy H.may host.old host.new W.contents writer.old writer.new
+        bytes.now (Ends LATEST result) }
     ensures ready { H.ready host.new }
+    // They stand in memory, so no read fails.
+    ensures reads { result ≢ ends.ReadFault }
     ensures write_fault { result ≡ ends.WriteFault → 0 < writer.new.faults }
     ensures writes { result ≢ ends.WriteFault → writer.new.faults ≡ 0 }
 {
-    run_bytes(alloc, bytes, writer, host)
+    run_bytes::<LATEST, _, _>(alloc, bytes, writer, host)
 }

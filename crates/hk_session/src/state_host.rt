@@ -7,13 +7,12 @@ ghost use Rattle.hk_model.specs.Replica.Rules.{join_result, prune_result};
 ghost use Rattle.hk_session.specs.Steps.{since, fragment_reply, gathered, with_items, Counts, GivesAnswer, HandsOut, IsGiven, JoinsItems, MakesChange, Step, Takes};
 
 use crate::host::Host;
-use crate::version_one::VersionOne;
 use hk_delta::{Fragment, delta_since, fragment_of, join, whole_of};
 use hk_log::Item;
 use hk_model::Query;
 use hk_query::ask;
 use hk_state::{ReplicaState, front_of};
-use hk_types::{LAST_OP, Refusal, Time};
+use hk_types::{FormFault, LAST_OP, Refusal, Time};
 use hk_wire::{Reply, Request};
 use std::alloc::Global;
 use std::marker::Model;
@@ -24,7 +23,7 @@ use std::marker::Model;
 /// It takes items all or nothing, as one fragment; joins fragments; prunes; and tells what the state holds. A
 /// change is refused `NodeFull` after operation 2^62, before any other test; else each request is refused as the
 /// call on the state is, and `Memory` comes last: only where the request is not refused otherwise, or, of items,
-/// where they make a fragment. A front, a count and a row that is not there take no memory. A refused request
+/// where they make a fragment. A request of version 2 is refused `Form(BadKind)`. A front, a count and a row that is not there take no memory. A refused request
 /// changes nothing. Cost: that of the calls.
 #[derive(Drop)]
 pub struct StateHost {
@@ -157,8 +156,6 @@ impl StateHost {
 }
 
 impl Host for StateHost {
-    type Speaks = VersionOne;
-
     ghost may = { Step };
 
     fn answer(&mut self, request: Request) -> Reply {
@@ -170,6 +167,7 @@ impl Host for StateHost {
             Request::Ask { t, query } => self.ask(t, &query),
             Request::JoinThis(fragment) | Request::MergeThis(fragment) => self.join_this(&fragment),
             Request::Prune { horizon } => self.prune(horizon),
+            Request::Later(_) => Reply::Refused(Refusal::Form(FormFault::BadKind)),
         }
     }
 }

@@ -11,9 +11,9 @@ use Rattle.hk_frames.specs.Framing.{Begins, AddsBy}
 use Rattle.hk_frames.proofs.FrameStream.{one_value_begins, one_reading_only, one_reading_as, pieces_join_up}
 use Rattle.hk_wire.specs.declared.request.Request.{Request}
 use Rattle.hk_wire.specs.declared.reply.Reply.{Reply}
-use Rattle.hk_wire.specs.Requests.{RequestValue, Items, Front, Delta, Full, Ask, JoinThis, MergeThis, Prune, new_items, newly_written, keeps_rules, request_seen, request_meant, as_written, request_at, request_rest, IsRequest, ReadsRequests, ReadsBack}
+use Rattle.hk_wire.specs.Requests.{RequestValue, Items, Front, Delta, Full, Ask, JoinThis, MergeThis, Prune, Later, new_items, newly_written, keeps_rules, request_seen, request_meant, as_written, request_at, request_rest, IsRequest, IsRequestUpTo, ReadsRequests, ReadsBack}
 use Rattle.hk_wire.specs.Replies.{ReplyValue, reply_seen, reply_at, reply_rest, reply_text, IsReply, ReadsReplies, AddsReplies, reply_format}
-use Rattle.hk_wire.proofs.RequestsReadAgain.{requests_are_sound}
+use Rattle.hk_wire.proofs.RequestsReadAgain.{requests_up_to}
 use Rattle.hk_wire.proofs.RepliesReadAgain.{replies_are_sound}
 
 -- ---- messages by their values
@@ -37,6 +37,7 @@ keeps_same (Ask t query) = refl
 keeps_same (JoinThis fragment) = refl
 keeps_same (MergeThis fragment) = refl
 keeps_same (Prune horizon) = refl
+keeps_same (Later request) = refl
 
 items_meant : (items : List Item) → map (λ (w : WrittenItem). w.item) (new_items items) ≡ items
 items_meant [] = refl
@@ -52,6 +53,7 @@ newly_meant (Ask t query) = refl
 newly_meant (JoinThis fragment) = refl
 newly_meant (MergeThis fragment) = refl
 newly_meant (Prune horizon) = refl
+newly_meant (Later request) = refl
 
 pub new_items_text : (items : List Item) → flat_map frame_text (new_items items) ≡ flat_map (encoding_of 2) items
 new_items_text items = flat_map-map frame_text _ items
@@ -64,10 +66,10 @@ one_seen : (r : Request) → request_seen r ∷ [] ≡ request_meant (as_written
 one_seen r = ap (λ (v : RequestValue). v ∷ []) (sym (newly_meant (request_seen r)))
 
 pub request_begins : (r : Request) → IsRequest (as_written r) → ReadsBack r
-request_begins r h = (as_written r ∷ [], one_seen r, one_value_begins 2 268435456 request_at request_rest IsRequest (as_written r) h)
+request_begins r h latest within = (as_written r ∷ [], one_seen r, one_value_begins 2 268435456 (request_at latest) request_rest (IsRequestUpTo latest) (as_written r) (h, within))
 
-pub requests_read : (text : List ℕ) (xs ys : List Request) (l r : Result (List ℕ) FormFault) → ReadsRequests text xs l → ReadsRequests text ys r → (map request_seen xs ≡ map request_seen ys) × (l ≡ r)
-requests_read = one_reading_as request_seen request_meant 2 268435456 request_at request_rest IsRequest requests_are_sound
+pub requests_read : (latest : ℕ) (text : List ℕ) (xs ys : List Request) (l r : Result (List ℕ) FormFault) → ReadsRequests latest text xs l → ReadsRequests latest text ys r → (map request_seen xs ≡ map request_seen ys) × (l ≡ r)
+requests_read latest = one_reading_as request_seen request_meant 2 268435456 (request_at latest) request_rest (IsRequestUpTo latest) (requests_up_to latest)
 
 -- ---- replies
 

@@ -1,170 +1,65 @@
 -- How long the encodings are.
-use Rattle.std.proofs.Common.{◌≡◌, ℕ, suc, ◌+◌, ◌*◌, ◌<◌, List, [], ◌∷◌, Option, Some, None, length, take, get_or, refl, ap, ◌∙◌, arith}
+use Rattle.std.proofs.Common.{◌≡◌, ℕ, ◌+◌, List, length, refl, arith}
 use Rattle.std.specs.List.{flat_map}
-use Rattle.std.proofs.lemmas.List.{length-append, append-nil, take_more}
-use Rattle.std.proofs.lemmas.Grind.{flat_map-append}
-use Rattle.std.proofs.lemmas.List.Concat.{flat_map-cons}
-use Rattle.hk_types.specs.Values.{RowValue}
-use Rattle.hk_model.specs.Replica.Answers.{AnswerValue, One, Rows, Number}
-use Rattle.hk_wire.specs.Answers.{row_text, keyed_text, answer_text}
-use Rattle.hk_model.specs.declared.query.Query.{Query}
-use Rattle.hk_model.specs.declared.query.Query.TheVariants.{Get, Range, ByTag, Count}
-use Rattle.hk_codec.proofs.Lengths.{len16, len32, len64}
+use Rattle.std.proofs.lemmas.List.{length-append}
 use Rattle.hk_types.specs.declared.faults.Refusal.{Refusal}
-use Rattle.hk_wire.specs.Refusals.{refusal_text}
-use Rattle.hk_wire.specs.Replies.{Done, Front as Told, Fragment, Answer, Refused, reply_rest}
-use Rattle.hk_wire.specs.Queries.{query_text}
+use Rattle.hk_model.specs.declared.query.Query.{Query}
+use Rattle.hk_model.specs.Replica.Answers.{AnswerValue}
+use Rattle.hk_fragment.specs.Parts.{Known}
 use Rattle.hk_codec.specs.Encoding.{WrittenItem}
 use Rattle.hk_codec.specs.Frames.{frame_text}
-use Rattle.hk_wire.specs.Requests.{Items, Front as AskFront, Delta, Full, Ask, JoinThis, MergeThis, Prune, request_rest}
-use Rattle.hk_wire.specs.Fragments.{WireStream, WireFragment, mark_text, stream_text, parts_text, fact_text, fragment_text}
-use Rattle.hk_log.specs.Versions.{VersionValue}
-use Rattle.hk_types.specs.declared.version_key.VersionKey.{VersionKey}
-use Rattle.hk_frames.specs.Fields.{number}
-use Rattle.std.specs.Int.{w64}
+use Rattle.hk_codec.proofs.Lengths.{len16, len32, len64}
+use Rattle.hk_values.specs.Queries.{query_text}
+use Rattle.hk_values.specs.Answers.{answer_text}
+use Rattle.hk_values.specs.Refusals.{refusal_text}
+use Rattle.hk_values.specs.Fragments.{facts_text}
+use Rattle.hk_values.specs.Parts.{WireHead, head_text}
+use Rattle.hk_wire.specs.LaterRequests.{Page, Whole}
+use Rattle.hk_wire.specs.LaterRequests as later_requests
+use Rattle.hk_wire.specs.Requests.{WrittenRequest, Items, Ask, request_body, request_rest}
+use Rattle.hk_wire.specs.LaterReplies.{Latest, Part, LastPart, Held}
+use Rattle.hk_wire.specs.LaterReplies as later_replies
+use Rattle.hk_wire.specs.Replies.{ReplyValue, Front, reply_body, reply_rest}
 
-pub get_len : (table key : ℕ) → length (query_text (Get table key)) ≡ 11
-unfolding query_text
-get_len table key = simp (length-append, len16, len64) refl
+-- ---- requests
 
-pub range_len : (table low high : ℕ) → length (query_text (Range table low high)) ≡ 19
-unfolding query_text
-range_len table low high = simp (length-append, len16, len64) refl
+pub items_len : (items : List WrittenItem) → length (request_body (Items items)) ≡ 4 + length (flat_map frame_text items)
+items_len items = simp (length-append, len32) refl
 
-pub by_tag_len : (table tag : ℕ) → length (query_text (ByTag table tag)) ≡ 7
-unfolding query_text
-by_tag_len table tag = simp (length-append, len16, len32) refl
+pub ask_len : (t : ℕ) (query : Query) → length (request_body (Ask t query)) ≡ 8 + length (query_text query)
+ask_len t query = simp (length-append, len64) refl
 
-pub count_len : (table : ℕ) → length (query_text (Count table)) ≡ 3
-unfolding query_text
-count_len table = simp (len16) refl
+pub page_len : (t table low high most : ℕ) → length (later_requests.request_body (Page t table low high most)) ≡ 30
+page_len t table low high most = simp (length-append, len64, len32, len16) refl
 
-pub front_len : length (request_rest AskFront) ≡ 2
+pub whole_len : (base most_bytes : ℕ) → length (later_requests.request_body (Whole base most_bytes)) ≡ 12
+whole_len base most_bytes = simp (length-append, len64, len32) refl
+
+pub request_rest_len : (r : WrittenRequest) → length (request_rest r) ≡ 2 + length (request_body r)
 unfolding request_rest
-front_len = refl
+request_rest_len r = omega arith
 
-pub delta_len : (base : ℕ) → length (request_rest (Delta base)) ≡ 10
-unfolding request_rest
-delta_len base = simp (len64) refl
+-- ---- replies
 
-pub full_len : length (request_rest Full) ≡ 2
-unfolding request_rest
-full_len = refl
+pub front_len : (horizon readable : ℕ) → length (reply_body (Front horizon readable)) ≡ 16
+front_len horizon readable = simp (length-append, len64) refl
 
-pub ask_len : (t : ℕ) (query : Query) → length (request_rest (Ask t query)) ≡ 10 + length (query_text query)
-unfolding request_rest
-ask_len t query = simp (length-append, len64) (omega arith)
+pub latest_len : (t : ℕ) (a : AnswerValue) → length (later_replies.reply_body (Latest t a)) ≡ 8 + length (answer_text a)
+latest_len t a = simp (length-append, len64) refl
 
-pub prune_len : (horizon : ℕ) → length (request_rest (Prune horizon)) ≡ 10
-unfolding request_rest
-prune_len horizon = simp (len64) refl
+pub part_len : (left : ℕ) (facts : List Known) → length (later_replies.reply_body (Part left facts)) ≡ 8 + length (facts_text facts)
+part_len left facts = simp (length-append, len64) refl
 
-pub done_len : (ops : ℕ) → length (reply_rest (Done ops)) ≡ 10
-unfolding reply_rest
-done_len ops = simp (len64) refl
+pub last_part_len : (facts : List Known) (h : WireHead) → length (later_replies.reply_body (LastPart facts h)) ≡ length (facts_text facts) + length (head_text h)
+last_part_len facts h = length-append (facts_text facts) (head_text h)
 
-pub told_len : (horizon readable : ℕ) → length (reply_rest (Told horizon readable)) ≡ 18
-unfolding reply_rest
-told_len horizon readable = simp (length-append, len64) refl
+pub held_len : (hold t : ℕ) → length (later_replies.reply_body (Held hold t)) ≡ 16
+held_len hold t = simp (length-append, len64) refl
 
-pub refused_len : (why : Refusal) → length (reply_rest (Refused why)) ≡ 19
-unfolding reply_rest refusal_text
+pub refused_len : (why : Refusal) → length (refusal_text why) ≡ 17
+unfolding refusal_text
 refused_len why = simp (length-append, len64) refl
 
--- ---- lists
-
--- one element more
-pub one_longer : {X : Type 0} (text : X → List ℕ) (xs : List X) (i : ℕ) (d : X) → i < length xs → length (flat_map text (take (i + 1) xs)) ≡ length (flat_map text (take i xs)) + length (text (get_or xs i d))
-one_longer text xs i d lt =
-    ap (λ ys. length (flat_map text ys)) (take_more xs i d lt)
-    ∙ ap length (flat_map-append text (take i xs) (get_or xs i d ∷ []))
-    ∙ length-append (flat_map text (take i xs)) (flat_map text (get_or xs i d ∷ []))
-    ∙ ap (λ (k : ℕ). length (flat_map text (take i xs)) + k) (ap length (flat_map-cons text (get_or xs i d) [] ∙ append-nil (text (get_or xs i d))))
-
--- ---- answers
-
-pub row_len : (row : RowValue) → length (row_text row) ≡ 6 + length row.body
-unfolding row_text
-row_len row = simp (length-append, len16, len32) (omega arith)
-
-keyed_len : (e : ℕ × RowValue) → length (keyed_text e) ≡ 14 + length e.1.body
-unfolding keyed_text
-keyed_len e = simp (length-append, len64, row_len) (omega arith)
-
-pub rows_more : (rows : List (ℕ × RowValue)) (i : ℕ) (d : ℕ × RowValue) → i < length rows → length (flat_map keyed_text (take (i + 1) rows)) ≡ length (flat_map keyed_text (take i rows)) + (14 + length (get_or rows i d).1.body)
-rows_more rows i d lt = one_longer keyed_text rows i d lt ∙ ap (λ (k : ℕ). length (flat_map keyed_text (take i rows)) + k) (keyed_len (get_or rows i d))
-
-pub none_len : length (answer_text (One None)) ≡ 2
-unfolding answer_text
-none_len = refl
-
-pub some_len : (row : RowValue) → length (answer_text (One (Some row))) ≡ 8 + length row.body
-unfolding answer_text
-some_len row = simp (row_len) (omega arith)
-
-pub rows_answer_len : (rows : List (ℕ × RowValue)) → length (answer_text (Rows rows)) ≡ 5 + length (flat_map keyed_text rows)
-unfolding answer_text
-rows_answer_len rows = simp (length-append, len32) (omega arith)
-
-pub number_answer_len : (n : ℕ) → length (answer_text (Number n)) ≡ 9
-unfolding answer_text
-number_answer_len n = simp (len64) refl
-
-pub answer_rest_len : (a : AnswerValue) → length (reply_rest (Answer a)) ≡ 2 + length (answer_text a)
+pub reply_rest_len : (r : ReplyValue) → length (reply_rest r) ≡ 2 + length (reply_body r)
 unfolding reply_rest
-answer_rest_len a = omega arith
-
--- ---- fragments
-
--- elements of one length
-each_len : {X : Type 0} (text : X → List ℕ) (n : ℕ) → ((x : X) → length (text x) ≡ n) → (xs : List X) → length (flat_map text xs) ≡ n * length xs
-each_len text n each [] = omega arith
-each_len text n each (x ∷ xs) =
-    let rest = each_len text n each xs in
-    let first = each x in
-    ap length (flat_map-cons text x xs) ∙ length-append (text x) (flat_map text xs) ∙ (λ i. first i + rest i) ∙ times n (length xs)
-  where
-    times : (n k : ℕ) → n + n * k ≡ n * suc k
-    times n k = omega arith
-
-mark_len : (m : ℕ × ℕ) → length (mark_text m) ≡ 16
-mark_len m = simp (length-append, len64) refl
-
-pub stream_text_len : (s : WireStream) → length (stream_text s) ≡ 24 + 8 * length s.extra + 16 * length s.waiting
-unfolding stream_text
-stream_text_len s =
-    let e = each_len (number w64) 8 (λ n. len64 n) s.extra in
-    let w = each_len mark_text 16 mark_len s.waiting in
-    simp (length-append, len64, len32) (omega (arith, e, w))
-
-pub fact_text_len : (v : VersionKey) (x : VersionValue) → length (fact_text (v, x)) ≡ 19 + (length (parts_text x.row None) + length (parts_text None x.died))
-unfolding fact_text
-fact_text_len v x = simp (length-append, len64, len16) (parts x.row x.died)
-  where
-    parts : (row : Option RowValue) (died : Option ℕ) → 18 + suc (length (parts_text row died)) ≡ 19 + (length (parts_text row None) + length (parts_text None died))
-    parts None None = refl
-    parts None (Some d) = omega arith
-    parts (Some r) None = omega arith
-    parts (Some r) (Some d) = simp length-append (omega arith)
-
-pub fragment_text_len : (f : WireFragment) → length (fragment_text f) ≡ 30 + (length (flat_map stream_text f.streams) + length (flat_map fact_text f.facts))
-unfolding fragment_text
-fragment_text_len f = simp (length-append, len64, len32, len16) (omega arith)
-
-pub join_this_len : (f : WireFragment) → length (request_rest (JoinThis f)) ≡ 2 + length (fragment_text f)
-unfolding request_rest
-join_this_len f = omega arith
-
-pub merge_this_len : (f : WireFragment) → length (request_rest (MergeThis f)) ≡ 2 + length (fragment_text f)
-unfolding request_rest
-merge_this_len f = omega arith
-
-pub fragment_rest_len : (f : WireFragment) → length (reply_rest (Fragment f)) ≡ 2 + length (fragment_text f)
-unfolding reply_rest
-fragment_rest_len f = omega arith
-
--- ---- items
-
-pub items_rest_len : (items : List WrittenItem) → length (request_rest (Items items)) ≡ 6 + length (flat_map frame_text items)
-unfolding request_rest
-items_rest_len items = simp (length-append, len32) (omega arith)
+reply_rest_len r = omega arith

@@ -1,18 +1,20 @@
 -- Items and requests that are read for what is seen of them alone.
-use Rattle.std.proofs.Common.{◌≡◌, ℕ, zero, suc, Bool, true, false, ltb, List, ◌∷◌, length, map, Option, Some, None, Result, Ok, Err, refl, sym, ap, ◌∙◌}
+use Rattle.std.proofs.Common.{◌≡◌, ℕ, zero, suc, Bool, true, false, cond, eqb, ltb, List, ◌∷◌, length, map, Option, Some, None, Result, Ok, Err, refl, sym, ap, ◌∙◌}
 use Rattle.hk_types.specs.declared.faults.FormFault.{FormFault}
 use Rattle.hk_types.specs.declared.faults.FormFault.TheVariants.{WrongLength}
 use Rattle.hk_log.specs.declared.item.Item.{Item}
-use Rattle.hk_frames.specs.Fields.{◌>>=◌, mapped, check, bytes_at, list_at, Fails}
-use Rattle.hk_frames.specs.declared.cursor.ReadError.{ReadError}
-use Rattle.hk_frames.specs.declared.cursor.ReadError.TheVariants.{Memory, Fault}
+use Rattle.hk_frames.specs.Fields.{◌>>=◌, mapped, check, bytes_at, list_at}
 use Rattle.hk_frames.specs.Framing.{framed}
 use Rattle.hk_frames.proofs.OneFrame.{frame_seen, framed_seen}
 use Rattle.hk_codec.specs.Encoding.{WrittenItem}
 use Rattle.hk_codec.specs.Reading.{item_at}
 use Rattle.hk_codec.specs.Frames.{frame_at}
+use Rattle.hk_values.specs.Readers.{both, time_at}
+use Rattle.hk_values.specs.Queries.{query_at}
+use Rattle.hk_values.specs.Fragments.{fragment_at, whole_at}
 use Rattle.hk_wire.specs.Messages.{head_at, message_at}
-use Rattle.hk_wire.specs.Requests.{WrittenRequest, Items, request_meant, frame_taken, item_frame_at, item_count_at, no_place, items_at, plain_frame_at, plain_items_at, request_of, request_at, plain_request_of, plain_request_at}
+use Rattle.hk_wire.specs.LaterRequests as later
+use Rattle.hk_wire.specs.Requests.{RequestValue, WrittenRequest, Items, Delta, Ask, JoinThis, MergeThis, Prune, Later, request_meant, frame_taken, item_frame_at, item_count_at, no_place, items_at, plain_frame_at, plain_items_at, request_of, request_at, plain_request_at}
 
 abbrev item_of : WrittenItem → Item
 item_of w = w.item
@@ -88,21 +90,37 @@ items_body_seen : (r : Result (List WrittenItem × List ℕ) FormFault) → mapp
 items_body_seen (Ok a) = refl
 items_body_seen (Err f) = refl
 
-items_body : (bytes : List ℕ) → plain_request_of 16 bytes ≡ (plain_items_at bytes >>= λ a. Ok (Items a.0, a.1))
-unfolding plain_request_of request_of
-items_body bytes = items_body_seen (items_at bytes) ∙ ap (λ (r : Result (List Item × List ℕ) FormFault). r >>= λ a. Ok (Items a.0, a.1)) (sym (items_plain bytes))
+items_same : (bytes : List ℕ) → (plain_items_at bytes >>= λ a. Ok (Items a.0, a.1)) ≡ mapped (seen_of request_meant) (items_at bytes >>= λ a. Ok (Items a.0, a.1))
+items_same bytes = ap (λ (r : Result (List Item × List ℕ) FormFault). r >>= λ a. Ok (Items a.0, a.1)) (items_plain bytes) ∙ sym (items_body_seen (items_at bytes))
 
-pub items_body_ok : (bytes : List ℕ) (items : List Item) (after : List ℕ) → plain_items_at bytes ≡ Ok (items, after) → plain_request_of 16 bytes ≡ Ok (Items items, after)
-items_body_ok bytes items after e = items_body bytes ∙ ap (λ (r : Result (List Item × List ℕ) FormFault). r >>= λ a. Ok (Items a.0, a.1)) e
+made_same : {A : Type 0} (f : A → WrittenRequest) (g : A → RequestValue) → ((a : A) → g a ≡ request_meant (f a)) → (r : Result (A × List ℕ) FormFault) → (r >>= λ a. Ok (g a.0, a.1)) ≡ mapped (seen_of request_meant) (r >>= λ a. Ok (f a.0, a.1))
+made_same f g same (Ok a) = ap (λ (v : RequestValue). Ok (v, a.1)) (same a.0)
+made_same f g same (Err fault) = refl
 
-pub items_body_fails : (bytes : List ℕ) (e : ReadError) → Fails e (plain_items_at bytes) → Fails e (plain_request_of 16 bytes)
-items_body_fails bytes Memory h = tt
-items_body_fails bytes (Fault f) h = items_body bytes ∙ ap (λ (r : Result (List Item × List ℕ) FormFault). r >>= λ a. Ok (Items a.0, a.1)) h
+-- the same in the one case, and in the other
+same_or : {A B : Type 0} (f : A → B) (b : Bool) (x y : Result B FormFault) (s t : Result A FormFault) → x ≡ mapped f s → y ≡ mapped f t → cond b x y ≡ mapped f (cond b s t)
+same_or f true x y s t h k = h
+same_or f false x y s t h k = k
 
-pub request_plain : (bytes : List ℕ) → plain_request_at bytes ≡ mapped request_meant (request_at bytes)
-unfolding plain_request_at plain_request_of request_at message_at
-request_plain bytes = by (head_at 1 bytes)
+of_plain : (k : ℕ) (bytes : List ℕ) → request_of plain_items_at k bytes ≡ mapped (seen_of request_meant) (request_of items_at k bytes)
+unfolding request_of
+of_plain k bytes =
+    same_or (seen_of request_meant) (eqb k 16) _ _ _ _ (items_same bytes)
+    (same_or (seen_of request_meant) (eqb k 17) _ _ _ _ refl
+    (same_or (seen_of request_meant) (eqb k 18) _ _ _ _ (made_same (λ base. Delta base) (λ base. Delta base) (λ a. refl) (time_at bytes))
+    (same_or (seen_of request_meant) (eqb k 19) _ _ _ _ refl
+    (same_or (seen_of request_meant) (eqb k 20) _ _ _ _ (made_same (λ p. Ask p.0 p.1) (λ p. Ask p.0 p.1) (λ a. refl) (both time_at query_at bytes))
+    (same_or (seen_of request_meant) (eqb k 21) _ _ _ _ (made_same (λ f. JoinThis f) (λ f. JoinThis f) (λ a. refl) (fragment_at bytes))
+    (same_or (seen_of request_meant) (eqb k 22) _ _ _ _ (made_same (λ f. MergeThis f) (λ f. MergeThis f) (λ a. refl) (whole_at bytes))
+    (same_or (seen_of request_meant) (eqb k 23) _ _ _ _ (made_same (λ horizon. Prune horizon) (λ horizon. Prune horizon) (λ a. refl) (time_at bytes))
+    (made_same (λ r. Later r) (λ r. Later r) (λ a. refl) (later.request_of k bytes)))))))))
+
+pub request_plain : (latest : ℕ) (bytes : List ℕ) → plain_request_at latest bytes ≡ mapped request_meant (request_at latest bytes)
+unfolding plain_request_at request_at message_at
+request_plain latest bytes = by (head_at latest bytes)
   where
-    by : (r : Result (ℕ × List ℕ) FormFault) → (r >>= λ kind. mapped (seen_of request_meant) (request_of kind.0 kind.1) >>= λ body. check (ltb 0 (length body.1)) WrongLength >>= λ _. Ok body.0) ≡ mapped request_meant (r >>= λ kind. request_of kind.0 kind.1 >>= λ body. check (ltb 0 (length body.1)) WrongLength >>= λ _. Ok body.0)
-    by (Ok kind) = body_plain (request_of kind.0 kind.1)
+    by : (r : Result (ℕ × List ℕ) FormFault) → (r >>= λ kind. request_of plain_items_at kind.0 kind.1 >>= λ body. check (ltb 0 (length body.1)) WrongLength >>= λ _. Ok body.0) ≡ mapped request_meant (r >>= λ kind. request_of items_at kind.0 kind.1 >>= λ body. check (ltb 0 (length body.1)) WrongLength >>= λ _. Ok body.0)
+    by (Ok kind) =
+        ap (λ (r : Result (RequestValue × List ℕ) FormFault). r >>= λ body. check (ltb 0 (length body.1)) WrongLength >>= λ _. Ok body.0) (of_plain kind.0 kind.1)
+        ∙ body_plain (request_of items_at kind.0 kind.1)
     by (Err f) = refl

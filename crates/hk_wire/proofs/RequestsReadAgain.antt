@@ -1,13 +1,12 @@
--- Queries and requests: what is read is encoded so, and what is encoded so is read again.
-use Rattle.std.proofs.Common.{◌≡◌, ℕ, ◌^◌, ◌<◌, ◌≤◌, true, false, not, ◌&&◌, eqb, ltb, leb, List, [], ◌∷◌, ◌++◌, length, take, drop, Option, Some, None, Result, Ok, refl, sym, ap, subst, ◌∙◌, arith}
-use Rattle.std.specs.Int.{w16, w32, w64}
+-- Requests: what is read is encoded so, and what is encoded so is read again.
+use Rattle.std.proofs.Common.{◌≡◌, ℕ, ◌^◌, ◌<◌, ◌≤◌, true, false, ltb, leb, List, [], ◌∷◌, ◌++◌, length, take, drop, Option, Some, None, Result, Ok, refl, sym, ap, subst, ◌∙◌, arith}
+use Rattle.std.specs.Int.{w32, w64}
 use Rattle.std.specs.List.{flat_map, AllByRecursion}
-use Rattle.std.proofs.lemmas.Bool.{ltb-false, le-ltb, leb-true, le-leb, and_from, not-false, not_from_true}
+use Rattle.std.proofs.lemmas.Bool.{ltb-false, le-ltb, leb-true, le-leb, and_from}
 use Rattle.std.proofs.lemmas.List.{length-append, drop_at}
 use Rattle.hk_types.specs.declared.faults.FormFault.{FormFault}
-use Rattle.hk_types.specs.declared.faults.FormFault.TheVariants.{BadNumber, BadCount, WrongLength}
+use Rattle.hk_types.specs.declared.faults.FormFault.TheVariants.{BadCount, WrongLength}
 use Rattle.hk_model.specs.declared.query.Query.{Query}
-use Rattle.hk_model.specs.declared.query.Query.TheVariants.{Get, Range, ByTag, Count}
 use Rattle.hk_frames.specs.Fields.{IsBytes, ◌>>=◌, number, number_at, bytes_at}
 use Rattle.hk_frames.specs.Framing.{IsFormat}
 use Rattle.hk_codec.specs.Encoding.{WrittenItem, rest_text, IsWritten}
@@ -17,83 +16,21 @@ use Rattle.hk_frames.proofs.ReadingSteps.{IsBytes-drop, bind_ok, ok_is, Takes, b
 use Rattle.hk_frames.proofs.Numbers.{guard_ok}
 use Rattle.hk_frames.proofs.OneFrame.{frame_takes, frame_again}
 use Rattle.hk_codec.proofs.ItemFrames.{items_are_sound}
-use Rattle.hk_wire.specs.Readers.{both, fault_where, list_by, time_at, Chained}
-use Rattle.hk_wire.specs.Messages.{message_at}
-use Rattle.hk_wire.specs.Queries.{query_kind, query_fields, query_text, QueryFits, query_of, query_at}
-use Rattle.hk_wire.specs.Requests.{WrittenRequest, Items, Front, Delta, Full, Ask, JoinThis, MergeThis, Prune, whole_at, frame_taken, item_frame_at, item_count_at, no_place, items_at, keeps_rules, request_kind, request_body, request_rest, RequestFits, IsRequest, request_of, request_at}
-use Rattle.hk_wire.specs.Fragments.{WireFragment, fragment_text, fragment_at, FragmentFits, is_counted}
-use Rattle.hk_wire.proofs.FragmentsReadAgain.{fragment_field}
-use Rattle.hk_wire.proofs.ReadersAndEncodings.{IsField, field16, field32, field64, time_field, both_field, barred_field, same_field, listed_field, this_or, made_takes, nothing_takes, made_again, kinded_field, message_format, same_format}
-
--- ---- queries
-
-get_field : IsField (both (number_at w16) (number_at w64)) (λ p. number w16 p.0 ++ number w64 p.1) (λ p. (p.0 < 2 ^ 16) × (p.1 < 2 ^ 64))
-get_field = both_field (number_at w16) (number_at w64) (number w16) (number w64) (λ n. n < 2 ^ 16) (λ n. n < 2 ^ 64) field16 field64
-
-bounds_field : IsField (both (number_at w64) (number_at w64)) (λ p. number w64 p.0 ++ number w64 p.1) (λ p. (p.0 < 2 ^ 64) × (p.1 < 2 ^ 64))
-bounds_field = both_field (number_at w64) (number_at w64) (number w64) (number w64) (λ n. n < 2 ^ 64) (λ n. n < 2 ^ 64) field64 field64
-
-range_field : IsField (both (number_at w16) (both (number_at w64) (number_at w64))) (λ p. number w16 p.0 ++ (number w64 p.1.0 ++ number w64 p.1.1)) (λ p. (p.0 < 2 ^ 16) × ((p.1.0 < 2 ^ 64) × (p.1.1 < 2 ^ 64)))
-range_field = both_field (number_at w16) (both (number_at w64) (number_at w64)) (number w16) (λ p. number w64 p.0 ++ number w64 p.1) (λ n. n < 2 ^ 16) (λ p. (p.0 < 2 ^ 64) × (p.1 < 2 ^ 64)) field16 bounds_field
-
-tag_field : IsField (both (number_at w16) (number_at w32)) (λ p. number w16 p.0 ++ number w32 p.1) (λ p. (p.0 < 2 ^ 16) × (p.1 < 2 ^ 32))
-tag_field = both_field (number_at w16) (number_at w32) (number w16) (number w32) (λ n. n < 2 ^ 16) (λ n. n < 2 ^ 32) field16 field32
-
-abbrev get_of : ℕ × ℕ → Query
-get_of p = Get p.0 p.1
-
-abbrev range_of : ℕ × (ℕ × ℕ) → Query
-range_of p = Range p.0 p.1.0 p.1.1
-
-abbrev tag_of : ℕ × ℕ → Query
-tag_of p = ByTag p.0 p.1
-
-abbrev count_of : ℕ → Query
-count_of table = Count table
-
-abbrev IsQueryOf : ℕ → List ℕ → Query × List ℕ → Type 0
-IsQueryOf k bytes x = (query_kind x.0 ≡ k) × (Takes bytes (query_fields x.0) x.1 × QueryFits x.0)
-
-query_takes : (k : ℕ) (bytes : List ℕ) (x : Query × List ℕ) → IsBytes bytes → query_of k bytes ≡ Ok x → IsQueryOf k bytes x
-unfolding query_of
-query_takes k bytes x fits e =
-    this_or k 1 _ _ x (IsQueryOf k bytes x) e
-    (λ is f. let s = made_takes get_of (both (number_at w16) (number_at w64)) _ _ get_field query_kind query_fields QueryFits k (λ a. sym is) (λ a. refl) (λ a h. h) bytes x fits f in s)
-    (λ e2. this_or k 2 _ _ x (IsQueryOf k bytes x) e2
-    (λ is f. made_takes range_of (both (number_at w16) (both (number_at w64) (number_at w64))) _ _ range_field query_kind query_fields QueryFits k (λ a. sym is) (λ a. refl) (λ a h. h) bytes x fits f)
-    (λ e3. this_or k 3 _ _ x (IsQueryOf k bytes x) e3
-    (λ is f. made_takes tag_of (both (number_at w16) (number_at w32)) _ _ tag_field query_kind query_fields QueryFits k (λ a. sym is) (λ a. refl) (λ a h. h) bytes x fits f)
-    (λ e4. this_or k 4 _ _ x (IsQueryOf k bytes x) e4
-    (λ is f. made_takes count_of (number_at w16) _ _ field16 query_kind query_fields QueryFits k (λ a. sym is) (λ a. refl) (λ a h. h) bytes x fits f)
-    (λ e5. absurd cc))))
-
-query_again : (q : Query) (rest : List ℕ) → QueryFits q → query_of (query_kind q) (query_fields q ++ rest) ≡ Ok (q, rest)
-unfolding query_of
-query_again (Get table key) rest h = made_again get_of (both (number_at w16) (number_at w64)) _ _ get_field (table, key) rest h
-query_again (Range table low high) rest h = made_again range_of (both (number_at w16) (both (number_at w64) (number_at w64))) _ _ range_field (table, (low, high)) rest h
-query_again (ByTag table tag) rest h = made_again tag_of (both (number_at w16) (number_at w32)) _ _ tag_field (table, tag) rest h
-query_again (Count table) rest h = made_again count_of (number_at w16) _ _ field16 table rest h
-
-pub query_field : IsField query_at query_text QueryFits
-unfolding query_at query_text
-query_field = kinded_field query_of query_kind query_fields QueryFits (record { takes = query_takes; again = query_again })
-
--- ---- requests
+use Rattle.hk_values.specs.Readers.{both, fault_where, list_by, time_at, Chained, mapped_value}
+use Rattle.hk_values.specs.Queries.{query_text, QueryFits, query_at}
+use Rattle.hk_values.specs.Fragments.{WireFragment, fragment_at, whole_at}
+use Rattle.hk_values.proofs.ReadersAndEncodings.{IsField, field32, time_field, both_field, barred_field, same_field, listed_field, this_or, made_takes, nothing_takes, made_again}
+use Rattle.hk_values.proofs.QueriesReadAgain.{query_field}
+use Rattle.hk_values.proofs.FragmentsReadAgain.{fragment_field, whole_field}
+use Rattle.hk_wire.specs.Messages.{message_text, message_at}
+use Rattle.hk_wire.specs.LaterRequests.{Streams, AskLatest, Page, Whole, More, AddPart, JoinParts, MergeParts, Hold, Release}
+use Rattle.hk_wire.specs.LaterRequests as later
+use Rattle.hk_wire.specs.Requests.{WrittenRequest, Items, Front, Delta, Full, Ask, JoinThis, MergeThis, Prune, Later, frame_taken, item_frame_at, item_count_at, no_place, items_at, keeps_rules, request_kind, request_body, request_rest, RequestFits, IsRequest, IsRequestUpTo, request_of, request_at}
+use Rattle.hk_wire.proofs.MessagesReadAgain.{at_most_two, IsMessage, message_format, same_format}
+use Rattle.hk_wire.proofs.LaterRequestsReadAgain.{Keeps as LaterKeeps, request_takes as later_request_takes, request_again as later_request_again}
 
 ask_field : IsField (both time_at query_at) (λ p. number w64 p.0 ++ query_text p.1) (λ p. (p.0 ≤ 2 ^ 62) × QueryFits p.1)
 ask_field = both_field time_at query_at (number w64) query_text (λ n. n ≤ 2 ^ 62) QueryFits time_field query_field
-
--- fragments of base 0
-abbrev IsWhole : WireFragment → Type 0
-IsWhole f = FragmentFits f × ((eqb f.base 0 && is_counted f) ≡ true)
-
-whole_field : IsField whole_at fragment_text IsWhole
-unfolding whole_at
-whole_field =
-    same_field (fault_where fragment_at (λ f. not (eqb f.base 0)) BadNumber) fragment_text (λ f. (FragmentFits f × (is_counted f ≡ true)) × (not (eqb f.base 0) ≡ false)) IsWhole
-    (λ f h. (h.0.0, and_from (eqb f.base 0) (is_counted f) (not-false (eqb f.base 0) h.1) h.0.1))
-    (λ f h. let b = both_true (eqb f.base 0) (is_counted f) h.1 in ((h.0, b.1), not_from_true (eqb f.base 0) b.0))
-    (barred_field fragment_at (λ f. not (eqb f.base 0)) BadNumber fragment_text (λ f. FragmentFits f × (is_counted f ≡ true)) fragment_field)
 
 -- item frames
 frame_is : (frame : Option (WrittenItem × ℕ)) (bytes : List ℕ) (x : WrittenItem × List ℕ) → frame_taken frame bytes ≡ Ok x → (n : ℕ) × (frame ≡ Some (x.0, n)) × (x.1 ≡ drop n bytes)
@@ -172,7 +109,15 @@ Keeps r = RequestFits r × (keeps_rules r ≡ true)
 abbrev IsRequestOf : ℕ → List ℕ → WrittenRequest × List ℕ → Type 0
 IsRequestOf k bytes x = (request_kind x.0 ≡ k) × (Takes bytes (request_body x.0) x.1 × Keeps x.0)
 
-request_takes : (k : ℕ) (bytes : List ℕ) (x : WrittenRequest × List ℕ) → IsBytes bytes → request_of k bytes ≡ Ok x → IsRequestOf k bytes x
+abbrev later_of : later.RequestValue → WrittenRequest
+later_of r = Later r
+
+later_takes : (k : ℕ) (bytes : List ℕ) (x : WrittenRequest × List ℕ) → IsBytes bytes → mapped_value later_of (later.request_of k) bytes ≡ Ok x → IsRequestOf k bytes x
+later_takes k bytes x fits e =
+    let y = bind_ok (later.request_of k bytes) (λ a. Ok (Later a.0, a.1)) x e in
+    subst (IsRequestOf k bytes) {x = (Later y.0.0, y.0.1)} (ok_is (Later y.0.0, y.0.1) x y.2) (later_request_takes k bytes y.0 fits y.1)
+
+request_takes : (k : ℕ) (bytes : List ℕ) (x : WrittenRequest × List ℕ) → IsBytes bytes → request_of items_at k bytes ≡ Ok x → IsRequestOf k bytes x
 unfolding request_of
 request_takes k bytes x fits e =
     this_or k 16 _ _ x (IsRequestOf k bytes x) e
@@ -191,9 +136,12 @@ request_takes k bytes x fits e =
     (λ is f. made_takes merge_of whole_at _ _ whole_field request_kind request_body Keeps k (λ a. sym is) (λ a. refl) (λ a h. h) bytes x fits f)
     (λ e7. this_or k 23 _ _ x (IsRequestOf k bytes x) e7
     (λ is f. made_takes prune_of time_at _ _ time_field request_kind request_body Keeps k (λ a. sym is) (λ a. refl) (λ a h. (h, refl)) bytes x fits f)
-    (λ e8. absurd cc))))))))
+    (λ e8. later_takes k bytes x fits e8))))))))
 
-request_again : (r : WrittenRequest) (rest : List ℕ) → Keeps r → request_of (request_kind r) (request_body r ++ rest) ≡ Ok (r, rest)
+later_again : (r : later.RequestValue) (rest : List ℕ) → LaterKeeps r → mapped_value later_of (later.request_of (later.request_kind r)) (later.request_body r ++ rest) ≡ Ok (later_of r, rest)
+later_again r rest h = ap (λ (y : Result (later.RequestValue × List ℕ) FormFault). y >>= λ a. Ok (later_of a.0, a.1)) (later_request_again r rest h)
+
+request_again : (r : WrittenRequest) (rest : List ℕ) → Keeps r → request_of items_at (request_kind r) (request_body r ++ rest) ≡ Ok (r, rest)
 unfolding request_of
 request_again (Items items) rest h = made_again items_of items_at _ _ items_field items rest h
 request_again Front rest h = refl
@@ -203,11 +151,26 @@ request_again (Ask t query) rest h = made_again ask_of (both time_at query_at) _
 request_again (JoinThis fragment) rest h = made_again join_of fragment_at _ _ fragment_field fragment rest h
 request_again (MergeThis fragment) rest h = made_again merge_of whole_at _ _ whole_field fragment rest h
 request_again (Prune horizon) rest h = made_again prune_of time_at _ _ time_field horizon rest h.0
+request_again (Later Streams) rest h = later_again Streams rest h
+request_again (Later (AskLatest query)) rest h = later_again (AskLatest query) rest h
+request_again (Later (Page t table low high most)) rest h = later_again (Page t table low high most) rest h
+request_again (Later (Whole base most_bytes)) rest h = later_again (Whole base most_bytes) rest h
+request_again (Later More) rest h = later_again More rest h
+request_again (Later (AddPart facts)) rest h = later_again (AddPart facts) rest h
+request_again (Later (JoinParts head)) rest h = later_again (JoinParts head) rest h
+request_again (Later (MergeParts head)) rest h = later_again (MergeParts head) rest h
+request_again (Later (Hold t)) rest h = later_again (Hold t) rest h
+request_again (Later (Release hold)) rest h = later_again (Release hold) rest h
 
-pub requests_are_sound : IsFormat 2 268435456 request_at request_rest IsRequest
+-- those of versions up to the latest that is read
+pub requests_up_to : (latest : ℕ) → IsFormat 2 268435456 (request_at latest) request_rest (IsRequestUpTo latest)
 unfolding request_at request_rest
-requests_are_sound =
-    same_format 2 268435456 (message_at 1 request_of) _ (λ r. Keeps r × (leb (length (1 ∷ request_kind r ∷ request_body r)) 268435456 ≡ true)) IsRequest
-    (λ r h. (h.0.0, and_from (keeps_rules r) _ h.0.1 h.1))
-    (λ r h. let b = both_true (keeps_rules r) (leb (length (1 ∷ request_kind r ∷ request_body r)) 268435456) h.1 in ((h.0, b.0), b.1))
-    (message_format 1 request_of request_kind request_body Keeps (record { takes = request_takes; again = request_again }))
+requests_up_to latest =
+    same_format 2 268435456 (message_at latest (request_of items_at)) _ (IsMessage latest request_kind request_body Keeps) (IsRequestUpTo latest)
+    (λ r h. ((h.0.0, and_from (keeps_rules r) _ h.0.1 h.1.0), h.1.1))
+    (λ r h. let b = both_true (keeps_rules r) (leb (length (message_text (request_kind r) (request_body r))) 268435456) h.0.1 in ((h.0.0, b.0), (b.1, h.1)))
+    (message_format latest (request_of items_at) request_kind request_body Keeps (record { takes = request_takes; again = request_again }))
+
+-- all of them
+pub requests_are_sound : IsFormat 2 268435456 (request_at 2) request_rest IsRequest
+requests_are_sound = same_format 2 268435456 (request_at 2) request_rest (IsRequestUpTo 2) IsRequest (λ r h. h.0) (λ r h. (h, at_most_two (request_kind r))) (requests_up_to 2)

@@ -1,9 +1,5 @@
-pub mod Readers
 pub mod Messages
-pub mod Queries
+pub mod LaterRequests
 pub mod Requests
-pub mod Refusals
-pub mod Answers
-pub mod Fragments
-pub mod FragmentSteps
+pub mod LaterReplies
 pub mod Replies

@@ -1,20 +1,21 @@
--- Replies: their encoding and their reading.
-use Rattle.std.specs.Prelude.{◌≡◌, ℕ, ◌^◌, ◌<◌, ◌≤◌, Bool, true, not, ◌&&◌, nat_le, nat_lt, ◌==◌, if◌then◌else◌, List, ◌++◌, length, Option, MatchOption, Result, Err, ◌⊎◌, false, [], ◌∷◌, Ok, map}
+-- Replies of both versions: their encoding and their reading.
+use Rattle.std.specs.Prelude.{◌≡◌, ℕ, ◌^◌, ◌<◌, ◌≤◌, Bool, true, ◌&&◌, nat_le, ◌==◌, if◌then◌else◌, List, ◌++◌, length, Option, MatchOption, Result, ◌⊎◌, false, [], ◌∷◌, Ok, map}
 use Rattle.std.specs.Int.{w64}
 use Rattle.hk_types.specs.declared.faults.FormFault.{FormFault}
 use Rattle.hk_types.specs.declared.faults.Refusal.TheVariants as refusals
-use Rattle.hk_types.specs.declared.faults.FormFault.TheVariants.{BadKind, BadNumber, TooLong}
-use Rattle.hk_frames.specs.Fields.{number, number_at}
+use Rattle.hk_types.specs.declared.faults.FormFault.TheVariants.{TooLong}
+use Rattle.hk_frames.specs.Fields.{number}
 use Rattle.hk_frames.specs.Framing.{encoded, Begins, FormatOf}
 use Rattle.hk_wire.specs.declared.reply.Reply.{Reply}
 use Rattle.hk_wire.specs.declared.reply.Reply.TheVariants as replied
 use Rattle.hk_types.specs.declared.faults.Refusal.{Refusal}
 use Rattle.hk_model.specs.Replica.Answers.{AnswerValue, answer_seen}
-use Rattle.hk_wire.specs.Answers.{answer_text, answer_at, answer_keeps_rules, AnswerFits}
-use Rattle.hk_wire.specs.Fragments.{WireFragment, wire_fragment_of, fragment_text, fragment_at, FragmentFits, is_counted}
-use Rattle.hk_wire.specs.Readers.{Reader, both, fault_where, mapped_value, time_at}
+use Rattle.hk_values.specs.Answers.{answer_text, answer_at, answer_keeps_rules, AnswerFits}
+use Rattle.hk_values.specs.Fragments.{WireFragment, wire_fragment_of, fragment_text, fragment_at, FragmentFits, is_counted}
+use Rattle.hk_values.specs.Readers.{Reader, mapped_value, is_ops, ops_at, front_at}
 use Rattle.hk_wire.specs.Messages.{message_text, message_at}
-use Rattle.hk_wire.specs.Refusals.{refusal_text, refusal_at, RefusalFits, is_sent}
+use Rattle.hk_wire.specs.LaterReplies as later
+use Rattle.hk_values.specs.Refusals.{refusal_text, refusal_at, RefusalFits, is_sent}
 
 -- the value of a `Reply`
 pub data ReplyValue : Type 0 where
@@ -23,6 +24,7 @@ pub data ReplyValue : Type 0 where
   Fragment : WireFragment → ReplyValue
   Answer : AnswerValue → ReplyValue
   Refused : Refusal → ReplyValue
+  Later : later.ReplyValue → ReplyValue
 
 -- the value that a `Reply` has
 abbrev pub reply_seen : Reply → ReplyValue
@@ -31,14 +33,16 @@ reply_seen (replied.Front front) = Front front.horizon front.readable
 reply_seen (replied.Fragment fragment) = Fragment (wire_fragment_of fragment)
 reply_seen (replied.Answer a) = Answer (answer_seen a)
 reply_seen (replied.Refused why) = Refused why
+reply_seen (replied.Later reply) = Later (later.reply_seen reply)
 
--- the kind byte of a reply
+-- the kind byte of a reply, which tells its version
 abbrev pub reply_kind : ReplyValue → ℕ
 reply_kind (Done ops) = 32
 reply_kind (Front horizon readable) = 33
 reply_kind (Fragment fragment) = 34
 reply_kind (Answer a) = 35
 reply_kind (Refused why) = 36
+reply_kind (Later reply) = later.reply_kind reply
 
 -- its body
 abbrev pub reply_body : ReplyValue → List ℕ
@@ -47,18 +51,15 @@ reply_body (Front horizon readable) = number w64 horizon ++ number w64 readable
 reply_body (Fragment fragment) = fragment_text fragment
 reply_body (Answer a) = answer_text a
 reply_body (Refused why) = refusal_text why
+reply_body (Later reply) = later.reply_body reply
 
 -- the rest of its frame
 unfoldable pub reply_rest : ReplyValue → List ℕ
-reply_rest r = message_text 1 (reply_kind r) (reply_body r)
+reply_rest r = message_text (reply_kind r) (reply_body r)
 
 -- its encoding: the length of the rest, and the rest
 abbrev pub reply_text : ReplyValue → List ℕ
 reply_text r = encoded reply_rest r
-
--- whether there can be so many operations: 1 to 2^62
-abbrev pub is_ops : ℕ → Bool
-is_ops ops = nat_lt 0 ops && nat_le ops (2 ^ 62)
 
 -- whether a reply keeps the rules of its kind
 abbrev pub keeps_rules : ReplyValue → Bool
@@ -67,6 +68,7 @@ keeps_rules (Front horizon readable) = nat_le horizon readable
 keeps_rules (Fragment fragment) = is_counted fragment
 keeps_rules (Answer a) = answer_keeps_rules a
 keeps_rules (Refused why) = is_sent why
+keeps_rules (Later reply) = later.keeps_rules reply
 
 -- whether a reply has an encoding: it keeps its rules, and its rest has at most 2^28 bytes
 abbrev pub is_encodable : ReplyValue → Bool
@@ -79,18 +81,11 @@ ReplyFits (Front horizon readable) = (horizon ≤ 2 ^ 62) × (readable ≤ 2 ^ 6
 ReplyFits (Fragment fragment) = FragmentFits fragment
 ReplyFits (Answer a) = AnswerFits a
 ReplyFits (Refused why) = RefusalFits why
+ReplyFits (Later reply) = later.ReplyFits reply
 
 -- what has an encoding
 abbrev pub IsReply : ReplyValue → Type 0
 IsReply r = ReplyFits r × (is_encodable r ≡ true)
-
--- a number of operations, 1 to 2^62
-unfoldable pub ops_at : Reader ℕ
-ops_at bytes = fault_where (number_at w64) (λ ops. not (is_ops ops)) BadNumber bytes
-
--- a horizon, and a readable mark that is not below it
-unfoldable pub front_at : Reader (ℕ × ℕ)
-front_at bytes = fault_where (both time_at time_at) (λ p. not (nat_le p.0 p.1)) BadNumber bytes
 
 -- the body of a kind
 unfoldable pub reply_of : ℕ → Reader ReplyValue
@@ -100,11 +95,11 @@ reply_of kind bytes =
     else if kind == 34 then mapped_value (λ fragment. Fragment fragment) fragment_at bytes
     else if kind == 35 then mapped_value (λ a. Answer a) answer_at bytes
     else if kind == 36 then mapped_value (λ why. Refused why) refusal_at bytes
-    else Err BadKind
+    else mapped_value (λ reply. Later reply) (later.reply_of kind) bytes
 
--- the reply that is all of the rest of a frame
+-- the reply of either version that is all of the rest of a frame
 unfoldable pub reply_at : List ℕ → Result ReplyValue FormFault
-reply_at bytes = message_at 1 reply_of bytes
+reply_at bytes = message_at 2 reply_of bytes
 
 -- The text begins with the encodings of these replies. After them comes less than a frame, which is left, or
 -- bytes with this fault.

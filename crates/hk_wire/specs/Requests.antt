@@ -1,11 +1,11 @@
 -- Requests: their encoding and their reading.
-use Rattle.std.specs.Prelude.{◌≡◌, ℕ, ◌^◌, ◌≤◌, Bool, true, not, ◌&&◌, nat_le, nat_lt, ◌==◌, if◌then◌else◌, List, [], ◌++◌, length, map, Option, Some, None, MatchOption, Result, Ok, Err, ◌⊎◌, false, ◌∷◌}
+use Rattle.std.specs.Prelude.{◌≡◌, ℕ, ◌^◌, ◌≤◌, Bool, true, ◌&&◌, nat_le, nat_lt, ◌==◌, if◌then◌else◌, List, [], ◌++◌, length, map, Option, Some, None, MatchOption, Result, Ok, Err, ◌⊎◌, false, ◌∷◌}
 use Rattle.std.specs.List.{flat_map, AllByRecursion}
 use Rattle.std.specs.Int.{w32, w64}
 use Rattle.hk_types.specs.declared.faults.FormFault.{FormFault}
 use Rattle.hk_types.specs.declared.faults.Refusal.{Refusal}
 use Rattle.hk_types.specs.declared.faults.Refusal.TheVariants as refusals
-use Rattle.hk_types.specs.declared.faults.FormFault.TheVariants.{BadKind, BadNumber, BadCount, WrongLength, TooLong}
+use Rattle.hk_types.specs.declared.faults.FormFault.TheVariants.{BadCount, WrongLength, TooLong}
 use Rattle.hk_log.specs.declared.item.Item.{Item}
 use Rattle.hk_model.specs.declared.query.Query.{Query}
 use Rattle.hk_frames.specs.Fields.{◌>>=◌, mapped, number, number_at, bytes_at, list_at}
@@ -15,10 +15,11 @@ use Rattle.hk_codec.specs.Frames.{frame_text, frame_at}
 use Rattle.hk_frames.specs.Framing.{encoded, framed, BeginsAs, AddsValues, FormatOf}
 use Rattle.hk_wire.specs.declared.request.Request.{Request}
 use Rattle.hk_wire.specs.declared.request.Request.TheVariants as asked
-use Rattle.hk_wire.specs.Readers.{Reader, both, fault_where, mapped_value, nothing, list_by, time_at}
-use Rattle.hk_wire.specs.Messages.{message_text, message_at}
-use Rattle.hk_wire.specs.Fragments.{WireFragment, wire_fragment_of, fragment_text, fragment_at, FragmentFits, is_counted}
-use Rattle.hk_wire.specs.Queries.{query_text, query_at, QueryFits}
+use Rattle.hk_values.specs.Readers.{Reader, both, fault_where, mapped_value, nothing, list_by, time_at}
+use Rattle.hk_wire.specs.Messages.{version_of, message_text, message_at}
+use Rattle.hk_wire.specs.LaterRequests as later
+use Rattle.hk_values.specs.Fragments.{WireFragment, wire_fragment_of, fragment_text, fragment_at, whole_at, FragmentFits, is_counted}
+use Rattle.hk_values.specs.Queries.{query_text, query_at, QueryFits}
 
 -- a request, with items that are told so
 pub data RequestOf (I : Type 0) : Type 0 where
@@ -30,6 +31,7 @@ pub data RequestOf (I : Type 0) : Type 0 where
   JoinThis : WireFragment → RequestOf I
   MergeThis : WireFragment → RequestOf I
   Prune : ℕ → RequestOf I
+  Later : later.RequestValue → RequestOf I
 
 -- the value of a `Request`
 abbrev pub RequestValue : Type 0
@@ -49,6 +51,7 @@ with_items f (Ask t query) = Ask t query
 with_items f (JoinThis fragment) = JoinThis fragment
 with_items f (MergeThis fragment) = MergeThis fragment
 with_items f (Prune horizon) = Prune horizon
+with_items f (Later request) = Later request
 
 -- the request, without the versions
 abbrev pub request_meant : WrittenRequest → RequestValue
@@ -76,8 +79,9 @@ request_seen (asked.Ask t query) = Ask t query
 request_seen (asked.JoinThis fragment) = JoinThis (wire_fragment_of fragment)
 request_seen (asked.MergeThis fragment) = MergeThis (wire_fragment_of fragment)
 request_seen (asked.Prune horizon) = Prune horizon
+request_seen (asked.Later request) = Later (later.request_seen request)
 
--- the kind byte of a request
+-- the kind byte of a request, which tells its version
 abbrev pub request_kind : {I : Type 0} → RequestOf I → ℕ
 request_kind (Items items) = 16
 request_kind Front = 17
@@ -87,6 +91,7 @@ request_kind (Ask t query) = 20
 request_kind (JoinThis fragment) = 21
 request_kind (MergeThis fragment) = 22
 request_kind (Prune horizon) = 23
+request_kind (Later request) = later.request_kind request
 
 -- its body
 abbrev pub request_body : WrittenRequest → List ℕ
@@ -98,10 +103,11 @@ request_body (Ask t query) = number w64 t ++ query_text query
 request_body (JoinThis fragment) = fragment_text fragment
 request_body (MergeThis fragment) = fragment_text fragment
 request_body (Prune horizon) = number w64 horizon
+request_body (Later request) = later.request_body request
 
 -- the rest of its frame
 unfoldable pub request_rest : WrittenRequest → List ℕ
-request_rest r = message_text 1 (request_kind r) (request_body r)
+request_rest r = message_text (request_kind r) (request_body r)
 
 -- its encoding, with these versions of its item frames: the length of the rest, and the rest
 abbrev pub request_text : WrittenRequest → List ℕ
@@ -117,6 +123,7 @@ keeps_rules (Ask t query) = true
 keeps_rules (JoinThis fragment) = is_counted fragment
 keeps_rules (MergeThis fragment) = (fragment.base == 0) && is_counted fragment
 keeps_rules (Prune horizon) = true
+keeps_rules (Later request) = later.keeps_rules request
 
 -- whether a request has an encoding with these versions of its item frames: it keeps its rules, and its rest has at most 2^28 bytes
 abbrev pub is_encodable : WrittenRequest → Bool
@@ -132,10 +139,15 @@ RequestFits (Ask t query) = (t ≤ 2 ^ 62) × QueryFits query
 RequestFits (JoinThis fragment) = FragmentFits fragment
 RequestFits (MergeThis fragment) = FragmentFits fragment
 RequestFits (Prune horizon) = horizon ≤ 2 ^ 62
+RequestFits (Later request) = later.RequestFits request
 
 -- what has an encoding
 abbrev pub IsRequest : WrittenRequest → Type 0
 IsRequest r = RequestFits r × (is_encodable r ≡ true)
+
+-- what has an encoding, in a version up to the latest that is read
+abbrev pub IsRequestUpTo : ℕ → WrittenRequest → Type 0
+IsRequestUpTo latest r = IsRequest r × (version_of (request_kind r) ≤ latest)
 
 -- a whole item frame, and the bytes after it
 abbrev pub frame_taken : {I : Type 0} → Option (I × ℕ) → Reader I
@@ -162,7 +174,7 @@ item_frames_at count before bytes = list_at no_place (λ _. item_frame_at) count
 unfoldable pub items_at : Reader (List WrittenItem)
 items_at bytes = list_by item_count_at no_place (λ _. item_frame_at) bytes
 
--- the same without the versions: an item frame, so many of them, the items behind their count
+-- the same without the versions of item frames: an item frame, so many of them, the items behind their count
 unfoldable pub plain_frame_at : Reader Item
 plain_frame_at bytes = framed 28 4233248 (λ rest. mapped (λ w. w.item) (item_at rest)) bytes >>= λ frame. frame_taken frame bytes
 
@@ -172,14 +184,10 @@ plain_frames_at count before bytes = list_at no_place (λ _. plain_frame_at) cou
 unfoldable pub plain_items_at : Reader (List Item)
 plain_items_at bytes = list_by item_count_at no_place (λ _. plain_frame_at) bytes
 
--- a fragment of base 0
-unfoldable pub whole_at : Reader WireFragment
-whole_at bytes = fault_where fragment_at (λ fragment. not (fragment.base == 0)) BadNumber bytes
-
--- the body of a kind
-unfoldable pub request_of : ℕ → Reader WrittenRequest
-request_of kind bytes =
-    if kind == 16 then mapped_value (λ items. Items items) items_at bytes
+-- the body of a kind, where the items are read so
+unfoldable pub request_of : {I : Type 0} → Reader (List I) → ℕ → Reader (RequestOf I)
+request_of listed_at kind bytes =
+    if kind == 16 then mapped_value (λ items. Items items) listed_at bytes
     else if kind == 17 then nothing Front bytes
     else if kind == 18 then mapped_value (λ base. Delta base) time_at bytes
     else if kind == 19 then nothing Full bytes
@@ -187,31 +195,28 @@ request_of kind bytes =
     else if kind == 21 then mapped_value (λ fragment. JoinThis fragment) fragment_at bytes
     else if kind == 22 then mapped_value (λ fragment. MergeThis fragment) whole_at bytes
     else if kind == 23 then mapped_value (λ horizon. Prune horizon) time_at bytes
-    else Err BadKind
+    else mapped_value (λ request. Later request) (later.request_of kind) bytes
 
--- the request that is all of the rest of a frame
-unfoldable pub request_at : List ℕ → Result WrittenRequest FormFault
-request_at bytes = message_at 1 request_of bytes
+-- the request of a version up to the latest that is read, which is all of the rest of a frame
+unfoldable pub request_at : ℕ → List ℕ → Result WrittenRequest FormFault
+request_at latest bytes = message_at latest (request_of items_at) bytes
 
--- the same without the versions of item frames: the body of a kind, the request that is all of the rest
-unfoldable pub plain_request_of : ℕ → Reader RequestValue
-plain_request_of kind bytes = mapped (λ x. (request_meant x.0, x.1)) (request_of kind bytes)
+-- the same without the versions of item frames
+unfoldable pub plain_request_at : ℕ → List ℕ → Result RequestValue FormFault
+plain_request_at latest bytes = message_at latest (request_of plain_items_at) bytes
 
-unfoldable pub plain_request_at : List ℕ → Result RequestValue FormFault
-plain_request_at bytes = message_at 1 plain_request_of bytes
-
--- The text begins with encodings of these requests, each item frame in version 1 or 2. After them comes less than a
--- frame, which is left, or bytes with this fault.
-abbrev pub ReadsRequests : List ℕ → List Request → Result (List ℕ) FormFault → Type 0
-ReadsRequests text requests left = BeginsAs request_seen request_meant 2 268435456 request_at request_rest IsRequest text requests left
+-- The text begins with encodings of these requests, of versions up to the latest that is read, each item frame in version 1
+-- or 2. After them comes less than a frame, which is left, or bytes with this fault.
+abbrev pub ReadsRequests : ℕ → List ℕ → List Request → Result (List ℕ) FormFault → Type 0
+ReadsRequests latest text requests left = BeginsAs request_seen request_meant 2 268435456 (request_at latest) request_rest (IsRequestUpTo latest) text requests left
 
 -- how requests stand in rests
-abbrev pub request_format : FormatOf Request 2 268435456
-request_format = record { Told = WrittenRequest; Seen = RequestValue; seen = request_seen; meant = request_meant; read = request_at; rest_text = request_rest; IsEncodable = IsRequest }
+abbrev pub request_format : ℕ → FormatOf Request 2 268435456
+request_format latest = record { Told = WrittenRequest; Seen = RequestValue; seen = request_seen; meant = request_meant; read = request_at latest; rest_text = request_rest; IsEncodable = IsRequestUpTo latest }
 
 -- what is added to a list where this text is read so far
-abbrev pub AddsRequests : List Request → List Request → List ℕ → Result (List ℕ) FormFault → Type 0
-AddsRequests before after text left = AddsValues request_seen request_meant 2 268435456 request_at request_rest IsRequest before after text left
+abbrev pub AddsRequests : ℕ → List Request → List Request → List ℕ → Result (List ℕ) FormFault → Type 0
+AddsRequests latest before after text left = AddsValues request_seen request_meant 2 268435456 (request_at latest) request_rest (IsRequestUpTo latest) before after text left
 
 -- the request, with its item frames in version 2, as `encode_request` writes it
 abbrev pub as_written : Request → WrittenRequest
@@ -232,9 +237,9 @@ IsLength request len = MatchOption len (is_encodable (as_written request) ≡ fa
 abbrev pub Encodes : Request → List ℕ → List ℕ → Type 0
 Encodes request before after = (is_encodable (as_written request) ≡ true) × (after ≡ before ++ request_text (as_written request))
 
--- the encoding is read as the request alone
+-- the encoding is read as the request alone, wherever its version is read
 abbrev pub ReadsBack : Request → Type 0
-ReadsBack request = ReadsRequests (request_text (as_written request)) (request ∷ []) (Ok [])
+ReadsBack request = (latest : ℕ) → version_of (request_kind (as_written request)) ≤ latest → ReadsRequests latest (text_of request) (request ∷ []) (Ok [])
 
 -- why a request was not added: it has no encoding with item frames of version 2, or memory ran out
 abbrev pub IsRefusedAs : Request → Refusal → Type 0

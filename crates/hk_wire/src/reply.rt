@@ -1,16 +1,18 @@
-//! Replies.
+//! Replies of both versions.
 
-ghost use Rattle.hk_frames.specs.Fields.{GivesValue, GivesOrRunsOut};
+ghost use Rattle.hk_frames.specs.Fields.{GivesOrRunsOut};
 ghost use Rattle.hk_wire.specs.Replies as spec;
 
-use crate::answer::read_answer;
-use crate::fragment_reading::read_fragment;
-use crate::head::{VERSION, read_end, read_head, read_time};
-use crate::refusal::read_refusal;
+use crate::head::{read_end, read_head};
+use crate::later_reply::{LaterReply, read_later};
 use hk_fragment::Fragment;
 use hk_frames::{Cursor, Format, FrameFeeder, ReadError};
 use hk_model::{Answer, Front};
-use hk_types::{FormFault, LAST_TIME, Refusal};
+use hk_types::Refusal;
+use hk_values::answer::read_answer;
+use hk_values::fragment_reading::read_fragment;
+use hk_values::numbers::{read_front, read_ops};
+use hk_values::refusal::read_refusal;
 use std::alloc::Global;
 
 /// What a replica replies.
@@ -26,7 +28,12 @@ pub enum Reply {
     Answer(Answer),
     /// Why nothing happened.
     Refused(Refusal),
+    /// What is replied in version 2.
+    Later(LaterReply),
 }
+
+/// The latest version that is read.
+const LATEST: u8 = 2;
 
 /// The kind bytes.
 pub(crate) const DONE: u8 = 32;
@@ -38,31 +45,6 @@ pub(crate) const FRAGMENT: u8 = 34;
 pub(crate) const ANSWER: u8 = 35;
 
 pub(crate) const REFUSED: u8 = 36;
-
-/// Reads a number of operations. One that is 0 or above 2^62 is `BadNumber`.
-#[tactic(auto, unfolding(crate::specs::Replies::ops_at))]
-pub fn read_ops(cursor: &mut Cursor) -> Result<u64, FormFault>
-    ensures { GivesValue (λ x. (x, cursor.new)) result (spec.ops_at cursor.old) }
-{
-    let ops = cursor.u64()?;
-    if ops == 0 || ops > LAST_TIME {
-        return Err(FormFault::BadNumber);
-    }
-    Ok(ops)
-}
-
-/// Reads a front. A horizon above the readable mark is `BadNumber`.
-#[tactic(auto, unfolding(crate::specs::Replies::front_at))]
-pub fn read_front(cursor: &mut Cursor) -> Result<Front, FormFault>
-    ensures { GivesValue (λ x. ((x.horizon, x.readable), cursor.new)) result (spec.front_at cursor.old) }
-{
-    let horizon = read_time(cursor)?;
-    let readable = read_time(cursor)?;
-    if readable.number() < horizon.number() {
-        return Err(FormFault::BadNumber);
-    }
-    Ok(Front { horizon, readable })
-}
 
 /// Reads the body of a kind.
 #[tactic(auto, unfolding(crate::specs::Replies::reply_of))]
@@ -90,7 +72,10 @@ fn read_body(alloc: Global, cursor: &mut Cursor, kind: u8) -> Result<Reply, Read
             let why = read_refusal(cursor)?;
             Ok(Reply::Refused(why))
         }
-        _ => Err(ReadError::Fault(FormFault::BadKind)),
+        _ => {
+            let reply = read_later(alloc, cursor, kind)?;
+            Ok(Reply::Later(reply))
+        }
     }
 }
 
@@ -100,13 +85,13 @@ fn read_reply(alloc: Global, rest: &[u8]) -> Result<Reply, ReadError>
     ensures { GivesOrRunsOut spec.reply_seen result (spec.reply_at rest.now) }
 {
     let mut cursor = Cursor::new(rest);
-    let kind = read_head(&mut cursor, VERSION)?;
+    let kind = read_head(&mut cursor, LATEST)?;
     let reply = read_body(alloc, &mut cursor, kind)?;
     read_end(&cursor)?;
     Ok(reply)
 }
 
-/// The format of replies.
+/// The format of replies of both versions.
 #[derive(Debug, Drop)]
 pub struct ReplyFormat;
 
@@ -134,7 +119,8 @@ impl Format for ReplyFormat {
     fn laws() {}
 }
 
-/// Reads replies from a stream that comes in pieces. It holds less than a frame, or the fault that it met; a request's kind is `BadKind`.
+/// Reads replies of both versions from a stream that comes in pieces. It holds less than a frame, or the fault that it met; a
+/// request's kind is `BadKind`.
 /// Cost of `feed`: O(n · log n), n bytes of the piece and of the frames that are whole now: one pass over those frames,
-/// where a fragment's numbers and marks take the logarithm, and one copy of the bytes that are left.
+/// where the numbers and marks of a fragment or a head take the logarithm, and one copy of the bytes that are left.
 pub type ReplyFeeder = FrameFeeder<ReplyFormat>;

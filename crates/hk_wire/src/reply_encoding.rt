@@ -1,51 +1,68 @@
 //! The one encoding of a reply.
 
-ghost use Rattle.std.specs.Prelude.{◌≡◌, ◌≤◌, ◌⊎◌, ◌++◌, ℕ, true, false, [], ◌∷◌, Ok, length, take, OnOk, OnErr, IfErr, IfSome, MatchOption};
-ghost use Rattle.hk_types.specs.declared.faults.FormFault.TheVariants as faults;
-ghost use Rattle.hk_types.specs.declared.faults.Refusal.TheVariants as refusals;
+ghost use Rattle.std.specs.Prelude.{◌≡◌, ◌≤◌, ◌^◌, ◌++◌, true, length, take, OnOk, OnErr, IfErr, IfSome};
 ghost use Rattle.hk_wire.specs.Replies as replies;
 
-use crate::answer::{answer_len, keeps_answer_rules, put_answer};
-use crate::encoding::put_head;
-use crate::field_len::{number_len, time_len};
-use crate::fragment_encoding::{fragment_len, is_counted, put_fragment};
-use crate::head::{MOST_REST_BYTES, VERSION};
-use crate::refusal::{is_sent, put_refusal, refusal_len};
+use crate::head::{HEAD_BYTES, MOST_REST_BYTES, put_head};
+use crate::later_reply_encoding::{later_body_len, later_keeps_rules, later_kind, put_later};
 use crate::reply::{ANSWER, DONE, FRAGMENT, FRONT, REFUSED, Reply};
 use hk_frames::put_u64;
-use hk_types::{FormFault, LAST_TIME, Refusal};
+use hk_types::{FormFault, Refusal};
+use hk_values::answer::{answer_len, keeps_answer_rules, put_answer};
+use hk_values::field_len::{number_len, time_len};
+use hk_values::fragment_encoding::{fragment_len, is_counted, put_fragment};
+use hk_values::numbers::is_ops;
+use hk_values::refusal::{is_sent, put_refusal, refusal_len};
 use std::alloc::AllocError;
+
+/// The kind byte.
+fn kind_of(reply: &Reply) -> u8
+    ensures { result ≡ replies.reply_kind (replies.reply_seen reply.now) }
+{
+    match reply {
+        Reply::Done { .. } => DONE,
+        Reply::Front(_) => FRONT,
+        Reply::Fragment(_) => FRAGMENT,
+        Reply::Answer(_) => ANSWER,
+        Reply::Refused(_) => REFUSED,
+        Reply::Later(later) => later_kind(later),
+    }
+}
 
 /// Whether a reply keeps the rules of its kind.
 fn keeps_rules(reply: &Reply) -> bool
     ensures { result ≡ replies.keeps_rules (replies.reply_seen reply.now) }
 {
     match reply {
-        Reply::Done { ops } => 0 < *ops && *ops <= LAST_TIME,
+        Reply::Done { ops } => is_ops(*ops),
         Reply::Front(front) => front.horizon.number() <= front.readable.number(),
         Reply::Fragment(fragment) => is_counted(fragment),
         Reply::Answer(answer) => keeps_answer_rules(answer),
         Reply::Refused(why) => is_sent(*why),
+        Reply::Later(later) => later_keeps_rules(later),
     }
 }
 
-/// How many bytes the rest of the frame of a reply that keeps its rules has.
-#[tactic(auto, using(crate::proofs::Lengths::done_len, crate::proofs::Lengths::told_len, crate::proofs::Lengths::fragment_rest_len, crate::proofs::Lengths::answer_rest_len, crate::proofs::Lengths::refused_len))]
-fn rest_len(reply: &Reply) -> u64
+/// How many bytes the body of a reply that keeps its rules has.
+#[tactic(auto, using(crate::proofs::Lengths::front_len, crate::proofs::Lengths::refused_len, hk_codec::proofs::Lengths::len64))]
+fn body_len(reply: &Reply) -> u64
     requires { replies.keeps_rules (replies.reply_seen reply.now) ≡ true }
-    ensures len { result ≡ length (replies.reply_rest (replies.reply_seen reply.now)) }
+    ensures len { result ≡ length (replies.reply_body (replies.reply_seen reply.now)) }
+    ensures bound { result ≤ 2 ^ 61 }
     ensures fits { replies.ReplyFits (replies.reply_seen reply.now) }
 {
     match reply {
-        Reply::Done { ops } => 2 + number_len(*ops),
-        Reply::Front(front) => 2 + time_len(front.horizon) + time_len(front.readable),
-        Reply::Fragment(fragment) => 2 + fragment_len(fragment),
-        Reply::Answer(answer) => 2 + answer_len(answer),
-        Reply::Refused(why) => 2 + refusal_len(*why),
+        Reply::Done { ops } => number_len(*ops),
+        Reply::Front(front) => time_len(front.horizon) + time_len(front.readable),
+        Reply::Fragment(fragment) => fragment_len(fragment),
+        Reply::Answer(answer) => answer_len(answer),
+        Reply::Refused(why) => refusal_len(*why),
+        Reply::Later(later) => later_body_len(later),
     }
 }
 
 /// How many bytes the rest of a reply's frame has, or `None` where it has no encoding.
+#[tactic(auto, using(crate::proofs::Lengths::reply_rest_len))]
 fn reply_len(reply: &Reply) -> Option<u32>
     ensures reply { IfSome result (λ _. replies.IsReply (replies.reply_seen reply.now)) }
     ensures len { replies.IsLength reply.now result }
@@ -53,11 +70,31 @@ fn reply_len(reply: &Reply) -> Option<u32>
     if !keeps_rules(reply) {
         return None;
     }
-    let len = rest_len(reply);
+    let len = HEAD_BYTES + body_len(reply);
     if len > u64::from(MOST_REST_BYTES) {
         return None;
     }
     Some(len as u32)
+}
+
+/// Adds the body of a reply that keeps its rules.
+#[tactic(auto, using(std::proofs::Common::append_assoc, hk_frames::proofs::Prefix::kept_all, hk_frames::proofs::Prefix::kept_before, hk_frames::proofs::Prefix::kept_both))]
+fn put_body(out: &mut Vec<u8>, reply: &Reply) -> Result<(), AllocError>
+    requires { replies.keeps_rules (replies.reply_seen reply.now) ≡ true }
+    ensures ok { OnOk result (out.new.items ≡ out.old.items ++ replies.reply_body (replies.reply_seen reply.now)) }
+    ensures kept { OnErr result (take (length out.old.items) out.new.items ≡ out.old.items) }
+{
+    match reply {
+        Reply::Done { ops } => put_u64(out, *ops),
+        Reply::Front(front) => {
+            put_u64(out, front.horizon.number())?;
+            put_u64(out, front.readable.number())
+        }
+        Reply::Fragment(fragment) => put_fragment(out, fragment),
+        Reply::Answer(answer) => put_answer(out, answer),
+        Reply::Refused(why) => put_refusal(out, why),
+        Reply::Later(later) => put_later(out, later),
+    }
 }
 
 /// Adds a reply's frame, whose rest has so many bytes.
@@ -68,34 +105,14 @@ fn put_reply(out: &mut Vec<u8>, reply: &Reply, rest: u32) -> Result<(), AllocErr
     ensures ok { OnOk result (out.new.items ≡ out.old.items ++ replies.reply_text (replies.reply_seen reply.now)) }
     ensures kept { OnErr result (take (length out.old.items) out.new.items ≡ out.old.items) }
 {
-    match reply {
-        Reply::Done { ops } => {
-            put_head(out, VERSION, rest, DONE)?;
-            put_u64(out, *ops)
-        }
-        Reply::Front(front) => {
-            put_head(out, VERSION, rest, FRONT)?;
-            put_u64(out, front.horizon.number())?;
-            put_u64(out, front.readable.number())
-        }
-        Reply::Fragment(fragment) => {
-            put_head(out, VERSION, rest, FRAGMENT)?;
-            put_fragment(out, fragment)
-        }
-        Reply::Answer(answer) => {
-            put_head(out, VERSION, rest, ANSWER)?;
-            put_answer(out, answer)
-        }
-        Reply::Refused(why) => {
-            put_head(out, VERSION, rest, REFUSED)?;
-            put_refusal(out, why)
-        }
-    }
+    put_head(out, rest, kind_of(reply))?;
+    put_body(out, reply)
 }
 
 /// Adds a reply's one encoding at the end. A reply without an encoding is refused `Form(TooLong)`: a number of
-/// operations that is 0 or above 2^62, a horizon above the readable mark, a fragment with more than 2^32 - 1 of
-/// a counted thing, rows whose keys do not rise strictly, a refusal of a transaction, and a rest of more than
+/// operations that is 0 or above 2^62, a horizon above the readable mark, more than 2^32 - 1 of a counted thing, rows whose
+/// keys do not rise strictly, a number of streams outside 1 to 64, facts that don't keep the rules of a part, a part after
+/// which 0 facts come, a hold of number 0, a refusal of a transaction, one of parts in version 1, and a rest of more than
 /// 2^28 bytes. After that comes `Memory`. On a refusal the output is as before. Cost: O(n), n bytes of the
 /// encoding: the whole frame is reserved at once, so the output grows once at most; one pass over the reply
 /// tests it, one counts its bytes and one writes them.

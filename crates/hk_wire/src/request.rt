@@ -1,17 +1,19 @@
-//! Requests.
+//! Requests of both versions.
 
 ghost use Rattle.hk_frames.specs.Fields.{GivesOrRunsOut};
 ghost use Rattle.hk_wire.specs.Requests as spec;
 
-use crate::fragment_reading::{read_fragment, read_whole};
-use crate::head::{VERSION, read_end, read_head, read_time};
+use crate::head::{read_end, read_head};
 use crate::items::read_items;
-use crate::query::read_query;
+use crate::later_request::{LaterRequest, read_later};
 use hk_fragment::Fragment;
 use hk_frames::{Cursor, Format, FrameFeeder, ReadError};
 use hk_log::Item;
 use hk_model::Query;
-use hk_types::{FormFault, Time};
+use hk_types::Time;
+use hk_values::fragment_reading::{read_fragment, read_whole};
+use hk_values::numbers::read_time;
+use hk_values::query::read_query;
 use std::alloc::Global;
 
 /// What a replica is asked.
@@ -33,6 +35,8 @@ pub enum Request {
     MergeThis(Fragment),
     /// To forget what no one reads from a horizon on.
     Prune { horizon: Time },
+    /// What is asked in version 2.
+    Later(LaterRequest),
 }
 
 /// The kind bytes.
@@ -53,9 +57,9 @@ pub(crate) const MERGE_THIS: u8 = 22;
 pub(crate) const PRUNE: u8 = 23;
 
 /// Reads the body of a kind.
-#[tactic(auto, unfolding(crate::specs::Requests::request_of, crate::specs::Requests::plain_request_of))]
+#[tactic(auto, unfolding(crate::specs::Requests::request_of))]
 fn read_body(alloc: Global, cursor: &mut Cursor, kind: u8) -> Result<Request, ReadError>
-    ensures { GivesOrRunsOut (λ x. (spec.request_seen x, cursor.new)) result (spec.plain_request_of kind cursor.old) }
+    ensures { GivesOrRunsOut (λ x. (spec.request_seen x, cursor.new)) result (spec.request_of spec.plain_items_at kind cursor.old) }
 {
     match kind {
         ITEMS => {
@@ -85,27 +89,30 @@ fn read_body(alloc: Global, cursor: &mut Cursor, kind: u8) -> Result<Request, Re
             let horizon = read_time(cursor)?;
             Ok(Request::Prune { horizon })
         }
-        _ => Err(ReadError::Fault(FormFault::BadKind)),
+        _ => {
+            let request = read_later(alloc, cursor, kind)?;
+            Ok(Request::Later(request))
+        }
     }
 }
 
-/// The request that is all of the rest.
+/// The request of a version up to the latest that is read, which is all of the rest.
 #[tactic(auto, unfolding(crate::specs::Requests::plain_request_at, crate::specs::Messages::message_at))]
-fn read_request(alloc: Global, rest: &[u8]) -> Result<Request, ReadError>
-    ensures { GivesOrRunsOut spec.request_seen result (spec.plain_request_at rest.now) }
+fn read_request(alloc: Global, rest: &[u8], latest: u8) -> Result<Request, ReadError>
+    ensures { GivesOrRunsOut spec.request_seen result (spec.plain_request_at latest rest.now) }
 {
     let mut cursor = Cursor::new(rest);
-    let kind = read_head(&mut cursor, VERSION)?;
+    let kind = read_head(&mut cursor, latest)?;
     let request = read_body(alloc, &mut cursor, kind)?;
     read_end(&cursor)?;
     Ok(request)
 }
 
-/// The format of requests.
+/// The format of requests up to the latest version that is read: 1 for those of version 1 alone, 2 for both versions.
 #[derive(Debug, Drop)]
-pub struct RequestFormat;
+pub struct RequestFormat<const LATEST: u8>;
 
-impl Format for RequestFormat {
+impl<const LATEST: u8> Format for RequestFormat<LATEST> {
     ghost use Rattle.hk_wire.specs.Requests.{request_format, AddsRequests};
 
     type Value = Request;
@@ -114,22 +121,23 @@ impl Format for RequestFormat {
 
     ghost MOST_BYTES = { 268435456 };
 
-    ghost format = { request_format };
+    ghost format = { request_format LATEST };
 
-    ghost Adds = { AddsRequests };
+    ghost Adds = { AddsRequests LATEST };
 
     const LEAST_BYTES: usize = 2;
 
     const MOST_BYTES: usize = 268_435_456;
 
     fn read_rest(alloc: Global, rest: &[u8]) -> Result<Request, ReadError> {
-        read_request(alloc, rest)
+        read_request(alloc, rest, LATEST)
     }
 
     fn laws() {}
 }
 
-/// Reads requests from a stream that comes in pieces. It holds less than a frame, or the fault that it met; a reply's kind is `BadKind`.
+/// Reads requests up to the latest version that is read from a stream that comes in pieces. It holds less than a frame, or
+/// the fault that it met; a request of a later version is `BadVersion`, and a reply's kind `BadKind`.
 /// Cost of `feed`: O(n · log n), n bytes of the piece and of the frames that are whole now: one pass over those frames,
-/// where a fragment's numbers and marks take the logarithm, and one copy of the bytes that are left.
-pub type RequestFeeder = FrameFeeder<RequestFormat>;
+/// where the numbers and marks of a fragment or a head take the logarithm, and one copy of the bytes that are left.
+pub type RequestFeeder<const LATEST: u8> = FrameFeeder<RequestFormat<LATEST>>;

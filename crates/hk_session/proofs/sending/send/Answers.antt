@@ -1,12 +1,13 @@
 use Rattle.std.proofs.Common.{rules, ◌≡◌, ◌++◌, ℕ, List, [], subst}
 use Rattle.std.specs.Io.KnownBytes.{Appends}
+use Rattle.hk_session.specs.Said.{reply_bytes}
 use Rattle.hk_session.specs.Transcript.{Writes}
 use Rattle.hk_session.proofs.HeldReplies.{sent_after}
 use Rattle.hk_session.proofs.sending.send.Goals as goal
 
 pub returns-clause-sends : goal.returns-clause-sends
 returns-clause-sends g c =
-    let text = g.P.Protocol.wire.reply_bytes c.args.reply.now in
+    let text = reply_bytes c.args.reply.now in
     let before = g.W.Write.contents c.args.writer.now.device in
     let between = g.W.Write.contents c.write_out-2.new.writer.device in
     let after = g.W.Write.contents c.write_out-3.new.writer.device in

@@ -5,7 +5,7 @@ use Rattle.hk_session.proofs.Transcripts.{no_end, at_start, SessionStep-then, go
 use Rattle.hk_session.proofs.serving.run.Goals as goal
 
 pub loop-init : goal.loop-init
-loop-init g c = (c.requires.reader, c.requires.writer, omega (arith, c.calls-known.ensures.bound), c.requires.ready, ([], c.new-feeder.ensures, [], Consumes-nil _, at_start g.P.Protocol.wire g.H.Host.may c.args.host.now _))
+loop-init g c = (c.requires.reader, c.requires.writer, omega (arith, c.calls-known.ensures.bound), c.requires.ready, ([], c.new-feeder.ensures, [], Consumes-nil _, at_start g.row.LATEST g.H.Host.may c.args.host.now _))
 
 pub returns-then-count-eq0-clause-transcript : goal.returns-then-count-eq0-clause-transcript
 returns-then-count-eq0-clause-transcript g c =
@@ -13,7 +13,7 @@ returns-then-count-eq0-clause-transcript g c =
     let read = c.in-Ok.ensures.bytes in (
       inv.2,
       none_read _ _ _ inv.2 c.read.new.buf c.in-Ok.count inv.3 read.0 c.if-count-eq0.true,
-      finished g.P.Protocol.wire c.laws.ensures.tells_faults g.H.Host.may c.args.host.now c.loop.host _ _ _ inv.2 inv.0 c.loop.feeder c.finish.result inv.4 inv.1 c.finish.ensures.clean c.finish.ensures.cut,
+      finished g.row.LATEST g.H.Host.may c.args.host.now c.loop.host _ _ _ inv.2 inv.0 c.loop.feeder c.finish.result inv.4 inv.1 c.finish.ensures.clean c.finish.ensures.cut,
     )
 
 pub returns-in-Some-clause-transcript : goal.returns-in-Some-clause-transcript
@@ -22,7 +22,7 @@ returns-in-Some-clause-transcript g c =
     let piece = take c.in-Ok.count c.read.new.buf in (
       inv.2 ++ piece,
       Consumes-trans _ _ _ inv.2 piece inv.3 c.in-Ok.ensures.bytes.0,
-      SessionStep-then g.P.Protocol.wire g.H.Host.may c.args.host.now c.loop.host c.handle_piece.new.host _ _ _ inv.2 inv.0 piece (Ends g.P.Protocol.wire c.in-Some.ended) (ends_joins g.P.Protocol.wire c.in-Some.ended) inv.4 (c.in-Some.ensures.ends inv.0 inv.1),
+      SessionStep-then g.row.LATEST g.H.Host.may c.args.host.now c.loop.host c.handle_piece.new.host _ _ _ inv.2 inv.0 piece (Ends g.row.LATEST c.in-Some.ended) (ends_joins g.row.LATEST c.in-Some.ended) inv.4 (c.in-Some.ensures.ends inv.0 inv.1),
     )
 
 pub loop-preserved : goal.loop-preserved
@@ -39,6 +39,6 @@ loop-preserved g c =
         on.1,
         inv.2 ++ piece,
         Consumes-trans _ _ _ inv.2 piece inv.3 c.in-Ok.ensures.bytes.0,
-        SessionStep-then g.P.Protocol.wire g.H.Host.may c.args.host.now c.loop.host c.handle_piece.new.host _ _ _ inv.2 inv.0 piece (GoesOn g.P.Protocol.wire on.0) (goes_on_joins g.P.Protocol.wire on.0) inv.4 on.2,
+        SessionStep-then g.row.LATEST g.H.Host.may c.args.host.now c.loop.host c.handle_piece.new.host _ _ _ inv.2 inv.0 piece (GoesOn g.row.LATEST on.0) (goes_on_joins g.row.LATEST on.0) inv.4 on.2,
       ),
     )

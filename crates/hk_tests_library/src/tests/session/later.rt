@@ -1,12 +1,15 @@
 //! Messages of version 2 and their bytes, which are written out.
 
 use hk_delta::fragment_of;
-use hk_later::{Asked, AskedFeeder, Head, Reply, Request, encode_reply, encode_request};
 use hk_log::Version;
 use hk_model::Query;
 use hk_tests_values::{bytes_of, entry, mark, row, time, version};
 use hk_types::{Config, FormFault, Key, Refusal, Table, VersionKey};
-use hk_wire::Request as FirstRequest;
+use hk_values::Head;
+use hk_wire::{
+    LaterReply, LaterRequest, Reply, ReplyFeeder, Request, RequestFeeder, encode_reply,
+    encode_request,
+};
 use std::alloc::Global;
 use std::test::Fail;
 
@@ -40,36 +43,36 @@ const REQUESTS: [&str; 10] = [
 ];
 
 /// A request that asks.
-fn question(which: usize) -> Result<Request, Fail> {
+fn question(which: usize) -> Result<LaterRequest, Fail> {
     let table = Table::new(1);
     let key = Key::new(5);
     match which {
-        0 => Ok(Request::Streams),
-        1 => Ok(Request::AskLatest {
+        0 => Ok(LaterRequest::Streams),
+        1 => Ok(LaterRequest::AskLatest {
             query: Query::Get { table, key },
         }),
-        2 => Ok(Request::Page {
+        2 => Ok(LaterRequest::Page {
             t: time(1)?,
             table,
             low: Key::new(0),
             high: Key::new(9),
             most: 2,
         }),
-        3 => Ok(Request::Whole {
+        3 => Ok(LaterRequest::Whole {
             base: time(3)?,
             most_bytes: 8_388_608,
         }),
-        _ => Ok(Request::More),
+        _ => Ok(LaterRequest::More),
     }
 }
 
-fn request(alloc: Global, which: usize) -> Result<Request, Fail> {
+fn request(alloc: Global, which: usize) -> Result<LaterRequest, Fail> {
     match which {
-        5 => Ok(Request::AddPart(facts(alloc)?)),
-        6 => Ok(Request::JoinParts(head(alloc)?)),
-        7 => Ok(Request::MergeParts(head(alloc)?)),
-        8 => Ok(Request::Hold { t: time(4)? }),
-        9 => Ok(Request::Release { number: 3 }),
+        5 => Ok(LaterRequest::AddPart(facts(alloc)?)),
+        6 => Ok(LaterRequest::JoinParts(head(alloc)?)),
+        7 => Ok(LaterRequest::MergeParts(head(alloc)?)),
+        8 => Ok(LaterRequest::Hold { t: time(4)? }),
+        9 => Ok(LaterRequest::Release { number: 3 }),
         _ => question(which),
     }
 }
@@ -79,7 +82,7 @@ fn encodes_each_request_of_version_2(rt: HostRuntime) -> Result<(), Fail> {
     let alloc = rt.alloc();
     for which in 0..REQUESTS.len() {
         let mut bytes = Vec::new(alloc);
-        encode_request(&request(alloc, which)?, &mut bytes)?;
+        encode_request(&Request::Later(request(alloc, which)?), &mut bytes)?;
         assert!(rt;
             bytes == bytes_of(alloc, REQUESTS[which])?,
             "request {which}"
@@ -96,19 +99,19 @@ const REPLIES: [&str; 5] = [
     "00000013 02 48 2f 0000000000000000 0000000000000000",
 ];
 
-fn reply(alloc: Global, which: usize) -> Result<Reply, Fail> {
+fn reply(alloc: Global, which: usize) -> Result<LaterReply, Fail> {
     match which {
-        0 => Ok(Reply::Done { ops: 5 }),
-        1 => Ok(Reply::Part {
+        0 => Ok(LaterReply::Done { ops: 5 }),
+        1 => Ok(LaterReply::Part {
             left: 3,
             facts: facts(alloc)?,
         }),
-        2 => Ok(Reply::LastPart {
+        2 => Ok(LaterReply::LastPart {
             facts: facts(alloc)?,
             head: head(alloc)?,
         }),
-        3 => Ok(Reply::Added { count: 3 }),
-        _ => Ok(Reply::Refused(Refusal::NoPart)),
+        3 => Ok(LaterReply::Added { count: 3 }),
+        _ => Ok(LaterReply::Refused(Refusal::NoPart)),
     }
 }
 
@@ -117,25 +120,32 @@ fn encodes_replies_of_version_2(rt: HostRuntime) -> Result<(), Fail> {
     let alloc = rt.alloc();
     for which in 0..REPLIES.len() {
         let mut bytes = Vec::new(alloc);
-        encode_reply(&reply(alloc, which)?, &mut bytes)?;
+        encode_reply(&Reply::Later(reply(alloc, which)?), &mut bytes)?;
         assert!(rt; bytes == bytes_of(alloc, REPLIES[which])?, "reply {which}");
     }
     Ok(())
 }
 
-/// How a request came, and which it was of those looked for.
-fn came(asked: &Asked) -> u8 {
+/// Which a request was of those looked for.
+fn came(asked: &Request) -> u8 {
     match asked {
-        Asked::One(FirstRequest::Front) => 1,
-        Asked::Later(Request::More) => 2,
+        Request::Front => 1,
+        Request::Later(LaterRequest::More) => 2,
         _ => 0,
     }
+}
+
+/// What a feeder of requests of both versions answers to bytes.
+fn fed(alloc: Global, bytes: &str) -> Result<Result<(), Refusal>, Fail> {
+    let mut asked = Vec::new(alloc);
+    let mut feeder = RequestFeeder::<2>::new(alloc);
+    Ok(feeder.feed(&bytes_of(alloc, bytes)?, &mut asked))
 }
 
 #[test]
 fn reads_both_versions_and_no_third(rt: HostRuntime) -> Result<(), Fail> {
     let alloc = rt.alloc();
-    let mut feeder = AskedFeeder::new(alloc);
+    let mut feeder = RequestFeeder::<2>::new(alloc);
     let mut asked = Vec::new(alloc);
     feeder.feed(
         &bytes_of(alloc, "00000002 01 11 00000002 02 34")?,
@@ -148,5 +158,17 @@ fn reads_both_versions_and_no_third(rt: HostRuntime) -> Result<(), Fail> {
     assert!(rt; seen.as_slice() == [1, 2].as_slice());
     let refused = feeder.feed(&bytes_of(alloc, "00000002 03 11")?, &mut asked);
     assert!(rt; refused == Err(Refusal::Form(FormFault::BadVersion)));
+    Ok(())
+}
+
+#[test]
+fn a_kind_has_one_version(rt: HostRuntime) -> Result<(), Fail> {
+    let alloc = rt.alloc();
+    let bad_kind = Err(Refusal::Form(FormFault::BadKind));
+    assert!(rt; fed(alloc, "00000002 01 34")? == bad_kind);
+    assert!(rt; fed(alloc, "00000002 02 11")? == bad_kind);
+    let mut told = Vec::new(alloc);
+    let bytes = bytes_of(alloc, "0000000a 02 20 0000000000000001")?;
+    assert!(rt; ReplyFeeder::new(alloc).feed(&bytes, &mut told) == bad_kind);
     Ok(())
 }

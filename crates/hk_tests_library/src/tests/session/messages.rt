@@ -100,7 +100,7 @@ const DELTA: &str =
 fn a_delta_has_no_encoding_as_a_merge(rt: HostRuntime) -> Result<(), Fail> {
     let mut bytes = bytes_of(rt.alloc(), DELTA)?;
     let mut requests = Vec::new(rt.alloc());
-    RequestFeeder::new(rt.alloc()).feed(&bytes, &mut requests)?;
+    RequestFeeder::<1>::new(rt.alloc()).feed(&bytes, &mut requests)?;
     let Some(Request::JoinThis(delta)) = requests.pop() else {
         return Err(Fail::from("no join"));
     };

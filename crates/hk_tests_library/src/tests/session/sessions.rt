@@ -14,7 +14,7 @@ fn session(alloc: Global, asked: &str) -> Result<(u8, Vec<u8>), Fail> {
     let mut writer = Counted::new(Vec::new(alloc));
     let state = ReplicaState::new(alloc, Config::new(7, 1)?)?;
     let mut host = StateHost::new(alloc, state);
-    let ended = serve(alloc, &mut reader, &mut writer, &mut host);
+    let ended = serve::<1, _, _, _>(alloc, &mut reader, &mut writer, &mut host);
     Ok((ended.number(), writer.into_inner()))
 }
 
@@ -112,6 +112,22 @@ const SESSIONS: [(&str, &str, u8, &str); 15] = [
         "0000000a 01 20 0000000000000002 0000000a 01 20 0000000000000003 00000013 01 24 19 0000000000000002 0000000000000000",
     ),
 ];
+
+#[test]
+fn a_replica_has_no_requests_of_version_2(rt: HostRuntime) -> Result<(), Fail> {
+    let alloc = rt.alloc();
+    let bytes = bytes_of(alloc, "00000002 02 30 00000002 01 11")?;
+    let mut reader = Counted::new(bytes.as_slice());
+    let mut writer = Counted::new(Vec::new(alloc));
+    let mut host = StateHost::new(alloc, ReplicaState::new(alloc, Config::new(7, 1)?)?);
+    let ended = serve::<2, _, _, _>(alloc, &mut reader, &mut writer, &mut host);
+    let said =
+        "00000013 01 24 04 0000000000000000 0000000000000000 00000012 01 21 0000000000000000 0000000000000000";
+    assert_eq!(rt; ended.number(), 0);
+    assert_eq!(rt; host.ops(), 1);
+    assert!(rt; writer.into_inner() == bytes_of(alloc, said)?);
+    Ok(())
+}
 
 #[test]
 fn worked_sessions(rt: HostRuntime) -> Result<(), Fail> {

@@ -4,4 +4,4 @@ use Rattle.hk_wire.proofs.RequestsReadAgain.{requests_are_sound}
 use Rattle.hk_wire.proofs.laws.one_request_encoding.Goals as goal
 
 pub returns : goal.returns
-returns c = one_encoding_only 2 268435456 request_at request_rest IsRequest requests_are_sound
+returns c = one_encoding_only 2 268435456 (request_at 2) request_rest IsRequest requests_are_sound

@@ -1,8 +1,9 @@
-use Rattle.std.proofs.Common.{subst, List}
+use Rattle.std.proofs.Common.{subst, List, refl}
 use mathlib.Core.List.{IsPrefix}
 use Rattle.hk_node.specs.declared.op.Op.{Op}
 use Rattle.hk_net.proofs.GuardedReplies.{joined_is}
 use Rattle.hk_net.proofs.guarded_host.GuardedHostHost.answer.Goals as goal
+use Rattle.hk_net.proofs.Seen.{same_prefix}
 
 pub returns-in-Items-clause-may : goal.returns-in-Items-clause-may
 returns-in-Items-clause-may g c = (c.take_items.ensures.legal, c.take_items.ensures.seen, rw (c.in-Items.is, ← c.deref.ensures.value) c.take_items.ensures.told)
@@ -24,3 +25,6 @@ returns-in-Prune-clause-may g c = (c.prune.ensures.legal, c.prune.ensures.seen, 
 
 pub returns-in-JoinThis-clause-may : goal.returns-in-JoinThis-clause-may
 returns-in-JoinThis-clause-may g c = (c.join.ensures.legal, c.join.ensures.seen, joined_is _ _ _ c.args.request _ _ c.in-JoinThis.is c.join.ensures.told)
+
+pub returns-in-Later-clause-may : goal.returns-in-Later-clause-may
+returns-in-Later-clause-may g c = (c.no_kind.ensures.legal, same_prefix _ _ refl, rw c.in-Later.is (c.no_kind.ensures.told, refl))

@@ -1,5 +1,7 @@
 use Rattle.hk_net.proofs.JoinRequests.{joined_is}
 use Rattle.hk_net.proofs.node_host.NodeHostHost.answer.Goals as goal
+use Rattle.std.proofs.Common.{refl}
+use Rattle.hk_net.proofs.Seen.{same_prefix}
 
 pub returns-in-Items-clause-may : goal.returns-in-Items-clause-may
 returns-in-Items-clause-may g c = (c.take_items.ensures.legal, c.take_items.ensures.seen, rw (c.in-Items.is, ← c.deref.ensures.value) c.take_items.ensures.told)
@@ -21,3 +23,6 @@ returns-in-Prune-clause-may g c = (c.prune.ensures.legal, c.prune.ensures.seen, 
 
 pub returns-in-JoinThis-clause-may : goal.returns-in-JoinThis-clause-may
 returns-in-JoinThis-clause-may g c = (c.join.ensures.legal, c.join.ensures.seen, joined_is _ _ _ c.args.request _ _ c.in-JoinThis.is c.join.ensures.told)
+
+pub returns-in-Later-clause-may : goal.returns-in-Later-clause-may
+returns-in-Later-clause-may g c = (c.no_kind.ensures.legal, same_prefix _ _ refl, rw c.in-Later.is (c.no_kind.ensures.told, refl))

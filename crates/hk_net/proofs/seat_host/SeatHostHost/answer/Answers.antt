@@ -22,3 +22,6 @@ returns-in-Prune-clause-may g c = (c.no_kind-in-Prune.ensures.legal, same_prefix
 
 pub returns-in-JoinThis-clause-may : goal.returns-in-JoinThis-clause-may
 returns-in-JoinThis-clause-may g c = (c.no_kind-in-JoinThis.ensures.legal, same_prefix _ _ refl, no_change_is _ _ c.args.request _ _ c.in-JoinThis.is (c.no_kind-in-JoinThis.ensures.told, refl))
+
+pub returns-in-Later-clause-may : goal.returns-in-Later-clause-may
+returns-in-Later-clause-may g c = (c.no_kind-in-Later.ensures.legal, same_prefix _ _ refl, rw c.in-Later.is (c.no_kind-in-Later.ensures.told, refl))

@@ -5,4 +5,4 @@ use Rattle.hk_wire.proofs.PlainItems.{request_plain}
 use Rattle.hk_wire.proofs.request.RequestFormatFormat.read_rest.Goals as goal
 
 pub returns : goal.returns
-returns c = subst (λ r. GivesOrRunsOut request_seen c.read_request.result r) (request_plain c.args.rest.now) c.read_request.ensures
+returns g c = subst (λ r. GivesOrRunsOut request_seen c.read_request.result r) (request_plain g.row.LATEST c.args.rest.now) c.read_request.ensures

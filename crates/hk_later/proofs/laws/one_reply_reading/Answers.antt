@@ -1,5 +1,0 @@
-use Rattle.hk_later.proofs.EncodedMessages.{replies_read}
-use Rattle.hk_later.proofs.laws.one_reply_reading.Goals as goal
-
-pub returns : goal.returns
-returns c = replies_read

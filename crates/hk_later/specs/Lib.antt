@@ -1,5 +1,0 @@
-pub mod Parts
-pub mod Requests
-pub mod Told
-pub mod Replies
-pub mod Both

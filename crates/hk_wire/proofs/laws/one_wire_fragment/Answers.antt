@@ -1,5 +1,0 @@
-use Rattle.hk_wire.proofs.OneWireFragment.{fragment_same}
-use Rattle.hk_wire.proofs.laws.one_wire_fragment.Goals as goal
-
-pub returns : goal.returns
-returns c = fragment_same c.args.one.now c.args.other.now c.got-one.ensures.numbered c.got-other.ensures.numbered

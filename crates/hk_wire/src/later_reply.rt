@@ -1,0 +1,139 @@
+//! Replies of version 2.
+
+ghost use Rattle.hk_frames.specs.Fields.{GivesOrRunsOut};
+ghost use Rattle.hk_wire.specs.LaterReplies as spec;
+
+use hk_frames::{Cursor, ReadError};
+use hk_log::Version;
+use hk_model::{Answer, Page, StreamsTold};
+use hk_types::{FormFault, Refusal, Time, VersionKey};
+use hk_values::Head;
+use hk_values::answer::read_answer;
+use hk_values::head::read_head;
+use hk_values::numbers::{read_ops, read_positive, read_time};
+use hk_values::part::read_part;
+use hk_values::refusal::read_later_refusal;
+use hk_values::told::{read_page, read_streams_told};
+use std::alloc::Global;
+
+/// What a node replies in version 2.
+#[derive(Drop)]
+pub enum LaterReply {
+    /// The change took effect; the node has had so many operations, 1 to 2^62.
+    Done {
+        ops: u64,
+    },
+    /// How far the node is, and each of its streams.
+    Streams(StreamsTold),
+    /// The answer to a query at the readable mark, and the mark.
+    Latest {
+        t: Time,
+        answer: Answer,
+    },
+    /// A page of rows.
+    Page(Page),
+    /// A part of what is given, and how many facts come after it, 1 at least.
+    Part {
+        left: u64,
+        facts: Vec<(VersionKey, Version)>,
+    },
+    /// The last part of it, and the head of all parts, which says how many facts they have.
+    LastPart {
+        facts: Vec<(VersionKey, Version)>,
+        head: Head,
+    },
+    /// How many facts were added so far.
+    Added {
+        count: u64,
+    },
+    /// The number of a hold, which is not 0, and the time that it keeps readable.
+    Held {
+        number: u64,
+        t: Time,
+    },
+    /// Why nothing happened.
+    Refused(Refusal),
+}
+
+/// The kind bytes.
+pub(crate) const DONE: u8 = 64;
+
+pub(crate) const STREAMS: u8 = 65;
+
+pub(crate) const LATEST: u8 = 66;
+
+pub(crate) const PAGE: u8 = 67;
+
+pub(crate) const PART: u8 = 68;
+
+pub(crate) const LAST_PART: u8 = 69;
+
+pub(crate) const ADDED: u8 = 70;
+
+pub(crate) const HELD: u8 = 71;
+
+pub(crate) const REFUSED: u8 = 72;
+
+/// Reads the body of a kind of parts, of holds, or of refusals.
+#[tactic(auto, unfolding(crate::specs::LaterReplies::part_reply_of))]
+fn read_part_reply(alloc: Global, cursor: &mut Cursor, kind: u8) -> Result<LaterReply, ReadError>
+    ensures { GivesOrRunsOut (λ x. (spec.reply_seen x, cursor.new)) result (spec.part_reply_of kind cursor.old) }
+{
+    match kind {
+        PART => {
+            let left = read_positive(cursor)?;
+            let facts = read_part(alloc, cursor)?;
+            Ok(LaterReply::Part { left, facts })
+        }
+        LAST_PART => {
+            let facts = read_part(alloc, cursor)?;
+            let head = read_head(alloc, cursor)?;
+            Ok(LaterReply::LastPart { facts, head })
+        }
+        ADDED => {
+            let count = cursor.u64()?;
+            Ok(LaterReply::Added { count })
+        }
+        HELD => {
+            let number = read_positive(cursor)?;
+            let t = read_time(cursor)?;
+            Ok(LaterReply::Held { number, t })
+        }
+        REFUSED => {
+            let why = read_later_refusal(cursor)?;
+            Ok(LaterReply::Refused(why))
+        }
+        _ => Err(ReadError::Fault(FormFault::BadKind)),
+    }
+}
+
+/// Reads the body of a kind of version 2; another kind is `BadKind`.
+#[tactic(auto, unfolding(crate::specs::LaterReplies::reply_of))]
+pub(crate) fn read_later(
+    alloc: Global,
+    cursor: &mut Cursor,
+    kind: u8,
+) -> Result<LaterReply, ReadError>
+    ensures { GivesOrRunsOut (λ x. (spec.reply_seen x, cursor.new)) result (spec.reply_of kind cursor.old) }
+{
+    match kind {
+        DONE => {
+            let ops = read_ops(cursor)?;
+            Ok(LaterReply::Done { ops })
+        }
+        STREAMS => {
+            let told = read_streams_told(alloc, cursor)?;
+            Ok(LaterReply::Streams(told))
+        }
+        LATEST => {
+            let t = read_time(cursor)?;
+            let answer = read_answer(alloc, cursor)?;
+            Ok(LaterReply::Latest { t, answer })
+        }
+        PAGE => {
+            let page = read_page(alloc, cursor)?;
+            Ok(LaterReply::Page(page))
+        }
+        _ => read_part_reply(alloc, cursor, kind),
+    }
+}

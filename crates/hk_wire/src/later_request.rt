@@ -1,0 +1,167 @@
+//! Requests of version 2.
+
+ghost use Rattle.hk_frames.specs.Fields.{GivesValue, GivesOrRunsOut};
+ghost use Rattle.hk_wire.specs.LaterRequests as spec;
+
+use hk_frames::{Cursor, ReadError};
+use hk_log::Version;
+use hk_model::Query;
+use hk_types::{FormFault, Key, Table, Time, VersionKey};
+use hk_values::Head;
+use hk_values::head::{read_head, read_whole_head};
+use hk_values::numbers::{read_positive, read_time};
+use hk_values::part::read_part;
+use hk_values::query::read_query;
+use std::alloc::Global;
+
+/// What a node is asked in version 2.
+#[derive(Drop)]
+pub enum LaterRequest {
+    /// How far it is, and each of its streams.
+    Streams,
+    /// The readable mark, and the answer to a query at it.
+    AskLatest {
+        query: Query,
+    },
+    /// The rows of a range at a time, from the low key on, and as many as `most` of them, 1 at least.
+    Page {
+        t: Time,
+        table: Table,
+        low: Key,
+        high: Key,
+        most: u32,
+    },
+    /// What it has learnt since a time, or all that it holds since 0, in parts whose facts have at most so many bytes,
+    /// and one fact at least: the first of them.
+    Whole {
+        base: Time,
+        most_bytes: u32,
+    },
+    /// The next part of that.
+    More,
+    /// To keep these facts until the other parts and the head are there.
+    AddPart(Vec<(VersionKey, Version)>),
+    /// To take the fragment of this head and of all parts that were added, which have as many facts as the head says.
+    JoinParts(Head),
+    /// To take the whole of them: the base of the head is 0.
+    MergeParts(Head),
+    /// To keep a time readable.
+    Hold {
+        t: Time,
+    },
+    /// To let go the hold of this number, which is not 0.
+    Release {
+        number: u64,
+    },
+}
+
+/// The kind bytes.
+pub(crate) const STREAMS: u8 = 48;
+
+pub(crate) const ASK_LATEST: u8 = 49;
+
+pub(crate) const PAGE: u8 = 50;
+
+pub(crate) const WHOLE: u8 = 51;
+
+pub(crate) const MORE: u8 = 52;
+
+pub(crate) const ADD_PART: u8 = 53;
+
+pub(crate) const JOIN_PARTS: u8 = 54;
+
+pub(crate) const MERGE_PARTS: u8 = 55;
+
+pub(crate) const HOLD: u8 = 56;
+
+pub(crate) const RELEASE: u8 = 57;
+
+/// Reads the most rows that are wanted.
+#[tactic(auto, unfolding(crate::specs::LaterRequests::most_at))]
+fn read_most(cursor: &mut Cursor) -> Result<u32, FormFault>
+    ensures { GivesValue (λ x. (x, cursor.new)) result (spec.most_at cursor.old) }
+{
+    let most = cursor.u32()?;
+    if most == 0 {
+        return Err(FormFault::BadCount);
+    }
+    Ok(most)
+}
+
+/// Reads what a page is asked of.
+#[tactic(auto, unfolding(crate::specs::LaterRequests::page_at))]
+fn read_page(cursor: &mut Cursor) -> Result<LaterRequest, FormFault>
+    ensures { GivesValue (λ x. (spec.request_seen x, cursor.new)) result (spec.page_at cursor.old) }
+{
+    let t = read_time(cursor)?;
+    let table = Table::new(cursor.u16()?);
+    let low = Key::new(cursor.u64()?);
+    let high = Key::new(cursor.u64()?);
+    let most = read_most(cursor)?;
+    Ok(LaterRequest::Page {
+        t,
+        table,
+        low,
+        high,
+        most,
+    })
+}
+
+/// Reads the body of a kind that puts parts together or is about holds.
+#[tactic(auto, unfolding(crate::specs::LaterRequests::change_of))]
+fn read_change(alloc: Global, cursor: &mut Cursor, kind: u8) -> Result<LaterRequest, ReadError>
+    ensures { GivesOrRunsOut (λ x. (spec.request_seen x, cursor.new)) result (spec.change_of kind cursor.old) }
+{
+    match kind {
+        ADD_PART => {
+            let facts = read_part(alloc, cursor)?;
+            Ok(LaterRequest::AddPart(facts))
+        }
+        JOIN_PARTS => {
+            let head = read_head(alloc, cursor)?;
+            Ok(LaterRequest::JoinParts(head))
+        }
+        MERGE_PARTS => {
+            let head = read_whole_head(alloc, cursor)?;
+            Ok(LaterRequest::MergeParts(head))
+        }
+        HOLD => {
+            let t = read_time(cursor)?;
+            Ok(LaterRequest::Hold { t })
+        }
+        RELEASE => {
+            let number = read_positive(cursor)?;
+            Ok(LaterRequest::Release { number })
+        }
+        _ => Err(ReadError::Fault(FormFault::BadKind)),
+    }
+}
+
+/// Reads the body of a kind of version 2; another kind is `BadKind`.
+#[tactic(auto, unfolding(crate::specs::LaterRequests::request_of))]
+pub(crate) fn read_later(
+    alloc: Global,
+    cursor: &mut Cursor,
+    kind: u8,
+) -> Result<LaterRequest, ReadError>
+    ensures { GivesOrRunsOut (λ x. (spec.request_seen x, cursor.new)) result (spec.request_of kind cursor.old) }
+{
+    match kind {
+        STREAMS => Ok(LaterRequest::Streams),
+        ASK_LATEST => {
+            let query = read_query(cursor)?;
+            Ok(LaterRequest::AskLatest { query })
+        }
+        PAGE => {
+            let request = read_page(cursor)?;
+            Ok(request)
+        }
+        WHOLE => {
+            let base = read_time(cursor)?;
+            let most_bytes = cursor.u32()?;
+            Ok(LaterRequest::Whole { base, most_bytes })
+        }
+        MORE => Ok(LaterRequest::More),
+        _ => read_change(alloc, cursor, kind),
+    }
+}
