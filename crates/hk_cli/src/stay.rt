@@ -3,7 +3,7 @@
 ghost use Rattle.std.specs.Prelude.{◌≡◌, ◌<◌, ◌≤◌};
 
 use crate::notice::Notice;
-use crate::serve::{listener_of, stop_of};
+use crate::serve::{listener_of, new_list, stop_of};
 use crate::telling::{Level, Reports, Telling};
 use hk_commands::{Output, Stop};
 use hk_net::{Door, PartsBudget, serve_forever};
@@ -39,7 +39,7 @@ pub struct Stay {
     pub reading: Option<ReadPort>,
     /// How many seconds a read inside a frame is waited for; 0 is no limit.
     pub read_seconds: u64,
-    /// Whether each change is tested before it is added, so that none damages the node.
+    /// Whether the node is guarded: it refuses what contradicts it, and is never damaged.
     pub is_guarded: bool,
     /// How many bytes all links keep at most for messages of version 2; without it those of version 1 alone are answered.
     pub parts_bytes: Option<u64>,
@@ -97,7 +97,6 @@ fn places_of<'d, J: NodeName, N: Wait + Drop>(
             Some(listener) if places.len() >= stay.links.count() => {
                 Door::reading(listener, stay.read_seconds)
             }
-            _ if stay.is_guarded => Door::guarded(listener, node, stay.read_seconds),
             _ => Door::open(listener, node, stay.read_seconds),
         };
         places.push((furnished(door, stay, budget), seat))?;
@@ -131,7 +130,7 @@ fn stay_list<
     list: NewList,
     output: &mut Output<'_, W, E>,
 ) -> Result<(), Stop>
-    requires { list ≡ (J.book, J.config) }
+    requires { list ≡ (J.book, J.kind) }
 {
     let listener = listener_of(rt, stay.address, stay.port, output)?;
     let reading = reading_listener(rt, stay, output)?;
@@ -176,7 +175,7 @@ pub fn run_stay<
     ensures { result ≤ 1 }
 {
     let mut output = Output::new(alloc, writer, errors);
-    let list = NewList::new(config);
+    let list = new_list(config, stay.is_guarded);
     match stay_list::<Brand, R, W, E>(rt, alloc, stay, list, &mut output) {
         Ok(()) => 0,
         Err(stop) => output.stop(stop),

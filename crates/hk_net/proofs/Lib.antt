@@ -5,5 +5,5 @@ mod LettingGo
 mod LinkHolds
 mod JoinRequests
 mod Seen
-mod GuardedReplies
+mod ChangeReplies
 mod BothSeen

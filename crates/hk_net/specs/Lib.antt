@@ -1,6 +1,5 @@
 pub mod BothVersions
 pub mod Faults
-pub mod Guarded
 pub mod Replying
 pub mod Serving
 pub mod NodeSides
