@@ -5,7 +5,7 @@ ghost use Rattle.std.specs.Prelude.{◌≡◌, ◌≤◌, IfOk};
 use crate::notice::Notice;
 use hk_cli_calls::IS_PROVED;
 use hk_commands::{Output, Stop};
-use hk_net::{NetFault, PartsBudget, guard_links, serve_links};
+use hk_net::{NetFault, PartsBudget, serve_links};
 use hk_node::{NewList, NodeName, start};
 use hk_reasons::Place;
 use hk_session::Ended;
@@ -65,6 +65,15 @@ fn print_ends<W: Write, E: Write>(ends: &[Ended], output: &mut Output<'_, W, E>)
     Ok(u8::from(!all_clean))
 }
 
+/// The list of a new node of this log, guarded or not.
+pub(crate) fn new_list(config: Config, is_guarded: bool) -> NewList {
+    if is_guarded {
+        NewList::guarded(config)
+    } else {
+        NewList::new(config)
+    }
+}
+
 /// Serves the links to a new node of this list.
 fn serve_list<
     J: NodeName + Send + Sync,
@@ -77,35 +86,27 @@ fn serve_list<
     port: u16,
     list: NewList,
     links: Links,
-    is_guarded: bool,
     parts_bytes: Option<u64>,
     output: &mut Output<'_, W, E>,
 ) -> Result<u8, Stop>
-    requires { list ≡ (J.book, J.config) }
+    requires { list ≡ (J.book, J.kind) }
     ensures { IfOk result (λ status. status ≤ 1) }
 {
     let listener = listener_of(rt, Ipv4Addr::LOCALHOST, port, output)?;
     let (node, seats) = start::<J, &R>(rt, alloc, list, links.count())?;
     output.print(&Notice::Listening(port))?;
     output.flush()?;
-    let budget = match parts_bytes {
-        Some(most) => Some(PartsBudget::new(most)),
-        None => None,
-    };
-    let served = if is_guarded {
-        guard_links(rt, alloc, &listener, &node, budget.as_ref(), seats)
-    } else {
-        serve_links(rt, alloc, &listener, &node, budget.as_ref(), seats)
-    };
+    let budget = parts_bytes.map(PartsBudget::new);
+    let served = serve_links(rt, alloc, &listener, &node, budget.as_ref(), seats);
     let ends = served.map_err(stop_of)?;
     print_ends(&ends, output)
 }
 
 /// Starts a node of a log, and serves links to it on a port of 127.0.0.1, until so many were opened and all have ended.
 /// Prints `listening` and the port once links can be opened, and at the end a line for each link in the order in which
-/// they were accepted: `ended` and its number, which is 0, the fault's of a request, 90, 91 or 92. Where it is guarded,
-/// each change that a link asks for is tested before it is added: what contradicts is refused 23 with nothing changed, so
-/// that no link damages the node. Messages of version 1 are answered, and where a number of bytes is given those of version
+/// they were accepted: `ended` and its number, which is 0, the fault's of a request, 90, 91 or 92. A guarded node refuses
+/// 23 what contradicts it, with nothing changed, and is never damaged (`NewList::guarded`). Messages of version 1 are
+/// answered, and where a number of bytes is given those of version
 /// 2 too: the links keep at most so many bytes for them, all together.
 ///
 /// The status is 0, or 1 where a number above 0 or one of these lines was printed:
@@ -114,8 +115,7 @@ fn serve_list<
 /// - `refused 90` where memory ran out for the node or the list of links;
 /// - no line where a write failed or took no bytes: the status alone tells it.
 ///
-/// Each number above 0 and each such line is told to `errors` in words. Cost: that of `start`, and of `serve_links` or
-/// `guard_links`.
+/// Each number above 0 and each such line is told to `errors` in words. Cost: that of `start`, and of `serve_links`.
 pub fn run_serve<
     R: Net<Listener = TcpListener, Stream = TcpStream> + Threads + Wait + Sync,
     W: Write,
@@ -135,17 +135,8 @@ pub fn run_serve<
 {
     let mut output = Output::new(alloc, writer, errors);
     tell_unproved(&mut output);
-    let list = NewList::new(config);
-    match serve_list::<Brand, R, W, E>(
-        rt,
-        alloc,
-        port,
-        list,
-        links,
-        is_guarded,
-        parts_bytes,
-        &mut output,
-    ) {
+    let list = new_list(config, is_guarded);
+    match serve_list::<Brand, R, W, E>(rt, alloc, port, list, links, parts_bytes, &mut output) {
         Ok(status) => status,
         Err(stop) => output.stop(stop),
     }

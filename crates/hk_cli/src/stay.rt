@@ -3,7 +3,7 @@
 ghost use Rattle.std.specs.Prelude.{◌≡◌, ◌<◌, ◌≤◌};
 
 use crate::notice::Notice;
-use crate::serve::{listener_of, stop_of, tell_unproved};
+use crate::serve::{listener_of, new_list, stop_of, tell_unproved};
 use crate::telling::{Reports, Telling};
 use hk_cli_calls::{Level, Stay};
 use hk_commands::{Output, Stop};
@@ -66,7 +66,6 @@ fn places_of<'d, J: NodeName, N: Wait + Drop>(
             Some(listener) if places.len() >= stay.links.count() => {
                 Door::reading(listener, stay.read_seconds)
             }
-            _ if stay.is_guarded => Door::guarded(listener, node, stay.read_seconds),
             _ => Door::open(listener, node, stay.read_seconds),
         };
         places.push((furnished(door, stay, budget), seat))?;
@@ -100,7 +99,7 @@ fn stay_list<
     list: NewList,
     output: &mut Output<'_, W, E>,
 ) -> Result<(), Stop>
-    requires { list ≡ (J.book, J.config) }
+    requires { list ≡ (J.book, J.kind) }
 {
     let listener = listener_of(rt, stay.address, stay.port, output)?;
     let reading = reading_listener(rt, stay, output)?;
@@ -146,7 +145,7 @@ pub fn run_stay<
 {
     let mut output = Output::new(alloc, writer, errors);
     tell_unproved(&mut output);
-    let list = NewList::new(config);
+    let list = new_list(config, stay.is_guarded);
     match stay_list::<Brand, R, W, E>(rt, alloc, stay, list, &mut output) {
         Ok(()) => 0,
         Err(stop) => output.stop(stop),

@@ -3,6 +3,6 @@ mod LettingGo
 mod LinkHolds
 mod JoinRequests
 mod Seen
-mod GuardedReplies
+mod ChangeReplies
 mod BothSeen
 mod LinkReplies

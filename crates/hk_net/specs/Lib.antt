@@ -1,5 +1,4 @@
 pub mod Faults
-pub mod Guarded
 pub mod Replying
 pub mod Serving
 pub mod NodeSides

@@ -1,7 +1,6 @@
 -- What a host of a node offers beside version 1: what it cuts, and what comes of its holds.
 use Rattle.std.specs.Prelude.{◌≡◌, ℕ, ◌==◌, if◌then◌else◌, List, Option, Some, None, Result, Err, MatchResult}
 use mathlib.Core.List.{IsPrefix}
-use Rattle.hk_types.specs.Values.{ConfigValue}
 use Rattle.hk_types.specs.declared.faults.FormFault.TheVariants.{BadKind}
 use Rattle.hk_types.specs.declared.faults.Refusal.{Refusal}
 use Rattle.hk_types.specs.declared.faults.Refusal.TheVariants.{Form}
@@ -10,6 +9,7 @@ use Rattle.hk_wire.specs.declared.reply.Reply.{Reply}
 use Rattle.hk_wire.specs.declared.request.Request.{Request}
 use Rattle.hk_wire.specs.Replies.{Done, Refused}
 use Rattle.hk_node.specs.declared.op.Hold.{Hold}
+use Rattle.hk_node.specs.declared.op.NodeKind.{NodeKind}
 use Rattle.hk_node.specs.declared.op.Op.{Op}
 use Rattle.hk_node.specs.declared.op.Op.TheVariants.{Hold as HoldAt, Release}
 use Rattle.hk_node.specs.Changes.{IsGiven, IsHandedBack, IsRefusedHold}
@@ -37,17 +37,17 @@ GoesOn {S} side may = (old : S) (request : Request) (reply : Reply) (new : S) �
 abbrev pub KnowsHold : List Op → ℕ → Hold → Type 0
 KnowsHold list time hold = (ops : List Op) × IsPrefix ops list × (last_of ops ≡ Some (HoldAt time)) × IsGiven hold time ops
 
--- a hold at this time, in a node of this log: it was given, or refused as such a node refuses it, and then the seat's list is
+-- a hold at this time, in such a node: it was given, or refused as the node refuses it, and then the seat's list is
 -- as before
-abbrev pub TakesHold : ConfigValue → List Op → ℕ → Result Hold (Option Hold × Refusal) → List Op → Type 0
-TakesHold config old time result new = MatchResult result (KnowsHold new time) (λ e. IsRefusedHold config time e.0 e.1 × (new ≡ old))
+abbrev pub TakesHold : NodeKind → List Op → ℕ → Result Hold (Option Hold × Refusal) → List Op → Type 0
+TakesHold kind old time result new = MatchResult result (KnowsHold new time) (λ e. IsRefusedHold kind time e.0 e.1 × (new ≡ old))
 
--- the release of this hold, in a node of this log: the seat's list has so many operations, and it ends them; or it was refused
--- as such a node refuses it, and the hold was handed back but where the release waits
-abbrev pub ReleasesHold : ConfigValue → List Op → Hold → Result ℕ (Option Hold × Refusal) → List Op → Type 0
-ReleasesHold config old hold result new =
-    MatchResult result (λ count. IsChangeReply config old new (Release hold.reader hold.at) (Done count))
-    (λ e. IsChangeReply config old new (Release hold.reader hold.at) (Refused e.1) × IsHandedBack hold e.0 e.1)
+-- the release of this hold, in such a node: the seat's list has so many operations, and it ends them; or it was refused
+-- as the node refuses it, and the hold was handed back but where the release waits
+abbrev pub ReleasesHold : NodeKind → List Op → Hold → Result ℕ (Option Hold × Refusal) → List Op → Type 0
+ReleasesHold kind old hold result new =
+    MatchResult result (λ count. IsChangeReply kind old new (Release hold.reader hold.at) (Done count))
+    (λ e. IsChangeReply kind old new (Release hold.reader hold.at) (Refused e.1) × IsHandedBack hold e.0 e.1)
 
 -- a hold of a host that only reads: its kind has no meaning there
 abbrev pub RefusesHold : List Op → ℕ → Result Hold (Option Hold × Refusal) → List Op → Type 0

@@ -1,13 +1,12 @@
 -- What a session over a node and a seat of it does, by which the seat's list grows.
 use Rattle.std.specs.Prelude.{ℕ, List, Option}
-use Rattle.hk_types.specs.Values.{ConfigValue}
 use Rattle.hk_session.specs.declared.ended.Ended.{Ended}
 use Rattle.hk_session.specs.Serving.{Serves}
 use Rattle.hk_session.specs.Values.{CountedValue}
+use Rattle.hk_node.specs.declared.op.NodeKind.{NodeKind}
 use Rattle.hk_node.specs.declared.op.Op.{Op}
 use Rattle.hk_wire.specs.declared.request.Request.{Request}
 use Rattle.hk_wire.specs.declared.reply.Reply.{Reply}
-use Rattle.hk_net.specs.Guarded.{MayReplyGuarded}
 use Rattle.hk_net.specs.LaterReplying.{AreLetGo, MayReplyBoth}
 use Rattle.hk_net.specs.LinkStates.{LinkValue}
 use Rattle.hk_net.specs.NodeSides.{Sided}
@@ -17,15 +16,10 @@ use Rattle.hk_net.specs.Replying.{MayOnlyRead, MayReply}
 abbrev pub Outcome : Type 0
 Outcome = Ended × List Op
 
--- a session of a host over a node of this log
-abbrev pub ServesNode : {R W : Type 0} → ConfigValue → List Op → (R → Option (List ℕ)) → CountedValue R → CountedValue R → (W → Option (List ℕ)) → CountedValue W → CountedValue W → Outcome → Type 0
-ServesNode config seat remaining reader reader_after contents old new result =
-    Serves 1 (MayReply config) seat result.1 remaining reader reader_after contents old new result.0
-
--- the same of a host that tests changes first
-abbrev pub ServesGuarded : {R W : Type 0} → ConfigValue → List Op → (R → Option (List ℕ)) → CountedValue R → CountedValue R → (W → Option (List ℕ)) → CountedValue W → CountedValue W → Outcome → Type 0
-ServesGuarded config seat remaining reader reader_after contents old new result =
-    Serves 1 (MayReplyGuarded config) seat result.1 remaining reader reader_after contents old new result.0
+-- a session of a host over such a node
+abbrev pub ServesNode : {R W : Type 0} → NodeKind → List Op → (R → Option (List ℕ)) → CountedValue R → CountedValue R → (W → Option (List ℕ)) → CountedValue W → CountedValue W → Outcome → Type 0
+ServesNode kind seat remaining reader reader_after contents old new result =
+    Serves 1 (MayReply kind) seat result.1 remaining reader reader_after contents old new result.0
 
 -- the same of a host that only reads
 abbrev pub ServesReader : {R W : Type 0} → List Op → (R → Option (List ℕ)) → CountedValue R → CountedValue R → (W → Option (List ℕ)) → CountedValue W → CountedValue W → Outcome → Type 0

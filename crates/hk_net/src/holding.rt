@@ -33,7 +33,7 @@ pub(crate) fn hold_on<J: NodeName, N: Wait + Drop, R: Wait>(
     teller: Option<&Teller>,
     time: Time,
 ) -> Result<Hold, (Option<Hold>, Refusal)>
-    ensures held { TakesHold J.config reads.old time result reads.new }
+    ensures held { TakesHold J.kind reads.old time result reads.new }
     ensures legal { is_legal reads.new ≡ true }
     ensures seen { IsPrefix reads.old reads.new }
 {
@@ -59,7 +59,7 @@ pub(crate) fn release_on<J: NodeName, N: Wait + Drop, R: Wait>(
     teller: Option<&Teller>,
     hold: Hold,
 ) -> Result<u64, (Option<Hold>, Refusal)>
-    ensures released { ReleasesHold J.config reads.old hold result reads.new }
+    ensures released { ReleasesHold J.kind reads.old hold result reads.new }
     ensures legal { is_legal reads.new ≡ true }
     ensures seen { IsPrefix reads.old reads.new }
 {

@@ -3,7 +3,6 @@
 ghost use Rattle.std.specs.Prelude.{◌≡◌, length, IfOk};
 
 use crate::fault::NetFault;
-use crate::guarded_host::GuardedHost;
 use crate::node_host::NodeHost;
 use crate::parts_budget::PartsBudget;
 use crate::parts_host::PartsHost;
@@ -49,20 +48,12 @@ pub(crate) fn drain(stream: &TcpStream) {
     }
 }
 
-/// How links are served: whether each change is tested before it is added, and the budget of a node that answers both
-/// versions.
-#[derive(Clone, Copy)]
-struct Serving<'a> {
-    is_guarded: bool,
-    budget: Option<&'a PartsBudget>,
-}
-
 /// Runs the session of a link to its end.
 fn serve_link<J: NodeName, N: Wait + Drop, R: Threads + Wait + Sync>(
     rt: &R,
     alloc: Global,
     node: &Node<J, N>,
-    serving: Serving<'_>,
+    budget: Option<&PartsBudget>,
     seat: ReaderSeat<J>,
     stream: TcpStream,
 ) -> Ended {
@@ -70,32 +61,20 @@ fn serve_link<J: NodeName, N: Wait + Drop, R: Threads + Wait + Sync>(
     let _at_once = stream.set_nodelay(true);
     let mut reader = Counted::new(&stream);
     let mut writer = Counted::new(&stream);
-    let ended = match serving.budget {
-        Some(budget) if serving.is_guarded => {
-            let host = GuardedHost::new(rt, node, seat);
-            let link = PartsHost::new(alloc, host, budget, Vec::new(alloc));
-            serve_parts(alloc, link, &mut reader, &mut writer).0
-        }
+    let mut host = NodeHost::new(rt, alloc, node, seat);
+    let ended = match budget {
         Some(budget) => {
-            let host = NodeHost::new(rt, alloc, node, seat);
             let link = PartsHost::new(alloc, host, budget, Vec::new(alloc));
             serve_parts(alloc, link, &mut reader, &mut writer).0
         }
-        None if serving.is_guarded => {
-            let mut host = GuardedHost::new(rt, node, seat);
-            serve::<1, _, _, _>(alloc, &mut reader, &mut writer, &mut host)
-        }
-        None => {
-            let mut host = NodeHost::new(rt, alloc, node, seat);
-            serve::<1, _, _, _>(alloc, &mut reader, &mut writer, &mut host)
-        }
+        None => serve::<1, _, _, _>(alloc, &mut reader, &mut writer, &mut host),
     };
     drain(&stream);
     ended
 }
 
-/// Accepts as many links as there are seats, and runs the session of each in a thread of its own, with one of the
-/// seats. Gives how each ended, in the order in which they were accepted, once all have ended.
+/// Accepts as many links as there are seats, and runs the session of each, over a `NodeHost`, in a thread of its own, with
+/// one of the seats. Gives how each ended, in the order in which they were accepted, once all have ended.
 ///
 /// With a budget each link is answered in both versions (`PartsHost`), and its holds are released when it ends; all links
 /// together keep at most as many bytes as the budget has. Without one it is answered in version 1, and a request of version 2
@@ -118,47 +97,6 @@ pub fn serve_links<
 ) -> Result<Vec<Ended>, NetFault>
     ensures { IfOk result (λ ends. length ends.items ≡ length seats.items) }
 {
-    let serving = Serving {
-        is_guarded: false,
-        budget,
-    };
-    serve_each(rt, alloc, listener, node, serving, seats)
-}
-
-/// As `serve_links`, but each change that a link asks for is tested before it is added (`GuardedHost`): what contradicts
-/// is refused `Conflict` with nothing changed, so that no link damages the node. Cost: that of the sessions.
-pub fn guard_links<
-    J: NodeName + Send + Sync,
-    N: Wait + Drop + Send + Sync,
-    R: Threads + Wait + Sync,
->(
-    rt: &R,
-    alloc: Global,
-    listener: &TcpListener,
-    node: &Node<J, N>,
-    budget: Option<&PartsBudget>,
-    seats: Vec<ReaderSeat<J>>,
-) -> Result<Vec<Ended>, NetFault>
-    ensures { IfOk result (λ ends. length ends.items ≡ length seats.items) }
-{
-    let serving = Serving {
-        is_guarded: true,
-        budget,
-    };
-    serve_each(rt, alloc, listener, node, serving, seats)
-}
-
-/// Serves a link on each seat.
-fn serve_each<J: NodeName + Send + Sync, N: Wait + Drop + Send + Sync, R: Threads + Wait + Sync>(
-    rt: &R,
-    alloc: Global,
-    listener: &TcpListener,
-    node: &Node<J, N>,
-    serving: Serving<'_>,
-    seats: Vec<ReaderSeat<J>>,
-) -> Result<Vec<Ended>, NetFault>
-    ensures { IfOk result (λ ends. length ends.items ≡ length seats.items) }
-{
     let count = seats.len();
     let mut ends = Vec::with_capacity(alloc, count)?;
     let mut links = Vec::with_capacity(alloc, count)?;
@@ -173,7 +111,7 @@ fn serve_each<J: NodeName + Send + Sync, N: Wait + Drop + Send + Sync, R: Thread
                 match listener.accept() {
                     Ok((stream, _address)) => {
                         let link = scope
-                            .spawn(move || serve_link(rt, alloc, node, serving, seat, stream))
+                            .spawn(move || serve_link(rt, alloc, node, budget, seat, stream))
                             .ok();
                         if links.push(link).is_err() {
                             fault = Some(NetFault::Memory);

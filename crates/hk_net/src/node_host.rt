@@ -1,18 +1,19 @@
 //! A host over a running node and one seat of it.
 
-ghost use Rattle.std.specs.Prelude.{◌≡◌, true, Some};
+ghost use Rattle.std.specs.Prelude.{◌≡◌, true, length, Some};
 ghost use Rattle.std.specs.Thread.{IsSync};
 ghost use mathlib.Core.List.{IsPrefix};
 ghost use Rattle.hk_model.specs.Replica.Rules.{gather_result};
 ghost use Rattle.hk_delta.specs.Gathers.{Gathers};
-ghost use Rattle.hk_wire.specs.Replies.{reply_seen};
+ghost use Rattle.hk_wire.specs.Replies.{Done, reply_seen};
 ghost use Rattle.hk_node.specs.declared.op.Op.{Op};
 ghost use Rattle.hk_node.specs.declared.op.Op.TheVariants.{Join, Prune as PruneTo};
+ghost use Rattle.hk_node.specs.Guarded.{TakesSome};
 ghost use Rattle.hk_node.specs.Lists.{last_of};
 ghost use Rattle.hk_session.specs.Steps.{query_reply, fragment_reply};
 ghost use Rattle.hk_node.specs.Replay.{is_legal, replay};
 ghost use Rattle.hk_node.specs.Replies.{node_delta, node_front, node_reply, node_whole};
-ghost use Rattle.hk_net.specs.Replying.{IsChangeReply, IsItemsReply, IsOrOutOfMemory, MayReply, front_reply};
+ghost use Rattle.hk_net.specs.Replying.{IsChangeReply, IsItemsReply, IsOrOutOfMemory, IsReplyToItems, IsTold, MayReply, front_reply};
 
 use crate::holding::{hold_on, release_on};
 use crate::link_events::{LinkEvent, Teller};
@@ -41,12 +42,13 @@ const WORKERS: usize = 4;
 /// operations that the seat has seen or was told of.
 ///
 /// Items are taken all or nothing, as the join of the one fragment that they make. Lists of 4,096 items and
-/// more are gathered by four workers side by side, shorter ones by the thread that answers. A fragment is
-/// joined, and a whole is joined in the same way. A change that took effect is learnt by the seat, so that
+/// more are gathered by four workers side by side, shorter ones by the thread that answers. In a guarded node they are
+/// taken by `Node::take`, as absorbed one after the other. A fragment is joined, and a whole is joined in the same way. A change that took effect is learnt by the seat, so that
 /// the link's later replies show it, and is answered `Done` with the number of operations that ends with it;
 /// how far a prune reached is told by the next front.
 /// A refused change is answered as the node refuses it, and items that make no fragment as their gathering
-/// is; `Unpublished` says that the change stands and waits. The other requests are answered by the seat, and
+/// is: a guarded node refuses `Conflict` what contradicts it, with nothing changed, and is never damaged, while another
+/// is damaged by it. `Unpublished` says that the change stands and waits. The other requests are answered by the seat, and
 /// take no lock. Cost: that of the calls.
 ///
 /// It can be asked where threads may share the runtime (`Host::ready`), as its bound `Sync` says that they
@@ -126,7 +128,9 @@ impl<'a, J: NodeName, N: Wait + Drop, R: Threads + Wait + Sync> NodeHost<'a, J, 
     fn learn(&mut self, receipt: Receipt<J>) -> Reply
         ensures legal { is_legal self.new ≡ true }
         ensures seen { IsPrefix self.old self.new }
-        ensures told { (o : Op) → last_of receipt ≡ Some o → IsChangeReply J.config self.old self.new o (reply_seen result) }
+        ensures prefix { IsPrefix receipt self.new }
+        ensures done { reply_seen result ≡ Done (length receipt) }
+        ensures told { (o : Op) → last_of receipt ≡ Some o → IsChangeReply J.kind self.old self.new o (reply_seen result) }
     {
         let ops = receipt.ops();
         self.reads.learn(receipt);
@@ -151,7 +155,7 @@ impl<'a, J: NodeName, N: Wait + Drop, R: Threads + Wait + Sync> NodeHost<'a, J, 
     /// The one fragment that items make. A long list is gathered by several workers, which are waited for.
     fn gather(&self, items: &[Item]) -> Result<Fragment, Refusal>
         ensures legal { is_legal self.now ≡ true }
-        ensures gives { Gathers J.config items.now result }
+        ensures gives { Gathers J.kind.config items.now result }
     {
         let config = self.reads.config();
         if items.len() < LONG_LIST {
@@ -160,10 +164,11 @@ impl<'a, J: NodeName, N: Wait + Drop, R: Threads + Wait + Sync> NodeHost<'a, J, 
         build(self.rt, self.alloc, config, items, WORKERS, &OpenGate)
     }
 
-    fn take_items(&mut self, items: &[Item]) -> Reply
+    /// Items to a node that is not guarded: the fragment that they make is joined.
+    fn gather_and_join(&mut self, items: &[Item]) -> Reply
         ensures legal { is_legal self.new ≡ true }
         ensures seen { IsPrefix self.old self.new }
-        ensures told { IsItemsReply J.config self.old self.new (gather_result J.config items.now) (reply_seen result) }
+        ensures told { IsItemsReply J.kind self.old self.new (gather_result J.kind.config items.now) (reply_seen result) }
     {
         match self.gather(items) {
             Ok(fragment) => self.join(fragment),
@@ -174,10 +179,36 @@ impl<'a, J: NodeName, N: Wait + Drop, R: Threads + Wait + Sync> NodeHost<'a, J, 
         }
     }
 
+    /// Items to a guarded node: they are taken where each agrees with what it holds, and with those before it.
+    fn take(&mut self, items: &[Item]) -> Reply
+        ensures legal { is_legal self.new ≡ true }
+        ensures seen { IsPrefix self.old self.new }
+        ensures told { IsTold (TakesSome J.kind items.now) self.old self.new (reply_seen result) }
+    {
+        match self.node.take(self.rt, items) {
+            Ok(receipt) => self.learn(receipt),
+            Err(why) => {
+                self.tell_refused(&why);
+                Reply::Refused(why)
+            }
+        }
+    }
+
+    fn take_items(&mut self, items: &[Item]) -> Reply
+        ensures legal { is_legal self.new ≡ true }
+        ensures seen { IsPrefix self.old self.new }
+        ensures told { IsReplyToItems J.kind self.old self.new items.now (reply_seen result) }
+    {
+        if self.reads.is_guarded() {
+            return self.take(items);
+        }
+        self.gather_and_join(items)
+    }
+
     fn join(&mut self, fragment: Fragment) -> Reply
         ensures legal { is_legal self.new ≡ true }
         ensures seen { IsPrefix self.old self.new }
-        ensures told { IsChangeReply J.config self.old self.new (Join fragment) (reply_seen result) }
+        ensures told { IsChangeReply J.kind self.old self.new (Join fragment) (reply_seen result) }
     {
         match self.node.join(self.rt, fragment) {
             Ok(receipt) => self.learn(receipt),
@@ -191,7 +222,7 @@ impl<'a, J: NodeName, N: Wait + Drop, R: Threads + Wait + Sync> NodeHost<'a, J, 
     fn prune(&mut self, horizon: Time) -> Reply
         ensures legal { is_legal self.new ≡ true }
         ensures seen { IsPrefix self.old self.new }
-        ensures told { IsChangeReply J.config self.old self.new (PruneTo horizon) (reply_seen result) }
+        ensures told { IsChangeReply J.kind self.old self.new (PruneTo horizon) (reply_seen result) }
     {
         match self.node.prune(self.rt, horizon) {
             Ok((_, receipt)) => self.learn(receipt),
@@ -236,7 +267,7 @@ impl<'a, J: NodeName, N: Wait + Drop, R: Threads + Wait + Sync> NodeHost<'a, J, 
 }
 
 impl<'a, J: NodeName, N: Wait + Drop, R: Threads + Wait + Sync> Host for NodeHost<'a, J, N, R> {
-    ghost may = { MayReply J.config };
+    ghost may = { MayReply J.kind };
 
     ghost ready = { λ _. IsSync R.row };
 
@@ -257,7 +288,7 @@ impl<'a, J: NodeName, N: Wait + Drop, R: Threads + Wait + Sync> Host for NodeHos
 impl<'a, J: NodeName, N: Wait + Drop, R: Threads + Wait + Sync> NodeSide for NodeHost<'a, J, N, R> {
     ghost use Rattle.hk_net.specs.NodeSides.{ReleasesHold, TakesHold};
 
-    ghost side = { record { list = λ l. l; may_hold = TakesHold J.config; may_release = ReleasesHold J.config } };
+    ghost side = { record { list = λ l. l; may_hold = TakesHold J.kind; may_release = ReleasesHold J.kind } };
 
     fn latest(&mut self, query: &Query) -> Result<(Time, Answer), Refusal> {
         self.reads.latest(query)

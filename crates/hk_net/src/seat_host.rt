@@ -63,11 +63,18 @@ impl<J: NodeName> SeatHost<J> {
 
     /// The log that the node is of.
     pub(crate) fn config(&self) -> Config
-        ensures log { result ≡ J.config }
+        ensures log { result ≡ J.kind.config }
         ensures legal { is_legal self.now ≡ true }
     {
         let _known = self.seat.seen();
         self.seat.config()
+    }
+
+    /// Whether the node is guarded.
+    pub(crate) fn is_guarded(&self) -> bool
+        ensures { result ≡ J.kind.guarded }
+    {
+        self.seat.is_guarded()
     }
 
     /// Takes in the receipt of a change.

@@ -3,9 +3,8 @@
 ghost use Rattle.std.specs.Prelude.{◌≡◌};
 ghost use Rattle.std.specs.Thread.{IsSync};
 ghost use mathlib.Core.List.{IsPrefix};
-ghost use Rattle.hk_net.specs.Serving.{ServesGuarded, ServesNode, ServesReader};
+ghost use Rattle.hk_net.specs.Serving.{ServesNode, ServesReader};
 
-use crate::guarded_host::GuardedHost;
 use crate::node_host::NodeHost;
 use crate::seat_host::SeatHost;
 use hk_node::{Node, NodeName, ReaderSeat};
@@ -33,7 +32,7 @@ pub(crate) fn serve_host<
     requires ready { IsSync R.row }
     ensures seen { IsPrefix host.entry result.1 }
     // The bytes read, and what was done and written for them.
-    ensures transcript { ServesNode J.config host.entry I.remaining reader.old reader.new
+    ensures transcript { ServesNode J.kind host.entry I.remaining reader.old reader.new
         O.contents writer.old writer.new result }
 {
     let mut served = host;
@@ -62,7 +61,7 @@ pub fn serve_on_seat<
     requires ready { IsSync R.row }
     ensures seen { IsPrefix seat result.1 }
     // The bytes read, and what was done and written for them.
-    ensures transcript { ServesNode J.config seat I.remaining reader.old reader.new
+    ensures transcript { ServesNode J.kind seat I.remaining reader.old reader.new
         O.contents writer.old writer.new result }
 {
     serve_host(alloc, NodeHost::new(rt, alloc, node, seat), reader, writer)
@@ -86,43 +85,4 @@ pub fn read_on_seat<J: NodeName, I: Read + Drop, O: Write + Drop>(
     let mut host = SeatHost::new(seat);
     let ended = serve::<1, _, _, _>(alloc, reader, writer, &mut host);
     (ended, host.into_seat())
-}
-
-/// Runs one session over a host of a node that tests changes first, and gives how it ended with the host's seat.
-pub(crate) fn serve_guarded<J: NodeName, N: Wait + Drop, R: Wait, I: Read + Drop, O: Write + Drop>(
-    alloc: Global,
-    host: GuardedHost<'_, J, N, R>,
-    reader: &mut Counted<I>,
-    writer: &mut Counted<O>,
-) -> (Ended, ReaderSeat<J>)
-    requires reader { reader.old.faults ≡ 0 }
-    requires writer { writer.old.faults ≡ 0 }
-    ensures seen { IsPrefix host.entry result.1 }
-    // The bytes read, and what was done and written for them.
-    ensures transcript { ServesGuarded J.config host.entry I.remaining reader.old reader.new
-        O.contents writer.old writer.new result }
-{
-    let mut guarded = host;
-    let ended = serve::<1, _, _, _>(alloc, reader, writer, &mut guarded);
-    (ended, guarded.into_seat())
-}
-
-/// Runs one session on a seat, as `serve` over a `GuardedHost`, so that nothing that it asks damages the node. Gives how it
-/// ended with the seat, which knows then all that it knew before and what the session added. Cost: that of the session.
-pub fn guard_on_seat<J: NodeName, N: Wait + Drop, R: Wait, I: Read + Drop, O: Write + Drop>(
-    rt: &R,
-    alloc: Global,
-    node: &Node<J, N>,
-    seat: ReaderSeat<J>,
-    reader: &mut Counted<I>,
-    writer: &mut Counted<O>,
-) -> (Ended, ReaderSeat<J>)
-    requires reader { reader.old.faults ≡ 0 }
-    requires writer { writer.old.faults ≡ 0 }
-    ensures seen { IsPrefix seat result.1 }
-    // The bytes read, and what was done and written for them.
-    ensures transcript { ServesGuarded J.config seat I.remaining reader.old reader.new
-        O.contents writer.old writer.new result }
-{
-    serve_guarded(alloc, GuardedHost::new(rt, node, seat), reader, writer)
 }

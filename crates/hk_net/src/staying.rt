@@ -5,7 +5,6 @@ ghost use Rattle.std.specs.Thread.{IsSend, IsSync};
 ghost use mathlib.Core.List.{IsPrefix};
 
 use crate::fault::NetFault;
-use crate::guarded_host::GuardedHost;
 use crate::link_events::{EVENTS, LinkEvent, Teller, Watch, hand_on};
 use crate::link_reader::LinkReader;
 use crate::links::drain;
@@ -14,7 +13,7 @@ use crate::parts_budget::PartsBudget;
 use crate::parts_host::PartsHost;
 use crate::parts_sessions::serve_parts;
 use crate::seat_host::SeatHost;
-use crate::seats::{read_on_seat, serve_guarded, serve_host};
+use crate::seats::{read_on_seat, serve_host};
 use crossbeam_channel::{Sender, bounded};
 use hk_node::{Hold, Node, NodeName, ReaderSeat};
 use hk_session::{Counted, Ended};
@@ -37,7 +36,6 @@ const ACCEPT_PAUSE: u64 = 100;
 pub struct Door<'a, J: NodeName, N: Wait + Drop> {
     listener: &'a TcpListener,
     node: Option<&'a Node<J, N>>,
-    is_guarded: bool,
     tells_changes: bool,
     read_seconds: u64,
     /// What all links keep, where they are answered in both versions.
@@ -45,7 +43,7 @@ pub struct Door<'a, J: NodeName, N: Wait + Drop> {
 }
 
 impl<'a, J: NodeName, N: Wait + Drop> Door<'a, J, N> {
-    /// Links of this listener answer every request. A link ends where inside a frame a read brings nothing for so many
+    /// Links of this listener answer every request; what a change of a guarded node is refused is told at `Node`. A link ends where inside a frame a read brings nothing for so many
     /// seconds, or where the frame took more reads than its length explains; 0 seconds are no limit.
     pub fn open(
         listener: &'a TcpListener,
@@ -55,24 +53,6 @@ impl<'a, J: NodeName, N: Wait + Drop> Door<'a, J, N> {
         Door {
             listener,
             node: Some(node),
-            is_guarded: false,
-            tells_changes: false,
-            read_seconds,
-            budget: None,
-        }
-    }
-
-    /// The same, but each change is tested before it is added: what contradicts is refused 23 with nothing changed, so that
-    /// no link damages the node.
-    pub fn guarded(
-        listener: &'a TcpListener,
-        node: &'a Node<J, N>,
-        read_seconds: u64,
-    ) -> Door<'a, J, N> {
-        Door {
-            listener,
-            node: Some(node),
-            is_guarded: true,
             tells_changes: false,
             read_seconds,
             budget: None,
@@ -85,7 +65,6 @@ impl<'a, J: NodeName, N: Wait + Drop> Door<'a, J, N> {
         Door {
             listener,
             node: None,
-            is_guarded: false,
             tells_changes: false,
             read_seconds,
             budget: None,
@@ -93,8 +72,9 @@ impl<'a, J: NodeName, N: Wait + Drop> Door<'a, J, N> {
     }
 
     /// The same door, whose links are answered in both versions: they keep at most as many bytes as this budget has, together
-    /// with those of other doors that have it. The holds of a link are released when it ends. Of version 2, a reading door
-    /// answers Streams, AskLatest, Page, Whole and More.
+    /// with those of other doors that have it. When a link ends, each of its holds is asked to be released. A hold whose
+    /// release is refused then (`Damaged`, `NodeFull` or `Memory`) stands, and is handed to the next link of the place, where
+    /// there is memory to keep it. Of version 2, a reading door answers Streams, AskLatest, Page, Whole and More.
     pub fn with_parts(self, budget: &'a PartsBudget) -> Door<'a, J, N> {
         let mut door = self;
         door.budget = Some(budget);
@@ -131,10 +111,6 @@ fn serve_first<J: NodeName, N: Wait + Drop, R: Threads + Wait + Sync>(
     let mut reader = Counted::new(LinkReader::new(stream, door.read_seconds, only_readings));
     let mut writer = Counted::new(stream);
     match door.node {
-        Some(node) if door.is_guarded => {
-            let host = GuardedHost::telling(rt, node, seat, teller);
-            serve_guarded(alloc, host, &mut reader, &mut writer)
-        }
         Some(node) => {
             let host = NodeHost::telling(rt, alloc, node, seat, teller);
             serve_host(alloc, host, &mut reader, &mut writer)
@@ -160,13 +136,6 @@ fn serve_later<J: NodeName, N: Wait + Drop, R: Threads + Wait + Sync>(
     let mut writer = Counted::new(stream);
     let Place { seat, holds } = place;
     match door.node {
-        Some(node) if door.is_guarded => {
-            let host = GuardedHost::telling(rt, node, seat, teller);
-            let link = PartsHost::new(alloc, host, budget, holds);
-            let (ended, host, holds) = serve_parts(alloc, link, &mut reader, &mut writer);
-            let seat = host.into_seat();
-            (ended, Place { seat, holds })
-        }
         Some(node) => {
             let host = NodeHost::telling(rt, alloc, node, seat, teller);
             let link = PartsHost::new(alloc, host, budget, holds);

@@ -25,7 +25,8 @@ use Rattle.hk_node.specs.Replay.{prune_reach, refusal_of, after_join, after_prun
 use Rattle.hk_node.specs.Replies.{Answers, GivesSeen, node_latest, node_reply, timed_seen, with_time}
 use Rattle.hk_node.specs.Carried.{IsPart, Brings, CarryLaw, IsLatestOfPrimary, IsOfPrimary}
 use Rattle.hk_node.proofs.LegalLists.{and_left, and_right, none_of, applied-is}
-use Rattle.hk_node.proofs.Holds.{join_tests, prune_tests}
+use Rattle.hk_node.proofs.Holds.{prune_tests}
+use Rattle.hk_node.proofs.JoinTests.{join_tests}
 
 module _ (config : ConfigValue) (history : History) (is : IsHistory config history) where
   -- the node's content represents these items, and there is no damage
@@ -35,7 +36,7 @@ module _ (config : ConfigValue) (history : History) (is : IsHistory config histo
   join_represents : (c : NodeContent) (f : FragmentValue) (own items : List Item) (g k : ℕ) → join_refused c f ≡ None → IsPart config history items k f → RepresentsFor own g c → RepresentsFor (own ++ items) (max g k) (after_join c (join_result c.content f))
   join_represents c f own items g k e p s =
       let other : Represents config history items k (content_of config items k) = record { of_history = p.of_history; within = p.within; is_content_of = refl } in
-      let law : join_result c.content (part config items k f.base) ≡ Ok (content_of config (own ++ items) (max g k)) = join_law_proof config history is own items g k f.base c.content (content_of config items k) s.0 other (join_tests c f e).no_gap p.base in
+      let law : join_result c.content (part config items k f.base) ≡ Ok (content_of config (own ++ items) (max g k)) = join_law_proof config history is own items g k f.base c.content (content_of config items k) s.0 other (join_tests c f e).fits.no_gap p.base in
       let gives : join_result c.content f ≡ Ok (content_of config (own ++ items) (max g k)) = ap (join_result c.content) p.is_part ∙ law in
       let both = represents_both config history is own items g k c.content (content_of config items k) s.0 other in
       subst (λ (r : Result Content Refusal). RepresentsFor (own ++ items) (max g k) (after_join c r)) (sym gives) (both, s.1)
@@ -71,8 +72,8 @@ module _ (config : ConfigValue) (history : History) (is : IsHistory config histo
 
 pub carry_law_proof : CarryLaw
 carry_law_proof history [] items h legal is b = absurd (cc)
-carry_law_proof history (Start config ∷ ops) items h legal is b =
-    from_represents_for config history is (start_content config) ops [] items 0 h legal b (record { of_history = All-nil (IsItemOf config history); within = omega arith; is_content_of = nothing_content_of config }, refl)
+carry_law_proof history (Start kind ∷ ops) items h legal is b =
+    from_represents_for kind.config history is (start_content kind) ops [] items 0 h legal b (record { of_history = All-nil (IsItemOf kind.config history); within = omega arith; is_content_of = nothing_content_of kind.config }, refl)
 carry_law_proof history (Join f ∷ ops) items h legal is b = absurd (cc)
 carry_law_proof history (Merge f ∷ ops) items h legal is b = absurd (cc)
 carry_law_proof history (Prune n ∷ ops) items h legal is b = absurd (cc)

@@ -1,5 +1,5 @@
 -- No horizon passes a hold that stands, and a hold stands until it is released.
-use Rattle.std.proofs.Common.{◌≡◌, ℕ, zero, suc, ◌+◌, ◌<◌, ◌≤◌, ◌==◌, min, max, Bool, true, false, not, ◌||◌, if◌then◌else◌, cond, List, [], ◌∷◌, ◌++◌, length, slice_get, filter, Option, Some, None, Result, Ok, Err, fold, is_none, refl, sym, ap, ◌∙◌, subst, arith, le_trans}
+use Rattle.std.proofs.Common.{◌≡◌, ℕ, zero, suc, ◌+◌, ◌<◌, ◌≤◌, min, max, Bool, true, false, not, ◌||◌, if◌then◌else◌, cond, List, [], ◌∷◌, ◌++◌, length, slice_get, filter, Option, Some, None, Result, Ok, Err, fold, is_none, refl, sym, ap, ◌∙◌, subst, arith, le_trans}
 use Rattle.std.specs.Prelude.{nat_lt, nat_le, All, MatchOption}
 use Rattle.std.specs.List.{list_any}
 use Rattle.core.specs.List.{cons_option}
@@ -7,7 +7,6 @@ use Rattle.std.proofs.lemmas.Bool.Decides.{nat_tests}
 use Rattle.std.proofs.lemmas.List.Elements.{All-nil, All-cons, All-head, All-tail, All-push, All-filter}
 use Rattle.hk_types.specs.declared.faults.Refusal.{Refusal}
 use Rattle.hk_types.specs.declared.faults.Refusal.TheVariants.{ForeignLog, WrongStreams, Gap, Conflict, AheadOfMark, TooOld, Held, Damaged}
-use Rattle.hk_model.specs.Replica.Maps.{or_else}
 use Rattle.hk_model.specs.Replica.Content.{Content, readable, without_ended}
 use Rattle.hk_model.specs.Replica.Fragments.{FragmentValue}
 use Rattle.hk_model.specs.Replica.Rules.{join_result, content_after_join, prune_result}
@@ -18,19 +17,8 @@ use Rattle.hk_node.specs.NodeContent.{NodeContent}
 use Rattle.hk_node.specs.Replay.{is_before, first_of_two, least_hold, up_to_hold, prune_reach, is_hold, full_refusal, passed_hold, held_refusal, join_refused, refusal_of, after_join, after_prune, start_content, effect, content_after_op, replay, legal_from, is_legal}
 use Rattle.hk_node.specs.Lists.{hold_time, hold_times, releases, is_released}
 use Rattle.hk_node.specs.Holds.{HoldLaw}
+use Rattle.hk_node.proofs.JoinTests.{passed, not_below, join_tests}
 use Rattle.hk_node.proofs.LegalLists.{and_left, and_right, none_of, applied-is}
-
--- where no refusal came, its test was false
-pub passed : (b : Bool) (e : Refusal) (o : Option Refusal) → (if b then Some e else o) ≡ None → (b ≡ false) × (o ≡ None)
-passed true e o h = absurd (cc)
-passed false e o h = (refl, h)
-
-pub passed_or : (o p : Option Refusal) → or_else o p ≡ None → (o ≡ None) × (p ≡ None)
-passed_or None p h = (refl, h)
-passed_or (Some e) p h = absurd (cc)
-
-not_below : (h n : ℕ) → nat_lt h n ≡ false → n ≤ h
-not_below h n e = grind (arith, nat_tests)
 
 -- ---- the least hold
 
@@ -87,22 +75,6 @@ after_join_held : (c : NodeContent) (f : FragmentValue) (r : Result Content Refu
 after_join_held c f (Ok d) e held above = subst (λ (k : ℕ). All (λ h. k ≤ h.at) c.holds) (sym (joined_horizon c.content f d e)) above
 after_join_held c f (Err why) e held above = held
 
--- what a join passes that is not refused
-pub record JoinTests (c : NodeContent) (f : FragmentValue) : Type 0 where
-  pub whole : c.damaged ≡ false
-  pub no_gap : f.base ≤ readable c.content
-  pub none_passed : held_refusal c f.content.horizon ≡ None
-  pub room : full_refusal c ≡ None
-
-pub join_tests : (c : NodeContent) (f : FragmentValue) → join_refused c f ≡ None → JoinTests c f
-join_tests c f e =
-    let a = passed c.damaged Damaged _ e in
-    let b = passed (not (f.content.log == c.content.log)) ForeignLog _ a.1 in
-    let d = passed (not (length f.content.streams == length c.content.streams)) WrongStreams _ b.1 in
-    let g = passed (nat_lt (readable c.content) f.base) (Gap f.base (readable c.content)) _ d.1 in
-    let h = passed_or (held_refusal c f.content.horizon) (full_refusal c) g.1 in
-    record { whole = a.0; no_gap = not_below (readable c.content) f.base g.0; none_passed = h.0; room = h.1 }
-
 -- a prune reaches no further than its time
 up_to_time : (n : ℕ) (o : Option Hold) → up_to_hold n o ≤ n
 up_to_time n None = omega arith
@@ -139,7 +111,7 @@ prune_tests c n e =
     record { whole = a.0; in_reach = le_trans low (not_below (readable c.content) n b.0); none_passed = reach_passes_none c n; room = b.1 }
 
 join_held : (c : NodeContent) (f : FragmentValue) → join_refused c f ≡ None → IsHeld c → IsHeld (after_join c (join_result c.content f))
-join_held c f e held = after_join_held c f (join_result c.content f) refl held (passes_none c f.content.horizon held (join_tests c f e).none_passed)
+join_held c f e held = after_join_held c f (join_result c.content f) refl held (passes_none c f.content.horizon held (join_tests c f e).fits.none_passed)
 
 pruned_horizon : (c : Content) (n : ℕ) (d : Content) → prune_result c n ≡ Ok d → d.horizon ≡ max c.horizon n
 pruned_horizon c n d e = go (nat_lt (readable c) n) (nat_le n c.horizon) refl e
@@ -167,7 +139,7 @@ after_prune_held c n (Ok d) e held above = subst (λ (k : ℕ). All (λ h. k ≤
 after_prune_held c n (Err why) e held above = held
 
 effect_held : (c : NodeContent) (op : Op) → refusal_of c op ≡ None → IsHeld c → IsHeld (effect c op)
-effect_held c (Start config) e held = absurd (cc)
+effect_held c (Start kind) e held = absurd (cc)
 effect_held c (Join f) e held = join_held c f e held
 effect_held c (Merge f) e held = join_held c f e held
 effect_held c (Prune n) e held = after_prune_held c (prune_reach c n) (prune_result c.content (prune_reach c n)) refl held (passes_none c (prune_reach c n) held (prune_tests c n e).none_passed)
@@ -185,7 +157,7 @@ from_held c (op ∷ ops) legal held =
 
 pub hold_law_proof : HoldLaw
 hold_law_proof [] legal = absurd (cc)
-hold_law_proof (Start config ∷ ops) legal = from_held (start_content config) ops legal (All-nil (λ (h : Hold). 0 ≤ h.at))
+hold_law_proof (Start kind ∷ ops) legal = from_held (start_content kind) ops legal (All-nil (λ (h : Hold). 0 ≤ h.at))
 hold_law_proof (Join f ∷ ops) legal = absurd (cc)
 hold_law_proof (Merge f ∷ ops) legal = absurd (cc)
 hold_law_proof (Prune n ∷ ops) legal = absurd (cc)
@@ -236,7 +208,7 @@ after_prune_stays reader at c (Ok d) h = h
 after_prune_stays reader at c (Err why) h = h
 
 effect_stays : (reader at : ℕ) (c : NodeContent) (op : Op) → refusal_of c op ≡ None → releases reader at op ≡ false → Stays reader at c → Stays reader at (effect c op)
-effect_stays reader at c (Start config) e apart h = absurd (cc)
+effect_stays reader at c (Start kind) e apart h = absurd (cc)
 effect_stays reader at c (Join f) e apart h = after_join_stays reader at c (join_result c.content f) h
 effect_stays reader at c (Merge f) e apart h = after_join_stays reader at c (join_result c.content f) h
 effect_stays reader at c (Prune n) e apart h = after_prune_stays reader at c (prune_result c.content (prune_reach c n)) h
@@ -266,7 +238,7 @@ after_prune_count c (Err why) = refl
 
 -- an operation gives a hold, or none
 effect_count : (c : NodeContent) (op : Op) → refusal_of c op ≡ None → (effect c op).hold_count ≡ c.hold_count + length (hold_times (op ∷ []))
-effect_count c (Start config) e = absurd (cc)
+effect_count c (Start kind) e = absurd (cc)
 effect_count c (Join f) e = after_join_count c (join_result c.content f) ∙ omega arith
 effect_count c (Merge f) e = after_join_count c (join_result c.content f) ∙ omega arith
 effect_count c (Prune n) e = after_prune_count c (prune_result c.content (prune_reach c n)) ∙ omega arith
@@ -292,7 +264,7 @@ from_count c (op ∷ ops) legal =
 -- a legal list gave as many holds as it has
 pub replay_count : (ops : List Op) → is_legal ops ≡ true → (replay ops).hold_count ≡ length (hold_times ops)
 replay_count [] legal = absurd (cc)
-replay_count (Start config ∷ ops) legal = let e = from_count (start_content config) ops legal in omega (arith, e)
+replay_count (Start kind ∷ ops) legal = let e = from_count (start_content kind) ops legal in omega (arith, e)
 replay_count (Join f ∷ ops) legal = absurd (cc)
 replay_count (Merge f ∷ ops) legal = absurd (cc)
 replay_count (Prune n ∷ ops) legal = absurd (cc)
@@ -320,7 +292,7 @@ from_given c (op ∷ ops) k n at legal there num apart =
         let is : is_hold n at (record { reader = c.hold_count + 1; at = a }) ≡ true = grind (arith, nat_tests) in
         stay (subst (Stays n at) (sym step) (any_last (is_hold n at) c.holds (record { reader = c.hold_count + 1; at = a }) is))
     go (HoldAt a) (suc j) there num step count apart more stay = more j there (omega (arith, num, count))
-    go (Start config) j there num step count apart more stay = more j there (omega (arith, num, count))
+    go (Start kind) j there num step count apart more stay = more j there (omega (arith, num, count))
     go (Join f) j there num step count apart more stay = more j there (omega (arith, num, count))
     go (Merge f) j there num step count apart more stay = more j there (omega (arith, num, count))
     go (Prune h) j there num step count apart more stay = more j there (omega (arith, num, count))
@@ -340,13 +312,13 @@ any_above n reader at (h ∷ hs) all any = go (is_hold reader at h) refl any (λ
 -- the time of a hold of a legal list is below the horizon only where the list releases the hold
 pub old_is_released : (ops : List Op) (k t : ℕ) → is_legal ops ≡ true → slice_get (hold_times ops) k ≡ Some t → t < (replay ops).content.horizon → is_released (k + 1) t ops ≡ true
 old_is_released [] k t legal there low = absurd (cc)
-old_is_released (Start config ∷ ops) k t legal there low = go (is_released (k + 1) t ops) refl
+old_is_released (Start kind ∷ ops) k t legal there low = go (is_released (k + 1) t ops) refl
   where
     go : (b : Bool) → is_released (k + 1) t ops ≡ b → is_released (k + 1) t ops ≡ true
     go true is = is
     go false is =
-        let stays = from_given (start_content config) ops k (k + 1) t legal there (omega arith) is in
-        let above : (replay (Start config ∷ ops)).content.horizon ≤ t = any_above _ (k + 1) t (fold content_after_op (start_content config) ops).holds (hold_law_proof (Start config ∷ ops) legal) stays in
+        let stays = from_given (start_content kind) ops k (k + 1) t legal there (omega arith) is in
+        let above : (replay (Start kind ∷ ops)).content.horizon ≤ t = any_above _ (k + 1) t (fold content_after_op (start_content kind) ops).holds (hold_law_proof (Start kind ∷ ops) legal) stays in
         absurd (omega (arith, above, low))
 old_is_released (Join f ∷ ops) k t legal there low = absurd (cc)
 old_is_released (Merge f ∷ ops) k t legal there low = absurd (cc)

@@ -4,7 +4,7 @@ use mathlib.Core.List.{IsPrefix}
 use Rattle.hk_node.specs.declared.op.Op.{Op}
 use Rattle.hk_node.specs.declared.op.Op.TheVariants.{Start, Join, Merge, Prune, Hold as HoldAt, Release}
 use Rattle.hk_node.specs.NodeContent.{NodeContent}
-use Rattle.hk_node.specs.Replay.{refusal_of, effect, unless, content_after_op, start_content, replay, config_of, legal_from, is_legal}
+use Rattle.hk_node.specs.Replay.{refusal_of, effect, unless, content_after_op, start_content, replay, kind_of, legal_from, is_legal}
 use Rattle.hk_node.specs.Lists.{last_of}
 
 pub fold-snoc : {A B : Type 0} (f : A → B → A) (a : A) (xs : List B) (x : B) → fold f a (xs ++ x ∷ []) ≡ f (fold f a xs) x
@@ -32,7 +32,7 @@ applied-is c op h = ap (λ o. unless o c (effect c op)) h
 
 pub replay-snoc : (xs : List Op) (op : Op) → is_legal xs ≡ true → replay (xs ++ op ∷ []) ≡ content_after_op (replay xs) op
 replay-snoc [] op h = absurd (cc)
-replay-snoc (Start config ∷ xs) op h = fold-snoc content_after_op (start_content config) xs op
+replay-snoc (Start kind ∷ xs) op h = fold-snoc content_after_op (start_content kind) xs op
 replay-snoc (Join f ∷ xs) op h = absurd (cc)
 replay-snoc (Merge f ∷ xs) op h = absurd (cc)
 replay-snoc (Prune t ∷ xs) op h = absurd (cc)
@@ -43,30 +43,30 @@ pub from-snoc : (c : NodeContent) (xs : List Op) (op : Op) → legal_from c xs �
 from-snoc c [] op h n = and_both (is_none (refusal_of c op)) true (ap is_none n) refl
 from-snoc c (x ∷ xs) op h n = and_both (is_none (refusal_of c x)) (legal_from (content_after_op c x) (xs ++ op ∷ [])) (and_left (is_none (refusal_of c x)) _ h) (from-snoc (content_after_op c x) xs op (and_right (is_none (refusal_of c x)) _ h) n)
 
--- a legal list that goes on is of the same log
-pub config-snoc : (xs : List Op) (op : Op) → is_legal xs ≡ true → config_of (xs ++ op ∷ []) ≡ config_of xs
-config-snoc [] op h = absurd (cc)
-config-snoc (Start config ∷ xs) op h = refl
-config-snoc (Join f ∷ xs) op h = absurd (cc)
-config-snoc (Merge f ∷ xs) op h = absurd (cc)
-config-snoc (Prune t ∷ xs) op h = absurd (cc)
-config-snoc (HoldAt t ∷ xs) op h = absurd (cc)
-config-snoc (Release r t ∷ xs) op h = absurd (cc)
+-- a legal list that goes on is of the same node
+pub kind-snoc : (xs : List Op) (op : Op) → is_legal xs ≡ true → kind_of (xs ++ op ∷ []) ≡ kind_of xs
+kind-snoc [] op h = absurd (cc)
+kind-snoc (Start kind ∷ xs) op h = refl
+kind-snoc (Join f ∷ xs) op h = absurd (cc)
+kind-snoc (Merge f ∷ xs) op h = absurd (cc)
+kind-snoc (Prune t ∷ xs) op h = absurd (cc)
+kind-snoc (HoldAt t ∷ xs) op h = absurd (cc)
+kind-snoc (Release r t ∷ xs) op h = absurd (cc)
 
--- a legal list and all that it goes on with is of the same log
-pub config_on : (xs ys : List Op) → IsPrefix xs ys → is_legal xs ≡ true → config_of ys ≡ config_of xs
-config_on [] ys p h = absurd (cc)
-config_on (Start config ∷ xs) ys p h = ap config_of (sym p.1)
-config_on (Join f ∷ xs) ys p h = absurd (cc)
-config_on (Merge f ∷ xs) ys p h = absurd (cc)
-config_on (Prune t ∷ xs) ys p h = absurd (cc)
-config_on (HoldAt t ∷ xs) ys p h = absurd (cc)
-config_on (Release r t ∷ xs) ys p h = absurd (cc)
+-- a legal list and all that it goes on with is of the same node
+pub kind_on : (xs ys : List Op) → IsPrefix xs ys → is_legal xs ≡ true → kind_of ys ≡ kind_of xs
+kind_on [] ys p h = absurd (cc)
+kind_on (Start kind ∷ xs) ys p h = ap kind_of (sym p.1)
+kind_on (Join f ∷ xs) ys p h = absurd (cc)
+kind_on (Merge f ∷ xs) ys p h = absurd (cc)
+kind_on (Prune t ∷ xs) ys p h = absurd (cc)
+kind_on (HoldAt t ∷ xs) ys p h = absurd (cc)
+kind_on (Release r t ∷ xs) ys p h = absurd (cc)
 
 -- a legal list goes on with an operation that is not refused
 pub legal-snoc : (xs : List Op) (op : Op) → is_legal xs ≡ true → refusal_of (replay xs) op ≡ None → is_legal (xs ++ op ∷ []) ≡ true
 legal-snoc [] op h n = absurd (cc)
-legal-snoc (Start config ∷ xs) op h n = from-snoc (start_content config) xs op h n
+legal-snoc (Start kind ∷ xs) op h n = from-snoc (start_content kind) xs op h n
 legal-snoc (Join f ∷ xs) op h n = absurd (cc)
 legal-snoc (Merge f ∷ xs) op h n = absurd (cc)
 legal-snoc (Prune t ∷ xs) op h n = absurd (cc)

@@ -3,10 +3,14 @@ pub mod LegalLists
 pub mod AddedOperation
 pub mod PublishedCopy
 pub mod PublisherSteps
+pub mod JoinTests
 pub mod Holds
 pub mod RefusalTests
+pub mod GuardedLists
+pub mod AddedChanges
 pub mod Carries
 pub mod HoldsBack
+pub mod SoundReplies
 pub mod WaitingHold
 pub mod GuardedChanges
 pub mod TakenItems

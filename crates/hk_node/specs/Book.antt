@@ -1,7 +1,7 @@
 -- The rule of the book in which a node's list of operations stands, and what its one step tells.
-use Rattle.std.specs.Prelude.{ℕ, ◌≡◌, ◌+◌, ◌==◌, true, List, [], ◌∷◌, ◌++◌, length, MatchBool}
+use Rattle.std.specs.Prelude.{ℕ, ◌≡◌, ◌+◌, ◌==◌, true, false, List, [], ◌∷◌, ◌++◌, length, MatchBool}
 use Rattle.logbook.specs.Pages.{Cell, Step, View, Book, Named}
-use Rattle.hk_types.specs.Values.{ConfigValue}
+use Rattle.hk_node.specs.declared.op.NodeKind.{NodeKind}
 use Rattle.hk_node.specs.declared.op.Op.{Op}
 
 -- the one word is the number of the operations after the first
@@ -18,6 +18,6 @@ Adds s v found w = MatchBool (found == s.old) (w.0 ≡ v.0 ++ s.ask ∷ []) (Uni
 abbrev pub no_book : Book
 no_book = record { number = 0; log_name = 0; cells_name = 0 }
 
--- the configuration of no node
-abbrev pub no_config : ConfigValue
-no_config = record { log = 0; streams = 0 }
+-- the kind of no node
+abbrev pub no_kind : NodeKind
+no_kind = record { config = record { log = 0; streams = 0 }; guarded = false }

@@ -14,7 +14,7 @@ use Rattle.hk_model.specs.Replica.Replicas.{Represents}
 use Rattle.hk_node.specs.declared.op.Op.{Op}
 use Rattle.hk_node.specs.declared.op.Op.TheVariants.{Start, Join, Merge, Prune, Hold as HoldAt, Release}
 use Rattle.hk_node.specs.NodeContent.{NodeContent}
-use Rattle.hk_node.specs.Replay.{start_content, prune_reach, content_after_op, config_of, replay, is_legal, tail_of}
+use Rattle.hk_node.specs.Replay.{start_content, prune_reach, content_after_op, config_of, kind_of, replay, is_legal, tail_of}
 
 -- a fragment is a part of a history: of these items, at this horizon
 pub record IsPart (config : ConfigValue) (history : History) (items : List Item) (horizon : ℕ) (f : FragmentValue) : Type 0 where
@@ -37,7 +37,7 @@ Brings config history c (Start other ∷ ops) own g all h = ⊥
 -- each join and merge of a node's list carries a part of a history: these items in all, and this greatest horizon
 -- joined, or reached by a prune, 0 where there is none
 abbrev pub Carries : History → List Op → List Item → ℕ → Type 0
-Carries history ops items horizon = Brings (config_of ops) history (start_content (config_of ops)) (tail_of ops) [] 0 items horizon
+Carries history ops items horizon = Brings (config_of ops) history (start_content (kind_of ops)) (tail_of ops) [] 0 items horizon
 
 -- where a legal list carries parts of one history, its content represents them, and there is no damage
 abbrev pub CarryLaw : Type 0

@@ -1,39 +1,25 @@
--- Changes that are tested before they are added, so that none damages the node.
-use Rattle.std.specs.Prelude.{◌≡◌, ◌⊎◌, ◌<◌, ◌+◌, not, nat_lt, ◌==◌, if◌then◌else◌, List, [], ◌∷◌, ◌++◌, length, Option, Some, None, Result, Ok, Err, true, false}
-use Rattle.hk_types.specs.Values.{ConfigValue}
+-- A guarded node is never damaged, and what a taking of items answers.
+use Rattle.std.specs.Prelude.{◌≡◌, ◌⊎◌, ◌<◌, ◌+◌, if◌then◌else◌, List, [], ◌∷◌, ◌++◌, length, Option, Some, None, Result, Ok, Err, true, false}
 use Rattle.hk_types.specs.declared.faults.Refusal.{Refusal}
-use Rattle.hk_types.specs.declared.faults.Refusal.TheVariants.{Conflict, Damaged, ForeignLog, Gap, Memory, Unpublished, WrongStreams}
+use Rattle.hk_types.specs.declared.faults.Refusal.TheVariants.{Damaged, Memory, Unpublished}
 use Rattle.hk_log.specs.declared.item.Item.{Item}
-use Rattle.hk_model.specs.Replica.Content.{Content, readable}
+use Rattle.hk_model.specs.Replica.Content.{Content}
 use Rattle.hk_model.specs.Replica.Fragments.{FragmentValue}
 use Rattle.hk_model.specs.Replica.Maps.{or_else}
-use Rattle.hk_model.specs.Replica.Rules.{contents_conflict}
 use Rattle.hk_delta.specs.Agreeing.{absorb_all, fragment_of_taken, Agrees}
+use Rattle.hk_node.specs.declared.op.NodeKind.{NodeKind}
 use Rattle.hk_node.specs.declared.op.Op.{Op}
 use Rattle.hk_node.specs.declared.op.Op.TheVariants.{Join}
 use Rattle.hk_node.specs.Changes.{Lists, all_of, IsCaughtUp, IsMade, IsWaiting}
 use Rattle.hk_node.specs.NodeContent.{NodeContent}
-use Rattle.hk_node.specs.Replay.{replay, full_refusal, held_refusal, IsListOf}
+use Rattle.hk_node.specs.Replay.{replay, full_refusal, guarded_of, is_legal, IsListOf}
+
+-- no legal list of a guarded node is damaged
+abbrev pub GuardLaw : Type 0
+GuardLaw = (ops : List Op) → is_legal ops ≡ true → guarded_of ops ≡ true → (replay ops).damaged ≡ false
 
 abbrev pub damage_refusal : NodeContent → Option Refusal
 damage_refusal c = if c.damaged then Some Damaged else None
-
-abbrev pub conflict_refusal : Content → FragmentValue → Option Refusal
-conflict_refusal c f = if contents_conflict c f.content then Some Conflict else None
-
--- why a fragment is not joined that fits the node, where a conflict is a refusal too: a hold, a conflict, or no room for one
--- operation more
-abbrev pub fitting_refusal : NodeContent → FragmentValue → Option Refusal
-fitting_refusal c f = or_else (held_refusal c f.content.horizon) (or_else (conflict_refusal c.content f) (full_refusal c))
-
--- why a fragment is not joined, where a conflict is a refusal too
-abbrev pub agreed_refusal : NodeContent → FragmentValue → Option Refusal
-agreed_refusal c f =
-    if c.damaged then Some Damaged
-    else if not (f.content.log == c.content.log) then Some ForeignLog
-    else if not (length f.content.streams == length c.content.streams) then Some WrongStreams
-    else if nat_lt (readable c.content) f.base then Some (Gap f.base (readable c.content))
-    else fitting_refusal c f
 
 abbrev pub refusal_in : Result Content Refusal → Option Refusal
 refusal_in (Ok c) = None
@@ -70,21 +56,14 @@ abbrev pub HasTaken : Lists → List Item → Result (List Op) Refusal → Type 
 HasTaken old items (Ok told) = absorb_all (replay (all_of old)).content items ≡ Ok (replay told).content
 HasTaken old items (Err why) = Unit {0}
 
-abbrev pub JoinsAgreed : Lists → FragmentValue → Result (List Op) Refusal → Lists → Type 0
-JoinsAgreed old f result new =
-    ChangesTested (agreed_refusal (replay (all_of old)) f) (agreed_refusal (replay (all_of old)) f) old (Join f) result new × IsAsSound old new
-
 abbrev pub TakesItems : Lists → List Item → Result (List Op) Refusal → Lists → Type 0
 TakesItems old items result new =
     ChangesTested (damage_refusal (replay (all_of old))) (take_refusal (replay (all_of old)) items) old (join_of_taken (replay (all_of old)) items) result new
     × HasTaken old items result × IsAsSound old new
 
--- what a guarded join, and a taking, answer at some legal list of this log, whichever it was when the lock was got
-abbrev pub JoinsAgreedSome : ConfigValue → FragmentValue → Result (List Op) Refusal → Type 0
-JoinsAgreedSome config f result = (old : Lists) × (new : Lists) × IsListOf config (all_of old) × JoinsAgreed old f result new
-
-abbrev pub TakesSome : ConfigValue → List Item → Result (List Op) Refusal → Type 0
-TakesSome config items result = (old : Lists) × (new : Lists) × IsListOf config (all_of old) × TakesItems old items result new
+-- what a taking answers at some legal list of such a node, whichever it was when the lock was got
+abbrev pub TakesSome : NodeKind → List Item → Result (List Op) Refusal → Type 0
+TakesSome kind items result = (old : Lists) × (new : Lists) × IsListOf kind (all_of old) × TakesItems old items result new
 
 -- the fragment of what items tell a node's content, or that it is damaged
 abbrev pub AgreesWith : NodeContent → List Item → Result FragmentValue Refusal → Type 0

@@ -5,12 +5,13 @@ use Rattle.hk_model.specs.Replica.Content.{Content}
 use Rattle.hk_model.specs.Replica.Codes.{content_code}
 use Rattle.hk_node.specs.declared.op.Hold.{Hold}
 
--- the content of its replica, the holds that stand, whether it met a conflict, how many holds it gave, and
--- how many operations it made
+-- the content of its replica, the holds that stand, whether it met a conflict, whether it is guarded, how many holds it
+-- gave, and how many operations it made
 pub record NodeContent : Type 0 where
   pub content : Content
   pub holds : List Hold
   pub damaged : Bool
+  pub guarded : Bool
   pub hold_count : ℕ
   pub op_count : ℕ
 
@@ -19,6 +20,6 @@ hold_code = code_by (ℕ × ℕ) (coded× coded_ℕ coded_ℕ) (λ h. (h.reader,
 
 abbrev pub node_code : Coded NodeContent
 node_code =
-    code_by (Content × (List Hold × (Bool × (ℕ × ℕ))))
-    (coded× content_code (coded× (coded_list hold_code) (coded× coded_bool (coded× coded_ℕ coded_ℕ))))
-    (λ c. (c.content, (c.holds, (c.damaged, (c.hold_count, c.op_count))))) (λ p. record { content = p.0; holds = p.1.0; damaged = p.1.1.0; hold_count = p.1.1.1.0; op_count = p.1.1.1.1 }) (λ _. refl)
+    code_by (Content × (List Hold × (Bool × (Bool × (ℕ × ℕ)))))
+    (coded× content_code (coded× (coded_list hold_code) (coded× coded_bool (coded× coded_bool (coded× coded_ℕ coded_ℕ)))))
+    (λ c. (c.content, (c.holds, (c.damaged, (c.guarded, (c.hold_count, c.op_count)))))) (λ p. record { content = p.0; holds = p.1.0; damaged = p.1.1.0; guarded = p.1.1.1.0; hold_count = p.1.1.1.1.0; op_count = p.1.1.1.1.1 }) (λ _. refl)

@@ -7,12 +7,12 @@ use Rattle.left_right.specs.Sides.{view as known}
 use Rattle.left_right.specs.declared.Absorb.{Ghosts}
 use Rattle.left_right.specs.declared.writer.Writer.{Writer}
 use Rattle.logbook.specs.Pages.{Book}
-use Rattle.hk_types.specs.Values.{ConfigValue}
+use Rattle.hk_node.specs.declared.op.NodeKind.{NodeKind}
 use Rattle.hk_node.specs.declared.op.Op.{Op}
 use Rattle.hk_node.specs.declared.replica.Replica.{Replica}
 use Rattle.hk_node.specs.declared.replica.Logged.{Logged}
 use Rattle.hk_node.specs.Book.{no_book}
-use Rattle.hk_node.specs.Replay.{content_after_op, config_of, replay, is_legal}
+use Rattle.hk_node.specs.Replay.{content_after_op, kind_of, replay, is_legal}
 
 -- what a reader or the writer knows: of which node, and which operations
 abbrev pub View : Type 0
@@ -87,10 +87,10 @@ pub record IsReady (shown : Replica) (waiting : List Logged) : Type 0 where
   pub same : shown.prefix.0 ≡ (fold next shown waiting).prefix.0
 
 -- the published copy, and what waits
-pub record IsPublisher (book : Book) (config : ConfigValue) (counter : Book) (shown : Replica) (waiting : List Logged) : Type 0 where
+pub record IsPublisher (book : Book) (kind : NodeKind) (counter : Book) (shown : Replica) (waiting : List Logged) : Type 0 where
   pub name : shown.prefix.0 ≡ book
-  pub config_shown : config_of shown.prefix.1 ≡ config
-  pub config_all : config_of (fold next shown waiting).prefix.1 ≡ config
+  pub kind_shown : kind_of shown.prefix.1 ≡ kind
+  pub kind_all : kind_of (fold next shown waiting).prefix.1 ≡ kind
   pub counted : counter ≡ book
   pub published : IsReplay shown
   pub list : (fold next shown waiting).prefix ≡ (book, shown.prefix.1 ++ ops_of waiting)

@@ -3,13 +3,14 @@ use Rattle.std.specs.Prelude.{ℕ, ◌≡◌, ◌+◌, ◌^◌, Bool, true, fals
 use Rattle.std.specs.List.{list_any}
 use Rattle.hk_types.specs.Values.{ConfigValue}
 use Rattle.hk_types.specs.declared.faults.Refusal.{Refusal}
-use Rattle.hk_types.specs.declared.faults.Refusal.TheVariants.{ForeignLog, WrongStreams, Gap, AheadOfMark, TooOld, Held, Damaged, NodeFull, NoHold}
+use Rattle.hk_types.specs.declared.faults.Refusal.TheVariants.{Conflict, ForeignLog, WrongStreams, Gap, AheadOfMark, TooOld, Held, Damaged, NodeFull, NoHold}
 use Rattle.hk_model.specs.Replica.Maps.{or_else}
 use Rattle.hk_model.specs.Replica.Content.{Content, readable}
 use Rattle.hk_model.specs.Replica.Fragments.{FragmentValue}
 use Rattle.hk_model.specs.Replica.Replicas.{empty_content}
-use Rattle.hk_model.specs.Replica.Rules.{join_result, prune_result}
+use Rattle.hk_model.specs.Replica.Rules.{contents_conflict, join_result, prune_result}
 use Rattle.hk_node.specs.declared.op.Hold.{Hold}
+use Rattle.hk_node.specs.declared.op.NodeKind.{NodeKind}
 use Rattle.hk_node.specs.declared.op.Op.{Op}
 use Rattle.hk_node.specs.declared.op.Op.TheVariants.{Start, Join, Merge, Prune, Hold as HoldAt, Release}
 use Rattle.hk_node.specs.NodeContent.{NodeContent}
@@ -57,22 +58,33 @@ passed_hold horizon (Some h) = if nat_lt h.at horizon then Some (Held h.reader h
 abbrev pub held_refusal : NodeContent → ℕ → Option Refusal
 held_refusal c horizon = if nat_lt c.content.horizon horizon then passed_hold horizon (least_hold c.holds) else None
 
--- why a fragment of this log, so many streams, this base and this horizon is not joined
-abbrev pub join_refusal : NodeContent → ℕ → ℕ → ℕ → ℕ → Option Refusal
-join_refusal c log streams base horizon =
+-- why a fragment of this log, so many streams, this base and this horizon does not fit
+abbrev pub fit_refusal : NodeContent → ℕ → ℕ → ℕ → ℕ → Option Refusal
+fit_refusal c log streams base horizon =
     if c.damaged then Some Damaged
     else if not (log == c.content.log) then Some ForeignLog
     else if not (streams == length c.content.streams) then Some WrongStreams
     else if nat_lt (readable c.content) base then Some (Gap base (readable c.content))
-    else or_else (held_refusal c horizon) (full_refusal c)
+    else held_refusal c horizon
 
+-- why a fragment is not joined, but for a conflict
+abbrev pub fit_or_full : NodeContent → FragmentValue → Option Refusal
+fit_or_full c f = or_else (fit_refusal c f.content.log (length f.content.streams) f.base f.content.horizon) (full_refusal c)
+
+-- why a guarded node does not join what conflicts with what it holds
+abbrev pub guard_refusal : NodeContent → Content → Option Refusal
+guard_refusal c told = if c.guarded && contents_conflict c.content told then Some Conflict else None
+
+-- why a fragment is not joined: it does not fit, the node is guarded and it conflicts, or there is no room for one
+-- operation more
 abbrev pub join_refused : NodeContent → FragmentValue → Option Refusal
-join_refused c f = join_refusal c f.content.log (length f.content.streams) f.base f.content.horizon
+join_refused c f =
+    or_else (fit_refusal c f.content.log (length f.content.streams) f.base f.content.horizon) (or_else (guard_refusal c f.content) (full_refusal c))
 
--- why an operation is refused, if it is. A conflict is no refusal of a join, since it damages the node; a hold is none
--- of a prune, which stops there
+-- why an operation is refused, if it is. A conflict is a refusal of a join in a guarded node alone, since it damages
+-- another; a hold is none of a prune, which stops there
 abbrev pub refusal_of : NodeContent → Op → Option Refusal
-refusal_of c (Start config) = Some Damaged
+refusal_of c (Start kind) = Some Damaged
 refusal_of c (Join f) = join_refused c f
 refusal_of c (Merge f) = join_refused c f
 refusal_of c (Prune h) =
@@ -94,17 +106,22 @@ abbrev pub after_join : NodeContent → Result Content Refusal → NodeContent
 after_join c (Ok content) = record c { content = content; op_count = c.op_count + 1 }
 after_join c (Err why) = record c { damaged = true; op_count = c.op_count + 1 }
 
+-- a conflict that a join meets leaves a guarded node as it is, which refuses such a join
+abbrev pub after_conflict : NodeContent → NodeContent
+after_conflict c = if c.guarded then c else record c { damaged = true; op_count = c.op_count + 1 }
+
 abbrev pub after_prune : NodeContent → Result Content Refusal → NodeContent
 after_prune c (Ok content) = record c { content = content; op_count = c.op_count + 1 }
 after_prune c (Err why) = record c { op_count = c.op_count + 1 }
 
 -- what a node holds at its start
-abbrev pub start_content : ConfigValue → NodeContent
-start_content config = record { content = empty_content config; holds = []; damaged = false; hold_count = 0; op_count = 1 }
+abbrev pub start_content : NodeKind → NodeContent
+start_content kind =
+    record { content = empty_content kind.config; holds = []; damaged = false; guarded = kind.guarded; hold_count = 0; op_count = 1 }
 
 -- what an operation makes of what a node holds, where it is not refused
 abbrev pub effect : NodeContent → Op → NodeContent
-effect c (Start config) = start_content config
+effect c (Start kind) = start_content kind
 effect c (Join f) = after_join c (join_result c.content f)
 effect c (Merge f) = after_join c (join_result c.content f)
 effect c (Prune h) = after_prune c (prune_result c.content (prune_reach c h))
@@ -121,10 +138,18 @@ content_after_op c op = unless (refusal_of c op) c (effect c op)
 
 -- ---- lists of operations
 
+-- of which log a node is, and whether it is guarded
+abbrev pub kind_of : List Op → NodeKind
+kind_of (Start kind ∷ ops) = kind
+kind_of _ = record { config = record { log = 0; streams = 0 }; guarded = false }
+
 -- the log that a node is of
 abbrev pub config_of : List Op → ConfigValue
-config_of (Start config ∷ ops) = config
-config_of _ = record { log = 0; streams = 0 }
+config_of ops = (kind_of ops).config
+
+-- whether a node is guarded
+abbrev pub guarded_of : List Op → Bool
+guarded_of ops = (kind_of ops).guarded
 
 abbrev pub tail_of : List Op → List Op
 tail_of [] = []
@@ -132,7 +157,7 @@ tail_of (op ∷ ops) = ops
 
 -- what a list of operations comes to
 abbrev pub replay : List Op → NodeContent
-replay ops = fold content_after_op (start_content (config_of ops)) (tail_of ops)
+replay ops = fold content_after_op (start_content (kind_of ops)) (tail_of ops)
 
 -- whether no operation is refused at its place
 abbrev pub legal_from : NodeContent → List Op → Bool
@@ -141,9 +166,9 @@ legal_from c (op ∷ ops) = is_none (refusal_of c op) && legal_from (content_aft
 
 -- whether a list begins with a start, and none of the others is refused at its place
 abbrev pub is_legal : List Op → Bool
-is_legal (Start config ∷ ops) = legal_from (start_content config) ops
+is_legal (Start kind ∷ ops) = legal_from (start_content kind) ops
 is_legal _ = false
 
--- a legal list of a node of this log
-abbrev pub IsListOf : ConfigValue → List Op → Type 0
-IsListOf config ops = (is_legal ops ≡ true) × (config_of ops ≡ config)
+-- a legal list of a node of this log, guarded or not
+abbrev pub IsListOf : NodeKind → List Op → Type 0
+IsListOf kind ops = (is_legal ops ≡ true) × (kind_of ops ≡ kind)

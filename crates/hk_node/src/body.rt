@@ -3,17 +3,18 @@
 ghost use Rattle.std.specs.Prelude.{◌≡◌, ◌⊎◌, ◌<◌, ◌≤◌, ◌^◌, None, IfOk, IfErr, MatchResult};
 ghost use Rattle.std.specs.Option.{option_map};
 ghost use Rattle.hk_types.specs.declared.faults.Refusal.TheVariants.{Damaged, Memory};
-ghost use Rattle.hk_model.specs.Replica.Maps.{or_else};
+ghost use Rattle.hk_model.specs.Replica.Fragments.{cut};
+ghost use Rattle.hk_model.specs.Replica.Rules.{contents_conflict};
 ghost use Rattle.hk_model.specs.Replica.Pages.{page_seen};
 ghost use Rattle.hk_model.specs.Replica.StreamsTold.{streams_seen};
-ghost use Rattle.hk_node.specs.declared.op.Op.TheVariants.{Join as JoinOf, Prune as PruneTo, Hold as HoldAt, Release};
+ghost use Rattle.hk_node.specs.declared.op.Op.TheVariants.{Hold as HoldAt, Join as JoinOf, Prune as PruneTo, Release};
 ghost use Rattle.hk_node.specs.Replay as spec;
 ghost use Rattle.std.specs.List.{list_any};
-ghost use Rattle.hk_node.specs.Replay.{is_hold, content_after_op, start_content, effect, full_refusal, held_refusal, join_refusal, refusal_of};
-ghost use Rattle.hk_node.specs.Guarded.{AgreesWith, agreed_refusal, conflict_refusal, fitting_refusal};
+ghost use Rattle.hk_node.specs.Replay.{is_hold, content_after_op, start_content, effect, full_refusal, held_refusal, refusal_of};
+ghost use Rattle.hk_node.specs.Guarded.{AgreesWith};
 ghost use Rattle.hk_node.specs.Replies.{Answers, GivesOrMemory, GivesSeen, timed_seen, node_delta, node_front, node_latest, node_page, node_reply, node_streams, node_whole};
 
-use crate::op::{Hold, Op};
+use crate::op::{Hold, NodeKind, Op};
 use hk_delta::{Fragment, agreed, conflicts_with, delta_since, join, whole_of};
 use hk_log::Item;
 use hk_merge::wrong_log;
@@ -34,13 +35,14 @@ pub fn next_op(count: u64) -> Result<u64, Refusal>
     Ok(count + 1)
 }
 
-/// What a copy holds: the state of a replica, the holds that stand, whether it met a conflict, and the counts of
-/// holds and of operations.
+/// What a copy holds: the state of a replica, the holds that stand, whether it met a conflict, whether it is guarded, and
+/// the counts of holds and of operations.
 #[derive(Drop)]
 pub struct Body {
     state: ReplicaState,
     holds: Vec<Hold>,
     damaged: bool,
+    guarded: bool,
     hold_count: u64,
     op_count: u64,
 }
@@ -53,7 +55,7 @@ impl Model for Body {
 
     ghost coded = { node_code };
 
-    ghost view = { λ b. record { content = b.state; holds = b.holds.items; damaged = b.damaged; hold_count = b.hold_count; op_count = b.op_count } };
+    ghost view = { λ b. record { content = b.state; holds = b.holds.items; damaged = b.damaged; guarded = b.guarded; hold_count = b.hold_count; op_count = b.op_count } };
 
     ghost invariant = { λ b. (b.hold_count ≤ b.op_count) × (b.op_count ≤ 2 ^ 62) };
 }
@@ -95,21 +97,23 @@ fn is_among(holds: &[Hold], reader: u64, at: Time) -> bool
 }
 
 impl Body {
-    /// What a copy of a new node of this log holds. The only refusal is `Memory`.
-    pub fn new(alloc: Global, config: Config) -> Result<Body, Refusal>
-        ensures ok { IfOk result (λ body. body ≡ start_content config) }
+    /// What a copy of a new node holds. The only refusal is `Memory`.
+    pub fn new(alloc: Global, kind: NodeKind) -> Result<Body, Refusal>
+        ensures ok { IfOk result (λ body. body ≡ start_content kind) }
         ensures err { IfErr result (λ why. why ≡ Memory) }
     {
         Ok(Body {
-            state: ReplicaState::new(alloc, config)?,
+            state: ReplicaState::new(alloc, kind.config)?,
             holds: Vec::new(alloc),
             damaged: false,
+            guarded: kind.guarded,
             hold_count: 0,
             op_count: 1,
         })
     }
 
-    fn full_refusal(&self) -> Option<Refusal>
+    /// `NodeFull` where there is no room for one operation more. It takes no memory.
+    pub fn full_refusal(&self) -> Option<Refusal>
         ensures { result ≡ full_refusal self.now }
     {
         match next_op(self.op_count) {
@@ -141,18 +145,9 @@ impl Body {
         }
     }
 
-    fn held_or_full(&self, horizon: Time) -> Option<Refusal>
-        ensures { result ≡ or_else (held_refusal self.now horizon) (full_refusal self.now) }
-    {
-        match self.held_refusal(horizon) {
-            Some(why) => Some(why),
-            None => self.full_refusal(),
-        }
-    }
-
-    /// Why a fragment of this log, this base and this horizon is not joined. It takes no memory.
-    pub fn join_refusal(&self, config: Config, base: Time, horizon: Time) -> Option<Refusal>
-        ensures { result ≡ join_refusal self.now config.log config.streams base horizon }
+    /// Why a fragment of this log, this base and this horizon does not fit. It takes no memory.
+    fn fit_refusal(&self, config: Config, base: Time, horizon: Time) -> Option<Refusal>
+        ensures { result ≡ spec.fit_refusal self.now config.log config.streams base horizon }
     {
         if self.damaged {
             return Some(Refusal::Damaged);
@@ -164,52 +159,74 @@ impl Body {
         if readable < base {
             return Some(Refusal::Gap { base, readable });
         }
-        self.held_or_full(horizon)
+        self.held_refusal(horizon)
     }
 
-    fn join_refused(&self, fragment: &Fragment) -> Option<Refusal>
-        ensures { result ≡ spec.join_refused self.now fragment.now }
+    /// Why a fragment is not joined, but for a conflict. It takes no memory.
+    fn fit_or_full(&self, fragment: &Fragment) -> Option<Refusal>
+        ensures { result ≡ spec.fit_or_full self.now fragment.now }
     {
-        self.join_refusal(fragment.config(), fragment.base(), fragment.horizon())
-    }
-
-    fn conflict_refusal(&self, fragment: &Fragment) -> Option<Refusal>
-        ensures { result ≡ conflict_refusal self.now.content fragment.now }
-    {
-        if conflicts_with(&self.state, fragment) {
-            return Some(Refusal::Conflict);
-        }
-        None
-    }
-
-    fn held_conflict_or_full(&self, fragment: &Fragment) -> Option<Refusal>
-        ensures { result ≡ fitting_refusal self.now fragment.now }
-    {
-        if let Some(why) = self.held_refusal(fragment.horizon()) {
-            return Some(why);
-        }
-        match self.conflict_refusal(fragment) {
+        match self.fit_refusal(fragment.config(), fragment.base(), fragment.horizon()) {
             Some(why) => Some(why),
             None => self.full_refusal(),
         }
     }
 
-    /// Why a fragment is not joined, where a conflict is a refusal too. It takes no memory.
-    pub fn agreed_refusal(&self, fragment: &Fragment) -> Option<Refusal>
-        ensures { result ≡ agreed_refusal self.now fragment.now }
+    /// `Conflict` where this is guarded and conflicts with a fragment.
+    fn guard_refusal(&self, fragment: &Fragment) -> Option<Refusal>
+        ensures { result ≡ spec.guard_refusal self.now fragment.now.content }
     {
-        if self.damaged {
-            return Some(Refusal::Damaged);
+        if self.guarded && conflicts_with(&self.state, fragment) {
+            return Some(Refusal::Conflict);
         }
-        if let Some(why) = wrong_log(&self.state, fragment.config()) {
+        None
+    }
+
+    fn conflicts_with_state(&self, state: &ReplicaState) -> bool
+        ensures { result ≡ contents_conflict self.now.content (cut state.now 0).content }
+    {
+        let _known = state.horizon();
+        let theirs = state.facts();
+        self.state.facts().conflicts_with(theirs)
+    }
+
+    /// `Conflict` where this is guarded and conflicts with a state.
+    fn guard_refusal_of_state(&self, state: &ReplicaState) -> Option<Refusal>
+        ensures { result ≡ spec.guard_refusal self.now (cut state.now 0).content }
+    {
+        if self.guarded && self.conflicts_with_state(state) {
+            return Some(Refusal::Conflict);
+        }
+        None
+    }
+
+    fn join_refused(&self, fragment: &Fragment) -> Option<Refusal>
+        ensures { result ≡ spec.join_refused self.now fragment.now }
+    {
+        if let Some(why) = self.fit_refusal(
+            fragment.config(),
+            fragment.base(),
+            fragment.horizon(),
+        ) {
             return Some(why);
         }
-        let base = fragment.base();
-        let readable = self.state.readable();
-        if readable < base {
-            return Some(Refusal::Gap { base, readable });
+        match self.guard_refusal(fragment) {
+            Some(why) => Some(why),
+            None => self.full_refusal(),
         }
-        self.held_conflict_or_full(fragment)
+    }
+
+    /// Why the whole of a state is not joined. It takes no memory.
+    pub fn merge_refusal(&self, state: &ReplicaState) -> Option<Refusal>
+        ensures { result ≡ spec.join_refused self.now (cut state.now 0) }
+    {
+        if let Some(why) = self.fit_refusal(state.config(), Time::zero(), state.horizon()) {
+            return Some(why);
+        }
+        match self.guard_refusal_of_state(state) {
+            Some(why) => Some(why),
+            None => self.full_refusal(),
+        }
     }
 
     /// The fragment of what items tell that is new, where they agree with what is held and with each other.
@@ -261,7 +278,8 @@ impl Body {
     }
 
     /// Why an operation is refused, if it is. It takes no memory. Cost: O(s + h), s streams, h holds that stand,
-    /// which are looked at where the horizon of a join would rise, and for a release.
+    /// which are looked at where the horizon of a join would rise, and for a release; where this is guarded, for a join or
+    /// merge also that of `conflicts_with`.
     pub fn refusal(&self, op: &Op) -> Option<Refusal>
         ensures { result ≡ refusal_of self.now op.now }
     {
@@ -275,17 +293,47 @@ impl Body {
         }
     }
 
-    fn join(&mut self, fragment: &Fragment) -> Result<(), AllocError>
+    /// What is left by a conflict that a join met: a guarded node refuses such a join.
+    fn meet_conflict(&mut self)
         requires { self.old.op_count < 2 ^ 62 }
-        ensures { MatchResult result (λ _. self.new ≡ effect self.old (JoinOf fragment.now)) (λ _. self.new ≡ self.old) }
+        ensures { self.new ≡ spec.after_conflict self.old }
+    {
+        if !self.guarded {
+            self.damaged = true;
+            self.op_count += 1;
+        }
+    }
+
+    fn join_fitting(&mut self, fragment: &Fragment) -> Result<(), AllocError>
+        requires { spec.fit_or_full self.old fragment.now ≡ None }
+        ensures { MatchResult result (λ _. self.new ≡ content_after_op self.old (JoinOf fragment.now))
+            (λ _. self.new ≡ self.old) }
     {
         match join(&mut self.state, fragment) {
-            Ok(()) => {}
-            Err(Refusal::Memory) => return Err(AllocError),
-            Err(_) => self.damaged = true,
+            Ok(()) => {
+                self.op_count += 1;
+                Ok(())
+            }
+            Err(why) => match why {
+                Refusal::Memory => Err(AllocError),
+                _ => {
+                    self.meet_conflict();
+                    Ok(())
+                }
+            },
         }
-        self.op_count += 1;
-        Ok(())
+    }
+
+    /// Joins a fragment, or does nothing where that is refused. Whether it conflicts is seen while it is joined, not tested
+    /// before. It changes nothing where memory is refused.
+    fn join(&mut self, fragment: &Fragment) -> Result<(), AllocError>
+        ensures { MatchResult result (λ _. self.new ≡ content_after_op self.old (JoinOf fragment.now))
+            (λ _. self.new ≡ self.old) }
+    {
+        match self.fit_or_full(fragment) {
+            Some(_) => Ok(()),
+            None => self.join_fitting(fragment),
+        }
     }
 
     fn prune(&mut self, time: Time) -> Result<(), AllocError>
@@ -327,8 +375,7 @@ impl Body {
     {
         match op {
             Op::Start(_) => Ok(()),
-            Op::Join(fragment) => self.join(fragment),
-            Op::Merge(whole) => self.join(whole),
+            Op::Join(fragment) | Op::Merge(fragment) => self.join(fragment),
             Op::Prune(time) => self.prune(*time),
             Op::Hold(time) => self.hold(*time),
             Op::Release { reader, at } => {
@@ -343,9 +390,12 @@ impl Body {
         ensures { MatchResult result (λ _. self.new ≡ content_after_op self.old op.now)
             (λ _. self.new ≡ self.old) }
     {
-        match self.refusal(op) {
-            Some(_) => Ok(()),
-            None => self.make(op),
+        match op {
+            Op::Join(fragment) | Op::Merge(fragment) => self.join(fragment),
+            _ => match self.refusal(op) {
+                Some(_) => Ok(()),
+                None => self.make(op),
+            },
         }
     }
 

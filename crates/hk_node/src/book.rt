@@ -3,10 +3,10 @@
 ghost use Rattle.std.specs.Prelude.{◌≡◌, ◌<◌, ◌≤◌, ◌^◌, ◌++◌, ◌∷◌, [], true, false, length, None, IsTrue, IfSome};
 ghost use mathlib.Core.List.{IsPrefix};
 ghost use Rattle.hk_node.specs.declared.op.Op.TheVariants.{Start as StartOf};
-ghost use Rattle.hk_node.specs.Replay.{config_of, is_legal, refusal_of, replay};
+ghost use Rattle.hk_node.specs.Replay.{config_of, guarded_of, is_legal, kind_of, refusal_of, replay};
 ghost use Rattle.hk_node.specs.Book.{counter_of};
 
-use crate::op::Op;
+use crate::op::{NodeKind, Op};
 use hk_types::Config;
 use logbook::{Gain, Offer, Opening, Plain, Play, Rule, Seen, Start, Word};
 use std::marker::{Brand, Model};
@@ -32,14 +32,14 @@ impl Rule<Op, u64> for Counting {
     ghost moves = { λ ask before after answer. Unit {0} };
 }
 
-/// A book opens with the start of a node of a log.
+/// A book opens with the start of a node.
 pub struct Opens;
 
-impl Opening<Config, Op> for Opens {
+impl Opening<NodeKind, Op> for Opens {
     ghost use Rattle.std.specs.Prelude.{[], ◌∷◌};
     ghost use Rattle.hk_node.specs.declared.op.Op.TheVariants.{Start as StartOf};
 
-    ghost log = { λ count config. StartOf config ∷ [] };
+    ghost log = { λ count kind. StartOf kind ∷ [] };
 }
 
 /// Callers trade nothing.
@@ -68,22 +68,22 @@ impl Plain<Op, Op, u64> for Add {
     ghost state = { λ op. None };
 }
 
-/// Which node it is, and of which log: a name that exists in the proofs alone.
+/// Which node it is, of which log, and whether it is guarded: a name that exists in the proofs alone.
 pub trait NodeName {
     ghost use Rattle.logbook.specs.Pages.{Book};
-    ghost use Rattle.hk_types.specs.Values.{ConfigValue};
+    ghost use Rattle.hk_node.specs.declared.op.NodeKind.{NodeKind};
 
     ghost book: { Book };
 
-    ghost config: { ConfigValue };
+    ghost kind: { NodeKind };
 }
 
 impl NodeName for Brand {
-    ghost use Rattle.hk_node.specs.Book.{no_book, no_config};
+    ghost use Rattle.hk_node.specs.Book.{no_book, no_kind};
 
     ghost book = { no_book };
 
-    ghost config = { no_config };
+    ghost kind = { no_kind };
 }
 
 /// The word that counts a node's operations after the first.
@@ -93,11 +93,11 @@ pub struct Counter {
     pub ghost is_counter: { word ≡ counter_of word.book },
 }
 
-/// A prefix of a node's list of operations that was seen. It has no bytes but the node's log and a count. Contracts
+/// A prefix of a node's list of operations that was seen. It has no bytes but the node's kind and a count. Contracts
 /// see it as the name of the node and the operations.
 #[derive(Drop)]
 pub struct Prefix {
-    config: Config,
+    kind: NodeKind,
     ops: u64,
     seen: Seen<Op, u64, Counting>,
 }
@@ -106,7 +106,7 @@ impl Model for Prefix {
     ghost use Rattle.std.specs.Prelude.{◌≡◌, true, List, length};
     ghost use Rattle.logbook.specs.Pages.{Book};
     ghost use Rattle.hk_node.specs.declared.op.Op.{Op};
-    ghost use Rattle.hk_node.specs.Replay.{config_of, is_legal};
+    ghost use Rattle.hk_node.specs.Replay.{is_legal, kind_of};
     ghost use Rattle.logbook.specs.Pages.{book_coded};
     ghost use Rattle.std.specs.Coded.{coded×, coded_list};
     ghost use Rattle.hk_node.specs.contracts.op.Op as op;
@@ -117,19 +117,19 @@ impl Model for Prefix {
 
     ghost view = { λ p. (p.seen.book, p.seen.log) };
 
-    ghost invariant = { λ p. (p.ops ≡ length p.seen.log) × (is_legal p.seen.log ≡ true) × (p.config ≡ config_of p.seen.log) };
+    ghost invariant = { λ p. (p.ops ≡ length p.seen.log) × (is_legal p.seen.log ≡ true) × (p.kind ≡ kind_of p.seen.log) };
 }
 
-/// A new list, with the start of a node of this log alone.
-fn open(config: Config) -> (Counter, Prefix)
-    ensures list { result.1.1 ≡ StartOf config ∷ [] }
+/// A new list, with the start of such a node alone.
+fn open(kind: NodeKind) -> (Counter, Prefix)
+    ensures list { result.1.1 ≡ StartOf kind ∷ [] }
     ensures same { result.0.word.book ≡ result.1.0 }
 {
-    let (seen, mut pens) = Seen::open_row::<Config, Opens>(&config, Start::alone(), 1);
+    let (seen, mut pens) = Seen::open_row::<NodeKind, Opens>(&kind, Start::alone(), 1);
     let mut pen = pens.take();
     let word = Word::tracked(0, &mut pen);
     let ops = 1;
-    (Counter { word }, Prefix { config, ops, seen })
+    (Counter { word }, Prefix { kind, ops, seen })
 }
 
 impl Prefix {
@@ -137,7 +137,14 @@ impl Prefix {
     pub fn config(&self) -> Config
         ensures { result ≡ config_of self.now.1 }
     {
-        self.config
+        self.kind.config
+    }
+
+    /// Whether the node is guarded.
+    pub fn is_guarded(&self) -> bool
+        ensures { result ≡ guarded_of self.now.1 }
+    {
+        self.kind.guarded
     }
 
     /// How many operations it has.
@@ -153,7 +160,7 @@ impl Prefix {
         ensures { result ≡ self.now }
     {
         Prefix {
-            config: self.config,
+            kind: self.kind.again(),
             ops: self.ops,
             seen: self.seen.again(),
         }
@@ -191,16 +198,16 @@ impl Prefix {
         if found != count {
             return None;
         }
-        let config = self.config;
-        Some(Prefix { config, ops, seen })
+        let kind = self.kind.again();
+        Some(Prefix { kind, ops, seen })
     }
 }
 
 /// A list of operations with a start alone, which no node has yet. Contracts see it as the name of the node that it is
-/// for, and the log.
+/// for, and its kind: of which log it is, and whether it is guarded.
 #[derive(Drop)]
 pub struct NewList {
-    config: Config,
+    kind: NodeKind,
     counter: Counter,
     prefix: Prefix,
 }
@@ -208,40 +215,63 @@ pub struct NewList {
 impl Model for NewList {
     ghost use Rattle.std.specs.Prelude.{◌≡◌, ◌∷◌, []};
     ghost use Rattle.logbook.specs.Pages.{Book};
-    ghost use Rattle.hk_types.specs.Values.{ConfigValue};
+    ghost use Rattle.hk_node.specs.declared.op.NodeKind.{NodeKind};
     ghost use Rattle.hk_node.specs.declared.op.Op.TheVariants.{Start as StartOf};
 
-    ghost Value = { Book × ConfigValue };
+    ghost Value = { Book × NodeKind };
 
-    ghost view = { λ l. (l.prefix.0, l.config) };
+    ghost view = { λ l. (l.prefix.0, l.kind) };
 
-    ghost invariant = { λ l. (l.prefix.1 ≡ StartOf l.config ∷ []) × (l.counter.word.book ≡ l.prefix.0) };
+    ghost invariant = { λ l. (l.prefix.1 ≡ StartOf l.kind ∷ []) × (l.counter.word.book ≡ l.prefix.0) };
 }
 
 impl NewList {
-    /// The list of a new node of this log.
+    /// The list of a new node of this log, which is not guarded: a join or merge that conflicts with what it holds
+    /// damages it.
     pub fn new(config: Config) -> NewList
-        ensures { result.1 ≡ config }
+        ensures log { result.1.config ≡ config }
+        ensures open { result.1.guarded ≡ false }
     {
-        let (counter, prefix) = open(config);
-        NewList {
+        NewList::of(NodeKind {
             config,
+            guarded: false,
+        })
+    }
+
+    /// The list of a new guarded node of this log: a join or merge that conflicts with what it holds is refused, and
+    /// nothing changes, so that the node is never damaged.
+    pub fn guarded(config: Config) -> NewList
+        ensures log { result.1.config ≡ config }
+        ensures guarded { result.1.guarded ≡ true }
+    {
+        NewList::of(NodeKind {
+            config,
+            guarded: true,
+        })
+    }
+
+    fn of(kind: NodeKind) -> NewList
+        ensures { result.1 ≡ kind }
+    {
+        let (counter, prefix) = open(kind.again());
+        NewList {
+            kind,
             counter,
             prefix,
         }
     }
 
     /// Its parts.
-    pub(crate) fn into_parts(self) -> (Config, Counter, Prefix)
-        ensures config { result.0 ≡ self.1 }
+    pub(crate) fn into_parts(self) -> (NodeKind, Counter, Prefix)
+        ensures kind { result.0 ≡ self.1 }
         ensures counter { result.1.word.book ≡ self.0 }
         ensures prefix { result.2 ≡ (self.0, StartOf self.1 ∷ []) }
     {
         let NewList {
-            config,
+            kind,
             counter,
             prefix,
         } = self;
-        (config, counter, prefix)
+        (kind, counter, prefix)
     }
 }

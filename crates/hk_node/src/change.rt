@@ -1,11 +1,11 @@
 //! How a change runs.
 
-ghost use Rattle.std.specs.Prelude.{◌≡◌, ◌≤◌, Some, true, length, IfOk, IfErr};
+ghost use Rattle.std.specs.Prelude.{◌≡◌, ◌≤◌, [], None, Some, true, length, IfOk, IfErr};
 ghost use Rattle.hk_model.specs.Replica.Fragments.{cut};
 ghost use Rattle.hk_node.specs.declared.op.Op.TheVariants.{Hold as HoldAt, Merge as MergeOf, Prune as PruneTo, Release};
-ghost use Rattle.hk_node.specs.Changes.{all_of, Changes, HoldsAt, IsGiven, IsHandedBack, IsHandedOut, Prunes, Publishes, Refuses, ReleasesHold};
+ghost use Rattle.hk_node.specs.Changes.{all_of, AddsTo, Changes, HoldsAt, IsGiven, IsHandedBack, IsHandedOut, Prunes, Publishes, Refuses, ReleasesHold};
 ghost use Rattle.hk_node.specs.Lists.{last_of};
-ghost use Rattle.hk_node.specs.Replay.{is_legal, replay, IsListOf};
+ghost use Rattle.hk_node.specs.Replay.{is_legal, refusal_of, replay, IsListOf};
 
 use crate::book::NodeName;
 use crate::op::{Hold, Op};
@@ -19,18 +19,16 @@ use std::sync::Wait;
 ///
 /// What waits is published first; where that is refused, it is `Memory` and nothing changed: at no other time does
 /// `Memory` come before the tests, and at most one operation waits. Then the operation is
-/// tested after all others, and its refusal answered. Then it is added and published: `Memory` where it could not be
-/// added; `Unpublished` with its number where it could not be published, and then it waits, and the next publish shows
-/// it; `Conflict` where it met a conflict, which damages the node for good. Cost: that of the operation, and of what
-/// waits.
-#[tactic(auto, using(crate::proofs::LegalLists::last_snoc))]
+/// tested after all others, and its refusal answered: in a guarded node also `Conflict`, where it conflicts with what the
+/// node holds. Then it is added and published, as `add` does: `Memory`, `Unpublished`, and `Conflict` of a node that is
+/// not guarded. Cost: that of the tests, of the operation, and of what waits.
 pub fn change<J: NodeName, R: Wait + Drop>(
     publisher: &mut Publisher<J, R>,
     op: Op,
 ) -> Result<Receipt<J>, Refusal>
     ensures change { Changes publisher.old op result publisher.new }
     ensures few { length publisher.new.1 ≤ 1 }
-    ensures before { IsListOf J.config (all_of publisher.old) }
+    ensures before { IsListOf J.kind (all_of publisher.old) }
     ensures legal { IfOk result (λ list. is_legal list ≡ true) }
     ensures last { IfOk result (λ list. last_of list ≡ Some op) }
 {
@@ -40,6 +38,25 @@ pub fn change<J: NodeName, R: Wait + Drop>(
     if let Some(why) = publisher.refusal(&op) {
         return Err(why);
     }
+    add(publisher, op)
+}
+
+/// Adds an operation that is not refused behind the published list, where nothing waits, and publishes it: `Memory` where
+/// it could not be added; `Unpublished` with its number where it could not be published, and then it waits, and the next
+/// publish shows it; `Conflict` where it met a conflict, which damages the node for good: a guarded node refuses such an
+/// operation before. Cost: that of the operation.
+#[tactic(auto, using(crate::proofs::LegalLists::last_snoc))]
+pub(crate) fn add<J: NodeName, R: Wait + Drop>(
+    publisher: &mut Publisher<J, R>,
+    op: Op,
+) -> Result<Receipt<J>, Refusal>
+    requires none { publisher.old.1 ≡ [] }
+    requires legal { refusal_of (replay publisher.old.0) op ≡ None }
+    ensures adds { AddsTo publisher.old.0 op result publisher.new }
+    ensures few { length publisher.new.1 ≤ 1 }
+    ensures legal { IfOk result (λ list. is_legal list ≡ true) }
+    ensures last { IfOk result (λ list. last_of list ≡ Some op) }
+{
     let Some(prefix) = publisher.extended(&op) else {
         return Err(Refusal::Memory);
     };
@@ -60,7 +77,7 @@ pub fn publish_waiting<J: NodeName, R: Wait + Drop>(
     publisher: &mut Publisher<J, R>,
 ) -> Result<Receipt<J>, Refusal>
     ensures publish { Publishes publisher.old result publisher.new }
-    ensures before { IsListOf J.config (all_of publisher.old) }
+    ensures before { IsListOf J.kind (all_of publisher.old) }
     ensures legal { IfOk result (λ list. is_legal list ≡ true) }
 {
     match publisher.publish() {
@@ -78,7 +95,7 @@ pub fn merge_whole<J: NodeName, R: Wait + Drop>(
 ) -> Result<Receipt<J>, Refusal>
     requires whole { IfOk whole (λ fragment. fragment ≡ cut state.now 0) }
     ensures change { Changes publisher.old (MergeOf (cut state.now 0)) result publisher.new }
-    ensures before { IsListOf J.config (all_of publisher.old) }
+    ensures before { IsListOf J.kind (all_of publisher.old) }
     ensures legal { IfOk result (λ list. is_legal list ≡ true) }
     ensures last { IfOk result (λ list. last_of list ≡ Some (MergeOf (cut state.now 0))) }
 {
@@ -94,12 +111,12 @@ fn refusal_of_merge<J: NodeName, R: Wait + Drop>(
     state: &ReplicaState,
 ) -> Refusal
     ensures refuses { Refuses publisher.old (MergeOf (cut state.now 0)) result publisher.new }
-    ensures before { IsListOf J.config (all_of publisher.old) }
+    ensures before { IsListOf J.kind (all_of publisher.old) }
 {
     if publisher.publish().is_err() {
         return Refusal::Memory;
     }
-    match publisher.join_refusal(state.config(), Time::zero(), state.horizon()) {
+    match publisher.merge_refusal(state) {
         Some(why) => why,
         None => Refusal::Memory,
     }
@@ -112,7 +129,7 @@ pub fn prune_to<J: NodeName, R: Wait + Drop>(
     time: Time,
 ) -> Result<(Time, Receipt<J>), Refusal>
     ensures change { Prunes publisher.old time result publisher.new }
-    ensures before { IsListOf J.config (all_of publisher.old) }
+    ensures before { IsListOf J.kind (all_of publisher.old) }
     ensures legal { IfOk result (λ t. is_legal t.1 ≡ true) }
     ensures last { IfOk result (λ t. last_of t.1 ≡ Some (PruneTo time)) }
     ensures horizon { IfOk result (λ t. t.0 ≡ (replay t.1).content.horizon) }
@@ -129,7 +146,7 @@ pub fn hold_at<J: NodeName, R: Wait + Drop>(
     time: Time,
 ) -> Result<(Hold, Receipt<J>), (Option<Hold>, Refusal)>
     ensures change { HoldsAt publisher.old time result publisher.new }
-    ensures before { IsListOf J.config (all_of publisher.old) }
+    ensures before { IsListOf J.kind (all_of publisher.old) }
     ensures legal { IfOk result (λ t. is_legal t.1 ≡ true) }
     ensures last { IfOk result (λ t. last_of t.1 ≡ Some (HoldAt time)) }
     ensures hold { IfOk result (λ t. IsGiven t.0 time t.1) }
@@ -158,7 +175,7 @@ pub fn release_hold<J: NodeName, R: Wait + Drop>(
     hold: Hold,
 ) -> Result<Receipt<J>, (Option<Hold>, Refusal)>
     ensures change { ReleasesHold publisher.old hold result publisher.new }
-    ensures before { IsListOf J.config (all_of publisher.old) }
+    ensures before { IsListOf J.kind (all_of publisher.old) }
     ensures legal { IfOk result (λ list. is_legal list ≡ true) }
     ensures last { IfOk result (λ list. last_of list ≡ Some (Release hold.reader hold.at)) }
     ensures back { IfErr result (λ e. IsHandedBack hold e.0 e.1) }

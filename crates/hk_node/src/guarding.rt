@@ -1,59 +1,40 @@
-//! Changes that are tested under the writer's lock before they are added, so that none damages the node.
+//! Items that are taken all or nothing, tested under the writer's lock before their join is added.
 
-ghost use Rattle.std.specs.Prelude.{◌≡◌, ◌≤◌, Some, true, length, IfOk};
-ghost use Rattle.hk_node.specs.declared.op.Op.TheVariants.{Join as JoinOf};
+ghost use Rattle.std.specs.Prelude.{◌≡◌, ◌≤◌, true, length, IfOk};
 ghost use Rattle.hk_node.specs.Changes.{all_of};
-ghost use Rattle.hk_node.specs.Guarded.{JoinsAgreed, TakesItems};
-ghost use Rattle.hk_node.specs.Lists.{last_of};
+ghost use Rattle.hk_node.specs.Guarded.{TakesItems};
 ghost use Rattle.hk_node.specs.Replay.{is_legal, IsListOf};
 ghost use Rattle.hk_node.specs.Taken.{TakeLaw};
 
 use crate::book::NodeName;
-use crate::change::change;
+use crate::change::add;
 use crate::op::Op;
 use crate::publisher::{Publisher, Receipt};
-use hk_delta::Fragment;
 use hk_log::Item;
 use hk_types::Refusal;
 use std::alloc::Global;
 use std::sync::Wait;
 
-/// A join at what lies under the writer's lock, tested for a conflict on the published copy, once what waited is
-/// published, and then run as `change`. Cost: that of `change`, and of the test.
-pub fn join_agreed<J: NodeName, R: Wait + Drop>(
-    publisher: &mut Publisher<J, R>,
-    fragment: Fragment,
-) -> Result<Receipt<J>, Refusal>
-    ensures join { JoinsAgreed publisher.old fragment result publisher.new }
-    ensures before { IsListOf J.config (all_of publisher.old) }
-    ensures legal { IfOk result (λ list. is_legal list ≡ true) }
-    ensures last { IfOk result (λ list. last_of list ≡ Some (JoinOf fragment)) }
-{
-    let Ok(()) = publisher.publish() else {
-        return Err(Refusal::Memory);
-    };
-    if let Some(why) = publisher.agreed_refusal(&fragment) {
-        return Err(why);
-    }
-    change(publisher, Op::Join(fragment))
-}
-
 /// A taking of items at what lies under the writer's lock: they are absorbed in turn beside the published copy, once what
-/// waited is published, and what is new runs as `change`. Cost: that of `change`, and of `agreed`.
+/// waited is published, and the join of what is new is added. What is new conflicts with nothing, so it is not tested
+/// once more. Cost: that of the join, and of `agreed`.
 pub fn take_agreed<J: NodeName, R: Wait + Drop>(
     publisher: &mut Publisher<J, R>,
     alloc: Global,
     items: &[Item],
 ) -> Result<Receipt<J>, Refusal>
     ensures take { TakesItems publisher.old items.now result publisher.new }
-    ensures before { IsListOf J.config (all_of publisher.old) }
+    ensures before { IsListOf J.kind (all_of publisher.old) }
     ensures legal { IfOk result (λ list. is_legal list ≡ true) }
 {
     let Ok(()) = publisher.publish() else {
         return Err(Refusal::Memory);
     };
     match publisher.agreed(alloc, items) {
-        Ok(fragment) => change(publisher, Op::Join(fragment)),
+        Ok(fragment) => match publisher.full_refusal() {
+            Some(why) => Err(why),
+            None => add(publisher, Op::Join(fragment)),
+        },
         Err(why) => Err(why),
     }
 }

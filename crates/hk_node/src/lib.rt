@@ -16,6 +16,6 @@ pub use body::next_op;
 pub use book::{NewList, NodeName};
 pub use hk_types::LAST_OP;
 pub use node::{Node, start};
-pub use op::{Hold, Op};
+pub use op::{Hold, NodeKind, Op};
 pub use publisher::{Publisher, Receipt};
 pub use seat::ReaderSeat;

@@ -3,7 +3,7 @@
 ghost use Rattle.std.specs.Prelude.{◌≡◌, ◌∷◌, [], ◌<◌, ◌≤◌, List, All, Some, true, length, IfOk, IfErr, vec_len};
 ghost use Rattle.hk_types.specs.declared.faults.Refusal.TheVariants.{Memory};
 ghost use Rattle.hk_node.specs.Changes.{ChangesSome, HoldsSome, IsGiven, IsHandedBack, PrunesSome, PublishesSome, ReleasesSome};
-ghost use Rattle.hk_node.specs.Guarded.{JoinsAgreedSome, TakesSome};
+ghost use Rattle.hk_node.specs.Guarded.{TakesSome};
 ghost use Rattle.hk_model.specs.Replica.Fragments.{cut};
 ghost use Rattle.hk_node.specs.declared.op.Op.TheVariants.{Start as StartOf, Join as JoinOf, Merge as MergeOf, Prune as PruneTo, Hold as HoldAt, Release};
 ghost use Rattle.hk_node.specs.Lists.{last_of};
@@ -11,7 +11,7 @@ ghost use Rattle.hk_node.specs.Replay.{is_legal, replay};
 
 use crate::book::{NewList, NodeName};
 use crate::change::{change, hold_at, merge_whole, prune_to, publish_waiting, release_hold};
-use crate::guarding::{join_agreed, take_agreed};
+use crate::guarding::take_agreed;
 use crate::op::{Hold, Op};
 use crate::publisher::{Publisher, Receipt, copies_of};
 use crate::seat::{ReaderSeat, seats_of};
@@ -24,24 +24,24 @@ use std::sync::{Mutex, Wait};
 
 /// Starts a node with so many places for readers, 1 to 64, and gives a seat for each. Its list has the start alone.
 ///
-/// The list is a new one, which names the node: `J` is this name, with the log that the node is of, by which a receipt of
-/// another node is none of this one's. The only refusal is `Memory`. Cost: O(s + p²), s streams, p places.
+/// The list is a new one, which names the node, and says of which log it is and whether it is guarded: `J` is this name
+/// with both, by which a receipt of another node is none of this one's. The only refusal is `Memory`. Cost: O(s + p²), s streams, p places.
 pub fn start<J: NodeName, R: Wait + Drop>(
     rt: R,
     alloc: Global,
     list: NewList,
     places: usize,
 ) -> Result<(Node<J, R>, Vec<ReaderSeat<J>>), Refusal>
-    requires name { list ≡ (J.book, J.config) }
+    requires name { list ≡ (J.book, J.kind) }
     requires places { (0 < places) × (places ≤ 64) }
     ensures places { IfOk result (λ t. vec_len t.1 ≡ places) }
     ensures seats { IfOk result (λ t. All (λ seat. seat ≡ StartOf list.1 ∷ []) t.1.items) }
     ensures err { IfErr result (λ why. why ≡ Memory) }
 {
-    let (config, counter, prefix) = list.into_parts();
-    let mut copies = copies_of(rt, alloc, config, &prefix, places)?;
+    let (kind, counter, prefix) = list.into_parts();
+    let mut copies = copies_of(rt, alloc, kind.again(), &prefix, places)?;
     let seats = seats_of::<J>(&mut copies.writer, &prefix, alloc, places)?;
-    let publisher = Publisher::new(copies, counter, config);
+    let publisher = Publisher::new(copies, counter, kind);
     let node = Node {
         publisher: Mutex::new(publisher),
         alloc,
@@ -55,8 +55,14 @@ pub fn start<J: NodeName, R: Wait + Drop>(
 /// Each change first publishes what waits; where that is refused it answers `Memory` before every other test, and
 /// nothing changed. Then its refusals come in the order in which the call lists them. `Unpublished` says that the
 /// change stands as the operation with that number and waits: readers see it once a later change or `publish` could
-/// publish it. At most one operation waits. After every other refusal but `Conflict` the list of operations is as
-/// before.
+/// publish it. At most one operation waits. After every other refusal the list of operations is as before, but after
+/// `Conflict` of a node that is not guarded.
+///
+/// A guarded node (`NewList::guarded`) is never damaged: it refuses `Conflict` each change that contradicts what it holds,
+/// and nothing changed. Of items that is what an absorb would refuse so: an item that contradicts the state, an item
+/// before it, or the closed time of its stream. Of a fragment or a state it is that two facts of one version differ, and
+/// nothing else: a late row or a late end in a fragment, and a horizon or a mark beyond what is true, are joined; an entry
+/// whose number is taken is passed over, whatever it has.
 ///
 /// Cost: each call says its own, beside O(p), p places for readers. A change is made on one copy at once, and on the
 /// other one by the next change, which pays for both.
@@ -70,38 +76,24 @@ impl<J: NodeName, R: Wait + Drop> Node<J, R> {
     /// Joins a fragment.
     ///
     /// Refusals in order: `Damaged`; `ForeignLog`, `WrongStreams` and `Gap` as the join of a fragment into a state;
-    /// `Held` with the hold of the least time, and of the least number there, that the horizon would pass; `NodeFull`;
-    /// `Memory`; `Unpublished`; `Conflict` where fragment and state conflict with each other, which damages the node
-    /// for good. The fragment is dropped with a refusal: who would try again keeps a copy. Cost: that of joining a
-    /// fragment into a state, and O(h), h holds that stand.
+    /// `Held` with the hold of the least time, and of the least number there, that the horizon would pass; in a guarded
+    /// node `Conflict` where fragment and state conflict with each other, and nothing changed; `NodeFull`; `Memory`;
+    /// `Unpublished`; in another node `Conflict` where they conflict, which damages it for good. The fragment is dropped
+    /// with a refusal: who would try again keeps a copy. Cost: that of joining a fragment into a state, and O(h), h holds
+    /// that stand; in a guarded node also O(c · log n + b) for the test under the lock, c versions of the fragment, n facts
+    /// of the state, b bytes of bodies compared.
     pub fn join<W: Wait>(&self, rt: &W, fragment: Fragment) -> Result<Receipt<J>, Refusal>
         ensures legal { IfOk result (λ list. is_legal list ≡ true) }
-        ensures change { ChangesSome J.config (JoinOf fragment) result }
+        ensures change { ChangesSome J.kind (JoinOf fragment) result }
         ensures last { IfOk result (λ list. last_of list ≡ Some (JoinOf fragment)) }
     {
         let mut publisher = self.publisher.lock(rt);
         change(&mut *publisher, Op::Join(fragment))
     }
 
-    /// Joins a fragment, unless it conflicts with the state, which is tested before its operation is added: the node is
-    /// damaged after the call only where it was before.
-    ///
-    /// Refusals in order: `Damaged`; `ForeignLog`, `WrongStreams`, `Gap` and `Held` as `join`; `Conflict` where fragment and
-    /// state conflict with each other, and nothing changed; `NodeFull`; `Memory`; `Unpublished`. The fragment is dropped
-    /// with a refusal. Cost: that of `join`, and O(c · log n + b) for the test under the lock, c versions of the fragment,
-    /// n facts of the state, b bytes of bodies compared.
-    pub fn join_if_agreed<W: Wait>(&self, rt: &W, fragment: Fragment) -> Result<Receipt<J>, Refusal>
-        ensures legal { IfOk result (λ list. is_legal list ≡ true) }
-        ensures join { JoinsAgreedSome J.config fragment result }
-        ensures last { IfOk result (λ list. last_of list ≡ Some (JoinOf fragment)) }
-    {
-        let mut publisher = self.publisher.lock(rt);
-        join_agreed(&mut *publisher, fragment)
-    }
-
     /// Takes items, all or nothing: the node holds then what absorbing them one after the other gives, by one join of those
-    /// that tell something new. They are tested before that join is added: the node is damaged after the call only where it
-    /// was before.
+    /// that tell something new. They are tested before that join is added, in every node: it is damaged after the call only
+    /// where it was before, and `Conflict` changed nothing.
     ///
     /// Refusals in order: `Damaged`; the refusal of the first item that an absorb would refuse, as `ForeignLog`,
     /// `WrongStreams`, or `Conflict` with the state, with an item before it, or with the closed time of its stream;
@@ -109,17 +101,18 @@ impl<J: NodeName, R: Wait + Drop> Node<J, R> {
     /// `Unpublished`. Cost: that of `join` of what is new, and that of `hk_delta::agreed` under the lock.
     pub fn take<W: Wait>(&self, rt: &W, items: &[Item]) -> Result<Receipt<J>, Refusal>
         ensures legal { IfOk result (λ list. is_legal list ≡ true) }
-        ensures take { TakesSome J.config items.now result }
+        ensures take { TakesSome J.kind items.now result }
     {
         let mut publisher = self.publisher.lock(rt);
         take_agreed(&mut *publisher, self.alloc, items)
     }
 
     /// Merges a state, as the join of the whole of it, with the refusals of `join`. The whole is copied before the lock
-    /// is taken. Cost: that of the whole of the state, and of `join`.
+    /// is taken; where there is no memory for it, `Memory` comes after the tests all the same. Cost: that of the whole of
+    /// the state, and of `join`.
     pub fn merge<W: Wait>(&self, rt: &W, state: &ReplicaState) -> Result<Receipt<J>, Refusal>
         ensures legal { IfOk result (λ list. is_legal list ≡ true) }
-        ensures change { ChangesSome J.config (MergeOf (cut state.now 0)) result }
+        ensures change { ChangesSome J.kind (MergeOf (cut state.now 0)) result }
         ensures last { IfOk result (λ list. last_of list ≡ Some (MergeOf (cut state.now 0))) }
     {
         let whole = whole_of(self.alloc, state);
@@ -135,7 +128,7 @@ impl<J: NodeName, R: Wait + Drop> Node<J, R> {
     /// front of a seat that learnt it has the horizon. Cost: that of pruning a state, and O(h), h holds that stand.
     pub fn prune<W: Wait>(&self, rt: &W, time: Time) -> Result<(Time, Receipt<J>), Refusal>
         ensures legal { IfOk result (λ t. is_legal t.1 ≡ true) }
-        ensures change { PrunesSome J.config time result }
+        ensures change { PrunesSome J.kind time result }
         ensures last { IfOk result (λ t. last_of t.1 ≡ Some (PruneTo time)) }
         ensures horizon { IfOk result (λ t. t.0 ≡ (replay t.1).content.horizon) }
     {
@@ -154,7 +147,7 @@ impl<J: NodeName, R: Wait + Drop> Node<J, R> {
         time: Time,
     ) -> Result<(Hold, Receipt<J>), (Option<Hold>, Refusal)>
         ensures legal { IfOk result (λ t. is_legal t.1 ≡ true) }
-        ensures change { HoldsSome J.config time result }
+        ensures change { HoldsSome J.kind time result }
         ensures last { IfOk result (λ t. last_of t.1 ≡ Some (HoldAt time)) }
         ensures hold { IfOk result (λ t. IsGiven t.0 time t.1) }
     {
@@ -172,7 +165,7 @@ impl<J: NodeName, R: Wait + Drop> Node<J, R> {
         hold: Hold,
     ) -> Result<Receipt<J>, (Option<Hold>, Refusal)>
         ensures legal { IfOk result (λ list. is_legal list ≡ true) }
-        ensures change { ReleasesSome J.config hold result }
+        ensures change { ReleasesSome J.kind hold result }
         ensures last { IfOk result (λ list. last_of list ≡ Some (Release hold.reader hold.at)) }
         ensures back { IfErr result (λ e. IsHandedBack hold e.0 e.1) }
     {
@@ -184,7 +177,7 @@ impl<J: NodeName, R: Wait + Drop> Node<J, R> {
     /// something waits, and then it still waits. It answers in a damaged node too. Cost: that of the operation that waits.
     pub fn publish<W: Wait>(&self, rt: &W) -> Result<Receipt<J>, Refusal>
         ensures legal { IfOk result (λ list. is_legal list ≡ true) }
-        ensures publish { PublishesSome J.config result }
+        ensures publish { PublishesSome J.kind result }
         ensures err { IfErr result (λ why. why ≡ Memory) }
     {
         let mut publisher = self.publisher.lock(rt);

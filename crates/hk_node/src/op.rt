@@ -1,5 +1,7 @@
 //! The operations of a node.
 
+ghost use Rattle.std.specs.Prelude.{◌≡◌};
+
 use hk_delta::Fragment;
 use hk_types::{Config, Time};
 
@@ -13,11 +15,31 @@ pub struct Hold {
     pub at: Time,
 }
 
+/// What a node is from its start on: the log that it is of, and whether it is guarded.
+#[derive(Clone, Copy, Debug, PartialEq, Eq)]
+pub struct NodeKind {
+    /// The log.
+    pub config: Config,
+    /// Whether a join or merge that conflicts with what the node holds is refused, instead of damaging the node.
+    pub guarded: bool,
+}
+
+impl NodeKind {
+    pub(crate) fn again(&self) -> NodeKind
+        ensures { result ≡ self.now }
+    {
+        NodeKind {
+            config: self.config,
+            guarded: self.guarded,
+        }
+    }
+}
+
 /// One operation of a node.
 #[derive(Drop)]
 pub enum Op {
-    /// The start of a node of this log. It is the first operation of each list, and no other.
-    Start(Config),
+    /// The start of such a node. It is the first operation of each list, and no other.
+    Start(NodeKind),
     /// A join of a fragment.
     Join(Fragment),
     /// A merge of a state, as the join of the whole of it.

@@ -4,18 +4,20 @@ ghost use Rattle.std.specs.Prelude.{◌≡◌, ◌++◌, ◌∷◌, [], fold, le
 ghost use Rattle.left_right.specs.Sides.{view as known};
 ghost use Rattle.hk_node.specs.declared.op.Op.TheVariants.{Start as StartOf};
 ghost use Rattle.hk_types.specs.declared.faults.Refusal.TheVariants.{Memory};
-ghost use Rattle.hk_node.specs.Replay.{config_of, start_content, is_legal, join_refusal, refusal_of, replay, IsListOf};
-ghost use Rattle.hk_node.specs.Guarded.{AgreesWith, agreed_refusal};
+ghost use Rattle.hk_model.specs.Replica.Fragments.{cut};
+ghost use Rattle.hk_node.specs.Replay.{full_refusal, join_refused, kind_of, start_content, is_legal, refusal_of, replay, IsListOf};
+ghost use Rattle.hk_node.specs.Guarded.{AgreesWith};
 ghost use Rattle.hk_node.specs.Published.{IsEmptied, IsReady, IsReplay, IsShown, ShowsAll, next, pending, shown, waiting};
 
 use crate::book::{Counter, NodeName, Prefix};
-use crate::op::Op;
+use crate::op::{NodeKind, Op};
 use crate::replica::{Logged, Replica};
 use core::mem::replace_with;
 use crossbeam_utils::rule::{Outcome, Protocol};
 use hk_delta::Fragment;
 use hk_log::Item;
-use hk_types::{Config, Refusal, Time};
+use hk_state::ReplicaState;
+use hk_types::{Refusal, Time};
 use left_right::reader::{Reader, Reading};
 use left_right::writer::Writer;
 use std::alloc::{AllocError, Global};
@@ -95,7 +97,7 @@ impl<R: Wait + Drop> Drop for Copies<R> {
 
 /// Makes the log's room, by an operation that changes nothing. No more than two are in it at a time, so later ones
 /// find it.
-fn make_room(writer: &mut NodeWriter, config: Config) -> bool
+fn make_room(writer: &mut NodeWriter, kind: NodeKind) -> bool
     requires none { pending writer.old ≡ [] }
     requires replayed { IsReplay (shown writer.old) }
     ensures desk { writer.new.desk ≡ writer.old.desk }
@@ -104,7 +106,7 @@ fn make_room(writer: &mut NodeWriter, config: Config) -> bool
 {
     let prefix = writer.published().prefix.again();
     let blank = Logged {
-        op: Op::Start(config),
+        op: Op::Start(kind),
         prefix,
     };
     writer.append(blank).is_ok()
@@ -114,21 +116,21 @@ fn make_room(writer: &mut NodeWriter, config: Config) -> bool
 pub(crate) fn copies_of<R: Wait + Drop>(
     rt: R,
     alloc: Global,
-    config: Config,
+    kind: NodeKind,
     prefix: &Prefix,
     places: usize,
 ) -> Result<Copies<R>, Refusal>
-    requires list { prefix.now.1 ≡ StartOf config ∷ [] }
+    requires list { prefix.now.1 ≡ StartOf kind ∷ [] }
     requires places { (0 < places) × (places ≤ 64) }
-    ensures shown { IfOk result (λ c. shown c.writer ≡ record { body = start_content config; prefix = prefix.now }) }
+    ensures shown { IfOk result (λ c. shown c.writer ≡ record { body = start_content kind; prefix = prefix.now }) }
     ensures none { IfOk result (λ c. pending c.writer ≡ []) }
     ensures view { IfOk result (λ c. known c.writer.desk.place ≡ prefix.now) }
     ensures err { IfErr result (λ why. why ≡ Memory) }
 {
-    let one = Replica::new(alloc, config, prefix.again())?;
-    let other = Replica::new(alloc, config, prefix.again())?;
+    let one = Replica::new(alloc, kind.again(), prefix.again())?;
+    let other = Replica::new(alloc, kind.again(), prefix.again())?;
     let mut writer: NodeWriter = Writer::new(alloc, one, other, places)?;
-    if !make_room(&mut writer, config) {
+    if !make_room(&mut writer, kind.again()) {
         drop(Copies { writer, rt });
         return Err(Refusal::Memory);
     }
@@ -149,7 +151,7 @@ pub struct Receipt<J: NodeName> {
 impl<J: NodeName> Model for Receipt<J> {
     ghost use Rattle.std.specs.Prelude.{◌≡◌, List};
     ghost use Rattle.hk_node.specs.declared.op.Op.{Op};
-    ghost use Rattle.hk_node.specs.Replay.{config_of};
+    ghost use Rattle.hk_node.specs.Replay.{kind_of};
     ghost use Rattle.std.specs.Coded.{coded_list};
     ghost use Rattle.hk_node.specs.contracts.op.Op as op;
 
@@ -159,14 +161,14 @@ impl<J: NodeName> Model for Receipt<J> {
 
     ghost view = { λ r. r.prefix.1 };
 
-    ghost invariant = { λ r. (r.prefix.0 ≡ J.book) × (config_of r.prefix.1 ≡ J.config) };
+    ghost invariant = { λ r. (r.prefix.0 ≡ J.book) × (kind_of r.prefix.1 ≡ J.kind) };
 }
 
 impl<J: NodeName> Receipt<J> {
     pub(crate) fn into_prefix(self) -> Prefix
         ensures list { result.1 ≡ self }
         ensures node { result.0 ≡ J.book }
-        ensures config { config_of result.1 ≡ J.config }
+        ensures kind { kind_of result.1 ≡ J.kind }
     {
         let Receipt { prefix, of: _ } = self;
         prefix
@@ -175,7 +177,7 @@ impl<J: NodeName> Receipt<J> {
     /// The number of its operations. It takes no memory.
     pub fn ops(&self) -> u64
         ensures length { result ≡ length self.now }
-        ensures legal { IsListOf J.config self.now }
+        ensures legal { IsListOf J.kind self.now }
     {
         self.prefix.len()
     }
@@ -204,18 +206,18 @@ impl<J: NodeName, R: Wait + Drop> Model for Publisher<J, R> {
 
     ghost view = { λ d. ((shown d.copies.writer).prefix.1, ops_of (waiting d.copies.writer d.late)) };
 
-    ghost invariant = { λ d. IsPublisher J.book J.config d.counter.word.book (shown d.copies.writer) (waiting d.copies.writer d.late) };
+    ghost invariant = { λ d. IsPublisher J.book J.kind d.counter.word.book (shown d.copies.writer) (waiting d.copies.writer d.late) };
 }
 
 impl<J: NodeName, R: Wait + Drop> Publisher<J, R> {
     /// What lies under the lock of a new node.
-    pub(crate) fn new(copies: Copies<R>, counter: Counter, config: Config) -> Publisher<J, R>
-        requires config { config ≡ J.config }
-        requires list { (shown copies.writer).prefix.1 ≡ StartOf config ∷ [] }
-        requires body { (shown copies.writer).body ≡ start_content config }
+    pub(crate) fn new(copies: Copies<R>, counter: Counter, kind: NodeKind) -> Publisher<J, R>
+        requires kind { kind ≡ J.kind }
+        requires list { (shown copies.writer).prefix.1 ≡ StartOf kind ∷ [] }
+        requires body { (shown copies.writer).body ≡ start_content kind }
         requires book { ((shown copies.writer).prefix.0 ≡ J.book) × (counter.word.book ≡ J.book) }
         requires none { pending copies.writer ≡ [] }
-        ensures { result ≡ (StartOf config ∷ [], []) }
+        ensures { result ≡ (StartOf kind ∷ [], []) }
     {
         Publisher {
             copies,
@@ -231,7 +233,7 @@ impl<J: NodeName, R: Wait + Drop> Publisher<J, R> {
             (λ _. self.new ≡ self.old) }
         ensures waits { OnErr result (0 < length self.old.1) }
         ensures few { length self.old.1 ≤ 1 }
-        ensures legal { IsListOf J.config (self.old.0 ++ self.old.1) }
+        ensures legal { IsListOf J.kind (self.old.0 ++ self.old.1) }
     {
         publish_all(&mut self.copies.writer, &mut self.late, &self.copies.rt)
     }
@@ -240,7 +242,7 @@ impl<J: NodeName, R: Wait + Drop> Publisher<J, R> {
     fn published(&self) -> &Replica
         ensures body { result.now.body ≡ replay self.now.0 }
         ensures prefix { result.now.prefix ≡ (J.book, self.now.0) }
-        ensures legal { IsListOf J.config self.now.0 }
+        ensures legal { IsListOf J.kind self.now.0 }
     {
         self.copies.writer.published()
     }
@@ -248,7 +250,7 @@ impl<J: NodeName, R: Wait + Drop> Publisher<J, R> {
     /// A receipt of the published list.
     pub fn receipt(&self) -> Receipt<J>
         ensures list { result ≡ self.now.0 }
-        ensures legal { IsListOf J.config result }
+        ensures legal { IsListOf J.kind result }
     {
         let prefix = self.published().prefix.again();
         Receipt {
@@ -281,27 +283,25 @@ impl<J: NodeName, R: Wait + Drop> Publisher<J, R> {
     }
 
     /// Why an operation is refused after the published list, if it is. Cost: O(s + h), s streams, h holds that
-    /// stand.
+    /// stand, and in a guarded node that of the test of a fragment for a conflict.
     pub fn refusal(&self, op: &Op) -> Option<Refusal>
         ensures { result ≡ refusal_of (replay self.now.0) op.now }
     {
         self.published().body.refusal(op)
     }
 
-    /// Why a fragment of this log, this base and this horizon is not joined after the published list, if it is not.
-    /// Cost: O(s + h), s streams, h holds that stand.
-    pub fn join_refusal(&self, config: Config, base: Time, horizon: Time) -> Option<Refusal>
-        ensures { result ≡ join_refusal (replay self.now.0) config.log config.streams base horizon }
+    /// Why the whole of a state is not joined after the published list, if it is not. Cost: as `refusal`.
+    pub fn merge_refusal(&self, state: &ReplicaState) -> Option<Refusal>
+        ensures { result ≡ join_refused (replay self.now.0) (cut state.now 0) }
     {
-        self.published().body.join_refusal(config, base, horizon)
+        self.published().body.merge_refusal(state)
     }
 
-    /// Why a fragment is not joined after the published list, where a conflict is a refusal too. Cost: O(s + h) and that
-    /// of the test for a conflict, s streams, h holds that stand.
-    pub fn agreed_refusal(&self, fragment: &Fragment) -> Option<Refusal>
-        ensures { result ≡ agreed_refusal (replay self.now.0) fragment.now }
+    /// `NodeFull` where the published list has no room for one operation more. Cost: O(1).
+    pub fn full_refusal(&self) -> Option<Refusal>
+        ensures { result ≡ full_refusal (replay self.now.0) }
     {
-        self.published().body.agreed_refusal(fragment)
+        self.published().body.full_refusal()
     }
 
     /// The fragment of what items tell that is new after the published list, where they agree with it and with each

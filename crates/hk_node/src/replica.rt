@@ -6,8 +6,8 @@ ghost use Rattle.hk_node.specs.Replay.{start_content, refusal_of, replay};
 
 use crate::body::Body;
 use crate::book::{Counter, Prefix};
-use crate::op::Op;
-use hk_types::{Config, Refusal};
+use crate::op::{NodeKind, Op};
+use hk_types::Refusal;
 use left_right::Absorb;
 use std::alloc::{AllocError, Global};
 
@@ -19,13 +19,13 @@ pub struct Replica {
 }
 
 impl Replica {
-    /// A copy of a new node of this log. The only refusal is `Memory`.
-    pub fn new(alloc: Global, config: Config, prefix: Prefix) -> Result<Replica, Refusal>
+    /// A copy of a new node. The only refusal is `Memory`.
+    pub fn new(alloc: Global, kind: NodeKind, prefix: Prefix) -> Result<Replica, Refusal>
         ensures ok { IfOk result
-            (λ replica. replica ≡ record { body = start_content config; prefix = prefix }) }
+            (λ replica. replica ≡ record { body = start_content kind; prefix = prefix }) }
         ensures err { IfErr result (λ why. why ≡ Memory) }
     {
-        let body = Body::new(alloc, config)?;
+        let body = Body::new(alloc, kind)?;
         Ok(Replica { body, prefix })
     }
 

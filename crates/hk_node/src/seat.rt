@@ -1,6 +1,6 @@
 //! The seats of readers, which take no lock and never wait.
 
-ghost use Rattle.std.specs.Prelude.{◌≡◌, ◌⊎◌, All, true, length, IfOk, IfErr, IsTrue, vec_len};
+ghost use Rattle.std.specs.Prelude.{◌≡◌, ◌≢◌, ◌⊎◌, All, true, length, IfOk, IfErr, IsTrue, vec_len};
 ghost use Rattle.hk_types.specs.declared.faults.Refusal.TheVariants.{Damaged, Memory};
 ghost use Rattle.hk_model.specs.Replica.Pages.{page_seen};
 ghost use Rattle.hk_model.specs.Replica.StreamsTold.{streams_seen};
@@ -9,7 +9,7 @@ ghost use Rattle.left_right.specs.Sides.{view as known};
 ghost use Rattle.hk_node.specs.Carried.{IsLatestOfPrimary, IsOfPrimary};
 ghost use Rattle.hk_node.specs.Holds.{HoldsBack};
 ghost use Rattle.hk_node.specs.Published.{IsOf, IsReplay, KeepsShown};
-ghost use Rattle.hk_node.specs.Replay.{config_of, is_legal, replay, IsListOf};
+ghost use Rattle.hk_node.specs.Replay.{config_of, guarded_of, is_legal, kind_of, replay, IsListOf};
 ghost use Rattle.hk_node.specs.Replies.{Answers, GivesOrMemory, GivesSeen, timed_seen, node_delta, node_front, node_latest, node_page, node_reply, node_streams, node_whole};
 
 use crate::book::{NodeName, Prefix};
@@ -47,7 +47,7 @@ fn seat_of<J: NodeName>(
 ) -> Result<ReaderSeat<J>, AllocError>
     requires prefix { known writer.old.desk.place ≡ prefix.now }
     requires node { IsOf J.book prefix.now }
-    requires config { config_of prefix.now.1 ≡ J.config }
+    requires kind { kind_of prefix.now.1 ≡ J.kind }
     ensures seat { IfOk result (λ seat. seat ≡ prefix.now.1) }
     ensures kept { KeepsShown writer.old writer.new }
 {
@@ -65,7 +65,7 @@ pub(crate) fn seats_of<J: NodeName>(
 ) -> Result<Vec<ReaderSeat<J>>, AllocError>
     requires prefix { known writer.old.desk.place ≡ prefix.now }
     requires node { IsOf J.book prefix.now }
-    requires config { config_of prefix.now.1 ≡ J.config }
+    requires kind { kind_of prefix.now.1 ≡ J.kind }
     ensures seats { IfOk result (λ v. (vec_len v ≡ places) × All (λ seat. seat ≡ prefix.now.1) v.items) }
     ensures kept { KeepsShown writer.old writer.new }
 {
@@ -101,11 +101,11 @@ impl<J: NodeName> Model for ReaderSeat<J> {
     ghost coded = { coded_list op.the_row.coded };
 
     ghost use Rattle.hk_node.specs.Published.{IsOf};
-    ghost use Rattle.hk_node.specs.Replay.{config_of};
+    ghost use Rattle.hk_node.specs.Replay.{kind_of};
 
     ghost view = { λ s. s.prefix.1 };
 
-    ghost invariant = { λ s. (s.prefix.0 ≡ J.book) × (config_of s.prefix.1 ≡ J.config) × MatchOption s.reader (Unit {0}) (λ r. IsOf J.book (known r.place)) };
+    ghost invariant = { λ s. (s.prefix.0 ≡ J.book) × (kind_of s.prefix.1 ≡ J.kind) × MatchOption s.reader (Unit {0}) (λ r. IsOf J.book (known r.place)) };
 }
 
 /// Takes in what a copy has seen, where it is no older than what was seen.
@@ -114,7 +114,7 @@ fn look(copy: &Replica, prefix: &mut Prefix) -> bool
     ensures node { prefix.new.0 ≡ prefix.old.0 }
     ensures seen { IsPrefix prefix.old.1 prefix.new.1 }
     ensures legal { is_legal prefix.new.1 ≡ true }
-    ensures config { config_of prefix.new.1 ≡ config_of prefix.old.1 }
+    ensures kind { kind_of prefix.new.1 ≡ kind_of prefix.old.1 }
     ensures copy { IsTrue result → prefix.new.1 ≡ copy.now.prefix.1 }
 {
     if !prefix.compare(&copy.prefix) {
@@ -127,7 +127,7 @@ fn look(copy: &Replica, prefix: &mut Prefix) -> bool
 impl<J: NodeName> ReaderSeat<J> {
     pub(crate) fn new(reader: NodeReader, prefix: Prefix, alloc: Global) -> ReaderSeat<J>
         requires node { prefix.0 ≡ J.book }
-        requires config { config_of prefix.1 ≡ J.config }
+        requires kind { kind_of prefix.1 ≡ J.kind }
         requires reader { IsOf J.book (known reader.place) }
         ensures { result ≡ prefix.1 }
     {
@@ -141,7 +141,7 @@ impl<J: NodeName> ReaderSeat<J> {
 
     /// Takes the copy that was published last, and takes in what it has seen.
     fn enter(&mut self) -> Result<NodeReading, Refusal>
-        ensures legal { is_legal self.new ≡ true }
+        ensures list { IsListOf J.kind self.new }
         ensures seen { IsPrefix self.old self.new }
         ensures body { IfOk result (λ r. r.part.value.body ≡ replay self.new) }
         ensures place { IfOk result (λ r. IsOf J.book (known r.place)) }
@@ -175,7 +175,7 @@ impl<J: NodeName> ReaderSeat<J> {
     }
 
     fn reply(&mut self, time: Time, query: &Query) -> Result<Answer, Refusal>
-        ensures legal { is_legal self.new ≡ true }
+        ensures list { IsListOf J.kind self.new }
         ensures seen { IsPrefix self.old self.new }
         ensures answer { Answers (node_reply (replay self.new) time query.now) result }
     {
@@ -186,7 +186,7 @@ impl<J: NodeName> ReaderSeat<J> {
     }
 
     fn newest(&mut self, query: &Query) -> Result<(Time, Answer), Refusal>
-        ensures legal { is_legal self.new ≡ true }
+        ensures list { IsListOf J.kind self.new }
         ensures seen { IsPrefix self.old self.new }
         ensures latest { GivesSeen timed_seen (node_latest (replay self.new) query.now) result }
         ensures err { IfErr result (λ why. (why ≡ Memory) ⊎ (why ≡ Damaged)) }
@@ -198,7 +198,7 @@ impl<J: NodeName> ReaderSeat<J> {
     }
 
     fn delta(&mut self, base: Time) -> Result<Fragment, Refusal>
-        ensures legal { is_legal self.new ≡ true }
+        ensures list { IsListOf J.kind self.new }
         ensures seen { IsPrefix self.old self.new }
         ensures delta { GivesOrMemory (node_delta (replay self.new) base) result }
     {
@@ -208,14 +208,58 @@ impl<J: NodeName> ReaderSeat<J> {
         delta
     }
 
+    fn first_page(
+        &mut self,
+        time: Time,
+        table: Table,
+        low: Key,
+        high: Key,
+        most: u32,
+    ) -> Result<Page, Refusal>
+        ensures list { IsListOf J.kind self.new }
+        ensures seen { IsPrefix self.old self.new }
+        ensures page { GivesSeen page_seen (node_page (replay self.new) time table low high most) result }
+    {
+        let reading = self.enter()?;
+        let page = reading
+            .get()
+            .body
+            .page(self.alloc, time, table, low, high, most);
+        self.leave(reading);
+        page
+    }
+
+    fn marks(&mut self) -> Result<Front, Refusal>
+        ensures list { IsListOf J.kind self.new }
+        ensures seen { IsPrefix self.old self.new }
+        ensures front { GivesOrMemory (node_front (replay self.new)) result }
+    {
+        let reading = self.enter()?;
+        let front = reading.get().body.front();
+        self.leave(reading);
+        front
+    }
+
+    fn all(&mut self) -> Result<Fragment, Refusal>
+        ensures list { IsListOf J.kind self.new }
+        ensures seen { IsPrefix self.old self.new }
+        ensures whole { GivesOrMemory (node_whole (replay self.new)) result }
+    {
+        let reading = self.enter()?;
+        let whole = reading.get().body.whole(self.alloc);
+        self.leave(reading);
+        whole
+    }
+
     /// What the node answers to a query at a time, from a list of operations that begins with all that was seen.
     ///
-    /// Refusals in order: `Damaged` where the node met a conflict; then as a state's: `TooOld` below the horizon,
+    /// Refusals in order: `Damaged` where the node met a conflict, which a guarded one never does; then as a state's: `TooOld` below the horizon,
     /// `NotYet` above the readable mark, `Memory`. Cost: that of asking a state.
     pub fn ask(&mut self, time: Time, query: &Query) -> Result<Answer, Refusal>
         ensures legal { is_legal self.new ≡ true }
         ensures seen { IsPrefix self.old self.new }
         ensures answer { Answers (node_reply (replay self.new) time query.now) result }
+        ensures sound { J.kind.guarded ≡ true → IfErr result (λ why. why ≢ Damaged) }
 
         // A time that is held is too old only where the hold was released.
         ensures held { HoldsBack self.new time result }
@@ -232,6 +276,7 @@ impl<J: NodeName> ReaderSeat<J> {
         ensures legal { is_legal self.new ≡ true }
         ensures seen { IsPrefix self.old self.new }
         ensures latest { GivesSeen timed_seen (node_latest (replay self.new) query.now) result }
+        ensures sound { J.kind.guarded ≡ true → IfErr result (λ why. why ≢ Damaged) }
         ensures err { IfErr result (λ why. (why ≡ Memory) ⊎ (why ≡ Damaged)) }
         ensures primary { IsLatestOfPrimary self.new query.now result }
     {
@@ -255,14 +300,9 @@ impl<J: NodeName> ReaderSeat<J> {
         ensures legal { is_legal self.new ≡ true }
         ensures seen { IsPrefix self.old self.new }
         ensures page { GivesSeen page_seen (node_page (replay self.new) time table low high most) result }
+        ensures sound { J.kind.guarded ≡ true → IfErr result (λ why. why ≢ Damaged) }
     {
-        let reading = self.enter()?;
-        let page = reading
-            .get()
-            .body
-            .page(self.alloc, time, table, low, high, most);
-        self.leave(reading);
-        page
+        self.first_page(time, table, low, high, most)
     }
 
     /// How far the node is, and each of its streams: of a damaged node too, since it says whether it is damaged. The
@@ -284,11 +324,9 @@ impl<J: NodeName> ReaderSeat<J> {
         ensures legal { is_legal self.new ≡ true }
         ensures seen { IsPrefix self.old self.new }
         ensures front { GivesOrMemory (node_front (replay self.new)) result }
+        ensures sound { J.kind.guarded ≡ true → IfErr result (λ why. why ≢ Damaged) }
     {
-        let reading = self.enter()?;
-        let front = reading.get().body.front();
-        self.leave(reading);
-        front
+        self.marks()
     }
 
     /// What the node holds that a replica may lack which is readable up to the base.
@@ -299,6 +337,7 @@ impl<J: NodeName> ReaderSeat<J> {
         ensures legal { is_legal self.new ≡ true }
         ensures seen { IsPrefix self.old self.new }
         ensures delta { GivesOrMemory (node_delta (replay self.new) base) result }
+        ensures sound { J.kind.guarded ≡ true → IfErr result (λ why. why ≢ Damaged) }
 
         // A base that is held is too old only where the hold was released.
         ensures held { HoldsBack self.new base result }
@@ -312,11 +351,9 @@ impl<J: NodeName> ReaderSeat<J> {
         ensures legal { is_legal self.new ≡ true }
         ensures seen { IsPrefix self.old self.new }
         ensures whole { GivesOrMemory (node_whole (replay self.new)) result }
+        ensures sound { J.kind.guarded ≡ true → IfErr result (λ why. why ≢ Damaged) }
     {
-        let reading = self.enter()?;
-        let whole = reading.get().body.whole(self.alloc);
-        self.leave(reading);
-        whole
+        self.all()
     }
 
     /// Takes in what a receipt of the same node tells: the longer of two lists of which one begins the other. It takes
@@ -335,15 +372,23 @@ impl<J: NodeName> ReaderSeat<J> {
     /// The log that the node is of. It takes no memory.
     pub fn config(&self) -> Config
         ensures list { result ≡ config_of self.now }
-        ensures node { result ≡ J.config }
+        ensures node { result ≡ J.kind.config }
     {
         self.prefix.config()
+    }
+
+    /// Whether the node is guarded, and so never damaged. It takes no memory.
+    pub fn is_guarded(&self) -> bool
+        ensures list { result ≡ guarded_of self.now }
+        ensures node { result ≡ J.kind.guarded }
+    {
+        self.prefix.is_guarded()
     }
 
     /// How many operations it has seen or was told of. It takes no memory.
     pub fn seen(&self) -> u64
         ensures length { result ≡ length self.now }
-        ensures legal { IsListOf J.config self.now }
+        ensures legal { IsListOf J.kind self.now }
     {
         self.prefix.len()
     }

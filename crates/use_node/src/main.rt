@@ -32,7 +32,7 @@ fn told<J: NodeName, R: Wait>(
     list: NewList,
     pushed: Fragment,
 ) -> Result<String, Refusal>
-    requires { list ≡ (J.book, J.config) }
+    requires { list ≡ (J.book, J.kind) }
 {
     let (node, mut seats) = start::<J, &R>(rt, alloc, list, 2)?;
     let mut lines = String::new(alloc);

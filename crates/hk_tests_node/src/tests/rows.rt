@@ -9,7 +9,6 @@ use super::*;
 enum Does<'a> {
     /// Items by their numbers.
     Join(&'a [u64]),
-    JoinAgreed(&'a [u64]),
     Take(&'a [u64]),
     /// A state with all items, pruned to a time.
     Merge(u64),
@@ -202,13 +201,6 @@ impl<J: NodeName, S: Wait + Drop> Game<J, S> {
         told(joined)
     }
 
-    fn join_agreed<R: Wait>(&mut self, rt: &R, fragment: Fragment) -> Tells {
-        refuse(self.alloc, self.number);
-        let joined = self.node.join_if_agreed(rt, fragment);
-        refuse(self.alloc, 0);
-        told(joined)
-    }
-
     fn take<R: Wait>(&mut self, rt: &R, items: &[Item]) -> Tells {
         refuse(self.alloc, self.number);
         let taken = self.node.take(rt, items);
@@ -237,7 +229,6 @@ impl<J: NodeName, S: Wait + Drop> Game<J, S> {
     fn play<R: Wait>(&mut self, rt: &R, does: Does) -> Result<Tells, Fail> {
         match does {
             Does::Join(numbers) => Ok(self.join(rt, fragment(self.alloc, numbers)?)),
-            Does::JoinAgreed(numbers) => Ok(self.join_agreed(rt, fragment(self.alloc, numbers)?)),
             Does::Take(numbers) => Ok(self.take(rt, &items(self.alloc, numbers)?)),
             Does::Merge(to) => Ok(self.merge(rt, &state_of(self.alloc, to)?)),
             Does::JoinPruned(to) => Ok(self.join(rt, pruned(self.alloc, to)?)),
@@ -262,7 +253,7 @@ fn forged(reader: u64, at: u64) -> Result<Hold, Fail> {
 
 /// A node of log 7 with one stream and two places.
 fn new_game<J: NodeName, R: Wait>(rt: &R, alloc: Global, list: NewList) -> Result<Game<J, &R>, Fail>
-    requires { list ≡ (J.book, J.config) }
+    requires { list ≡ (J.book, J.kind) }
 {
     let (node, mut seats) = start::<J, &R>(rt, alloc, list, 2)?;
     let seat = seats.pop().ok_or("seat")?;
@@ -294,7 +285,7 @@ fn steps<J: NodeName, R: Wait + Abort>(
     list: NewList,
     rows: &[(Does, Tells)],
 ) -> Result<(), Fail>
-    requires { list ≡ (J.book, J.config) }
+    requires { list ≡ (J.book, J.kind) }
 {
     let mut game = new_game::<J, R>(rt, alloc, list)?;
     plays(rt, &mut game, rows)
@@ -366,21 +357,30 @@ const DAMAGE: [(Does, Tells); 11] = [
     (Does::Publish, (0, 4, 4)),
 ];
 
-/// What contradicts is refused and damages nothing, and of a list that is refused nothing is kept: 7 ends a version at
-/// another time than 2, and 9 has a number that is taken.
+/// What contradicts a guarded node is refused and damages nothing, and of a list that is refused nothing is kept: 7 ends a
+/// version at another time than 2, and 9 has a number that is taken.
 const GUARDED: [(Does, Tells); 12] = [
     (Does::Take(&[1, 2]), (0, 2, 0)),
     (Does::Take(&[9]), (0, 3, 0)),
-    (Does::JoinAgreed(&[9]), (23, 0, 0)),
+    (Does::Join(&[9]), (23, 0, 0)),
     (Does::Take(&[3, 7]), (23, 0, 0)),
     (Does::Take(&[4]), (0, 4, 0)),
     (Does::Front, (0, 0, 0)),
     (Does::Take(&[3]), (0, 5, 0)),
     (Does::Front, (0, 0, 3)),
     (Does::Get(5, 3), (0, 0x42, 0)),
-    (Does::JoinAgreed(&ALL), (0, 6, 0)),
+    (Does::Join(&ALL), (0, 6, 0)),
     (Does::Take(&[]), (0, 7, 0)),
     (Does::Publish, (0, 7, 7)),
+];
+
+/// A guarded node refuses a state that contradicts it, and holds what it held.
+const MERGED: [(Does, Tells); 5] = [
+    (Does::Take(&[9]), (0, 2, 0)),
+    (Does::Merge(0), (23, 0, 0)),
+    (Does::Streams, (0, 2, 1)),
+    (Does::Join(&[2, 3, 4]), (0, 3, 0)),
+    (Does::Front, (0, 0, 3)),
 ];
 
 /// The mark 8 closes the stream before the entry 2 comes.
@@ -410,22 +410,35 @@ const NEWEST: [(Does, Tells); 14] = [
     (Does::Streams, (0, 3, 3)),
 ];
 
+/// The list of a new node of log 7, guarded or not.
+fn new_list(is_guarded: bool) -> Result<NewList, Fail> {
+    let config = config()?;
+    Ok(if is_guarded {
+        NewList::guarded(config)
+    } else {
+        NewList::new(config)
+    })
+}
+
 #[test]
 fn one_day(rt: HostRuntime) -> Result<(), Fail> {
     let alloc = rt.alloc();
-    for rows in [
-        A_HOLD.as_slice(),
-        &HOLDS,
-        &AGAIN,
-        &DAMAGE,
-        &GUARDED,
-        &CLOSED,
-        &NEWEST,
+    for (is_guarded, rows) in [
+        (false, A_HOLD.as_slice()),
+        (false, HOLDS.as_slice()),
+        (false, AGAIN.as_slice()),
+        (false, DAMAGE.as_slice()),
+        (false, NEWEST.as_slice()),
+        (true, HOLDS.as_slice()),
+        (true, GUARDED.as_slice()),
+        (true, MERGED.as_slice()),
+        (true, CLOSED.as_slice()),
     ] {
-        steps::<Brand, _>(&rt, alloc, NewList::new(config()?), rows)?;
+        steps::<Brand, _>(&rt, alloc, new_list(is_guarded)?, rows)?;
     }
-    for number in 0..=MOST_REQUESTS {
-        waits::<Brand, _>(&rt, alloc, NewList::new(config()?), number)?;
+    for turn in 0..=2 * MOST_REQUESTS + 1 {
+        let list = new_list(turn % 2 == 1)?;
+        waits::<Brand, _>(&rt, alloc, list, turn / 2)?;
     }
     Ok(())
 }
@@ -494,7 +507,7 @@ fn waits<J: NodeName, R: Wait + Abort>(
     list: NewList,
     number: usize,
 ) -> Result<(), Fail>
-    requires { list ≡ (J.book, J.config) }
+    requires { list ≡ (J.book, J.kind) }
 {
     let mut game = new_game::<J, R>(rt, alloc, list)?;
     for (ops, does) in (2u64..).zip(CHANGES) {

@@ -17,7 +17,7 @@ fn fronts<J: NodeName + Send + Sync, R: Threads + Wait + Abort + Sync>(
     alloc: Global,
     list: NewList,
 ) -> Result<(), Fail>
-    requires { list ≡ (J.book, J.config) }
+    requires { list ≡ (J.book, J.kind) }
 {
     let (node, mut seats) = start::<J, &R>(rt, alloc, list, 1)?;
     let seat = seats.pop().ok_or("seat")?;
@@ -62,7 +62,7 @@ fn keys<J: NodeName + Send + Sync, R: Threads + Wait + Abort + Sync>(
     alloc: Global,
     list: NewList,
 ) -> Result<(), Fail>
-    requires { list ≡ (J.book, J.config) }
+    requires { list ≡ (J.book, J.kind) }
 {
     let (node, mut seats) = start::<J, &R>(rt, alloc, list, 2)?;
     let one = seats.pop().ok_or("seat")?;

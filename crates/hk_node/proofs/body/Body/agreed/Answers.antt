@@ -7,5 +7,5 @@ use Rattle.hk_node.proofs.body.Body.agreed.Goals as goal
 pub returns : goal.returns
 returns c =
     let b = c.self.inside in
-    let now : NodeContent = record { content = b.state; holds = b.holds.items; damaged = b.damaged; hold_count = b.hold_count; op_count = b.op_count } in
+    let now : NodeContent = record { content = b.state; holds = b.holds.items; damaged = b.damaged; guarded = b.guarded; hold_count = b.hold_count; op_count = b.op_count } in
     subst (λ (n : NodeContent). AgreesWith n c.args.items.now c.agreed.result) c.self.view_is (agrees_whole now c.args.items.now c.agreed.result c.if-self.false c.agreed.ensures)

@@ -8,6 +8,6 @@ use Rattle.hk_node.proofs.body.Body.page.Goals as goal
 pub returns : goal.returns
 returns c =
     let b = c.self.inside in
-    let now : NodeContent = record { content = b.state; holds = b.holds.items; damaged = b.damaged; hold_count = b.hold_count; op_count = b.op_count } in
+    let now : NodeContent = record { content = b.state; holds = b.holds.items; damaged = b.damaged; guarded = b.guarded; hold_count = b.hold_count; op_count = b.op_count } in
     subst (λ (n : NodeContent). GivesSeen page_seen (node_page n c.args.time c.args.table c.args.low c.args.high c.args.most) c.page.result) c.self.view_is
     (gives_page now c.args.time c.args.table c.args.low c.args.high c.args.most c.page.result c.if-self.false c.page.ensures)

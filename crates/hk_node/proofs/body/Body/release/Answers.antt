@@ -9,6 +9,6 @@ use Rattle.hk_node.proofs.body.Body.release.Goals as goal
 pub returns : goal.returns
 returns c =
     let b = c.self.inside in
-    ap (λ (hs : List Hold). record { content = b.state; holds = hs; damaged = b.damaged; hold_count = b.hold_count; op_count = b.op_count + 1 })
+    ap (λ (hs : List Hold). record { content = b.state; holds = hs; damaged = b.damaged; guarded = b.guarded; hold_count = b.hold_count; op_count = b.op_count + 1 })
     (filter_same _ (λ h. not (is_hold c.args.reader c.args.at h)) _ (λ x b f' k. search rules) _ _ c.retain.ensures.filtered)
     ∙ ap (λ (n : NodeContent). effect n (Release c.args.reader c.args.at)) c.self.view_is

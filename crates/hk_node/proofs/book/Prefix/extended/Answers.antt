@@ -1,9 +1,9 @@
 use Rattle.std.proofs.Common.{◌≡◌, ◌+◌, true, length-append, None, List, [], ◌∷◌, ◌++◌, length, sym, ◌∙◌, ap, subst, arith}
 use Rattle.logbook.specs.Pages.{Book}
 use Rattle.hk_node.specs.declared.op.Op.{Op}
-use Rattle.hk_node.specs.Replay.{config_of, replay, refusal_of, is_legal}
+use Rattle.hk_node.specs.Replay.{kind_of, replay, refusal_of, is_legal}
 use Rattle.hk_node.proofs.AddedOperation.{adds_moves, added}
-use Rattle.hk_node.proofs.LegalLists.{config-snoc, legal-snoc}
+use Rattle.hk_node.proofs.LegalLists.{kind-snoc, legal-snoc}
 use Rattle.hk_node.proofs.book.Prefix.extended.Goals as goal
 
 pub compare_exchange-found-requires : goal.compare_exchange-found-requires
@@ -36,5 +36,5 @@ invariant_of-result c =
     let may : refusal_of (replay b.seen.log) op ≡ None = subst (λ (v : Book × List Op). refusal_of (replay v.1) op ≡ None) (sym c.self.view_is) c.requires.legal in (
       count ∙ ap length (sym here),
       subst (λ (l : List Op). is_legal l ≡ true) (sym here) (legal-snoc b.seen.log op c.self.invariant.1 may),
-      c.self.invariant.2 ∙ sym (config-snoc b.seen.log op c.self.invariant.1) ∙ ap config_of (sym here),
+      c.again-kind.ensures ∙ c.self.invariant.2 ∙ sym (kind-snoc b.seen.log op c.self.invariant.1) ∙ ap kind_of (sym here),
     )

@@ -1,6 +1,6 @@
 use Rattle.std.proofs.Common.{◌≡◌, ◌≤◌, ◌++◌, true, drop, length, subst}
 use Rattle.std.proofs.lemmas.List.{length-map}
-use Rattle.hk_node.specs.Replay.{config_of, is_legal, IsListOf}
+use Rattle.hk_node.specs.Replay.{kind_of, is_legal, IsListOf}
 use Rattle.hk_node.specs.Changes.{Lists}
 use Rattle.hk_node.specs.Published.{View, queue, ops_of}
 use Rattle.hk_node.proofs.publisher.Publisher.publish.Goals as goal
@@ -19,5 +19,5 @@ returns-clause-legal g c =
     let w = d.copies.writer in
     let all = w.desk.shown.value.prefix.1 ++ ops_of (queue (drop w.behind w.log.items) d.late) in
     let now : is_legal all ≡ true = subst (λ (v : View). is_legal v.1 ≡ true) c.self.invariant.list c.self.invariant.replayed.1 in
-    let config : config_of all ≡ g.J.NodeName.config = subst (λ (v : View). config_of v.1 ≡ g.J.NodeName.config) c.self.invariant.list c.self.invariant.config_all in
-    subst (λ (l : Lists). IsListOf g.J.NodeName.config (l.0 ++ l.1)) c.self.view_is (now, config)
+    let kind : kind_of all ≡ g.J.NodeName.kind = subst (λ (v : View). kind_of v.1 ≡ g.J.NodeName.kind) c.self.invariant.list c.self.invariant.kind_all in
+    subst (λ (l : Lists). IsListOf g.J.NodeName.kind (l.0 ++ l.1)) c.self.view_is (now, kind)

@@ -14,7 +14,7 @@ invariant_of-self g c =
     let op = c.args.op in
     let list : shown.prefix.1 ≡ c.args.self.now.0 = ap (λ (l : Lists). l.0) c.self.view_is in
     let empty : ops_of (queue pend d.late) ≡ [] = ap (λ (l : Lists). l.1) c.self.view_is ∙ c.requires.none in
-    puts g.J.NodeName.book g.J.NodeName.config d.counter.word.book shown (queue pend d.late) pend (record { op = op; prefix = c.args.prefix }) c.self.invariant
+    puts g.J.NodeName.book g.J.NodeName.kind d.counter.word.book shown (queue pend d.late) pend (record { op = op; prefix = c.args.prefix }) c.self.invariant
     (none_pending pend d.late empty)
     (subst (λ (l : List Op). refusal_of (replay l) op ≡ None) (sym list) c.requires.legal)
     (c.requires.prefix ∙ (λ i. (g.J.NodeName.book, sym list i ++ op ∷ [])))

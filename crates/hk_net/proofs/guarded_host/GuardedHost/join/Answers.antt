@@ -1,6 +1,0 @@
-use Rattle.hk_node.specs.Guarded.{JoinsAgreedSome}
-use Rattle.hk_net.proofs.GuardedReplies.{told_is}
-use Rattle.hk_net.proofs.guarded_host.GuardedHost.join.Goals as goal
-
-pub returns-in-Ok-clause-told : goal.returns-in-Ok-clause-told
-returns-in-Ok-clause-told g c = told_is (JoinsAgreedSome g.J.NodeName.config c.args.fragment) _ _ c.in-Ok.receipt _ c.learn.ensures.told c.learn.ensures.done c.in-Ok.ensures.join
