@@ -33,6 +33,7 @@ UNTYPED = {
     "rt must-fail": "a part of rt ci",
     "rt plant": "runs for hours, by hand",
     "make quick": "minutes of the compiler; a program that is proved is what the gate has",
+    "tests/quick": "builds a program for minutes, and times it beside the proved one: by hand",
     "make lib": "proves anew what tests/library --gate took from the gate",
     "make test": "is the gate",
     "make": "proves what the gate has proved",
