@@ -61,13 +61,16 @@ fn serve_link<J: NodeName, N: Wait + Drop, R: Threads + Wait + Sync>(
     let _at_once = stream.set_nodelay(true);
     let mut reader = Counted::new(&stream);
     let mut writer = Counted::new(&stream);
-    let mut host = NodeHost::new(rt, alloc, node, seat);
     let ended = match budget {
         Some(budget) => {
+            let host = NodeHost::new(rt, alloc, node, seat);
             let link = PartsHost::new(alloc, host, budget, Vec::new(alloc));
             serve_parts(alloc, link, &mut reader, &mut writer).0
         }
-        None => serve::<1, _, _, _>(alloc, &mut reader, &mut writer, &mut host),
+        None => {
+            let mut host = NodeHost::new(rt, alloc, node, seat);
+            serve::<1, _, _, _>(alloc, &mut reader, &mut writer, &mut host)
+        }
     };
     drain(&stream);
     ended

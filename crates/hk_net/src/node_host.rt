@@ -5,7 +5,9 @@ ghost use Rattle.std.specs.Thread.{IsSync};
 ghost use mathlib.Core.List.{IsPrefix};
 ghost use Rattle.hk_model.specs.Replica.Rules.{gather_result};
 ghost use Rattle.hk_delta.specs.Gathers.{Gathers};
-ghost use Rattle.hk_wire.specs.Replies.{Done, reply_seen};
+ghost use Rattle.hk_types.specs.declared.faults.FormFault.TheVariants.{BadKind};
+ghost use Rattle.hk_types.specs.declared.faults.Refusal.TheVariants.{Form};
+ghost use Rattle.hk_wire.specs.Replies.{Done, Refused, reply_seen};
 ghost use Rattle.hk_node.specs.declared.op.Op.{Op};
 ghost use Rattle.hk_node.specs.declared.op.Op.TheVariants.{Join, Prune as PruneTo};
 ghost use Rattle.hk_node.specs.Guarded.{TakesSome};
@@ -26,7 +28,7 @@ use hk_model::{Answer, Page, Query, StreamsTold};
 use hk_node::{Hold, Node, NodeName, ReaderSeat, Receipt};
 use hk_session::Host;
 use hk_types::{Key, Refusal, Table, Time};
-use hk_wire::{Reply, Request};
+use hk_wire::{LaterRequest, Reply, Request};
 use std::alloc::Global;
 use std::marker::Model;
 use std::sync::Wait;
@@ -264,6 +266,14 @@ impl<'a, J: NodeName, N: Wait + Drop, R: Threads + Wait + Sync> NodeHost<'a, J, 
     {
         self.reads.ask(time, query)
     }
+
+    /// The reply to a request that has no meaning here.
+    fn no_kind(&self, later: LaterRequest) -> Reply
+        ensures legal { is_legal self.now ≡ true }
+        ensures told { reply_seen result ≡ Refused (Form BadKind) }
+    {
+        self.reads.no_kind(later)
+    }
 }
 
 impl<'a, J: NodeName, N: Wait + Drop, R: Threads + Wait + Sync> Host for NodeHost<'a, J, N, R> {
@@ -280,7 +290,7 @@ impl<'a, J: NodeName, N: Wait + Drop, R: Threads + Wait + Sync> Host for NodeHos
             Request::Ask { t, query } => self.ask(t, &query),
             Request::JoinThis(fragment) | Request::MergeThis(fragment) => self.join(fragment),
             Request::Prune { horizon } => self.prune(horizon),
-            Request::Later(later) => self.reads.no_kind(later),
+            Request::Later(later) => self.no_kind(later),
         }
     }
 }
