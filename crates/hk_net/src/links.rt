@@ -79,8 +79,9 @@ fn serve_link<J: NodeName, N: Wait + Drop, R: Threads + Wait + Sync>(
 /// Accepts as many links as there are seats, and runs the session of each, over a `NodeHost`, in a thread of its own, with
 /// one of the seats. Gives how each ended, in the order in which they were accepted, once all have ended.
 ///
-/// With a budget each link is answered in both versions (`PartsHost`), and its holds are released when it ends; all links
-/// together keep at most as many bytes as the budget has. Without one it is answered in version 1, and a request of version 2
+/// With a budget each link is answered in both versions (`PartsHost`), and each of its holds is asked to be released when it
+/// ends; one whose release is refused then (`Damaged`, `NodeFull` or `Memory`) stands. All links together keep at most as many
+/// bytes as the budget has. Without one it is answered in version 1, and a request of version 2
 /// ends it with `BadVersion`.
 ///
 /// A link whose thread can't be started ends with `Memory`. `NetFault::Memory` comes where the list of ends can't be

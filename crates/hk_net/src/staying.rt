@@ -43,8 +43,9 @@ pub struct Door<'a, J: NodeName, N: Wait + Drop> {
 }
 
 impl<'a, J: NodeName, N: Wait + Drop> Door<'a, J, N> {
-    /// Links of this listener answer every request; what a change of a guarded node is refused is told at `Node`. A link ends where inside a frame a read brings nothing for so many
-    /// seconds, or where the frame took more reads than its length explains; 0 seconds are no limit.
+    /// Links of this listener answer every request, whether the node is guarded or not (`Node` tells what a guarded one
+    /// refuses). A link ends where inside a frame a read brings nothing for so many seconds, or where the frame took more
+    /// reads than its length explains; 0 seconds are no limit.
     pub fn open(
         listener: &'a TcpListener,
         node: &'a Node<J, N>,
