@@ -20,8 +20,19 @@ SKIPPED = re.compile(r"(//|--|use |pub use |ghost use |pub mod |mod |import |[\W
 # the pairs of files that stand, by kind, each with why one piece doesn't serve for both
 KNOWN = {
     "code": {
+        ("hk_commands/src/ask.rt", "hk_commands/src/ask.rt"): "run_front and run_status have the parameters that callers of both know; what they print is all that differs",
+        ("hk_index/src/birth_index.rt", "hk_index/src/time_index.rt"): "thin wrappers of one TimeRuns, whose members differ; one generic wrapper would carry a law for each",
+        ("hk_session/src/serving.rt", "hk_session/src/serving.rt"): "serve and serve_bytes say of one loop what each caller sees of it",
+        ("hk_state/src/apply.rt", "hk_state/src/apply.rt"): "a join and a merge end alike; they go with the one way to put a version",
+        ("hk_state/src/learn.rt", "hk_state/src/learn.rt"): "the same of what is learnt",
     },
     "specs and proofs": {
+        ("hk_index/specs/TagOrder.antt", "hk_model/proofs/Replica/Maps.antt"): "an order of keys that stands apart in each crate, as a proof of another crate can't be cited",
+        ("hk_marks/proofs/Prefixes.antt", "hk_values/proofs/StreamRead.antt"): "the same of prefixes",
+        ("hk_model/proofs/History/Commits.antt", "hk_primary/proofs/Verdicts.antt"): "the same of commits",
+        ("hk_state/proofs/replica/ReplicaState/absorb_entry/Answers.antt", "hk_state/proofs/replica/ReplicaState/absorb_entry/Answers.antt"):
+            "one answer for each of two ways out of a function",
+        ("hk_store/proofs/facts/Facts/put_rows/Answers.antt", "hk_store/proofs/facts/Facts/put_rows/Answers.antt"): "the same",
     },
 }
 
