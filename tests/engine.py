@@ -6,6 +6,7 @@ something in the middle of the work. At its end the log is read back from the se
 confirmed is there, the rows that tests/reference.py makes of it at 12 times are both nodes', and all servers hold the same. Faults come by how far
 the work is, but for a server that is stopped for 15 seconds. Needs bin/hkrep and a nats-server from 2.10.27 on, in NATS_SERVER or PATH
 (connectors/nats/get-server fetches one); else that is said as skipped. It ends only what it started."""
+import contextlib
 import json
 import os
 import pathlib
@@ -71,6 +72,10 @@ class Bench(journeys.Bench):
     def on_host(self, _, words):
         return self.start(*words)
 
+    def inside(self, _):
+        """Where a node can be reached, or, without its name, the servers."""
+        return contextlib.nullcontext()
+
     def add_node(self, name):
         self.ports[name] = free_port()
         return self.start_node(self.ports[name], "--stay", "--guard", "--messages", "2", "-q")
@@ -121,8 +126,12 @@ class Bench(journeys.Bench):
         """Waits until so many entries are confirmed."""
         waited(lambda: sum(self.confirmed().values()) >= count, lambda: f"publish doesn't come to {count}: {self.confirmed()}: {self.said()}")
 
+    def feed(self, name):
+        with self.inside(name):
+            return Feed(self.ports[name])
+
     def taken(self, name):
-        feed = Feed(self.ports[name])
+        feed = self.feed(name)
         try:
             return sum(stream.prefix for stream in feed.streams())
         finally:
@@ -166,7 +175,8 @@ class Bench(journeys.Bench):
         return found
 
     def any_link(self):
-        return Nats(self.servers.urls().split(","))
+        with self.inside(""):
+            return Nats(self.servers.urls().split(","))
 
     @staticmethod
     def answered(nats, key, sequence):
@@ -193,13 +203,18 @@ class Bench(journeys.Bench):
         tables = tables_of([it for its in there.values() for it in its], self.entries) if first == 1 else self.tables
         for name in self.followers:
             self.fed(self.entries, name)
-            self.readable(self.ports[name])
-            self.same(self.ports[name], tables)
+            self.shows(name, tables)
 
-    def readable(self, port):
-        feed = Feed(port)
+    def readable(self, name):
+        feed = self.feed(name)
         waited(lambda: feed.front().readable >= self.entries, "the last entry can't be read")
         feed.close()
+
+    def shows(self, name, tables=None):
+        """A node has come to the end, and its rows are the log's."""
+        self.readable(name)
+        with self.inside(name):
+            self.same(self.ports[name], tables)
 
 
 class Alone(Bench):
@@ -386,8 +401,8 @@ def greatest_frame(it):
     frame = encode(Entry.of(LOG, 1, 1, 1, rows=rows))
     it.write("great.bin", [frame, *(encode(Mark(LOG, stream, int(stream == 1), it.entries)) for stream in range(1, STREAMS + 1))])
     status(it.publish(name="great.bin"))
-    for port in it.ports.values():
-        it.readable(port)
+    for name in it.ports:
+        it.readable(name)
     it.servers.kill(1)
     it.servers.payload = 1_048_576
     it.servers.serve(1)
@@ -411,9 +426,8 @@ def several_nodes(it):
     it.fed(it.entries, "one", "two")
     it.start_node(it.ports["three"], "--stay", "--guard", "--messages", "2", "-q")
     it.fed(it.entries, "three")
-    for port in it.ports.values():
-        it.readable(port)
-        it.same(port)
+    for name in it.ports:
+        it.shows(name)
 
 
 class Aside:
@@ -494,9 +508,8 @@ def late_and_forked(it):
         status(it.publish(name="bad.bin"), wanted)
     (it.folder / "cut.bin").write_bytes(b"".join(it.frames)[:-5])
     status(it.publish(name="cut.bin"), 4)
-    for port in it.ports.values():
-        it.readable(port)
-        it.same(port)
+    for name in it.ports:
+        it.shows(name)
 
 
 def secured(it):
@@ -508,7 +521,7 @@ def secured(it):
     for child in it.followers.values():
         kill(child)
     it.servers.kill(1)
-    rights = "\n".join(line.text for line in of("engine.py rights")).replace("PASSWORD", "secret")
+    rights = of("engine.py rights")[0].text.replace("PASSWORD", "secret")
     it.servers.more = (f'{rights}\ntls {{ cert_file: "{folder}/cert.pem", key_file: "{folder}/key.pem", ca_file: "{folder}/cert.pem", verify: true }}\n')
     it.servers.serve(1)
     port, env = it.servers.places[1][1], {**os.environ, "NATS_PASSWORD": "secret"}
@@ -516,7 +529,7 @@ def secured(it):
 
     def run(name, user, *more, wanted=0, told="", host="localhost", tls=(*trust, *own), **options):
         before = len((folder / "said").read_text()) if (folder / "said").exists() else 0
-        words = ["--replicas", 1, folder / "log.bin"] if name == "publish" else ["--node", it.ports["one"], *more] if name == "follow" else more
+        words = ["--replicas", 1, "--block", 2000, folder / "log.bin"] if name == "publish" else ["--node", it.ports["one"], *more] if name == "follow" else more
         child = it.start(CONNECTORS / name, "--nats", f"tls://{user}@{host}:{port}", *WORDS, *tls, *words, **{"env": env, **options})
         status(child, wanted)
         said = (folder / "said").read_text()[before:]
@@ -559,8 +572,25 @@ def old_server(it):
         holds(child.returncode == 1 and "2.9.10" in out, out)
 
 
+class Paged(Bench):
+    """Three servers with the configuration of the page, where what is a machine's own stands for a place on this one."""
+
+    def __init__(self, *words):
+        super().__init__(*words)
+        self.servers.config = self.config
+
+    def config(self, host):
+        text, (_, port, route, monitor) = of("engine.py servers")[0].text, self.servers.places[host]
+        others = [self.servers.places[it][2] for it in HOSTS if it != host]
+        for word, mine in (("n1", f"n{host}"), ("0.0.0.0:4222", f"127.0.0.1:{port}"), ("127.0.0.1:8222", f"127.0.0.1:{monitor}"), ("0.0.0.0:6222", f"127.0.0.1:{route}"),
+                           ("B:6222", f"127.0.0.1:{others[0]}"), ("C:6222", f"127.0.0.1:{others[1]}"), ("/var/lib/nats", str(self.folder / f"js{host}"))):
+            holds(word in text, f"the page's configuration has no {word}")
+            text = text.replace(word, mine, 1)
+        return text
+
+
 def as_in_the_page(it):
-    """The commands of the pages, typed one after the other."""
+    """The commands of the page, typed one after the other, over servers that are configured as it says."""
     env = {**os.environ, "NATS_URL": it.servers.urls()}
     for shown in of("engine.py typed"):
         line = shown.text.replace("LOG.bin", shlex.quote(str(it.folder / "log.bin"))).replace("A:4222,B:4222,C:4222", it.servers.urls())
@@ -579,21 +609,8 @@ def as_in_the_page(it):
             status(child)
             holds("status" not in line or out.count(b"server") >= 3, f"{line}: {out}")
     it.fed(it.entries)
-    for port in it.ports.values():
-        it.readable(port)
-        it.same(port)
-
-
-STORIES = [slow_server, killed_leader, all_killed, each_in_turn, lost_disk, minority, forked, trimmed, killed_publishers, lost_all, greatest_frame,
-           several_nodes, late_and_forked, no_messages_of_ours, secured, old_server, as_in_the_page]
-ALONE = (no_messages_of_ours, secured, old_server, greatest_frame)
-
-
-def fetched():
-    """What fetches a server says where it is, and leaves it there."""
-    folder = os.environ.get("NATS_FOLDER")
-    problems = [] if not folder or (pathlib.Path(folder) / "usr" / "sbin" / "nats-server").exists() else [f"no server in {folder}"]
-    report(f"the server that connectors/nats/get-server fetched, or one in PATH: {pathlib.Path(program()).name}", problems)
+    for name in it.ports:
+        it.shows(name)
 
 
 def demonstrated():
@@ -602,7 +619,12 @@ def demonstrated():
     problems = [] if all(it.text == "make nats-demo" for it in of("engine.py demonstrated")) else ["another make"]
     got = subprocess.run([CONNECTORS / "demo", "400"], stdout=subprocess.PIPE, stderr=subprocess.STDOUT, text=True, timeout=PATIENCE * 2, check=False)
     problems += [] if got.returncode == 0 and got.stdout.count("equal") == 24 else [got.stdout]
-    report(f"make nats-demo ({time.monotonic() - begin:.1f} s)", problems)
+    return f"make nats-demo ({time.monotonic() - begin:.1f} s)", problems, ""
+
+
+STORIES = [as_in_the_page, slow_server, demonstrated, killed_leader, all_killed, each_in_turn, lost_disk, minority, forked, trimmed, killed_publishers, lost_all, greatest_frame,
+           several_nodes, late_and_forked, no_messages_of_ours, secured, old_server]
+BENCHES = {as_in_the_page: Paged, **dict.fromkeys((no_messages_of_ours, secured, old_server, greatest_frame), Alone)}
 
 
 def main(words):
@@ -614,12 +636,13 @@ def main(words):
     entries = int(words.pop(0)) if words and words[0].isdigit() else 1000
     frames = log_of(entries, 5)
     log = (entries, frames, tables_of(frames, entries))
+    def run(story):
+        return story() if story is demonstrated else play(story, lambda folder: BENCHES.get(story, Bench)(folder, *log))
+
     chosen = [story for story in STORIES if not words or story.__name__ in words]
     with ThreadPoolExecutor(SIDE_BY_SIDE) as pool:
-        for name, problems, told in pool.map(lambda it: play(it, lambda folder: (Alone if it in ALONE else Bench)(folder, *log)), chosen):
+        for name, problems, told in pool.map(run, chosen):
             report(name, problems, told)
-    if not words or "demonstrated" in words:
-        demonstrated()
     return ended()
 
 
