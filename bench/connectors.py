@@ -1,7 +1,8 @@
 #!/usr/bin/python3
-"""Times a log over Redis, and over three nats-servers where a new enough one is here (NATS_SERVER or PATH), beside `hkrep feed` of the same frames, by
-turns: bench/connectors.py [ENTRIES] [TURNS]. Of each way frames a second, the middle of all turns, beside the middle of `hkrep feed`; of each follow
-the time from publish to resolved. By hand; needs what tests/connectors.py needs. It ends only what it started."""
+"""Times a log over Redis, and over three nats-servers where a new enough one is here (NATS_SERVER or PATH), beside `hkrep feed` of the
+same frames, by turns: bench/connectors.py [ENTRIES] [TURNS]. Of each way frames a second, the middle of all turns, beside the middle of
+`hkrep feed`; of each follow the time from publish to resolved. By hand; needs what tests/connectors.py needs. It ends only what it
+started."""
 import os
 import pathlib
 import resource
@@ -42,7 +43,8 @@ class Measure:
         """Runs a program; keeps frames a second, and microseconds of its processor a frame, without what starting it takes."""
         before, begin = used(), time.monotonic()
         with open(source or os.devnull, "rb") as file:
-            done = subprocess.run([str(it) for it in words], stdin=file, stdout=subprocess.DEVNULL, stderr=subprocess.PIPE, text=True, check=False)
+            done = subprocess.run([str(it) for it in words], stdin=file, stdout=subprocess.DEVNULL, stderr=subprocess.PIPE, text=True,
+                                  check=False)
         took, cost = time.monotonic() - begin - taken_off, used() - before - taken_off
         if done.returncode:
             raise SystemExit(f"{name}: status {done.returncode}: {done.stderr[-400:]}")
@@ -67,7 +69,8 @@ class Measure:
 
     def publish(self, folder, url, *more):
         program_ = folder / "publish"
-        self.timed(f"{folder.name}: publish {' '.join(map(str, more))}".rstrip(), [program_, *url, *WORDS, *more], self.starting(program_), self.log)
+        name = f"{folder.name}: publish {' '.join(map(str, more))}".rstrip()
+        self.timed(name, [program_, *url, *WORDS, *more], self.starting(program_), self.log)
 
     def follow(self, folder, url):
         program_, (port, node) = folder / "follow", self.node()
@@ -78,8 +81,9 @@ class Measure:
         feed = statistics.median(self.told["hkrep feed, 500 a request"])
         for name, rates in self.told.items():
             middle = statistics.median(rates)
-            print(f"  {name:44} {middle:10,.0f} frames/s, {middle / feed:.2f} of hkrep feed; {statistics.median(self.beside[name]):.1f} microseconds of its "
-                  f"processor a frame", flush=True)
+            own = statistics.median(self.beside[name])
+            print(f"  {name:44} {middle:10,.0f} frames/s, {middle / feed:.2f} of hkrep feed; {own:.1f} microseconds of its "
+                  "processor a frame", flush=True)
 
 
 def used():
@@ -93,7 +97,8 @@ def lateness(it, folder, url, count):
     it.start_node(port, "--stay", "-q")
     it.start(folder / "follow", *url, *WORDS, "--node", port)
     writer = it.start(folder / "publish", *url, *WORDS, "--heads", stdin=subprocess.PIPE)
-    numbers = {stream: sum(map(lambda frame: journeys.is_entry(frame) and journeys.stream_of(frame) == stream, it.frames)) for stream in range(1, STREAMS + 1)}
+    numbers = {stream: sum(journeys.is_entry(frame) and journeys.stream_of(frame) == stream for frame in it.frames)
+               for stream in range(1, STREAMS + 1)}
     with Node(port, limit=60) as node:
         journeys.waited(lambda: node.front().readable >= it.entries, "the node doesn't come to the end")
         for at in range(it.entries + 1, it.entries + count + 1):

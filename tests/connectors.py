@@ -1,10 +1,10 @@
 #!/usr/bin/env python3
 """A primary's log through Redis into nodes, with faults: tests/connectors.py [ENTRIES] [STORY ..]
 
-Each story starts a Redis and a node, publishes and follows a log of that many entries in four streams, breaks something in the middle of the
-work, and then compares the rows that the node shows at 12 times with those of tests/reference.py. Kills are by how far the work is, never by
-the clock. Two stories are played side by side. Needs bin/hkrep, redis-server and python3-redis; where one of the last two isn't installed, that is said as skipped. It ends only
-what it started."""
+Each story starts a Redis and a node, publishes and follows a log of that many entries in four streams, breaks something in the middle of
+the work, and then compares the rows that the node shows at 12 times with those of tests/reference.py. Kills are by how far the work is,
+never by the clock. Two stories are played side by side. Needs bin/hkrep, redis-server and python3-redis; where one of the last two isn't
+installed, that is said as skipped. It ends only what it started."""
 import os
 import pathlib
 import re
@@ -146,8 +146,9 @@ def killed_publisher(it):
 
 
 def killed_redis(it):
-    """kill -9 of Redis twice while the publisher writes and the follower reads; both go on by themselves, the follower over its one link. With `appendfsync
-    always`: else even a kill may lose what was acknowledged (Redis puts a write off while it syncs), which is the next story but one."""
+    """kill -9 of Redis twice while the publisher writes and the follower reads; both go on by themselves, the follower over its one link.
+    With `appendfsync always`: else even a kill may lose what was acknowledged (Redis puts a write off while it syncs), which is the next
+    story but one."""
     kill(it.server)
     it.start_redis("--appendfsync", "always")
     writer = it.start(CONNECTORS / "publish", *it.url(), *WORDS, stdin=subprocess.PIPE)
@@ -227,12 +228,14 @@ def trimmed(it):
 
 
 def forked(it):
-    """Another log under the same id is stopped at the publisher (2), and so is an entry of a closed time; nothing of them reaches a node."""
+    """Another log under the same id is stopped at the publisher (2), and so is an entry of a closed time; nothing of them reaches a
+    node."""
     status(it.publish())
     it.write("other.bin", log_of(it.entries, 6))
     status(it.publish("other.bin"), 2)
     first = next(frame for frame in it.frames if is_entry(frame))
-    it.write("fork.bin", [encode(Entry.of(LOG, stream_of(first), 1, int.from_bytes(first[24:32], "big"), rows=[(1, 5, 0, b"another row")]))])
+    other = Entry.of(LOG, stream_of(first), 1, int.from_bytes(first[24:32], "big"), rows=[(1, 5, 0, b"another row")])
+    it.write("fork.bin", [encode(other)])
     status(it.publish("fork.bin"), 2)
     number = it.numbers(1)[-1]
     late = Entry.of(LOG, 1, number + 1, it.entries, rows=[(1, 5, 0, b"late")])
@@ -398,8 +401,8 @@ def never_there(it):
 
 
 def no_messages_of_ours(it):
-    """Messages that are no blocks: publish, follow and status name each alike. So is one of marks alone with an entry's id, and one that has
-    neither field."""
+    """Messages that are no blocks: publish, follow and status name each alike. So is one of marks alone with an entry's id, and one that
+    has neither field."""
     fields = [*(("b", name) for name in bad_messages(0)), ("f", "short"), ("g", "empty")]
     for log, (field, name) in enumerate(fields, 200):
         aside, (data, reason) = Aside(it, log), bad_messages(log)[name]
@@ -470,7 +473,8 @@ def large_numbers(it):
 
 
 def kept(it):
-    """`--confirm` tells what is kept while the input is open; `--fsync` and `--replicas` are refused or waited for where Redis can't give them."""
+    """`--confirm` tells what is kept while the input is open; `--fsync` and `--replicas` are refused or waited for where Redis can't give
+    them."""
     status(it.publish("log.bin", "--fsync"), 1)
     it.client.config_set("appendfsync", "always")
     writer = it.start(CONNECTORS / "publish", *it.url(), *WORDS, "--fsync", "--confirm", stdin=subprocess.PIPE, stdout=subprocess.PIPE)
@@ -525,6 +529,136 @@ def secured(it):
     it.same()
 
 
+def through_sentinels(it):
+    """A primary with two replicas and three Sentinels: the primary is killed in the middle, and publisher and follower go on at the new one
+    by themselves; what was confirmed (--replicas 1) is there."""
+    ports, sentinels = [it.redis_port, free_port(), free_port()], [free_port() for _ in range(3)]
+    for port in ports[1:]:
+        (it.folder / str(port)).mkdir()
+        it.start("redis-server", "--port", port, "--bind", "127.0.0.1", "--dir", it.folder / str(port), "--appendonly", "yes", "--save", "",
+                 "--repl-diskless-sync-delay", 0, "--replicaof", "127.0.0.1", ports[0])
+    waited(lambda: it.client.info("replication")["connected_slaves"] == 2, "the replicas don't come")
+    for port in sentinels:
+        config = it.folder / f"sentinel{port}.conf"
+        config.write_text(f"port {port}\nbind 127.0.0.1\nsentinel monitor log 127.0.0.1 {ports[0]} 2\n"
+                          "sentinel down-after-milliseconds log 1000\nsentinel failover-timeout log 6000\n")
+        it.start("redis-server", config, "--sentinel")
+    finder = redis.Redis("127.0.0.1", sentinels[0], decode_responses=True)
+    waited(lambda: known_to(finder), "the Sentinels don't find each other")
+    it.redis_port, old = 0, ports[0]
+    it.url = lambda: ["--redis", "sentinel://" + ",".join(f"127.0.0.1:{port}" for port in sentinels) + "/log"]
+    writer = it.start(CONNECTORS / "publish", *it.url(), *WORDS, *SMALL, "--replicas", 1, "--confirm", stdin=subprocess.PIPE,
+                      stdout=subprocess.PIPE)
+    reader, half = it.follow(*it.until()), len(it.frames) // 2
+    writer.stdin.write(b"".join(it.frames[:half]))
+    writer.stdin.flush()
+    it.reached(0.4)
+    kill(it.server)
+    told = writer.communicate(b"".join(it.frames[half:]), timeout=PATIENCE)[0].decode().split("\n")
+    holds(writer.returncode == 0, it.said())
+    status(reader)
+    it.same()
+    primary = finder.execute_command("SENTINEL", "GET-MASTER-ADDR-BY-NAME", "log")
+    it.client = redis.Redis(primary[0], int(primary[1]))
+    holds(int(primary[1]) != old, "no failover came")
+    it.no_hole()
+    holds(all(f"kept {stream} {it.numbers(stream)[-1]}" in told for stream in range(1, 5)), f"{told[-6:]}")
+
+
+def known_to(finder):
+    """Whether a Sentinel knows the two others, and both replicas."""
+    try:
+        told = finder.sentinel_masters()["log"]
+        return told["num-other-sentinels"] == 2 and told["num-slaves"] == 2
+    except redis.RedisError:
+        return False
+
+
+def through_a_cluster(it):
+    """A Redis Cluster of three: the log's slot is moved to another server under a running publisher and follower, and both find it there."""
+    kill(it.server)
+    ports = [free_port() for _ in range(3)]
+    for port in ports:
+        (it.folder / str(port)).mkdir()
+        it.start("redis-server", "--port", port, "--cluster-port", free_port(), "--bind", "127.0.0.1", "--dir", it.folder / str(port),
+                 "--appendonly", "yes", "--save", "", "--cluster-enabled", "yes")
+    clients = [redis.Redis("127.0.0.1", port) for port in ports]
+    for client in clients:
+        waited(lambda: answers(client), "a server doesn't answer")
+    made = subprocess.run(["redis-cli", "--cluster", "create", *(f"127.0.0.1:{port}" for port in ports), "--cluster-yes"],
+                          stdout=subprocess.PIPE, text=True, timeout=PATIENCE, check=False)
+    holds(made.returncode == 0, made.stdout[-400:])
+    waited(lambda: all(it.execute_command("CLUSTER INFO")["cluster_state"] == "ok" for it in clients), "the cluster isn't whole")
+    it.url = lambda: ["--redis", "cluster://" + ",".join(f"127.0.0.1:{port}" for port in ports)]
+    it.key = lambda stream: f"hekaton:{{{LOG}}}:{stream}"
+    writer = it.start(CONNECTORS / "publish", *it.url(), *WORDS, *SMALL, stdin=subprocess.PIPE)
+    reader, half = it.follow(*it.until()), len(it.frames) // 2
+    writer.stdin.write(b"".join(it.frames[:half]))
+    writer.stdin.flush()
+    it.reached(0.4)
+    owner = next(client for client in clients if client.execute_command("DBSIZE"))
+    other = clients[(clients.index(owner) + 1) % 3]
+    moved(it, owner, other, ports[clients.index(other)])
+    writer.stdin.write(b"".join(it.frames[half:]))
+    writer.stdin.close()
+    status(writer)
+    status(reader)
+    it.client = other
+    it.no_hole()
+    it.same()
+
+
+def moved(it, owner, other, port):
+    """Moves the log's slot from one server to another."""
+    slot = owner.execute_command("CLUSTER", "KEYSLOT", it.key(1))
+    to, own = (client.execute_command("CLUSTER", "MYID").decode() for client in (other, owner))
+    other.execute_command("CLUSTER", "SETSLOT", slot, "IMPORTING", own)
+    owner.execute_command("CLUSTER", "SETSLOT", slot, "MIGRATING", to)
+    owner.execute_command("MIGRATE", "127.0.0.1", port, "", 0, 10_000, "KEYS", *(it.key(stream) for stream in range(1, 5)))
+    for client in (other, owner):
+        client.execute_command("CLUSTER", "SETSLOT", slot, "NODE", to)
+
+
+def of_before(it):
+    """A stream of single frames, as it was written before blocks were, is followed, gone on with, compared, and told."""
+    numbers, beside = dict.fromkeys(range(1, 5), 0), dict.fromkeys(range(1, 5), 0)
+    for frame in it.frames[:len(it.frames) // 2]:
+        stream = stream_of(frame)
+        numbers[stream], beside[stream] = (number_of(frame), 0) if is_entry(frame) else (numbers[stream], beside[stream] + 1)
+        it.client.xadd(it.key(stream), {"f": frame}, id=f"{numbers[stream]}-{beside[stream]}")
+    reader = it.follow(*it.until())
+    it.reached(0.45)
+    status(it.publish())
+    there = sum(map(is_entry, it.frames[:len(it.frames) // 2]))
+    holds(f"blocks, {there} were there" in it.said(), it.said())
+    status(reader)
+    it.no_hole()
+    it.same()
+    it.start_node(it.other_port)
+    status(it.follow(*it.until(), port=it.other_port))
+    it.same(it.other_port)
+
+
+def lost_and_forked(it):
+    """Redis loses all under a running follower: it waits, and says so after its patience (3). Where another log comes under the numbers that
+    it was fed, it ends with 2."""
+    status(it.publish())
+    other, readers = it.start_node(it.other_port), [it.follow("--patience", 4), it.follow("--patience", 60, port=it.other_port)]
+    it.reached(1)
+    it.reached(1, it.other_port)
+    it.client.flushall()
+    kill(it.server)
+    shutil.rmtree(it.folder / "redis" / "appendonlydir")
+    it.start_redis()
+    status(readers[0], 3)
+    holds("it lost its tail after the node was fed" in it.said(), it.said())
+    it.write("other.bin", log_of(it.entries * 2, 6))
+    status(it.publish("other.bin"))
+    status(readers[1], 2)
+    holds("the log forks: the block up to entry" in it.said(), it.said())
+    kill(other)
+
+
 def told_by_status(it):
     """`status` tells how far Redis and the node are, in the words of its table; `--watch` keeps one link."""
     status(it.publish())
@@ -544,7 +678,8 @@ def told_by_status(it):
 
 
 def as_in_the_page(it):
-    """The commands of docs/CONNECTORS.md, typed one after the other: those that go on until they are ended do so for as long as it takes."""
+    """The commands of docs/CONNECTORS.md, typed one after the other: those that go on until they are ended do so for as long as it
+    takes."""
     env = {**os.environ, "REDIS_URL": f"redis://127.0.0.1:{it.redis_port}"}
     for shown in of("connectors.py typed"):
         line = shown.text.replace("LOG.bin", str(it.folder / "log.bin")).replace("47000", str(it.node_port)).replace("redis-cli", f"redis-cli -p {it.redis_port}")
@@ -563,7 +698,7 @@ def as_in_the_page(it):
 
 STORIES = [killed_followers, killed_publisher, killed_redis, killed_node, lost_tail, trimmed, forked, two_followers, two_publishers, out_of_order,
            twice_fed, lacking_input, poisoned, never_there, no_messages_of_ours, added_beneath, told_in_short, large_numbers, kept, secured,
-           told_by_status, as_in_the_page]
+           through_sentinels, through_a_cluster, of_before, lost_and_forked, told_by_status, as_in_the_page]
 
 
 def over_kafka():

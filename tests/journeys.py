@@ -1,5 +1,6 @@
-"""What the stories of connectors share (tests/connectors.py, tests/engine.py): a log and the rows that it has, programs that are started and ended, a
-node's rows beside the log's, and the messages that are no blocks. The connectors' package, tests/reference.py and the standard library."""
+"""What the stories of connectors share (tests/connectors.py, tests/engine.py): a log and the rows that it has, programs that are started
+and ended, a node's rows beside the log's, and the messages that are no blocks. The connectors' package, tests/reference.py and the
+standard library."""
 import os
 import pathlib
 import random
@@ -32,8 +33,8 @@ def holds(condition, text):
 
 
 def log_of(entries, seed, fork=0):
-    """A log: entries of one to three writes, one write in twenty a removal; marks of all streams after every tenth entry and at the end. Behind the
-    entry `fork` another history goes on."""
+    """A log: entries of one to three writes, one write in twenty a removal; marks of all streams after every tenth entry and at the end.
+    Behind the entry `fork` another history goes on."""
     rand, writer, frames = random.Random(seed), LogWriter(LOG, STREAMS), []
     keys = max(4, entries // 4)
     for time_ in range(1, entries + 1):
@@ -76,8 +77,8 @@ def rows_of_log(log):
 
 
 def bad_messages(log):
-    """What is no block of stream 1 of a log behind its entries 1 and 2, though it stands there and says that its last entry is 3; and what is said
-    of it."""
+    """What is no block of stream 1 of a log behind its entries 1 and 2, though it stands there and says that its last entry is 3; and
+    what is said of it."""
     third, fourth, fifth = rows_of_log(log)[2:5]
     mark = encode(Mark(log, 1, 4, 9))
     return {"empty": (b"", "0 bytes are no item frame"),
@@ -116,7 +117,8 @@ class Bench:
 
     def start(self, *words, **more):
         with open(self.folder / "said", "ab") as said:
-            child = subprocess.Popen([str(word) for word in words], stderr=said, **{"stdout": subprocess.DEVNULL, "stdin": subprocess.DEVNULL, **more})
+            pipes = {"stdout": subprocess.DEVNULL, "stdin": subprocess.DEVNULL, **more}
+            child = subprocess.Popen([str(word) for word in words], stderr=said, **pipes)
         self.children.append(child)
         return child
 

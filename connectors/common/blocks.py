@@ -1,8 +1,8 @@
-"""Blocks: what one message of an engine has. A block is one or more whole item frames of one stream, one behind the other, with nothing between
-them; so a message of one frame is a block too. A block is told by two numbers: `last` is the number of its last entry (of the entry before it,
-where it has marks alone), `first` the number behind the last entry before it. Blocks of a stream follow one another where `first` is at most one
-above the `last` of before, and entry n stands in the first block whose `last` is n or more. Repeats are free. Standard library, and the package
-`vadungsil` of this checkout."""
+"""Blocks: what one message of an engine has. A block is one or more whole item frames of one stream, one behind the other, with nothing
+between them; so a message of one frame is a block too. A block is told by two numbers: `last` is the number of its last entry (of the
+entry before it, where it has marks alone), `first` the number behind the last entry before it. Blocks of a stream follow one another
+where `first` is at most one above the `last` of before, and entry n stands in the first block whose `last` is n or more. Repeats are
+free. Standard library, and the package `vadungsil` of this checkout."""
 from __future__ import annotations
 
 import struct
@@ -29,8 +29,8 @@ class Missing(Broken):
     """Entries that an engine no longer has: {stream: (from, to)}."""
 
     def __init__(self, engine: str, lacking: Dict[int, Tuple[int, int]]) -> None:
-        text = "; ".join(f"stream {stream}: entries {low} to {high} are no longer in {engine}" for stream, (low, high) in sorted(lacking.items()))
-        super().__init__(3, text)
+        super().__init__(3, "; ".join(f"stream {stream}: entries {low} to {high} are no longer in {engine}"
+                                      for stream, (low, high) in sorted(lacking.items())))
         self.lacking = lacking
 
 
@@ -58,8 +58,8 @@ class Framed(NamedTuple):
 
 
 def walked(data: bytes, last: int, log: int, stream: int, name: str) -> Block:
-    """The block of a message of which the engine says that its last entry is `last`. Looks at the heads alone; 3 where it is no block of this
-    stream, or another one than the engine says."""
+    """The block of a message of which the engine says that its last entry is `last`. Looks at the heads alone; 3 where it is no block of
+    this stream, or another one than the engine says."""
     at, count, first, number, latest, marked, counted, size = 0, 0, 0, 0, 0, 0, 0, len(data)
     while at + 32 <= size:
         length, version, kind, its_log, its_stream, its_first, time = _HEAD(data, at)
@@ -125,7 +125,8 @@ class Cutter:
             length, version, kind, log, stream, first, second = _HEAD(data, at)
             end = at + 4 + length
             is_entry = kind == 1
-            if not LEAST_REST <= length <= MOST_REST or not 1 <= version <= 2 or not 1 <= kind <= 2 or not is_entry <= first <= second <= LAST_TIME:
+            is_framed = LEAST_REST <= length <= MOST_REST and 1 <= version <= 2 and 1 <= kind <= 2
+            if not is_framed or not is_entry <= first <= second <= LAST_TIME or not 1 <= stream <= 64:
                 self.fault(data[at:at + 32], length)
             if end > size:
                 break
@@ -150,7 +151,8 @@ class Cutter:
 
 
 class Line:
-    """The frames of one stream on their way: in any order, late and twice; an entry waits for those before it, a mark for those that it counts."""
+    """The frames of one stream on their way: in any order, late and twice; an entry waits for those before it, a mark for those that it
+    counts."""
 
     def __init__(self, number: int, marked: int) -> None:
         self.next, self.marked = number + 1, marked

@@ -1,4 +1,5 @@
-"""What the demonstrations of all connectors share: a primary's log with the rows that it has at some times, nodes, and the table at the end."""
+"""What the demonstrations of all connectors share: a primary's log with the rows that it has at some times, nodes, and the table at the
+end."""
 from __future__ import annotations
 
 import pathlib
@@ -67,7 +68,8 @@ class Demonstration:
 
 
 def log_of(count: int, wanted: Dict[int, Rows]) -> Iterator[Tuple[int, bytes]]:
-    """A primary's log, a transaction of two writes at a time, with marks after each twentieth; fills `wanted` with the rows at its times."""
+    """A primary's log, a transaction of two writes at a time, with marks after each twentieth; fills `wanted` with the rows at its
+    times."""
     rand, writer = random.Random(7), LogWriter(7, STREAMS)
     rows: Rows = {}
     for at in range(1, count + 1):

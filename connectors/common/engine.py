@@ -1,5 +1,5 @@
-"""What a connector asks of an engine, and what is so on each of them: how far a stream of the log is there, and whether an entry that is published
-again is the one that stands there."""
+"""What a connector asks of an engine, and what is so on each of them: how far a stream of the log is there, and whether an entry that is
+published again is the one that stands there."""
 from __future__ import annotations
 
 import abc
@@ -30,8 +30,8 @@ class Tail(NamedTuple):
 
 
 class EngineLog(abc.ABC):
-    """The streams 1 to `streams` of a log in an engine. A place is what the engine knows a message by; places of a stream rise. Calls raise one of
-    `errors`; `is_passing` says whether to try again, after `drop`."""
+    """The streams 1 to `streams` of a log in an engine. A place is what the engine knows a message by; places of a stream rise. Calls
+    raise one of `errors`; `is_passing` says whether to try again, after `drop`."""
 
     engine = ""
     errors: Tuple[Type[BaseException], ...] = ()
@@ -83,8 +83,8 @@ class EngineLog(abc.ABC):
 
     @abc.abstractmethod
     def append(self, stream: int, behind: Any, blocks: List[Block], kept: Callable[[int], None]) -> Any:
-        """Adds blocks behind the last message, which stands at `behind`, else `Moved`; says the last entry of each that is kept as was asked for,
-        and gives the place of the last one."""
+        """Adds blocks behind the last message, which stands at `behind`, else `Moved`; says the last entry of each that is kept as was
+        asked for, and gives the place of the last one."""
 
     @abc.abstractmethod
     def reading(self, prefixes: Dict[int, int], batch: int) -> "Reading":
@@ -108,8 +108,8 @@ class EngineLog(abc.ABC):
     # ------------------------------------------------------------ comparing
 
     def entry(self, stream: int, number: int) -> Optional[bytes]:
-        """An entry up to the last one; None where it was trimmed: it is below the first that is there, and so many messages are gone as would hold
-        what lacks. 3 where it isn't there otherwise."""
+        """An entry up to the last one; None where it was trimmed: it is below the first that is there, and so many messages are gone as
+        would hold what lacks. 3 where it isn't there otherwise."""
         if number not in self.seen.get(stream, {}):
             block = self.holding(stream, number)
             self.seen[stream] = entries_of(block.data) if block else {}
@@ -118,13 +118,13 @@ class EngineLog(abc.ABC):
                 if number < first and (gone is None or first - 1 <= gone * BLOCK_FRAMES):
                     return None
                 upto = block.first - 1 if block else self.last(stream)
-                raise Broken(3, f"stream {stream}: entries {number} to {upto} are not in {self.key(stream)} and were not trimmed, and there "
-                                "are higher ones: they were deleted, or something else writes to this stream")
+                raise Broken(3, f"stream {stream}: entries {number} to {upto} are not in {self.key(stream)} and were not trimmed, "
+                                "and there are higher ones: they were deleted, or something else writes to this stream")
         return self.seen[stream][number]
 
     def checked(self, frames: List[Framed], tail: Tail) -> Tuple[List[Framed], Tail, int, int]:
-        """What of these frames is new behind the tail, the tail behind that, how many were there, and how many were there once. Raises where the
-        log forks (2) or entries lack (3). Frames of one stream, each entry at most one above those before it."""
+        """What of these frames is new behind the tail, the tail behind that, how many were there, and how many were there once. Raises
+        where the log forks (2) or entries lack (3). Frames of one stream, each entry at most one above those before it."""
         place, number, latest, marked = tail
         new: List[Framed] = []
         added: Dict[int, bytes] = {}
@@ -151,11 +151,13 @@ class EngineLog(abc.ABC):
         """2 where an entry is another than the one that is there, or is about to be; whether it is there no more."""
         there = added.get(one.first) or self.entry(one.stream, one.first)
         if there is not None and there != one.frame:
-            raise Broken(2, f"stream {one.stream}: entry {one.first} in {self.engine} is another: this log is not the one that was published before")
+            raise Broken(2, f"stream {one.stream}: entry {one.first} in {self.engine} is another: this log is not the one that was "
+                            "published before")
         return there is None
 
     def try_mark(self, one: Framed, added: Dict[int, bytes], number: int) -> None:
-        """2 where a mark isn't true of the entries beside it: the entries up to m are the first n, so entry n is not later, and the next one is."""
+        """2 where a mark isn't true of the entries beside it: the entries up to m are the first n, so entry n is not later, and the next
+        one is."""
         own, behind = (added.get(it) or self.entry(one.stream, it) if 0 < it <= number else None for it in (one.first, one.first + 1))
         if (own is not None and time_of(own) > one.second) or (behind is not None and time_of(behind) <= one.second):
             raise Broken(2, f"stream {one.stream}: a mark of the first {one.first} entries is not true of the entries")

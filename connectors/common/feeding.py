@@ -1,5 +1,5 @@
-"""The node's side of any connector: a link that is fed ahead of its replies, and what one that waits says. Standard library, and the package
-`vadungsil` of this checkout."""
+"""The node's side of any connector: a link that is fed ahead of its replies, and what one that waits says. Standard library, and the
+package `vadungsil` of this checkout."""
 from __future__ import annotations
 
 import pathlib

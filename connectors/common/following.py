@@ -1,5 +1,5 @@
-"""The follower, over any engine: what `follow` does of each connector. It keeps no cursor: at its start, and after each link that broke, it asks the
-nodes how far each stream is, and reads from there."""
+"""The follower, over any engine: what `follow` does of each connector. It keeps no cursor: at its start, and after each link that broke,
+it asks the nodes how far each stream is, and reads from there."""
 from __future__ import annotations
 
 import argparse
@@ -11,8 +11,9 @@ from engine import Behind, EngineLog, Reading
 from feeding import Fault, Feed, LinkBroken, Patience, Refused
 from vadungsil.node import Node
 
-STATUSES = """status: 0 as far as was asked for; 1 a failure, with --once, or ENGINE refuses; 2 the log forks: ENGINE has another block than a node was fed;
-3 entries lack that ENGINE had, or its messages are no blocks of the log; 4 a node refuses the items; 64 the words of the command line."""
+STATUSES = """status: 0 as far as was asked for; 1 a failure, with --once, or ENGINE refuses; 2 the log forks: ENGINE has another
+block than a node was fed; 3 entries lack that ENGINE had, or its messages are no blocks of the log; 4 a node refuses the items; 64 the
+words of the command line."""
 
 
 MOST_A_STREAM = 256
@@ -58,8 +59,8 @@ class Fed:
         self.link().send_blocks(blocks, name)
 
     def fill(self, source: str) -> str:
-        """Has it take what another node knows since what this one can read, else all of it: in parts, where both nodes read messages of version
-        2, else in one message, which has at most 2^28 bytes."""
+        """Has it take what another node knows since what this one can read, else all of it: in parts, where both nodes read messages of
+        version 2, else in one message, which has at most 2^28 bytes."""
         feed = self.link()
         readable = feed.front().readable
         try:
@@ -105,8 +106,8 @@ class Follower:
     # ------------------------------------------------------------ where to begin
 
     def begin(self) -> None:
-        """Reads from the least that a node has that can be linked to; where the engine lacks what comes next, after that node has joined what
-        another one knows."""
+        """Reads from the least that a node has that can be linked to; where the engine lacks what comes next, after that node has joined
+        what another one knows."""
         self.link_all()
         for it in self.linked():
             it.learn(self.store.streams)
@@ -157,8 +158,8 @@ class Follower:
         for stream, (place, digest) in self.fed.items():
             block = self.store.at(stream, place)
             if block is not None and block.digest() != digest:
-                raise Broken(2, f"stream {stream}: the log forks: the block up to entry {block.last} in {self.store.engine} is another than the one "
-                                "that was fed")
+                raise Broken(2, f"stream {stream}: the log forks: the block up to entry {block.last} in {self.store.engine} is another "
+                                "than the one that was fed")
 
     def see_no_loss(self, it: Fed) -> None:
         """The engine has all that the node has. Where it doesn't for so long as --patience says, it lost its tail."""
@@ -259,17 +260,19 @@ def streams_of(text: str) -> List[int]:
 
 
 def add_follow_words(words: argparse.ArgumentParser, engine: str) -> None:
-    words.add_argument("--node", required=True, action="append", metavar="ADDRESS", help="PORT or HOST:PORT of a node's first port; as often as "
-                       "wanted: each block is then read once for all of them, and the slowest holds the others back")
+    words.add_argument("--node", required=True, action="append", metavar="ADDRESS",
+                       help="PORT or HOST:PORT of a node's first port; as often as wanted: each block is then read once for all of them, "
+                       "and the slowest holds the others back")
     words.add_argument("--from", dest="source", metavar="ADDRESS", help=f"another node, for what {engine} no longer has")
     words.add_argument("--only", type=streams_of, metavar="STREAMS", help="of these streams alone, as 1,2")
     words.add_argument("--until", type=int, default=0, metavar="TIME", help="end when the node can be read at this time")
     words.add_argument("--once", action="store_true", help="end when nothing more is there, and at the first failure")
-    words.add_argument("--batch", type=int, default=MOST_A_STREAM, metavar="N", help=f"blocks of a stream that are read at once ({MOST_A_STREAM})")
+    words.add_argument("--batch", type=int, default=MOST_A_STREAM, metavar="N",
+                       help=f"blocks of a stream that are read at once ({MOST_A_STREAM})")
     words.add_argument("--ahead", type=int, default=4, metavar="N", help="requests ahead of their replies")
     words.add_argument("--block", type=int, default=200, metavar="MS", help="how long a read waits for something new")
-    words.add_argument("--patience", type=float, default=60, metavar="SECONDS", help=f"how long {engine} may have less than the node before that is "
-                       "told as lost (60)")
+    words.add_argument("--patience", type=float, default=60, metavar="SECONDS",
+                       help=f"how long {engine} may have less than the node before that is told as lost (60)")
 
 
 def see_follow_words(said: argparse.Namespace, words: argparse.ArgumentParser) -> None:

@@ -14,9 +14,10 @@ from feeding import Fault, Patience, decode
 MOST_EARLY = 2 ** 28     # bytes of entries that wait for those before them
 AT_ONCE = 4              # blocks, or as many bytes, that are appended in one go while more input waits
 
-STATUSES = """status: 0 all frames are in ENGINE; 1 ENGINE refuses, or is set otherwise than was asked for; 2 the log forks: ENGINE has another entry, or
-one that contradicts this one; 3 entries lack, in the input, because ENGINE lost its tail, or because they were deleted or never there, or
-messages in ENGINE are no blocks of the log; 4 the input is no log of this id and these streams; 64 the words of the command line."""
+STATUSES = """status: 0 all frames are in ENGINE; 1 ENGINE refuses, or is set otherwise than was asked for; 2 the log forks: ENGINE has
+another entry, or one that contradicts this one; 3 entries lack, in the input, because ENGINE lost its tail, or because they were deleted
+or never there, or messages in ENGINE are no blocks of the log; 4 the input is no log of this id and these streams; 64 the words of the
+command line."""
 
 
 class Sending:
@@ -84,7 +85,8 @@ class Publisher:
             except Moved:
                 continue
             it.tail = after._replace(place=place)
-            self.added, self.there, self.gone, self.blocks = self.added + len(new), self.there + there, self.gone + gone, self.blocks + len(blocks)
+            self.added, self.blocks = self.added + len(new), self.blocks + len(blocks)
+            self.there, self.gone = self.there + there, self.gone + gone
             last = max([one.first for one in it.line.ready if one.is_entry], default=0)
             it.line.ready, it.line.size = [], 0
             if self.said.confirm and last:
@@ -96,7 +98,8 @@ class Publisher:
         it.kept, it.behind = number, None
 
     def learn(self, stream: int, it: Sending) -> Tail:
-        """How far the stream is. Less than was acknowledged may come from a server that was cut off and doesn't know it yet: it is waited for."""
+        """How far the stream is. Less than was acknowledged may come from a server that was cut off and doesn't know it yet: it is waited
+        for."""
         tail = self.store.tail(stream)
         if tail.number < it.kept:
             it.behind = it.behind or time.monotonic()
@@ -149,9 +152,10 @@ def add_publish_words(words: argparse.ArgumentParser) -> None:
     words.add_argument("--confirm", action="store_true", help="say on standard output what is kept, as `kept STREAM NUMBER`")
     words.add_argument("--heads", action="store_true", help="look at the heads of the frames alone, and not at their lists: quicker, for a "
                        "primary that is trusted to write frames")
-    words.add_argument("--block", type=int, default=BLOCK_BYTES, metavar="BYTES", help=f"how much one message has at most, but for a frame that is "
-                       f"larger ({BLOCK_BYTES})")
-    words.add_argument("--patience", type=float, default=60, metavar="SECONDS", help="how long less than was acknowledged is waited for (60)")
+    words.add_argument("--block", type=int, default=BLOCK_BYTES, metavar="BYTES",
+                       help=f"how much one message has at most, but for a frame that is larger ({BLOCK_BYTES})")
+    words.add_argument("--patience", type=float, default=60, metavar="SECONDS",
+                       help="how long less than was acknowledged is waited for (60)")
     words.add_argument("files", nargs="*", metavar="FILE", help="item frames; without one, standard input")
 
 

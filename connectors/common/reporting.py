@@ -31,8 +31,8 @@ class Asked:
 
 
 def row_of_engine(store: EngineLog, stream: int, lines: List[str]) -> List[int]:
-    """The row of a stream: its first entry, its last, and the time that its last mark closes. Where a message is no block of the log, a line is
-    added that names it, and what can't be told without it is 0."""
+    """The row of a stream: its first entry, its last, and the time that its last mark closes. Where a message is no block of the log, a
+    line is added that names it, and what can't be told without it is 0."""
     row = [stream, 0, 0, 0]
     try:
         row[2] = store.last(stream)
@@ -67,7 +67,8 @@ def lines_of(store: EngineLog, nodes: List[Asked]) -> Tuple[List[str], int]:
         rows = []
         for (stream, first, last, marked), told in zip(there, streams):
             missing = f"{told.prefix + 1} to {first - 1}" if first > told.prefix + 1 else "-"
-            rows.append([stream, first, last, marked, told.prefix, told.closed, max(last - told.prefix, 0), max(marked - told.closed, 0), missing])
+            lags = [max(last - told.prefix, 0), max(marked - told.closed, 0)]
+            rows.append([stream, first, last, marked, told.prefix, told.closed, *lags, missing])
         lines.append(f"node {node.address}: {front}")
         heads = ["stream", "first", "last", "marked", "prefix", "closed", "behind", "in time", f"not in {store.engine}"]
         lines += table_of(heads, rows)
@@ -76,7 +77,8 @@ def lines_of(store: EngineLog, nodes: List[Asked]) -> Tuple[List[str], int]:
 
 def add_status_words(words: argparse.ArgumentParser) -> None:
     words.add_argument("--node", action="append", default=[], metavar="ADDRESS", help="PORT or HOST:PORT of a node; as often as wanted")
-    words.add_argument("--watch", nargs="?", type=float, const=1.0, metavar="SECONDS", help="again and again, every second without a number")
+    words.add_argument("--watch", nargs="?", type=float, const=1.0, metavar="SECONDS",
+                       help="again and again, every second without a number")
 
 
 def status(store: EngineLog, said: argparse.Namespace, beside: Callable[[], List[str]]) -> int:

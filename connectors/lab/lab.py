@@ -1,6 +1,6 @@
-"""Several hosts on one machine: network namespaces on a bridge that stands in a namespace of its own, so that nothing touches the machine's network.
-Programs are started inside a host, hosts are cut off from each other without a word to either, and joined again. Needs root and iproute2. What was
-made is removed at the end.
+"""Several hosts on one machine: network namespaces on a bridge that stands in a namespace of its own, so that nothing touches the
+machine's network. Programs are started inside a host, hosts are cut off from each other without a word to either, and joined again. Needs
+root and iproute2. What was made is removed at the end.
 
     with Lab("hk", 6) as lab:
         lab.words(1, ["nats-server", ..])      # what starts a program inside host 1
@@ -48,7 +48,8 @@ class Lab:
     def add(self, host: int, hub: str) -> None:
         own = self.name(host)
         ip("netns", "add", own)
-        ip("link", "add", "eth0", "netns", own, "address", f"02:00:00:77:00:{host:02x}", "type", "veth", "peer", "name", f"p{host}", "netns", hub)
+        address = f"02:00:00:77:00:{host:02x}"
+        ip("link", "add", "eth0", "netns", own, "address", address, "type", "veth", "peer", "name", f"p{host}", "netns", hub)
         ip("link", "set", f"p{host}", "master", "bridge0", "up", netns=hub)
         ip("address", "add", f"{self.address(host)}/24", "dev", "eth0", netns=own)
         ip("link", "set", "eth0", "up", netns=own)

@@ -1,5 +1,6 @@
-"""NATS by its protocol of text lines over one socket, and of JetStream what a log needs: make a stream, append behind a sequence that is named, get a
-message by its sequence, have many handed out by a consumer. Standard library only; TLS, and a user's password, where they are asked for."""
+"""NATS by its protocol of text lines over one socket, and of JetStream what a log needs: make a stream, append behind a sequence that is
+named, get a message by its sequence, have many handed out by a consumer. Standard library only; TLS, and a user's password, where they
+are asked for."""
 from __future__ import annotations
 
 import collections
@@ -86,12 +87,13 @@ def version_of(text: str) -> Tuple[int, ...]:
 def see_version(name: str, version: str) -> None:
     if version_of(version) < LEAST:
         least = ".".join(map(str, LEAST))
-        raise Denied(f"{name} is nats-server {version}, which loses acknowledged messages after a partition: {least} or later is needed on each server")
+        raise Denied(f"{name} is nats-server {version}, which loses acknowledged messages after a partition: {least} or later is needed "
+                     "on each server")
 
 
 class Nats:
-    """One link to one of some servers, each HOST:PORT, nats://USER@HOST:PORT or tls://USER@HOST:PORT; opened at once. Any server hands a request on to
-    the one that it is for."""
+    """One link to one of some servers, each HOST:PORT, nats://USER@HOST:PORT or tls://USER@HOST:PORT; opened at once. Any server hands a
+    request on to the one that it is for."""
 
     def __init__(self, urls: Sequence[str], security: Security = Security(), limit: float = REPLY) -> None:
         self.limit, self.security = limit, security
@@ -139,7 +141,8 @@ class Nats:
 
     @staticmethod
     def hello(user: Optional[str]) -> bytes:
-        said = {"verbose": False, "pedantic": False, "headers": True, "no_responders": True, "lang": "python", "version": "0", "protocol": 1, "name": "hekaton"}
+        said = {"verbose": False, "pedantic": False, "headers": True, "no_responders": True, "lang": "python", "version": "0",
+                "protocol": 1, "name": "hekaton"}
         if user:
             said.update(user=user, **{"pass": os.environ.get("NATS_PASSWORD", "")})
         return json.dumps(said).encode()
@@ -268,8 +271,8 @@ class Nats:
         return self.at < len(self.buffer) or pending > 0 or bool(select.select([self.socket], [], [], 0)[0])
 
     def ask_again(self, subject: bytes, data: bytes) -> Message:
-        """A question that may be asked as often as wanted. Servers share such questions among them, also with one that was cut off and isn't known
-        to be away yet: what it was handed is lost, so little patience at first."""
+        """A question that may be asked as often as wanted. Servers share such questions among them, also with one that was cut off and
+        isn't known to be away yet: what it was handed is lost, so little patience at first."""
         for limit in TRIES:
             token, text = self.put(subject, data)
             self.send(text)

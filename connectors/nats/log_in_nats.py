@@ -1,10 +1,10 @@
-"""A log in NATS JetStream: stream S of log L is the JetStream stream `hekaton_L_S`, of the subject `hekaton.L.S`, with three replicas; a message is a
-block (connectors/common/blocks.py), whose header Hk-Last tells the number of its last entry.
+"""A log in NATS JetStream: stream S of log L is the JetStream stream `hekaton_L_S`, of the subject `hekaton.L.S`, with three replicas; a
+message is a block (connectors/common/blocks.py), whose header Hk-Last tells the number of its last entry.
 
-Each append names the sequence of the message that it stands behind (Nats-Expected-Last-Sequence), so two writers can't come between each other,
-nothing is there twice, and no block stands behind one that lacks: the server refuses it, whoever leads by then. A message is there for readers once
-a majority of the servers has it, so no node is fed what a failover may lose. Nothing but the blocks is kept: entry n is found by halving, in about
-twice the logarithm of the number of blocks behind it. Needs nats-server 2.10.27 or later on each server."""
+Each append names the sequence of the message that it stands behind (Nats-Expected-Last-Sequence), so two writers can't come between each
+other, nothing is there twice, and no block stands behind one that lacks: the server refuses it, whoever leads by then. A message is there
+for readers once a majority of the servers has it, so no node is fed what a failover may lose. Nothing but the blocks is kept: entry n is
+found by halving, in about twice the logarithm of the number of blocks behind it. Needs nats-server 2.10.27 or later on each server."""
 from __future__ import annotations
 
 import argparse
@@ -48,7 +48,8 @@ class LogInNats(EngineLog):
 
     engine, errors = "NATS", (Away, Denied, ApiError)
 
-    def __init__(self, urls: List[str], log: int, streams: int, replicas: int = 3, security: Security = Security(), by: str = "pull") -> None:
+    def __init__(self, urls: List[str], log: int, streams: int, replicas: int = 3, security: Security = Security(),
+                 by: str = "pull") -> None:
         super().__init__(log, streams)
         self.urls, self.replicas, self.security, self.by = urls, replicas, security, by
         self.nats: Optional[Nats] = None
@@ -93,12 +94,13 @@ class LogInNats(EngineLog):
                 told = self.link().ask(f"$JS.API.STREAM.INFO.{self.key(stream)}")
             replicas = told["config"]["num_replicas"]
             if replicas < self.replicas:
-                raise Denied(f"{self.key(stream)} is kept by {replicas} servers, and not by {self.replicas}: --replicas says how many are to keep it")
+                raise Denied(f"{self.key(stream)} is kept by {replicas} servers, and not by {self.replicas}: --replicas says how many are "
+                             "to keep it")
 
     def config(self, stream: int) -> Dict[str, Any]:
         """It refuses what would be too much, and drops nothing by itself."""
-        return {"name": self.key(stream), "subjects": [self.subject(stream)], "storage": "file", "retention": "limits", "discard": "new", "max_msgs": -1,
-                "max_bytes": -1, "max_age": 0, "num_replicas": self.replicas, "allow_direct": True, "deny_delete": True,
+        return {"name": self.key(stream), "subjects": [self.subject(stream)], "storage": "file", "retention": "limits", "discard": "new",
+                "max_msgs": -1, "max_bytes": -1, "max_age": 0, "num_replicas": self.replicas, "allow_direct": True, "deny_delete": True,
                 "duplicate_window": 1_000_000_000}
 
     def info(self, stream: int) -> Info:
@@ -220,7 +222,8 @@ class LogInNats(EngineLog):
             parts = []
             while sent < len(blocks) and len(waiting) < AHEAD:
                 if len(blocks[sent].data) + HEADERS > most:
-                    raise Denied(f"a block of {len(blocks[sent].data)} bytes is more than {nats.name} takes ({most}): set max_payload to 8388608")
+                    raise Denied(f"a block of {len(blocks[sent].data)} bytes is more than {nats.name} takes ({most}): "
+                                 "set max_payload to 8388608")
                 token, text = self.message(stream, behind + sent, blocks[sent])
                 parts.append(text)
                 waiting.append((token, blocks[sent].last))
@@ -234,7 +237,8 @@ class LogInNats(EngineLog):
         return place
 
     def message(self, stream: int, behind: int, block: Block) -> Tuple[bytes, bytes]:
-        head = b"Nats-Expected-Stream: %s\r\nNats-Expected-Last-Sequence: %d\r\nHk-Last: %d\r\n" % (self.key(stream).encode(), behind, block.last)
+        head = (b"Nats-Expected-Stream: %s\r\nNats-Expected-Last-Sequence: %d\r\nHk-Last: %d\r\n"
+                % (self.key(stream).encode(), behind, block.last))
         return self.link().put(self.subject(stream).encode(), block.data, head)
 
     def acknowledged(self, message: Message, sequence: int) -> None:
@@ -257,8 +261,10 @@ class LogInNats(EngineLog):
 
 def add_words(words: argparse.ArgumentParser) -> None:
     """The words of all programs."""
-    words.add_argument("--nats", metavar="URLS", help="HOST:PORT,HOST:PORT,.. of the cluster's servers, tls://USER@HOST:PORT for TLS; without it the "
-                       "environment's NATS_URL, else 127.0.0.1:4222. A password comes from NATS_PASSWORD, and never from the command line")
+    words.add_argument("--nats", metavar="URLS",
+                       help="HOST:PORT,HOST:PORT,.. of the cluster's servers, tls://USER@HOST:PORT for TLS; without it "
+                       "the environment's NATS_URL, else 127.0.0.1:4222. A password comes from NATS_PASSWORD, and never from the "
+                       "command line")
     add_log_words(words)
 
 

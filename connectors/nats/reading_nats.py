@@ -35,8 +35,8 @@ def places_of(store: LogInNats, prefixes: Dict[int, int]) -> Dict[int, Place]:
 
 
 class Pulling(Reading):
-    """By a consumer a stream: one request for many blocks, which come as they are kept. The consumer is for this link alone, in the memory of one
-    server, and acknowledges nothing: where it is lost, another one is made where this one was."""
+    """By a consumer a stream: one request for many blocks, which come as they are kept. The consumer is for this link alone, in the
+    memory of one server, and acknowledges nothing: where it is lost, another one is made where this one was."""
 
     def __init__(self, store: LogInNats, prefixes: Dict[int, int], batch: int) -> None:
         self.store, self.batch, self.is_over = store, batch, False
@@ -89,7 +89,8 @@ class Pulling(Reading):
 class Consumer:
     """What hands out the messages of one stream from a sequence on."""
 
-    # In seconds. The servers choose one of those that keep the stream, also one that is gone, which then says nothing: another is asked for.
+    # In seconds. The servers choose one of those that keep the stream, also one that is gone, which then says nothing: another is asked
+    # for.
     TRIES = (1, 1, 1, 2, 2, 4)
 
     def __init__(self, store: LogInNats, stream: int, sequence: int) -> None:

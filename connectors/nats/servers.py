@@ -1,5 +1,5 @@
-"""Three nats-servers on this machine, for the demonstration, the tests and the measures: they are configured as docs/CONNECTORS.md says, but that they
-share one machine. Standard library only."""
+"""Three nats-servers on this machine, for the demonstration, the tests and the measures: they are configured as docs/CONNECTORS.md says,
+but that they share one machine. Standard library only."""
 from __future__ import annotations
 
 import contextlib
@@ -29,10 +29,11 @@ def program() -> Optional[str]:
 
 
 class Servers:
-    """Servers 1 to `count`. `place` gives host and the ports for clients, for the other servers and for monitoring; `start` starts a program on a
-    host."""
+    """Servers 1 to `count`. `place` gives host and the ports for clients, for the other servers and for monitoring; `start` starts a
+    program on a host."""
 
-    def __init__(self, folder: pathlib.Path, place: Callable[[int], Tuple[str, int, int, int]], start: Callable[..., Any], count: int = 3) -> None:
+    def __init__(self, folder: pathlib.Path, place: Callable[[int], Tuple[str, int, int, int]], start: Callable[..., Any],
+                 count: int = 3) -> None:
         self.folder, self.start, self.hosts = folder, start, HOSTS[:count]
         self.places = {host: place(host) for host in self.hosts}
         self.running: Dict[int, Any] = {}
@@ -51,8 +52,8 @@ class Servers:
     # ------------------------------------------------------------ starting and ending
 
     def begin(self) -> None:
-        """Starts them one after the other, and sees that each has found the others; now and then 2.10.27 makes a cluster of two, and a restart of the
-        third mends it."""
+        """Starts them one after the other, and sees that each has found the others; now and then 2.10.27 makes a cluster of two, and a
+        restart of the third mends it."""
         for host in self.hosts:
             self.serve(host)
         for host in (*reversed(self.hosts), 0):
@@ -76,8 +77,9 @@ class Servers:
         routes = ", ".join(f"nats-route://{it}:{other}" for its, (it, _, other, _) in self.places.items() if its != host)
         synced = ", sync_interval: always" if self.is_synced else ""
         cluster = f"cluster {{ name: log, listen: {address}:{route}, routes: [{routes}] }}\n" if len(self.hosts) > 1 else ""
-        return (f"server_name: n{host}\nlisten: {address}:{port}\nhttp: {address}:{monitor}\nmax_payload: {self.payload}\nping_interval: \"10s\"\n"
-                f"ping_max: 2\nwrite_deadline: \"2s\"\njetstream {{ store_dir: \"{self.folder}/js{host}\"{synced} }}\n{cluster}{self.more}")
+        return (f"server_name: n{host}\nlisten: {address}:{port}\nhttp: {address}:{monitor}\nmax_payload: {self.payload}\n"
+                f"ping_interval: \"10s\"\nping_max: 2\nwrite_deadline: \"2s\"\n"
+                f"jetstream {{ store_dir: \"{self.folder}/js{host}\"{synced} }}\n{cluster}{self.more}")
 
     def kill(self, host: int) -> None:
         child = self.running[host]
@@ -136,12 +138,14 @@ class Servers:
         metas = [self.told(host).get("meta_cluster", {}) for host in self.hosts]
         if len(self.hosts) == 1:
             return True
-        return all(it.get("leader") and it.get("cluster_size") == 3 for it in metas) and any(len(it.get("replicas") or []) == 2 for it in metas)
+        return (all(it.get("leader") and it.get("cluster_size") == 3 for it in metas)
+                and any(len(it.get("replicas") or []) == 2 for it in metas))
 
     def held(self, host: int) -> Dict[str, Tuple[int, int, int, int]]:
         """Of each stream on a server: messages, bytes, first and last sequence."""
         streams = [it for account in self.told(host).get("account_details") or [] for it in account.get("stream_detail") or []]
-        return {it["name"]: tuple(it["state"][key] for key in ("messages", "bytes", "first_seq", "last_seq")) for it in streams}  # type: ignore[misc]
+        names = ("messages", "bytes", "first_seq", "last_seq")
+        return {it["name"]: tuple(it["state"][name] for name in names) for it in streams}  # type: ignore[misc]
 
     def leaders(self, keys: List[str]) -> Dict[str, int]:
         """The host that leads each stream; 0 where nobody does."""

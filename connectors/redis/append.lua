@@ -1,8 +1,8 @@
--- Appends blocks to one Redis stream, behind the message that the writer takes for the last: no other writer comes in between, and nothing is
--- there twice. What is there already the writer has compared before.
+-- Appends blocks to one Redis stream, behind the message that the writer takes for the last: no other writer comes in between, and nothing
+-- is there twice. What is there already the writer has compared before.
 --
--- KEYS[1]: the Redis stream. ARGV[1]: the id of the last message that it had, 0-0 for none. ARGV[2]: '1' asks for a write even where nothing is
--- new, which WAIT and the file can be asked about. Then an id and a block each. Gives 'ok' or 'moved', and the last id.
+-- KEYS[1]: the Redis stream. ARGV[1]: the id of the last message that it had, 0-0 for none. ARGV[2]: '1' asks for a write even where
+-- nothing is new, which WAIT and the file can be asked about. Then an id and a block each. Gives 'ok' or 'moved', and the last id.
 local last = '0-0'
 local exists = redis.call('EXISTS', KEYS[1]) == 1
 if exists then

@@ -1,5 +1,5 @@
-"""Which server to ask: one at an address, the primary of some Sentinels, or the one of a Redis Cluster that has a log's slot. Each is looked for
-anew at each connect, so a failover needs nothing but a broken link."""
+"""Which server to ask: one at an address, the primary of some Sentinels, or the one of a Redis Cluster that has a log's slot. Each is
+looked for anew at each connect, so a failover needs nothing but a broken link."""
 from __future__ import annotations
 
 from typing import Any, Dict, List, Optional, Sequence, Tuple
@@ -24,8 +24,8 @@ def split_of(url: str, port: int) -> Tuple[List[Tuple[str, int]], Dict[str, Any]
 
 
 def through_sentinels(url: str, options: Dict[str, Any]) -> "redis.Redis[bytes]":
-    """A client of the server that a majority of Sentinels takes for the primary: sentinel://USER@HOST:PORT,HOST:PORT,../NAME/DB. The one that answers
-    has to say itself that it is the primary, for a Sentinel that is cut off may not know."""
+    """A client of the server that a majority of Sentinels takes for the primary: sentinel://USER@HOST:PORT,HOST:PORT,../NAME/DB. The one
+    that answers has to say itself that it is the primary, for a Sentinel that is cut off may not know."""
     places, own, rest = split_of(url, 26_379)
     name, _, database = rest.partition("/")
     if not name:
@@ -75,8 +75,9 @@ class OwnersConnection(redis.Connection):
 
 
 def through_cluster(url: str, options: Dict[str, Any], log: int) -> "redis.Redis[bytes]":
-    """A client of the server that has a log's slot: cluster://USER@HOST:PORT,HOST:PORT,.. All streams of a log are in one slot, for a node needs all of
-    them, and one server writes and reads far more than a node takes."""
+    """A client of the server that has a log's slot: cluster://USER@HOST:PORT,HOST:PORT,.. All streams of a log are in one slot, for a
+    node needs all of them, and one server writes and reads far more than a node takes."""
     places, own, _ = split_of(url, 6_379)
-    options = {**options, **own, "socket_timeout": REPLY, "socket_connect_timeout": CONNECT, "places": places, "slot": key_slot(b"%d" % log)}
+    options = {**options, **own, "socket_timeout": REPLY, "socket_connect_timeout": CONNECT, "places": places,
+               "slot": key_slot(b"%d" % log)}
     return redis.Redis(connection_pool=redis.ConnectionPool(connection_class=OwnersConnection, **options))

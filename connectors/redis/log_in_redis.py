@@ -1,9 +1,9 @@
-"""A log in Redis: stream S of log L is the Redis stream `hekaton:L:S`, one message a block (connectors/common/blocks.py), in the field `b`. A message of
-before blocks were, with one item frame in the field `f`, is a block too, and has the id that a block would have.
+"""A log in Redis: stream S of log L is the Redis stream `hekaton:L:S`, one message a block (connectors/common/blocks.py), in the field
+`b`. A message of before blocks were, with one item frame in the field `f`, is a block too, and has the id that a block would have.
 
-The id of a message says how far it goes: n is the last entry in it, k counts the messages with marks alone behind it, and the id is n-k. So the place
-of an entry is known without a cursor, an entry can't stand there twice, and none can stand where a lower one lacks: ids only rise, and append.lua
-adds a block only behind the one before. Needs Redis 6.2 or later, and python3-redis."""
+The id of a message says how far it goes: n is the last entry in it, k counts the messages with marks alone behind it, and the id is n-k.
+So the place of an entry is known without a cursor, an entry can't stand there twice, and none can stand where a lower one lacks: ids only
+rise, and append.lua adds a block only behind the one before. Needs Redis 6.2 or later, and python3-redis."""
 from __future__ import annotations
 
 import argparse
@@ -57,7 +57,8 @@ class LogInRedis(EngineLog):
     def is_passing(self, error: BaseException) -> bool:
         if isinstance(error, (redis.AuthenticationError, redis.exceptions.AuthorizationError)):
             return False
-        if isinstance(error, (redis.ConnectionError, redis.TimeoutError, redis.exceptions.BusyLoadingError, redis.exceptions.ReadOnlyError)):
+        gone = (redis.ConnectionError, redis.TimeoutError, redis.exceptions.BusyLoadingError, redis.exceptions.ReadOnlyError)
+        if isinstance(error, gone):
             return True
         return isinstance(error, redis.ResponseError) and any(word in str(error) for word in PASSING_WORDS)
 
@@ -227,7 +228,8 @@ def opened(said: argparse.Namespace, words: argparse.ArgumentParser, **more: Any
     if os.environ.get("REDISCLI_AUTH") and urlsplit(url).password is None:
         options["password"] = os.environ["REDISCLI_AUTH"]
     if url.startswith("rediss:"):
-        options.update(ssl_cert_reqs="required", ssl_check_hostname=True, ssl_ca_certs=said.cacert, ssl_certfile=said.cert, ssl_keyfile=said.key)
+        options.update(ssl_cert_reqs="required", ssl_check_hostname=True, ssl_ca_certs=said.cacert, ssl_certfile=said.cert,
+                       ssl_keyfile=said.key)
     try:
         return LogInRedis(client_of(url, options, said.log), said.log, said.streams, **more)
     except ValueError as error:

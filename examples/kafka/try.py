@@ -1,10 +1,10 @@
 #!/usr/bin/python3
 """EXAMPLE, tried on librdkafka's mock broker alone, in memory: untested on a broker. examples/kafka/try.py [ENTRIES]
 
-The recipe of docs/CONNECTORS.md for a log over a topic `hekaton.7`: stream S is partition S - 1, a message is a block, its header Hk-Last the number of its
-last entry. The publisher reads the end of its partition back and compares before it writes; the follower asks the node, finds its place by halving
-over offsets, and commits nothing. It ends three times in the middle, and a publisher gives the whole log again. Needs bin/hkrep and
-python3-confluent-kafka."""
+The recipe of docs/CONNECTORS.md for a log over a topic `hekaton.7`: stream S is partition S - 1, a message is a block, its header Hk-Last
+the number of its last entry. The publisher reads the end of its partition back and compares before it writes; the follower asks the node,
+finds its place by halving over offsets, and commits nothing. It ends three times in the middle, and a publisher gives the whole log
+again. Needs bin/hkrep and python3-confluent-kafka."""
 import argparse
 import pathlib
 import socket
