@@ -120,15 +120,15 @@ def lateness(it, folder, url, count):
 def over_redis(it, frames, turns):
     print(f"Redis, blocks, load {os.getloadavg()[0]:.1f}", flush=True)
     measure, folder, url = Measure(it, frames), connectors.CONNECTORS, it.url()
-    for _ in range(turns):
-        it.client.flushall()
-        measure.feed()
-        measure.publish(folder, url)
-        measure.feed()
-        measure.follow(folder, url)
+    for turn in range(turns):
         it.client.flushall()
         measure.feed()
         measure.publish(folder, url, "--heads")
+        measure.feed()
+        measure.follow(folder, url)
+        if turn % 5 == 0:
+            it.client.flushall()
+            measure.publish(folder, url)
     measure.print()
     lateness(it, folder, url, min(1000, it.entries))
 
@@ -174,7 +174,7 @@ def main(entries, turns):
             it.servers.is_synced = name.endswith("always")
             try:
                 it.servers.begin()
-                over_nats(it, frames, turns, name)
+                over_nats(it, frames, -(-turns // 5) if it.servers.is_synced else turns, name)
             finally:
                 it.__exit__()
 

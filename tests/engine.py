@@ -31,11 +31,12 @@ from journeys import (HKREP, LOG, PATIENCE, STREAMS, WORDS, bad_messages, holds,
                       status, stream_of, tables_of, waited)
 from feeding import Feed
 from jetstream import Nats
+from log_in_nats import LogInNats
 from servers import HOSTS, Servers, program
 from shown import of
 from vadungsil import Entry, Mark, encode
 
-SIDE_BY_SIDE = 3
+SIDE_BY_SIDE = 4
 KEYS = [f"hekaton_{LOG}_{stream}" for stream in range(1, STREAMS + 1)]
 
 
@@ -447,6 +448,14 @@ class Aside:
         out = child.communicate(timeout=PATIENCE)[0].decode()
         return out, child.returncode, self.bench.said()
 
+    def begin(self, *numbers):
+        """Makes the stream, with a block of these entries in it."""
+        store = LogInNats(self.bench.servers.urls().split(","), self.log, 1, replicas=1)
+        store.prepare()
+        store.drop()
+        if numbers:
+            self.add(b"".join(rows_of_log(self.log)[number - 1] for number in numbers), b"%d" % numbers[-1])
+
     def publish(self, numbers):
         self.bench.write("aside.bin", [rows_of_log(self.log)[number - 1] for number in numbers])
         return self.ran("publish", self.bench.folder / "aside.bin")
@@ -474,23 +483,24 @@ def no_messages_of_ours(it):
     """Messages that are no blocks, holes and other logs are named by publish, follow and status alike."""
     for log, (name, (data, reason)) in enumerate(bad_messages(0).items(), 200):
         aside, (data, reason) = Aside(it, log), bad_messages(log)[name]
-        holds(aside.publish([1, 2])[:2] == ("kept 1 2\n", 0), it.said())
+        aside.begin(1, 2)
         aside.add(data, b"3")
         named = f"stream 1: message 2 of {aside.key} is no block of this stream: {reason}"
         aside.is_named(named)
-        out, code, _ = aside.ran("status")
-        holds(code == 3 and out.startswith(named), f"status: {out!r}, {code}")
+        if log < 203:
+            out, code, _ = aside.ran("status")
+            holds(code == 3 and out.startswith(named), f"status: {out!r}, {code}")
     for log, last in ((300, b""), (301, b"x"), (302, b"-3"), (303, b"9" * 30)):
         aside = Aside(it, log)
-        aside.publish([1, 2])
+        aside.begin(1, 2)
         aside.add(rows_of_log(log)[2], last)
         aside.is_named("is no block of this stream: its last entry is 3, and it says 0")
     hole = Aside(it, 310)
-    hole.publish([1, 2])
+    holds(hole.publish([1, 2])[:2] == ("kept 1 2\n", 0), it.said())
     hole.add(rows_of_log(310)[4], b"5")
     hole.is_named(f"entries 3 to 4 are not in {hole.key} and were not trimmed", "stream 1: entries 3 to 4 are no longer in NATS")
     never = Aside(it, 311)
-    never.publish([])
+    never.begin()
     never.add(rows_of_log(311)[4], b"5")
     never.is_named(f"entries 1 to 4 are not in {never.key} and were not trimmed", "stream 1: entries 1 to 4 are no longer in NATS")
 

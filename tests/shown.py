@@ -59,7 +59,7 @@ ROWS = (
     (".*", "said|set in", "rt ", "pages.py toolchain"),
     (".*", "said|set in", "(pip|apt-get) install", "pages.py packages"),
     ("docs/CONTRIBUTING.md", "said", "git show", "pages.py history"),
-    (".*", "said", r"bench/(links|parts|run|python|connectors\.py|c_library)", "benches.py benches"),
+    (".*", "said", r"bench/(links|parts|run|python|connectors\.py|fanout\.py|c_library)", "benches.py benches"),
     (".*", "said|set in", r"(python3 )?(tests|docs|examples|deploy|bench|connectors)/", "pages.py scripts"),
 )
 

@@ -4,13 +4,14 @@ from __future__ import annotations
 import time
 from typing import Any, Deque, Dict, List, Optional, Tuple
 
-from blocks import Block
+from blocks import BLOCK_BYTES, Block
 from engine import Reading
 from jetstream import Away, Late, Message, Nats
 from log_in_nats import LogInNats
 
-# how many bytes are taken in one go, so that the node isn't waited with
-BYTES_A_READ = 1_000_000
+# how many bytes are taken in one go, so that the node isn't waited with; and how many are asked for ahead, of all streams: a server gives up
+# a link to which it can't write for some seconds, so they should have room in the buffers of both machines
+BYTES_A_READ, BYTES_AHEAD = 1_000_000, 4_000_000
 # in seconds: after how long a consumer that says nothing is given up, and how often it has to say that it lives
 SILENT, HEARTBEAT = 7, 2
 
@@ -40,6 +41,7 @@ class Pulling(Reading):
 
     def __init__(self, store: LogInNats, prefixes: Dict[int, int], batch: int) -> None:
         self.store, self.batch, self.is_over = store, batch, False
+        self.mean = float(BLOCK_BYTES)      # how many bytes a block has that came of late
         self.places = places_of(store, prefixes)
         self.consumers: Dict[int, Consumer] = {}
         for stream, place in self.places.items():
@@ -47,7 +49,8 @@ class Pulling(Reading):
 
     def read(self, seconds: float) -> List[Tuple[int, int, Block]]:
         nats = self.store.link()
-        wanted = [it.request(self.batch) for it in self.consumers.values() if it.left <= self.batch // 2]
+        count = max(2, min(self.batch, int(BYTES_AHEAD / self.mean / len(self.places))))
+        wanted = [it.request(count) for it in self.consumers.values() if it.left <= count // 2]
         if wanted:
             nats.send(*wanted)
         until, size = time.monotonic() + seconds, 0
@@ -60,6 +63,8 @@ class Pulling(Reading):
             pass
         found = [(stream, sequence, block) for stream in self.places for sequence, block in self.taken(stream)]
         self.is_over = not found
+        if found:
+            self.mean += (max(128, sum(len(block.data) for _, _, block in found) / len(found)) - self.mean) / 4
         return found
 
     def has_come(self) -> bool:
@@ -127,7 +132,8 @@ class Consumer:
         if message.status:
             raise Away(f"{self.key}: {message.head[9:60].decode(errors='replace').strip()}")
         self.left -= 1
-        return int(message.reply.split(b".")[5])
+        words = message.reply.split(b".")      # $JS.ACK.STREAM.CONSUMER.DELIVERED.SEQUENCE.., or with a domain and an account before the stream
+        return int(words[5 if len(words) == 9 else 7])
 
 
 class Getting(Reading):
