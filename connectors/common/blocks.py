@@ -6,7 +6,6 @@ free. Standard library, and the package `vadungsil` of this checkout."""
 from __future__ import annotations
 
 import struct
-import zlib
 from typing import Dict, Iterable, List, NamedTuple, Tuple
 
 from feeding import LAST_TIME, LEAST_REST, MOST_REST, Fault, head_of
@@ -41,9 +40,6 @@ class Block(NamedTuple):
     last: int
     latest: int      # the greatest time that its entries and marks speak of
     marked: int      # the greatest m of its marks, or 0
-
-    def digest(self) -> int:
-        return zlib.crc32(self.data)
 
 
 class Framed(NamedTuple):

@@ -6,13 +6,13 @@ import argparse
 import time
 from typing import Any, Dict, List, Optional, Tuple
 
-from blocks import Block, Broken, Missing
-from engine import Behind, EngineLog, Reading
+from blocks import Block, Broken, Missing, entries_of
+from engine_log import Behind, EngineLog, Reading
 from feeding import Fault, Feed, LinkBroken, Patience, Refused
 from vadungsil.node import Node
 
 STATUSES = """status: 0 as far as was asked for; 1 a failure, with --once, or ENGINE refuses; 2 the log forks: ENGINE has another
-block than a node was fed; 3 entries lack that ENGINE had, or its messages are no blocks of the log; 4 a node refuses the items; 64 the
+entry than a node was fed; 3 entries lack that ENGINE had, or its messages are no blocks of the log; 4 a node refuses the items; 64 the
 words of the command line."""
 
 
@@ -94,7 +94,7 @@ class Follower:
         self.nodes = [Fed(address, said.ahead) for address in said.node]
         self.reading: Optional[Reading] = None        # None: ask the nodes
         self.numbers: Dict[int, int] = {}             # the last entry of each stream that was read
-        self.fed: Dict[int, Tuple[Any, int]] = {}     # the last block of each stream that was sent: its place and digest
+        self.fed: Dict[int, Block] = {}               # the last block with entries of each stream that was sent
         self.behind: Dict[int, float] = {}            # since when the engine seems to have less than a node
         self.lacked: Dict[int, Tuple[int, int]] = {}  # what was missing in the middle of a stream, and is asked of --from
         self.heard = self.tried = time.monotonic()
@@ -154,12 +154,13 @@ class Follower:
         return lacking
 
     def see_no_fork(self) -> None:
-        """After each new look at the engine: the last block that was sent is still the one."""
-        for stream, (place, digest) in self.fed.items():
-            block = self.store.at(stream, place)
-            if block is not None and block.digest() != digest:
-                raise Broken(2, f"stream {stream}: the log forks: the block up to entry {block.last} in {self.store.engine} is another "
-                                "than the one that was fed")
+        """After each new look at the engine: the last entry that was sent is still the one. Its block may be another, where a lost tail was
+        published again."""
+        for stream, fed in self.fed.items():
+            block = self.store.holding(stream, fed.last)
+            there = entries_of(block.data).get(fed.last) if block is not None else None
+            if there is not None and there != entries_of(fed.data)[fed.last]:
+                raise Broken(2, f"stream {stream}: the log forks: entry {fed.last} in {self.store.engine} is another than the one that was fed")
 
     def see_no_loss(self, it: Fed) -> None:
         """The engine has all that the node has. Where it doesn't for so long as --patience says, it lost its tail."""
@@ -188,7 +189,7 @@ class Follower:
         name = ", ".join(f"stream {stream} to {self.numbers[stream]}" for stream in sorted({it[0] for it in found}))
         for it in self.linked():
             self.send(it, found, name)
-        self.fed.update({stream: (place, block.digest()) for stream, place, block in found})
+        self.fed.update({stream: block for stream, _, block in found if block.last >= block.first})
         self.blocks, self.frames = self.blocks + len(found), self.frames + sum(it[2].count for it in found)
         self.size += sum(len(it[2].data) for it in found)
         return bool(found)
@@ -231,8 +232,7 @@ class Follower:
                     raise
                 self.reading, self.lacked = None, missing.lacking
             except Behind as error:
-                self.reading = None
-                self.store.drop()
+                self.look_anew()
                 self.patience.wait(error)
             except (SourceAway, LinkBroken, Refused, *self.store.errors) as error:
                 self.again(error)
@@ -242,7 +242,7 @@ class Follower:
         is_passing = isinstance(error, (SourceAway, LinkBroken)) or (isinstance(error, Refused) and error.number == 90)
         if isinstance(error, self.store.errors):
             is_passing = self.store.is_passing(error)
-            self.store.drop()
+            self.look_anew()
         if self.said.once or not is_passing:
             raise error
         if isinstance(error, (LinkBroken, Refused)):
@@ -250,6 +250,13 @@ class Follower:
                 it.unlink()
         self.reading = None
         self.patience.wait(error)
+
+    def look_anew(self) -> None:
+        """Gives up the link to the engine, and what was thought of it: what comes at the places of before may be other blocks."""
+        self.store.drop()
+        self.reading = None
+        for it in self.nodes:
+            it.sent.clear()
 
 
 def streams_of(text: str) -> List[int]:

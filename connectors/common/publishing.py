@@ -8,7 +8,7 @@ import time
 from typing import Any, BinaryIO, Callable, Dict, Iterator, Optional
 
 from blocks import BLOCK_BYTES, Broken, Cutter, Framed, Line, in_blocks
-from engine import Behind, EngineLog, Moved, Tail
+from engine_log import Behind, EngineLog, Moved, Tail
 from feeding import Fault, Patience, decode
 
 MOST_EARLY = 2 ** 28     # bytes of entries that wait for those before them

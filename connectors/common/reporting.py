@@ -6,7 +6,7 @@ import time
 from typing import Callable, List, Optional, Tuple
 
 from blocks import Broken
-from engine import EngineLog
+from engine_log import EngineLog
 from feeding import Feed, LinkBroken, Refused, Stream, short
 
 

@@ -20,7 +20,7 @@ HERE = pathlib.Path(__file__).resolve().parent
 sys.path[:0] = [str(HERE), str(HERE.parent / "common")]
 
 from blocks import Block, walked      # noqa: E402
-from engine import EngineLog, Moved, Reading, add_log_words, see_log      # noqa: E402
+from engine_log import EngineLog, Moved, Reading, add_log_words, see_log      # noqa: E402
 from jetstream import ApiError, Away, Denied, Message, Nats, Security, see_version, versions      # noqa: E402
 
 WRONG_LAST, IN_USE, NO_STREAM = 10_071, 10_058, 10_059

@@ -5,7 +5,7 @@ import time
 from typing import Any, Deque, Dict, List, Optional, Tuple
 
 from blocks import BLOCK_BYTES, Block
-from engine import Reading
+from engine_log import Reading
 from jetstream import Away, Late, Message, Nats
 from log_in_nats import LogInNats
 

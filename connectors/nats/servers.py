@@ -57,7 +57,7 @@ class Servers:
         for host in self.hosts:
             self.serve(host)
         for host in (*reversed(self.hosts), 0):
-            if self.wait(self.is_whole, 20):
+            if self.wait(self.is_whole, 10):
                 return
             if host:
                 self.kill(host)

@@ -19,7 +19,7 @@ sys.path.append(str(pathlib.Path(__file__).resolve().parent.parent / "common"))
 import redis      # noqa: E402
 
 from blocks import Block, Broken, walked      # noqa: E402
-from engine import EngineLog, Moved, Reading, add_log_words, see_log      # noqa: E402
+from engine_log import EngineLog, Moved, Reading, add_log_words, see_log      # noqa: E402
 from finding import OwnersConnection, through_cluster, through_sentinels      # noqa: E402
 
 APPEND = (pathlib.Path(__file__).resolve().parent / "append.lua").read_text()
@@ -113,11 +113,6 @@ class LogInRedis(EngineLog):
 
     def holding(self, stream: int, number: int) -> Optional[Block]:
         for message, fields in self.client.xrange(self.key(stream), f"{number}-0", "+", count=1):
-            return self.block(stream, message, fields)
-        return None
-
-    def at(self, stream: int, place: Id) -> Optional[Block]:
-        for message, fields in self.client.xrange(self.key(stream), text_of(place), text_of(place)):
             return self.block(stream, message, fields)
         return None
 

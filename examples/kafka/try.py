@@ -17,7 +17,7 @@ sys.path[:0] = [str(ROOT / "connectors" / "common")]
 from confluent_kafka import Consumer, KafkaException, Producer, TopicPartition
 
 from blocks import Cutter, walked
-from engine import EngineLog, Moved, Reading
+from engine_log import EngineLog, Moved, Reading
 from following import Follower
 from publishing import Publisher
 from vadungsil import LogWriter, encode

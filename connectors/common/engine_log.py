@@ -78,10 +78,6 @@ class EngineLog(abc.ABC):
         """The first block whose last entry is `number` or more."""
 
     @abc.abstractmethod
-    def at(self, stream: int, place: Any) -> Optional[Block]:
-        """The block of a place."""
-
-    @abc.abstractmethod
     def append(self, stream: int, behind: Any, blocks: List[Block], kept: Callable[[int], None]) -> Any:
         """Adds blocks behind the last message, which stands at `behind`, else `Moved`; says the last entry of each that is kept as was
         asked for, and gives the place of the last one."""
