@@ -74,7 +74,8 @@ class Measure:
 
     def follow(self, folder, url):
         program_, (port, node) = folder / "follow", self.node()
-        self.timed(f"{folder.name}: follow", [program_, *url, *WORDS, "--node", port, "--until", self.it.entries], self.starting(program_))
+        self.timed(f"{folder.name}: follow", [program_, *url, *WORDS, "--node", port, "--until", self.it.entries, "--block", 5],
+                   self.starting(program_))
         kill(node)
 
     def print(self):
