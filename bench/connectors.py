@@ -33,34 +33,30 @@ class Measure:
 
     def __init__(self, it, frames):
         self.it, self.frames, self.log = it, frames, it.folder / "log.bin"
-        self.told, self.beside, self.starts = {}, {}, {}
+        self.told, self.beside = {}, {}
 
     def node(self):
         port = free_port()
         return port, self.it.start_node(port, "--stay", "-q")
 
-    def timed(self, name, words, taken_off=0.0, source=None):
+    def timed(self, name, words, taken_off=(0.0, 0.0), source=None):
         """Runs a program; keeps frames a second, and microseconds of its processor a frame, without what starting it takes."""
         before, begin = used(), time.monotonic()
         with open(source or os.devnull, "rb") as file:
             done = subprocess.run([str(it) for it in words], stdin=file, stdout=subprocess.DEVNULL, stderr=subprocess.PIPE, text=True,
                                   check=False)
-        took, cost = time.monotonic() - begin - taken_off, used() - before - taken_off
+        took, cost = time.monotonic() - begin - taken_off[0], used() - before - taken_off[1]
         if done.returncode:
             raise SystemExit(f"{name}: status {done.returncode}: {done.stderr[-400:]}")
         self.told.setdefault(name, []).append(len(self.frames) / max(took, 1e-3))
         self.beside.setdefault(name, []).append(cost / len(self.frames) * 1e6)
 
-    def starting(self, program_):
-        """What a connector takes to start, of its time and its processor."""
-        if program_ not in self.starts:
-            took = []
-            for _ in range(5):
-                begin = time.monotonic()
-                subprocess.run([program_, "--help"], stdout=subprocess.DEVNULL, check=True)
-                took.append(time.monotonic() - begin)
-            self.starts[program_] = min(took)
-        return self.starts[program_]
+    @staticmethod
+    def starting(program_):
+        """What a connector takes to start, at this moment: seconds, and seconds of its processor."""
+        before, begin = used(), time.monotonic()
+        subprocess.run([program_, "--help"], stdout=subprocess.DEVNULL, check=True)
+        return time.monotonic() - begin, used() - before
 
     def feed(self):
         port, node = self.node()

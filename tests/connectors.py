@@ -29,8 +29,8 @@ except ImportError:
 
 import journeys
 from checks import ended, free_port, is_built, report, skip
-from journeys import (HKREP, LOG, PATIENCE, STREAMS, WORDS, bad_messages, holds, is_entry, kill, log_of, number_of, play, rows_of_log, status,
-                      stream_of, tables_of, waited)
+from journeys import (HKREP, LOG, PATIENCE, STREAMS, WORDS, bad_messages, demonstration, holds, is_entry, kill, log_of, number_of, play,
+                      rows_of_log, status, stream_of, tables_of, waited)
 from shown import of
 from vadungsil import LAST_TIME, Entry, Mark, encode
 from vadungsil.node import Node
@@ -718,8 +718,8 @@ def demonstrated():
     """`make redis-demo`, as its recipe is typed: a node is killed in the middle, and both show the primary's rows."""
     begin, recipe = time.monotonic(), re.search(r"^redis-demo:.*\n\t(.*)$", (ROOT / "Makefile").read_text(), re.M)[1]
     problems = [] if all(it.text == "make redis-demo" for it in of("connectors.py demonstrated")) and recipe == "connectors/redis/demo" else [recipe]
-    got = subprocess.run([sys.executable, ROOT / recipe, "200"], stdout=subprocess.PIPE, stderr=subprocess.STDOUT, text=True, timeout=PATIENCE, check=False)
-    problems += [] if got.returncode == 0 and got.stdout.count("equal") == 10 else [got.stdout]
+    told, code = demonstration(sys.executable, ROOT / recipe, 200)
+    problems += [] if code == 0 and told.count("equal") == 10 else [told]
     report(f"make redis-demo ({time.monotonic() - begin:.1f} s)", problems)
 
 

@@ -27,8 +27,8 @@ sys.path[:0] = [str(ROOT / "tests"), str(CONNECTORS)]
 
 import journeys
 from checks import ended, free_port, is_built, report, skip
-from journeys import (HKREP, LOG, PATIENCE, STREAMS, WORDS, bad_messages, holds, is_entry, kill, log_of, number_of, play, rows_of_log,
-                      status, stream_of, tables_of, waited)
+from journeys import (HKREP, LOG, PATIENCE, STREAMS, WORDS, bad_messages, demonstration, holds, is_entry, kill, log_of, number_of, play,
+                      rows_of_log, status, stream_of, tables_of, waited)
 from feeding import Feed
 from jetstream import Nats
 from log_in_nats import LogInNats
@@ -636,9 +636,8 @@ def demonstrated():
     """`make nats-demo`, as its recipe is typed, in small: the leader is killed in the middle, and both nodes show the primary's rows."""
     begin = time.monotonic()
     problems = [] if all(it.text == "make nats-demo" for it in of("engine.py demonstrated")) else ["another make"]
-    got = subprocess.run([CONNECTORS / "demo", "400"], stdout=subprocess.PIPE, stderr=subprocess.STDOUT, text=True, timeout=PATIENCE * 2,
-                         check=False)
-    problems += [] if got.returncode == 0 and got.stdout.count("equal") == 24 else [got.stdout]
+    told, code = demonstration(CONNECTORS / "demo", 400)
+    problems += [] if code == 0 and told.count("equal") == 24 else [told]
     return f"make nats-demo ({time.monotonic() - begin:.1f} s)", problems, ""
 
 

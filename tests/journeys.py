@@ -5,6 +5,7 @@ import os
 import pathlib
 import random
 import shutil
+import signal
 import subprocess
 import sys
 import tempfile
@@ -156,6 +157,22 @@ def kill(child):
                 pipe.close()
         except BrokenPipeError:
             pass
+
+
+def demonstration(*words):
+    """What a program that starts others printed and its status; whatever it left is ended with it, also where it takes too long."""
+    child = subprocess.Popen([str(word) for word in words], stdout=subprocess.PIPE, stderr=subprocess.STDOUT, text=True,
+                             start_new_session=True)
+    try:
+        return child.communicate(timeout=2 * PATIENCE)[0], child.returncode
+    except subprocess.TimeoutExpired:
+        return f"{words[0]} doesn't end", 1
+    finally:
+        try:
+            os.killpg(child.pid, signal.SIGKILL)
+        except ProcessLookupError:
+            pass
+        child.communicate()
 
 
 def taken_of(feed, wanted):
