@@ -6,6 +6,7 @@ import pathlib
 import random
 import socket
 import subprocess
+import tempfile
 import time
 from typing import Any, Dict, Iterator, List, Tuple
 
@@ -31,12 +32,20 @@ class Demonstration:
 
     def __init__(self) -> None:
         self.children: List["subprocess.Popen[bytes]"] = []
-        self.begin = time.monotonic()
+        self.begin, self.said = time.monotonic(), tempfile.TemporaryFile()
 
     def start(self, *words: Any, **more: Any) -> "subprocess.Popen[bytes]":
-        child = subprocess.Popen([str(word) for word in words], **{"stdout": subprocess.DEVNULL, "stderr": subprocess.DEVNULL, **more})
+        child = subprocess.Popen([str(word) for word in words], **{"stdout": subprocess.DEVNULL, "stderr": self.said, **more})
         self.children.append(child)
         return child
+
+    def have_ended(self, *children: "subprocess.Popen[bytes]") -> bool:
+        """Waits for connectors; where one failed, prints what all programs said last."""
+        codes = [child.wait(300) for child in children]
+        if any(codes):
+            self.said.seek(0)
+            print(f"a connector failed, statuses {codes}; what was said:", self.said.read().decode(errors="replace")[-2000:], sep="\n")
+        return not any(codes)
 
     def end(self) -> None:
         for child in self.children:
