@@ -35,7 +35,7 @@ class Missing(Broken):
 
 class Block(NamedTuple):
     data: bytes
-    count: int       # frames
+    frames: int      # how many
     first: int
     last: int
     latest: int      # the greatest time that its entries and marks speak of

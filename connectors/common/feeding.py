@@ -51,11 +51,11 @@ class Feed(Link):
         parts: List[bytes] = []
         count = size = 0
         for block in blocks:
-            if parts and (count + block.count > MOST_ITEMS or size + len(block.data) > MOST_BYTES):
+            if parts and (count + block.frames > MOST_ITEMS or size + len(block.data) > MOST_BYTES):
                 self._send_items(parts, count, size, name)
                 parts, count, size = [], 0, 0
             parts.append(block.data)
-            count, size = count + block.count, size + len(block.data)
+            count, size = count + block.frames, size + len(block.data)
         if parts:
             self._send_items(parts, count, size, name)
 

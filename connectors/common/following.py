@@ -190,7 +190,7 @@ class Follower:
         for it in self.linked():
             self.send(it, found, name)
         self.fed.update({stream: block for stream, _, block in found if block.last >= block.first})
-        self.blocks, self.frames = self.blocks + len(found), self.frames + sum(it[2].count for it in found)
+        self.blocks, self.frames = self.blocks + len(found), self.frames + sum(it[2].frames for it in found)
         self.size += sum(len(it[2].data) for it in found)
         return bool(found)
 

@@ -3,7 +3,7 @@ from __future__ import annotations
 
 import argparse
 import time
-from typing import Callable, List, Optional, Tuple
+from typing import Any, Callable, List, Optional, Tuple
 
 from blocks import Broken
 from engine_log import EngineLog
@@ -30,7 +30,7 @@ class Asked:
             raise
 
 
-def row_of_engine(store: EngineLog, stream: int, lines: List[str]) -> List[int]:
+def row_of_engine(store: EngineLog, stream: int, lines: List[str]) -> List[Any]:
     """The row of a stream: its first entry, its last, and the time that its last mark closes. Where a message is no block of the log, a
     line is added that names it, and what can't be told without it is 0."""
     row = [stream, 0, 0, 0]
@@ -44,7 +44,7 @@ def row_of_engine(store: EngineLog, stream: int, lines: List[str]) -> List[int]:
     return row
 
 
-def table_of(heads: List[str], rows: List[List[object]]) -> List[str]:
+def table_of(heads: List[str], rows: List[List[Any]]) -> List[str]:
     texts = [heads, *([str(it) for it in row] for row in rows)]
     widths = [max(map(len, column)) for column in zip(*texts)]
     return ["  ".join(text.rjust(width) for text, width in zip(row, widths)) for row in texts]

@@ -216,7 +216,8 @@ class LogInNats(EngineLog):
 
     def append(self, stream: int, behind: int, blocks: List[Block], kept: Callable[[int], None]) -> int:
         """Each block counts once a majority of the servers that keep the stream has it."""
-        nats, waiting, sent, place = self.link(), [], 0, behind
+        nats, sent, place = self.link(), 0, behind
+        waiting: List[Tuple[bytes, int]] = []
         most = nats.info.get("max_payload", 1 << 20)
         while sent < len(blocks) or waiting:
             parts = []

@@ -161,7 +161,8 @@ class Getting(Reading):
 
     def some(self, stream: int) -> List[Tuple[int, Block]]:
         """The next blocks of a stream that are there: one, and as many more as are there behind it."""
-        place, found = self.places[stream], []
+        place = self.places[stream]
+        found: List[Tuple[int, Block]] = []
         nats = self.store.link()
         for count in (1, self.AHEAD):
             asked = [nats.put(*self.store.question(stream, place.sequence + it)) for it in range(count)]
