@@ -276,7 +276,7 @@ def add_follow_words(words: argparse.ArgumentParser, engine: str) -> None:
     words.add_argument("--once", action="store_true", help="end when nothing more is there, and at the first failure")
     words.add_argument("--batch", type=int, default=MOST_A_STREAM, metavar="N",
                        help=f"blocks of a stream that are read at once ({MOST_A_STREAM})")
-    words.add_argument("--ahead", type=int, default=4, metavar="N", help="requests ahead of their replies")
+    words.add_argument("--ahead", type=int, default=32, metavar="N", help="requests ahead of their replies")
     words.add_argument("--block", type=int, default=200, metavar="MS", help="how long a read waits for something new")
     words.add_argument("--patience", type=float, default=60, metavar="SECONDS",
                        help=f"how long {engine} may have less than the node before that is told as lost (60)")

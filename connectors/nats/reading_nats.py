@@ -11,7 +11,7 @@ from log_in_nats import LogInNats
 
 # how many bytes are taken in one go, so that the node isn't waited with; and how many are asked for ahead, of all streams: a server gives up
 # a link to which it can't write for some seconds, so they should have room in the buffers of both machines
-BYTES_A_READ, BYTES_AHEAD = 1_000_000, 4_000_000
+BYTES_A_READ, BYTES_AHEAD = 500_000, 4_000_000
 # in seconds: after how long a consumer that says nothing is given up, and how often it has to say that it lives
 SILENT, HEARTBEAT = 7, 2
 

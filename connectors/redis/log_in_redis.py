@@ -31,7 +31,7 @@ Id = Tuple[int, int]
 LAST = 2 ** 64 - 1
 
 # how many messages are looked through for the last mark, and how many bytes are read at once
-BACK, BYTES_A_READ = 10_000, 4_000_000
+BACK, BYTES_A_READ = 10_000, 1_000_000
 
 
 def number_of(message: bytes) -> Id:
