@@ -490,6 +490,10 @@ def no_messages_of_ours(it):
         if log < 203:
             out, code, _ = aside.ran("status")
             holds(code == 3 and out.startswith(named), f"status: {out!r}, {code}")
+    node = it.start(HKREP, "serve", *aside.words, "--port", free_port(), "--links", 4, stdout=subprocess.PIPE)
+    out, code, said = aside.ran("trim", "--node", node.stdout.readline().split()[1].decode())
+    holds((out, code) == ("", 3) and named in said, f"trim: {out!r}, {code}, {said!r}")
+    kill(node)
     for log, last in ((300, b""), (301, b"x"), (302, b"-3"), (303, b"9" * 30)):
         aside = Aside(it, log)
         aside.begin(1, 2)
