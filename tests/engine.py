@@ -430,8 +430,7 @@ def several_nodes(it):
     it.fed(it.entries, "one", "two")
     it.start_node(it.ports["three"], "--stay", "--guard", "--messages", "2", "-q")
     it.fed(it.entries, "three")
-    for name in it.ports:
-        it.shows(name)
+    it.finished()
 
 
 class Aside:
@@ -525,8 +524,7 @@ def late_and_forked(it):
         status(it.publish(name="bad.bin"), wanted)
     (it.folder / "cut.bin").write_bytes(b"".join(it.frames)[:-5])
     status(it.publish(name="cut.bin"), 4)
-    for name in it.ports:
-        it.shows(name)
+    it.finished()
 
 
 def secured(it):
@@ -631,9 +629,7 @@ def as_in_the_page(it):
             out = child.communicate(timeout=PATIENCE)[0]
             status(child)
             holds("status" not in line or out.count(b"server") >= 3, f"{line}: {out}")
-    it.fed(it.entries)
-    for name in it.ports:
-        it.shows(name)
+    it.finished()
 
 
 def demonstrated():

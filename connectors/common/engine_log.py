@@ -126,20 +126,20 @@ class EngineLog(abc.ABC):
         added: Dict[int, bytes] = {}
         gone = 0
         for one in frames:
-            stream = one.stream
-            if one.is_entry and one.first == number + 1:
-                if one.second <= latest:
-                    raise Broken(2, f"stream {stream}: entry {one.first} is of a time that the entries or marks before it have closed")
-                number, latest, added[one.first] = one.first, one.second, one.frame
+            is_entry, _, stream, first, time, frame = one
+            if is_entry and first == number + 1:
+                if time <= latest:
+                    raise Broken(2, f"stream {stream}: entry {first} is of a time that the entries or marks before it have closed")
+                number, latest, added[first] = first, time, frame
                 new.append(one)
-            elif one.first > number:
+            elif first > number:
                 raise Broken(3, f"stream {stream}: {self.engine} has entries to {number} only, and had more: it lost its tail. "
                                 f"Start again with the log from entry {number + 1} at the latest")
-            elif one.is_entry:
+            elif is_entry:
                 gone += self.compare(one, added)
-            elif one.second > marked:
+            elif time > marked:
                 self.try_mark(one, added, number)
-                marked, latest = one.second, max(latest, one.second)
+                marked, latest = time, max(latest, time)
                 new.append(one)
         return new, Tail(place, number, latest, marked), len(frames) - len(new) - gone, gone
 
