@@ -12,7 +12,7 @@ from engine_log import Behind, EngineLog, Moved, Tail
 from feeding import Fault, Patience, decode
 
 MOST_EARLY = 2 ** 28     # bytes of entries that wait for those before them
-AT_ONCE = 4              # blocks, or as many bytes, that are appended in one go while more input waits
+AT_ONCE = 16             # blocks, or as many bytes, that are appended in one go while more input waits
 
 STATUSES = """status: 0 all frames are in ENGINE; 1 ENGINE refuses, or is set otherwise than was asked for; 2 the log forks: ENGINE has
 another entry, or one that contradicts this one; 3 entries lack, in the input, because ENGINE lost its tail, or because they were deleted

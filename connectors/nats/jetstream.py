@@ -283,10 +283,14 @@ class Nats:
         raise Late(f"{self.name}: no reply in {len(TRIES)} tries")
 
     def ask(self, subject: str, said: Any = None, limit: Optional[float] = None) -> Dict[str, Any]:
-        """A request of JetStream's own."""
+        """A request of JetStream's own, and what is told."""
         token, text = self.put(subject.encode(), b"" if said is None else json.dumps(said).encode())
         self.send(text)
-        told: Dict[str, Any] = json.loads(self.take(token, limit).data)
+        return self.told_of(self.take(token, limit))
+
+    @staticmethod
+    def told_of(message: Message) -> Dict[str, Any]:
+        told: Dict[str, Any] = json.loads(message.data)
         if "error" in told:
             raise ApiError(told["error"])
         return told

@@ -1,8 +1,9 @@
 """Blocks of a log in NATS as they come: handed out by a consumer a stream, or asked for one by one."""
 from __future__ import annotations
 
+import json
 import time
-from typing import Any, Deque, Dict, List, Optional, Tuple
+from typing import Deque, Dict, List, Optional, Tuple
 
 from blocks import BLOCK_BYTES, Block
 from engine_log import Reading
@@ -39,13 +40,29 @@ class Pulling(Reading):
     """By a consumer a stream: one request for many blocks, which come as they are kept. The consumer is for this link alone, in the
     memory of one server, and acknowledges nothing: where it is lost, another one is made where this one was."""
 
+    # In seconds. The servers choose one of those that keep a stream, also one that is gone, which then says nothing: another is asked for.
+    TRIES = (1, 1, 1, 2, 2, 4)
+
     def __init__(self, store: LogInNats, prefixes: Dict[int, int], batch: int) -> None:
         self.store, self.batch, self.is_over = store, batch, False
         self.mean = float(BLOCK_BYTES)      # how many bytes a block has that came of late
         self.places = places_of(store, prefixes)
-        self.consumers: Dict[int, Consumer] = {}
-        for stream, place in self.places.items():
-            self.consumers[stream] = Consumer(store, stream, place.sequence)
+        self.consumers = {stream: Consumer(store, stream, place.sequence) for stream, place in self.places.items()}
+        self.make(store.link())
+
+    def make(self, nats: Nats) -> None:
+        """Has all consumers made, side by side."""
+        for limit in self.TRIES:
+            asked = {it: it.creation(nats) for it in self.consumers.values() if not it.name}
+            nats.send(*(text for _, text in asked.values()))
+            for it, (token, _) in asked.items():
+                try:
+                    it.name = nats.told_of(nats.take(token, limit))["name"]
+                except Late:
+                    nats.forget([token])
+            if all(it.name for it in self.consumers.values()):
+                return
+        raise Late(f"{nats.name}: not all consumers were made in {len(self.TRIES)} tries")
 
     def read(self, seconds: float) -> List[Tuple[int, int, Block]]:
         nats = self.store.link()
@@ -94,26 +111,17 @@ class Pulling(Reading):
 class Consumer:
     """What hands out the messages of one stream from a sequence on."""
 
-    # In seconds. The servers choose one of those that keep the stream, also one that is gone, which then says nothing: another is asked
-    # for.
-    TRIES = (1, 1, 1, 2, 2, 4)
-
     def __init__(self, store: LogInNats, stream: int, sequence: int) -> None:
-        nats, self.key, self.left = store.link(), store.key(stream), 0
-        self.inbox, to = nats.flow()
-        self.flow: Deque[Message] = nats.flows[to]
-        self.name = self.made(nats, {"stream_name": self.key, "config": {
-            "deliver_policy": "by_start_sequence", "opt_start_seq": sequence, "ack_policy": "none", "replay_policy": "instant",
-            "inactive_threshold": 60_000_000_000, "num_replicas": 1, "mem_storage": True, "max_waiting": 8}})
+        self.key, self.sequence, self.name, self.left = store.key(stream), sequence, "", 0
+        self.inbox, to = store.link().flow()
+        self.flow: Deque[Message] = store.link().flows[to]
 
-    def made(self, nats: Nats, said: Dict[str, Any]) -> str:
-        for limit in self.TRIES:
-            try:
-                name: str = nats.ask(f"$JS.API.CONSUMER.CREATE.{self.key}", said, limit)["name"]
-                return name
-            except Late:
-                continue
-        raise Late(f"{nats.name}: no consumer of {self.key} in {len(self.TRIES)} tries")
+    def creation(self, nats: Nats) -> Tuple[bytes, bytes]:
+        """The token and the bytes of the request to make it."""
+        said = {"stream_name": self.key, "config": {
+            "deliver_policy": "by_start_sequence", "opt_start_seq": self.sequence, "ack_policy": "none", "replay_policy": "instant",
+            "inactive_threshold": 60_000_000_000, "num_replicas": 1, "mem_storage": True, "max_waiting": 8}}
+        return nats.put(f"$JS.API.CONSUMER.CREATE.{self.key}".encode(), json.dumps(said).encode())
 
     def request(self, count: int) -> bytes:
         """Asks for so many messages more."""
