@@ -407,7 +407,7 @@ def no_messages_of_ours(it):
     fields = [*(("b", name) for name in bad_messages(0)), ("f", "short"), ("g", "empty")]
     for log, (field, name) in enumerate(fields, 200):
         aside, (data, reason) = Aside(it, log), bad_messages(log)[name]
-        aside.is_kept([1, 2])
+        aside.add("2-0", aside.frames[0] + aside.frames[1], "b")
         aside.add("3-0", data, field)
         named = f"stream 1: message 3-0 of {aside.key} is no block of this stream: {reason}"
         aside.is_refused(range(1, 9), named)
