@@ -4,6 +4,8 @@
 # make demo   the same, and runs the first example
 # make serve-demo   the same, and a node that two feeders fill, with a second node that catches up
 # make redis-demo   the same, and a primary's log through Redis into two nodes, one killed in the middle (apt-get install redis-server python3-redis)
+# make nats-demo    the same, and 200,000 transactions through three nats-servers into two nodes, a leader and a node killed (connectors/nats/get-server)
+# make engine-lab   the same, and faults of three nats-servers in network namespaces, cut off from each other; as root, with iproute2, for minutes
 # make look   the same, and a node that two feeders fill, one of them late, with the page to look at it; until Ctrl-C
 # make test   the one test command: every proof from nothing, the must-fail edits, the tests, then the end-to-end checks
 # make compare CASES=100000 SEED=7   that many random cases beside tests/reference.py, once bin/hkrep is built
@@ -14,7 +16,7 @@
 
 PREFIX = /usr/local
 
-.PHONY: all quick try test lib install package demo serve-demo redis-demo look compare bench clean
+.PHONY: all quick try test lib install package demo serve-demo redis-demo nats-demo engine-lab look compare bench clean
 
 CASES = 10000
 SEED = 1
@@ -56,6 +58,12 @@ serve-demo: bin/hkrep
 
 redis-demo: bin/hkrep
 	connectors/redis/demo
+
+nats-demo: bin/hkrep
+	connectors/nats/demo
+
+engine-lab: bin/hkrep
+	connectors/lab/run
 
 look: bin/hkrep
 	examples/links/look.py $(LOOK)

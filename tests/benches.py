@@ -7,21 +7,24 @@ import shutil
 import subprocess
 import sys
 
+ROOT = pathlib.Path(__file__).resolve().parent.parent
+sys.path.append(str(ROOT / "connectors" / "nats"))
+import servers
 from checks import ended, is_built, report, skip
 from shown import of
 
-ROOT = pathlib.Path(__file__).resolve().parent.parent
 # Debian's Python has Debian's modules
 PYTHON = "/usr/bin/python3" if os.path.exists("/usr/bin/python3") else sys.executable
 # the smallest number that is worth a run, and what it needs beside bin/hkrep
-SMALL = {"bench/run": ("500", ()), "bench/links": ("20", ()), "bench/parts": ("1", ()), "bench/python": ("1000", ("redis",)), "bench/connectors.py": ("50", ("redis",)),
+SMALL = {"bench/run": ("500", ()), "bench/links": ("20", ()), "bench/parts": ("1", ()), "bench/python": ("1000", ("redis",)), "bench/connectors.py": ("50 1", ("redis",)),
+         "bench/fanout.py": ("1 2", ("nats",)),
          "bench/c_library": ("2000", ("gcc", "lib/"))}
 
 
 def lacks(needs):
     """What of this isn't here."""
     has_redis = shutil.which("redis-server") and not subprocess.run([PYTHON, "-c", "import redis"], stderr=subprocess.DEVNULL, check=False).returncode
-    there = {"redis": has_redis, "gcc": shutil.which("gcc"), "lib/": (ROOT / "lib" / "libhekaton.a").exists()}
+    there = {"redis": has_redis, "nats": servers.program(), "gcc": shutil.which("gcc"), "lib/": (ROOT / "lib" / "libhekaton.a").exists()}
     return [it for it in needs if not there[it]]
 
 
@@ -31,9 +34,9 @@ def main():
     for program in sorted({it.text.split()[0] for it in of("benches.py benches")}):
         number, needs = SMALL[program]
         if lacks(needs):
-            skip(f"{program} needs what isn't here: {', '.join(lacks(needs))}")
+            skip(f"{program} needs what isn't here: {', '.join(lacks(needs))}", needed=lacks(needs) != ["nats"])
             continue
-        done = subprocess.run([PYTHON, ROOT / program, number], stdout=subprocess.PIPE, stderr=subprocess.STDOUT, text=True, timeout=120, check=False)
+        done = subprocess.run([PYTHON, ROOT / program, *number.split()], stdout=subprocess.PIPE, stderr=subprocess.STDOUT, text=True, timeout=120, check=False)
         lines = done.stdout.splitlines()
         report(f"{program} {number} ({len(lines)} lines)", [done.stdout[-500:]] if done.returncode or not lines else [])
     return ended()

@@ -40,6 +40,8 @@ UNTYPED = {
     "bench/core": "proves a dozen crates, by hand",
     "bench/node": "needs what bench/core builds",
     "debootstrap": "fetches a Debian; tests/package.py makes a root of what is here",
+    "make engine-lab": "network namespaces, as root, for minutes",
+    "connectors/nats/get-server": "fetches a package: .ci/run types it",
     "systemctl": "needs a machine that systemd runs; tests/package.py types the unit's own command line",
 }
 
@@ -244,7 +246,7 @@ def untyped(text):
 
 
 # what runs the recipe of a target that a page names
-RUNS = {"try": "pages.py", "demo": "pages.py", "serve-demo": "hkrep/links.py", "look": "web.py", "redis-demo": "connectors.py", "package": "package.py",
+RUNS = {"try": "pages.py", "demo": "pages.py", "serve-demo": "hkrep/links.py", "look": "web.py", "redis-demo": "connectors.py", "nats-demo": "engine.py", "package": "package.py",
         "install": "package.py", "compare": "all", "bench": "benches.py"}
 
 

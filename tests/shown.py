@@ -40,9 +40,13 @@ ROWS = (
     ("docs/LOOKING.md", "set in", "curl|python3", "web.py commands"),
     (".*", "said", r"python3 -m vadungsil\.web --", "web.py commands"),
     ("docs/CONNECTORS.md", "set in", r"primary -->| +\\->", "pages.py drawn"),
+    ("docs/CONNECTORS.md", "conf", "accounts", "engine.py rights"),
+    ("docs/CONNECTORS.md", "conf", "server_name", "engine.py servers"),
+    ("docs/CONNECTORS.md", "set in", "connectors/nats", "engine.py typed"),
     ("docs/CONNECTORS.md", "set in", "ACL", "connectors.py secured"),
     ("docs/CONNECTORS.md", ".*", "connectors/redis|redis-cli", "connectors.py typed"),
     (".*", "said|set in", "make redis-demo", "connectors.py demonstrated"),
+    (".*", "said|set in", "make nats-demo", "engine.py demonstrated"),
     ("docs/OPERATING.md", "ini", "", "tunnel.py sides"),
     ("docs/FORMATS.md|docs/PROTOCOL.md", "set in", " *[0-9a-f]{4}", "pages.py bytes"),
     ("docs/PROTOCOL.md", "set in", " +[0-9a-f]{2}", "pages.py bytes"),
@@ -55,7 +59,7 @@ ROWS = (
     (".*", "said|set in", "rt ", "pages.py toolchain"),
     (".*", "said|set in", "(pip|apt-get) install", "pages.py packages"),
     ("docs/CONTRIBUTING.md", "said", "git show", "pages.py history"),
-    (".*", "said", r"bench/(links|parts|run|python|connectors\.py|c_library)", "benches.py benches"),
+    (".*", "said", r"bench/(links|parts|run|python|connectors\.py|fanout\.py|c_library)", "benches.py benches"),
     (".*", "said|set in", r"(python3 )?(tests|docs|examples|deploy|bench|connectors)/", "pages.py scripts"),
 )
 

@@ -1,5 +1,5 @@
-"""The node's side of any connector: the frames of an input by their heads, and a link that is fed ahead of its replies. Standard library,
-and the package `vadungsil` of this checkout."""
+"""The node's side of any connector: a link that is fed ahead of its replies, and what one that waits says. Standard library, and the
+package `vadungsil` of this checkout."""
 from __future__ import annotations
 
 import pathlib
@@ -7,62 +7,26 @@ import socket
 import struct
 import sys
 import time
-from typing import List, NamedTuple, Optional, Sequence, Tuple
+from typing import TYPE_CHECKING, List, Optional, Sequence, Tuple
 
 _PACKAGE = pathlib.Path(__file__).resolve().parents[2] / "clients" / "python"
 if _PACKAGE.is_dir():
     sys.path.insert(0, str(_PACKAGE))
 
-from vadungsil.errors import Fault, LinkBroken, Refused, TimeLimit       # noqa: E402
-from vadungsil.items import LEAST_REST, MOST_REST, Head, head_of       # noqa: E402
+from vadungsil.errors import Fault, LinkBroken, Refused, TimeLimit       # noqa: E402, F401
+from vadungsil.items import LEAST_REST, MOST_REST, decode, head_of       # noqa: E402, F401
 from vadungsil.link import Address, Link, address_of      # noqa: E402
-from vadungsil.messages import MOST_ITEMS, MOST_MESSAGE, encode_request, framed, items_frame      # noqa: E402
-from vadungsil.reading import FrameFeeder      # noqa: E402
+from vadungsil.messages import MOST_ITEMS, MOST_MESSAGE, encode_request, framed      # noqa: E402
 from vadungsil.requests import FRONT, FULL, read_done, read_fragment, read_front      # noqa: E402
 from vadungsil.values import LAST_TIME, Delta, Front, Stream      # noqa: E402
 
-# How many bytes of items go into one request: far below what a message can have.
-MOST_BYTES = 4_000_000
+if TYPE_CHECKING:
+    from blocks import Block
 
-_PLACE = struct.Struct(">BBQHQQ").unpack_from
+# How many bytes of items go into one request: a node takes these in less of its time than longer ones.
+MOST_BYTES = 100_000
 
-
-class HeadFeeder(FrameFeeder[Head]):
-    """The heads of item frames, in pieces that are cut anyhow; `feed_frames` gives each with its frame. Lists aren't looked at."""
-
-    least, most = LEAST_REST, MOST_REST
-
-    def decode(self, rest: bytes) -> Head:
-        return head_of(b"\0\0\0\0" + rest[:28])
-
-
-class Place(NamedTuple):
-    """What a frame in a broker says of itself. An entry's `first` and `second` are number and time, a mark's n and m."""
-
-    is_entry: bool
-    log: int
-    stream: int
-    first: int
-    second: int
-
-
-def place_of(frame: bytes) -> Place:
-    """The same as `head_of` in a tenth of its time, with no look at the limits; 10 where the frame is too short for it."""
-    if len(frame) < 32:
-        raise Fault(10, place=f"a frame of {len(frame)} bytes")
-    _, kind, log, stream, first, second = _PLACE(frame, 4)
-    return Place(kind == 1, log, stream, first, second)
-
-
-def in_requests(frames: Sequence[bytes]) -> List[Sequence[bytes]]:
-    """The frames in parts that fit into one request each."""
-    parts, start, size = [], 0, 0
-    for at, frame in enumerate(frames):
-        if at > start and (size + len(frame) > MOST_BYTES or at - start == MOST_ITEMS):
-            parts.append(frames[start:at])
-            start, size = at, 0
-        size += len(frame)
-    return [*parts, frames[start:]] if frames else []
+_ITEMS = struct.Struct(">IBBI").pack
 
 
 class Feed(Link):
@@ -81,12 +45,24 @@ class Feed(Link):
 
     # ------------------------------------------------------------ items
 
-    def send_items(self, frames: Sequence[bytes], name: str = "items") -> None:
-        """Sends items; waits for replies only while `ahead` requests have none. What the node refuses is raised with the name of the
-        request, by this call or a later one. 42 isn't raised: the change stands."""
+    def send_blocks(self, blocks: Sequence[Block], name: str = "items") -> None:
+        """Sends blocks as they are, some to a request; waits for replies only while `ahead` requests have none. What the node refuses is
+        raised with the name of the request, by this call or a later one. 42 isn't raised: the change stands."""
+        parts: List[bytes] = []
+        count = size = 0
+        for block in blocks:
+            if parts and (count + block.frames > MOST_ITEMS or size + len(block.data) > MOST_BYTES):
+                self._send_items(parts, count, size, name)
+                parts, count, size = [], 0, 0
+            parts.append(block.data)
+            count, size = count + block.frames, size + len(block.data)
+        if parts:
+            self._send_items(parts, count, size, name)
+
+    def _send_items(self, parts: List[bytes], count: int, size: int, name: str) -> None:
         while len(self.waiting) >= self.ahead:
             self.take()
-        self._send(items_frame(frames), name)
+        self._send(b"".join([_ITEMS(size + 6, 1, 16, count), *parts]), name)
 
     def take(self) -> None:
         """Takes the reply to the oldest items on their way."""

@@ -1,9 +1,11 @@
 #!/usr/bin/python3
-"""EXAMPLE, tried on librdkafka's mock broker alone, in memory, and never on a real Kafka: examples/kafka/try.py [ENTRIES]
+"""EXAMPLE, tried on librdkafka's mock broker alone, in memory: untested on a broker. examples/kafka/try.py [ENTRIES]
 
-A log over a topic `hekaton.7`, stream S in partition S - 1, followed with Kafka's own client as docs/CONNECTORS.md says: an offset is
-committed after the node's Done, and is a hint alone; the node says what it has, and the numbers have to follow from there. The consumer
-ends three times without its commit. Needs bin/hkrep and python3-confluent-kafka."""
+The recipe of docs/CONNECTORS.md for a log over a topic `hekaton.7`: stream S is partition S - 1, a message is a block, its header Hk-Last
+the number of its last entry. The publisher reads the end of its partition back and compares before it writes; the follower asks the node,
+finds its place by halving over offsets, and commits nothing. It ends three times in the middle, and a publisher gives the whole log
+again. Needs bin/hkrep and python3-confluent-kafka."""
+import argparse
 import pathlib
 import socket
 import subprocess
@@ -11,76 +13,114 @@ import sys
 
 sys.dont_write_bytecode = True
 ROOT = pathlib.Path(__file__).resolve().parent.parent.parent
-sys.path.append(str(ROOT / "connectors" / "common"))
-from confluent_kafka import OFFSET_BEGINNING, Consumer, Producer, TopicPartition
+sys.path[:0] = [str(ROOT / "connectors" / "common")]
+from confluent_kafka import Consumer, KafkaException, Producer, TopicPartition
 
-from feeding import Feed, place_of
+from blocks import Cutter, walked
+from engine_log import EngineLog, Moved, Reading
+from following import Follower
+from publishing import Publisher
 from vadungsil import LogWriter, encode
 
-TOPIC, STREAMS = "hekaton.7", 2
+TOPIC, STREAMS, LIMIT = "hekaton.7", 2, 30
 
 
-class Missing(Exception):
-    """Entries that the broker no longer has."""
+class LogInKafka(EngineLog):
+    """Places are offsets. A second publisher has to be fenced by a `transactional.id` for each stream, which the mock doesn't do."""
+
+    engine, errors = "Kafka", (KafkaException,)
+
+    def __init__(self, brokers, log, streams):
+        super().__init__(log, streams)
+        self.producer = Producer({"bootstrap.servers": brokers, "enable.idempotence": True, "acks": "all", "linger.ms": 0})
+        self.settings = {"bootstrap.servers": brokers, "group.id": "none", "enable.auto.commit": False, "auto.offset.reset": "error",
+                         "isolation.level": "read_committed", "fetch.wait.max.ms": 10}
+        self.consumer = Consumer(self.settings)
+
+    def is_passing(self, error):
+        return error.args[0].retriable()
+
+    def drop(self):
+        pass
+
+    def key(self, stream):
+        return f"{TOPIC}/{stream - 1}"
+
+    def ends(self, stream):
+        """The first offset that is there, and the one that comes next."""
+        return self.consumer.get_watermark_offsets(TopicPartition(TOPIC, stream - 1), LIMIT)
+
+    # ------------------------------------------------------------ how far it is
+
+    def end(self, stream):
+        low, high = self.ends(stream)
+        blocks = (self.at(stream, offset) for offset in range(high - 1, max(low, high - 64) - 1, -1))
+        return high - 1, self.at(stream, high - 1).last if high > low else 0, blocks
+
+    def last(self, stream):
+        return self.end(stream)[1]
+
+    def first(self, stream):
+        low, high = self.ends(stream)
+        return self.at(stream, low).first if high > low else 1
+
+    def gone(self, stream):
+        return self.ends(stream)[0]
+
+    def find(self, stream, number):
+        """The offset of the first block whose last entry is `number` or more."""
+        low, high = self.ends(stream)
+        while low < high:
+            middle = (low + high) // 2
+            low, high = (low, middle) if self.at(stream, middle).last >= number else (middle + 1, high)
+        return low
+
+    def holding(self, stream, number):
+        offset = self.find(stream, number)
+        return self.at(stream, offset) if offset < self.ends(stream)[1] else None
+
+    def at(self, stream, place):
+        self.consumer.assign([TopicPartition(TOPIC, stream - 1, place)])
+        message = self.consumer.poll(LIMIT)
+        return self.block(stream, message)
+
+    def block(self, stream, message):
+        last = int(dict(message.headers())["Hk-Last"])
+        return walked(message.value(), last, self.log, stream, f"stream {stream}: message {message.offset()} of {self.key(stream)}")
+
+    # ------------------------------------------------------------ going on
+
+    def append(self, stream, behind, blocks, kept):
+        told = []
+        for block in blocks:
+            self.producer.produce(TOPIC, block.data, partition=stream - 1, headers={"Hk-Last": str(block.last)},
+                                  on_delivery=lambda error, message: told.append((error, message.offset())))
+        left = self.producer.flush(LIMIT)
+        if left or any(error for error, _ in told):
+            raise SystemExit(f"not published: {left}, {told[:1]}")
+        if [offset for _, offset in told] != list(range(behind + 1, behind + 1 + len(blocks))):
+            raise Moved
+        for block in blocks:
+            kept(block.last)
+        return behind + len(blocks)
+
+    def reading(self, prefixes, batch):
+        return ReadingKafka(self, {stream: self.find(stream, prefix) for stream, prefix in prefixes.items()})
 
 
-def publish(brokers, frames):
-    """Idempotent, acknowledged by all: so a partition keeps the order of its stream, without repeats."""
-    failed = []
-    producer = Producer({"bootstrap.servers": brokers, "enable.idempotence": True, "acks": "all"})
-    for frame in frames:
-        producer.produce(TOPIC, frame, partition=place_of(frame).stream - 1, on_delivery=lambda error, _: failed.append(error) if error else None)
-    if producer.flush(30) or failed:
-        raise SystemExit(f"not published: {failed[:1]}")
+class ReadingKafka(Reading):
+    def __init__(self, store, offsets):
+        self.store, self.is_over = store, False
+        self.consumer = Consumer(store.settings)
+        self.consumer.assign([TopicPartition(TOPIC, stream - 1, offset) for stream, offset in offsets.items()])
 
+    def read(self, seconds):
+        found = [it for it in self.consumer.consume(20, seconds) if not it.error()]
+        self.is_over = not found
+        return [(it.partition() + 1, it.offset(), self.store.block(it.partition() + 1, it)) for it in found]
 
-class Follower:
-    def __init__(self, brokers, port):
-        self.feed = Feed(port)
-        self.consumer = Consumer({"bootstrap.servers": brokers, "group.id": f"node{port}", "enable.auto.commit": False,
-                                  "auto.offset.reset": "error"})
-        self.rewound = set()
-
-    def begin(self):
-        """From the committed offsets, or the start; and what each stream of the node has."""
-        partitions = [TopicPartition(TOPIC, it) for it in range(STREAMS)]
-        for it in self.consumer.committed(partitions, 10):
-            it.offset = it.offset if it.offset >= 0 else OFFSET_BEGINNING
-            partitions[it.partition] = it
-        self.consumer.assign(partitions)
-        self.prefix = [it.prefix for it in self.feed.streams()]
-
-    def follows(self, message):
-        """Whether to send it on. Where entries lack before it, the partition is read from its start once; if they lack there too, stop."""
-        place = place_of(message.value())
-        stream = message.partition()
-        lowest = place.first if place.is_entry else place.first + 1
-        if lowest <= self.prefix[stream] + 1:
-            self.prefix[stream] = max(self.prefix[stream], place.first)
-            return True
-        if stream in self.rewound:
-            raise Missing(f"stream {stream + 1}: entries {self.prefix[stream] + 1} to {lowest - 1}")
-        self.rewound.add(stream)
-        self.consumer.seek(TopicPartition(TOPIC, stream, OFFSET_BEGINNING))
-        return False
-
-    def step(self, count):
-        messages = [it for it in self.consumer.consume(count, 0.5) if not it.error()]
-        frames, rewound = [], set()
-        for it in messages:
-            if it.partition() not in rewound:
-                if self.follows(it):
-                    frames.append(it.value())
-                else:
-                    rewound.add(it.partition())
-        if frames:
-            self.feed.send_items(frames)
-            self.feed.drain()
-        return messages
-
-    def close(self):
-        self.consumer.close()
-        self.feed.close()
+    def has_all(self):
+        return self.is_over
 
 
 def log_of(entries):
@@ -92,35 +132,41 @@ def log_of(entries):
     return frames
 
 
+def publish(brokers, frames):
+    """What a publisher says at its end."""
+    publisher = Publisher(LogInKafka(brokers, 7, STREAMS), argparse.Namespace(heads=False, block=500, patience=5, confirm=False))
+    for one in Cutter().cut(b"".join(frames)):
+        publisher.put(one)
+    publisher.end()
+    return publisher.told()
+
+
 def follow(brokers, port, entries):
-    """Four lives of a follower, of which three end before they commit."""
-    for life in range(4):
-        follower = Follower(brokers, port)
-        follower.begin()
-        while follower.feed.front().readable < entries:
-            messages = follower.step(40)
-            if messages and life < 3:
-                break
-            if messages:
-                follower.consumer.commit(asynchronous=False)
-        told = follower.feed.front()
-        follower.close()
-    return told
+    """Four lives of a follower, of which three end in the middle."""
+    said = argparse.Namespace(only=None, node=[str(port)], ahead=4, source=None, until=entries, once=False, batch=20, block=200, patience=5)
+    for _ in range(3):
+        follower = Follower(LogInKafka(brokers, 7, STREAMS), said)
+        while not follower.step():
+            pass
+        follower.nodes[0].unlink()
+    follower = Follower(LogInKafka(brokers, 7, STREAMS), said)
+    follower.run()
+    return follower.nodes[0].link().front()
 
 
 def main(entries):
     mock = Producer({"test.mock.num.brokers": 1})
-    brokers = ",".join(f"{it.host}:{it.port}" for it in mock.list_topics(timeout=10).brokers.values())
+    brokers = ",".join(f"{it.host}:{it.port}" for it in mock.list_topics(timeout=LIMIT).brokers.values())
     with socket.socket() as probe:
         probe.bind(("127.0.0.1", 0))
         port = probe.getsockname()[1]
     node = subprocess.Popen([ROOT / "bin" / "hkrep", "serve", "--log", "7", "--streams", str(STREAMS), "--port", str(port), "--links", "8"],
-                            stdout=subprocess.PIPE)
+                            stdout=subprocess.PIPE, stderr=subprocess.DEVNULL)
     try:
         node.stdout.readline()
         frames = log_of(entries)
-        publish(brokers, frames)
-        print(f"{len(frames)} frames over {brokers} (a mock); {follow(brokers, port, entries).line()}")
+        print(f"a mock on {brokers}: {publish(brokers, frames[:len(frames) // 2])}; {publish(brokers, frames)}")
+        print(follow(brokers, port, entries).line())
     finally:
         node.kill()
         node.wait()
