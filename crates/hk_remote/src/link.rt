@@ -40,6 +40,14 @@ pub(crate) fn asked_of(request: &Request) -> Asked {
     }
 }
 
+/// Why a reply refuses its request.
+pub(crate) fn refusal_of(reply: &Reply) -> Option<Refusal> {
+    match reply {
+        Reply::Refused(why) | Reply::Later(LaterReply::Refused(why)) => Some(*why),
+        _other => None,
+    }
+}
+
 /// The refusal of a message of another version.
 const OTHER_VERSION: Refusal = Refusal::Form(FormFault::BadVersion);
 
@@ -226,11 +234,10 @@ impl<'a> Link<'a> {
 
     /// Sends a request and waits for its reply, which stops the command where it is a refusal.
     pub(crate) fn granted(&mut self, request: &Request) -> Result<Reply, Stop> {
-        match self.ask(request)? {
-            Reply::Refused(why) | Reply::Later(LaterReply::Refused(why)) => {
-                Err(Stop::RefusedAt(why, self.origin(asked_of(request))))
-            }
-            other => Ok(other),
+        let reply = self.ask(request)?;
+        match refusal_of(&reply) {
+            Some(why) => Err(Stop::RefusedAt(why, self.origin(asked_of(request)))),
+            None => Ok(reply),
         }
     }
 

@@ -1,9 +1,9 @@
 //! Requests as bytes: `push` and `load`.
 
-use crate::link::{Link, asked_of};
+use crate::link::{Link, asked_of, refusal_of};
 use hk_commands::{Output, Pieces, Stop, read_pieces};
 use hk_types::{FormFault, Refusal};
-use hk_wire::{LaterReply, LaterRequest, Reply, Request, RequestFeeder};
+use hk_wire::{LaterRequest, Request, RequestFeeder};
 use std::io::{Read, Write};
 use std::mem;
 
@@ -25,14 +25,6 @@ fn is_fragment(request: &Request) -> bool {
 /// Whether a request hands a part to a node: where it is refused, those behind it would make a fragment that lacks it.
 fn is_part(request: &Request) -> bool {
     matches!(request, Request::Later(LaterRequest::AddPart(_)))
-}
-
-/// Why a reply refuses its request.
-fn refusal_of(reply: &Reply) -> Option<Refusal> {
-    match reply {
-        Reply::Refused(why) | Reply::Later(LaterReply::Refused(why)) => Some(*why),
-        _other => None,
-    }
 }
 
 /// Which requests are sent.
