@@ -98,8 +98,9 @@ def numbers():
     deb, _ = run(["dpkg-deb", "-f", DEB, "Version"])
     pc = re.search(r"^Version: (.*)$", (ROOT / "lib" / "hekaton.pc").read_text(encoding="utf-8"), re.M)[1]
     found += [("hkrep --version", told(ROOT / "bin" / "hkrep", "--version").split(" ")[1], VERSION), ("the Debian package", deb.strip(), VERSION), ("hekaton.pc", pc, VERSION)]
-    old = runpy.run_path(str(ROOT / "tests" / "quick"))["OLD"]
-    found += [("places", len(said.splitlines()), len(places)), ("where make quick says unproved", (ROOT / places[1][0]).read_text(encoding="utf-8").count(old), 1)]
+    replaced = runpy.run_path(str(ROOT / "tests" / "quick"))["WORDS"]
+    found += [("places", len(said.splitlines()), len(places))]
+    found += [("where make quick says unproved", (ROOT / places[1][0]).read_text(encoding="utf-8").count(old), 1) for old in replaced]
     other = WORK / "numbered"
     for name in [*(it[0] for it in places), "deploy/version"]:
         (other / name).parent.mkdir(parents=True, exist_ok=True)
@@ -192,7 +193,7 @@ def unit(root):
     command = re.search(r"^ExecStart=(.*)$", of_unit, re.M)[1].replace("%i", port)
     lines = f". {settings}; {command} > /dev/null & node=$!\n{WAIT.replace('PORT', port)}" \
             f"hkrep feed --port {port} < /{SHARED}/examples/first.bin; hkrep ask --port {port} get 1 5\n" \
-            f"printf '\\0\\0\\0\\2\\2\\60' | hkrep push --port {port}; kill $node"
+            f"printf '\\0\\0\\0\\2\\2\\60' | hkrep push --messages 2 --port {port}; kill $node"
     said, _ = inside(root, lines)
     # the last is Streams, a request of version 2, which the calls of docs/PYTHON.md need
     told = "streams log 7 horizon 0 readable 1 operations 2\nstream 1 prefix 1 extra 0 closed 1 waiting 0\n"
