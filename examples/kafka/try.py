@@ -135,8 +135,7 @@ def log_of(entries):
 def publish(brokers, frames):
     """What a publisher says at its end."""
     publisher = Publisher(LogInKafka(brokers, 7, STREAMS), argparse.Namespace(heads=False, block=500, patience=5, confirm=False))
-    for one in Cutter().cut(b"".join(frames)):
-        publisher.put(one)
+    publisher.put(Cutter().cut(b"".join(frames)))
     publisher.end()
     return publisher.told()
 

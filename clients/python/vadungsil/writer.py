@@ -5,10 +5,11 @@ items that are written here are, is shown by tests alone. And whether what is ha
 owner."""
 from __future__ import annotations
 
-from typing import Any, Dict, Iterable, List, Optional, Tuple, Union
+from typing import Any, Dict, Iterable, List, MutableMapping, Optional, Sequence, Tuple, Union
 
 from .errors import Fault, NotResumable, Refused
-from .values import LAST_TIME, MOST_STREAMS, MOST_WRITES, Entry, Fragment, Mark, Put, Row, VersionKey, key_of, number_in, table_of
+from .values import (LAST_TIME, MOST_STREAMS, MOST_WRITES, Entry, Fragment, Mark, Put, Row, VersionKey, Written, key_of, number_in,
+                     put_of, table_of)
 
 Place = Tuple[int, int]
 
@@ -22,13 +23,14 @@ class LogWriter:
         self.log = number_in(log, 0, 2 ** 64 - 1, "log")
         self.streams = number_in(streams, 1, MOST_STREAMS, "number of streams", 5)
         self.time = 0
-        self._born: Dict[Place, int] = {}
+        self._born: MutableMapping[Place, int] = {}
         self._numbers = [0] * streams
         self._retired = [False] * streams
 
     # ------------------------------------------------------------ writing
 
-    def commit(self, puts: Iterable[Any] = (), removes: Iterable[Place] = (), stream: int = 1, time: Optional[int] = None) -> Optional[Entry]:
+    def commit(self, puts: Iterable[Written] = (), removes: Iterable[Place] = (), stream: int = 1,
+               time: Optional[int] = None) -> Optional[Entry]:
         """The entry of a transaction: `puts` are (table, key, tag, body) or (table, key, Row), `removes` (table, key). Without a time it
         is one above the last. None where nothing is written.
 
@@ -85,9 +87,9 @@ class LogWriter:
     # ------------------------------------------------------------ parts
 
     @staticmethod
-    def _writes(puts: Iterable[Any], removes: Iterable[Place]) -> Dict[Place, Optional[Row]]:
+    def _writes(puts: Iterable[Written], removes: Iterable[Place]) -> Dict[Place, Optional[Row]]:
         writes: Dict[Place, Optional[Row]] = {}
-        every: List[Tuple[Any, Any, Optional[Row]]] = [(it[0], it[1], it[2] if len(it) == 3 else Row(it[2], it[3])) for it in puts]
+        every: List[Tuple[int, int, Optional[Row]]] = [put_of(it) for it in puts]
         every += [(table, key, None) for table, key in removes]
         for table, key, row in every:
             place = (table_of(table), key_of(key))
@@ -120,6 +122,16 @@ class LogWriter:
         return Entry.of(self.log, stream, self._numbers[at] + 1, time, ends, rows)
 
     # ------------------------------------------------------------ going on
+
+    @classmethod
+    def behind(cls, log: int, numbers: Sequence[int], time: int, born: MutableMapping[Place, int]) -> "LogWriter":
+        """A writer that goes on behind so many entries of each stream and behind a time, for who knows all of it: `born` has the time of
+        birth of each row that stands, is changed with each commit, and may be a map of the caller's own that takes less memory."""
+        writer = cls(log, len(numbers))
+        writer._numbers = [number_in(it, 0, LAST_TIME, "entries of a stream") for it in numbers]
+        writer.time = number_in(time, max(writer._numbers), LAST_TIME, "time")
+        writer._born = born
+        return writer
 
     @classmethod
     def resume(cls, whole: Fragment) -> "LogWriter":

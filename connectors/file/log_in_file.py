@@ -1,0 +1,221 @@
+"""A log of one stream in a file: item frames one behind the other, as `hkrep` reads them, and nothing else. Places are
+offsets. What stands behind the last whole frame was cut off when its writer ended; the next writer takes it away, and
+readers wait for the rest. Standard library only."""
+from __future__ import annotations
+
+import argparse
+import fcntl
+import os
+import pathlib
+import struct
+import sys
+import time
+from bisect import bisect_left, bisect_right
+from typing import Any, Callable, Dict, Iterator, List, Optional, Tuple
+
+sys.dont_write_bytecode = True
+sys.path.append(str(pathlib.Path(__file__).resolve().parent.parent / "common"))
+
+from blocks import BLOCK_BYTES, Block, Broken, walked      # noqa: E402
+from engine_log import EngineLog, Moved, Reading, add_log_words, see_log      # noqa: E402
+from feeding import LEAST_REST, MOST_REST      # noqa: E402
+
+_HEAD = struct.Struct(">IBBQHQQ").unpack_from
+# how much is looked at and how many blocks are read at once, and how long a reader sleeps in between, in seconds
+PIECE, BLOCKS, PAUSE = 1 << 20, 16, 0.01
+
+
+def last_entry(data: bytes) -> int:
+    """The number of the last entry among whole frames, 0 where there is none."""
+    at, number = 0, 0
+    while at + 32 <= len(data):
+        length, _, kind, _, _, first, _ = _HEAD(data, at)
+        at, number = at + 4 + length, first if kind == 1 else number
+    return number
+
+
+class Places:
+    """Where the blocks of a file end, each of 64 KB or one frame, with the number of the last entry up to there; and
+    where what is whole ends. A file that grows is looked at from there on."""
+
+    def __init__(self) -> None:
+        self.ends: List[int] = []
+        self.lasts: List[int] = []
+        self.size = self.number = 0
+
+    def add(self, data: bytes) -> int:
+        """Takes whole frames that stand behind what was looked at, and says how many bytes they have."""
+        at, begin = 0, self.ends[-1] if self.ends else 0
+        while at + 32 <= len(data):
+            length, _, kind, _, _, first, _ = _HEAD(data, at)
+            if not LEAST_REST <= length <= MOST_REST:
+                raise Broken(3, f"byte {self.size + at} begins no item frame: length {length}")
+            if at + 4 + length > len(data):
+                break
+            at += 4 + length
+            self.number = first if kind == 1 else self.number
+            if self.size + at - begin >= BLOCK_BYTES:
+                begin = self.size + at
+                self.ends.append(begin)
+                self.lasts.append(self.number)
+        self.size += at
+        return at
+
+    def around(self, number: int) -> Tuple[int, int]:
+        """Where the block begins and ends that has an entry."""
+        at = bisect_left(self.lasts, number)
+        return self.ends[at - 1] if at else 0, self.ends[at] if at < len(self.ends) else self.size
+
+
+class LogInFile(EngineLog):
+    """Nothing is opened before the first call. With `fsync` nothing counts as kept before the system was asked to bring
+    it to the disk."""
+
+    errors = (OSError,)
+
+    def __init__(self, path: str, log: int, fsync: bool = True) -> None:
+        super().__init__(log, 1)
+        self.engine, self.path, self.fsync = path, path, fsync
+        self.file, self.places, self.is_writing = -1, Places(), False
+
+    def is_passing(self, error: BaseException) -> bool:
+        """Whether the file isn't there yet."""
+        return isinstance(error, FileNotFoundError)
+
+    def drop(self) -> None:
+        if self.file >= 0:
+            os.close(self.file)
+        self.file, self.places, self.is_writing = -1, Places(), False
+
+    def key(self, stream: int) -> str:
+        return self.path
+
+    def prepare(self) -> None:
+        """Opens the file for writing, which one program does at a time (1), and takes away what was cut off."""
+        if self.is_writing:
+            return
+        self.drop()
+        is_new = not os.path.exists(self.path)
+        self.file = os.open(self.path, os.O_RDWR | os.O_CREAT | os.O_APPEND, 0o640)
+        try:
+            fcntl.flock(self.file, fcntl.LOCK_EX | fcntl.LOCK_NB)
+        except BlockingIOError:
+            raise Broken(1, f"another program writes to {self.path}") from None
+        self.is_writing = True
+        os.ftruncate(self.file, self.look().size)
+        if is_new and self.fsync:
+            folder = os.open(os.path.dirname(os.path.abspath(self.path)), os.O_RDONLY)
+            os.fsync(folder)
+            os.close(folder)
+
+    # ------------------------------------------------------------ how far it is
+
+    def look(self) -> Places:
+        """Where the blocks are by now."""
+        if self.file < 0:
+            self.file = os.open(self.path, os.O_RDONLY)
+        size = PIECE
+        while piece := os.pread(self.file, size, self.places.size):
+            if not self.places.add(piece):
+                if len(piece) < size:
+                    break
+                size *= 2      # a frame that is larger
+        return self.places
+
+    def block(self, begin: int, end: int) -> Block:
+        """The frames between two places; 3 where they are none of this log."""
+        data = os.pread(self.file, end - begin, begin)
+        last = last_entry(data) or self.number_before(begin)
+        return walked(data, last, self.log, 1, f"{self.path} from byte {begin} on")
+
+    def number_before(self, begin: int) -> int:
+        """The last entry before a place."""
+        at = bisect_right(self.places.ends, begin)
+        start, number = (self.places.ends[at - 1], self.places.lasts[at - 1]) if at else (0, 0)
+        return last_entry(os.pread(self.file, begin - start, start)) or number
+
+    def end(self, stream: int) -> Tuple[int, int, Iterator[Block]]:
+        places = self.look()
+        return places.size, places.number, self.backwards(places)
+
+    def backwards(self, places: Places) -> Iterator[Block]:
+        bounds = [0, *places.ends, places.size]
+        for begin, end in zip(bounds[-2::-1], bounds[:0:-1]):
+            if begin < end:
+                yield self.block(begin, end)
+
+    def last(self, stream: int) -> int:
+        return self.look().number
+
+    def first(self, stream: int) -> int:
+        return 1
+
+    def gone(self, stream: int) -> Optional[int]:
+        return 0
+
+    def holding(self, stream: int, number: int) -> Optional[Block]:
+        places = self.look()
+        return self.block(*places.around(number)) if 1 <= number <= places.number else None
+
+    # ------------------------------------------------------------ appending and reading
+
+    def append(self, stream: int, behind: int, blocks: List[Block], kept: Callable[[int], None]) -> int:
+        self.prepare()
+        if self.look().size != behind:
+            raise Moved
+        data = b"".join(block.data for block in blocks)
+        left = memoryview(data)
+        while left:
+            left = left[os.write(self.file, left):]
+        self.places.add(data)
+        if self.fsync:
+            os.fsync(self.file)
+        for block in blocks:
+            kept(block.last)
+        return self.places.size
+
+    def reading(self, prefixes: Dict[int, int], batch: int) -> "ReadingFile":
+        return ReadingFile(self, prefixes.get(1, 0))
+
+
+class ReadingFile(Reading):
+    """Blocks of what is there, and of what comes."""
+
+    def __init__(self, store: LogInFile, prefix: int) -> None:
+        self.store, self.is_over = store, False
+        places = store.look()
+        self.at = places.around(prefix)[0] if 1 <= prefix <= places.number else places.size if prefix else 0
+
+    def read(self, seconds: float) -> List[Tuple[int, Any, Block]]:
+        until = time.monotonic() + seconds
+        while self.at >= self.store.look().size:
+            if time.monotonic() > until:
+                self.is_over = True
+                return []
+            time.sleep(PAUSE)
+        self.is_over = False
+        places = self.store.places
+        more = places.ends[bisect_right(places.ends, self.at):][:BLOCKS] or [places.size]
+        found = []
+        for end in more:
+            found.append((1, end, self.store.block(self.at, end)))
+            self.at = end
+        return found
+
+    def has_all(self) -> bool:
+        return self.is_over
+
+
+# ---------------------------------------------------------------- the command line
+
+def add_words(words: argparse.ArgumentParser) -> None:
+    words.add_argument("--file", required=True, metavar="FILE", help="the file of the log")
+    add_log_words(words)
+
+
+def opened(said: argparse.Namespace, words: argparse.ArgumentParser) -> LogInFile:
+    """The log that the words name. Nothing is opened yet."""
+    see_log(said, words)
+    if said.streams != 1:
+        words.error("a file has a log of one stream")
+    return LogInFile(said.file, said.log)

@@ -1,0 +1,295 @@
+"""A capture: from PostgreSQL's changes to a log. Needs python3-psycopg2, and what is common to all connectors."""
+from __future__ import annotations
+
+import json
+import time
+from typing import Any, Dict, List, Optional
+
+from configuration import BAD, Broken, Configuration      # finds what is common
+from feeding import Patience, short
+import psycopg2
+
+from catalog import Catalog
+from keeping import Kept
+from log import Changes, Log
+from pgoutput import UNCHANGED, Begin, Change, Commit, Message, Relation, Value, Values, Word
+from shapes import Shape, Written
+from source import PREFIX, Source, see_slot
+from vadungsil.postgres import COMMIT, HEAD, TABLES, place_of
+from vadungsil.values import MOST_BODY
+
+# Where so many bytes of the write-ahead log had nothing for us, a transaction of no rows is written, so that PostgreSQL
+# can drop them.
+QUIET_BYTES = 1 << 24
+MOST_WAITING = 1 << 20
+AGAIN = 5.0      # seconds between two tries to open a link that PostgreSQL ended
+LOAD_ROWS = 1_024
+
+
+class Capture:
+    def __init__(self, said: Configuration, kept: Kept, until: int) -> None:
+        self.said, self.kept, self.until = said, kept, until
+        self.catalog = Catalog(said)
+        self.source, self.patience = Source(said, self.catalog), Patience("capture")
+        self.shapes = self.catalog.shapes()
+        self.catalog.see_settings(self.shapes)
+        hashed = tuple(it.table.number for it in self.shapes.values() if it.is_hashed)
+        self.log = Log(said.log, said.parts, hashed, self.put, self.source.live)
+        self.now: Dict[int, Optional[Shape]] = {}      # the shapes of relations, by what messages say
+        self.changes, self.xid, self.is_there = Changes(), 0, False
+        self.waiting = self.beaten = 0
+        self.tried = 0.0
+
+    def put(self, frame: bytes) -> None:
+        self.kept.put(frame)
+        self.waiting += len(frame)
+        self.source.live()
+
+    # ------------------------------------------------------------ the start
+
+    def own_rows(self) -> Dict[int, bytes]:
+        """The rows of table 0 that say what is captured."""
+        system, database = self.catalog.name()
+        rows: Dict[int, Dict[str, Any]] = {HEAD: {"system": system, "database": database, "slot": self.said.slot,
+                                                  "parts": self.said.parts}}
+        for shape in self.shapes.values():
+            it = shape.table
+            rows[TABLES + it.number] = {"name": it.name, "oid": shape.number, "key": it.key, "hashed": shape.is_hashed,
+                                        "tag": it.tag, "columns": it.columns and list(it.columns)}
+        bodies = {key: json.dumps(row, separators=(",", ":")).encode() for key, row in rows.items()}
+        for key, body in bodies.items():
+            if len(body) > MOST_BODY:
+                raise Broken(BAD, f"what is said of {rows[key].get('name')} takes {len(body)} bytes, and has "
+                                  f"{MOST_BODY}")
+        return bodies
+
+    def begin(self) -> None:
+        """Learns the log that stands, and goes on with it; loads what stands in PostgreSQL where no load ended."""
+        for frame in self.kept.frames():
+            self.log.take(frame)
+        self.log.begin(self.kept.number, self.kept.time)
+        if not self.log.standing.transaction:
+            self.load()
+            return
+        wanted = self.own_rows()
+        for key in sorted({*wanted, *self.log.own} - {COMMIT}):
+            begun, now = (rows.get(key, b"nothing of that").decode() for rows in (self.log.own, wanted))
+            if begun != now:
+                raise Broken(BAD, f"the log was begun with {begun}, and the configuration says {now}: begin a log "
+                                  "with a "
+                                  "new id")
+        see_slot(self.said, self.catalog, self.log.standing.lsn, self.kept.name)
+
+    def load(self) -> None:
+        """The rows that stand are the first transaction. What an earlier load left is written over."""
+        if self.catalog.slot() is not None:
+            if not self.log.number:
+                raise Broken(3, f"slot {self.said.slot} is there and {self.kept.name} is empty: it is another log's, "
+                                f"or this log was lost. `select pg_drop_replication_slot('{self.said.slot}')` gives "
+                                "it up")
+            self.catalog.drop_slot()
+        self.log.load_begin(self.own_rows())
+        self.kept.flush()
+        lsn, snapshot = self.source.make_slot()
+        loading = Changes()
+
+        def take(shape: Shape, values: List[Value]) -> None:
+            self.place(loading, shape, shape.written(values))
+            if len(loading.rows) >= LOAD_ROWS:
+                self.log.load(loading)
+                loading.rows.clear()
+
+        self.source.rows(snapshot, self.shapes, take)
+        self.log.load(loading)
+        self.log.load_end(lsn, int(time.time() * 1e6))
+        self.kept.flush()
+        count = sum(len(self.log.births.table(it.table.number)) for it in self.shapes.values())
+        self.patience.say(f"loaded {count} rows, up to {place_of(lsn)}")
+
+    # ------------------------------------------------------------ changes
+
+    def place(self, changes: Changes, shape: Shape, row: Written) -> None:
+        """Puts a row; two texts whose hashes are one key are told, and stop."""
+        if shape.is_hashed and self.collides(changes, shape.table.number, row):
+            raise Broken(BAD, f"{shape.table.name}: {shape.table.key} {row.key_text} has the hash {row.key}, which "
+                              "another "
+                              f"{shape.table.key} has too; such a table can't be captured")
+        changes.put(shape.table.number, row)
+
+    def collides(self, changes: Changes, number: int, row: Written) -> bool:
+        """Whether another text of the same hash came in this transaction, or stands and wasn't removed by it."""
+        has_come, before = changes.rows.get((number, row.key))
+        if has_come:
+            return before is not None and bool(before.check != row.check)
+        keys = self.log.births.table(number)
+        return keys.get(row.key) is not None and keys.check(row.key) != row.check
+
+    def change(self, it: Change) -> None:
+        shape = self.now.get(it.relation.number)
+        if shape is None:
+            return
+        self.changes.count += 1
+        number = shape.table.number
+        if it.kind == "t":
+            self.truncate(number)
+            return
+        if it.new is None:
+            assert it.old is not None
+            self.changes.remove(number, shape.key(it.old)[0])
+            return
+        row = shape.written(self.whole(shape, it))
+        if it.old is not None:
+            old = shape.key(it.old)[0]
+            if old != row.key:
+                self.changes.remove(number, old)
+        self.place(self.changes, shape, row)
+
+    def truncate(self, number: int) -> None:
+        """All rows of a table go: those that stand, and those that this transaction put."""
+        came = [key for (table, key), row in self.changes.rows.ordered() if table == number and row is not None]
+        for keys in (self.log.births.table(number), came):
+            for key in keys:
+                self.changes.remove(number, key)
+
+    def whole(self, shape: Shape, it: Change) -> Values:
+        """The values of a row that comes, with those that weren't sent from the row of before: as it was sent, or as
+        the log has it."""
+        assert it.new is not None
+        values = it.new
+        if it.old is not None:
+            values = [old if new is UNCHANGED and isinstance(old, str) else new for old, new in zip(it.old, values)]
+        if not shape.lacks(values):
+            return values
+        key = shape.key(it.old if it.old is not None else values)[0]
+        body = self.before(shape, key)
+        if body is None:
+            raise Broken(3, f"{shape.table.name}: column {shape.lacks(values)[0]} of a row did not change and isn't "
+                            f"sent, and {self.kept.name} no "
+                            f"longer has the row of before: `alter table {shape.table.name} replica identity full` "
+                            "spares that")
+        return shape.filled(values, body)
+
+    def before(self, shape: Shape, key: int) -> Optional[bytes]:
+        """The body of a row as it is by now, in this transaction or in the log."""
+        number = shape.table.number
+        has_come, row = self.changes.rows.get((number, key))
+        if has_come:
+            return None if row is None else bytes(row.body)
+        body = self.standing(number, key)
+        long = self.log.longs.get((number, key))
+        if body is None or long is None:
+            return body
+        parts = [self.standing(self.said.parts, long.first + at) for at in range(long.pieces)]
+        return None if None in parts else b"".join(part or b"" for part in parts)
+
+    def standing(self, table: int, key: int) -> Optional[bytes]:
+        born = self.log.births.table(table).get(key)
+        return None if born is None else self.kept.body(table, key, born)
+
+    def relation(self, it: Relation) -> None:
+        """Learns a table as it is from here on; under its name stands the table that was loaded, and under no other."""
+        known = next((shape for shape in self.shapes.values() if it.number == shape.number
+                      or it.name == shape.table.name), None)
+        if known is not None and (it.number, it.name) != (known.number, known.table.name):
+            raise Broken(BAD, f"{known.table.place}: {known.table.name} is another table from here on, or has another "
+                              "name: "
+                              f"{it.name} is number {it.number}, and {known.number} was loaded; begin a log with a "
+                              "new id")
+        self.now[it.number] = None
+        if known is not None:
+            shape = self.catalog.relation(known.table, it)
+            if shape.is_hashed != known.is_hashed:
+                raise Broken(BAD, f"{known.table.place}: the key {known.table.key} of {it.name} has the type "
+                                  f"{shape.types[known.table.key].shown()} from here on: begin a log with a new id")
+            self.now[it.number] = shape
+
+    # ------------------------------------------------------------ going on
+
+    def take(self, it: Message) -> None:
+        if isinstance(it, Change):
+            if not self.is_there:
+                self.change(it)
+        elif isinstance(it, Begin):
+            # PostgreSQL sends again what wasn't confirmed before its link broke
+            self.changes, self.xid, self.is_there = Changes(), it.xid, it.lsn < self.log.standing.lsn
+        elif isinstance(it, Relation):
+            self.relation(it)
+        elif isinstance(it, Word):
+            self.changes.count += (it.prefix, it.text) == (PREFIX, self.said.slot.encode())
+        elif isinstance(it, Commit):
+            if self.changes.count and not self.is_there:
+                self.log.commit(it.end, self.xid, it.clock, self.changes)
+            self.changes = Changes()
+            if self.waiting > MOST_WAITING:
+                self.settle()
+
+    def settle(self) -> None:
+        """All that was written is kept, and PostgreSQL told so."""
+        self.kept.flush()
+        self.waiting = 0
+        self.source.confirm(self.log.standing.lsn)
+
+    def rest(self) -> bool:
+        """Nothing waits to be read. Whether that was all that was asked for."""
+        self.settle()
+        seen = self.source.seen()
+        if self.catalog.is_ended():
+            self.end(seen)
+        elif seen > max(self.beaten, self.log.standing.lsn) + QUIET_BYTES:
+            self.beaten = seen
+            self.source.beat()
+        return bool(self.until) and self.log.standing.lsn >= self.until
+
+    def end(self, seen: int) -> None:
+        """PostgreSQL ends, or ended but the plain link, which is then opened again."""
+        if seen > self.log.standing.lsn:
+            self.log.commit(seen, 0, self.log.standing.latest, Changes())
+            self.settle()
+        self.source.confirm_all(seen)
+        if time.monotonic() - self.tried > AGAIN:
+            self.tried = time.monotonic()
+            try:
+                self.source.beat()
+            except psycopg2.Error:
+                pass
+
+    def follow(self) -> None:
+        self.source.start()
+        self.source.confirm(self.log.standing.lsn)
+        while True:
+            messages = self.source.read(0)
+            if messages is None:
+                if self.rest():
+                    return
+                messages = self.source.read(0.5) or []
+            for it in messages:
+                self.take(it)
+            self.patience.forget()
+
+    def run(self) -> None:
+        """Follows, again and again while PostgreSQL is away. Where something comes that can't be captured, what came
+        before is kept."""
+        while True:
+            try:
+                self.follow()
+                return
+            except Broken as broken:
+                if broken.status == BAD:
+                    self.settle()
+                raise
+            except psycopg2.Error as error:
+                if not is_passing(error):
+                    raise
+                self.source.drop()
+                self.changes = Changes()
+                self.patience.wait(short(str(error)))
+
+
+# the slot is read by another, and the server is being shut down, has crashed or starts
+PASSING = ("55006", "57P01", "57P02", "57P03")
+
+
+def is_passing(error: psycopg2.Error) -> bool:
+    """Whether PostgreSQL is away, starts, or still has the link of a capture that was killed."""
+    is_link = isinstance(error, (psycopg2.OperationalError, psycopg2.InterfaceError))
+    return is_link or error.pgcode in PASSING or (error.pgcode is None and isinstance(error, psycopg2.DatabaseError))
