@@ -1,8 +1,9 @@
 #!/usr/bin/python3
-"""Times a log over Redis, and over three nats-servers where a new enough one is here (NATS_SERVER or PATH), beside `hkrep feed` of the
-same frames, by turns: bench/connectors.py [ENTRIES] [TURNS]. Of each way frames a second, the middle of all turns, beside the middle of
-`hkrep feed`; of each follow the time from publish to resolved. By hand; needs what tests/connectors.py needs. It ends only what it
-started."""
+"""Times a log over Redis, and over three nats-servers where a new enough one is here (NATS_SERVER or PATH), beside
+`hkrep feed` of the same frames, by turns: bench/connectors.py [ENTRIES] [TURNS] [ENGINE ..]. Of each way frames a second,
+the middle of all turns, and the middle of what they are of the `hkrep feed` just before, so that a load that comes and
+goes weighs on both; of each follow the time from publish to resolved. By hand; needs what tests/connectors.py needs. It
+ends only what it started."""
 import os
 import pathlib
 import resource
@@ -25,7 +26,7 @@ from servers import program
 from vadungsil import Entry, Mark, encode
 from vadungsil.node import Node
 
-PYTHON = "/usr/bin/python3"
+FEED = "hkrep feed, 500 a request"
 
 
 class Measure:
@@ -33,7 +34,7 @@ class Measure:
 
     def __init__(self, it, frames):
         self.it, self.frames, self.log = it, frames, it.folder / "log.bin"
-        self.told, self.beside = {}, {}
+        self.told, self.beside, self.ratios = {}, {}, {}
 
     def node(self):
         port = free_port()
@@ -48,7 +49,9 @@ class Measure:
         took, cost = time.monotonic() - begin - taken_off[0], used() - before - taken_off[1]
         if done.returncode:
             raise SystemExit(f"{name}: status {done.returncode}: {done.stderr[-400:]}")
-        self.told.setdefault(name, []).append(len(self.frames) / max(took, 1e-3))
+        rate = len(self.frames) / max(took, 1e-3)
+        self.told.setdefault(name, []).append(rate)
+        self.ratios.setdefault(name, []).append(rate / self.told[FEED][-1])
         self.beside.setdefault(name, []).append(cost / len(self.frames) * 1e6)
 
     @staticmethod
@@ -60,7 +63,7 @@ class Measure:
 
     def feed(self):
         port, node = self.node()
-        self.timed("hkrep feed, 500 a request", [HKREP, "feed", "--port", port, "--batch", 500], source=self.log)
+        self.timed(FEED, [HKREP, "feed", "--port", port, "--batch", 500], source=self.log)
         kill(node)
 
     def publish(self, folder, url, *more):
@@ -75,12 +78,11 @@ class Measure:
         kill(node)
 
     def print(self):
-        feed = statistics.median(self.told["hkrep feed, 500 a request"])
         for name, rates in self.told.items():
-            middle = statistics.median(rates)
-            own = statistics.median(self.beside[name])
-            print(f"  {name:44} {middle:10,.0f} frames/s, {middle / feed:.2f} of hkrep feed; {own:.1f} microseconds of its "
-                  "processor a frame", flush=True)
+            middle, own = statistics.median(rates), statistics.median(self.beside[name])
+            least, _, most = statistics.quantiles(self.ratios[name], n=4) if len(rates) > 1 else self.ratios[name] * 3
+            ratio = f"{statistics.median(self.ratios[name]):.2f} of hkrep feed (half of the turns {least:.2f} to {most:.2f})"
+            print(f"  {name:34} {middle:10,.0f} frames/s, {ratio}; {own:.1f} microseconds of its processor a frame", flush=True)
 
 
 def used():
@@ -158,12 +160,13 @@ def made_anew(it, folder, url):
     journeys.waited(it.all_led, "not all streams have a leader")
 
 
-def main(entries, turns):
+def main(entries, turns, engines):
     frames = log_of(entries, 5)
     print(f"{len(frames)} frames, {sum(map(len, frames)) / 1e6:.1f} MB, 4 streams, {turns} turns", flush=True)
-    with tempfile.TemporaryDirectory() as folder, connectors.Bench(pathlib.Path(folder), entries, frames, {}) as it:
-        over_redis(it, frames, turns)
-    if not program():
+    if "redis" in engines:
+        with tempfile.TemporaryDirectory() as folder, connectors.Bench(pathlib.Path(folder), entries, frames, {}) as it:
+            over_redis(it, frames, turns)
+    if "nats" not in engines or not program():
         return
     for name in ("no sync_interval", "sync_interval: always"):
         with tempfile.TemporaryDirectory() as folder:
@@ -177,5 +180,6 @@ def main(entries, turns):
 
 
 if __name__ == "__main__":
-    numbers_ = [int(word) for word in sys.argv[1:]]
-    main(*(numbers_ + [20_000, 5][len(numbers_):]))
+    numbers_ = [int(word) for word in sys.argv[1:] if word.isdigit()]
+    names = [word for word in sys.argv[1:] if not word.isdigit()]
+    main(*(numbers_ + [20_000, 5][len(numbers_):]), names or ["redis", "nats"])

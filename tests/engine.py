@@ -29,6 +29,8 @@ import journeys
 from checks import ended, free_port, is_built, report, skip
 from journeys import (HKREP, LOG, PATIENCE, STREAMS, WORDS, bad_messages, demonstration, holds, is_entry, kill, log_of, number_of, play,
                       rows_of_log, status, stream_of, tables_of, waited)
+from blocks import walked
+from engine_log import Moved
 from feeding import Feed
 from jetstream import Nats
 from log_in_nats import LogInNats
@@ -508,6 +510,27 @@ def no_messages_of_ours(it):
     never.is_named(f"entries 1 to 4 are not in {never.key} and were not trimmed", "stream 1: entries 1 to 4 are no longer in NATS")
 
 
+def another_between(it):
+    """Somebody else's block takes the place for which a publisher has some: none of them is stored, not even the one
+    whose own place is still free, for it would stand behind a hole. Who publishes the log then goes on behind the
+    other's block."""
+    aside, rows, kept = Aside(it, 320), rows_of_log(320), []
+    aside.begin()
+    store = LogInNats(it.servers.urls().split(","), aside.log, 1, replicas=1)
+    place, _, _ = store.end(1)
+    aside.add(rows[0], b"1")
+    blocks = [walked(b"".join(rows[first - 1:last]), last, aside.log, 1, "a block") for first, last in ((1, 2), (3, 4))]
+    try:
+        store.append(1, place, blocks, kept.append)
+        store.settle()
+        holds(False, "the blocks were taken")
+    except Moved:
+        pass
+    holds(not kept and store.end(1)[:2] == (1, 1), f"{kept} are called kept, and the stream ends at {store.end(1)[:2]}")
+    store.drop()
+    holds(aside.publish(range(1, 9))[:2] == ("kept 1 8\n", 0), it.said())
+
+
 def late_and_forked(it):
     """Another log under the same id, an entry of a closed time and a mark that isn't true are stopped at the publisher (2); an input that
     lacks an entry, is cut off or of another log, too (3, 4). Items may come in any order, and twice."""
@@ -642,8 +665,10 @@ def demonstrated():
 
 
 STORIES = [as_in_the_page, slow_server, demonstrated, killed_leader, all_killed, each_in_turn, lost_disk, minority, forked, trimmed,
-           killed_publishers, lost_all, greatest_frame, several_nodes, late_and_forked, no_messages_of_ours, secured, old_server]
-BENCHES = {as_in_the_page: Paged, **dict.fromkeys((no_messages_of_ours, secured, old_server, greatest_frame), Alone)}
+           killed_publishers, lost_all, greatest_frame, several_nodes, late_and_forked, another_between,
+           no_messages_of_ours, secured, old_server]
+ALONE = (greatest_frame, another_between, no_messages_of_ours, secured, old_server)
+BENCHES = {as_in_the_page: Paged, **dict.fromkeys(ALONE, Alone)}
 
 
 def main(words):

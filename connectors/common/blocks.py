@@ -160,14 +160,16 @@ class Line:
         self.size = self.early_size = 0
 
     def put(self, one: Framed) -> None:
-        if not one.is_entry:
+        is_entry, _, _, number, _, frame = one
+        if not is_entry:
             self.put_mark(one)
-        elif one.first > self.next:
+        elif number > self.next:
             self.put_early(one)
         else:
-            self.add(one)            # one below the next is there already: it is compared
-            if one.first == self.next:
-                self.next += 1
+            self.ready.append(one)            # one below the next is there already: it is compared
+            self.size += len(frame)
+            if number == self.next:
+                self.next = number + 1
                 if self.marks or self.early:
                     self.wake()
 
@@ -201,6 +203,16 @@ class Line:
     def add(self, one: Framed) -> None:
         self.ready.append(one)
         self.size += len(one.frame)
+
+    def taken(self) -> List[Framed]:
+        """Takes out what is ready."""
+        ready, self.ready, self.size = self.ready, [], 0
+        return ready
+
+    def put_back(self, frames: List[Framed]) -> None:
+        """Frames that were taken out are ready again, before what is ready now."""
+        self.ready[:0] = frames
+        self.size += sum(len(one.frame) for one in frames)
 
     def lacks(self) -> str:
         """What did not come, or nothing."""

@@ -6,7 +6,7 @@ import abc
 import argparse
 from typing import Any, Callable, Dict, Iterator, List, NamedTuple, Optional, Tuple, Type
 
-from blocks import BLOCK_FRAMES, Block, Broken, Framed, entries_of, time_of
+from blocks import BLOCK_BYTES, BLOCK_FRAMES, Block, Broken, Framed, entries_of, time_of
 
 USAGE = 64
 
@@ -34,7 +34,9 @@ class EngineLog(abc.ABC):
     raise one of `errors`; `is_passing` says whether to try again, after `drop`."""
 
     engine = ""
-    errors: Tuple[Type[BaseException], ...] = ()
+    errors: Tuple[Type[Exception], ...] = ()
+    block_bytes = BLOCK_BYTES      # how much a message has, where nothing else is asked for
+    at_once = 16 * BLOCK_BYTES     # how many bytes a publisher appends in one go while more input waits
 
     def __init__(self, log: int, streams: int) -> None:
         self.log, self.streams = log, streams
@@ -79,8 +81,13 @@ class EngineLog(abc.ABC):
 
     @abc.abstractmethod
     def append(self, stream: int, behind: Any, blocks: List[Block], kept: Callable[[int], None]) -> Any:
-        """Adds blocks behind the last message, which stands at `behind`, else `Moved`; says the last entry of each that is kept as was
-        asked for, and gives the place of the last one."""
+        """Adds blocks behind the last message, which stands at `behind`, else `Moved`; says the last entry of each
+        block, in their order, once that is kept as was asked for, and gives the place of the last one. May return while
+        blocks are on their way: what becomes of them is told by later calls for any stream, up to `settle`; after an
+        error or `Moved`, never."""
+
+    def settle(self) -> None:
+        """Waits for what is on its way."""
 
     @abc.abstractmethod
     def reading(self, prefixes: Dict[int, int], batch: int) -> "Reading":
@@ -118,12 +125,12 @@ class EngineLog(abc.ABC):
                                 "and there are higher ones: they were deleted, or something else writes to this stream")
         return self.seen[stream][number]
 
-    def checked(self, frames: List[Framed], tail: Tail) -> Tuple[List[Framed], Tail, int, int]:
+    def checked(self, frames: List[Framed], tail: Tail, added: Dict[int, bytes]) -> Tuple[List[Framed], Tail, int, int]:
         """What of these frames is new behind the tail, the tail behind that, how many were there, and how many were there once. Raises
-        where the log forks (2) or entries lack (3). Frames of one stream, each entry at most one above those before it."""
+        where the log forks (2) or entries lack (3). Frames of one stream, each entry at most one above those before it.
+        `added` has the entries up to the tail that are on their way to the engine, and gets the new ones."""
         place, number, latest, marked = tail
         new: List[Framed] = []
-        added: Dict[int, bytes] = {}
         gone = 0
         for one in frames:
             is_entry, _, stream, first, time, frame = one
@@ -154,7 +161,11 @@ class EngineLog(abc.ABC):
     def try_mark(self, one: Framed, added: Dict[int, bytes], number: int) -> None:
         """2 where a mark isn't true of the entries beside it: the entries up to m are the first n, so entry n is not later, and the next
         one is."""
-        own, behind = (added.get(it) or self.entry(one.stream, it) if 0 < it <= number else None for it in (one.first, one.first + 1))
+        own = behind = None
+        if 0 < one.first <= number:
+            own = added.get(one.first) or self.entry(one.stream, one.first)
+        if one.first < number:
+            behind = added.get(one.first + 1) or self.entry(one.stream, one.first + 1)
         if (own is not None and time_of(own) > one.second) or (behind is not None and time_of(behind) <= one.second):
             raise Broken(2, f"stream {one.stream}: a mark of the first {one.first} entries is not true of the entries")
 

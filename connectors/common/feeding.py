@@ -2,12 +2,13 @@
 package `vadungsil` of this checkout."""
 from __future__ import annotations
 
+import argparse
 import pathlib
 import socket
 import struct
 import sys
 import time
-from typing import TYPE_CHECKING, List, Optional, Sequence, Tuple
+from typing import TYPE_CHECKING, Any, Iterator, List, Optional, Sequence, Tuple
 
 _PACKAGE = pathlib.Path(__file__).resolve().parents[2] / "clients" / "python"
 if _PACKAGE.is_dir():
@@ -15,7 +16,7 @@ if _PACKAGE.is_dir():
 
 from vadungsil.errors import Fault, LinkBroken, Refused, TimeLimit       # noqa: E402, F401
 from vadungsil.items import LEAST_REST, MOST_REST, decode, head_of       # noqa: E402, F401
-from vadungsil.link import Address, Link, address_of      # noqa: E402
+from vadungsil.link import Address, Certificates, Link, add_certificates, address_of, certificates_of, security_of      # noqa: E402
 from vadungsil.messages import MOST_ITEMS, MOST_MESSAGE, encode_request, framed      # noqa: E402
 from vadungsil.requests import FRONT, FULL, read_done, read_fragment, read_front      # noqa: E402
 from vadungsil.values import LAST_TIME, Delta, Front, Stream      # noqa: E402
@@ -33,8 +34,8 @@ class Feed(Link):
     """One link to a node, over which items are sent a few requests ahead of their replies. After `LinkBroken` it is of no more use: who
     comes again opens another, and asks the node anew how far it is (it may be another node by then)."""
 
-    def __init__(self, address: Address, limit: Optional[float] = 60.0, ahead: int = 4) -> None:
-        super().__init__(address_of(address), limit)
+    def __init__(self, address: Address, limit: Optional[float] = 60.0, ahead: int = 4, certificates: Certificates = Certificates()) -> None:
+        super().__init__(address_of(address), limit, 0.0, security_of(address, certificates))
         self.replies = self.socket.makefile("rb")
         self.ahead, self.waiting = ahead, []  # type: int, List[str]
 
@@ -51,11 +52,12 @@ class Feed(Link):
         parts: List[bytes] = []
         count = size = 0
         for block in blocks:
-            if parts and (count + block.frames > MOST_ITEMS or size + len(block.data) > MOST_BYTES):
-                self._send_items(parts, count, size, name)
-                parts, count, size = [], 0, 0
-            parts.append(block.data)
-            count, size = count + block.frames, size + len(block.data)
+            for data, frames in [(block.data, block.frames)] if len(block.data) <= MOST_BYTES else pieces_of(block.data):
+                if parts and (count + frames > MOST_ITEMS or size + len(data) > MOST_BYTES):
+                    self._send_items(parts, count, size, name)
+                    parts, count, size = [], 0, 0
+                parts.append(data)
+                count, size = count + frames, size + len(data)
         if parts:
             self._send_items(parts, count, size, name)
 
@@ -140,9 +142,34 @@ class Feed(Link):
         return TimeLimit(f"{self.name}: no reply within {self.limit} s")
 
 
+def pieces_of(data: bytes) -> Iterator[Tuple[bytes, int]]:
+    """The frames of a long block, as many at once as go into a request, and how many these are."""
+    start = at = count = 0
+    while at < len(data):
+        end = at + 4 + int.from_bytes(data[at:at + 4], "big")
+        if count and end - start > MOST_BYTES:
+            yield data[start:at], count
+            start, count = at, 0
+        at, count = end, count + 1
+    yield data[start:], count
+
+
 def short(text: str) -> str:
     """What is said of a failure: in one line, and in 400 letters at most."""
     return " ".join(text.split())[:400]
+
+
+def add_node_words(words: argparse.ArgumentParser, more: str, **options: Any) -> None:
+    """Nodes, and the certificates for those at tls://HOST:PORT: those of the engine are others."""
+    words.add_argument("--node", action="append", metavar="ADDRESS", help=f"PORT, HOST:PORT or tls://HOST:PORT of {more}", **options)
+    add_certificates(words, "node-")
+
+
+def node_certificates(said: argparse.Namespace) -> Certificates:
+    """`ValueError` where some are given and no node is one over TLS."""
+    found = certificates_of(said)
+    found.see([*said.node, *filter(None, [getattr(said, "source", None)])])
+    return found
 
 
 class Patience:

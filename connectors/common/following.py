@@ -8,7 +8,7 @@ from typing import Any, Dict, List, Optional, Tuple
 
 from blocks import Block, Broken, Missing, entries_of
 from engine_log import Behind, EngineLog, Reading
-from feeding import Fault, Feed, LinkBroken, Patience, Refused
+from feeding import Certificates, Fault, Feed, LinkBroken, Patience, Refused, add_node_words, node_certificates
 from vadungsil.node import Node
 
 STATUSES = """status: 0 as far as was asked for; 1 a failure, with --once, or ENGINE refuses; 2 the log forks: ENGINE has another
@@ -26,15 +26,15 @@ class SourceAway(Exception):
 class Fed:
     """A node that is fed, over one link while it and this program live."""
 
-    def __init__(self, address: str, ahead: int) -> None:
-        self.address, self.ahead = address, ahead
+    def __init__(self, address: str, ahead: int, certificates: Certificates = Certificates()) -> None:
+        self.address, self.ahead, self.certificates = address, ahead, certificates
         self.feed: Optional[Feed] = None
         self.prefixes: Dict[int, int] = {}       # what it had when it was last asked
         self.sent: Dict[int, Any] = {}           # the last place of each stream that went over this link
 
     def link(self) -> Feed:
         if self.feed is None:
-            self.feed, self.sent = Feed(self.address, ahead=self.ahead), {}
+            self.feed, self.sent = Feed(self.address, ahead=self.ahead, certificates=self.certificates), {}
         return self.feed
 
     def unlink(self) -> None:
@@ -64,7 +64,7 @@ class Fed:
         feed = self.link()
         readable = feed.front().readable
         try:
-            with Node(source, limit=60) as other, Node(self.address, limit=60) as own:
+            with self.node(source) as other, self.node(self.address) as own:
                 try:
                     own.take_parts(other.parts(readable))
                 except Refused as refused:
@@ -77,8 +77,11 @@ class Fed:
         except Refused as refused:
             raise refused.at(f"what the node at {source} gives")
 
+    def node(self, address: str) -> Node:
+        return Node(address, limit=60, **self.certificates.of(address)._asdict())
+
     def join(self, source: str, readable: int) -> str:
-        other = Feed(source)
+        other = Feed(source, certificates=self.certificates)
         try:
             body = other.facts_since(readable)
         finally:
@@ -91,7 +94,7 @@ class Follower:
     def __init__(self, store: EngineLog, said: argparse.Namespace) -> None:
         self.store, self.said, self.patience = store, said, Patience("follow")
         self.streams: List[int] = said.only or list(range(1, store.streams + 1))
-        self.nodes = [Fed(address, said.ahead) for address in said.node]
+        self.nodes = [Fed(address, said.ahead, node_certificates(said)) for address in said.node]
         self.reading: Optional[Reading] = None        # None: ask the nodes
         self.numbers: Dict[int, int] = {}             # the last entry of each stream that was read
         self.fed: Dict[int, Block] = {}               # the last block with entries of each stream that was sent
@@ -267,9 +270,8 @@ def streams_of(text: str) -> List[int]:
 
 
 def add_follow_words(words: argparse.ArgumentParser, engine: str) -> None:
-    words.add_argument("--node", required=True, action="append", metavar="ADDRESS",
-                       help="PORT or HOST:PORT of a node's first port; as often as wanted: each block is then read once for all of them, "
-                       "and the slowest holds the others back")
+    add_node_words(words, "a node's first port; as often as wanted: each block is then read once for all of them, and the slowest holds "
+                   "the others back", required=True)
     words.add_argument("--from", dest="source", metavar="ADDRESS", help=f"another node, for what {engine} no longer has")
     words.add_argument("--only", type=streams_of, metavar="STREAMS", help="of these streams alone, as 1,2")
     words.add_argument("--until", type=int, default=0, metavar="TIME", help="end when the node can be read at this time")

@@ -7,21 +7,21 @@ from typing import Any, Callable, List, Optional, Tuple
 
 from blocks import Broken
 from engine_log import EngineLog
-from feeding import Feed, LinkBroken, Refused, Stream, short
+from feeding import Certificates, Feed, LinkBroken, Refused, Stream, add_node_words, node_certificates, short
 
 
 class Asked:
     """A node, over one link that is kept while it holds."""
 
-    def __init__(self, address: str) -> None:
-        self.address = address
+    def __init__(self, address: str, certificates: Certificates) -> None:
+        self.address, self.certificates = address, certificates
         self.feed: Optional[Feed] = None
 
     def told(self) -> Tuple[Tuple[Stream, ...], str]:
         """Its streams, and its front as a line."""
         try:
             if self.feed is None:
-                self.feed = Feed(self.address, limit=20)
+                self.feed = Feed(self.address, limit=20, certificates=self.certificates)
             return self.feed.streams(), self.feed.front().line()
         except BaseException:
             if self.feed is not None:
@@ -76,14 +76,14 @@ def lines_of(store: EngineLog, nodes: List[Asked]) -> Tuple[List[str], int]:
 
 
 def add_status_words(words: argparse.ArgumentParser) -> None:
-    words.add_argument("--node", action="append", default=[], metavar="ADDRESS", help="PORT or HOST:PORT of a node; as often as wanted")
+    add_node_words(words, "a node; as often as wanted", default=[])
     words.add_argument("--watch", nargs="?", type=float, const=1.0, metavar="SECONDS",
                        help="again and again, every second without a number")
 
 
 def status(store: EngineLog, said: argparse.Namespace, beside: Callable[[], List[str]]) -> int:
     """All of it: the status. `beside` gives lines of the engine's own."""
-    nodes = [Asked(it) for it in said.node]
+    nodes = [Asked(it, node_certificates(said)) for it in said.node]
     while True:
         try:
             lines, code = lines_of(store, nodes)

@@ -12,7 +12,7 @@ import select
 import socket
 import ssl
 import time
-from typing import Any, Deque, Dict, List, NamedTuple, Optional, Sequence, Set, Tuple
+from typing import Any, Collection, Deque, Dict, List, NamedTuple, Optional, Sequence, Set, Tuple
 from urllib.parse import urlsplit
 
 # in seconds: how long a link, a reply, and each try of a question that may be asked again are waited for
@@ -269,6 +269,14 @@ class Nats:
         """Whether something is there to be read without waiting."""
         pending = self.socket.pending() if isinstance(self.socket, ssl.SSLSocket) else 0
         return self.at < len(self.buffer) or pending > 0 or bool(select.select([self.socket], [], [], 0)[0])
+
+    def come(self, tokens: Collection[bytes], waits: bool) -> List[bytes]:
+        """Those of some requests whose replies are there. Waits for the first, else for nothing but the rest of a
+        message."""
+        until = time.monotonic() + self.limit
+        while not (there := [it for it in tokens if it in self.got]) and (waits or self.has_more()):
+            self.sort(self.read(until))
+        return there
 
     def ask_again(self, subject: bytes, data: bytes) -> Message:
         """A question that may be asked as often as wanted. Servers share such questions among them, also with one that was cut off and

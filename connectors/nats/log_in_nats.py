@@ -8,28 +8,39 @@ found by halving, in about twice the logarithm of the number of blocks behind it
 from __future__ import annotations
 
 import argparse
+import collections
 import json
 import os
 import pathlib
 import sys
 import time
-from typing import Any, Callable, Dict, Iterator, List, NamedTuple, Optional, Tuple
+from typing import Any, Callable, Deque, Dict, Iterator, List, NamedTuple, Optional, Tuple
 
 sys.dont_write_bytecode = True
 HERE = pathlib.Path(__file__).resolve().parent
 sys.path[:0] = [str(HERE), str(HERE.parent / "common")]
 
-from blocks import Block, walked      # noqa: E402
+from blocks import BLOCK_BYTES, Block, walked      # noqa: E402
 from engine_log import EngineLog, Moved, Reading, add_log_words, see_log      # noqa: E402
 from jetstream import ApiError, Away, Denied, Message, Nats, Security, see_version, versions      # noqa: E402
 
 WRONG_LAST, IN_USE, NO_STREAM = 10_071, 10_058, 10_059
 
-# how many blocks are without an acknowledgement at most, and how many messages are looked through for the last mark
-AHEAD, BACK = 16, 64
+# how many bytes of blocks of all streams wait for their acknowledgements at most
+MOST_QUEUED = 16_000_000
+# how many messages are looked through for the last mark
+BACK = 64
 
 # what a message has beside a block, in bytes, at most
 HEADERS = 512
+
+
+class Queued(NamedTuple):
+    """A block that waits to be acknowledged, the sequence that it is to have, and who is told."""
+
+    sequence: int
+    block: Block
+    kept: Callable[[int], None]
 
 
 class Info(NamedTuple):
@@ -47,6 +58,8 @@ class LogInNats(EngineLog):
     """Places are sequences. Nothing is asked of NATS before the first call. One link is kept until `drop`."""
 
     engine, errors = "NATS", (Away, Denied, ApiError)
+    # more than in Redis: of a stream one block is on its way at a time, and servers that sync their files do so for each
+    block_bytes = at_once = 4 * BLOCK_BYTES
 
     def __init__(self, urls: List[str], log: int, streams: int, replicas: int = 3, security: Security = Security(),
                  by: str = "pull") -> None:
@@ -54,6 +67,9 @@ class LogInNats(EngineLog):
         self.urls, self.replicas, self.security, self.by = urls, replicas, security, by
         self.nats: Optional[Nats] = None
         self.is_seen = False
+        self.queues: Dict[int, Deque[Queued]] = {}      # by stream: the first of each is on its way
+        self.on_way: Dict[bytes, int] = {}              # of those that are, their tokens and streams
+        self.queued = 0                                 # bytes
         self.near: Dict[int, Tuple[int, int]] = {}      # of the block that was found last: its last entry and sequence
 
     def is_passing(self, error: BaseException) -> bool:
@@ -74,6 +90,9 @@ class LogInNats(EngineLog):
             self.nats.close()
         self.nats = None
         self.near.clear()
+        self.queues.clear()
+        self.on_way.clear()
+        self.queued = 0
 
     def key(self, stream: int) -> str:
         return f"hekaton_{self.log}_{stream}"
@@ -215,27 +234,46 @@ class LogInNats(EngineLog):
     # ------------------------------------------------------------ appending
 
     def append(self, stream: int, behind: int, blocks: List[Block], kept: Callable[[int], None]) -> int:
-        """Each block counts once a majority of the servers that keep the stream has it."""
-        nats, sent, place = self.link(), 0, behind
-        waiting: List[Tuple[bytes, int]] = []
-        most = nats.info.get("max_payload", 1 << 20)
-        while sent < len(blocks) or waiting:
-            parts = []
-            while sent < len(blocks) and len(waiting) < AHEAD:
-                if len(blocks[sent].data) + HEADERS > most:
-                    raise Denied(f"a block of {len(blocks[sent].data)} bytes is more than {nats.name} takes ({most}): "
-                                 "set max_payload to 8388608")
-                token, text = self.message(stream, behind + sent, blocks[sent])
-                parts.append(text)
-                waiting.append((token, blocks[sent].last))
-                sent += 1
-            if parts:
-                nats.send(*parts)
-            token, last = waiting.pop(0)
-            self.acknowledged(nats.take(token), place + 1)
-            kept(last)
-            place += 1
-        return place
+        """Each block counts once a majority of the servers that keep the stream has it. Of a stream one block is on its
+        way at a time: were there two, and somebody else's took the place of the first, the servers would take the
+        second behind that."""
+        most = self.link().info.get("max_payload", 1 << 20)
+        for block in blocks:
+            if len(block.data) + HEADERS > most:
+                raise Denied(f"a block of {len(block.data)} bytes is more than {self.link().name} takes ({most}): "
+                             "set max_payload to 8388608")
+        queue = self.queues.setdefault(stream, collections.deque())
+        is_first = not queue
+        queue.extend(Queued(sequence, block, kept) for sequence, block in enumerate(blocks, behind + 1))
+        self.queued += sum(len(block.data) for block in blocks)
+        if is_first and queue:
+            self.send_first(stream)
+        self.collect(waits=False)
+        while self.queued > MOST_QUEUED:
+            self.collect()
+        return behind + len(blocks)
+
+    def settle(self) -> None:
+        while self.on_way:
+            self.collect()
+
+    def send_first(self, stream: int) -> None:
+        it = self.queues[stream][0]
+        token, text = self.message(stream, it.sequence - 1, it.block)
+        self.on_way[token] = stream
+        self.link().send(text)
+
+    def collect(self, waits: bool = True) -> None:
+        """Takes the acknowledgements that have come, or waits for the next one; sends what stands behind these."""
+        for token in self.link().come(self.on_way, waits):
+            stream = self.on_way.pop(token)
+            sequence, block, kept = self.queues[stream][0]
+            self.acknowledged(self.link().take(token), sequence)
+            self.queues[stream].popleft()
+            self.queued -= len(block.data)
+            kept(block.last)
+            if self.queues[stream]:
+                self.send_first(stream)
 
     def message(self, stream: int, behind: int, block: Block) -> Tuple[bytes, bytes]:
         head = (b"Nats-Expected-Stream: %s\r\nNats-Expected-Last-Sequence: %d\r\nHk-Last: %d\r\n"
@@ -245,7 +283,7 @@ class LogInNats(EngineLog):
     def acknowledged(self, message: Message, sequence: int) -> None:
         told = json.loads(message.data)
         if "error" in told:
-            self.drop()      # what is on its way behind it will be refused as well
+            self.drop()      # of other streams blocks may be on their way: they are looked at anew
             if told["error"].get("err_code") == WRONG_LAST:
                 raise Moved
             raise ApiError(told["error"])

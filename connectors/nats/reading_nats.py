@@ -5,12 +5,12 @@ import json
 import time
 from typing import Deque, Dict, List, Optional, Tuple
 
-from blocks import BLOCK_BYTES, Block
+from blocks import Block
 from engine_log import Reading
 from jetstream import Away, Late, Message, Nats
 from log_in_nats import LogInNats
 
-# how many bytes are taken in one go, so that the node isn't waited with; and how many are asked for ahead, of all streams: a server gives up
+# how many bytes are taken in one go, so that the node isn't waited with; and how many are asked for ahead at most, of all streams: a server gives up
 # a link to which it can't write for some seconds, so they should have room in the buffers of both machines
 BYTES_A_READ, BYTES_AHEAD = 500_000, 4_000_000
 # in seconds: after how long a consumer that says nothing is given up, and how often it has to say that it lives
@@ -45,7 +45,7 @@ class Pulling(Reading):
 
     def __init__(self, store: LogInNats, prefixes: Dict[int, int], batch: int) -> None:
         self.store, self.batch, self.is_over = store, batch, False
-        self.mean = float(BLOCK_BYTES)      # how many bytes a block has that came of late
+        self.mean = float(store.block_bytes)      # how many bytes a block has that came of late
         self.places = places_of(store, prefixes)
         self.consumers = {stream: Consumer(store, stream, place.sequence) for stream, place in self.places.items()}
         self.make(store.link())
@@ -66,8 +66,8 @@ class Pulling(Reading):
 
     def read(self, seconds: float) -> List[Tuple[int, int, Block]]:
         nats = self.store.link()
-        count = max(2, min(self.batch, int(BYTES_AHEAD / self.mean / len(self.places))))
-        wanted = [it.request(count) for it in self.consumers.values() if it.left <= count // 2]
+        count = max(2, min(self.batch, int(BYTES_AHEAD / 2 / self.mean / len(self.places))))
+        wanted = [it.request(count) for it in self.consumers.values() if it.left <= count]
         if wanted:
             nats.send(*wanted)
         until, size = time.monotonic() + seconds, 0

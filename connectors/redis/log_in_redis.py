@@ -147,8 +147,8 @@ class LogInRedis(EngineLog):
             raise Moved
         if count and count[0] < self.replicas:
             raise redis.TimeoutError(f"{count[0]} replicas of {self.replicas} have it")
-        if blocks:
-            kept(blocks[-1].last)
+        for block in blocks:
+            kept(block.last)
         return place
 
     @staticmethod
