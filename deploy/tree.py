@@ -149,7 +149,7 @@ def of_pages(tree):
     shared, pages = f"{tree.prefix}/share/vadungsil", f"{tree.prefix}/share/doc/vadungsil"
     for name in SHARED:
         tree.folder(f"{shared}/{name}", ROOT / name)
-    for name in ("alerts.yml", "grafana-dashboard.json"):
+    for name in ("alerts.yml", "grafana-dashboard.json", *(f"stunnel/{it.name}" for it in sorted((ROOT / "deploy" / "stunnel").iterdir()))):
         tree.copy(f"{shared}/deploy/{name}", ROOT / "deploy" / name)
     tree.link(f"{shared}/bin", "../../bin")
     tree.link(f"{shared}/docs", "../doc/vadungsil/docs")

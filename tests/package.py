@@ -27,6 +27,8 @@ OF_PAGE = {it.text for it in of("package.py released")}
 WORK = pathlib.Path(tempfile.mkdtemp(prefix="package"))
 CLONE, BARE = WORK / "clone", WORK / "bare"
 DEB = CLONE / "dist" / f"vadungsil_{VERSION}_amd64.deb"
+DEVELOPMENT = DEB.with_name(f"libhekaton-dev_{VERSION}_amd64.deb")
+MAINTAINER = "Ada Example <ada@example.org>"
 SHARED = "usr/share/vadungsil"
 # git's settings here: who the commits of the clone are of, and that this clone may be another's
 SETTINGS = "[user]\n\tname = test\n\temail = test@invalid\n[safe]\n\tdirectory = *\n"
@@ -87,7 +89,7 @@ def the_same():
     again = WORK / "again"
     said, status = run(f"umask 077 && exec '{CLONE}/deploy/package' '{again}'", cwd=WORK, env={"TZ": "Asia/Tokyo", "HOME": str(WORK), "USER": "else", "LC_ALL": "C"})
     files = [(it.name, (again / it.name).read_bytes() == it.read_bytes() if (again / it.name).exists() else False, True) for it in sorted((CLONE / "dist").iterdir())]
-    report(f"{len(files)} files of two builds are the same", ([said] if status else []) + differ(files) + ([] if len(files) == 4 else ["not four files"]))
+    report(f"{len(files)} files of two builds are the same", ([said] if status else []) + differ(files) + ([] if len(files) == 5 else ["not five files"]))
 
 
 def numbers():
@@ -200,19 +202,44 @@ def unit(root):
     report("the unit's command line starts a node that answers, also messages of version 2", differ([("prints", said, f"done 2\n9 41\n{told}")]))
 
 
-def taken_apart():
-    """The package's files, for the checks that need no root."""
-    whole = WORK / "whole"
-    said, status = run(["dpkg-deb", "-x", DEB, whole])
-    lines = (whole / SHARED / "MANIFEST").read_text(encoding="utf-8").splitlines()
-    sums, sum_status = run(["sha256sum", "--quiet", "-c", f"{SHARED}/MANIFEST"], cwd=whole)
+def listed(deb, to, manifest):
+    """Takes a package apart; what is wrong with its MANIFEST."""
+    said, status = run(["dpkg-deb", "-x", deb, to])
+    lines = (to / manifest).read_text(encoding="utf-8").splitlines()
+    sums, sum_status = run(["sha256sum", "--quiet", "-c", manifest], cwd=to)
     commit, _ = run(["git", "rev-parse", "HEAD"], cwd=CLONE)
     kit = re.search(r"\((.*)\)", told(ROOT / "bin" / "hkrep", "--version"))[1]
-    files = {str(it.relative_to(whole)) for it in whole.rglob("*") if it.is_file() and not it.is_symlink() and not any(up.is_symlink() for up in it.parents)}
+    files = {str(it.relative_to(to)) for it in to.rglob("*")
+             if it.is_file() and not it.is_symlink() and not any(up.is_symlink() for up in it.parents)}
     named = {line.split("  ")[1] for line in lines if not line.startswith("#")}
-    report("MANIFEST names the commit, the kit and the sum of each file", ([said] if status else []) + ([sums] if sum_status else []) + differ(
-        [("commit", lines[1], f"# commit {commit.strip()}"), ("kit", lines[2], f"# kit {kit}"), ("files", sorted(files - named), [f"{SHARED}/MANIFEST"])]))
-    same = [("bin/hkrep", whole / "usr/bin/hkrep"), ("lib/libhekaton.a", whole / "usr/lib/x86_64-linux-gnu/libhekaton.a"), ("include/hekaton.h", whole / "usr/include/hekaton.h")]
+    return ([said] if status else []) + ([sums] if sum_status else []) + differ(
+        [("commit", lines[1], f"# commit {commit.strip()}"), ("kit", lines[2], f"# kit {kit}"),
+         ("files", sorted(files - named), [manifest])])
+
+
+def by_policy():
+    """lintian finds no error in the Debian packages, whose maintainer is given as they are made. An override says why the program
+    has the names of its functions in it: it is the file that was proved."""
+    if not shutil.which("lintian"):
+        skip("lintian is not installed: nothing looks whether the Debian packages are as Debian wants them")
+        return
+    place = WORK / "named"
+    said, status = run([CLONE / "deploy" / "package", place], env={"MAINTAINER": MAINTAINER})
+    found, _ = run(["lintian", "--allow-root", "--fail-on", "none", *sorted(place.glob("*.deb"))])
+    errors = [line for line in found.splitlines() if not line.startswith(("W: ", "I: ", "P: ", "N: ", "O: "))]
+    fields = [(it.name, run(["dpkg-deb", "-f", it, "Maintainer"])[0].strip(), MAINTAINER) for it in place.glob("*.deb")]
+    report("lintian finds no error in the Debian packages", ([said] if status else []) + errors + differ(fields)
+           + ([] if len(fields) == 2 else ["not two packages"]) + ([] if "nobody" not in said and "no address" not in said else [said]))
+
+
+def taken_apart():
+    """The packages' files, for the checks that need no root."""
+    whole, apart = WORK / "whole", WORK / "apart"
+    report("MANIFEST names the commit, the kit and the sum of each file",
+           listed(DEB, whole, f"{SHARED}/MANIFEST") + listed(DEVELOPMENT, apart, "usr/share/doc/libhekaton-dev/MANIFEST"))
+    lib = "usr/lib/x86_64-linux-gnu"
+    same = [("bin/hkrep", whole / "usr/bin/hkrep"), ("lib/libhekaton.so", whole / lib / "libhekaton.so.0"),
+            ("lib/libhekaton.a", apart / lib / "libhekaton.a"), ("include/hekaton.h", apart / "usr/include/hekaton.h")]
     report("the program and the library are those that were proved", [name for name, file in same if (ROOT / name).read_bytes() != file.read_bytes()])
     said, status = run([sys.executable, whole / "usr/bin/vadungsil", "--version"], env={"PYTHONPATH": ""})
     report("the package's Python client", differ([("vadungsil --version", (said.strip(), status), (f"vadungsil {VERSION}", 0))]))
@@ -360,6 +387,7 @@ def main():
             numbers()
             in_a_bare_root()
             whole = taken_apart()
+            by_policy()
             from_the_tar()
             manual(whole, of)
             completions(whole, of)

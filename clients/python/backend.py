@@ -25,9 +25,12 @@ def _field(name, text):
 PROJECT = (HERE / "pyproject.toml").read_text(encoding="utf-8")
 NAME, SUMMARY = _field("name", PROJECT), _field("description", PROJECT)
 VERSION = _field("__version__", (HERE / NAME / "__init__.py").read_text(encoding="utf-8"))
+LICENSES = ("LICENSE-APACHE", "LICENSE-MIT")
 METADATA = "".join(f"{line}\n" for line in (
     "Metadata-Version: 2.1", f"Name: {NAME}", f"Version: {VERSION}", f"Summary: {SUMMARY}",
-    f"Requires-Python: {_field('requires-python', PROJECT)}", f"License: {_field('license', PROJECT)}"))
+    f"Requires-Python: {_field('requires-python', PROJECT)}", f"License: {_field('license', PROJECT)}",
+    *(f"License-File: {name}" for name in LICENSES), *(f"Classifier: {it}" for it in re.findall(r'^    "(.* :: .*)",$', PROJECT, re.M)),
+    "Description-Content-Type: text/markdown", "", (HERE / "README.md").read_text(encoding="utf-8").rstrip()))
 WHEEL = "Wheel-Version: 1.0\nGenerator: vadungsil-backend\nRoot-Is-Purelib: true\nTag: py3-none-any\n"
 INFO = f"{NAME}-{VERSION}.dist-info"
 
@@ -38,8 +41,13 @@ def _sources():
             for path in sorted((HERE / NAME).rglob("*")) if path.suffix in SUFFIXES}
 
 
+def _licenses():
+    """The licences: beside this file in a source archive, else at the top of the tree."""
+    return {name: next(it for it in (HERE / name, HERE.parent.parent / name) if it.exists()).read_bytes() for name in LICENSES}
+
+
 def _described():
-    return {f"{INFO}/METADATA": METADATA.encode(), f"{INFO}/WHEEL": WHEEL.encode(),
+    return {**{f"{INFO}/{name}": data for name, data in _licenses().items()}, f"{INFO}/METADATA": METADATA.encode(), f"{INFO}/WHEEL": WHEEL.encode(),
             f"{INFO}/entry_points.txt": f"[console_scripts]\n{NAME} = {NAME}.__main__:main\n".encode()}
 
 
@@ -77,8 +85,8 @@ def build_wheel(wheel_directory, config_settings=None, metadata_directory=None):
 
 def build_sdist(sdist_directory, config_settings=None):
     top = f"{NAME}-{VERSION}"
-    files = {**_sources(), "PKG-INFO": METADATA.encode(),
-             **{name: (HERE / name).read_bytes() for name in ("pyproject.toml", "backend.py")}}
+    files = {**_sources(), **_licenses(), "PKG-INFO": METADATA.encode(),
+             **{name: (HERE / name).read_bytes() for name in ("pyproject.toml", "backend.py", "README.md")}}
     packed = io.BytesIO()
     with tarfile.open(fileobj=packed, mode="w", format=tarfile.PAX_FORMAT) as archive:
         for name, data in sorted(files.items()):

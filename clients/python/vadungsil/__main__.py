@@ -10,6 +10,7 @@ from . import __version__
 from .errors import LinkBroken, Refused, TimeLimit, VadungsilError
 from .export import FORMS, export, is_standard_output
 from .items import Feeder
+from .link import add_certificates, certificates_of
 from .node import Node
 from .nodes import Nodes
 from .reasons import REASONS, explain
@@ -26,7 +27,8 @@ def parser() -> argparse.ArgumentParser:
     it = argparse.ArgumentParser(prog="vadungsil", description="Asks nodes of Vadungsil, and prints as hkrep does.")
     it.add_argument("--version", action="version", version=f"vadungsil {__version__}")
     it.add_argument("--port", type=int, help="the port of a node on this machine")
-    it.add_argument("--node", action="append", default=[], metavar="HOST:PORT", help="a node; several are asked as one")
+    it.add_argument("--node", action="append", default=[], metavar="HOST:PORT", help="a node; several are asked as one; tls://HOST:PORT for TLS")
+    add_certificates(it)
     it.add_argument("--limit", type=float, default=20.0, metavar="SECONDS", help="the most that a reply is waited for (20)")
     commands = it.add_subparsers(dest="command", required=True, metavar="COMMAND")
     for name, (places, told) in PLACES.items():
@@ -89,10 +91,14 @@ def run(words: argparse.Namespace) -> str:
         numbers = sorted(REASONS) if words.number is None else [words.number]
         return "\n".join(explain(number) for number in numbers)
     addresses: List[Any] = list(words.node) + ([words.port] if words.port is not None else [])
+    certificates = certificates_of(words)._asdict()
     if words.command in PLACES or words.command == "export":
-        with (Node(addresses[0], words.limit) if len(addresses) == 1 else Nodes(addresses, words.limit)) as node:
+        if len(addresses) > 1:
+            with Nodes(addresses, words.limit, **certificates) as nodes:
+                return asked(nodes, words)
+        with Node(addresses[0], words.limit, **certificates) as node:
             return asked(node, words)
-    with Node(addresses[0], words.limit) as node:
+    with Node(addresses[0], words.limit, **certificates) as node:
         return told(node, words, sys.stdin.buffer.read() if words.command == "push" else b"")
 
 

@@ -2,19 +2,20 @@
 from __future__ import annotations
 
 import asyncio
+import contextlib
 import errno
 import os
 import socket
+import ssl
 from collections import deque
 from typing import Any, Awaitable, Deque, List, Optional, Tuple
 
 from .errors import Fault, LinkBroken, TimeLimit
-from .later import Page, Streams
-from .link import PAUSE, Address, address_of, is_joined_with_itself
+from .link import PAUSE, Address, Certificates, address_of, is_joined_with_itself, security_of
 from .messages import MOST_MESSAGE
 from .node import _ends_link
 from .requests import Moment, Read, Requests, ask_frame
-from .values import LAST_TIME, Fragment, Front, KeyRow, Query, Row, Stream, time_of
+from .values import LAST_TIME, Fragment, Front, KeyRow, Page, Query, Row, Stream, Streams, time_of
 
 
 class _AsyncLink:
@@ -28,6 +29,8 @@ class _AsyncLink:
 
     async def _take(self) -> None:
         error: Exception = LinkBroken(f"{self.name}: the node ended the link")
+        if self.writer.get_extra_info("sslcontext") is not None:      # why isn't always told: a write that fails may come first
+            error = LinkBroken(f"{self.name}: the link ended, and our certificate may not be taken there")
         try:
             while True:
                 size = int.from_bytes(await self.reader.readexactly(4), "big")
@@ -43,6 +46,10 @@ class _AsyncLink:
                     break
         except Fault as fault:
             error = fault
+        except ssl.SSLError as refused:
+            error = LinkBroken(f"{self.name}: {refused}")
+            with contextlib.suppress(OSError):      # the stream keeps it too, and says so at its end where nobody asked
+                await self.writer.wait_closed()
         except (OSError, asyncio.IncompleteReadError, asyncio.CancelledError):
             pass
         self.close(error)
@@ -63,8 +70,12 @@ class AsyncNode(Requests[Awaitable[Optional[Row]], Awaitable[List[KeyRow]], Awai
     """As `Node`, with awaitable answers: `async with AsyncNode(47000) as node:`, `await node.get(1, 5)`. `asyncio.gather` of many
     questions is a pipeline. `limit` is the most seconds from a request to its reply; past it the link is closed."""
 
-    def __init__(self, address: Address, limit: Optional[float] = 20.0, tries: int = 2, wait: float = 3.0) -> None:
+    def __init__(self, address: Address, limit: Optional[float] = 20.0, tries: int = 2, wait: float = 3.0, *, ca: Optional[str] = None,
+                 cert: Optional[str] = None, key: Optional[str] = None) -> None:
+        certificates = Certificates(ca, cert, key)
+        certificates.see([address])
         self.address, self.limit, self.tries, self.wait = address_of(address), limit, max(tries, 1), wait
+        self._security = security_of(address, certificates)
         self._link: Optional[_AsyncLink] = None
         self._opening: Optional[asyncio.Lock] = None
 
@@ -105,7 +116,8 @@ class AsyncNode(Requests[Awaitable[Optional[Row]], Awaitable[List[KeyRow]], Awai
 
     @staticmethod
     async def _sent(link: _AsyncLink, future: "asyncio.Future[bytes]") -> bytes:
-        await link.writer.drain()
+        with contextlib.suppress(OSError):      # why the link ended is told by what reads from it
+            await link.writer.drain()
         return await future
 
     async def _connected(self) -> Tuple[asyncio.StreamReader, asyncio.StreamWriter]:
@@ -113,8 +125,8 @@ class AsyncNode(Requests[Awaitable[Optional[Row]], Awaitable[List[KeyRow]], Awai
         until, self.wait = asyncio.get_running_loop().time() + self.wait, 0.0
         while True:
             try:
-                reader, writer = await asyncio.open_connection(*self.address, limit=2 ** 20)
-                if not is_joined_with_itself(writer.get_extra_info("socket")):
+                reader, writer = await asyncio.open_connection(*self.address, limit=2 ** 20, ssl=self._security)
+                if self._security is not None or not is_joined_with_itself(writer.get_extra_info("socket")):
                     return reader, writer
                 writer.close()
                 raise ConnectionRefusedError(errno.ECONNREFUSED, os.strerror(errno.ECONNREFUSED))

@@ -83,7 +83,8 @@ class Replica(Node):
                 self._buffer = ctypes.create_string_buffer(size)
                 self._library.hk_reply(self._handle, 0, self._buffer, size)
             told = ctypes.string_at(self._buffer, size)
-        found, at = [], 0
+        found: List[bytes] = []
+        at = 0
         while at + 4 <= len(told) and len(found) < len(requests):
             end = at + 4 + int.from_bytes(told[at:at + 4], "big")
             if end > len(told):
@@ -120,7 +121,7 @@ class Replica(Node):
         with self._lock:
             self._done(self._library.hk_finish(self._handle))
 
-    def merge(self, peer: "Replica") -> None:
+    def merge(self, peer: "Replica") -> None:      # type: ignore[override]  # what nodes send to one another, a replica takes as it is
         """Joins all that another replica in this process holds."""
         if peer is self:
             return

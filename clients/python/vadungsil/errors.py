@@ -1,7 +1,7 @@
 """What is raised. Each error says its number where it has one, the words of `hkrep explain`, and the place."""
 from __future__ import annotations
 
-from typing import Any, Dict, Tuple
+from typing import Any, Dict, List, Tuple, Type
 
 from .reasons import REASONS
 
@@ -14,7 +14,9 @@ class Refused(VadungsilError):
     """A refusal, of a node or of a value here. A node that refuses changes nothing, but for 23 and 42 (docs/PROTOCOL.md).
 
     `number` is that of docs/FORMATS.md, `values` its fields in order (`error.readable` of 26 and so on is one of them by name),
-    `place` where it was met."""
+    `place` where it was met; `before`, where a feeder met it, the values before it."""
+
+    before: List[Any]
 
     def __init__(self, number: int, *values: int, place: str = "") -> None:
         super().__init__(number, *values)
@@ -69,7 +71,7 @@ class Refused(VadungsilError):
         return _again, (type(self), self.number, self.values, self.place)
 
 
-def _again(kind: type, number: int, values: Tuple[int, ...], place: str) -> Refused:
+def _again(kind: "Type[Refused]", number: int, values: Tuple[int, ...], place: str) -> Refused:
     return kind(number, *values, place=place)
 
 

@@ -1,27 +1,81 @@
 """A link to a node: requests go out, replies come back in their order, within a time limit."""
 from __future__ import annotations
 
+import argparse
 import errno
 import os
 import select
 import socket
+import ssl
 import time
-from typing import List, Optional, Tuple, Union
+from typing import Iterable, List, NamedTuple, Optional, Tuple, Union
 
 from .errors import Fault, LinkBroken, TimeLimit
 from .messages import MOST_MESSAGE
 
 Address = Union[int, str, Tuple[str, int]]
+TLS = "tls://"
+
+
+class Certificates(NamedTuple):
+    """The files of links over TLS: `ca` has the certificates that may sign a node's, else those of the system do; `cert` is ours, and
+    `key` its key, where that isn't in the same file."""
+
+    ca: Optional[str] = None
+    cert: Optional[str] = None
+    key: Optional[str] = None
+
+    def context(self) -> ssl.SSLContext:
+        """`ValueError` where a file can't be read, or has none of it."""
+        try:
+            context = ssl.create_default_context(cafile=self.ca)
+            if self.cert:
+                context.load_cert_chain(self.cert, self.key)
+        except OSError as error:
+            raise ValueError(f"certificates of {', '.join(filter(None, self))}: {error}") from error
+        return context
+
+    def of(self, address: Address) -> "Certificates":
+        """These, for an address over TLS; none for another."""
+        return self if is_secured(address) else Certificates()
+
+    def see(self, addresses: Iterable[Address]) -> None:
+        """`ValueError` where there are some, and no address is one over TLS: then nothing would be encrypted."""
+        if any(self) and not any(map(is_secured, addresses)):
+            raise ValueError(f"certificates are for addresses that begin with {TLS}")
+
+
+def add_certificates(words: argparse.ArgumentParser, prefix: str = "") -> None:
+    """The options of a command that links to nodes over TLS."""
+    told = {"cacert": f"the certificates that may sign those of nodes at {TLS}HOST:PORT; else the system's do",
+            "cert": "our certificate for them", "key": "its key, where that isn't in the same file"}
+    for name, text in told.items():
+        words.add_argument(f"--{prefix}{name}", dest=f"node_{name}", metavar="FILE", help=text)
+
+
+def certificates_of(words: argparse.Namespace) -> Certificates:
+    """What these options say."""
+    return Certificates(*(getattr(words, f"node_{name}", None) for name in ("cacert", "cert", "key")))
+
+
+def is_secured(address: Address) -> bool:
+    """Whether a link to it is one over TLS."""
+    return isinstance(address, str) and address.startswith(TLS)
+
+
+def security_of(address: Address, certificates: Certificates) -> Optional[ssl.SSLContext]:
+    """What a link to an address goes through: nothing, but for "tls://HOST:PORT"."""
+    return certificates.context() if is_secured(address) else None
 
 
 def address_of(address: Address) -> Tuple[str, int]:
-    """A port of this machine, "HOST:PORT", or the two."""
+    """A port of this machine, "HOST:PORT", "tls://HOST:PORT", or the two."""
     if isinstance(address, tuple):
         host, port = address
     elif isinstance(address, int):
         host, port = "127.0.0.1", address
     else:
-        host, _, word = address.rpartition(":")
+        host, _, word = address[len(TLS) if is_secured(address) else 0:].rpartition(":")
         host, port = host or "127.0.0.1", int(word) if word.isascii() and word.isdigit() else 0
     if not 1 <= port <= 65_535:
         raise ValueError(f"no address: {address!r}")
@@ -53,13 +107,25 @@ def connected(address: Tuple[str, int], limit: Optional[float], wait: float) -> 
             time.sleep(PAUSE)
 
 
-class Link:
-    """One connection. After any error it is closed; it isn't opened again."""
+def wrapped(plain: socket.socket, security: ssl.SSLContext, host: str) -> socket.socket:
+    """The same connection, encrypted. What the other side's certificate lacks is raised; what it says of ours comes with the first reply."""
+    try:
+        return security.wrap_socket(plain, server_hostname=host)
+    except BaseException:
+        plain.close()
+        raise
 
-    def __init__(self, address: Tuple[str, int], limit: Optional[float], wait: float = 0.0) -> None:
+
+class Link:
+    """One connection, over TLS where a context is given: then the node's side has to have a certificate for the host. After any error it
+    is closed; it isn't opened again."""
+
+    def __init__(self, address: Tuple[str, int], limit: Optional[float], wait: float = 0.0, security: Optional[ssl.SSLContext] = None) -> None:
         self.name, self.limit = f"{address[0]}:{address[1]}", limit
         try:
             self.socket = connected(address, limit, wait)
+            if security is not None:
+                self.socket = wrapped(self.socket, security, address[0])
         except socket.timeout:
             raise TimeLimit(f"{self.name}: no link within {limit} s") from None
         except OSError as error:
@@ -83,8 +149,9 @@ class Link:
             self.close()
             raise
         except (OSError, ValueError) as error:
+            why = self._refused_by_tls() or error
             self.close()
-            raise LinkBroken(f"{self.name}: {error}") from error
+            raise LinkBroken(f"{self.name}: {why}") from error
         except BaseException:
             self.close()
             raise
@@ -95,6 +162,9 @@ class Link:
             self.socket.sendall(data)
             return
         rest = memoryview(data)
+        if isinstance(self.socket, ssl.SSLSocket):
+            self._send_secured(rest, count, found)
+            return
         while rest:
             readable, writable, _ = select.select([self.socket], [self.socket], [], self.limit)
             if not readable and not writable:
@@ -103,6 +173,36 @@ class Link:
                 self._cut(self._received(), count, found)
             if writable:
                 rest = rest[self.socket.send(rest[:65_536]):]
+
+    def _send_secured(self, rest: memoryview, count: int, found: List[bytes]) -> None:
+        """The same over TLS, where there may be something to read that is no reply."""
+        self.socket.settimeout(0.0)
+        while rest:
+            has_moved = False
+            try:
+                self._cut(self._received(), count, found)
+                has_moved = True
+            except ssl.SSLWantReadError:
+                pass
+            try:
+                rest = rest[self.socket.send(rest[:16_384]):]
+            except (ssl.SSLWantReadError, ssl.SSLWantWriteError):
+                if not has_moved and not any(select.select([self.socket], [self.socket], [], self.limit)):
+                    raise socket.timeout from None
+        self.socket.settimeout(self.limit)
+
+    def _refused_by_tls(self) -> Optional[ssl.SSLError]:
+        """What the other side of TLS said before it ended the link, where that can still be read."""
+        try:
+            if isinstance(self.socket, ssl.SSLSocket):
+                self.socket.settimeout(1.0)
+                while self.socket.recv(65_536):
+                    pass
+        except ssl.SSLError as error:
+            return error
+        except (OSError, ValueError):
+            pass
+        return None
 
     def _received(self) -> bytes:
         piece = self.socket.recv(262_144)

@@ -2,29 +2,36 @@
 from __future__ import annotations
 
 import struct
-from typing import Any, Callable, Dict, Iterable, List, Optional, Sequence, Tuple, Union
+from typing import Any, Callable, Dict, Iterable, List, NamedTuple, Optional, Sequence, Tuple, Union
 
 from . import items as _items
 from .errors import Fault, Refused, refusal
 from .items import LEAST_REST, MOST_REST, encode
-from .reading import Bytes, FrameFeeder, Reader, whole_frame
+from .reading import Bytes, FrameFeeder, Reader, Value, whole_frame
 from .reasons import REASONS
-from .values import (Ask, AskFront, ByTag, Count, Delta, Done, Fact, Fragment, Front, Full, Get, Item, Items, JoinThis, KeyRow, LAST_TIME,
-                     MergeThis, MOST_STREAMS, Number, One, Prune, Query, Range, Request, Row, Rows, Stream, VersionKey)
+from .values import (LAST_TIME, MOST_STREAMS, AddPart, Added, Answer, Ask, AskFront, AskHold, AskLatest, AskPage, AskStreams, ByTag, Count,
+                     Delta, Done, Fact, Fragment, FragmentHead, Front, Full, Get, Held, Item, Items, JoinParts, JoinThis, KeyRow, LastPart,
+                     LaterDone, Latest, MergeParts, MergeThis, More, Number, One, Page, Part, Prune, Query, Range, Release, Reply, Request,
+                     Row, Rows, Stream, Streams, StreamTold, VersionKey, Whole)
 
 MOST_MESSAGE = 2 ** 28
 MOST_ITEMS = 65_536
-Answer = Union[One, Rows, Number]
-Reply = Union[Done, Front, Fragment, One, Rows, Number, Refused]
+LEAST_LATER = 48      # the least kind of version 2
+REFUSED = {1: 36, 2: 72}      # the kind of a refusal, by version
 
 _U64 = struct.Struct(">Q").pack
 
 
-def framed(kind: int, body: bytes, version: int = 1) -> bytes:
+def version_of(kind: int) -> int:
+    """The version byte of a kind of messages."""
+    return 1 if kind < LEAST_LATER else 2
+
+
+def framed(kind: int, body: bytes) -> bytes:
     """The frame of a message; 2 where it is too long."""
     if len(body) + 2 > MOST_MESSAGE:
         raise Fault(2, place=f"a message of {len(body) + 2} bytes")
-    return struct.pack(">IBB", len(body) + 2, version, kind) + body
+    return struct.pack(">IBB", len(body) + 2, version_of(kind), kind) + body
 
 
 # ---------------------------------------------------------------- writing
@@ -71,6 +78,17 @@ def fragment_bytes(it: Fragment) -> bytes:
     return head_bytes(it.log, it.base, it.horizon, it.streams) + facts_bytes(it.facts)
 
 
+def _counted_head_bytes(it: FragmentHead) -> bytes:
+    return head_bytes(it.log, it.base, it.horizon, it.streams) + _U64(it.count)
+
+
+def _streams_bytes(it: Streams) -> bytes:
+    held = b"\0" if it.least_hold is None else b"\1" + _U64(it.least_hold)
+    streams = b"".join(struct.pack(">QQQQ", of.prefix, of.closed, of.extra, of.waiting) for of in it.streams)
+    first = struct.pack(">QQQBQ", it.log, it.horizon, it.readable, it.damaged, it.operations)
+    return first + held + struct.pack(">H", len(it.streams)) + streams
+
+
 def rows_bytes(rows: Sequence[KeyRow]) -> bytes:
     """Rows behind their count."""
     return len(rows).to_bytes(4, "big") + b"".join(_U64(key) + _row_bytes(row) for key, row in rows)
@@ -86,66 +104,45 @@ def answer_bytes(answer: Answer) -> bytes:
     raise TypeError(f"no answer: {type(answer).__name__}")
 
 
-def refused_bytes(why: Refused, is_told: Callable[[int], bool]) -> bytes:
+def _refused_bytes(why: Refused, version: int) -> bytes:
     """A refusal's number and its two fields; 2 where it isn't told in a reply."""
-    if not is_told(why.number):
+    if not is_told(why.number, version):
         raise Fault(2, place=f"refusal {why.number} has no encoding")
     first, second = (*why.values, 0, 0)[:2]
     return struct.pack(">BQQ", why.number, first, second)
 
 
-def items_frame(frames: Iterable[Union[Item, Bytes]], version: int = 2) -> bytes:
-    """The request Items of items, or of the bytes of their frames, which are taken as they stand."""
-    texts = [bytes(it) if isinstance(it, (bytes, bytearray, memoryview)) else encode(it, version) for it in frames]
+def items_frame(frames: Iterable[Union[Item, Bytes, None]], version: int = 2) -> bytes:
+    """The request Items of items, or of the bytes of their frames, which are taken as they stand. None, which is what a commit that writes
+    nothing gives, is passed over."""
+    return framed(16, _items_bytes(frames, version))
+
+
+def _items_bytes(frames: Iterable[Union[Item, Bytes, None]], version: int) -> bytes:
+    texts: List[bytes] = []
+    for frame in frames:
+        if frame is not None:
+            texts.append(bytes(frame) if isinstance(frame, (bytes, bytearray, memoryview)) else encode(frame, version))
     if len(texts) > MOST_ITEMS:
         raise Fault(8, place=f"{len(texts)} items")
-    return framed(16, len(texts).to_bytes(4, "big") + b"".join(texts))
+    return len(texts).to_bytes(4, "big") + b"".join(texts)
 
 
-def encode_request(request: Request, version: int = 2) -> bytes:
-    """The frame of a request; `version` is that of its items."""
-    if isinstance(request, Ask):
-        return framed(20, _U64(request.time) + query_bytes(request.query))
-    if isinstance(request, Items):
-        return items_frame(request.items, version)
-    if isinstance(request, AskFront):
-        return framed(17, b"")
-    if isinstance(request, Delta):
-        return framed(18, _U64(request.base))
-    if isinstance(request, Full):
-        return framed(19, b"")
-    if isinstance(request, JoinThis):
-        return framed(21, fragment_bytes(request.fragment))
-    if isinstance(request, MergeThis):
-        return framed(22, fragment_bytes(request.fragment))
-    if isinstance(request, Prune):
-        return framed(23, _U64(request.horizon))
-    raise TypeError(f"no request: {type(request).__name__}")
-
-
-def encode_reply(reply: Reply) -> bytes:
-    """The frame of a reply. Refusals 30 to 36 and 91 to 93 have none (2)."""
-    if isinstance(reply, Done):
-        return framed(32, _U64(reply.operations))
-    if isinstance(reply, Front):
-        return framed(33, struct.pack(">QQ", reply.horizon, reply.readable))
-    if isinstance(reply, Fragment):
-        return framed(34, fragment_bytes(reply))
-    if isinstance(reply, (One, Rows, Number)):
-        return framed(35, answer_bytes(reply))
-    if isinstance(reply, Refused):
-        return framed(36, refused_bytes(reply, is_told))
-    raise TypeError(f"no reply: {type(reply).__name__}")
-
-
-def is_told(number: int) -> bool:
-    """Whether a reply of version 1 may refuse with this number."""
-    return number in REASONS and not 30 <= number <= 36 and not 46 <= number <= 47 and number <= 90
+def is_told(number: int, version: int = 1) -> bool:
+    """Whether a reply of this version may refuse with this number."""
+    return number in REASONS and not 30 <= number <= 36 and number <= 90 and (version == 2 or not 46 <= number <= 47)
 
 
 # ---------------------------------------------------------------- reading
 
-def _items_of(reader: Reader) -> Items:
+def _made(kind: type, **fields: Any) -> Any:
+    """A value whose rules were looked at where it was read."""
+    it: Any = object.__new__(kind)
+    it.__dict__.update(fields)
+    return it
+
+
+def _items_at(reader: Reader) -> Items:
     count = reader.u32("count of items")
     if count > MOST_ITEMS:
         raise reader.fault(8, "count of items", 4)
@@ -163,7 +160,7 @@ def _items_of(reader: Reader) -> Items:
     return Items(tuple(found))
 
 
-def query_at(reader: Reader) -> Query:
+def _query_at(reader: Reader) -> Query:
     kind = reader.u8("kind of a query")
     if not 1 <= kind <= 4:
         raise reader.fault(6, "kind of a query", 1)
@@ -175,7 +172,7 @@ def query_at(reader: Reader) -> Query:
     return ByTag(table, reader.u32("tag")) if kind == 3 else Count(table)
 
 
-def _stream_of(reader: Reader) -> Stream:
+def _stream_at(reader: Reader) -> Stream:
     prefix, closed = reader.time("prefix"), reader.time("closed")
     count = reader.u32("count of extra numbers")
     extra: List[int] = []
@@ -187,7 +184,7 @@ def _stream_of(reader: Reader) -> Stream:
             raise reader.fault(6, "extra number", 8)
         extra.append(number)
     count = reader.u32("count of waiting marks")
-    waiting: List[tuple] = []
+    waiting: List[Tuple[int, int]] = []
     for _ in range(count):
         n, m = reader.u64("n"), reader.u64("m")
         if waiting and n <= waiting[-1][0]:
@@ -195,12 +192,11 @@ def _stream_of(reader: Reader) -> Stream:
         if not prefix < n <= m <= LAST_TIME:
             raise reader.fault(6, "n and m of a waiting mark", 16)
         waiting.append((n, m))
-    it = object.__new__(Stream)
-    it.__dict__.update(prefix=prefix, closed=closed, extra=tuple(extra), waiting=tuple(waiting))
-    return it
+    stream: Stream = _made(Stream, prefix=prefix, closed=closed, extra=tuple(extra), waiting=tuple(waiting))
+    return stream
 
 
-def _fact_of(reader: Reader, base: int, horizon: int, before: Optional[VersionKey]) -> Fact:
+def _fact_at(reader: Reader, base: int, horizon: int, before: Optional[VersionKey]) -> Fact:
     place = (reader.u16("table"), reader.u64("key"), reader.u64("born"))
     if before is not None and place <= (before.table, before.key, before.born):
         raise reader.fault(7, "version", 18)
@@ -227,7 +223,7 @@ def head_at(reader: Reader) -> Tuple[int, int, int, Tuple[Stream, ...]]:
     base, horizon = reader.time("base"), reader.time("horizon")
     if base != 0 and base < horizon:
         raise reader.fault(6, "base and horizon", 16)
-    streams = [_stream_of(reader) for _ in range(count)]
+    streams = [_stream_at(reader) for _ in range(count)]
     if horizon > min(it.closed for it in streams):
         raise reader.fault(6, "horizon, which is above the least closed time")
     return log, base, horizon, tuple(streams)
@@ -238,28 +234,33 @@ def facts_at(reader: Reader, base: int = 0, horizon: int = 0) -> Tuple[Fact, ...
     count = reader.u32("count of facts")
     facts: List[Fact] = []
     for _ in range(count):
-        facts.append(_fact_of(reader, base, horizon, facts[-1].version if facts else None))
+        facts.append(_fact_at(reader, base, horizon, facts[-1].version if facts else None))
     return tuple(facts)
 
 
-def _fragment_of(reader: Reader) -> Fragment:
+def _fragment_at(reader: Reader) -> Fragment:
     log, base, horizon, streams = head_at(reader)
-    it = object.__new__(Fragment)
-    it.__dict__.update(log=log, base=base, horizon=horizon, streams=streams, facts=facts_at(reader, base, horizon))
+    fragment: Fragment = _made(Fragment, log=log, base=base, horizon=horizon, streams=streams, facts=facts_at(reader, base, horizon))
+    return fragment
+
+
+def _counted_head_at(reader: Reader) -> FragmentHead:
+    log, base, horizon, streams = head_at(reader)
+    head: FragmentHead = _made(FragmentHead, log=log, base=base, horizon=horizon, streams=streams, count=reader.u64("facts of the whole"))
+    return head
+
+
+def _of_all(it: Any, reader: Reader) -> Any:
+    """A fragment or a head that is merged: its base is 0."""
+    if it.base != 0:
+        raise reader.fault(6, "base of a merge")
     return it
 
 
-def _merge_of(reader: Reader) -> MergeThis:
-    fragment = _fragment_of(reader)
-    if fragment.base != 0:
-        raise reader.fault(6, "base of a merge")
-    return MergeThis(fragment)
-
-
-def refused_at(reader: Reader, is_told: Callable[[int], bool]) -> Refused:
+def _refused_at(reader: Reader, version: int) -> Refused:
     """A refusal, of those that are told."""
     number = reader.u8("number of a refusal")
-    if not is_told(number):
+    if not is_told(number, version):
         raise reader.fault(6, "number of a refusal", 1)
     values = (reader.u64("first field"), reader.u64("second field"))
     names = REASONS[number].fields
@@ -270,7 +271,7 @@ def refused_at(reader: Reader, is_told: Callable[[int], bool]) -> Refused:
     return refusal(number, *values[:len(names)])
 
 
-def rows_at(reader: Reader) -> Tuple[KeyRow, ...]:
+def _rows_at(reader: Reader) -> Tuple[KeyRow, ...]:
     """Rows behind their count, by rising key."""
     count, rows = reader.u32("count of rows"), []
     last = -1
@@ -283,7 +284,7 @@ def rows_at(reader: Reader) -> Tuple[KeyRow, ...]:
     return tuple(rows)
 
 
-def answer_at(reader: Reader) -> Answer:
+def _answer_at(reader: Reader) -> Answer:
     kind = reader.u8("kind of an answer")
     if kind == 1:
         some = reader.u8("presence")
@@ -294,77 +295,213 @@ def answer_at(reader: Reader) -> Answer:
         return Number(reader.u64("count"))
     if kind != 2:
         raise reader.fault(6, "kind of an answer", 1)
-    it = object.__new__(Rows)
-    it.__dict__["rows"] = rows_at(reader)
-    return it
+    answer: Answer = _made(Rows, rows=_rows_at(reader))
+    return answer
 
 
-def front_at(reader: Reader) -> Front:
+def _front_at(reader: Reader) -> Front:
     horizon, readable = reader.u64("horizon"), reader.u64("readable")
     if not horizon <= readable <= LAST_TIME:
         raise reader.fault(6, "horizon and readable", 16)
     return Front(horizon, readable)
 
 
-def operations_at(reader: Reader) -> int:
+def _operations_at(reader: Reader) -> int:
     operations = reader.u64("operations")
     if not 1 <= operations <= LAST_TIME:
         raise reader.fault(6, "operations", 8)
     return operations
 
 
-_REQUESTS = {16: _items_of, 17: lambda _: AskFront(), 18: lambda it: Delta(it.time("base")), 19: lambda _: Full(),
-             20: lambda it: Ask(it.time("time"), query_at(it)), 21: lambda it: JoinThis(_fragment_of(it)), 22: _merge_of,
-             23: lambda it: Prune(it.time("horizon"))}
-_REPLIES = {32: lambda it: Done(operations_at(it)), 33: front_at, 34: _fragment_of, 35: answer_at, 36: lambda it: refused_at(it, is_told)}
+def _page_request_at(reader: Reader) -> AskPage:
+    time, table, low, high = reader.time("time"), reader.u16("table"), reader.u64("low"), reader.u64("high")
+    most = reader.u32("most rows")
+    if most == 0:
+        raise reader.fault(8, "most rows", 4)
+    return AskPage(time, table, low, high, most)
 
 
-def message_of(rest: bytes, kinds: Dict[int, Callable[[Reader], Any]], version: int = 1) -> Any:
-    """The message of the rest of a frame, by its kind."""
+def _positive_at(reader: Reader, what: str) -> int:
+    number = reader.u64(what)
+    if number == 0:
+        raise reader.fault(6, what, 8)
+    return number
+
+
+def _flag_at(reader: Reader, what: str) -> bool:
+    flag = reader.u8(what)
+    if flag > 1:
+        raise reader.fault(6, what, 1)
+    return flag == 1
+
+
+def _stream_told_at(reader: Reader) -> StreamTold:
+    prefix, closed = reader.u64("prefix"), reader.time("closed")
+    return StreamTold(prefix, closed, reader.u64("count of extra numbers"), reader.u64("count of waiting marks"))
+
+
+def _streams_at(reader: Reader) -> Streams:
+    log, front, damaged = reader.u64("log"), _front_at(reader), _flag_at(reader, "whether damaged")
+    operations = _operations_at(reader)
+    held = reader.time("least hold") if _flag_at(reader, "whether a hold stands") else None
+    count = reader.u16("number of streams")
+    if not 1 <= count <= MOST_STREAMS:
+        raise reader.fault(5, "number of streams", 2)
+    streams = tuple(_stream_told_at(reader) for _ in range(count))
+    return Streams(log, front.horizon, front.readable, damaged, operations, held, streams)
+
+
+def _page_at(reader: Reader) -> Page:
+    more = _flag_at(reader, "whether more follow")
+    page: Page = _made(Page, rows=_rows_at(reader), more=more)
+    return page
+
+
+def _part_at(reader: Reader) -> Part:
+    left = _positive_at(reader, "facts to come")
+    part: Part = _made(Part, facts=facts_at(reader), left=left)
+    return part
+
+
+def _last_part_at(reader: Reader) -> LastPart:
+    facts = facts_at(reader)
+    part: LastPart = _made(LastPart, facts=facts, head=_counted_head_at(reader))
+    return part
+
+
+# ---------------------------------------------------------------- the kinds
+
+class Kind(NamedTuple):
+    """The values of a kind of messages, how one becomes a body, and how a body is read."""
+
+    values: Tuple[type, ...]
+    write: Callable[[Any], bytes]
+    read: Callable[[Reader], Any]
+
+
+REQUESTS: Dict[int, Kind] = {
+    16: Kind((Items,), lambda it: _items_bytes(it.items, 2), _items_at),
+    17: Kind((AskFront,), lambda it: b"", lambda _: AskFront()),
+    18: Kind((Delta,), lambda it: _U64(it.base), lambda it: Delta(it.time("base"))),
+    19: Kind((Full,), lambda it: b"", lambda _: Full()),
+    20: Kind((Ask,), lambda it: _U64(it.time) + query_bytes(it.query), lambda it: Ask(it.time("time"), _query_at(it))),
+    21: Kind((JoinThis,), lambda it: fragment_bytes(it.fragment), lambda it: JoinThis(_fragment_at(it))),
+    22: Kind((MergeThis,), lambda it: fragment_bytes(it.fragment), lambda it: MergeThis(_of_all(_fragment_at(it), it))),
+    23: Kind((Prune,), lambda it: _U64(it.horizon), lambda it: Prune(it.time("horizon"))),
+    48: Kind((AskStreams,), lambda it: b"", lambda _: AskStreams()),
+    49: Kind((AskLatest,), lambda it: query_bytes(it.query), lambda it: AskLatest(_query_at(it))),
+    50: Kind((AskPage,), lambda it: struct.pack(">QHQQI", it.time, it.table, it.low, it.high, it.most), _page_request_at),
+    51: Kind((Whole,), lambda it: struct.pack(">QI", it.base, it.part_bytes), lambda it: Whole(it.time("base"), it.u32("bytes of a part"))),
+    52: Kind((More,), lambda it: b"", lambda _: More()),
+    53: Kind((AddPart,), lambda it: facts_bytes(it.facts), lambda it: _made(AddPart, facts=facts_at(it))),
+    54: Kind((JoinParts,), lambda it: _counted_head_bytes(it.head), lambda it: JoinParts(_counted_head_at(it))),
+    55: Kind((MergeParts,), lambda it: _counted_head_bytes(it.head), lambda it: MergeParts(_of_all(_counted_head_at(it), it))),
+    56: Kind((AskHold,), lambda it: _U64(it.time), lambda it: AskHold(it.time("time"))),
+    57: Kind((Release,), lambda it: _U64(it.number), lambda it: Release(_positive_at(it, "number of a hold"))),
+}
+
+REPLIES: Dict[int, Kind] = {
+    32: Kind((Done,), lambda it: _U64(it.operations), lambda it: Done(_operations_at(it))),
+    33: Kind((Front,), lambda it: struct.pack(">QQ", it.horizon, it.readable), _front_at),
+    34: Kind((Fragment,), fragment_bytes, _fragment_at),
+    35: Kind((One, Rows, Number), answer_bytes, _answer_at),
+    36: Kind((), lambda it: _refused_bytes(it, 1), lambda it: _refused_at(it, 1)),
+    64: Kind((LaterDone,), lambda it: _U64(it.operations), lambda it: LaterDone(_operations_at(it))),
+    65: Kind((Streams,), _streams_bytes, _streams_at),
+    66: Kind((Latest,), lambda it: _U64(it.time) + answer_bytes(it.answer), lambda it: Latest(it.time("time"), _answer_at(it))),
+    67: Kind((Page,), lambda it: bytes([it.more]) + rows_bytes(it.rows), _page_at),
+    68: Kind((Part,), lambda it: _U64(it.left) + facts_bytes(it.facts), _part_at),
+    69: Kind((LastPart,), lambda it: facts_bytes(it.facts) + _counted_head_bytes(it.head), _last_part_at),
+    70: Kind((Added,), lambda it: _U64(it.count), lambda it: Added(it.u64("facts added"))),
+    71: Kind((Held,), lambda it: struct.pack(">QQ", it.number, it.time),
+             lambda it: Held(_positive_at(it, "number of a hold"), it.time("time"))),
+    72: Kind((), lambda it: _refused_bytes(it, 2), lambda it: _refused_at(it, 2)),
+}
+
+
+def _kinds_by_value(kinds: Dict[int, Kind]) -> Dict[type, int]:
+    return {value: kind for kind, it in kinds.items() for value in it.values}
+
+
+_REQUEST_KINDS, _REPLY_KINDS = _kinds_by_value(REQUESTS), _kinds_by_value(REPLIES)
+
+
+def encode_request(request: Request, version: int = 2) -> bytes:
+    """The frame of a request; `version` is that of its items."""
+    if isinstance(request, Items):
+        return items_frame(request.items, version)
+    kind = _REQUEST_KINDS.get(type(request))
+    if kind is None:
+        raise TypeError(f"no request: {type(request).__name__}")
+    return framed(kind, REQUESTS[kind].write(request))
+
+
+def encode_reply(reply: Reply, version: int = 1) -> bytes:
+    """The frame of a reply; `version` is that of a refusal, which each version has. Refusals 30 to 36 and 91 to 93 have no frame, 46 and 47
+    none in version 1 (2)."""
+    kind = REFUSED[version] if isinstance(reply, Refused) else _REPLY_KINDS.get(type(reply))
+    if kind is None:
+        raise TypeError(f"no reply: {type(reply).__name__}")
+    return framed(kind, REPLIES[kind].write(reply))
+
+
+def _message_of(rest: bytes, kinds: Dict[int, Kind], latest: int) -> Any:
+    """The message of the rest of a frame, by its kind: of version 1, and up to the latest that is read."""
     reader = Reader(rest, 4)
-    if reader.u8("version") != version:
+    version = reader.u8("version")
+    if not 1 <= version <= latest:
         raise reader.fault(3, "version", 1)
-    read = kinds.get(reader.u8("kind"))
-    if read is None:
+    kind = reader.u8("kind")
+    if kind not in kinds or version_of(kind) != version:
         raise reader.fault(4, "kind", 1)
-    value = read(reader)
+    value = kinds[kind].read(reader)
     reader.end()
     return value
 
 
-def request_of(rest: bytes) -> Request:
-    """The request of the rest of a frame."""
-    return message_of(rest, _REQUESTS)
+def request_of(rest: bytes, latest: int = 1) -> Request:
+    """The request of the rest of a frame; messages up to version `latest` are read."""
+    request: Request = _message_of(rest, REQUESTS, latest)
+    return request
 
 
-def reply_of(rest: bytes) -> Reply:
+def reply_of(rest: bytes, latest: int = 1) -> Reply:
     """The reply of the rest of a frame; a refusal is given, not raised."""
-    return message_of(rest, _REPLIES)
+    reply: Reply = _message_of(rest, REPLIES, latest)
+    return reply
 
 
-def decode_request(frame: Bytes) -> Request:
+def decode_request(frame: Bytes, latest: int = 1) -> Request:
     """The request of one whole frame."""
-    return whole_frame(frame, request_of, 2, MOST_MESSAGE)
+    return whole_frame(frame, lambda rest: request_of(rest, latest), 2, MOST_MESSAGE)
 
 
-def decode_reply(frame: Bytes) -> Reply:
+def decode_reply(frame: Bytes, latest: int = 1) -> Reply:
     """The reply of one whole frame; a refusal is given, not raised."""
-    return whole_frame(frame, reply_of, 2, MOST_MESSAGE)
+    return whole_frame(frame, lambda rest: reply_of(rest, latest), 2, MOST_MESSAGE)
 
 
-class RequestFeeder(FrameFeeder[Request]):
-    """Requests, in pieces that are cut anyhow."""
+class _MessageFeeder(FrameFeeder[Value]):
+    """Messages up to a version, in pieces that are cut anyhow."""
 
-    noun = "request"
+    kinds: Dict[int, Kind] = {}
 
-    def decode(self, rest: bytes) -> Request:
-        return request_of(rest)
+    def __init__(self, latest: int = 1) -> None:
+        super().__init__()
+        self.latest = latest
+
+    def decode(self, rest: bytes) -> Value:
+        value: Value = _message_of(rest, self.kinds, self.latest)
+        return value
 
 
-class ReplyFeeder(FrameFeeder[Reply]):
-    """Replies, in pieces that are cut anyhow."""
+class RequestFeeder(_MessageFeeder[Request]):
+    """Requests of version 1, or up to version `latest`, in pieces that are cut anyhow."""
 
-    noun = "reply"
+    noun, kinds = "request", REQUESTS
 
-    def decode(self, rest: bytes) -> Reply:
-        return reply_of(rest)
+
+class ReplyFeeder(_MessageFeeder[Reply]):
+    """Replies of version 1, or up to version `latest`, in pieces that are cut anyhow."""
+
+    noun, kinds = "reply", REPLIES

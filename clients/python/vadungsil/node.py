@@ -6,11 +6,11 @@ from types import TracebackType
 from typing import Any, Generic, Iterable, Iterator, List, Optional, Tuple, Type, TypeVar
 
 from .errors import Fault, LinkBroken, TimeLimit
-from .later import PART_BYTES, Page, Streams
-from .link import Address, Link, address_of
+from .link import Address, Certificates, Link, address_of, security_of
 from .requests import FRONT, Moment, Read, Requests, ask_frame, read_front
 from .transfer import AnyPart, Hold, parts_from, parts_to
-from .values import LAST_KEY, LAST_TIME, Fact, Fragment, Front, KeyRow, Query, Row, Stream, time_of
+from .values import (LAST_KEY, LAST_TIME, PART_BYTES, Fact, Fragment, FragmentHead, Front, KeyRow, LastPart, Page, Query, Row,
+                     Stream, Streams, time_of)
 
 Result = TypeVar("Result")
 Own = TypeVar("Own", bound="Node")
@@ -45,10 +45,18 @@ class Node(Requests[Optional[Row], Rows_, int, Front, Fragment,
     number that it tells is another). A time limit is not tried again: `TimeLimit` is raised.
 
     Threads may share a node; their requests go one after the other. `limit` is the most seconds of each wait, None without one. While
-    nobody listens the first link is tried again for `wait` seconds, so that a node may be asked that was started just before."""
+    nobody listens the first link is tried again for `wait` seconds, so that a node may be asked that was started just before.
 
-    def __init__(self, address: Address, limit: Optional[float] = 20.0, tries: int = 2, wait: float = 3.0) -> None:
+    `Node("tls://HOST:PORT", ca=.., cert=.., key=..)` asks over TLS, through what stands before the node there: its certificate is for that
+    host, signed by one of the file `ca`, or of the system; ours is in the file `cert`, with its key there or in `key`. What either side
+    finds wrong is a `LinkBroken` that says so; `ValueError`: a file can't be read, or the address isn't one over TLS."""
+
+    def __init__(self, address: Address, limit: Optional[float] = 20.0, tries: int = 2, wait: float = 3.0, *, ca: Optional[str] = None,
+                 cert: Optional[str] = None, key: Optional[str] = None) -> None:
+        certificates = Certificates(ca, cert, key)
+        certificates.see([address])
         self.address, self.limit, self.tries, self.wait = address_of(address), limit, max(tries, 1), wait
+        self._security = security_of(address, certificates)
         self._link: Optional[Link] = None
         self._lock = threading.RLock()
 
@@ -87,9 +95,12 @@ class Node(Requests[Optional[Row], Rows_, int, Front, Fragment,
         if part_bytes is None:
             return super().whole()
         facts: List[Fact] = []
+        head: Optional[FragmentHead] = None
         for part in self.parts(0, part_bytes):
             facts += part.facts
-        return part.head.with_facts(facts)
+            head = part.head if isinstance(part, LastPart) else None
+        assert head is not None      # the parts end with the last one, or with an error
+        return head.with_facts(facts)
 
     def parts(self, base: int = 0, part_bytes: int = PART_BYTES) -> Iterator[AnyPart]:
         """What happened since a base, or all that is held since 0, in parts of one moment, over a link of its own: `later.Part`, and at last
@@ -148,7 +159,7 @@ class Node(Requests[Optional[Row], Rows_, int, Front, Fragment,
     def _own_link(self) -> Link:
         """Another link, for what the node keeps for a link."""
         wait, self.wait = self.wait, 0.0
-        return Link(self.address, self.limit, wait)
+        return Link(self.address, self.limit, wait, self._security)
 
     def _drop(self) -> None:
         if self._link is not None:

@@ -8,7 +8,7 @@ import time as clock
 from typing import Any, Callable, Iterable, List, Optional, Set, Tuple
 
 from .errors import LinkBroken, Refused
-from .link import Address
+from .link import Address, Certificates
 from .node import Node, NodeMoment
 from .requests import Moment, Read, Reads, ask_frame
 from .values import KeyRow, Query, Row, time_of
@@ -29,10 +29,14 @@ class NoNode(LinkBroken):
 
 
 class Nodes(Reads[Optional[Row], List[KeyRow], int]):
-    """`Nodes([47000, "other:47000"])`: each question goes to the next node in turn that can read its time. Threads may share it."""
+    """`Nodes([47000, "other:47000"])`: each question goes to the next node in turn that can read its time. Threads may share it. The files
+    `ca`, `cert` and `key` are for those of its addresses that begin with tls://, as those of a `Node`."""
 
-    def __init__(self, addresses: Iterable[Address], limit: Optional[float] = 20.0) -> None:
-        self.nodes = [Node(address, limit, wait=0.0) for address in addresses]
+    def __init__(self, addresses: Iterable[Address], limit: Optional[float] = 20.0, *, ca: Optional[str] = None, cert: Optional[str] = None,
+                 key: Optional[str] = None) -> None:
+        certificates, listed = Certificates(ca, cert, key), list(addresses)
+        certificates.see(listed)
+        self.nodes = [Node(it, limit, wait=0.0, **certificates.of(it)._asdict()) for it in listed]
         if not self.nodes:
             raise ValueError("no addresses")
         self._turn, self._lock = 0, threading.Lock()
@@ -77,9 +81,9 @@ class Nodes(Reads[Optional[Row], List[KeyRow], int]):
                 self._note(node, error)
                 told.append((node.name, error))
         # what a node said tells more than that another was away
-        for _, error in told:
-            if isinstance(error, Refused):
-                raise error
+        for _, why in told:
+            if isinstance(why, Refused):
+                raise why
         raise NoNode(told)
 
     def _order(self, unable: Set[Node]) -> List[Node]:
@@ -118,7 +122,8 @@ class NodesMoment(Moment[Optional[Row], List[KeyRow], int]):
     def counts(self, tables: Iterable[int]) -> List[int]:
         """How many rows each of these tables has, asked of one node together."""
         wanted = list(tables)
-        return self.nodes._first(lambda node: NodeMoment(node, self.time).counts(wanted), self._unable)
+        counts: List[int] = self.nodes._first(lambda node: NodeMoment(node, self.time).counts(wanted), self._unable)
+        return counts
 
     def __enter__(self) -> "NodesMoment":
         return self

@@ -37,8 +37,9 @@ REASONS: Dict[int, Reason] = {
     22: _of("Gap", "a delta begins above the target's readable mark", "ask for a delta since the readable mark, or for the whole", "base", "readable"),
     23: _of("Conflict", "a conflict",
             "find the wrong feed: the items are not of one log, or it was begun anew under its id. Tested are: of items, what they say of one "
-            "version, and closed times where they are absorbed or the node has --guard; of a fragment, two facts of one version. Not tested "
-            "are late rows of a fragment, horizons and marks, and entries whose number is taken"),
+            "version, and closed times where they are absorbed or the node has --guard; of a fragment, two facts of one version. A node with "
+            "--guard also tests that answers about the past stay as they are (late rows and ends, older rows that would show again), and "
+            "entries above the horizon whose number is taken. Nobody tests horizons and marks"),
     24: _of("AheadOfMark", "a prune above the readable mark", "prune to the readable mark at most", "readable"),
     25: _of("TooOld", "a time below the horizon", "ask at the horizon or later", "horizon"),
     26: _of("NotYet", "a time above the readable mark", "feed the marks of all streams, or ask at the readable mark", "readable"),

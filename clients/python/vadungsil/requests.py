@@ -1,13 +1,14 @@
 """What can be asked, for every kind of asker: a node, a pipeline, one moment, and their asyncio twins."""
+# mypy: no-warn-return-any
 from __future__ import annotations
 
-from typing import Any, Callable, Generic, Iterable, List, Optional, TypeVar, Union, overload
+from typing import Any, Callable, Dict, Generic, Iterable, List, Optional, Tuple, TypeVar, Union, overload
 
 from .errors import Fault, Refused
-from .later import AskLatest, AskPage, AskStreams, encode_request as encode_later, read_latest, read_page, read_streams
 from .messages import encode_request, framed, items_frame, query_bytes, reply_of
 from .reading import Bytes
-from .values import LAST_KEY, ByTag, Count, Delta, Done, Fragment, Front, Get, Item, JoinThis, KeyRow, MergeThis, Number, One, Prune, Query, Range, Row, Rows, time_of
+from .values import (LAST_KEY, Answer, AskLatest, AskPage, AskStreams, ByTag, Count, Delta, Done, Fragment, Front, Get, Item, JoinThis, KeyRow,
+                     Latest, MergeThis, Number, One, Page, Prune, Query, Range, Row, Rows, Streams, time_of)
 
 RowT = TypeVar("RowT")
 RowsT = TypeVar("RowsT")
@@ -21,6 +22,7 @@ LatestRowsT = TypeVar("LatestRowsT")
 LatestNumberT = TypeVar("LatestNumberT")
 Read = Callable[[bytes], Any]
 
+NOT_READ = "the node reads messages of version 1 alone (hkrep serve --messages 2)"
 FRONT = framed(17, b"")
 FULL = framed(19, b"")
 
@@ -30,13 +32,15 @@ def ask_frame(time: int, query: Query) -> bytes:
     return (len(body) + 10).to_bytes(4, "big") + b"\1\x14" + time_of(time).to_bytes(8, "big") + body
 
 
-def value_of(rest: bytes, kind: type) -> Any:
-    """The reply of this kind; a refusal is raised, and a reply of another kind is 4."""
-    value = reply_of(rest)
+def value_of(rest: bytes, *kinds: type, latest: int = 1) -> Any:
+    """The reply, which is of one of these kinds; a refusal is raised, and a reply of another kind is 4. A node that doesn't read version 2
+    refuses what it was asked in it in version 1, with 3."""
+    value = reply_of(rest, latest)
     if isinstance(value, Refused):
-        raise value
-    if not isinstance(value, kind):
-        raise Fault(4, place=f"a reply of {type(value).__name__}, where {kind.__name__} was asked for")
+        raise value.at(NOT_READ) if rest[0] < latest and value.number == 3 else value
+    if not isinstance(value, kinds):
+        wanted = " or ".join(kind.__name__ for kind in kinds)
+        raise Fault(4, place=f"a reply of {type(value).__name__}, where {wanted} was asked for")
     return value
 
 
@@ -74,6 +78,41 @@ def read_fragment(rest: bytes) -> Fragment:
 def read_done(rest: bytes) -> int:
     operations: int = value_of(rest, Done).operations
     return operations
+
+
+_ANSWERS: Dict[type, type] = {Get: One, Range: Rows, ByTag: Rows, Count: Number}
+
+
+def _value_of_answer(answer: Answer, query: Query) -> Any:
+    """A row or None, a list of rows, or a count, as the query asks for; an answer of another kind is 4."""
+    kind = _ANSWERS[type(query)]
+    if not isinstance(answer, kind):
+        raise Fault(4, place=f"an answer of {type(answer).__name__}, where {kind.__name__} was asked for")
+    if isinstance(answer, One):
+        return answer.row
+    return answer.count if isinstance(answer, Number) else list(answer.rows)
+
+
+def read_streams(rest: bytes) -> Streams:
+    streams: Streams = value_of(rest, Streams, latest=2)
+    return streams
+
+
+def read_latest(rest: bytes, query: Query) -> Tuple[int, Any]:
+    latest: Latest = value_of(rest, Latest, latest=2)
+    return latest.time, _value_of_answer(latest.answer, query)
+
+
+def read_page(rest: bytes, asked: AskPage) -> Page:
+    """The page, of the keys that were asked for (6) and of so many rows at most (8). Where more follow, it has rows, and keys are left
+    behind them (8): so who asks for page after page comes to an end."""
+    page: Page = value_of(rest, Page, latest=2)
+    keys = [row.key for row in page.rows]
+    if keys and not asked.low <= keys[0] <= keys[-1] <= asked.high:
+        raise Fault(6, place=f"a page of the keys {keys[0]} to {keys[-1]}, where {asked.low} to {asked.high} were asked for")
+    if len(keys) > asked.most or (page.more and (not keys or keys[-1] == asked.high)):
+        raise Fault(8, place=f"a page of {len(keys)} rows{', behind which more follow' if page.more else ''}")
+    return page
 
 
 class Moment(Generic[RowT, RowsT, NumberT]):
@@ -137,8 +176,8 @@ class Requests(Reads[RowT, RowsT, NumberT],
         """From where to where can be read."""
         return self._call(FRONT, read_front)
 
-    def items(self, items: Iterable[Union[Item, Bytes]]) -> NumberT:
-        """Takes items, or the bytes of their frames, all or none; at most 65,536. Sent twice is as once. 20 and 21: not of this log;
+    def items(self, items: Iterable[Union[Item, Bytes, None]]) -> NumberT:
+        """Takes items, or the bytes of their frames, all or none; at most 65,536, and None is passed over. Sent twice is as once. 20 and 21: not of this log;
         23: they conflict with one another, or with what the node holds, which damages it (41 from then on)."""
         return self._call(items_frame(items), read_done)
 
@@ -166,7 +205,7 @@ class Requests(Reads[RowT, RowsT, NumberT],
 
     def status(self) -> StreamsT:
         """How far the node is, and each of its streams (`later.Streams`): also of a damaged node."""
-        return self._call(encode_later(AskStreams()), read_streams)
+        return self._call(encode_request(AskStreams()), read_streams)
 
     @overload
     def latest(self, query: Get) -> LatestRowT: ...
@@ -179,9 +218,9 @@ class Requests(Reads[RowT, RowsT, NumberT],
 
     def latest(self, query: Query) -> Any:
         """The readable mark, and the answer to a question at it: `node.latest(Get(1, 5))`, in one exchange."""
-        return self._call(encode_later(AskLatest(query)), lambda rest: read_latest(rest, query))
+        return self._call(encode_request(AskLatest(query)), lambda rest: read_latest(rest, query))
 
     def page(self, table: int, low: int = 0, high: int = LAST_KEY, *, at: int, most: int = 1_000) -> PageT:
         """The rows of the keys from low to high at a time, and as many as `most` of them, and whether more follow (`later.Page`)."""
         asked = AskPage(time_of(at), table, low, high, most)
-        return self._call(encode_later(asked), lambda rest: read_page(rest, asked))
+        return self._call(encode_request(asked), lambda rest: read_page(rest, asked))

@@ -6,10 +6,11 @@ from types import TracebackType
 from typing import Any, Callable, Iterable, Iterator, List, Optional, Type, Union
 
 from .errors import Fault
-from .later import (AddPart, Added, AskHold, Done, Held, JoinParts, LastPart, MergeParts, More, Part, Release, Request, Whole, encode_request,
-                    told_of)
 from .link import Link
-from .values import VersionKey
+from .messages import encode_request
+from .requests import value_of
+from .values import (AddPart, Added, AskHold, Held, JoinParts, LastPart, LaterDone, LaterRequest, MergeParts, More, Part, Release, VersionKey,
+                     Whole)
 
 AnyPart = Union[Part, LastPart]
 
@@ -20,12 +21,12 @@ class OwnLink:
     def __init__(self, link: Link) -> None:
         self._link = link
 
-    def ask(self, request: Request, *kinds: type) -> Any:
+    def ask(self, request: LaterRequest, *kinds: type) -> Any:
         """The reply, of one of these kinds. After any error the link is closed."""
         found: List[bytes] = []
         try:
             self._link.exchange(encode_request(request), 1, found)
-            return told_of(found[0], *kinds)
+            return value_of(found[0], *kinds, latest=2)
         except BaseException:
             self.close()
             raise
@@ -53,7 +54,7 @@ class Hold(OwnLink):
 
     def release(self) -> int:
         """Lets it go; gives the number of the node's operations that ends with that."""
-        operations: int = self.ask(Release(self.number), Done).operations
+        operations: int = self.ask(Release(self.number), LaterDone).operations
         self.close()
         return operations
 
@@ -89,7 +90,7 @@ def parts_from(opened: Callable[[], Link], base: int, part_bytes: int) -> Iterat
     the first."""
     given = _Given()
     with OwnLink(opened()) as link:
-        request: Request = Whole(base, part_bytes)
+        request: LaterRequest = Whole(base, part_bytes)
         while True:
             part: AnyPart = link.ask(request, Part, LastPart)
             given.take(part)
@@ -107,6 +108,6 @@ def parts_to(opened: Callable[[], Link], parts: Iterable[AnyPart]) -> int:
             link.ask(AddPart(part.facts), Added)
             if isinstance(part, LastPart):
                 request = MergeParts(part.head) if part.head.base == 0 else JoinParts(part.head)
-                operations: int = link.ask(request, Done).operations
+                operations: int = link.ask(request, LaterDone).operations
                 return operations
     raise Fault(1, place="the parts end before the last one")

@@ -5,13 +5,15 @@ from __future__ import annotations
 from dataclasses import dataclass
 from typing import Any, Iterable, List, NamedTuple, Optional, Tuple, Union
 
-from .errors import Fault
+from .errors import Fault, Refused
 
 LAST_TIME = 2 ** 62
 MOST_BODY = 4_096
 MOST_WRITES = 1_024
 MOST_STREAMS = 64
 LAST_KEY = 2 ** 64 - 1
+MOST_ROWS = 2 ** 32 - 1
+PART_BYTES = 8 * 2 ** 20
 
 
 def number_in(value: Any, least: int, most: int, what: str, number: int = 6) -> int:
@@ -100,6 +102,16 @@ class Put(NamedTuple):
     row: Row
 
 
+# a row to put: (table, key, tag, body) or (table, key, Row); and a version to end: (table, key, born)
+Written = Union[Put, Tuple[int, int, Row], Tuple[int, int, int, Union[bytes, bytearray, memoryview]]]
+Ended = Union[VersionKey, Tuple[int, int, int]]
+
+
+def put_of(written: Written) -> Put:
+    it: Any = written
+    return Put(it[0], it[1], it[2] if len(it) == 3 else Row(it[2], it[3]))
+
+
 class KeyRow(NamedTuple):
     """A row of an answer, with its key."""
 
@@ -125,7 +137,8 @@ class Entry:
         stream_of(self.stream)
         number_in(self.time, 1, LAST_TIME, "time")
         number_in(self.number, 1, self.time, "number")
-        ends = tuple(it if isinstance(it, VersionKey) else VersionKey(*it) for it in self.ends)
+        listed: Iterable[Any] = self.ends
+        ends = tuple(it if isinstance(it, VersionKey) else VersionKey(*it) for it in listed)
         rows = tuple(Put(table_of(table), key_of(key), row) for table, key, row in self.rows)
         object.__setattr__(self, "ends", ends)
         object.__setattr__(self, "rows", rows)
@@ -143,9 +156,9 @@ class Entry:
                 raise TypeError(f"row must be a Row, and is {type(put.row).__name__}")
 
     @classmethod
-    def of(cls, log: int, stream: int, number: int, time: int, ends: Iterable[Any] = (), rows: Iterable[Any] = ()) -> "Entry":
+    def of(cls, log: int, stream: int, number: int, time: int, ends: Iterable[Ended] = (), rows: Iterable[Written] = ()) -> "Entry":
         """An entry whose lists are put in order first: ends (table, key, born), rows (table, key, tag, body) or (table, key, Row)."""
-        puts = [Put(it[0], it[1], it[2] if len(it) == 3 else Row(it[2], it[3])) for it in rows]
+        puts = [put_of(it) for it in rows]
         ended = [it if isinstance(it, VersionKey) else VersionKey(*it) for it in ends]
         return cls(log, stream, number, time, tuple(sorted(ended)), tuple(sorted(puts, key=lambda it: it[:2])))
 
@@ -274,6 +287,33 @@ class Fragment:
         return f"fragment base {self.base} horizon {self.horizon} facts {len(self.facts)}"
 
 
+@dataclass(frozen=True)
+class FragmentHead:
+    """What a fragment is without its facts, and how many of these it has."""
+
+    log: int
+    base: int
+    horizon: int
+    streams: Tuple[Stream, ...]
+    count: int
+
+    def __post_init__(self) -> None:
+        number_in(self.count, 0, LAST_KEY, "facts of the whole")
+        bare = Fragment(self.log, self.base, self.horizon, self.streams)
+        object.__setattr__(self, "streams", bare.streams)
+
+    @classmethod
+    def of(cls, fragment: Fragment) -> "FragmentHead":
+        return cls(fragment.log, fragment.base, fragment.horizon, fragment.streams, len(fragment.facts))
+
+    def with_facts(self, facts: Iterable[Fact]) -> Fragment:
+        """The fragment of this head and of these facts, with all its rules (6, 7). 8: they are not so many."""
+        found = tuple(facts)
+        if len(found) != self.count:
+            raise Fault(8, place=f"{len(found)} facts of {self.count}")
+        return Fragment(self.log, self.base, self.horizon, self.streams, found)
+
+
 # ---------------------------------------------------------------- questions and requests
 
 @dataclass(frozen=True)
@@ -397,7 +437,112 @@ class Prune:
         time_of(self.horizon, "horizon")
 
 
-Request = Union[Items, AskFront, Delta, Full, Ask, JoinThis, MergeThis, Prune]
+# ---------------------------------------------------------------- requests of version 2
+
+def _facts_of(facts: Iterable[Fact]) -> Tuple[Fact, ...]:
+    found = tuple(facts)
+    rising([it.version for it in found], "fact of")
+    return found
+
+
+@dataclass(frozen=True)
+class AskStreams:
+    """How far is the node, and each of its streams?"""
+
+
+@dataclass(frozen=True)
+class AskLatest:
+    """A question at the readable mark."""
+
+    query: Query
+
+
+@dataclass(frozen=True)
+class AskPage:
+    """The rows of the keys from `low` to `high` at a time, by rising key, and so many of them at most (0 is refused 8)."""
+
+    time: int
+    table: int
+    low: int = 0
+    high: int = LAST_KEY
+    most: int = 1_000
+
+    def __post_init__(self) -> None:
+        time_of(self.time)
+        table_of(self.table)
+        key_of(self.low)
+        key_of(self.high)
+        number_in(self.most, 1, MOST_ROWS, "most rows", 8)
+
+
+@dataclass(frozen=True)
+class Whole:
+    """What happened since a base, or all that is held since 0, in parts of at most so many bytes of facts, or of one fact."""
+
+    base: int = 0
+    part_bytes: int = PART_BYTES
+
+    def __post_init__(self) -> None:
+        time_of(self.base, "base")
+        number_in(self.part_bytes, 0, MOST_ROWS, "bytes of a part")
+
+
+@dataclass(frozen=True)
+class More:
+    """The next part."""
+
+
+@dataclass(frozen=True)
+class AddPart:
+    """Keep these facts until the other parts and the head are there."""
+
+    facts: Tuple[Fact, ...]
+
+    def __post_init__(self) -> None:
+        object.__setattr__(self, "facts", _facts_of(self.facts))
+
+
+@dataclass(frozen=True)
+class JoinParts:
+    """Take the fragment of this head and of all parts that were added. A node refuses it (8) where these have not as many facts as the head
+    tells."""
+
+    head: FragmentHead
+
+
+@dataclass(frozen=True)
+class MergeParts:
+    """Take the whole of them; the base of the head is 0 (6)."""
+
+    head: FragmentHead
+
+    def __post_init__(self) -> None:
+        if self.head.base != 0:
+            raise Fault(6, place=f"base {self.head.base} of a merge")
+
+
+@dataclass(frozen=True)
+class AskHold:
+    """Keep a time readable."""
+
+    time: int
+
+    def __post_init__(self) -> None:
+        time_of(self.time)
+
+
+@dataclass(frozen=True)
+class Release:
+    """Let go the hold of this number."""
+
+    number: int
+
+    def __post_init__(self) -> None:
+        number_in(self.number, 1, LAST_KEY, "number of a hold")
+
+
+LaterRequest = Union[AskStreams, AskLatest, AskPage, Whole, More, AddPart, JoinParts, MergeParts, AskHold, Release]
+Request = Union[Items, AskFront, Delta, Full, Ask, JoinThis, MergeThis, Prune, LaterRequest]
 
 
 # ---------------------------------------------------------------- replies
@@ -450,3 +595,145 @@ class Number:
 
     def line(self) -> str:
         return f"count {self.count}"
+
+
+Answer = Union[One, Rows, Number]
+
+
+# ---------------------------------------------------------------- replies of version 2
+
+@dataclass(frozen=True)
+class LaterDone(Done):
+    """The same, told in version 2."""
+
+
+@dataclass(frozen=True)
+class StreamTold:
+    """How far one stream is: its prefix, its closed time, and how many numbers above the prefix are taken and how many marks wait."""
+
+    prefix: int
+    closed: int
+    extra: int
+    waiting: int
+
+    def __post_init__(self) -> None:
+        time_of(self.closed, "closed")
+        for name in ("prefix", "extra", "waiting"):
+            number_in(getattr(self, name), 0, LAST_KEY, name)
+
+
+@dataclass(frozen=True)
+class Streams:
+    """How far a node is. `least_hold` is the least time that is held, None where no hold stands."""
+
+    log: int
+    horizon: int
+    readable: int
+    damaged: bool
+    operations: int
+    least_hold: Optional[int]
+    streams: Tuple[StreamTold, ...]
+
+    def __post_init__(self) -> None:
+        object.__setattr__(self, "streams", tuple(self.streams))
+        number_in(self.log, 0, LAST_KEY, "log")
+        Front(self.horizon, self.readable)
+        number_in(self.operations, 1, LAST_TIME, "operations")
+        if self.least_hold is not None:
+            time_of(self.least_hold, "least hold")
+        number_in(len(self.streams), 1, MOST_STREAMS, "number of streams", 5)
+
+    def line(self) -> str:
+        held = "" if self.least_hold is None else f" held {self.least_hold}"
+        first = f"streams log {self.log} horizon {self.horizon} readable {self.readable} operations {self.operations}{held}{' damaged' * self.damaged}"
+        return "\n".join([first, *(f"stream {number} prefix {it.prefix} extra {it.extra} closed {it.closed} waiting {it.waiting}"
+                                   for number, it in enumerate(self.streams, 1))])
+
+
+@dataclass(frozen=True)
+class Latest:
+    """The readable mark, and the answer to a question at it."""
+
+    time: int
+    answer: Answer
+
+    def __post_init__(self) -> None:
+        time_of(self.time)
+
+    def line(self) -> str:
+        return f"latest {self.time}\n{self.answer.line()}"
+
+
+@dataclass(frozen=True)
+class Page:
+    """Rows by rising key (7), and whether more of them follow."""
+
+    rows: Tuple[KeyRow, ...]
+    more: bool
+
+    def __post_init__(self) -> None:
+        object.__setattr__(self, "rows", Rows(self.rows).rows)
+
+    def line(self) -> str:
+        return "\n".join([*(f"{key} {row.line()}" for key, row in self.rows), f"page {len(self.rows)} {'more' if self.more else 'all'}"])
+
+
+@dataclass(frozen=True)
+class Part:
+    """Some facts, and how many come after them."""
+
+    facts: Tuple[Fact, ...]
+    left: int
+
+    def __post_init__(self) -> None:
+        object.__setattr__(self, "facts", _facts_of(self.facts))
+        number_in(self.left, 1, LAST_KEY, "facts to come")
+
+    def line(self) -> str:
+        return f"part {len(self.facts)} left {self.left}"
+
+
+@dataclass(frozen=True)
+class LastPart:
+    """The last facts, and the head of all."""
+
+    facts: Tuple[Fact, ...]
+    head: FragmentHead
+
+    def __post_init__(self) -> None:
+        object.__setattr__(self, "facts", _facts_of(self.facts))
+
+    def line(self) -> str:
+        return f"last part {len(self.facts)} base {self.head.base}"
+
+
+@dataclass(frozen=True)
+class Added:
+    """How many facts were added so far."""
+
+    count: int
+
+    def __post_init__(self) -> None:
+        number_in(self.count, 0, LAST_KEY, "facts added")
+
+    def line(self) -> str:
+        return f"added {self.count}"
+
+
+@dataclass(frozen=True)
+class Held:
+    """A hold's number, and the time that it keeps readable."""
+
+    number: int
+    time: int
+
+    def __post_init__(self) -> None:
+        number_in(self.number, 1, LAST_KEY, "number of a hold")
+        time_of(self.time)
+
+    def line(self) -> str:
+        return f"held {self.number} at {self.time}"
+
+
+LaterReply = Union[LaterDone, Streams, Latest, Page, Part, LastPart, Added, Held]
+Reply = Union[Done, Front, Fragment, Answer, LaterReply, Refused]

@@ -7,13 +7,14 @@ import sys
 import threading
 from typing import Any, List, Optional
 
-from ..link import address_of
+from ..link import add_certificates, address_of, certificates_of
 from .server import Server
 
 
 def parser() -> argparse.ArgumentParser:
     it = argparse.ArgumentParser(prog="python3 -m vadungsil.web", description="A page to look at nodes of Vadungsil, with /metrics and /api/. It only reads.")
-    it.add_argument("--node", action="append", default=[], metavar="ADDRESS", help="a node: HOST:PORT, or a port of this machine; may be given again")
+    it.add_argument("--node", action="append", default=[], metavar="ADDRESS", help="a node: HOST:PORT, tls://HOST:PORT, or a port of this machine; may be given again")
+    add_certificates(it)
     it.add_argument("--http", default="127.0.0.1:8080", metavar="HOST:PORT", help="where to listen (127.0.0.1:8080); port 0 takes a free one")
     it.add_argument("--allow-host", action="append", default=[], metavar="NAME", help="a further Host that a request may name; may be given again")
     it.add_argument("--limit", type=float, default=10.0, metavar="SECONDS", help="the most that a node's reply is waited for (10)")
@@ -36,7 +37,7 @@ def main(arguments: Optional[List[str]] = None) -> int:
     if not words.limit > 0 or not words.every >= 0.1:
         words_of.error("--limit is above 0, --every at least 0.1")
     try:
-        server = Server([address_of(word) for word in words.node], listened(words.http), words.limit, words.every, words.allow_host)
+        server = Server(words.node, listened(words.http), words.limit, words.every, words.allow_host, certificates=certificates_of(words))
     except ValueError as error:
         words_of.error(str(error))
     except OSError as error:
@@ -52,7 +53,7 @@ def run(server: Server) -> int:
 
     for number in (signal.SIGINT, signal.SIGTERM):
         signal.signal(number, end)
-    if not server.server_address[0].startswith("127."):
+    if not str(server.server_address[0]).startswith("127."):
         print("others can reach this: it has no passwords and no encryption", file=sys.stderr)
     print(f"listening {server.address}", flush=True)
     server.start()

@@ -5,7 +5,7 @@ from concurrent.futures import ThreadPoolExecutor
 from typing import Any, Callable, Dict, List, Mapping, Optional, Tuple
 
 from ..errors import Refused
-from ..values import KeyRow, Row
+from ..values import Front, KeyRow, Row
 from .questions import PARAMETERS, TIMES, BadQuestion, Found, Question, changes_between, found_by, question_of, time_in
 from .watch import Away, State, StreamState, Watched
 
@@ -59,9 +59,11 @@ def json_of_found(found: Found) -> Json:
 
 def json_of_changes(before: Found, after: Found) -> Json:
     changes, until = changes_between(before, after)
-    row = lambda key, it: None if it is None else json_of_row(key, it)
-    return {"changes": [{"key": str(it.key), "what": it.what, "before": row(it.key, it.before), "after": row(it.key, it.after)} for it in changes],
-            "until": None if until is None else str(until)}
+
+    def row(key: int, it: Optional[Row]) -> Optional[Json]:
+        return None if it is None else json_of_row(key, it)
+    told = [{"key": str(it.key), "what": it.what, "before": row(it.key, it.before), "after": row(it.key, it.after)} for it in changes]
+    return {"changes": told, "until": None if until is None else str(until)}
 
 
 # ---------------------------------------------------------------- the calls
@@ -122,7 +124,10 @@ class Api:
     def _latest(self, chosen: List[Watched]) -> int:
         """The least readable mark of the nodes that tell theirs now."""
         marks, told = [], []  # type: List[int], List[Exception]
-        for ended in [self._pool.submit(it.ask, "front", lambda node: node.front()) for it in chosen]:
+        def front(it: Watched) -> Front:
+            return it.ask("front", lambda node: node.front())
+
+        for ended in [self._pool.submit(front, it) for it in chosen]:
             try:
                 marks.append(ended.result().readable)
             except (Away, Refused) as error:

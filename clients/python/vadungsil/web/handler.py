@@ -60,7 +60,7 @@ class Handler(BaseHTTPRequestHandler):
     def setup(self) -> None:
         super().setup()
         self.connection.settimeout(self.server.patience)
-        self.rfile = io.BufferedReader(_Within(self.connection, self.server.patience, MOST_HEAD))  # type: ignore[assignment]
+        self.rfile = io.BufferedReader(_Within(self.connection, self.server.patience, MOST_HEAD))
         self.path = self.command = ""
         self.status = 0
 

@@ -15,7 +15,7 @@ class Times(NamedTuple):
 
     within: Tuple[int, ...]
     total: float
-    count: int
+    count: int      # type: ignore[assignment]  # the tuple has a method of this name, which nobody calls
 
 
 class Meters:

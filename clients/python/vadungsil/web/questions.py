@@ -46,7 +46,7 @@ class Found(NamedTuple):
 
     rows: List[KeyRow]
     more: bool = False
-    count: Optional[int] = None
+    count: Optional[int] = None      # type: ignore[assignment]  # as above all tuples have it
 
 
 class Change(NamedTuple):

@@ -8,10 +8,10 @@ import threading
 from http.server import ThreadingHTTPServer
 from typing import Any, Dict, Iterable, List, Tuple
 
-from ..link import Address
+from ..link import Address, Certificates
 from .api import Api
 from .handler import Handler
-from .metrics import Family, text_of
+from .metrics import Family, Sample, text_of
 from .watch import watched_by_name
 
 # Requests that are answered at once, and event streams among them.
@@ -41,14 +41,15 @@ class Server(ThreadingHTTPServer):
     daemon_threads, allow_reuse_address, request_queue_size = True, True, 256
 
     def __init__(self, nodes: List[Address], http: Tuple[str, int] = ("127.0.0.1", 8080), limit: float = 10.0, every: float = 1.0,
-                 allowed: Iterable[str] = (), patience: float = 10.0) -> None:
+                 allowed: Iterable[str] = (), patience: float = 10.0, certificates: Certificates = Certificates()) -> None:
         """`limit`: seconds that a node's reply is waited for; `every`: seconds from one look at the nodes to the next; `patience`: seconds
-        in which a request has to come, and each piece of an answer has to go."""
+        in which a request has to come, and each piece of an answer has to go; `certificates` are for nodes at tls://HOST:PORT."""
         if not nodes:
             raise ValueError("no nodes")
+        certificates.see(nodes)
         self._change = threading.Condition()
         self._changes = 0
-        self.nodes = watched_by_name(list(nodes), limit=limit, every=every, changed=self._note_change)
+        self.nodes = watched_by_name(list(nodes), limit=limit, every=every, changed=self._note_change, certificates=certificates)
         self.patience, self.every, self.ended = patience, every, threading.Event()
         self._free, self._streams = threading.BoundedSemaphore(MOST_REQUESTS), threading.BoundedSemaphore(MOST_STREAMS)
         self._counts_lock, self._statuses, self.streams_open = threading.Lock(), {}, 0  # type: threading.Lock, Dict[int, int], int
@@ -59,7 +60,7 @@ class Server(ThreadingHTTPServer):
 
     @property
     def address(self) -> str:
-        return f"http://{self.server_address[0]}:{self.server_address[1]}/"
+        return f"http://{self.server_address[0]!s}:{self.server_address[1]}/"
 
     def start(self) -> None:
         for watched in self.nodes.values():
@@ -87,7 +88,7 @@ class Server(ThreadingHTTPServer):
             self.socket.setsockopt(socket.SOL_SOCKET, socket.SO_REUSEADDR, 1)
         self.socket.bind(self.server_address)
         self.server_address = self.socket.getsockname()
-        self.server_name, self.server_port = self.server_address[0], self.server_address[1]
+        self.server_name, self.server_port = str(self.server_address[0]), self.server_address[1]
 
     def process_request(self, request: Any, client_address: Any) -> None:
         """A thread for each request; 503 at once where all are busy."""
@@ -130,8 +131,9 @@ class Server(ThreadingHTTPServer):
     def metrics(self) -> bytes:
         with self._counts_lock:
             answered = [({"code": str(status)}, count) for status, count in sorted(self._statuses.items())]
-        own = [(Family("vadungsil_web_answers_total", "counter", "Answers of this server over HTTP, by status."), answered),
-               (Family("vadungsil_web_event_streams", "gauge", "Event streams that are open."), [({}, self.streams_open)])]
+        answers = Family("vadungsil_web_answers_total", "counter", "Answers of this server over HTTP, by status.")
+        streams = Family("vadungsil_web_event_streams", "gauge", "Event streams that are open.")
+        own: List[Tuple[Family, Iterable[Sample]]] = [(answers, answered), (streams, [({}, self.streams_open)])]
         return text_of(self.nodes.values(), own).encode()
 
     def open_stream(self) -> bool:

@@ -8,7 +8,7 @@ import time as clock
 from typing import Any, Callable, Dict, List, NamedTuple, Optional, Tuple, TypeVar
 
 from ..errors import LinkBroken, Refused, TimeLimit, VadungsilError
-from ..link import Address
+from ..link import Address, Certificates
 from ..node import Node
 from ..values import LAST_TIME, Fragment, Stream
 from .meters import Meters
@@ -94,8 +94,9 @@ def state_of(head: Fragment) -> State:
 class Watched:
     """A node that is asked how it stands every so many seconds, by a thread of its own, and questions between. Threads may share it."""
 
-    def __init__(self, address: Address, limit: float = 10.0, every: float = 1.0, changed: Optional[Callable[[], None]] = None) -> None:
-        self.node = Node(address, limit, tries=1, wait=0.0)
+    def __init__(self, address: Address, limit: float = 10.0, every: float = 1.0, changed: Optional[Callable[[], None]] = None,
+                 certificates: Certificates = Certificates()) -> None:
+        self.node = Node(address, limit, tries=1, wait=0.0, **certificates.of(address)._asdict())
         self.name, self.limit, self.every = self.node.name, limit, every
         self.meters = Meters()
         self.state = State()

@@ -1,0 +1,19 @@
+"""Uses that a strict look at types has to refuse, one in each line that says so, and in no other (tests/typed.py)."""
+from vadungsil import AsyncNode, Get, LogWriter, Mark, Node, Row, later
+
+
+def misused(node: Node, log: LogWriter, other: AsyncNode) -> int:
+    print(node.get(1, 5).body)      # refused: it may be None
+    node.get("1", 5)      # refused: a table is a number
+    node.items(log.marks()[0])      # refused: one item is no list of items
+    log.commit(puts=[(1, 5, 9)])      # refused: a row without a body
+    print(node.front().last)      # refused: no such field
+    print(node.range(1)[0].body)      # refused: a key and its row
+    time, row = node.latest(Get(1, 5))
+    print(time + 1, row.body)      # refused: it may be None
+    print(node.count(1).rows)      # refused: a count is a number
+    print(other.front().readable)      # refused: it has to be awaited
+    later.AskPage("1", 2)      # refused: a time is a number
+    print(node.status().free)      # refused: no such field
+    Mark(7, 1, 2)      # refused: without m
+    return Row(1, b"")      # refused: no number

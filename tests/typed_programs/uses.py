@@ -1,0 +1,97 @@
+"""A program as a user writes it, whose types are looked at and which is never run (tests/typed.py)."""
+from __future__ import annotations
+
+import asyncio
+from typing import Iterator, List, Optional, Tuple, Union
+
+import vadungsil
+from vadungsil import (AsyncNode, Count, Entry, Feeder, Fragment, Front, Get, Hold, KeyRow, LinkBroken, LogWriter, Mark, Node, Nodes, Range,
+                       Refused, Row, Stream, export, later)
+from vadungsil.embedded import Replica
+from vadungsil.web import Server
+
+
+def written(log: LogWriter, node: Node) -> int:
+    entry: Optional[Entry] = log.commit(puts=[(1, 5, 9, b"A")], removes=[(1, 6)])
+    with log.transaction() as it:
+        it.put(1, 5, 9, b"C")
+        it.remove(1, 6)
+    marks: List[Mark] = log.marks()
+    operations: int = node.items([entry, it.entry, *marks])
+    if entry is not None:
+        operations += node.items([vadungsil.encode(entry)])
+    return operations
+
+
+def read(node: Node) -> Tuple[Optional[Row], List[KeyRow], int]:
+    front: Front = node.front()
+    row: Optional[Row] = node.get(1, 5)
+    if row is not None:
+        print(row.tag + 1, row.body.hex())
+    with node.at(front.readable) as moment:
+        rows: List[KeyRow] = moment.range(1, 0, 9) + moment.by_tag(1, 9)
+        count: int = moment.count(1) + sum(moment.counts([1, 2]))
+    for key, each in rows:
+        print(key + 1, each.body.decode())
+    return row, rows, count
+
+
+def between(one: Node, other: Node) -> int:
+    delta: Fragment = one.delta(1)
+    streams: Tuple[Stream, ...] = one.streams()
+    print(delta.base + streams[0].prefix, len(delta.facts), delta.facts[0].version.key)
+    return other.join(delta) + other.merge(one.whole()) + other.prune(2)
+
+
+def later_version(node: Node, other: Node) -> Optional[Row]:
+    status: later.Streams = node.status()
+    held: Optional[int] = status.least_hold
+    time, row = node.latest(Get(1, 5))
+    _, rows = node.latest(Range(1))
+    _, count = node.latest(Count(1))
+    page: later.Page = node.page(1, at=time, most=3)
+    each: Iterator[KeyRow] = node.rows(1, at=time)
+    keys: List[int] = [it.key for it in each] + [it.key for it in page.rows] + [it.key for it in rows]
+    hold: Hold
+    with node.hold(time) as hold:
+        print(hold.number + hold.time, held, count + len(keys))
+    other.take_parts(node.parts(part_bytes=40))
+    return row
+
+
+def many(node: Node) -> List[Optional[Row]]:
+    with node.pipeline() as pipe:
+        asked = [pipe.get(1, key) for key in range(5, 8)]
+        count = pipe.count(1)
+    print(count.result() + 1)
+    nodes = Nodes([47001, "other:47001"])
+    print(nodes.latest() + nodes.at().count(1), export(nodes, "rows.csv", "csv", 1, [1]) + 1)
+    return [it.result() for it in asked]
+
+
+async def side_by_side() -> Tuple[Optional[Row], int]:
+    async with AsyncNode(47001) as node:
+        row, count = await asyncio.gather(node.get(1, 5), node.count(1))
+        time, newest = await node.latest(Get(1, 5))
+        async with node.at(time) as moment:
+            rows: List[KeyRow] = await moment.range(1)
+    return row or newest, count + len(rows)
+
+
+def refused(node: Node) -> Union[int, str]:
+    try:
+        node.get(1, 5, at=9)
+    except Refused as error:
+        number: int = error.number
+        return number + sum(error.values)
+    except LinkBroken as broken:
+        return str(broken)
+    feeder = Feeder()
+    for item, frame in feeder.feed_frames(b""):
+        print(item.log + item.stream, len(frame))
+    return vadungsil.explain(26)
+
+
+def beside() -> Optional[Row]:
+    print(Server([47001], ("127.0.0.1", 0)).address)
+    return Replica(7, 1).get(1, 5)
