@@ -5,6 +5,7 @@
 # make serve-demo   the same, and a node that two feeders fill, with a second node that catches up
 # make redis-demo   the same, and a primary's log through Redis into two nodes, one killed in the middle (apt-get install redis-server python3-redis)
 # make nats-demo    the same, and 200,000 transactions through three nats-servers into two nodes, a leader and a node killed (connectors/nats/get-server)
+# make shop-demo    the same, and a PostgreSQL with writers through Redis into two nodes, one killed, 20 moments compared (docs/POSTGRESQL.md)
 # make engine-lab   the same, and faults of three nats-servers in network namespaces, cut off from each other; as root, with iproute2, for minutes
 # make look   the same, and a node that two feeders fill, one of them late, with the page to look at it; until Ctrl-C
 # make test   the one test command: every proof from nothing, the must-fail edits, the tests, then the end-to-end checks
@@ -16,7 +17,7 @@
 
 PREFIX = /usr/local
 
-.PHONY: all quick try test lib install package demo serve-demo redis-demo nats-demo engine-lab look compare bench clean
+.PHONY: all quick try test lib install package demo serve-demo redis-demo nats-demo shop-demo engine-lab look compare bench clean
 
 CASES = 10000
 SEED = 1
@@ -61,6 +62,9 @@ redis-demo: bin/hkrep
 
 nats-demo: bin/hkrep
 	connectors/nats/demo
+
+shop-demo: bin/hkrep
+	examples/shop/demo
 
 engine-lab: bin/hkrep
 	connectors/lab/run

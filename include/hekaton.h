@@ -30,6 +30,48 @@ extern "C" {
 /* The version of all of Vadungsil. */
 #define HEKATON_VERSION "0.1.0"
 
+/* The numbers that functions and replies refuse with, by their names in docs/FORMATS.md; 0 is no refusal. The last is
+   that of a closed handle. */
+enum hk_refusal {
+    HK_TRUNCATED = 1,
+    HK_TOO_LONG = 2,
+    HK_BAD_VERSION = 3,
+    HK_BAD_KIND = 4,
+    HK_BAD_STREAM = 5,
+    HK_BAD_NUMBER = 6,
+    HK_BAD_ORDER = 7,
+    HK_BAD_COUNT = 8,
+    HK_BAD_BODY = 9,
+    HK_WRONG_LENGTH = 10,
+    HK_FOREIGN_LOG = 20,
+    HK_WRONG_STREAMS = 21,
+    HK_GAP = 22,
+    HK_CONFLICT = 23,
+    HK_AHEAD_OF_MARK = 24,
+    HK_TOO_OLD = 25,
+    HK_NOT_YET = 26,
+    HK_WRITE_CONFLICT = 30,
+    HK_NO_ROW = 31,
+    HK_TWICE_WRITTEN = 32,
+    HK_TOO_MANY_WRITES = 33,
+    HK_NO_STREAM = 34,
+    HK_CLOCK_FULL = 35,
+    HK_RETIRED = 36,
+    HK_HELD = 40,
+    HK_DAMAGED = 41,
+    HK_UNPUBLISHED = 42,
+    HK_NODE_FULL = 43,
+    HK_NO_HOLD = 44,
+    HK_NO_SUCH = 45,
+    HK_LINK_FULL = 46,
+    HK_NO_PART = 47,
+    HK_MEMORY = 90,
+    HK_READ_FAULT = 91,
+    HK_WRITE_FAULT = 92,
+    HK_NET_FAULT = 93,
+    HK_CLOSED_HANDLE = 255
+};
+
 /* A replica, or nothing. */
 typedef struct hk_handle { void *at; bool live; } hk_handle;
 #define HK_CLOSED { NULL, false }

@@ -16,7 +16,7 @@ import time
 
 sys.dont_write_bytecode = True
 import messages as say
-from checks import ended, is_built, report
+from checks import ended, guarded, is_built, report
 from client import free_port
 
 ROOT = pathlib.Path(__file__).resolve().parent.parent
@@ -379,10 +379,7 @@ def main(words):
         return ended()
     checks = OPEN if words == ["open"] else [it for it in (*GATE, *OPEN) if it.__name__ in words] if words else GATE
     for check in checks:
-        try:
-            check()
-        except Exception as error:  # pylint: disable=broad-except
-            report(check.__name__, [f"{type(error).__name__}: {error}"])
+        guarded(check)
     print(f"attack: {time.monotonic() - start:.1f} s")
     return ended()
 

@@ -17,14 +17,16 @@ from shown import of
 PYTHON = "/usr/bin/python3" if os.path.exists("/usr/bin/python3") else sys.executable
 # the smallest number that is worth a run, and what it needs beside bin/hkrep
 SMALL = {"bench/run": ("500", ()), "bench/links": ("20", ()), "bench/parts": ("1", ()), "bench/python": ("1000", ("redis",)), "bench/connectors.py": ("50 1", ("redis",)),
-         "bench/fanout.py": ("1 2", ("nats",)),
+         "bench/postgres": ("keys 100", ("redis", "postgres")), "bench/fanout.py": ("1 2", ("nats",)),
          "bench/c_library": ("2000", ("gcc", "lib/"))}
 
 
 def lacks(needs):
     """What of this isn't here."""
     has_redis = shutil.which("redis-server") and not subprocess.run([PYTHON, "-c", "import redis"], stderr=subprocess.DEVNULL, check=False).returncode
-    there = {"redis": has_redis, "nats": servers.program(), "gcc": shutil.which("gcc"), "lib/": (ROOT / "lib" / "libhekaton.a").exists()}
+    has_postgres = list(pathlib.Path("/usr/lib/postgresql").glob("*/bin/postgres")) and not subprocess.run(
+        [PYTHON, "-c", "import psycopg2"], stderr=subprocess.DEVNULL, check=False).returncode
+    there = {"redis": has_redis, "postgres": has_postgres, "nats": servers.program(), "gcc": shutil.which("gcc"), "lib/": (ROOT / "lib" / "libhekaton.a").exists()}
     return [it for it in needs if not there[it]]
 
 

@@ -88,6 +88,24 @@ def compiled(name, command):
     return status == 0
 
 
+def named():
+    """The refusals that the header names are those of docs/FORMATS.md, with its numbers, in C89 and in C++."""
+    part = (ROOT / "docs" / "FORMATS.md").read_text(encoding="utf-8").split("## Faults and refusals")[1].split("\n## ")[0]
+    wanted = {"HK_" + re.sub(r"(?<!^)(?=[A-Z])", "_", name).upper(): int(number) for number, name in re.findall(r"^\| (\d+) \| (\w+)", part, re.M)}
+    wanted["HK_CLOSED_HANDLE"] = 255
+    header = HEADER.read_text(encoding="utf-8")
+    problems = differ([("names", sorted(re.findall(r"^    (HK_\w+) = ", header, re.M)), sorted(wanted))])
+    told = "".join(f'    printf("%s %d\\n", "{name}", (int){name});\n' for name in wanted)
+    source = WORK / "refusals.c"
+    source.write_text(f'#include "hekaton.h"\n#include <stdio.h>\nint main(void) {{\n{told}    return 0;\n}}\n', encoding="utf-8")
+    for words in (["gcc", "-std=c89", "-pedantic"], ["g++", "-x", "c++", "-std=c++11"]):
+        if shutil.which(words[0]):
+            said, status = run([*words, "-Wall", "-Wextra", "-Werror", f"-I{HEADER.parent}", source, "-o", WORK / "refusals"])
+            got = run([WORK / "refusals"])[0].split() if status == 0 else [said]
+            problems += differ([(words[0], dict(zip(got[::2], map(int, got[1::2]))) if status == 0 else said, wanted)])
+    report(f"the refusals that the header names ({len(wanted)})", problems)
+
+
 def in_c():
     """The C program: each function, the vectors, bad input, each request for memory refused."""
     source, program, starved = ROOT / "tests" / "c_library" / "library.c", WORK / "library", WORK / "starved"
@@ -251,7 +269,9 @@ def main(words):
         skip("gcc is not installed: the library for C is not tested")
         return ended()
     try:
-        if made():
+        if not words or "named" in words:
+            named()
+        if words != ["named"] and made():
             for check in (in_c, in_cpp, in_rust, in_go, in_python, in_page):
                 if not words or check.__name__ in words:
                     check()

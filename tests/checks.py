@@ -4,24 +4,28 @@ import os
 import signal
 import socket
 import threading
+import time
 
 # Who runs the checks in the background may have Ctrl-C ignored, which each program that they start would take over.
 signal.signal(signal.SIGINT, signal.default_int_handler)
 
 passed, failed, skipped = 0, 0, 0
 PORTS, PORTS_LOCK = set(), threading.Lock()
+# checks that are made side by side say one after the other what came of them
+REPORTING = threading.Lock()
 
 
 def report(name, problems, told=""):
     """Says that a check passed, or what is wrong, and what it was told, if anything."""
     global passed, failed
     name = f"{name}: {told}" if told else name
-    if problems:
-        failed += 1
-        print(f"FAILED {name}", *[f"  {str(problem)[:400]}" for problem in problems[:5]], sep="\n", flush=True)
-    else:
-        passed += 1
-        print(f"ok {name}", flush=True)
+    with REPORTING:
+        if problems:
+            failed += 1
+            print(f"FAILED {name}", *[f"  {str(problem)[:400]}" for problem in problems[:5]], sep="\n", flush=True)
+        else:
+            passed += 1
+            print(f"ok {name}", flush=True)
 
 
 def skip(what, needed=True):
@@ -50,6 +54,25 @@ def free_port():
             if port not in PORTS:
                 PORTS.add(port)
                 return port
+
+
+def guarded(check, *words):
+    """Makes a check; what it raises is a failure of this check alone."""
+    try:
+        check(*words)
+    except Exception as error:  # pylint: disable=broad-except
+        trace = error.__traceback__
+        while trace.tb_next:
+            trace = trace.tb_next
+        place = f"line {trace.tb_lineno} of {trace.tb_frame.f_code.co_filename}"
+        report(check.__name__, [f"{type(error).__name__}: {error} ({place})"])
+
+
+def timed(check, *words):
+    """The same, and says how long it took."""
+    began = time.monotonic()
+    guarded(check, *words)
+    print(f"{check.__name__}: {time.monotonic() - began:.1f} s", flush=True)
 
 
 def is_built(program):

@@ -1,5 +1,5 @@
 #!/usr/bin/env python3
-"""Checks of `hkrep serve --guard`: each change is tested before it is made, also where items are of no one log.
+"""Checks of `hkrep serve --guard`: each change is tested before it is made, also where items are of no one log, and each repeat is compared.
 
 Lists of random items go to a guarded node, all or nothing, and what it replies and holds is what tests/reference.py says of the same items,
 absorbed one after the other. Prints a line for each check and ends with 'N passed, M failed'. Standard library only."""
@@ -31,14 +31,25 @@ def mark(source, time):
     return reference.Mark(7, source.randint(1, STREAMS), source.randint(0, min(upto, 4)), upto)
 
 
+def facts(items):
+    """The rows that the entries insert, by version, and the ends that they state."""
+    entries = [it for it in items if isinstance(it, reference.Entry)]
+    rows = {(*key, it.time): row for it in entries for key, row in it.rows}
+    return rows, {version: it.time for it in entries for version in it.ends}
+
+
 def taken(held, items):
-    """The items held after these, absorbed one after the other, and None; or those held before, and the first refusal's number."""
+    """The items held after these, absorbed one after the other, and None; or those held before, and the first refusal's number, or 23 where an
+    entry stands otherwise in those after than it is told. The horizon is 0, so each is compared."""
     after = held
     try:
         for item in items:
             after = reference.absorbed(after, item, 7, STREAMS)
     except reference.Refused as refused:
         return held, refused.args[0]
+    for known, told in zip(facts(after), facts(items)):
+        if any(known.get(version) != it for version, it in told.items()):
+            return held, 23
     return after, None
 
 

@@ -12,7 +12,7 @@ import tempfile
 import time
 
 import messages as say
-from checks import differ, ended, is_built, report
+from checks import differ, ended, guarded, is_built, report
 from client import Node
 from messages import E1, TOO_LONG
 
@@ -154,10 +154,7 @@ def late_entry():
 def main():
     if is_built(PROGRAM):
         for check in (no_more_files, no_thread, behind_a_fault, replies_together, in_order, late_entry):
-            try:
-                check()
-            except Exception as error:  # pylint: disable=broad-except
-                report(check.__name__, [f"{type(error).__name__}: {error}"])
+            guarded(check)
     return ended()
 
 

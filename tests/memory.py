@@ -22,7 +22,7 @@ import time
 
 sys.dont_write_bytecode = True
 import messages as say
-from checks import differ, ended, free_port, is_built, report
+from checks import differ, ended, free_port, is_built, report, timed
 import reference
 
 ROOT = pathlib.Path(__file__).resolve().parent.parent
@@ -718,12 +718,7 @@ def main(words):
         return ended()
     for check in (every_request, every_start, every_push, refused_commands, refused_requests, refused_later, refused_in_tests, false_counts):
         if not words or check.__name__ in words:
-            began = time.monotonic()
-            try:
-                check()
-            except Exception as error:  # pylint: disable=broad-except
-                report(check.__name__, [f"{type(error).__name__}: {error}"])
-            print(f"{check.__name__}: {time.monotonic() - began:.1f} s")
+            timed(check)
     print(f"memory: {time.monotonic() - start:.1f} s")
     return ended()
 

@@ -57,7 +57,8 @@ def sources():
 def listings():
     """What uses/README.md and docs/CONTRIBUTING.md list stands in a source."""
     texts = {"uses/README.md": [path.read_text() for path in sources()],
-             "docs/CONTRIBUTING.md": [path.read_text() for path in (ROOT / "crates" / "hk_node").glob("**/*") if path.suffix in (".rt", ".antt", ".edit")]}
+             "docs/CONTRIBUTING.md": [path.read_text() for name in ("hk_oplog", "hk_node")
+                                      for path in (ROOT / "crates" / name).glob("**/*") if path.suffix in (".rt", ".antt", ".edit")]}
     mine = of("pages.py listings")
     problems = [f"{it.page}: {it.text.splitlines()[0]}" for it in mine if not any(it.text.removesuffix("\n") in text for text in texts[it.page])]
     report(f"what uses/README.md and docs/CONTRIBUTING.md list are lines of files ({len(mine)})", problems)
@@ -246,7 +247,7 @@ def untyped(text):
 
 
 # what runs the recipe of a target that a page names
-RUNS = {"try": "pages.py", "demo": "pages.py", "serve-demo": "hkrep/links.py", "look": "web.py", "redis-demo": "connectors.py", "nats-demo": "engine.py", "package": "package.py",
+RUNS = {"try": "pages.py", "demo": "pages.py", "serve-demo": "hkrep/links.py", "look": "web.py", "redis-demo": "connectors.py", "nats-demo": "engine.py", "shop-demo": "postgres.py", "package": "package.py",
         "install": "package.py", "compare": "all", "bench": "benches.py"}
 
 
@@ -279,12 +280,12 @@ def made():
 def formatted():
     """`rt fmt` in a copy of a crate leaves it as it is."""
     with tempfile.TemporaryDirectory() as folder:
-        copy = pathlib.Path(folder) / "crates" / "hk_reasons"
-        shutil.copytree(ROOT / "crates" / "hk_reasons", copy, ignore=shutil.ignore_patterns("out"))
+        copy = pathlib.Path(folder) / "crates" / "hk_cli_reasons"
+        shutil.copytree(ROOT / "crates" / "hk_cli_reasons", copy, ignore=shutil.ignore_patterns("out"))
         for name in ("crates.txt", "HANDLES"):
             shutil.copy(ROOT / name, folder)
         ran = subprocess.run(["rt", "fmt"], cwd=copy, stdout=subprocess.PIPE, stderr=subprocess.STDOUT, text=True, timeout=60, check=False)
-        changed = [str(it.relative_to(copy)) for it in copy.rglob("*") if it.is_file() and it.read_bytes() != (ROOT / "crates" / "hk_reasons" / it.relative_to(copy)).read_bytes()]
+        changed = [str(it.relative_to(copy)) for it in copy.rglob("*") if it.is_file() and it.read_bytes() != (ROOT / "crates" / "hk_cli_reasons" / it.relative_to(copy)).read_bytes()]
     return ([ran.stdout] if ran.returncode else []) + [f"rt fmt changes {it}" for it in changed]
 
 
@@ -355,7 +356,8 @@ def history():
 
 # the check that runs a script which tests/all doesn't run itself
 RUN_BY = {"docs/calling": "pages.py", "docs/streams": "pages.py", "docs/pictures": "pages.py", "examples/make": "pages.py", "examples/node": "package.py",
-          "examples/links/two_feeders.py": "hkrep/links.py", "examples/kafka/try.py": "connectors.py", "connectors/redis/publish": "connectors.py",
+          "examples/links/two_feeders.py": "hkrep/links.py", "examples/kafka/try.py": "connectors.py", "connectors/redis/publish": "connectors.py", "connectors/redis/follow": "connectors.py",
+          "connectors/nats/follow": "engine.py", "connectors/file/follow": "postgres.py", "connectors/postgres/capture": "postgres.py",
           "tests/make_vectors.py": "python_client.py"}
 
 

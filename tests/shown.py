@@ -47,7 +47,9 @@ ROWS = (
     ("docs/CONNECTORS.md", ".*", "connectors/redis|redis-cli", "connectors.py typed"),
     (".*", "said|set in", "make redis-demo", "connectors.py demonstrated"),
     (".*", "said|set in", "make nats-demo", "engine.py demonstrated"),
-    ("docs/OPERATING.md", "ini", "", "tunnel.py sides"),
+    (".*", "said|set in", "make shop-demo", "postgres.py demonstrated"),
+    ("docs/POSTGRESQL.md", "sh|python|text", "", "postgres.py page"),
+    ("docs/OPERATING.md", "set in", r"deploy/stunnel/authority |stunnel |.*(tls://|--read-port 47001|--port 47100)", "tunnel.py typed"),
     ("docs/FORMATS.md|docs/PROTOCOL.md", "set in", " *[0-9a-f]{4}", "pages.py bytes"),
     ("docs/PROTOCOL.md", "set in", " +[0-9a-f]{2}", "pages.py bytes"),
     ("docs/FORMATS.md", "set in", "", "pages.py words"),
@@ -59,7 +61,7 @@ ROWS = (
     (".*", "said|set in", "rt ", "pages.py toolchain"),
     (".*", "said|set in", "(pip|apt-get) install", "pages.py packages"),
     ("docs/CONTRIBUTING.md", "said", "git show", "pages.py history"),
-    (".*", "said", r"bench/(links|parts|run|python|connectors\.py|fanout\.py|c_library)", "benches.py benches"),
+    (".*", "said", r"bench/(links|parts|run|python|postgres|connectors\.py|fanout\.py|c_library)", "benches.py benches"),
     (".*", "said|set in", r"(python3 )?(tests|docs|examples|deploy|bench|connectors)/", "pages.py scripts"),
 )
 

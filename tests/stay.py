@@ -11,7 +11,7 @@ import threading
 import time
 
 import messages as say
-from checks import differ, ended, is_built, report
+from checks import differ, ended, guarded, is_built, report
 from messages import E1, TOO_LONG
 from staying import PROGRAM, Staying
 
@@ -198,6 +198,24 @@ def links_that_only_read():
         report("links that only read", differ(pairs))
 
 
+def links_that_feed():
+    """Links to the port for feeders send items and ask, in both versions: each other change is refused with 4, ends the link, and is not made."""
+    later = ("--messages", "2")
+    with Staying(1, *later, reading=1, feeding=1) as node, node.link() as link:
+        with node.link(node.feed_port) as feeder:
+            pairs = [("items", feeder.ask(PUSHED), ("done", 2)), ("an ask", feeder.ask(GET), ROW), ("its front", feeder.ask(say.front()), ("front", 0, 1)),
+                     ("the status", feeder.ask(say.status())[0], "streams"), ("a whole", feeder.ask(say.whole(0, 0))[0], "last part")]
+        pairs.append(("its end", node.line(), "ended 0"))
+        changes = {name: change for name, change in CHANGES.items() if name != "items"}
+        for name, change in (changes | {"a part": say.add([]), "a hold": say.hold(1), "a release": say.release(1)}).items():
+            with node.link(node.feed_port) as feeder:
+                feeder.send(GET + change + GET)
+                pairs += [(f"{name}: an ask before it", feeder.reply(), ROW), (name, feeder.reply()[:2], ("refused", 4)), (f"{name}: the end", feeder.reply(), None)]
+            pairs.append((f"{name}: its line", node.line(), "ended 4"))
+        pairs.append(("nothing else changed", link.ask(say.items()), ("done", 3)))
+        report("links that feed", differ(pairs))
+
+
 def no_more_files():
     """Where no file is left an accept is told as failed and tried again, without much work, and links go on."""
     with Staying(4, RLIMIT_NOFILE=6) as node:
@@ -306,7 +324,8 @@ def addresses_and_bad_lines():
                   ["1", "--stay", "--read-port", "47998"], ["1", "--stay", "--read-links", "1"], ["64", "--stay", "--read-port", "47998", "--read-links", "1"],
                   ["1", "--stay", "--address", "node"], ["1", "--stay", "--read-seconds", "86401"], ["1", "--stay", "--read-seconds", "+1"], ["1", "-q"], ["1", "-v"], ["1", "--stay", "-q", "-v"],
                   ["1", "--report-changes", "2"], ["1", "--stay", "--report-changes", "0"], ["64", "--stay", "--report-changes", "2"],
-                  ["63", "--stay", "--report-changes", "2", "--read-port", "47998", "--read-links", "1"]):
+                  ["63", "--stay", "--report-changes", "2", "--read-port", "47998", "--read-links", "1"], ["1", "--feed-port", "47998", "--feed-links", "1"],
+                  ["1", "--stay", "--feed-port", "47998"], ["1", "--stay", "--feed-links", "1"], ["63", "--stay", "--feed-port", "47997", "--feed-links", "1", "--read-port", "47998", "--read-links", "1"]):
         done = subprocess.run([str(PROGRAM), "serve", *plain, *words], capture_output=True, text=True, timeout=30, check=False)
         pairs.append((" ".join(words), (done.returncode, done.stdout), (2, "")))
     with socket.create_server(("127.0.0.1", 0)) as taken:
@@ -321,13 +340,10 @@ def main():
     if not is_built(PROGRAM):
         return ended()
     start = time.monotonic()
-    for check in (places_are_given_back, ends_soon_after_a_fault, limits_of_time, links_that_only_read, no_more_files, signals, what_is_told, changes_are_told, changes_are_guarded, addresses_and_bad_lines, bad_peers):
+    for check in (places_are_given_back, ends_soon_after_a_fault, limits_of_time, links_that_only_read, links_that_feed, no_more_files, signals, what_is_told, changes_are_told, changes_are_guarded, addresses_and_bad_lines, bad_peers):
         if sys.argv[1:] and check.__name__ not in sys.argv[1:]:
             continue
-        try:
-            check()
-        except Exception as error:  # pylint: disable=broad-except
-            report(check.__name__, [f"{type(error).__name__}: {error}"])
+        guarded(check)
     print(f"links that come and go: {time.monotonic() - start:.1f} s")
     return ended()
 

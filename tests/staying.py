@@ -15,13 +15,15 @@ LIMIT = 30
 class Staying:
     """A node that stays, which is ended when the block is left; limits are of `resource`."""
 
-    def __init__(self, links, *options, streams=1, reading=0, address="127.0.0.1", **limits):
+    def __init__(self, links, *options, streams=1, reading=0, feeding=0, address="127.0.0.1", **limits):
         def restrict():
             for name, limit in limits.items():
                 resource.setrlimit(getattr(resource, name), (limit, limit))
 
-        self.address, self.port, self.read_port = address, free_port(), free_port()
+        self.address, self.port, self.read_port, self.feed_port = address, free_port(), free_port(), free_port()
         words = ["serve", "--log", "7", "--streams", str(streams), "--port", str(self.port), "--links", str(links), "--stay", *options]
+        if feeding:
+            words += ["--feed-port", str(self.feed_port), "--feed-links", str(feeding)]
         if reading:
             words += ["--read-port", str(self.read_port), "--read-links", str(reading)]
         self.child = subprocess.Popen([str(PROGRAM), *words], stdout=subprocess.PIPE, stderr=subprocess.PIPE, text=True, preexec_fn=restrict)
@@ -29,7 +31,7 @@ class Staying:
         threading.Thread(target=self._read, daemon=True).start()
         self.words_thread = threading.Thread(target=lambda: self.words.extend(self.child.stderr), daemon=True)
         self.words_thread.start()
-        wanted = [f"listening {self.port}"] + ([f"reading {self.read_port}"] if reading else [])
+        wanted = [f"listening {self.port}"] + ([f"feeding {self.feed_port}"] if feeding else []) + ([f"reading {self.read_port}"] if reading else [])
         said = [self.line() for _ in wanted]
         if said != wanted:
             self.child.kill()

@@ -34,8 +34,7 @@ except ImportError:
     selenium = None
 
 import web_parts
-import checks
-from checks import differ, ended, is_built, skip
+from checks import differ, ended, guarded, is_built, report, skip, timed
 from shown import of
 from client import PROGRAM
 from web_parts import (FRAMES, KEYS, LAST, LIMIT, PACKAGE, ROOT, STREAMS, Served, Web, breaks, changes_of, fed, log_of, nodes, parsed_metrics,
@@ -48,12 +47,7 @@ HEADS = {"Content-Security-Policy": r"default-src 'none'; script-src 'self'; sty
 
 
 # Checks wait more than they work: so many are made side by side.
-SIDE_BY_SIDE, REPORTS = 4, threading.Lock()
-
-
-def report(*words):
-    with REPORTS:
-        checks.report(*words)
+SIDE_BY_SIDE = 4
 
 
 # ---------------------------------------------------------------- answers
@@ -583,20 +577,6 @@ CHECKS = (look, large_bodies, pictures, away_and_back, events, page, command, li
           interface, files, deployed)
 
 
-def guarded(check):
-    """Makes a check; what it raises is a failure of this check alone."""
-    began = time.monotonic()
-    try:
-        check()
-    except Exception as error:  # pylint: disable=broad-except
-        trace = error.__traceback__
-        while trace.tb_next:
-            trace = trace.tb_next
-        report(check.__name__, [f"{type(error).__name__}: {error} (line {trace.tb_lineno} of {trace.tb_frame.f_code.co_filename})"])
-    if sys.argv[1:]:
-        print(f"{check.__name__}: {time.monotonic() - began:.1f} s", flush=True)
-
-
 def browser(words):
     """The checks in Chromium, or why they are skipped."""
     lacks = [name for name, there in (("chromium", shutil.which("chromium")), ("chromium-driver", shutil.which("chromedriver")), ("python3-selenium", selenium)) if not there]
@@ -619,7 +599,7 @@ def main(words):
         web_page.write_page(pathlib.Path(words[1]))
         return 0
     with concurrent.futures.ThreadPoolExecutor(1 if words else SIDE_BY_SIDE) as pool:
-        list(pool.map(guarded, [check for check in CHECKS if not words or check.__name__ in words]))
+        list(pool.map(timed if words else guarded, [check for check in CHECKS if not words or check.__name__ in words]))
     print(f"web without a browser: {time.monotonic() - start:.1f} s", flush=True)
     if not words or any(word.startswith("browser") for word in words):
         browser([word for word in words if word.startswith("browser_")])

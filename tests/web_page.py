@@ -10,7 +10,7 @@ from selenium.webdriver.common.by import By
 from selenium.webdriver.common.keys import Keys
 from selenium.webdriver.support.ui import Select
 
-from checks import differ, report
+from checks import differ, guarded, report, timed
 from web_parts import FRAMES, LAST, LIMIT, STREAMS, Served, changes_of, fed, log_of, nodes, quiet_port, rows_at, va, waited, web_of
 
 ALL = "kind=range&table=1&low=0&high=18446744073709551615"
@@ -260,16 +260,7 @@ def run(words):
     with chromium() as driver:
         for check in CHECKS:
             if not words or check.__name__ in words:
-                began = time.monotonic()
-                try:
-                    check(driver)
-                except Exception as error:  # pylint: disable=broad-except
-                    trace = error.__traceback__
-                    while trace.tb_next:
-                        trace = trace.tb_next
-                    report(check.__name__, [f"{type(error).__name__}: {error} (line {trace.tb_lineno} of {trace.tb_frame.f_code.co_filename})"])
-                if words:
-                    print(f"{check.__name__}: {time.monotonic() - began:.1f} s")
+                (timed if words else guarded)(check, driver)
         drawn(driver)
 
 

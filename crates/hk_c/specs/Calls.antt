@@ -1,5 +1,5 @@
 -- What a call from outside does to a replica.
-use Rattle.std.specs.Prelude.{◌≡◌, ◌≢◌, ◌≤◌, ◌<◌, ℕ, ◌++◌, ◌⊎◌, ◌^◌, ◌==◌, if◌then◌else◌, List, [], Option, Some, None, Result, Ok, Err, true, false, length, min, take, drop, nat_le, nat_lt}
+use Rattle.std.specs.Prelude.{◌≡◌, ◌≢◌, ◌≤◌, ◌<◌, ℕ, Bool, ◌++◌, ◌⊎◌, ◌^◌, ◌==◌, if◌then◌else◌, List, [], Option, Some, None, Result, Ok, Err, IsOk, true, false, length, min, take, drop, nat_le, nat_lt}
 use Rattle.std.specs.List.{flat_map}
 use Rattle.hk_types.specs.Values.{RowValue}
 use Rattle.hk_types.specs.FaultNumbers.{fault_number, refusal_number}
@@ -26,6 +26,7 @@ use Rattle.hk_c.specs.declared.found.Bounds.{Bounds}
 use Rattle.hk_types.specs.Values.{ConfigValue}
 use Rattle.hk_types.specs.Numbers.{checked_config}
 use Rattle.hk_model.specs.Replica.Replicas.{empty_content}
+use Rattle.hk_query.specs.Memory.{asking_may_lack}
 use Rattle.hk_session.specs.Values.{HostValue}
 use Rattle.hk_session.specs.Steps.{Step}
 use Rattle.hk_session.specs.Transcript.{Transcript, PartialTranscript, IsDone, IsStopped}
@@ -34,10 +35,22 @@ use Rattle.hk_session.specs.declared.ended.Ended.{Ended}
 use Rattle.hk_session.specs.declared.ended.Ended.TheVariants.{ReadFault}
 use Rattle.hk_c.specs.declared.replica.Replica.{Replica}
 
+-- no replica of this log was made: there is no such log, or memory ran out
+abbrev pub NotOpened : ℕ → ℕ → ℕ → Type 0
+NotOpened log streams number =
+    ((fault : FormFault) × (checked_config log streams ≡ Err fault) × (number ≡ fault_number fault))
+    ⊎ (IsOk (checked_config log streams) × (number ≡ 90))
+
+-- a replica of this log that took nothing
+abbrev pub IsNew : Replica → ℕ → ℕ → Type 0
+IsNew r log streams =
+    (config : ConfigValue) × (checked_config log streams ≡ Ok config) × (r.host.content ≡ empty_content config) × (r.host.ops ≡ 1) × (r.feeder ≡ Ok [])
+    × (r.reply.items ≡ [])
+
 -- the handle holds a replica of this log that took nothing, where the number is 0, and nothing where it is another
 abbrev pub Opened : Option Replica → ℕ → ℕ → ℕ → Type 0
-Opened None log streams number = number ≢ 0
-Opened (Some r) log streams number = (number ≡ 0) × (config : ConfigValue) × (checked_config log streams ≡ Ok config) × (r.host.content ≡ empty_content config) × (r.host.ops ≡ 1) × (r.feeder ≡ Ok [])
+Opened None log streams number = NotOpened log streams number
+Opened (Some r) log streams number = (number ≡ 0) × IsNew r log streams
 
 -- What a session on these bytes did to the replica, where it ended so: its reply is their transcript, and a front of
 -- that where memory ran out.
@@ -68,9 +81,9 @@ copied_into before text count = take (min count (length before)) text ++ drop (m
 abbrev pub asked_reply : Content → ℕ → Query → Result AnswerValue Refusal
 asked_reply c time query = if nat_lt (2 ^ 62) time then Err (Form BadNumber) else reply c time query
 
--- why a query was refused: so is its reply, or memory ran out
+-- why a query was refused: so is its reply, or memory ran out for one that takes some
 abbrev pub WhyNot : Content → ℕ → Query → Refusal → Type 0
-WhyNot c time query why = (asked_reply c time query ≡ Err why) ⊎ (why ≡ Memory)
+WhyNot c time query why = (asked_reply c time query ≡ Err why) ⊎ ((why ≡ Memory) × (asking_may_lack (asked_reply c time query) ≡ true))
 
 -- the same by the number of the refusal
 abbrev pub IsRefusedBy : Content → ℕ → Query → ℕ → Type 0
@@ -102,6 +115,13 @@ abbrev pub Bounded : Option Replica → Bounds → ℕ → Type 0
 Bounded None bounds number = number ≡ 255
 Bounded (Some r) bounds number =
     (number ≡ 0) × (bounds.horizon ≡ r.host.content.horizon) × (bounds.readable ≡ readable r.host.content) × (bounds.ops ≡ r.host.ops)
+
+-- whether a query is answered with rows
+abbrev pub asks_rows : Query → Bool
+asks_rows (Get table key) = false
+asks_rows (Range table low high) = true
+asks_rows (ByTag table tag) = true
+asks_rows (Count table) = false
 
 -- the bytes of a row with its key, where the key is not below another
 abbrev pub text_from : ℕ → ℕ × RowValue → List ℕ
@@ -170,6 +190,7 @@ IsItems (requests.Ask t query) items = ⊥
 IsItems (requests.JoinThis fragment) items = ⊥
 IsItems (requests.MergeThis fragment) items = ⊥
 IsItems (requests.Prune horizon) items = ⊥
+IsItems (requests.Feed sent) items = ⊥
 IsItems (requests.Later request) items = ⊥
 
 -- the items were taken, where there are some, as the host takes them
@@ -196,9 +217,9 @@ abbrev pub Pruned : Replica → Replica → ℕ → ℕ → Type 0
 Pruned old new horizon number =
     ((horizon ≤ 2 ^ 62) × Asked old new (requests.Prune horizon) number) ⊎ ((2 ^ 62 < horizon) × (number ≡ 6) × (new ≡ old))
 
--- all that a peer holds was joined as the host joins it, or memory ran out in copying it
+-- all that a peer holds was joined as the host joins it
 abbrev pub Merged : Replica → Replica → Replica → ℕ → Type 0
-Merged old new peer number = Asked old new (requests.MergeThis (cut peer.host.content 0)) number ⊎ ((number ≡ 90) × (new ≡ old))
+Merged old new peer number = Asked old new (requests.MergeThis (cut peer.host.content 0)) number
 
 -- ---- at what handles hold
 

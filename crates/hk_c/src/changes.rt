@@ -6,7 +6,6 @@ ghost use Rattle.hk_c.specs.Calls.{Absorbed, Asked, Merged, Pruned, Taken, done_
 
 use crate::replica::Replica;
 use hk_codec::Feeder;
-use hk_delta::whole_of;
 use hk_log::Item;
 use hk_session::Host;
 use hk_types::{Refusal, Time};
@@ -91,12 +90,10 @@ impl Replica {
     }
 
     /// Joins what another replica holds. 0, or the number of the refusal.
-    pub(crate) fn merge(&mut self, alloc: Global, peer: &Replica) -> u8
+    pub(crate) fn merge(&mut self, peer: &Replica) -> u8
         ensures { Merged self.old self.new peer.now result }
     {
-        match whole_of(alloc, peer.host.state()) {
-            Ok(fragment) => self.change(Request::MergeThis(fragment)),
-            Err(_memory) => Refusal::Memory.number(),
-        }
+        let reply = self.host.merge(peer.host.state());
+        number_of(&reply)
     }
 }

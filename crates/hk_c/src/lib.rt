@@ -1,8 +1,8 @@
 //! Replicas for programs in other languages: bytes of requests in, bytes of replies out.
 #![tactic(auto)]
 
-ghost use Rattle.std.specs.Prelude.{◌≡◌, ◌++◌, None, Some, length, min, take, drop};
-ghost use Rattle.hk_c.specs.Calls.{AbsorbedAt, AtLive, Bounded, Called, Counts, Finished, Got, Listed, MergedAt, Opened, PrunedAt, Ranged, Tagged, Told, Worded, Wrote, copied_into, kept_reply};
+ghost use Rattle.std.specs.Prelude.{◌≡◌, ◌++◌, true, None, Some, length, min, take, drop};
+ghost use Rattle.hk_c.specs.Calls.{AbsorbedAt, AtLive, Bounded, Called, Counts, Finished, Got, Listed, MergedAt, Opened, PrunedAt, Ranged, Tagged, Told, Worded, Wrote, asks_rows, copied_into, kept_reply};
 
 mod changes;
 mod found;
@@ -271,6 +271,7 @@ fn list(
     out: &mut [u8],
     needed: &mut usize,
 ) -> u8
+    requires { asks_rows query.now ≡ true }
     ensures { Listed handle.old.replica handle.new.replica time query.now low needed.new out.old out.new result }
 {
     match replace(handle, Handle::none()).into_box(alloc) {
@@ -385,7 +386,7 @@ pub extern "C" fn hk_merge(alloc: Global, handle: &mut Handle, peer: &mut Handle
     let number = match replace(handle, Handle::none()).into_box(alloc) {
         None => CLOSED,
         Some(mut replica) => {
-            let number = replica.merge(alloc, &other);
+            let number = replica.merge(&other);
             put_back(alloc, handle, replica);
             number
         }

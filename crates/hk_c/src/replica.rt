@@ -1,10 +1,11 @@
 //! A replica that answers requests, with what is cut off of its items, and its last reply.
 
-ghost use Rattle.std.specs.Prelude.{◌≡◌, ◌≢◌, [], Ok, Some, ⊤, MatchResult, IfOk, IfErr, OnOk, OnErr};
+ghost use Rattle.std.specs.Prelude.{◌≡◌, ◌≢◌, [], true, Ok, IfOk, IfErr, OnOk, OnErr};
+ghost use Rattle.hk_types.specs.FaultNumbers.{refusal_number};
 ghost use Rattle.hk_model.specs.Replica.Answers.{answer_seen, One, Rows, Number};
 ghost use Rattle.hk_model.specs.declared.query.Query.TheVariants.{Get, Count};
 ghost use Rattle.hk_session.specs.declared.ended.Ended.TheVariants.{ReadFault};
-ghost use Rattle.hk_c.specs.Calls.{Answered, Lists, Opened, WhyNot, asked_reply};
+ghost use Rattle.hk_c.specs.Calls.{Answered, IsNew, Lists, NotOpened, WhyNot, asked_reply, asks_rows};
 
 use crate::listing::put_rows;
 use hk_codec::Feeder;
@@ -26,7 +27,8 @@ pub struct Replica {
 impl Replica {
     /// A replica of this log, that took nothing.
     pub(crate) fn new(alloc: Global, log: u64, streams: u16) -> Result<Replica, Refusal>
-        ensures { MatchResult result (λ r. Opened (Some r) log streams 0) (λ _. ⊤) }
+        ensures ok { IfOk result (λ r. IsNew r log streams) }
+        ensures err { IfErr result (λ why. NotOpened log streams (refusal_number why)) }
     {
         let config = Config::new(log, streams)?;
         let state = ReplicaState::new(alloc, config)?;
@@ -71,7 +73,8 @@ impl Replica {
     {
         match self.ask(alloc, time, &Query::Get { table, key })? {
             Answer::One(row) => Ok(row),
-            _none => Err(Refusal::Memory),
+            // A row is answered with a row.
+            Answer::Rows(_) | Answer::Number(_) => Err(Refusal::Memory),
         }
     }
 
@@ -82,22 +85,25 @@ impl Replica {
     {
         match self.ask(alloc, time, &Query::Count { table })? {
             Answer::Number(n) => Ok(n),
-            _none => Err(Refusal::Memory),
+            // A count is answered with a number.
+            Answer::One(_) | Answer::Rows(_) => Err(Refusal::Memory),
         }
     }
 
-    /// The rows that are answered to a query at a time.
+    /// The rows that are answered to a query for rows at a time.
     fn rows(&self, alloc: Global, time: u64, query: &Query) -> Result<Vec<(Key, Row)>, Refusal>
+        requires { asks_rows query.now ≡ true }
         ensures ok { IfOk result (λ rows. asked_reply self.now.host.content time query.now ≡ Ok (Rows rows.items)) }
         ensures err { IfErr result (WhyNot self.now.host.content time query.now) }
     {
         match self.ask(alloc, time, query)? {
             Answer::Rows(rows) => Ok(rows),
-            _none => Err(Refusal::Memory),
+            // Such a query is answered with rows.
+            Answer::One(_) | Answer::Number(_) => Err(Refusal::Memory),
         }
     }
 
-    /// Keeps the text of the rows that are answered, from a key on.
+    /// Keeps the text of the rows that are answered to a query for rows, from a key on.
     pub(crate) fn list(
         &mut self,
         alloc: Global,
@@ -105,6 +111,7 @@ impl Replica {
         query: &Query,
         low: Key,
     ) -> Result<(), Refusal>
+        requires { asks_rows query.now ≡ true }
         ensures ok { OnOk result (Lists self.old self.new time query.now low) }
         ensures err { IfErr result (WhyNot self.old.host.content time query.now) }
         ensures kept { OnErr result (self.new ≡ self.old) }

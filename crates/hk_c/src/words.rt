@@ -1,6 +1,6 @@
 //! Numbers in words.
 
-use hk_reasons::{Place, put_known};
+use hk_cli_reasons::{Place, put_known};
 use std::alloc::Global;
 
 /// What a number means and what to do, in a line; an empty one where no refusal has it, or memory ran out.

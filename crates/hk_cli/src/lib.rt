@@ -1,16 +1,16 @@
 //! What the program's commands do, over any reader and writers, and the lines that they print.
 #![tactic(auto)]
 
+mod link_reporter;
 mod notice;
 mod serve;
 mod stay;
-mod telling;
 
-pub use hk_commands::{
+pub use hk_cli_commands::{
     run_ask, run_at, run_explain, run_frames, run_front, run_items, run_rewrite, run_status,
     run_world,
 };
-pub use hk_lines::{Printed, line_of};
-pub use hk_remote::run_order;
+pub use hk_cli_lines::{Printed, line_of};
+pub use hk_cli_remote::run_order;
 pub use serve::run_serve;
 pub use stay::run_stay;

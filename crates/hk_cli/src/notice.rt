@@ -2,7 +2,7 @@
 
 ghost use Rattle.hk_cli.specs.Notices as spec;
 
-use hk_lines::Printed;
+use hk_cli_lines::Printed;
 use std::alloc::{AllocError, Global};
 
 /// What a node that serves links tells.
@@ -10,6 +10,8 @@ use std::alloc::{AllocError, Global};
 pub(crate) enum Notice {
     /// Links can be opened to this port.
     Listening(u16),
+    /// Links that send items and ask can be opened to this port.
+    Feeding(u16),
     /// Links that only read can be opened to this port.
     Reading(u16),
     /// A link ended, with this number.
@@ -22,6 +24,7 @@ impl Printed for Notice {
     fn print_to(&self, _alloc: Global, out: &mut String) -> Result<(), AllocError> {
         match self {
             Notice::Listening(port) => writeln!(out, "listening {port}"),
+            Notice::Feeding(port) => writeln!(out, "feeding {port}"),
             Notice::Reading(port) => writeln!(out, "reading {port}"),
             Notice::Ended(number) => writeln!(out, "ended {number}"),
         }

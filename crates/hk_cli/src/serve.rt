@@ -4,10 +4,10 @@ ghost use Rattle.std.specs.Prelude.{◌≡◌, ◌≤◌, IfOk};
 
 use crate::notice::Notice;
 use hk_cli_calls::IS_PROVED;
-use hk_commands::{Output, Stop};
+use hk_cli_commands::{Output, Stop};
+use hk_cli_reasons::Place;
 use hk_net::{NetFault, PartsBudget, serve_links};
 use hk_node::{NewList, NodeName, start};
-use hk_reasons::Place;
 use hk_session::Ended;
 use hk_types::{Config, Links, Refusal};
 use std::alloc::Global;

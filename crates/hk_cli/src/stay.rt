@@ -2,11 +2,11 @@
 
 ghost use Rattle.std.specs.Prelude.{◌≡◌, ◌<◌, ◌≤◌};
 
+use crate::link_reporter::{LinkReporter, Reports};
 use crate::notice::Notice;
 use crate::serve::{listener_of, new_list, stop_of, tell_unproved};
-use crate::telling::{Reports, Telling};
-use hk_cli_calls::{Level, Stay};
-use hk_commands::{Output, Stop};
+use hk_cli_calls::{Level, OtherPort, Stay};
+use hk_cli_commands::{Output, Stop};
 use hk_net::{Door, PartsBudget, serve_forever};
 use hk_node::{NewList, Node, NodeName, ReaderSeat, start};
 use hk_types::{Config, Refusal};
@@ -18,19 +18,44 @@ use std::rt::Clock;
 use std::sync::Wait;
 use std::thread::Threads;
 
-/// The listener of the links that only read, if there are any.
-fn reading_listener<R: Net<Listener = TcpListener, Stream = TcpStream>, W: Write, E: Write>(
+/// The listeners of the further ports, of those that there are.
+#[derive(Drop)]
+struct Listeners {
+    open: TcpListener,
+    feeding: Option<TcpListener>,
+    reading: Option<TcpListener>,
+}
+
+/// The listener of a further port, if there is one.
+fn other_listener<R: Net<Listener = TcpListener, Stream = TcpStream>, W: Write, E: Write>(
     rt: &R,
     stay: &Stay,
+    other: Option<OtherPort>,
     output: &mut Output<'_, W, E>,
 ) -> Result<Option<TcpListener>, Stop> {
-    match stay.reading {
+    match other {
         None => Ok(None),
-        Some(reading) => {
-            let listener = listener_of(rt, stay.address, reading.port, output)?;
+        Some(other) => {
+            let listener = listener_of(rt, stay.address, other.port, output)?;
             Ok(Some(listener))
         }
     }
+}
+
+/// The listeners of all ports.
+fn listeners_of<R: Net<Listener = TcpListener, Stream = TcpStream>, W: Write, E: Write>(
+    rt: &R,
+    stay: &Stay,
+    output: &mut Output<'_, W, E>,
+) -> Result<Listeners, Stop> {
+    let open = listener_of(rt, stay.address, stay.port, output)?;
+    let feeding = other_listener(rt, stay, stay.feeding, output)?;
+    let reading = other_listener(rt, stay, stay.reading, output)?;
+    Ok(Listeners {
+        open,
+        feeding,
+        reading,
+    })
 }
 
 /// A door as its node has them: which messages its links are answered in, and whether changes are told.
@@ -50,40 +75,77 @@ fn furnished<'d, J: NodeName, N: Wait + Drop>(
     }
 }
 
-/// A place for each seat: the first of them behind the open door, the others behind the reading one.
+/// How many links a further port serves at once.
+fn links_of(other: Option<OtherPort>) -> usize
+    ensures { result ≤ 64 }
+{
+    match other {
+        Some(other) => other.links.count(),
+        None => 0,
+    }
+}
+
+/// The door of the place with this number: the first places are behind the open door, the next ones behind that for feeders, the others
+/// behind the reading one.
+fn door_of<'d, J: NodeName, N: Wait + Drop>(
+    node: &'d Node<J, N>,
+    stay: &Stay,
+    listeners: &'d Listeners,
+    place: usize,
+) -> Door<'d, J, N> {
+    let seconds = stay.read_seconds;
+    if place < stay.links.count() {
+        return Door::open(&listeners.open, node, seconds);
+    }
+    if place < stay.links.count() + links_of(stay.feeding) {
+        if let Some(listener) = &listeners.feeding {
+            return Door::feeding(listener, node, seconds);
+        }
+    }
+    match &listeners.reading {
+        Some(listener) => Door::reading(listener, seconds),
+        // No place has this number: there are as many seats as links.
+        None => Door::open(&listeners.open, node, seconds),
+    }
+}
+
+/// A place for each seat.
 fn places_of<'d, J: NodeName, N: Wait + Drop>(
     alloc: Global,
     node: &'d Node<J, N>,
     seats: Vec<ReaderSeat<J>>,
     stay: &Stay,
-    listener: &'d TcpListener,
-    reading: &'d Option<TcpListener>,
+    listeners: &'d Listeners,
     budget: Option<&'d PartsBudget>,
 ) -> Result<Vec<(Door<'d, J, N>, ReaderSeat<J>)>, Refusal> {
     let mut places = Vec::with_capacity(alloc, seats.len())?;
     for seat in seats {
-        let door = match reading {
-            Some(listener) if places.len() >= stay.links.count() => {
-                Door::reading(listener, stay.read_seconds)
-            }
-            _ => Door::open(listener, node, stay.read_seconds),
-        };
+        let door = door_of(node, stay, listeners, places.len());
         places.push((furnished(door, stay, budget), seat))?;
     }
     Ok(places)
 }
 
-/// How many seats a node has: one for each of its links, of both kinds, and one for what is told of its front; at most as many
+/// How many seats a node has: one for each of its links, of all kinds, and one for what is told of its front; at most as many
 /// as it may have.
 fn seats_wanted(stay: &Stay) -> usize
     ensures { (0 < result) × (result ≤ 64) }
 {
-    let reading = match stay.reading {
-        Some(reading) => reading.links.count(),
-        None => 0,
-    };
-    let telling = if stay.report_changes == 0 { 0 } else { 1 };
-    (stay.links.count() + reading + telling).min(64)
+    let reporter = if stay.report_changes == 0 { 0 } else { 1 };
+    let others = links_of(stay.feeding) + links_of(stay.reading);
+    (stay.links.count() + others + reporter).min(64)
+}
+
+/// Tells that links can be opened, and to which ports.
+fn tell_ports<W: Write, E: Write>(stay: &Stay, output: &mut Output<'_, W, E>) -> Result<(), Stop> {
+    output.print(&Notice::Listening(stay.port))?;
+    if let Some(feeding) = stay.feeding {
+        output.print(&Notice::Feeding(feeding.port))?;
+    }
+    if let Some(reading) = stay.reading {
+        output.print(&Notice::Reading(reading.port))?;
+    }
+    output.flush()
 }
 
 /// Serves links to a new node of this list without an end.
@@ -101,34 +163,21 @@ fn stay_list<
 ) -> Result<(), Stop>
     requires { list ≡ (J.book, J.kind) }
 {
-    let listener = listener_of(rt, stay.address, stay.port, output)?;
-    let reading = reading_listener(rt, stay, output)?;
+    let listeners = listeners_of(rt, stay, output)?;
     let (node, mut seats) = start::<J, &R>(rt, alloc, list, seats_wanted(stay))?;
     let reports = match stay.report_changes {
         0 => None,
         every => seats.pop().map(|seat| Reports::new(seat, every)),
     };
     let budget = stay.parts_bytes.map(PartsBudget::new);
-    let places = places_of(
-        alloc,
-        &node,
-        seats,
-        stay,
-        &listener,
-        &reading,
-        budget.as_ref(),
-    )?;
-    output.print(&Notice::Listening(stay.port))?;
-    if let Some(reading) = stay.reading {
-        output.print(&Notice::Reading(reading.port))?;
-    }
-    output.flush()?;
-    let mut telling = Telling::new(alloc, output, stay.level, reports);
-    serve_forever(rt, alloc, places, &mut telling).map_err(stop_of)
+    let places = places_of(alloc, &node, seats, stay, &listeners, budget.as_ref())?;
+    tell_ports(stay, output)?;
+    let mut reporter = LinkReporter::new(alloc, output, stay.level, reports);
+    serve_forever(rt, alloc, places, &mut reporter).map_err(stop_of)
 }
 
 /// Starts a node of a log, and serves links to it without an end: a place is given back when its link ends. Prints `listening`
-/// and the port once links can be opened, `reading` and the other port where there is one, and `ended` and its number for
+/// and the port once links can be opened, `feeding` and `reading` and a further port where there is one, and `ended` and its number for
 /// each link when it ends.
 ///
 /// It ends, and the status is 1, only where one of these happens: `refused 93` where a port can't be listened to,

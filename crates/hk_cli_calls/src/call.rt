@@ -7,7 +7,7 @@ use hk_types::{Config, Key, Links, Table, Time};
 
 /// The form of what a command prints.
 #[derive(Clone, Copy)]
-pub enum Form {
+pub enum OutputForm {
     /// Lines of words and numbers.
     Lines,
     /// Lines of JSON.
@@ -31,17 +31,17 @@ pub enum Alone {
         config: Config,
         time: Time,
         query: Query,
-        form: Form,
+        form: OutputForm,
     },
     /// Absorb item frames, and print from where to where can be read.
     Front {
         config: Config,
-        form: Form,
+        form: OutputForm,
     },
     /// Absorb item frames, and print how far each stream is.
     Status {
         config: Config,
-        form: Form,
+        form: OutputForm,
     },
     /// Print what the number of a refusal means, or what all mean.
     Explain {
@@ -49,7 +49,7 @@ pub enum Alone {
     },
     /// Print item frames.
     Items {
-        form: Form,
+        form: OutputForm,
     },
     /// Write the frames of items in JSON.
     Frames,

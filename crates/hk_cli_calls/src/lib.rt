@@ -6,7 +6,7 @@ mod node;
 mod serving;
 mod version;
 
-pub use call::{Alone, Call, Form};
+pub use call::{Alone, Call, OutputForm};
 pub use node::{Limits, NodeCall, Order};
-pub use serving::{Level, ReadPort, Stay};
+pub use serving::{Level, OtherPort, Stay};
 pub use version::{IS_PROVED, VERSION};

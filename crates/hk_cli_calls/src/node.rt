@@ -1,6 +1,6 @@
 //! What a node that runs is asked to do.
 
-use crate::call::Form;
+use crate::call::OutputForm;
 use hk_model::Query;
 use hk_types::Time;
 
@@ -17,20 +17,20 @@ pub enum Order {
     Ask {
         time: Option<Time>,
         query: Query,
-        form: Form,
+        form: OutputForm,
     },
     /// To tell from where to where it can be read.
     Front {
-        form: Form,
+        form: OutputForm,
     },
     /// To tell how far each stream is.
     Status {
-        form: Form,
+        form: OutputForm,
     },
     /// To hand out all that it holds: in bytes, the frame of a request that hands it to a node, or those of its parts where one
     /// message has no room for it; or lines of JSON.
     Save {
-        form: Form,
+        form: OutputForm,
     },
     /// To take the fragments of the input, whole or in parts, as `Save` hands them out in bytes.
     Load,
@@ -51,12 +51,12 @@ pub enum Order {
 
 impl Order {
     /// The form of what is printed.
-    pub fn form(&self) -> Form {
+    pub fn form(&self) -> OutputForm {
         match self {
             Order::Ask { form, .. } | Order::Front { form } => *form,
             Order::Status { form } | Order::Save { form } => *form,
-            Order::Push { .. } | Order::Shell | Order::Load => Form::Lines,
-            Order::Pull { .. } | Order::Prune { .. } | Order::Feed { .. } => Form::Lines,
+            Order::Push { .. } | Order::Shell | Order::Load => OutputForm::Lines,
+            Order::Pull { .. } | Order::Prune { .. } | Order::Feed { .. } => OutputForm::Lines,
         }
     }
 }

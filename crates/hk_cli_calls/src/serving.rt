@@ -14,9 +14,9 @@ pub enum Level {
     Changes,
 }
 
-/// A second port of a node that stays: its links only read.
+/// A further port of a node that stays, whose links may do less.
 #[derive(Clone, Copy, Debug, PartialEq, Eq)]
-pub struct ReadPort {
+pub struct OtherPort {
     /// The port.
     pub port: u16,
     /// How many links to it are served at once.
@@ -32,8 +32,10 @@ pub struct Stay {
     pub port: u16,
     /// How many links to that port are served at once.
     pub links: Links,
+    /// The port for links that send items and ask, if there is one.
+    pub feeding: Option<OtherPort>,
     /// The port for links that only read, if there is one.
-    pub reading: Option<ReadPort>,
+    pub reading: Option<OtherPort>,
     /// How many seconds a read inside a frame is waited for; 0 is no limit.
     pub read_seconds: u64,
     /// Whether each change is tested before it is added, so that none damages the node.

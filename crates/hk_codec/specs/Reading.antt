@@ -9,7 +9,7 @@ use Rattle.hk_log.specs.Items.{EntryValue, MarkValue, end_place, row_place, is_a
 use Rattle.hk_log.specs.declared.item.Item.{Item}
 use Rattle.hk_log.specs.declared.item.Item.TheVariants.{Commit, Closed}
 use Rattle.hk_frames.specs.Fields.{◌>>=◌, check, byte_at, number_at, body_at, list_at}
-use Rattle.hk_codec.specs.declared.reading.Head.{Head}
+use Rattle.hk_codec.specs.declared.reading.FrameHead.{FrameHead}
 use Rattle.hk_codec.specs.Encoding.{WrittenItem}
 use Rattle.hk_codec.specs.Lists.{groups_at}
 
@@ -119,7 +119,7 @@ pub record HeadValue : Type 0 where
   pub stream : ℕ
 
 -- what is seen of a head
-abbrev pub head_seen : Head → HeadValue
+abbrev pub head_seen : FrameHead → HeadValue
 head_seen head = record { version = head.version; kind = head.kind; log = head.log; stream = head.stream }
 
 -- what an entry has behind this head

@@ -143,7 +143,7 @@ fn read_mark(cursor: &mut Cursor, log: u64, stream: StreamNo) -> Result<Mark, Fo
 
 /// What the first bytes of a rest say.
 #[derive(Clone, Copy)]
-struct Head {
+struct FrameHead {
     version: u8,
     kind: u8,
     log: u64,
@@ -151,7 +151,7 @@ struct Head {
 }
 
 #[tactic(auto, unfolding(crate::specs::Reading::head_at))]
-fn read_head(cursor: &mut Cursor) -> Result<Head, FormFault>
+fn read_head(cursor: &mut Cursor) -> Result<FrameHead, FormFault>
     ensures { GivesValue (λ x. (spec.head_seen x, cursor.new)) result (spec.head_at cursor.old) }
 {
     let version = cursor.u8()?;
@@ -164,7 +164,7 @@ fn read_head(cursor: &mut Cursor) -> Result<Head, FormFault>
     }
     let log = cursor.u64()?;
     let stream = StreamNo::new(cursor.u16()?)?;
-    Ok(Head {
+    Ok(FrameHead {
         version,
         kind,
         log,
@@ -173,7 +173,7 @@ fn read_head(cursor: &mut Cursor) -> Result<Head, FormFault>
 }
 
 #[tactic(auto, unfolding(crate::specs::Reading::entry_at))]
-fn read_entry(alloc: Global, cursor: &mut Cursor, head: Head) -> Result<Entry, ReadError>
+fn read_entry(alloc: Global, cursor: &mut Cursor, head: FrameHead) -> Result<Entry, ReadError>
     requires bytes { IsBytes cursor.old }
     requires version { (head.version ≡ 1) ⊎ (head.version ≡ 2) }
     ensures { GivesOrRunsOut (λ x. (x, cursor.new)) result (spec.entry_behind (spec.head_seen head) cursor.old) }
@@ -187,7 +187,7 @@ fn read_entry(alloc: Global, cursor: &mut Cursor, head: Head) -> Result<Entry, R
 
 /// Reads what stands behind the head.
 #[tactic(auto, unfolding(crate::specs::Reading::kind_at))]
-fn read_kind(alloc: Global, cursor: &mut Cursor, head: Head) -> Result<Item, ReadError>
+fn read_kind(alloc: Global, cursor: &mut Cursor, head: FrameHead) -> Result<Item, ReadError>
     requires bytes { IsBytes cursor.old }
     requires version { (head.version ≡ 1) ⊎ (head.version ≡ 2) }
     ensures { GivesOrRunsOut (λ x. (x, cursor.new)) result (spec.kind_at (spec.head_seen head) cursor.old) }

@@ -1,12 +1,13 @@
 -- Items absorbed one after the other: what is learnt of them, and what a join of their fragment leaves.
-use Rattle.std.proofs.Common.{◌≡◌, refl, sym, ap, ◌∙◌, subst, ℕ, ◌-◌, Bool, true, false, cond, not, ◌&&◌, ◌||◌, ◌==◌, Option, Some, None, List, [], ◌∷◌, ◌++◌, length, get_or, zero, suc, ◌<◌, ◌≤◌, max, arith, nat_le, nat_lt, Result, Ok, Err, ◌⊎◌, inl, inr, true≢false, leb-false, eq-eqb}
-use Rattle.std.proofs.lemmas.Bool.{lt-leb, lt-ltb, or_parts, eqb-true}
+use Rattle.std.proofs.Common.{◌≡◌, refl, sym, ap, ◌∙◌, subst, ℕ, ◌-◌, Bool, true, false, cond, not, ◌&&◌, ◌||◌, ◌==◌, Option, Some, None, List, [], ◌∷◌, ◌++◌, length, get_or, zero, suc, ◌<◌, ◌≤◌, max, arith, nat_le, nat_lt, Result, Ok, Err, ◌⊎◌, inl, inr, true≢false, leb-false, leb-true, le-leb, eq-eqb}
+use Rattle.std.proofs.lemmas.Bool.{lt-leb, lt-ltb, le-ltb, and_parts, or_parts, eqb-true}
+use Rattle.std.specs.List.{list_any}
 use Rattle.std.proofs.lemmas.List.{append-nil, append_assoc}
 use Rattle.std.proofs.lemmas.List.Elements.{All-nil, All-cons, All-append}
 use Rattle.std.specs.FinMap as finmap
 use Rattle.hk_types.specs.Values.{RowValue, ConfigValue, same_row}
 use Rattle.hk_types.specs.declared.faults.Refusal.{Refusal}
-use Rattle.hk_types.specs.declared.faults.Refusal.TheVariants.{ForeignLog, WrongStreams, Gap, Conflict, Memory}
+use Rattle.hk_types.specs.declared.faults.Refusal.TheVariants.{ForeignLog, WrongStreams, Gap, Conflict, AheadOfMark, Memory}
 use Rattle.hk_types.specs.declared.version_key.VersionKey.{VersionKey}
 use Rattle.hk_log.specs.Items.{EntryValue}
 use Rattle.hk_log.specs.declared.item.Item.{Item}
@@ -21,10 +22,16 @@ use Rattle.hk_model.specs.Replica.Items.{wrong_log}
 use Rattle.hk_model.specs.Replica.Lawful.{IsItem, IsLawful}
 use Rattle.hk_model.specs.Replica.Maps.{values_conflict, union, maps_conflict}
 use Rattle.hk_model.specs.Replica.Replicas.{content_after_take}
-use Rattle.hk_model.specs.Replica.Rules.{took, take_result, take_result_unless, absorb_result, entry_conflicts, with_items, join_result, content_after_join, contents_conflict}
+use Rattle.hk_model.specs.Replica.Rules.{prune_result, took, take_result, take_result_unless, absorb_result, entry_conflicts, with_items, join_result, content_after_join, contents_conflict}
+use Rattle.hk_model.specs.Replica.Touches.{row_is_late, end_is_late, join_touches_past}
 use Rattle.hk_model.specs.Replica.Streams.{StreamContent, stream_at, streams_of, all_together, unknown}
 use Rattle.hk_model.proofs.Replica.Changes.{no_more_facts, same_if_outcome}
-use Rattle.hk_model.proofs.Replica.Lawful.{taken_keeps, fits_within}
+use Rattle.hk_model.proofs.Replica.Chains.{key_row}
+use Rattle.hk_model.proofs.Replica.Lawful.{closer, taken_keeps, fits_within}
+use Rattle.hk_model.proofs.Replica.Past.{past_itself}
+use Rattle.hk_model.proofs.Replica.Touches.{prune_untouched}
+use Rattle.hk_model.proofs.Replica.Visible.{any_where, not_from}
+use Rattle.hk_merge.proofs.LateFacts.{none_stray}
 use Rattle.hk_model.proofs.History.Logs.{fact_row, fact_end, row_born, end_dead, row_found, end_found}
 use Rattle.hk_model.proofs.Replica.Maps.{version_key_total, version_key_same, get-retain, get-without_ended, no_entry_conflict}
 use Rattle.hk_model.proofs.Replica.Members.{In}
@@ -112,7 +119,7 @@ module _ (c : Content) (lawful : IsLawful c) where
   pub none_agree : DoAgree c []
   none_agree = record {
     each = All-nil IsItem;
-    late = All-nil (IsAbove c.horizon);
+    late = All-nil (IsAbove (readable c));
     rows = no_conflict_with_none same_row c.rows;
     ends = no_conflict_with_none (λ a b. a == b) c.ends;
   }
@@ -171,11 +178,11 @@ module _ (c : Content) (lawful : IsLawful c) where
               ∙ ap (λ b. cond b (Err Conflict) (Ok (Taken, with_items (after items) (Commit e ∷ [])))) (conflicts_same e ∙ clear)
           by (Closed m) t clear = absurd (true≢false (sym clear))
 
-      -- an entry that is taken is above the horizon
-      is_above : IsItem x → contradicts c n x ≡ false → IsAbove c.horizon x
+      -- an entry that is taken is above the readable mark
+      is_above : IsItem x → contradicts c n x ≡ false → IsAbove (readable c) x
       is_above w clear = by x w fits_here clear
         where
-          by : (x : Item) → IsItem x → wrong_log c.log (length (after items).streams) x ≡ None → contradicts c n x ≡ false → IsAbove c.horizon x
+          by : (x : Item) → IsItem x → wrong_log c.log (length (after items).streams) x ≡ None → contradicts c n x ≡ false → IsAbove (readable c) x
           by (Closed m) w f clear = tt
           by (Commit e) w f clear =
               let test = (or_parts (maps_conflict same_row (after items).rows (rows_of (Commit e ∷ [])) || maps_conflict (λ a b. a == b) (after items).ends (ends_of (Commit e ∷ []))) (nat_le e.time (stream_at (after items).streams e.stream).closed) (conflicts_same e ∙ clear)).1 in
@@ -183,7 +190,7 @@ module _ (c : Content) (lawful : IsLawful c) where
               let first = w.stream_least in
               let within = fits_within c.log (length (after items).streams) (Commit e) f in
               let least = least_at (after items).streams (e.stream - 1) (omega arith) in
-              let reach = own.in_reach in
+              let nearer = (closer c.streams (streams_of (length c.streams) items) (sym (count_streams (length c.streams) items))).0 in
               omega arith
 
       -- it agrees with the content, as the others do
@@ -192,7 +199,7 @@ module _ (c : Content) (lawful : IsLawful c) where
           let now = facts_agree x clear in
           record {
             each = All-append IsItem items (x ∷ []) agree.each (All-cons IsItem x [] w (All-nil IsItem));
-            late = All-append (IsAbove c.horizon) items (x ∷ []) agree.late (All-cons (IsAbove c.horizon) x [] (is_above w clear) (All-nil (IsAbove c.horizon)));
+            late = All-append (IsAbove (readable c)) items (x ∷ []) agree.late (All-cons (IsAbove (readable c)) x [] (is_above w clear) (All-nil (IsAbove (readable c))));
             rows = ap (maps_conflict same_row c.rows) (sym (rows_both items (x ∷ []))) ∙ still_agrees same_row c.rows (rows_of items) (rows_of (x ∷ [])) agree.rows now.0;
             ends = ap (maps_conflict (λ a b. a == b) c.ends) (sym (ends_both items (x ∷ []))) ∙ still_agrees (λ a b. a == b) c.ends (ends_of items) (ends_of (x ∷ [])) agree.ends now.1;
           }
@@ -299,13 +306,13 @@ module _ (c : Content) (lawful : IsLawful c) where
   config = record { log = c.log; streams = length c.streams }
 
   module _ (items : List Item) (agree : DoAgree c items) where
-    late : (e : EntryValue) → In (Commit e) items → c.horizon < e.time
-    late e i = All_In (IsAbove c.horizon) items agree.late (Commit e) i
+    late : (e : EntryValue) → In (Commit e) items → readable c < e.time
+    late e i = All_In (IsAbove (readable c)) items agree.late (Commit e) i
 
-    late_row : (v : VersionKey) (r : RowValue) → finmap.get (rows_of items) v ≡ Some r → c.horizon < v.born
+    late_row : (v : VersionKey) (r : RowValue) → finmap.get (rows_of items) v ≡ Some r → readable c < v.born
     late_row v r e = let f = fact_row v r items (row_found items v r e) in let b = row_born v r f.0 f.2 in let l = late f.0 f.1 in omega arith
 
-    late_end : (v : VersionKey) (d : ℕ) → finmap.get (ends_of items) v ≡ Some d → c.horizon < d
+    late_end : (v : VersionKey) (d : ℕ) → finmap.get (ends_of items) v ≡ Some d → readable c < d
     late_end v d e = let f = fact_end v d items (end_found items v d e) in let b = end_dead v d f.0 f.2 in let l = late f.0 f.1 in omega arith
 
     abbrev sent : FragmentValue
@@ -330,6 +337,7 @@ module _ (c : Content) (lawful : IsLawful c) where
         get-retain version_key_total version_key_same (rows_of items) (λ v. nat_lt (max c.horizon 0) v.born || ((0 == 0) && (0 == max c.horizon 0))) v
         ∙ kept_all (nat_lt (max c.horizon 0) v.born || ((0 == 0) && (0 == max c.horizon 0))) (finmap.get (rows_of items) v) (λ r e.
         let l = late_row v r e in
+        let reach = lawful.in_reach in
         let above : max c.horizon 0 < v.born = omega arith in
         ap (λ b. b || ((0 == 0) && (0 == max c.horizon 0))) (lt-ltb (max c.horizon 0) v.born above)))
 
@@ -338,7 +346,7 @@ module _ (c : Content) (lawful : IsLawful c) where
       log = c.log;
       horizon = no_rise i;
       rows = union (own_rows i) (sent_rows i);
-      ends = union (all_left (max c.horizon 0) c.ends (λ v d e. let a = lawful.end_above v d e in omega arith) i) (all_left (max c.horizon 0) (ends_of items) (λ v d e. let a = late_end v d e in omega arith) i);
+      ends = union (all_left (max c.horizon 0) c.ends (λ v d e. let a = lawful.end_above v d e in omega arith) i) (all_left (max c.horizon 0) (ends_of items) (λ v d e. let a = late_end v d e in let reach = lawful.in_reach in omega arith) i);
       streams = all_together c.streams (streams_of (length c.streams) items);
     }
 
@@ -355,5 +363,34 @@ module _ (c : Content) (lawful : IsLawful c) where
     pub joins : join_result c (part config items 0 0) ≡ Ok (after items)
     joins = ap (join_result c) (part_is config items agree.each) ∙ sent_joins
 
-  pub all_agree : (items : List Item) (n : News) (f : FragmentValue) → IsLearnt c items n → f ≡ fragment_of_taken c items → (f ≡ fragment_of_taken c items) × ((d : Content) × (absorb_all c items ≡ Ok d) × (join_result c f ≡ Ok d))
-  all_agree items n f l is = (is, (after (taken_items c items), l.absorbed, ap (join_result c) is ∙ joins (taken_items c items) l.agree))
+    -- it brings nothing up to the readable mark, and the horizon stays
+    untouched : join_touches_past c sent ≡ false
+    untouched =
+        let rows = not_from (list_any (row_is_late c sent) (finmap.keys (rows_of items))) (λ y.
+        let w = any_where (row_is_late c sent) (finmap.keys (rows_of items)) y in
+        let x = key_row (rows_of items) w.0 w.1 in
+        let l = late_row w.0 x.0 x.1 in
+        let soon = leb-true w.0.born (readable c) (and_parts (nat_le w.0.born (readable c)) _ w.2).0 in
+        omega arith)
+        in
+        let ends = not_from (list_any (end_is_late c sent) (finmap.keys (ends_of items))) (λ y.
+        let w = any_where (end_is_late c sent) (finmap.keys (ends_of items)) y in
+        let x = key_row (ends_of items) w.0 w.1 in
+        let l = late_end w.0 x.0 x.1 in
+        let soon = leb-true x.0 (readable c) (ap (at_most (readable c)) (sym x.1) ∙ (and_parts (at_most (readable c) (finmap.get (ends_of items) w.0)) _ w.2).0) in
+        omega arith)
+        in
+        (λ i. nat_le (max c.horizon 0) (readable c) && ((rows i || ends i) || (none_stray c sent (ap (λ b. b && (0 == 0)) (no_gap_at_0 c.horizon)) i || (prune_untouched c (max c.horizon 0) c lawful stays).1 (past_itself c) i)))
+        ∙ and_none (nat_le (max c.horizon 0) (readable c))
+      where
+        and_none : (b : Bool) → (b && false) ≡ false
+        and_none true = refl
+        and_none false = refl
+
+        stays : prune_result c (max c.horizon 0) ≡ Ok c
+        stays =
+            let reach = lawful.in_reach in
+            λ i. cond (le-ltb (readable c) (max c.horizon 0) (omega arith) i) (Err (AheadOfMark (readable c))) (cond (le-leb (max c.horizon 0) c.horizon (omega arith) i) (Ok c) (Ok (record c { horizon = max c.horizon 0; rows = without_ended c.ends (max c.horizon 0) c.rows; ends = without_ended c.ends (max c.horizon 0) c.ends })))
+
+    pub touches_not : join_touches_past c (part config items 0 0) ≡ false
+    touches_not = ap (join_touches_past c) (part_is config items agree.each) ∙ untouched

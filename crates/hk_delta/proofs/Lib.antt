@@ -9,3 +9,4 @@ pub mod UnionOfLists
 pub mod StreamsInTurn
 pub mod MapsInConflict
 pub mod AgreedItems
+pub mod ComparedRepeats

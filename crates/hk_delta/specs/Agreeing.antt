@@ -9,13 +9,14 @@ use Rattle.hk_log.specs.declared.item.Item.TheVariants.{Commit, Closed}
 use Rattle.hk_model.specs.declared.took.Took.{Took}
 use Rattle.hk_model.specs.declared.took.Took.TheVariants.{Taken, Repeated}
 use Rattle.hk_model.specs.History.Facts.{rows_of, ends_of}
-use Rattle.hk_model.specs.Replica.Content.{Content}
+use Rattle.hk_model.specs.Replica.Content.{Content, readable}
 use Rattle.hk_model.specs.Replica.Fragments.{FragmentValue, part}
 use Rattle.hk_model.specs.Replica.Items.{wrong_log}
 use Rattle.hk_model.specs.Replica.Lawful.{IsItem, IsLawful}
 use Rattle.hk_model.specs.Replica.Maps.{union, maps_conflict}
 use Rattle.hk_model.specs.Replica.Replicas.{content_after_take}
 use Rattle.hk_model.specs.Replica.Rules.{took, take_result, with_items, join_result}
+use Rattle.hk_model.specs.Replica.Touches.{join_touches_past}
 use Rattle.hk_model.specs.Replica.Streams.{StreamContent, stream_at, streams_of, all_together, adds_nothing}
 use Rattle.hk_store.specs.Facts.{FactsValue, conflicts_with_entry}
 use Rattle.hk_store.specs.Reads.{facts_of_content}
@@ -52,10 +53,10 @@ taken_items c (item ∷ items) = if_taken (took c item) item ++ taken_items (con
 abbrev pub fragment_of_taken : Content → List Item → FragmentValue
 fragment_of_taken c items = part (record { log = c.log; streams = length c.streams }) (taken_items c items) 0 0
 
--- the fragment of what the items tell, whose join leaves what absorbing them leaves; or it was refused as the first item that
--- is refused is; or memory ran out
+-- the fragment of what the items tell, whose join leaves what absorbing them leaves, and does not touch the past; or it was
+-- refused as the first item that is refused is; or memory ran out
 abbrev pub Agrees : Content → List Item → Result FragmentValue Refusal → Type 0
-Agrees c items (Ok f) = (f ≡ fragment_of_taken c items) × ((d : Content) × (absorb_all c items ≡ Ok d) × (join_result c f ≡ Ok d))
+Agrees c items (Ok f) = (f ≡ fragment_of_taken c items) × ((d : Content) × (absorb_all c items ≡ Ok d) × (join_result c f ≡ Ok d) × (join_touches_past c f ≡ false))
 Agrees c items (Err why) = (absorb_all c items ≡ Err why) ⊎ (why ≡ Memory)
 
 -- ---- what is learnt on the way
@@ -93,10 +94,10 @@ abbrev pub IsAbove : ℕ → Item → Type 0
 IsAbove h (Commit e) = h < e.time
 IsAbove h (Closed m) = Unit {0}
 
--- items that contradict a content nowhere, with the entries above its horizon
+-- items that contradict a content nowhere, with the entries above its readable mark
 pub record DoAgree (c : Content) (items : List Item) : Type 0 where
   pub each : All IsItem items
-  pub late : All (IsAbove c.horizon) items
+  pub late : All (IsAbove (readable c)) items
   pub rows : maps_conflict same_row c.rows (rows_of items) ≡ false
   pub ends : maps_conflict (λ a b. a == b) c.ends (ends_of items) ≡ false
 

@@ -2,4 +2,5 @@ pub mod Agreeing
 pub mod Cuts
 pub mod Gathers
 pub mod Joins
+pub mod Repeats
 pub mod Unions

@@ -9,10 +9,12 @@ ghost use Rattle.hk_model.specs.Replica.Rules.{contents_conflict};
 ghost use Rattle.hk_store.specs.Versions.{value_conflicts_at};
 ghost use Rattle.hk_delta.specs.Agreeing as spec;
 ghost use Rattle.hk_delta.specs.Agreeing.{Agrees, Learns, LearnsAll, facts_with};
+ghost use Rattle.hk_delta.specs.Repeats.{AgreesSo};
 
 use crate::Fragment;
 use crate::cutting::left_of_all;
 use crate::gathering::note_item;
+use crate::repeats::some_stand_otherwise;
 use hk_log::{Item, Version};
 use hk_marks::Got;
 use hk_state::{ReplicaState, wrong_log};
@@ -111,7 +113,7 @@ fn learn_all(alloc: Global, state: &ReplicaState, items: &[Item]) -> Result<News
 }
 
 /// The fragment of those of the items that tell a state something new, with base 0 and horizon 0. Joining it leaves what
-/// absorbing the items one after the other leaves.
+/// absorbing the items one after the other leaves, and does not touch the state's past.
 ///
 /// The first item that an absorb would refuse is refused as there: of another log `ForeignLog`, of a stream above the
 /// configured number `WrongStreams`, and one that contradicts the state or an item before it `Conflict`. `Memory` comes
@@ -122,7 +124,24 @@ fn learn_all(alloc: Global, state: &ReplicaState, items: &[Item]) -> Result<News
 pub fn agreed(alloc: Global, state: &ReplicaState, items: &[Item]) -> Result<Fragment, Refusal>
     ensures { Agrees state.now items.now result }
 {
+    agreed_so(alloc, state, items, false)
+}
+
+/// The same, where `compared` so that no entry that is told again passes as another: it is `Conflict` too where, of an
+/// entry of a time above the state's horizon, a row or an end is lacking in what absorbing leaves, or another; this comes
+/// after the refusals of all items. At or below the horizon nothing can be compared. Cost: that of `agreed`.
+pub fn agreed_so(
+    alloc: Global,
+    state: &ReplicaState,
+    items: &[Item],
+    compared: bool,
+) -> Result<Fragment, Refusal>
+    ensures { AgreesSo compared state.now items.now result }
+{
     let News { facts, got, .. } = learn_all(alloc, state, items)?;
+    if some_stand_otherwise(compared, state.facts(), &facts, state.horizon(), items) {
+        return Err(Refusal::Conflict);
+    }
     let left = left_of_all(alloc, Time::zero(), &facts)?;
     let beginning = Time::zero();
     let horizon = beginning;

@@ -6,9 +6,10 @@ mod conflicts;
 mod cutting;
 mod gathering;
 mod joining;
+mod repeats;
 mod uniting;
 
-pub use agreeing::{agreed, conflicts_with};
+pub use agreeing::{agreed, agreed_so, conflicts_with};
 pub use cutting::{delta_since, whole_of};
 pub use gathering::fragment_of;
 pub use hk_fragment::Fragment;

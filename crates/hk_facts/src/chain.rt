@@ -7,8 +7,8 @@ ghost use Rattle.hk_types.specs.declared.faults.Refusal.TheVariants.{Memory};
 ghost use Rattle.hk_facts.specs.declared.fact.Fact.TheVariants.{Row as RowFact, End as EndFact};
 ghost use Rattle.hk_facts.specs.Chains.{chain_put, chain_forget, chain_until, latest_at, row_at, is_after, FirstBorn, RefusesPut};
 
+use crate::chain_form::ChainForm;
 use crate::fact::{Fact, Part};
-use crate::form::Form;
 use crate::versions::ended_by;
 use hk_log::Version;
 use hk_types::{Refusal, Row, Time};
@@ -19,7 +19,7 @@ use std::marker::Model;
 /// itself, a few stand in a sorted list, and more than that in ordered maps.
 #[derive(Drop)]
 pub struct Chain {
-    form: Form,
+    form: ChainForm,
     alloc: Global,
 }
 
@@ -56,7 +56,7 @@ impl Chain {
         ensures { result ≡ finmap.empty }
     {
         Chain {
-            form: Form::One(None),
+            form: ChainForm::One(None),
             alloc,
         }
     }

@@ -2,9 +2,9 @@
 #![tactic(auto)]
 
 mod chain;
+mod chain_form;
 mod fact;
 mod few;
-mod form;
 mod list;
 mod order;
 mod others;

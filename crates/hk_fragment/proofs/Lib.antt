@@ -4,3 +4,4 @@ pub mod FragmentRules
 pub mod MergedLists
 pub mod BinarySearch
 pub mod UnionOfFragments
+pub mod RisingParts

@@ -1,2 +1,4 @@
 pub mod Parts
 pub mod Merging
+pub mod Heads
+pub mod Assemblies

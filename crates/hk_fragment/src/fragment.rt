@@ -47,7 +47,7 @@ impl Model for Fragment {
 }
 
 /// Whether a version comes after the one before it, where there is one.
-fn follows(before: Option<VersionKey>, version: VersionKey) -> bool
+pub(crate) fn follows(before: Option<VersionKey>, version: VersionKey) -> bool
     ensures { result ≡ spec.follows before version }
 {
     match before {
@@ -95,8 +95,8 @@ pub fn facts_fault(base: Time, horizon: Time, facts: &[(VersionKey, Version)]) -
     None
 }
 
-/// The same facts again.
-fn copy_facts(
+/// The same facts again. The only error is out of memory. Cost: O(n + b), n facts, b bytes of bodies that copies don't share.
+pub fn copy_facts(
     alloc: Global,
     facts: &[(VersionKey, Version)],
 ) -> Result<Vec<(VersionKey, Version)>, AllocError>

@@ -1,7 +1,7 @@
 -- What is expected where memory ran out.
 use Rattle.std.proofs.Common.{◌≡◌, refl, sym, ap, ◌∙◌, subst, ℕ, ◌<◌, ◌≤◌, ◌⊎◌, ltb-true, eqb-true, inl, inr, Bool, true, false, cond, not, true≢false, ◌==◌, length, nat_lt, List, [], ◌∷◌, ◌||◌, arith, Option, None, Some, Ok, Err, Result, MatchResult, OnErr}
 use Rattle.std.proofs.lemmas.Bool.Decides.{nat_tests}
-use Rattle.std.proofs.lemmas.Bool.{lt-ltb, le-ltb, eq-eqb}
+use Rattle.std.proofs.lemmas.Bool.{lt-ltb, le-ltb, ltb-false, eq-eqb}
 use Rattle.hk_types.specs.Values.{ConfigValue, same_row}
 use Rattle.hk_types.specs.declared.faults.Refusal.{Refusal}
 use Rattle.hk_types.specs.declared.faults.Refusal.TheVariants.{ForeignLog, WrongStreams, Gap, Conflict, TooOld, NotYet, Memory}
@@ -20,6 +20,7 @@ use Rattle.hk_model.specs.Replica.Maps.{or_else}
 use Rattle.hk_model.specs.History.Facts.{row_facts, end_facts}
 use Rattle.hk_model.specs.World.Worlds.{ToldValue, asked_primary, readable_on_primary, delta_join, outcome_by, outcome_of_batch, outcome_of_reply}
 use Rattle.hk_model.specs.World.Worlds.ToldValue.{Answered, Refused}
+use Rattle.hk_query.specs.Memory.{asking_may_lack, takes_memory}
 use Rattle.hk_laws.specs.Calls.{Gives, is_first, is_first_outcome, is_memory, is_memory_outcome}
 
 -- a refusal was passed on, or it was out of memory
@@ -81,28 +82,30 @@ batch_first c config items = by (first_wrong_log config items) (first_wrong_log_
 
 -- ---- questions and marks
 
--- a refused reply is none of those that are tested first, where memory ran out
-pub reply_first : (x : Result AnswerValue Refusal) (a : AnswerValue) (why : Refusal) → (x ≡ Err why) ⊎ ((why ≡ Memory) × (x ≡ Ok a)) → why ≡ Memory → is_first_outcome (outcome_of_reply x) ≡ false
-reply_first x a why (inl e) m = ap (λ y. is_first_outcome (outcome_of_reply y)) e ∙ ap is_first m
-reply_first x a why (inr p) m = ap (λ y. is_first_outcome (outcome_of_reply y)) p.1
+-- a refused reply is none of those that are tested first, nor one that takes no memory, where memory ran out
+lack_first : (x : Result AnswerValue Refusal) → asking_may_lack x ≡ true → is_first_outcome (outcome_of_reply x) ≡ false
+lack_first (Ok a) e = ap not e
+lack_first (Err why) e = absurd (true≢false (sym e))
 
--- a primary that ran out of memory was asked at a time that may be read
-pub asked_first : (config : ConfigValue) (history : History) (t : ℕ) (q : Query) (why : Refusal) → (readable_on_primary config history < t → why ≡ NotYet (readable_on_primary config history)) → why ≡ Memory → is_first_outcome (asked_primary config history t q) ≡ false
-asked_first config history t q why early m =
+-- so where the refusal was passed on as out of memory
+pub reply_err : (x : Result AnswerValue Refusal) (why : Refusal) (result : Result Told Refusal) → (why ≡ Memory → asking_may_lack x ≡ true) → Passes why result → OnErr result (is_first_outcome (outcome_of_reply x) ≡ false)
+reply_err x why (Ok outcome) lacks m = tt
+reply_err x why (Err e) lacks m = lack_first x (lacks m.1)
+
+-- a primary that ran out of memory was asked at a time that may be read, for an answer that takes some
+asked_first : (config : ConfigValue) (history : History) (t : ℕ) (q : Query) (why : Refusal) → (readable_on_primary config history < t → why ≡ NotYet (readable_on_primary config history))
+    → (t ≤ readable_on_primary config history → takes_memory (answer (table_at (commits history) t) q) ≡ true) → why ≡ Memory → is_first_outcome (asked_primary config history t q) ≡ false
+asked_first config history t q why early lacks m =
     let top = readable_on_primary config history in
     elim (nat_lt top t) as (λ b. nat_lt top t ≡ b → is_first_outcome (cond b (Refused (NotYet top)) (Answered (answer (table_at (commits history) t) q))) ≡ false) [
       | true ↦ λ e. let w = early (ltb-true top t e) in absurd (true≢false (sym (ap is_first w) ∙ ap is_first m))
-      | false ↦ λ e. refl
+      | false ↦ λ e. ap not (lacks (ltb-false top t e))
     ] refl
 
--- so where the refusal was passed on as out of memory
-pub reply_err : (x : Result AnswerValue Refusal) (a : AnswerValue) (why : Refusal) (result : Result Told Refusal) → (x ≡ Err why) ⊎ ((why ≡ Memory) × (x ≡ Ok a)) → Passes why result → OnErr result (is_first_outcome (outcome_of_reply x) ≡ false)
-reply_err x a why (Ok outcome) h m = tt
-reply_err x a why (Err e) h m = reply_first x a why h m.1
-
-pub asked_err : (config : ConfigValue) (history : History) (t : ℕ) (q : Query) (why : Refusal) (result : Result Told Refusal) → (readable_on_primary config history < t → why ≡ NotYet (readable_on_primary config history)) → Passes why result → OnErr result (is_first_outcome (asked_primary config history t q) ≡ false)
-asked_err config history t q why (Ok outcome) early m = tt
-asked_err config history t q why (Err e) early m = asked_first config history t q why early m.1
+pub asked_err : (config : ConfigValue) (history : History) (t : ℕ) (q : Query) (why : Refusal) (result : Result Told Refusal) → (readable_on_primary config history < t → why ≡ NotYet (readable_on_primary config history))
+    → (t ≤ readable_on_primary config history → takes_memory (answer (table_at (commits history) t) q) ≡ true) → Passes why result → OnErr result (is_first_outcome (asked_primary config history t q) ≡ false)
+asked_err config history t q why (Ok outcome) early lacks m = tt
+asked_err config history t q why (Err e) early lacks m = asked_first config history t q why early lacks m.1
 
 -- ---- deltas
 

@@ -1,9 +1,9 @@
 -- A step on contents is the step on the items for which they stand.
-use Rattle.std.proofs.Common.{◌≡◌, refl, sym, ap, ◌∙◌, subst, ℕ, Bool, true, false, true≢false, cond, nat_lt, ◌||◌, ◌==◌, Option, Some, None, List, [], ◌∷◌, ◌++◌, max, inl, inr}
+use Rattle.std.proofs.Common.{◌≡◌, refl, sym, ap, ◌∙◌, subst, ℕ, Bool, true, false, true≢false, not, cond, nat_lt, ◌||◌, ◌==◌, Option, Some, None, List, [], ◌∷◌, ◌++◌, max, inl, inr}
 use Rattle.hk_types.specs.Values.{ConfigValue}
 use Rattle.hk_types.specs.declared.faults.Refusal.TheVariants.{NoStream, Retired, NotYet, TooOld, Gap, AheadOfMark}
 use Rattle.hk_model.specs.Replica.Content.{Content}
-use Rattle.hk_model.specs.Replica.Answers.{answer}
+use Rattle.hk_model.specs.Replica.Answers.{AnswerValue, answer}
 use Rattle.hk_model.specs.declared.query.Query.{Query}
 use Rattle.hk_model.specs.History.Histories.{History, commits, is_retired, history_with_mark, table_at}
 use Rattle.hk_log.specs.Items.{MarkValue}
@@ -12,6 +12,7 @@ use Rattle.hk_model.specs.World.Worlds.{World, Replica, EventValue, ToldValue, A
 use Rattle.hk_model.specs.World.Worlds.EventValue.{Commit, MarkOf, Retire, Absorb, Batch, Prune, Merge, Delta, Ask, FrontOf}
 use Rattle.hk_model.specs.World.Worlds.ToldValue.{Done, Answered, Marked, Refused}
 use Rattle.hk_model.proofs.World.Runs.{step_law_proof}
+use Rattle.hk_query.specs.Memory.{takes_memory}
 use Rattle.hk_laws.specs.Calls.{Steps, StepsOf, is_first_outcome, may_lack}
 use Rattle.hk_laws.proofs.RefusedCommits.{commit_lacks}
 use Rattle.hk_laws.specs.Running.{Running}
@@ -40,10 +41,17 @@ outcome_only : (x : Option Replica) (tell : Replica → ToldValue) → ((r : Rep
 outcome_only None tell h = λ e. absurd (true≢false e)
 outcome_only (Some r) tell h = h r
 
+answered_only : (a : AnswerValue) → OnlyFirst (Answered a)
+answered_only a e = by (takes_memory a) e
+  where
+    by : (b : Bool) → not b ≡ false → b ≡ true
+    by true f = refl
+    by false f = absurd (true≢false f)
+
 asked_only : (config : ConfigValue) (history : History) (t : ℕ) (r : Replica) (q : Query) → OnlyFirst (asked_of config history r t q)
 asked_only config history t r q =
     either_only (nat_lt t r.horizon) (Refused (TooOld r.horizon)) (cond (nat_lt (readable_of config r) t) (Refused (NotYet (readable_of config r))) (Answered (answer (table_at (commits history) t) q))) (λ e. absurd (true≢false e))
-    (either_only (nat_lt (readable_of config r) t) (Refused (NotYet (readable_of config r))) (Answered (answer (table_at (commits history) t) q)) (λ e. absurd (true≢false e)) (λ e. refl))
+    (either_only (nat_lt (readable_of config r) t) (Refused (NotYet (readable_of config r))) (Answered (answer (table_at (commits history) t) q)) (λ e. absurd (true≢false e)) (answered_only (answer (table_at (commits history) t) q)))
 
 pruned_only : (config : ConfigValue) (h : ℕ) (r : Replica) → OnlyFirst (pruned_to config r h).0
 pruned_only config h r =
@@ -55,7 +63,7 @@ delta_only config base a b =
     (paired_only (nat_lt (readable_of config a) base) (Refused (Gap base (readable_of config a)), a) (Done, merged_with a b) (λ e. absurd (true≢false e)) (λ e. refl))
 
 primary_only : (config : ConfigValue) (history : History) (t : ℕ) (q : Query) → OnlyFirst (asked_primary config history t q)
-primary_only config history t q = either_only (nat_lt (readable_on_primary config history) t) (Refused (NotYet (readable_on_primary config history))) (Answered (answer (table_at (commits history) t) q)) (λ e. absurd (true≢false e)) (λ e. refl)
+primary_only config history t q = either_only (nat_lt (readable_on_primary config history) t) (Refused (NotYet (readable_on_primary config history))) (Answered (answer (table_at (commits history) t) q)) (λ e. absurd (true≢false e)) (answered_only (answer (table_at (commits history) t) q))
 
 marked_only : (config : ConfigValue) (w : World Replica) (m : MarkValue) → OnlyFirst (after_mark config w m).0
 marked_only config w m =
@@ -78,7 +86,7 @@ lack_of config w (Delta to from base) e = (acted_only w to (both (at_number w.re
 lack_of config w (Ask k t q) e =
     (either_only (k == 0) (asked_primary config w.history t q) (outcome_of (at_number w.replicas k) (λ r. (by_items config).ask w.history r t q)) (primary_only config w.history t q)
     (outcome_only (at_number w.replicas k) (λ r. (by_items config).ask w.history r t q) (λ r. asked_only config w.history t r q)) e)
-lack_of config w (FrontOf k) e = (outcome_only (at_number w.replicas k) (by_items config).front (λ r f. refl) e)
+lack_of config w (FrontOf k) e = (outcome_only (at_number w.replicas k) (by_items config).front (λ r f. absurd (true≢false f)) e)
 
 pub steps_of : (old new : Running) (event : EventValue) (outcome : ToldValue) → Steps old new event outcome → StepsOf old new event outcome
 steps_of old new event outcome (inl lacks) = λ items agree.

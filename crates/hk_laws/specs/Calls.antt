@@ -1,5 +1,5 @@
 -- What calls on a world, and on one of its replicas, tell and leave.
-use Rattle.std.specs.Prelude.{◌≡◌, ◌⊎◌, ℕ, Bool, true, false, ◌||◌, nat_lt, if◌then◌else◌, List, Option, Some, None, Result, Ok, Err, MatchResult}
+use Rattle.std.specs.Prelude.{◌≡◌, ◌⊎◌, ℕ, Bool, true, false, not, ◌||◌, nat_lt, if◌then◌else◌, List, Option, Some, None, Result, Ok, Err, MatchResult}
 use Rattle.std.specs.FinMap as finmap
 use Rattle.hk_types.specs.Values.{ConfigValue}
 use Rattle.hk_model.specs.History.Rows.{row_key_cmp}
@@ -13,7 +13,8 @@ use Rattle.hk_model.specs.declared.told.Told.{Told}
 use Rattle.hk_model.specs.Replica.Content.{Content}
 use Rattle.hk_model.specs.World.Events.{told_seen}
 use Rattle.hk_model.specs.World.Worlds.{World, Replica, EventValue, ToldValue, Agree, asked_primary, with_at_number, step, by_items}
-use Rattle.hk_model.specs.World.Worlds.ToldValue.{Refused}
+use Rattle.hk_model.specs.World.Worlds.ToldValue.{Refused, Fronted, Answered}
+use Rattle.hk_query.specs.Memory.{takes_memory}
 use Rattle.hk_primary.specs.Log.{PrimaryValue}
 use Rattle.hk_laws.specs.Running.{Running, step_outcome}
 
@@ -38,9 +39,11 @@ is_first (Gap base readable) = true
 is_first (AheadOfMark readable) = true
 is_first _ = false
 
--- whether such a refusal is told
+-- whether such a refusal is told, or what takes no memory: a front, a count, or that there is no such row
 abbrev pub is_first_outcome : ToldValue → Bool
 is_first_outcome (Refused why) = is_first why
+is_first_outcome (Fronted horizon readable) = true
+is_first_outcome (Answered a) = not (takes_memory a)
 is_first_outcome _ = false
 
 -- what was told, and what it left, are as expected; or memory ran out where no refusal is expected that is tested
@@ -100,8 +103,7 @@ Steps old new event outcome =
     (Lacks old new outcome × (is_first_outcome (step_outcome old event).0 ≡ false))
     ⊎ ((outcome ≡ (step_outcome old event).0) × (new ≡ (step_outcome old event).1) × (is_memory_outcome outcome ≡ false))
 
--- whether nothing is refused, or a transaction for what it writes: by its writes, a conflict, a row that is not there,
--- or a full clock
+-- whether a transaction is refused for what it writes: by its writes, a conflict, a row that is not there, or a full clock
 abbrev pub is_of_writes : Refusal → Bool
 is_of_writes TwiceWritten = true
 is_of_writes TooManyWrites = true
@@ -110,13 +112,16 @@ is_of_writes (NoRow table key) = true
 is_of_writes ClockFull = true
 is_of_writes _ = false
 
+-- whether such a refusal is told, or what takes memory
 abbrev pub may_lack : ToldValue → Bool
 may_lack (Refused why) = is_of_writes why
+may_lack (Fronted horizon readable) = false
+may_lack (Answered a) = takes_memory a
 may_lack _ = true
 
 -- where the replicas represent items, at their horizons, the event told what the definition on items gives, and
--- each replica represents its items after it; or it was told that memory ran out, where that definition refuses nothing, or
--- a transaction for what it writes
+-- each replica represents its items after it; or it was told that memory ran out, where that definition tells what takes
+-- memory, or refuses a transaction for what it writes
 abbrev pub StepsOf : Running → Running → EventValue → ToldValue → Type 0
 StepsOf old new event outcome =
     (items : World Replica) → Agree old.config items old.world →

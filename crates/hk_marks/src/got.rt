@@ -1,6 +1,6 @@
 //! What is known of all streams of a log.
 
-ghost use Rattle.std.specs.Prelude.{◌≡◌, ◌≤◌, ◌<◌, ◌^◌, ◌-◌, ◌==◌, ℕ, All, min, length, map, replicate, slice_set, IsOk, IfOk, OnOk, OnErr, IfErr};
+ghost use Rattle.std.specs.Prelude.{◌≡◌, ◌≤◌, ◌<◌, ◌^◌, ◌+◌, ◌-◌, ◌==◌, ℕ, true, All, min, length, map, replicate, slice_set, IsOk, IfOk, OnOk, OnErr, IfErr};
 ghost use Rattle.std.specs.FinMap as finmap;
 ghost use Rattle.std.specs.FinSet as set;
 ghost use Rattle.std.specs.List.Sorted.{IsStrictlyIncreasing};
@@ -97,6 +97,9 @@ impl Got {
         ensures entry { OnOk result (TakesEntry self.old s number self.new) }
         ensures err { IfErr result (λ why. why ≡ Memory) }
         ensures kept { OnErr result (self.new ≡ self.old) }
+
+        // One that follows the prefix, or is in it, takes no memory.
+        ensures follows { number ≤ prefix_of (stream_at self.old s) + 1 → IsOk result }
     {
         self.streams[place(s)].add_number(number)?;
         Ok(())
@@ -116,6 +119,9 @@ impl Got {
         ensures mark { OnOk result (TakesMark self.old s n m self.new) }
         ensures err { IfErr result (λ why. why ≡ Memory) }
         ensures kept { OnErr result (self.new ≡ self.old) }
+
+        // One that need not wait takes no memory.
+        ensures covered { covers (stream_at self.old s).taken n ≡ true → IsOk result }
     {
         self.streams[place(s)].add_mark(n, m)?;
         Ok(())

@@ -1,6 +1,6 @@
 //! What is known of one stream.
 
-ghost use Rattle.std.specs.Prelude.{◌≡◌, ◌≤◌, ◌<◌, ◌^◌, ◌+◌, ℕ, true, max, is_some, IsSome, IfSome, IfNone, IfOk, OnOk, OnErr};
+ghost use Rattle.std.specs.Prelude.{◌≡◌, ◌≤◌, ◌<◌, ◌^◌, ◌+◌, ℕ, true, max, is_some, IsSome, IfSome, IfNone, IfOk, IsOk, OnOk, OnErr};
 ghost use Rattle.std.specs.Bool.{OnTrue, OnFalse};
 ghost use Rattle.std.specs.List.Sorted.{IsStrictlyIncreasing};
 ghost use Rattle.std.specs.Map.{keys_of};
@@ -173,6 +173,7 @@ impl Stream {
         requires most { number ≤ 2 ^ 62 }
         ensures ok { OnOk result (self.new ≡ with_number self.old number) }
         ensures err { OnErr result (self.new ≡ self.old) }
+        ensures follows { number ≤ prefix_of self.old + 1 → IsOk result }
     {
         if number <= self.prefix {
             return Ok(());
@@ -191,6 +192,7 @@ impl Stream {
     pub fn add_mark(&mut self, count: u64, upto: Time) -> Result<(), AllocError>
         ensures ok { OnOk result (self.new ≡ with_mark self.old count upto) }
         ensures err { OnErr result (self.new ≡ self.old) }
+        ensures covered { covers self.old.taken count ≡ true → IsOk result }
     {
         if count <= self.prefix {
             close_up_to(&mut self.closed, upto);

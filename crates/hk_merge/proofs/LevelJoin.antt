@@ -15,7 +15,7 @@ use Rattle.hk_state.specs.Changes.{content_learnt}
 use Rattle.hk_store.specs.Facts.{FactsValue}
 use Rattle.hk_store.specs.Learning.{facts_told, with_told}
 use Rattle.hk_store.specs.Reads.{facts_of_content}
-use Rattle.hk_store.specs.declared.learn.Told.{Told}
+use Rattle.hk_store.specs.declared.learn.LearnSource.{LearnSource}
 use Rattle.hk_merge.specs.Plans.{rises}
 
 highest : (a b : ℕ) → nat_lt a b ≡ false → max a b ≡ a
@@ -53,7 +53,7 @@ module _ (t : Content) (f : FragmentValue) (lawful : IsLawful t) (level : rises 
   end_stays : (q : VersionKey) → finmap.get t.ends q ≡ cond (not (at_most t.horizon (finmap.get t.ends q))) (finmap.get t.ends q) None
   end_stays q = sym (ap (λ b. cond (not b) (finmap.get t.ends q) None) (above t.horizon (finmap.get t.ends q) (λ d e. lawful.end_above q d e)))
 
-  pub level_join : (old : Bool) → old ≡ ((f.base == 0) && (f.content.horizon == t.horizon)) → (told : Told) → facts_told told ≡ facts_of_content f.content → content_learnt t old told f.content.streams ≡ content_after_join t f
+  pub level_join : (old : Bool) → old ≡ ((f.base == 0) && (f.content.horizon == t.horizon)) → (told : LearnSource) → facts_told told ≡ facts_of_content f.content → content_learnt t old told f.content.streams ≡ content_after_join t f
   level_join old is told tells = (λ i. learnt (is i) (tells i)) ∙ (λ i. record {
     log = t.log;
     horizon = at i;

@@ -4,3 +4,4 @@ pub mod WorkedOutChange
 pub mod RisingHorizon
 pub mod LevelJoin
 pub mod JoinRefusals
+pub mod LateFacts

@@ -13,8 +13,8 @@ use Rattle.hk_state.specs.Changes.{content_after_change}
 use Rattle.hk_state.specs.declared.apply.Change.{Change}
 use Rattle.hk_store.specs.Drops.{is_among}
 use Rattle.hk_store.specs.Facts.{FactsValue, entry_if}
-use Rattle.hk_merge.specs.declared.plan.Coming.{Coming}
-use Rattle.hk_merge.specs.declared.plan.Leaving.{Leaving}
+use Rattle.hk_merge.specs.declared.plan.Admission.{Admission}
+use Rattle.hk_merge.specs.declared.plan.Retention.{Retention}
 use Rattle.hk_merge.specs.Plans.{stays, goes, row_back, end_back, all_gone, rows_back, ends_back, row_comes, end_comes, row_coming, end_coming}
 use Rattle.hk_merge.specs.Sent.{sends_row}
 
@@ -42,7 +42,7 @@ AddsEnds old new end = (q : VersionKey) → find version_key_cmp q new.ends.item
 
 -- ---- of the target's own
 
-module _ (l : Leaving) where
+module _ (l : Retention) where
   abbrev pub stays_of : VersionKey → VersionValue → Bool
   stays_of v own = stays l.whole l.horizon (sends_row l.sent.now) v own
 
@@ -72,17 +72,17 @@ module _ (l : Leaving) where
 
 -- ---- of what is sent to a target that has these facts
 
-abbrev pub row_of_coming : FactsValue → Coming → VersionKey → VersionValue → List (VersionKey × RowValue)
+abbrev pub row_of_coming : FactsValue → Admission → VersionKey → VersionValue → List (VersionKey × RowValue)
 row_of_coming own coming v sent = entry_if v (row_comes own coming.old coming.horizon v sent)
 
-abbrev pub end_of_coming : FactsValue → Coming → VersionKey → VersionValue → List (VersionKey × ℕ)
+abbrev pub end_of_coming : FactsValue → Admission → VersionKey → VersionValue → List (VersionKey × ℕ)
 end_of_coming own coming v sent = entry_if v (end_comes own coming.old coming.horizon v sent)
 
 -- the same of a content that is sent, at a version
-abbrev pub row_from : FactsValue → Coming → Content → VersionKey → Option RowValue
+abbrev pub row_from : FactsValue → Admission → Content → VersionKey → Option RowValue
 row_from own coming sent = row_coming own coming.old coming.horizon sent
 
-abbrev pub end_from : FactsValue → Coming → Content → VersionKey → Option ℕ
+abbrev pub end_from : FactsValue → Admission → Content → VersionKey → Option ℕ
 end_from own coming sent = end_coming own coming.old coming.horizon sent
 
 -- whether a fragment is a whole, and of this horizon

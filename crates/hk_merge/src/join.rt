@@ -9,14 +9,14 @@ ghost use Rattle.hk_merge.specs.Growing.{AddsDrops, AddsEnds, AddsRows, IsJoinOf
 ghost use Rattle.hk_merge.specs.Plans.{gone_at, rises, row_back_at, end_back_at};
 ghost use Rattle.hk_merge.specs.Calls.{Joins, Merges, MergesOf, refusal_of};
 
-use crate::plan::{Coming, Leaving, leave, may_go, take};
+use crate::plan::{Admission, Retention, leave, may_go, take};
 use crate::refusals::wrong_log;
 use crate::sent::Sent;
 use hk_state::{Change, ReplicaState};
 use hk_types::{Refusal, Time};
 
 /// The later of two times.
-fn later(a: Time, b: Time) -> Time
+pub(crate) fn later(a: Time, b: Time) -> Time
     ensures { result ≡ max a b }
 {
     if a < b { b } else { a }
@@ -146,7 +146,7 @@ fn rise(change: &mut Change, target: &ReplicaState, sent: &Sent) -> Result<(), R
         return Ok(());
     }
     let alloc = target.allocator();
-    let leaving = Leaving {
+    let leaving = Retention {
         whole: sent.base() == Time::zero(),
         horizon,
         sent,
@@ -180,11 +180,11 @@ fn work_out(target: &ReplicaState, sent: &Sent) -> Result<Change, Refusal>
 }
 
 /// How what is sent fares at a horizon.
-fn coming(sent: &Sent, horizon: Time) -> Coming
+pub(crate) fn coming(sent: &Sent, horizon: Time) -> Admission
     ensures old { result.old ≡ has_horizon (fragment_sent sent.now) horizon }
     ensures horizon { result.horizon ≡ horizon }
 {
-    Coming {
+    Admission {
         old: sent.base() == Time::zero() && sent.horizon() == horizon,
         horizon,
     }

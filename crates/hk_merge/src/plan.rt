@@ -27,7 +27,7 @@ use std::alloc::{AllocError, Global};
 
 /// How the target's own facts fare where the horizon rises.
 #[derive(Clone, Copy)]
-pub(crate) struct Leaving<'a> {
+pub(crate) struct Retention<'a> {
     /// Whether the whole is sent.
     pub(crate) whole: bool,
     /// The horizon to which it rises.
@@ -38,14 +38,14 @@ pub(crate) struct Leaving<'a> {
 
 /// How what is sent fares.
 #[derive(Clone, Copy)]
-pub(crate) struct Coming {
+pub(crate) struct Admission {
     /// Whether rows born at the horizon or before come too.
     pub(crate) old: bool,
     /// The horizon after the join.
     pub(crate) horizon: Time,
 }
 
-impl Leaving<'_> {
+impl Retention<'_> {
     /// Whether a row of the target's own stays.
     fn keeps_row(&self, version: &VersionKey, own: &Version) -> bool
         ensures { result ≡ stays_of self.now version.now own.now }
@@ -72,7 +72,7 @@ impl Leaving<'_> {
 fn leave_version(
     alloc: Global,
     change: &mut Change,
-    leaving: &Leaving,
+    leaving: &Retention,
     version: &VersionKey,
     own: &Version,
 ) -> Result<(), AllocError>
@@ -127,7 +127,7 @@ fn push_end(
 pub(crate) fn leave(
     alloc: Global,
     change: &mut Change,
-    leaving: &Leaving,
+    leaving: &Retention,
     own: &[(VersionKey, &Version)],
 ) -> Result<(), AllocError>
     ensures drops { OnOk result (GainsDrops change.old change.new (drops_of leaving.now (map borrowed own.now))) }
@@ -145,7 +145,7 @@ pub(crate) fn leave(
 fn take_version(
     alloc: Global,
     change: &mut Change,
-    coming: &Coming,
+    coming: &Admission,
     own: &Facts,
     version: &VersionKey,
     sent: &Version,
@@ -179,7 +179,7 @@ fn has_end(held: Option<&Version>) -> bool
 fn take_part(
     alloc: Global,
     change: &mut Change,
-    coming: &Coming,
+    coming: &Admission,
     own: &Facts,
     fragment: &Fragment,
 ) -> Result<(), AllocError>
@@ -199,7 +199,7 @@ fn take_part(
 fn take_whole(
     alloc: Global,
     change: &mut Change,
-    coming: &Coming,
+    coming: &Admission,
     own: &Facts,
     state: &ReplicaState,
 ) -> Result<(), AllocError>
@@ -218,7 +218,7 @@ fn take_whole(
 pub(crate) fn take(
     alloc: Global,
     change: &mut Change,
-    coming: &Coming,
+    coming: &Admission,
     own: &Facts,
     sent: &Sent,
 ) -> Result<(), AllocError>

@@ -15,7 +15,7 @@ use hk_fragment::Fragment;
 use hk_log::Version;
 use hk_marks::Got;
 use hk_state::ReplicaState;
-use hk_store::{Facts, Told};
+use hk_store::{Facts, LearnSource};
 use hk_types::{Config, Time, VersionKey};
 
 /// What is sent to a replica of a log.
@@ -71,13 +71,13 @@ impl Sent<'_> {
     }
 
     /// What it tells.
-    pub(crate) fn told(&self) -> Told<'_>
+    pub(crate) fn told(&self) -> LearnSource<'_>
         ensures told { IsTold result }
         ensures facts { facts_told result ≡ facts_of_content (content_sent self.now) }
     {
         match self {
-            Sent::Part(fragment) => Told::Listed(fragment.facts()),
-            Sent::Whole(state) => Told::Held(state.facts()),
+            Sent::Part(fragment) => LearnSource::Listed(fragment.facts()),
+            Sent::Whole(state) => LearnSource::Held(state.facts()),
         }
     }
 

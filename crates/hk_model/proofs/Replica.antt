@@ -18,3 +18,8 @@ pub mod Outcomes
 pub mod Shown
 pub mod Listed
 pub mod Pages
+pub mod Chains
+pub mod Past
+pub mod Turns
+pub mod Touches
+pub mod TouchingJoins

@@ -12,3 +12,5 @@ pub mod Pages
 pub mod StreamsTold
 pub mod Replicas
 pub mod Lawful
+pub mod Past
+pub mod Touches

@@ -1,7 +1,3 @@
 pub mod Faults
-pub mod Replying
+pub mod Doors
 pub mod Serving
-pub mod NodeSides
-pub mod LinkStates
-pub mod LaterReplying
-pub mod GivenWhole

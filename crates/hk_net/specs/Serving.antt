@@ -1,16 +1,22 @@
 -- What a session over a node and a seat of it does, by which the seat's list grows.
 use Rattle.std.specs.Prelude.{ℕ, List, Option}
+use Rattle.std.specs.Global.{Vec}
 use Rattle.hk_session.specs.declared.ended.Ended.{Ended}
 use Rattle.hk_session.specs.Serving.{Serves}
 use Rattle.hk_session.specs.Values.{CountedValue}
-use Rattle.hk_node.specs.declared.op.NodeKind.{NodeKind}
-use Rattle.hk_node.specs.declared.op.Op.{Op}
+use Rattle.hk_oplog.specs.declared.op.Hold.{Hold}
+use Rattle.hk_oplog.specs.declared.op.NodeKind.{NodeKind}
+use Rattle.hk_oplog.specs.declared.op.Op.{Op}
 use Rattle.hk_wire.specs.declared.request.Request.{Request}
 use Rattle.hk_wire.specs.declared.reply.Reply.{Reply}
-use Rattle.hk_net.specs.LaterReplying.{AreLetGo, MayReplyBoth}
-use Rattle.hk_net.specs.LinkStates.{LinkValue}
-use Rattle.hk_net.specs.NodeSides.{Sided}
-use Rattle.hk_net.specs.Replying.{MayOnlyRead, MayReply}
+use Rattle.hk_host.specs.LaterReplying.{AreLetGo, MayReplyBoth}
+use Rattle.hk_host.specs.LinkStates.{LinkValue}
+use Rattle.hk_host.specs.NodeSides.{Sided}
+use Rattle.hk_host.specs.Replying.{MayOnlyRead, MayReply}
+
+-- a session of a host in version 1, which is given back
+abbrev pub ServesHost : {S R W : Type 0} → (S → Request → Reply → S → Type 0) → S → (R → Option (List ℕ)) → CountedValue R → CountedValue R → (W → Option (List ℕ)) → CountedValue W → CountedValue W → Ended × S → Type 0
+ServesHost may host remaining reader reader_after contents old new result = Serves 1 may host result.1 remaining reader reader_after contents old new result.0
 
 -- how the session ended, and the seat's list after it
 abbrev pub Outcome : Type 0
@@ -25,13 +31,14 @@ ServesNode kind seat remaining reader reader_after contents old new result =
 abbrev pub ServesReader : {R W : Type 0} → List Op → (R → Option (List ℕ)) → CountedValue R → CountedValue R → (W → Option (List ℕ)) → CountedValue W → CountedValue W → Outcome → Type 0
 ServesReader seat remaining reader reader_after contents old new result = Serves 1 MayOnlyRead seat result.1 remaining reader reader_after contents old new result.0
 
--- how the session of a link ended, the host for version 1 after it, and what is left beside
-abbrev pub LinkOutcome : Type 0 → Type 0 → Type 0
-LinkOutcome S V = Ended × S × V
+-- how the session of a link ended, the host for version 1 after it, and the holds that stand
+abbrev pub LinkOutcome : Type 0 → Type 0
+LinkOutcome S = Ended × S × Vec Hold
 
--- a session of a link in both versions: each of the holds that the link has at its end is then asked to be released, and no other
-abbrev pub Runs : {S R W V : Type 0} → (S → Request → Reply → S → Type 0) → Sided S → LinkValue S → (R → Option (List ℕ)) → CountedValue R → CountedValue R
-    → (W → Option (List ℕ)) → CountedValue W → CountedValue W → LinkOutcome S V → Type 0
+-- a session of a link in both versions: each of the holds that the link has at its end is then asked to be released, and no other,
+-- and those that the node hands back are left
+abbrev pub Runs : {S R W : Type 0} → (S → Request → Reply → S → Type 0) → Sided S → LinkValue S → (R → Option (List ℕ)) → CountedValue R → CountedValue R
+    → (W → Option (List ℕ)) → CountedValue W → CountedValue W → LinkOutcome S → Type 0
 Runs {S} may side link remaining reader reader_after contents old new result =
     (last : LinkValue S) × Serves 2 (MayReplyBoth side may) link last remaining reader reader_after contents old new result.0
-    × AreLetGo side.may_release last.inner last.holds result.1
+    × AreLetGo side.may_release last.inner last.holds result.1 result.2.items

@@ -1,6 +1,7 @@
 //! Where the bytes of a link stand in their frames, without a look at what the frames say.
 
-ghost use Rattle.std.specs.Prelude.{◌≡◌, ◌<◌, ◌≤◌, length};
+ghost use Rattle.std.specs.Prelude.{◌≡◌, ◌<◌, ◌≤◌, true, length};
+ghost use Rattle.hk_net.specs.Doors.{is_feeding, is_reading, lets_through, passes_all};
 
 /// How many bytes the length field of a frame has.
 const LENGTH_BYTES: u64 = 4;
@@ -10,6 +11,11 @@ const KIND_PLACE: u64 = 5;
 
 /// How many bytes stand before the body of a frame.
 const HEAD_BYTES: u64 = 6;
+
+/// The kind bytes of the requests to take items: Items of version 1, and Feed of version 2.
+const ITEMS: u8 = 16;
+
+const FEED: u8 = 58;
 
 /// The kind bytes of the requests of version 1 that change nothing: Front, Delta, Full and Ask.
 const FIRST_READING: u8 = 17;
@@ -38,10 +44,50 @@ pub(crate) struct FrameWatch {
     reads: u64,
 }
 
+/// Which requests a door lets through.
+#[derive(Clone, Copy)]
+pub(crate) enum Passes {
+    /// Each request.
+    All,
+    /// Items and Feed, and those that change nothing.
+    Feeds,
+    /// Those that change nothing.
+    Readings,
+}
+
+impl Passes {
+    /// Whether every request passes.
+    fn is_all(self) -> bool
+        ensures { result ≡ passes_all self }
+    {
+        matches!(self, Passes::All)
+    }
+
+    /// Whether a request of this kind passes, in either version.
+    fn lets_through(self, kind: u8) -> bool
+        ensures { result ≡ lets_through self kind }
+    {
+        match self {
+            Passes::All => true,
+            Passes::Feeds => is_feeding(kind) || is_reading(kind),
+            Passes::Readings => is_reading(kind),
+        }
+    }
+}
+
+/// Whether this is the kind of a request to take items, in either version.
+fn is_feeding(kind: u8) -> bool
+    ensures { result ≡ is_feeding kind }
+{
+    kind == ITEMS || kind == FEED
+}
+
 /// Whether this is the kind of a request that changes nothing, in either version.
-fn is_reading(kind: u8) -> bool {
-    (FIRST_READING..=LAST_READING).contains(&kind)
-        || (FIRST_LATER_READING..=LAST_LATER_READING).contains(&kind)
+fn is_reading(kind: u8) -> bool
+    ensures { result ≡ is_reading kind }
+{
+    (kind >= FIRST_READING && kind <= LAST_READING)
+        || (kind >= FIRST_LATER_READING && kind <= LAST_LATER_READING)
 }
 
 impl FrameWatch {
@@ -64,14 +110,16 @@ impl FrameWatch {
         self.reads > FREE_READS.saturating_add(self.length / BYTES_A_READ)
     }
 
-    /// Takes the next byte of a frame's head. Gives false where it is the kind of a request that is no reading one.
-    fn take_head(&mut self, byte: u8) -> bool {
+    /// Takes the next byte of a frame's head. Gives false where it is the kind of a request that doesn't pass.
+    fn take_head(&mut self, byte: u8, passes: Passes) -> bool
+        ensures { passes_all passes ≡ true → result ≡ true }
+    {
         if self.at < LENGTH_BYTES {
             self.length = self.length.wrapping_mul(256).wrapping_add(u64::from(byte));
         }
-        let passes = self.at != KIND_PLACE || is_reading(byte);
+        let goes_on = self.at != KIND_PLACE || passes.lets_through(byte);
         self.at = self.at.saturating_add(1);
-        passes
+        goes_on
     }
 
     /// Begins with the next frame where this one is over.
@@ -83,17 +131,18 @@ impl FrameWatch {
         }
     }
 
-    /// Takes the next bytes, at least one of them and at most all, and gives how many. Where only readings pass, the
-    /// kind of another request is turned into one that no message has.
-    fn take_some(&mut self, bytes: &mut [u8], only_readings: bool) -> usize
+    /// Takes the next bytes, at least one of them and at most all, and gives how many. The kind of a request that doesn't pass
+    /// is turned into one that no message has.
+    fn take_some(&mut self, bytes: &mut [u8], passes: Passes) -> usize
         requires { 0 < length bytes.old }
         ensures some { 0 < result }
         ensures all { result ≤ length bytes.old }
         ensures kept { length bytes.new ≡ length bytes.old }
+        ensures same { passes_all passes ≡ true → bytes.new ≡ bytes.old }
     {
         if self.at < HEAD_BYTES {
             let byte = bytes[0];
-            if !self.take_head(byte) && only_readings {
+            if !self.take_head(byte, passes) {
                 bytes[0] = NO_KIND;
             }
             self.end_frame();
@@ -111,14 +160,15 @@ impl FrameWatch {
         count
     }
 
-    /// Takes the bytes that a read gave. Where only readings pass, the kind of each other request is turned into one that
-    /// no message has. Cost: O(f), f frames that these bytes touch.
-    pub(crate) fn take(&mut self, bytes: &mut [u8], only_readings: bool)
-        ensures { length bytes.new ≡ length bytes.old }
+    /// Takes the bytes that a read gave. The kind of each request that doesn't pass is turned into one that no message has; where
+    /// all pass, the bytes stay as they came. Cost: O(f), f frames that these bytes touch.
+    pub(crate) fn take(&mut self, bytes: &mut [u8], passes: Passes)
+        ensures kept { length bytes.new ≡ length bytes.old }
+        ensures same { passes_all passes ≡ true → bytes.new ≡ bytes.old }
     {
         let mut done = 0;
         while done < bytes.len() {
-            done += self.take_some(&mut bytes[done..], only_readings);
+            done += self.take_some(&mut bytes[done..], passes);
         }
     }
 }

@@ -1,6 +1,6 @@
 //! What is read from a link.
 
-use crate::frame_watch::FrameWatch;
+use crate::frame_watch::{FrameWatch, Passes};
 use std::io;
 use std::io::{ErrorKind, Read};
 use std::net::TcpStream;
@@ -10,25 +10,25 @@ use std::time::Duration;
 ///
 /// Where a number of seconds is given, a read inside a frame fails that brings nothing for so long, and so does one
 /// where the frame took more reads than its length explains: 64, and one more for each 64 bytes of its length. A read
-/// between two frames has no limit. Where only readings pass, the kind of each other request is read as one that no
+/// between two frames has no limit. The kind of each request that the door doesn't let through is read as one that no
 /// message has, so that the session ends there.
 #[derive(Drop)]
 pub(crate) struct LinkReader<'a> {
     stream: &'a TcpStream,
     frames: FrameWatch,
     seconds: u64,
-    only_readings: bool,
+    passes: Passes,
     is_timed: bool,
 }
 
 impl<'a> LinkReader<'a> {
     /// Reads of a stream whose reads have no limit of time yet; 0 seconds are none.
-    pub(crate) fn new(stream: &'a TcpStream, seconds: u64, only_readings: bool) -> LinkReader<'a> {
+    pub(crate) fn new(stream: &'a TcpStream, seconds: u64, passes: Passes) -> LinkReader<'a> {
         LinkReader {
             stream,
             frames: FrameWatch::new(),
             seconds,
-            only_readings,
+            passes,
             is_timed: false,
         }
     }
@@ -66,7 +66,7 @@ impl Read for LinkReader<'_> {
         self.prepare()?;
         let mut stream = self.stream;
         let count = stream.read(buf)?;
-        self.frames.take(&mut buf[..count], self.only_readings);
+        self.frames.take(&mut buf[..count], self.passes);
         Ok(count)
     }
 }

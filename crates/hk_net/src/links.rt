@@ -3,12 +3,10 @@
 ghost use Rattle.std.specs.Prelude.{◌≡◌, length, IfOk};
 
 use crate::fault::NetFault;
-use crate::node_host::NodeHost;
-use crate::parts_budget::PartsBudget;
-use crate::parts_host::PartsHost;
-use crate::parts_sessions::serve_parts;
+use crate::sessions::serve_host;
+use hk_host::{NodeHost, PartsBudget};
 use hk_node::{Node, NodeName, ReaderSeat};
-use hk_session::{Counted, Ended, serve};
+use hk_session::{Counted, Ended};
 use std::alloc::Global;
 use std::io::Read;
 use std::net::{Shutdown, TcpListener, TcpStream};
@@ -61,17 +59,15 @@ fn serve_link<J: NodeName, N: Wait + Drop, R: Threads + Wait + Sync>(
     let _at_once = stream.set_nodelay(true);
     let mut reader = Counted::new(&stream);
     let mut writer = Counted::new(&stream);
-    let ended = match budget {
-        Some(budget) => {
-            let host = NodeHost::new(rt, alloc, node, seat);
-            let link = PartsHost::new(alloc, host, budget, Vec::new(alloc));
-            serve_parts(alloc, link, &mut reader, &mut writer).0
-        }
-        None => {
-            let mut host = NodeHost::new(rt, alloc, node, seat);
-            serve::<1, _, _, _>(alloc, &mut reader, &mut writer, &mut host)
-        }
-    };
+    let host = NodeHost::new(rt, alloc, node, seat);
+    let (ended, _host, _holds) = serve_host(
+        alloc,
+        budget,
+        host,
+        Vec::new(alloc),
+        &mut reader,
+        &mut writer,
+    );
     drain(&stream);
     ended
 }

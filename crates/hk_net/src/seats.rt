@@ -5,40 +5,14 @@ ghost use Rattle.std.specs.Thread.{IsSync};
 ghost use mathlib.Core.List.{IsPrefix};
 ghost use Rattle.hk_net.specs.Serving.{ServesNode, ServesReader};
 
-use crate::node_host::NodeHost;
-use crate::seat_host::SeatHost;
+use crate::sessions::serve_plain;
+use hk_host::{NodeHost, SeatHost};
 use hk_node::{Node, NodeName, ReaderSeat};
-use hk_session::{Counted, Ended, serve};
+use hk_session::{Counted, Ended};
 use std::alloc::Global;
 use std::io::{Read, Write};
 use std::sync::Wait;
 use std::thread::Threads;
-
-/// Runs one session over a host of a node, and gives how it ended with the host's seat.
-pub(crate) fn serve_host<
-    J: NodeName,
-    N: Wait + Drop,
-    R: Threads + Wait + Sync,
-    I: Read + Drop,
-    O: Write + Drop,
->(
-    alloc: Global,
-    host: NodeHost<'_, J, N, R>,
-    reader: &mut Counted<I>,
-    writer: &mut Counted<O>,
-) -> (Ended, ReaderSeat<J>)
-    requires reader { reader.old.faults ≡ 0 }
-    requires writer { writer.old.faults ≡ 0 }
-    requires ready { IsSync R.row }
-    ensures seen { IsPrefix host.entry result.1 }
-    // The bytes read, and what was done and written for them.
-    ensures transcript { ServesNode J.kind host.entry I.remaining reader.old reader.new
-        O.contents writer.old writer.new result }
-{
-    let mut served = host;
-    let ended = serve::<1, _, _, _>(alloc, reader, writer, &mut served);
-    (ended, served.into_seat())
-}
 
 /// Runs one session on a seat, as `serve` over a `NodeHost`, and gives how it ended with the seat, which knows then all
 /// that it knew before and what the session added. The next session on it begins there. Cost: that of the session.
@@ -64,7 +38,8 @@ pub fn serve_on_seat<
     ensures transcript { ServesNode J.kind seat I.remaining reader.old reader.new
         O.contents writer.old writer.new result }
 {
-    serve_host(alloc, NodeHost::new(rt, alloc, node, seat), reader, writer)
+    let (ended, host) = serve_plain(alloc, NodeHost::new(rt, alloc, node, seat), reader, writer);
+    (ended, host.into_seat())
 }
 
 /// Runs one session on a seat that only reads, as `serve` over a `SeatHost`: the node is not there to be changed. Gives
@@ -82,7 +57,6 @@ pub fn read_on_seat<J: NodeName, I: Read + Drop, O: Write + Drop>(
     ensures transcript { ServesReader seat I.remaining reader.old reader.new
         O.contents writer.old writer.new result }
 {
-    let mut host = SeatHost::new(seat);
-    let ended = serve::<1, _, _, _>(alloc, reader, writer, &mut host);
+    let (ended, host) = serve_plain(alloc, SeatHost::new(seat), reader, writer);
     (ended, host.into_seat())
 }

@@ -5,16 +5,14 @@ ghost use Rattle.std.specs.Thread.{IsSend, IsSync};
 ghost use mathlib.Core.List.{IsPrefix};
 
 use crate::fault::NetFault;
-use crate::link_events::{EVENTS, LinkEvent, Teller, Watch, hand_on};
+use crate::frame_watch::Passes;
 use crate::link_reader::LinkReader;
 use crate::links::drain;
-use crate::node_host::NodeHost;
-use crate::parts_budget::PartsBudget;
-use crate::parts_host::PartsHost;
-use crate::parts_sessions::serve_parts;
-use crate::seat_host::SeatHost;
-use crate::seats::{read_on_seat, serve_host};
+use crate::sessions::serve_host;
 use crossbeam_channel::{Sender, bounded};
+use hk_host::{
+    EVENTS, FeedHost, LinkEvent, NodeHost, PartsBudget, SeatHost, Teller, Watch, hand_on,
+};
 use hk_node::{Hold, Node, NodeName, ReaderSeat};
 use hk_session::{Counted, Ended};
 use std::alloc::{AllocError, Global};
@@ -31,11 +29,33 @@ const MOST_LINKS: u64 = 1 << 62;
 /// How many milliseconds pass before an accept that failed is tried again.
 const ACCEPT_PAUSE: u64 = 100;
 
+/// What links of a door may do.
+#[derive(Drop)]
+enum Way<'a, J: NodeName, N: Wait + Drop> {
+    /// Everything.
+    Open(&'a Node<J, N>),
+    /// Send items, and ask.
+    Feeding(&'a Node<J, N>),
+    /// Ask.
+    Reading,
+}
+
+impl<J: NodeName, N: Wait + Drop> Way<'_, J, N> {
+    /// Which requests it lets through.
+    fn passes(&self) -> Passes {
+        match self {
+            Way::Open(_) => Passes::All,
+            Way::Feeding(_) => Passes::Feeds,
+            Way::Reading => Passes::Readings,
+        }
+    }
+}
+
 /// Where links come in, and what they may do.
 #[derive(Drop)]
 pub struct Door<'a, J: NodeName, N: Wait + Drop> {
     listener: &'a TcpListener,
-    node: Option<&'a Node<J, N>>,
+    way: Way<'a, J, N>,
     tells_changes: bool,
     read_seconds: u64,
     /// What all links keep, where they are answered in both versions.
@@ -43,6 +63,16 @@ pub struct Door<'a, J: NodeName, N: Wait + Drop> {
 }
 
 impl<'a, J: NodeName, N: Wait + Drop> Door<'a, J, N> {
+    fn new(listener: &'a TcpListener, way: Way<'a, J, N>, read_seconds: u64) -> Door<'a, J, N> {
+        Door {
+            listener,
+            way,
+            tells_changes: false,
+            read_seconds,
+            budget: None,
+        }
+    }
+
     /// Links of this listener answer every request, whether the node is guarded or not (`Node` tells what a guarded one
     /// refuses). A link ends where inside a frame a read brings nothing for so many seconds, or where the frame took more
     /// reads than its length explains; 0 seconds are no limit.
@@ -51,31 +81,29 @@ impl<'a, J: NodeName, N: Wait + Drop> Door<'a, J, N> {
         node: &'a Node<J, N>,
         read_seconds: u64,
     ) -> Door<'a, J, N> {
-        Door {
-            listener,
-            node: Some(node),
-            tells_changes: false,
-            read_seconds,
-            budget: None,
-        }
+        Door::new(listener, Way::Open(node), read_seconds)
+    }
+
+    /// Links of this listener answer Items, Feed, Front, Delta, Full and Ask (`FeedHost`); another request is refused with 4 as a kind
+    /// that has no meaning there, and ends the link.
+    pub fn feeding(
+        listener: &'a TcpListener,
+        node: &'a Node<J, N>,
+        read_seconds: u64,
+    ) -> Door<'a, J, N> {
+        Door::new(listener, Way::Feeding(node), read_seconds)
     }
 
     /// Links of this listener answer Front, Delta, Full and Ask; another request is refused with 4 as a kind that has no
     /// meaning there, and ends the link.
     pub fn reading(listener: &'a TcpListener, read_seconds: u64) -> Door<'a, J, N> {
-        Door {
-            listener,
-            node: None,
-            tells_changes: false,
-            read_seconds,
-            budget: None,
-        }
+        Door::new(listener, Way::Reading, read_seconds)
     }
 
     /// The same door, whose links are answered in both versions: they keep at most as many bytes as this budget has, together
     /// with those of other doors that have it. When a link ends, each of its holds is asked to be released. A hold whose
-    /// release is refused then (`Damaged`, `NodeFull` or `Memory`) stands, and is handed to the next link of the place, where
-    /// there is memory to keep it. Of version 2, a reading door answers Streams, AskLatest, Page, Whole and More.
+    /// release is refused then (`Damaged`, `NodeFull` or `Memory`) stands, and is handed to the next link of the place. Of version 2,
+    /// a reading or feeding door answers Streams, AskLatest, Page, Whole and More.
     pub fn with_parts(self, budget: &'a PartsBudget) -> Door<'a, J, N> {
         let mut door = self;
         door.budget = Some(budget);
@@ -97,63 +125,6 @@ struct Place<J: NodeName> {
     holds: Vec<Hold>,
 }
 
-/// Runs the session of a link in version 1 to its end, and gives the seat back.
-fn serve_first<J: NodeName, N: Wait + Drop, R: Threads + Wait + Sync>(
-    rt: &R,
-    alloc: Global,
-    door: &Door<'_, J, N>,
-    seat: ReaderSeat<J>,
-    stream: &TcpStream,
-    teller: &Teller,
-) -> (Ended, ReaderSeat<J>)
-    ensures { IsPrefix seat result.1 }
-{
-    let only_readings = door.node.is_none();
-    let mut reader = Counted::new(LinkReader::new(stream, door.read_seconds, only_readings));
-    let mut writer = Counted::new(stream);
-    match door.node {
-        Some(node) => {
-            let host = NodeHost::telling(rt, alloc, node, seat, teller);
-            serve_host(alloc, host, &mut reader, &mut writer)
-        }
-        None => read_on_seat(alloc, seat, &mut reader, &mut writer),
-    }
-}
-
-/// Runs the session of a link in both versions to its end, and gives the place back.
-fn serve_later<J: NodeName, N: Wait + Drop, R: Threads + Wait + Sync>(
-    rt: &R,
-    alloc: Global,
-    door: &Door<'_, J, N>,
-    budget: &PartsBudget,
-    place: Place<J>,
-    stream: &TcpStream,
-    teller: &Teller,
-) -> (Ended, Place<J>)
-    ensures { IsPrefix place.seat result.1.seat }
-{
-    let only_readings = door.node.is_none();
-    let mut reader = Counted::new(LinkReader::new(stream, door.read_seconds, only_readings));
-    let mut writer = Counted::new(stream);
-    let Place { seat, holds } = place;
-    match door.node {
-        Some(node) => {
-            let host = NodeHost::telling(rt, alloc, node, seat, teller);
-            let link = PartsHost::new(alloc, host, budget, holds);
-            let (ended, host, holds) = serve_parts(alloc, link, &mut reader, &mut writer);
-            let seat = host.into_seat();
-            (ended, Place { seat, holds })
-        }
-        None => {
-            let host = SeatHost::new(seat);
-            let link = PartsHost::new(alloc, host, budget, holds);
-            let (ended, host, holds) = serve_parts(alloc, link, &mut reader, &mut writer);
-            let seat = host.into_seat();
-            (ended, Place { seat, holds })
-        }
-    }
-}
-
 /// Runs the session of a link to its end, and gives the place back.
 fn serve_stream<J: NodeName, N: Wait + Drop, R: Threads + Wait + Sync>(
     rt: &R,
@@ -167,12 +138,50 @@ fn serve_stream<J: NodeName, N: Wait + Drop, R: Threads + Wait + Sync>(
 {
     // A reply is sent at once; where that can't be had, replies come later.
     let _at_once = stream.set_nodelay(true);
-    if let Some(budget) = door.budget {
-        return serve_later(rt, alloc, door, budget, place, stream, teller);
-    }
+    let mut reader = Counted::new(LinkReader::new(stream, door.read_seconds, door.way.passes()));
+    let mut writer = Counted::new(stream);
     let Place { seat, holds } = place;
-    let (ended, seat) = serve_first(rt, alloc, door, seat, stream, teller);
-    (ended, Place { seat, holds })
+    match &door.way {
+        Way::Open(node) => {
+            let host = NodeHost::telling(rt, alloc, node, seat, teller);
+            let (ended, host, holds) = serve_host(
+                alloc,
+                door.budget,
+                host,
+                holds,
+                &mut reader,
+                &mut writer,
+            );
+            let seat = host.into_seat();
+            (ended, Place { seat, holds })
+        }
+        Way::Feeding(node) => {
+            let host = FeedHost::new(NodeHost::telling(rt, alloc, node, seat, teller));
+            let (ended, host, holds) = serve_host(
+                alloc,
+                door.budget,
+                host,
+                holds,
+                &mut reader,
+                &mut writer,
+            );
+            let seat = host.into_seat();
+            (ended, Place { seat, holds })
+        }
+        Way::Reading => {
+            let host = SeatHost::new(seat);
+            let (ended, host, holds) = serve_host(
+                alloc,
+                door.budget,
+                host,
+                holds,
+                &mut reader,
+                &mut writer,
+            );
+            let seat = host.into_seat();
+            (ended, Place { seat, holds })
+        }
+    }
 }
 
 /// Serves the next link of a place, and gives the place back.

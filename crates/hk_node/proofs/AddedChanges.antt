@@ -2,12 +2,12 @@
 use Rattle.std.proofs.Common.{◌≡◌, Bool, true, false, List, [], ◌∷◌, ◌++◌, None, Result, Ok, Err, inr, refl, sym, ap, ◌∙◌, subst, true≢false}
 use Rattle.hk_types.specs.declared.faults.Refusal.{Refusal}
 use Rattle.hk_types.specs.declared.faults.Refusal.TheVariants.{Conflict, Unpublished, Memory}
-use Rattle.hk_node.specs.declared.op.NodeKind.{NodeKind}
-use Rattle.hk_node.specs.declared.op.Op.{Op}
-use Rattle.hk_node.specs.Replay.{refusal_of, replay, guarded_of, is_legal}
+use Rattle.hk_oplog.specs.declared.op.NodeKind.{NodeKind}
+use Rattle.hk_oplog.specs.declared.op.Op.{Op}
+use Rattle.hk_oplog.specs.Replay.{refusal_of, replay, guarded_of, is_legal}
 use Rattle.hk_node.specs.Changes.{Lists, all_of, AddsTo, Changes, IsCaughtUp, RefusesConflict}
-use Rattle.hk_node.proofs.GuardedLists.{guard_law_proof, replay_guarded}
-use Rattle.hk_node.proofs.LegalLists.{kind-snoc, legal-snoc}
+use Rattle.hk_oplog.proofs.GuardedLists.{guard_law_proof, replay_guarded}
+use Rattle.hk_oplog.proofs.LegalLists.{kind-snoc, legal-snoc}
 
 -- where an operation that is not refused damages a node, it is not a guarded one
 unguarded : (ops : List Op) (op : Op) → is_legal ops ≡ true → refusal_of (replay ops) op ≡ None → (replay (ops ++ op ∷ [])).damaged ≡ true → (replay ops).guarded ≡ false

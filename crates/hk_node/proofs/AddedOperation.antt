@@ -6,7 +6,7 @@ use Rattle.std.specs.Prelude.{MatchBool}
 use mathlib.Core.List.{IsPrefix}
 use prog.Atomic.{either}
 use Rattle.logbook.specs.Pages.{Cell, cell, keeps, no_nib, step, Moves, Goes}
-use Rattle.hk_node.specs.declared.op.Op.{Op}
+use Rattle.hk_oplog.specs.declared.op.Op.{Op}
 use Rattle.hk_node.specs.Book.{IsCounted, Adds}
 use Rattle.hk_node.proofs.Prefixes.{prefix_whole}
 

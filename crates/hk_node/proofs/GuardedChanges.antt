@@ -3,6 +3,7 @@ use Rattle.std.proofs.Common.{◌≡◌, ◌^◌, ◌==◌, ◌&&◌, if◌then�
 use Rattle.std.proofs.lemmas.List.{append-nil}
 use Rattle.std.specs.Prelude.{nat_lt}
 use Rattle.std.specs.FinSet as set
+use Rattle.std.specs.List.{list_any}
 use Rattle.hk_types.specs.declared.faults.Refusal.{Refusal}
 use Rattle.hk_types.specs.declared.faults.Refusal.TheVariants.{ForeignLog, WrongStreams, Gap, Conflict, Damaged, NodeFull, Unpublished, Memory}
 use Rattle.hk_log.specs.declared.item.Item.{Item}
@@ -12,18 +13,22 @@ use Rattle.hk_model.specs.Replica.Content.{Content, readable}
 use Rattle.hk_model.specs.Replica.Fragments.{FragmentValue}
 use Rattle.hk_model.specs.Replica.Items.{log_of, stream_no, wrong_log}
 use Rattle.hk_model.specs.Replica.Maps.{or_else}
+use Rattle.hk_model.specs.Replica.Touches.{join_touches_past}
 use Rattle.hk_model.specs.Replica.Rules.{absorb_result, take_result_unless, with_items, entry_conflicts, contents_conflict, content_after_join, join_result}
 use Rattle.hk_model.specs.Replica.Streams.{stream_at}
 use Rattle.hk_model.proofs.Replica.Streams.{no_gap_at_0}
-use Rattle.hk_delta.specs.Agreeing.{content_taken, then_take, take_all, absorb_all, taken_items, fragment_of_taken, Agrees}
+use Rattle.hk_delta.specs.Agreeing.{content_taken, then_take, take_all, absorb_all, taken_items, fragment_of_taken}
+use Rattle.hk_delta.specs.Repeats.{stands_otherwise, if_as_told, absorb_so}
+use Rattle.hk_delta.proofs.ComparedRepeats.{absorbed_so}
 use Rattle.hk_delta.proofs.WrongLogs.{count_streams}
-use Rattle.hk_node.specs.declared.op.Op.{Op}
-use Rattle.hk_node.specs.declared.op.Op.TheVariants.{Join}
-use Rattle.hk_node.specs.NodeContent.{NodeContent}
-use Rattle.hk_node.specs.Replay.{least_hold, passed_hold, full_refusal, refusal_of, after_join, replay, is_legal}
+use Rattle.hk_oplog.specs.declared.op.Op.{Op}
+use Rattle.hk_oplog.specs.declared.op.Op.TheVariants.{Join}
+use Rattle.hk_oplog.specs.NodeContent.{NodeContent}
+use Rattle.hk_oplog.specs.Replay.{least_hold, passed_hold, full_refusal, refusal_of, after_join, replay, is_legal}
 use Rattle.hk_node.specs.Changes.{Lists, all_of, AddsTo, IsCaughtUp}
-use Rattle.hk_node.specs.Guarded.{damage_refusal, refusal_in, take_refusal, join_of_taken, RefusesTested, ChangesTested, IsAsSound, HasTaken, TakesItems, AgreesWith}
-use Rattle.hk_node.proofs.LegalLists.{replay-snoc, applied-is}
+use Rattle.hk_oplog.specs.Guarded.{damage_refusal, refusal_in, take_refusal, join_of_taken, AgreesWith}
+use Rattle.hk_node.specs.Guarded.{RefusesTested, ChangesTested, IsAsSound, HasTaken, TakesItems}
+use Rattle.hk_oplog.proofs.LegalLists.{replay-snoc, applied-is}
 
 -- ---- refusals of tests
 
@@ -75,6 +80,18 @@ all_plain : (items : List Item) (r : Result Content Refusal) → IsPlainResult r
 all_plain [] r p = p
 all_plain (x ∷ xs) r p = all_plain xs (then_take r x) (step_plain r x p)
 
+so_plain : (b : Bool) (c : Content) (items : List Item) → IsPlainResult (absorb_so b c items)
+so_plain false c items = all_plain items (Ok c) tt
+so_plain true c items = by (absorb_all c items) (all_plain items (Ok c) tt)
+  where
+    by : (r : Result Content Refusal) → IsPlainResult r → IsPlainResult (if_as_told items r)
+    by (Err why) p = p
+    by (Ok d) p = choose (list_any (stands_otherwise d) items)
+      where
+        choose : (b : Bool) → IsPlainResult (cond b (Err Conflict) (Ok d))
+        choose true = refl
+        choose false = tt
+
 -- ---- what was added
 
 up_to_date : (old new : Lists) → IsCaughtUp old new → all_of new ≡ all_of old
@@ -122,7 +139,7 @@ none_damaged : (c : NodeContent) → c.damaged ≡ false → damage_refusal c �
 none_damaged c whole = ap (λ b. cond b (Some Damaged) None) whole
 
 -- items that agree are refused by want of room alone
-taken_tests : (c : NodeContent) (items : List Item) (d : Content) → c.damaged ≡ false → absorb_all c.content items ≡ Ok d → take_refusal c items ≡ full_refusal c
+taken_tests : (c : NodeContent) (items : List Item) (d : Content) → c.damaged ≡ false → absorb_so c.guarded c.content items ≡ Ok d → take_refusal c items ≡ full_refusal c
 taken_tests c items d whole absorbed = λ i. or_else (none_damaged c whole i) (or_else (refusal_in (absorbed i)) (full_refusal c))
 
 -- where a join leaves something, it conflicts with nothing
@@ -141,8 +158,8 @@ and_none true b h = h
 and_none false b h = refl
 
 -- and so is their join
-joined_tests : (c : NodeContent) (items : List Item) → c.damaged ≡ false → contents_conflict c.content (fragment_of_taken c.content items).content ≡ false → refusal_of c (join_of_taken c items) ≡ full_refusal c
-joined_tests c items whole agrees =
+joined_tests : (c : NodeContent) (items : List Item) → c.damaged ≡ false → contents_conflict c.content (fragment_of_taken c.content items).content ≡ false → join_touches_past c.content (fragment_of_taken c.content items) ≡ false → refusal_of c (join_of_taken c items) ≡ full_refusal c
+joined_tests c items whole agrees clear =
     let f = fragment_of_taken c.content items in
     λ i.
     or_else (cond (whole i) (Some Damaged)
@@ -150,13 +167,15 @@ joined_tests c items whole agrees =
     (cond (not (eq-eqb (length f.content.streams) (length c.content.streams) (count_streams (length c.content.streams) (taken_items c.content items)) i)) (Some WrongStreams)
     (cond (no_gap_at_0 (readable c.content) i) (Some (Gap 0 (readable c.content)))
     (cond (no_gap_at_0 c.content.horizon i) (passed_hold 0 (least_hold c.holds)) None)))))
-    (or_else (cond (and_none c.guarded (contents_conflict c.content f.content) agrees i) (Some Conflict) None) (full_refusal c))
+    (or_else (cond (and_none c.guarded (contents_conflict c.content f.content) agrees i) (Some Conflict) None)
+    (or_else (cond (and_none c.guarded (join_touches_past c.content f) clear i) (Some Conflict) None) (full_refusal c)))
 
 pub join_passes : (c : NodeContent) (items : List Item) (f : FragmentValue) → AgreesWith c items (Ok f) → None ≡ full_refusal c → refusal_of c (Join f) ≡ None
 join_passes c items f agrees room =
     let sent = fragment_of_taken c.content items in
     let apart : contents_conflict c.content sent.content ≡ false = agrees_with c.content sent agrees.1.1.0 (ap (join_result c.content) (sym agrees.1.0) ∙ agrees.1.1.2) in
-    ap (λ (g : FragmentValue). refusal_of c (Join g)) agrees.1.0 ∙ (joined_tests c items agrees.0 apart ∙ sym room)
+    let clear : join_touches_past c.content sent ≡ false = ap (join_touches_past c.content) (sym agrees.1.0) ∙ agrees.1.1.3 in
+    ap (λ (g : FragmentValue). refusal_of c (Join g)) agrees.1.0 ∙ (joined_tests c items agrees.0 apart clear ∙ sym room)
 
 pub take_refused : (old new : Lists) (items : List Item) (why : Refusal) → IsCaughtUp old new → AgreesWith (replay new.0) items (Err why) → TakesItems old items (Err why) new
 take_refused old new items why up h =
@@ -164,9 +183,9 @@ take_refused old new items why up h =
     let here = subst (λ (l : List Op). AgreesWith (replay l) items (Err why)) (first_of old new up) h in
     let refuses : RefusesTested (damage_refusal c) (take_refusal c items) old (join_of_taken c items) why new = elim here [
       | inl k ↦ by_tests (damage_refusal c) (take_refusal c items) old new (join_of_taken c items) why (ap is_plain k.1)
-          (ap (λ b. or_else (cond b (Some Damaged) None) (or_else (refusal_in (absorb_all c.content items)) (full_refusal c))) k.0 ∙ ap Some (sym k.1)) up
+          (ap (λ b. or_else (cond b (Some Damaged) None) (or_else (refusal_in (absorb_so c.guarded c.content items)) (full_refusal c))) k.0 ∙ ap Some (sym k.1)) up
       | inr k ↦ elim k.1 [
-        | inl e ↦ by_tests (damage_refusal c) (take_refusal c items) old new (join_of_taken c items) why (subst IsPlainResult e (all_plain items (Ok c.content) tt))
+        | inl e ↦ by_tests (damage_refusal c) (take_refusal c items) old new (join_of_taken c items) why (subst IsPlainResult e (so_plain c.guarded c.content items))
             (λ i. or_else (none_damaged c k.0 i) (or_else (refusal_in (e i)) (full_refusal c))) up
         | inr m ↦ subst (λ (w : Refusal). RefusesTested (damage_refusal c) (take_refusal c items) old (join_of_taken c items) w new) (sym m) (inr (none_damaged c k.0, up))
       ]
@@ -193,10 +212,6 @@ take_made old mid new items f r legal up agrees full h =
     let none : refusal_of c (Join sent) ≡ None = ap (λ (g : FragmentValue). refusal_of c (Join g)) (sym here.1.0) ∙ join_passes c items f here room in
     let done : AddsTo (all_of old) (Join sent) r new = subst (λ (g : FragmentValue). AddsTo (all_of old) (Join g) r new) here.1.0 (subst (λ (l : List Op). AddsTo l (Join f) r new) (first_of old mid up) h) in (
       tested old legal sent d here.0 gave (damage_refusal c) (take_refusal c items) (none_damaged c here.0) (taken_tests c items d here.0 here.1.1.1 ∙ sym room) none r new done,
-      has_taken old legal sent d here.0 gave items here.1.1.1 none r new done,
+      has_taken old legal sent d here.0 gave items (absorbed_so c.guarded c.content items d here.1.1.1) none r new done,
       sound old legal sent d here.0 gave none r new done,
     )
-
-pub agrees_whole : (c : NodeContent) (items : List Item) (r : Result FragmentValue Refusal) → c.damaged ≡ false → Agrees c.content items r → AgreesWith c items r
-agrees_whole c items (Ok f) whole h = (whole, h)
-agrees_whole c items (Err why) whole h = inr (whole, h)

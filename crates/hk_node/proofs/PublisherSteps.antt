@@ -2,15 +2,15 @@
 use Rattle.std.proofs.Common.{◌≡◌, true, List, [], ◌∷◌, ◌++◌, Option, Some, None, refl, sym, ap, ◌∙◌, subst, arith}
 use Rattle.std.proofs.lemmas.List.{append-nil}
 use Rattle.logbook.specs.Pages.{Book}
-use Rattle.hk_node.specs.declared.op.NodeKind.{NodeKind}
-use Rattle.hk_node.specs.declared.op.Op.TheVariants.{Start}
-use Rattle.hk_node.specs.declared.op.Op.{Op}
+use Rattle.hk_oplog.specs.declared.op.NodeKind.{NodeKind}
+use Rattle.hk_oplog.specs.declared.op.Op.TheVariants.{Start}
+use Rattle.hk_oplog.specs.declared.op.Op.{Op}
 use Rattle.hk_node.specs.declared.replica.Replica.{Replica}
 use Rattle.hk_node.specs.declared.replica.Logged.{Logged}
-use Rattle.hk_node.specs.NodeContent.{NodeContent}
-use Rattle.hk_node.specs.Replay.{kind_of, replay, refusal_of, content_after_op, start_content, is_legal}
+use Rattle.hk_oplog.specs.NodeContent.{NodeContent}
+use Rattle.hk_oplog.specs.Replay.{kind_of, replay, refusal_of, content_after_op, start_content, is_legal}
 use Rattle.hk_node.specs.Published.{View, queue, ops_of, IsReplay, IsPublisher}
-use Rattle.hk_node.proofs.LegalLists.{kind-snoc, replay-snoc, legal-snoc}
+use Rattle.hk_oplog.proofs.LegalLists.{kind-snoc, replay-snoc, legal-snoc}
 
 pub none_pending : (pending : List Logged) (late : Option Logged) → ops_of (queue pending late) ≡ [] → pending ≡ []
 none_pending [] late e = refl

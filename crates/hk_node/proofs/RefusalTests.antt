@@ -8,11 +8,12 @@ use Rattle.hk_model.specs.Replica.Maps.{or_else}
 use Rattle.hk_model.specs.Replica.Content.{Content, readable}
 use Rattle.hk_model.specs.Replica.Fragments.{FragmentValue}
 use Rattle.hk_model.specs.Replica.Rules.{contents_conflict}
-use Rattle.hk_node.specs.declared.op.Hold.{Hold}
-use Rattle.hk_node.specs.declared.op.Op.{Op}
-use Rattle.hk_node.specs.declared.op.Op.TheVariants.{Start, Join, Merge, Prune, Hold as HoldAt, Release}
-use Rattle.hk_node.specs.NodeContent.{NodeContent}
-use Rattle.hk_node.specs.Replay.{is_hold, least_hold, fit_refusal, full_refusal, guard_refusal, passed_hold, held_refusal, join_refused, refusal_of, replay}
+use Rattle.hk_model.specs.Replica.Touches.{join_touches_past, prune_touches_past}
+use Rattle.hk_oplog.specs.declared.op.Hold.{Hold}
+use Rattle.hk_oplog.specs.declared.op.Op.{Op}
+use Rattle.hk_oplog.specs.declared.op.Op.TheVariants.{Start, Join, Merge, Prune, Hold as HoldAt, Release}
+use Rattle.hk_oplog.specs.NodeContent.{NodeContent}
+use Rattle.hk_oplog.specs.Replay.{is_hold, least_hold, prune_reach, fit_refusal, full_refusal, guard_refusal, past_refusal, passed_hold, held_refusal, join_refused, refusal_of, replay}
 use Rattle.hk_node.specs.Changes.{Lists, all_of, IsCaughtUp, Refuses, RefusesConflict}
 
 -- whether a refusal is that of a test, in a guarded node or another
@@ -68,19 +69,30 @@ guard_tested c told = go c.guarded (contents_conflict c.content told)
     go true false = tt
     go false b = tt
 
+past_tested : (c : NodeContent) (touches : Bool) → AreTested c.guarded (past_refusal c touches)
+past_tested c touches = go c.guarded touches
+  where
+    go : (g b : Bool) → AreTested g (if g && b then Some Conflict else None)
+    go true true = refl
+    go true false = tt
+    go false b = tt
+
 join_tested : (c : NodeContent) (f : FragmentValue) → AreTested c.guarded (join_refused c f)
 join_tested c f =
-    or_tested c.guarded (fit_refusal c f.content.log (length f.content.streams) f.base f.content.horizon) (or_else (guard_refusal c f.content) (full_refusal c))
+    let past = past_refusal c (join_touches_past c.content f) in
+    or_tested c.guarded (fit_refusal c f.content.log (length f.content.streams) f.base f.content.horizon) (or_else (guard_refusal c f.content) (or_else past (full_refusal c)))
     (fit_tested c.guarded c f.content.log (length f.content.streams) f.base f.content.horizon)
-    (or_tested c.guarded (guard_refusal c f.content) (full_refusal c) (guard_tested c f.content) (full_tested c.guarded c))
+    (or_tested c.guarded (guard_refusal c f.content) (or_else past (full_refusal c)) (guard_tested c f.content) (or_tested c.guarded past (full_refusal c) (past_tested c (join_touches_past c.content f)) (full_tested c.guarded c)))
 
 refused_tested : (c : NodeContent) (op : Op) → AreTested c.guarded (refusal_of c op)
 refused_tested c (Start kind) = refl
 refused_tested c (Join f) = join_tested c f
 refused_tested c (Merge f) = join_tested c f
 refused_tested c (Prune n) =
+    let past = past_refusal c (prune_touches_past c.content (prune_reach c n)) in
     if_tested c.guarded c.damaged Damaged _ refl
-    (if_tested c.guarded (nat_lt (readable c.content) n) (AheadOfMark (readable c.content)) _ refl (full_tested c.guarded c))
+    (if_tested c.guarded (nat_lt (readable c.content) n) (AheadOfMark (readable c.content)) _ refl
+    (or_tested c.guarded past (full_refusal c) (past_tested c (prune_touches_past c.content (prune_reach c n))) (full_tested c.guarded c)))
 refused_tested c (HoldAt at) = if_tested c.guarded c.damaged Damaged _ refl (if_tested c.guarded (nat_lt at c.content.horizon) (TooOld c.content.horizon) _ refl (full_tested c.guarded c))
 refused_tested c (Release reader at) = if_tested c.guarded c.damaged Damaged _ refl (go (list_any (is_hold reader at) c.holds))
   where

@@ -2,13 +2,13 @@
 use Rattle.std.proofs.Common.{◌≡◌, ℕ, ◌+◌, true, List, [], ◌∷◌, ◌++◌, length, Some, refl, sym, ap, ◌∙◌, subst, length-append}
 use Rattle.std.proofs.lemmas.List.Elements.{filter_map-append}
 use Rattle.hk_types.specs.declared.faults.Refusal.TheVariants.{Unpublished}
-use Rattle.hk_node.specs.declared.op.Op.{Op}
-use Rattle.hk_node.specs.declared.op.Op.TheVariants.{Hold as HoldAt}
-use Rattle.hk_node.specs.Replay.{replay, is_legal}
-use Rattle.hk_node.specs.Lists.{hold_time, hold_times}
+use Rattle.hk_oplog.specs.declared.op.Op.{Op}
+use Rattle.hk_oplog.specs.declared.op.Op.TheVariants.{Hold as HoldAt}
+use Rattle.hk_oplog.specs.Replay.{replay, is_legal}
+use Rattle.hk_oplog.specs.Lists.{hold_time, hold_times}
 use Rattle.hk_node.specs.Changes.{Lists, all_of, Refuses, IsHandedOut}
-use Rattle.hk_node.proofs.LegalLists.{legal-snoc, last_snoc}
-use Rattle.hk_node.proofs.Holds.{replay_count}
+use Rattle.hk_oplog.proofs.LegalLists.{legal-snoc, last_snoc}
+use Rattle.hk_oplog.proofs.Holds.{replay_count}
 
 -- with one more hold
 one_hold : (ops : List Op) (t : ℕ) → length (hold_times (ops ++ HoldAt t ∷ [])) ≡ length (hold_times ops) + 1

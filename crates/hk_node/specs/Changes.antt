@@ -2,12 +2,12 @@
 use Rattle.std.specs.Prelude.{◌≡◌, ◌≢◌, ℕ, Bool, ◌+◌, ◌<◌, ◌⊎◌, true, false, List, [], ◌∷◌, ◌++◌, length, Option, Some, None, Result, Ok, Err, MatchResult}
 use Rattle.hk_types.specs.declared.faults.Refusal.{Refusal}
 use Rattle.hk_types.specs.declared.faults.Refusal.TheVariants.{Conflict, Unpublished, Memory}
-use Rattle.hk_node.specs.declared.op.Op.{Op}
-use Rattle.hk_node.specs.declared.op.Hold.{Hold}
-use Rattle.hk_node.specs.declared.op.NodeKind.{NodeKind}
-use Rattle.hk_node.specs.declared.op.Op.TheVariants.{Hold as HoldAt, Prune as PruneTo, Release}
-use Rattle.hk_node.specs.Lists.{hold_times, last_of}
-use Rattle.hk_node.specs.Replay.{replay, refusal_of, is_legal, IsListOf}
+use Rattle.hk_oplog.specs.declared.op.Op.{Op}
+use Rattle.hk_oplog.specs.declared.op.Hold.{Hold}
+use Rattle.hk_oplog.specs.declared.op.NodeKind.{NodeKind}
+use Rattle.hk_oplog.specs.declared.op.Op.TheVariants.{Hold as HoldAt, Prune as PruneTo, Release}
+use Rattle.hk_oplog.specs.Lists.{hold_times, last_of}
+use Rattle.hk_oplog.specs.Replay.{replay, refusal_of, is_legal, IsListOf}
 
 -- the published list, and what waits: at most one operation
 abbrev pub Lists : Type 0
@@ -61,6 +61,11 @@ AddsTo ops op (Err why) new = ⊥
 -- what a change answers at some legal list of such a node, whichever it was when the lock was got
 abbrev pub ChangesSome : NodeKind → Op → Result (List Op) Refusal → Type 0
 ChangesSome kind op result = (old : Lists) × (new : Lists) × IsListOf kind (all_of old) × Changes old op result new
+
+-- a change that gives a number with the receipt, where it is answered so
+abbrev pub CountedAs : (Result (List Op) Refusal → Type 0) → Result (ℕ × List Op) Refusal → Type 0
+CountedAs Answers (Ok t) = Answers (Ok t.1)
+CountedAs Answers (Err why) = Answers (Err why)
 
 -- a publish: what waited was published, and the receipt names the whole list; or memory ran out with nothing changed,
 -- where something waits

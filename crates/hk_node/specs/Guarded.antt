@@ -1,38 +1,14 @@
--- A guarded node is never damaged, and what a taking of items answers.
-use Rattle.std.specs.Prelude.{◌≡◌, ◌⊎◌, ◌<◌, ◌+◌, if◌then◌else◌, List, [], ◌∷◌, ◌++◌, length, Option, Some, None, Result, Ok, Err, true, false}
+-- What a taking of items answers.
+use Rattle.std.specs.Prelude.{◌≡◌, ◌⊎◌, ◌<◌, ◌+◌, List, [], ◌∷◌, ◌++◌, length, Option, Some, None, Result, Ok, Err}
 use Rattle.hk_types.specs.declared.faults.Refusal.{Refusal}
-use Rattle.hk_types.specs.declared.faults.Refusal.TheVariants.{Damaged, Memory, Unpublished}
+use Rattle.hk_types.specs.declared.faults.Refusal.TheVariants.{Memory, Unpublished}
 use Rattle.hk_log.specs.declared.item.Item.{Item}
-use Rattle.hk_model.specs.Replica.Content.{Content}
-use Rattle.hk_model.specs.Replica.Fragments.{FragmentValue}
-use Rattle.hk_model.specs.Replica.Maps.{or_else}
-use Rattle.hk_delta.specs.Agreeing.{absorb_all, fragment_of_taken, Agrees}
-use Rattle.hk_node.specs.declared.op.NodeKind.{NodeKind}
-use Rattle.hk_node.specs.declared.op.Op.{Op}
-use Rattle.hk_node.specs.declared.op.Op.TheVariants.{Join}
+use Rattle.hk_delta.specs.Agreeing.{absorb_all}
+use Rattle.hk_oplog.specs.declared.op.NodeKind.{NodeKind}
+use Rattle.hk_oplog.specs.declared.op.Op.{Op}
+use Rattle.hk_oplog.specs.Guarded.{damage_refusal, join_of_taken, take_refusal}
+use Rattle.hk_oplog.specs.Replay.{replay, IsListOf}
 use Rattle.hk_node.specs.Changes.{Lists, all_of, IsCaughtUp, IsMade, IsWaiting}
-use Rattle.hk_node.specs.NodeContent.{NodeContent}
-use Rattle.hk_node.specs.Replay.{replay, full_refusal, guarded_of, is_legal, IsListOf}
-
--- no legal list of a guarded node is damaged
-abbrev pub GuardLaw : Type 0
-GuardLaw = (ops : List Op) → is_legal ops ≡ true → guarded_of ops ≡ true → (replay ops).damaged ≡ false
-
-abbrev pub damage_refusal : NodeContent → Option Refusal
-damage_refusal c = if c.damaged then Some Damaged else None
-
-abbrev pub refusal_in : Result Content Refusal → Option Refusal
-refusal_in (Ok c) = None
-refusal_in (Err why) = Some why
-
--- why items are not taken: the damage, or the first refusal of absorbing them one after the other, or that there is no room for
--- one operation more
-abbrev pub take_refusal : NodeContent → List Item → Option Refusal
-take_refusal c items = or_else (damage_refusal c) (or_else (refusal_in (absorb_all c.content items)) (full_refusal c))
-
--- the join of those of the items that tell something new
-abbrev pub join_of_taken : NodeContent → List Item → Op
-join_of_taken c items = Join (fragment_of_taken c.content items)
 
 -- a refusal of a change that these tests refuse: memory ran out, with nothing changed where something waited and could not be
 -- published, else once the first of the tests had passed; the operation waits, and has the number that is named; or it is that
@@ -64,8 +40,3 @@ TakesItems old items result new =
 -- what a taking answers at some legal list of such a node, whichever it was when the lock was got
 abbrev pub TakesSome : NodeKind → List Item → Result (List Op) Refusal → Type 0
 TakesSome kind items result = (old : Lists) × (new : Lists) × IsListOf kind (all_of old) × TakesItems old items result new
-
--- the fragment of what items tell a node's content, or that it is damaged
-abbrev pub AgreesWith : NodeContent → List Item → Result FragmentValue Refusal → Type 0
-AgreesWith c items (Ok f) = (c.damaged ≡ false) × Agrees c.content items (Ok f)
-AgreesWith c items (Err why) = ((c.damaged ≡ true) × (why ≡ Damaged)) ⊎ ((c.damaged ≡ false) × Agrees c.content items (Err why))

@@ -1,11 +1,5 @@
-pub mod NodeContent
-pub mod Replay
-pub mod Holds
-pub mod Lists
 pub mod Book
 pub mod Published
 pub mod Changes
 pub mod Guarded
 pub mod Taken
-pub mod Replies
-pub mod Carried

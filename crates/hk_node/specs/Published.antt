@@ -7,12 +7,12 @@ use Rattle.left_right.specs.Sides.{view as known}
 use Rattle.left_right.specs.declared.Absorb.{Ghosts}
 use Rattle.left_right.specs.declared.writer.Writer.{Writer}
 use Rattle.logbook.specs.Pages.{Book}
-use Rattle.hk_node.specs.declared.op.NodeKind.{NodeKind}
-use Rattle.hk_node.specs.declared.op.Op.{Op}
+use Rattle.hk_oplog.specs.declared.op.NodeKind.{NodeKind}
+use Rattle.hk_oplog.specs.declared.op.Op.{Op}
 use Rattle.hk_node.specs.declared.replica.Replica.{Replica}
 use Rattle.hk_node.specs.declared.replica.Logged.{Logged}
 use Rattle.hk_node.specs.Book.{no_book}
-use Rattle.hk_node.specs.Replay.{content_after_op, kind_of, replay, is_legal}
+use Rattle.hk_oplog.specs.Replay.{content_after_op, kind_of, replay, is_legal}
 
 -- what a reader or the writer knows: of which node, and which operations
 abbrev pub View : Type 0

@@ -6,9 +6,9 @@ use Rattle.hk_model.specs.Replica.Content.{Content}
 use Rattle.hk_model.specs.Replica.Replicas.{Represents}
 use Rattle.hk_model.specs.History.Histories.{History, IsHistory, AreItemsOf}
 use Rattle.hk_delta.specs.Agreeing.{absorb_all}
-use Rattle.hk_node.specs.NodeContent.{NodeContent}
-use Rattle.hk_node.specs.Replay.{full_refusal}
-use Rattle.hk_node.specs.Guarded.{take_refusal}
+use Rattle.hk_oplog.specs.NodeContent.{NodeContent}
+use Rattle.hk_oplog.specs.Replay.{full_refusal}
+use Rattle.hk_oplog.specs.Guarded.{take_refusal}
 
 -- items and, before them, those that came later, the last one first
 abbrev pub with_newest : List Item → List Item → List Item

@@ -2,11 +2,11 @@
 
 ghost use Rattle.std.specs.Prelude.{◌≡◌, ◌<◌, ◌≤◌, ◌^◌, ◌++◌, ◌∷◌, [], true, false, length, None, IsTrue, IfSome};
 ghost use mathlib.Core.List.{IsPrefix};
-ghost use Rattle.hk_node.specs.declared.op.Op.TheVariants.{Start as StartOf};
-ghost use Rattle.hk_node.specs.Replay.{config_of, guarded_of, is_legal, kind_of, refusal_of, replay};
+ghost use Rattle.hk_oplog.specs.declared.op.Op.TheVariants.{Start as StartOf};
+ghost use Rattle.hk_oplog.specs.Replay.{config_of, guarded_of, is_legal, kind_of, refusal_of, replay};
 ghost use Rattle.hk_node.specs.Book.{counter_of};
 
-use crate::op::{NodeKind, Op};
+use hk_oplog::{NodeKind, Op};
 use hk_types::Config;
 use logbook::{Gain, Offer, Opening, Plain, Play, Rule, Seen, Start, Word};
 use std::marker::{Brand, Model};
@@ -37,7 +37,7 @@ pub struct Opens;
 
 impl Opening<NodeKind, Op> for Opens {
     ghost use Rattle.std.specs.Prelude.{[], ◌∷◌};
-    ghost use Rattle.hk_node.specs.declared.op.Op.TheVariants.{Start as StartOf};
+    ghost use Rattle.hk_oplog.specs.declared.op.Op.TheVariants.{Start as StartOf};
 
     ghost log = { λ count kind. StartOf kind ∷ [] };
 }
@@ -71,7 +71,7 @@ impl Plain<Op, Op, u64> for Add {
 /// Which node it is, of which log, and whether it is guarded: a name that exists in the proofs alone.
 pub trait NodeName {
     ghost use Rattle.logbook.specs.Pages.{Book};
-    ghost use Rattle.hk_node.specs.declared.op.NodeKind.{NodeKind};
+    ghost use Rattle.hk_oplog.specs.declared.op.NodeKind.{NodeKind};
 
     ghost book: { Book };
 
@@ -105,11 +105,11 @@ pub struct Prefix {
 impl Model for Prefix {
     ghost use Rattle.std.specs.Prelude.{◌≡◌, true, List, length};
     ghost use Rattle.logbook.specs.Pages.{Book};
-    ghost use Rattle.hk_node.specs.declared.op.Op.{Op};
-    ghost use Rattle.hk_node.specs.Replay.{is_legal, kind_of};
+    ghost use Rattle.hk_oplog.specs.declared.op.Op.{Op};
+    ghost use Rattle.hk_oplog.specs.Replay.{is_legal, kind_of};
     ghost use Rattle.logbook.specs.Pages.{book_coded};
     ghost use Rattle.std.specs.Coded.{coded×, coded_list};
-    ghost use Rattle.hk_node.specs.contracts.op.Op as op;
+    ghost use Rattle.hk_oplog.specs.contracts.op.Op as op;
 
     ghost Value = { Book × List Op };
 
@@ -215,8 +215,8 @@ pub struct NewList {
 impl Model for NewList {
     ghost use Rattle.std.specs.Prelude.{◌≡◌, ◌∷◌, []};
     ghost use Rattle.logbook.specs.Pages.{Book};
-    ghost use Rattle.hk_node.specs.declared.op.NodeKind.{NodeKind};
-    ghost use Rattle.hk_node.specs.declared.op.Op.TheVariants.{Start as StartOf};
+    ghost use Rattle.hk_oplog.specs.declared.op.NodeKind.{NodeKind};
+    ghost use Rattle.hk_oplog.specs.declared.op.Op.TheVariants.{Start as StartOf};
 
     ghost Value = { Book × NodeKind };
 

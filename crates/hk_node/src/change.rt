@@ -2,15 +2,17 @@
 
 ghost use Rattle.std.specs.Prelude.{◌≡◌, ◌≤◌, [], None, Some, true, length, IfOk, IfErr};
 ghost use Rattle.hk_model.specs.Replica.Fragments.{cut};
-ghost use Rattle.hk_node.specs.declared.op.Op.TheVariants.{Hold as HoldAt, Merge as MergeOf, Prune as PruneTo, Release};
-ghost use Rattle.hk_node.specs.Changes.{all_of, AddsTo, Changes, HoldsAt, IsGiven, IsHandedBack, IsHandedOut, Prunes, Publishes, Refuses, ReleasesHold};
-ghost use Rattle.hk_node.specs.Lists.{last_of};
-ghost use Rattle.hk_node.specs.Replay.{is_legal, refusal_of, replay, IsListOf};
+ghost use Rattle.hk_oplog.specs.declared.op.Op.TheVariants.{Hold as HoldAt, Join as JoinOf, Merge as MergeOf, Prune as PruneTo, Release};
+ghost use Rattle.hk_node.specs.Changes.{all_of, AddsTo, Changes, CountedAs, HoldsAt, IsGiven, IsHandedBack, IsHandedOut, Prunes, Publishes, Refuses, ReleasesHold};
+ghost use Rattle.hk_oplog.specs.Lists.{last_of};
+ghost use Rattle.hk_oplog.specs.NewItems.{new_to};
+ghost use Rattle.hk_oplog.specs.Replay.{is_legal, refusal_of, replay, IsListOf};
 
 use crate::book::NodeName;
-use crate::op::{Hold, Op};
 use crate::publisher::{Publisher, Receipt};
 use hk_delta::Fragment;
+use hk_log::Item;
+use hk_oplog::{Hold, Op};
 use hk_state::ReplicaState;
 use hk_types::{Refusal, Time};
 use std::sync::Wait;
@@ -20,8 +22,8 @@ use std::sync::Wait;
 /// What waits is published first; where that is refused, it is `Memory` and nothing changed: at no other time does
 /// `Memory` come before the tests, and at most one operation waits. Then the operation is
 /// tested after all others, and its refusal answered: in a guarded node also `Conflict`, where it conflicts with what the
-/// node holds. Then it is added and published, as `add` does: `Memory`, `Unpublished`, and `Conflict` of a node that is
-/// not guarded. Cost: that of the tests, of the operation, and of what waits.
+/// node holds, or touches its past. Then it is added and published, as `add` does: `Memory`, `Unpublished`, and `Conflict` of a
+/// node that is not guarded. Cost: that of the tests, of the operation, and of what waits.
 pub fn change<J: NodeName, R: Wait + Drop>(
     publisher: &mut Publisher<J, R>,
     op: Op,
@@ -41,11 +43,40 @@ pub fn change<J: NodeName, R: Wait + Drop>(
     add(publisher, op)
 }
 
+/// The join of the fragment that items were gathered to, at what lies under the writer's lock: it runs as `change`, and
+/// tells how many of the items told something new. Cost: that of `change`, and of a look at each item.
+pub fn join_gathered<J: NodeName, R: Wait + Drop>(
+    publisher: &mut Publisher<J, R>,
+    fragment: Fragment,
+    items: &[Item],
+) -> Result<(u64, Receipt<J>), Refusal>
+    ensures change { CountedAs (λ r. Changes publisher.old (JoinOf fragment) r publisher.new) result }
+    ensures before { IsListOf J.kind (all_of publisher.old) }
+    ensures legal { IfOk result (λ t. is_legal t.1 ≡ true) }
+    ensures last { IfOk result (λ t. last_of t.1 ≡ Some (JoinOf fragment)) }
+    ensures new { IfOk result (λ t. t.0 ≡ new_to t.1 items.now) }
+{
+    let Ok(()) = publisher.publish() else {
+        return Err(Refusal::Memory);
+    };
+    let op = Op::Join(fragment);
+    match publisher.refusal(&op) {
+        Some(why) => Err(why),
+        None => {
+            let new = publisher.count_new(items);
+            match add(publisher, op) {
+                Ok(receipt) => Ok((new, receipt)),
+                Err(why) => Err(why),
+            }
+        }
+    }
+}
+
 /// Adds an operation that is not refused behind the published list, where nothing waits, and publishes it: `Memory` where
 /// it could not be added; `Unpublished` with its number where it could not be published, and then it waits, and the next
 /// publish shows it; `Conflict` where it met a conflict, which damages the node for good: a guarded node refuses such an
 /// operation before. Cost: that of the operation.
-#[tactic(auto, using(crate::proofs::LegalLists::last_snoc))]
+#[tactic(auto, using(hk_oplog::proofs::LegalLists::last_snoc))]
 pub(crate) fn add<J: NodeName, R: Wait + Drop>(
     publisher: &mut Publisher<J, R>,
     op: Op,
@@ -113,9 +144,9 @@ fn refusal_of_merge<J: NodeName, R: Wait + Drop>(
     ensures refuses { Refuses publisher.old (MergeOf (cut state.now 0)) result publisher.new }
     ensures before { IsListOf J.kind (all_of publisher.old) }
 {
-    if publisher.publish().is_err() {
+    let Ok(()) = publisher.publish() else {
         return Refusal::Memory;
-    }
+    };
     match publisher.merge_refusal(state) {
         Some(why) => why,
         None => Refusal::Memory,

@@ -2,21 +2,24 @@
 
 ghost use Rattle.std.specs.Prelude.{◌≡◌, ◌∷◌, [], ◌<◌, ◌≤◌, List, All, Some, true, length, IfOk, IfErr, vec_len};
 ghost use Rattle.hk_types.specs.declared.faults.Refusal.TheVariants.{Memory};
-ghost use Rattle.hk_node.specs.Changes.{ChangesSome, HoldsSome, IsGiven, IsHandedBack, PrunesSome, PublishesSome, ReleasesSome};
+ghost use Rattle.hk_node.specs.Changes.{ChangesSome, CountedAs, HoldsSome, IsGiven, IsHandedBack, PrunesSome, PublishesSome, ReleasesSome};
 ghost use Rattle.hk_node.specs.Guarded.{TakesSome};
 ghost use Rattle.hk_model.specs.Replica.Fragments.{cut};
-ghost use Rattle.hk_node.specs.declared.op.Op.TheVariants.{Start as StartOf, Join as JoinOf, Merge as MergeOf, Prune as PruneTo, Hold as HoldAt, Release};
-ghost use Rattle.hk_node.specs.Lists.{last_of};
-ghost use Rattle.hk_node.specs.Replay.{is_legal, replay};
+ghost use Rattle.hk_oplog.specs.declared.op.Op.TheVariants.{Start as StartOf, Join as JoinOf, Merge as MergeOf, Prune as PruneTo, Hold as HoldAt, Release};
+ghost use Rattle.hk_oplog.specs.Lists.{last_of};
+ghost use Rattle.hk_oplog.specs.NewItems.{new_to};
+ghost use Rattle.hk_oplog.specs.Replay.{is_legal, replay};
 
 use crate::book::{NewList, NodeName};
-use crate::change::{change, hold_at, merge_whole, prune_to, publish_waiting, release_hold};
+use crate::change::{
+    change, hold_at, join_gathered, merge_whole, prune_to, publish_waiting, release_hold,
+};
 use crate::guarding::take_agreed;
-use crate::op::{Hold, Op};
 use crate::publisher::{Publisher, Receipt, copies_of};
 use crate::seat::{ReaderSeat, seats_of};
 use hk_delta::{Fragment, whole_of};
 use hk_log::Item;
+use hk_oplog::{Hold, Op};
 use hk_state::ReplicaState;
 use hk_types::{Refusal, Time};
 use std::alloc::Global;
@@ -25,7 +28,8 @@ use std::sync::{Mutex, Wait};
 /// Starts a node with so many places for readers, 1 to 64, and gives a seat for each. Its list has the start alone.
 ///
 /// The list is a new one, which names the node, and says of which log it is and whether it is guarded: `J` is this name
-/// with both, by which a receipt of another node is none of this one's. The only refusal is `Memory`. Cost: O(s + p²), s streams, p places.
+/// with both, by which a receipt of another node is none of this one's. The only refusal is `Memory`. Cost: O(s + p²),
+/// s streams, p places.
 pub fn start<J: NodeName, R: Wait + Drop>(
     rt: R,
     alloc: Global,
@@ -58,11 +62,12 @@ pub fn start<J: NodeName, R: Wait + Drop>(
 /// publish it. At most one operation waits. After every other refusal the list of operations is as before, but after
 /// `Conflict` of a node that is not guarded.
 ///
-/// A guarded node (`NewList::guarded`) is never damaged: it refuses `Conflict` each change that contradicts what it holds,
-/// and nothing changed. Of items that is what an absorb would refuse so: an item that contradicts the state, an item
-/// before it, or the closed time of its stream. Of a fragment or a state it is that two facts of one version differ, and
-/// nothing else: a late row or a late end in a fragment, and a horizon or a mark beyond what is true, are joined; an entry
-/// whose number is taken is passed over, whatever it has.
+/// A guarded node (`NewList::guarded`) is never damaged, and its past is final: it refuses `Conflict` each change that
+/// contradicts what it holds or could change an answer at a time that it can be asked, and nothing changed. Of items that
+/// is what an absorb would refuse so, an item that contradicts the state, an item before it, or the closed time of its
+/// stream; and an entry under a taken number, of a time above the horizon, that stands otherwise than it is told. Of a
+/// fragment or a state it is that two facts of one version differ, or that its join touches the past; of a prune, that this
+/// does. A horizon above the readable mark, and a mark or a number beyond what is true, are joined.
 ///
 /// Cost: each call says its own, beside O(p), p places for readers. A change is made on one copy at once, and on the
 /// other one by the next change, which pays for both.
@@ -77,11 +82,12 @@ impl<J: NodeName, R: Wait + Drop> Node<J, R> {
     ///
     /// Refusals in order: `Damaged`; `ForeignLog`, `WrongStreams` and `Gap` as the join of a fragment into a state;
     /// `Held` with the hold of the least time, and of the least number there, that the horizon would pass; in a guarded
-    /// node `Conflict` where fragment and state conflict with each other, and nothing changed; `NodeFull`; `Memory`;
-    /// `Unpublished`; in another node `Conflict` where they conflict, which damages it for good. The fragment is dropped
-    /// with a refusal: who would try again keeps a copy. Cost: that of joining a fragment into a state, and O(h), h holds
-    /// that stand; in a guarded node also O(c · log n + b) for the test under the lock, c versions of the fragment, n facts
-    /// of the state, b bytes of bodies compared.
+    /// node `Conflict` where fragment and state conflict with each other, or the join touches the past, and nothing changed;
+    /// `NodeFull`; `Memory`; `Unpublished`; in another node `Conflict` where they conflict, which damages it for good. The
+    /// fragment is dropped with a refusal: who would try again keeps a copy. Cost: that of joining a fragment into a state,
+    /// and O(h), h holds that stand; in a guarded node also O(c · log n + b) for the test under the lock, c versions of the
+    /// fragment, n facts of the state, b bytes of bodies compared, and where the horizon rises that of
+    /// `hk_merge::join_touches_past`.
     pub fn join<W: Wait>(&self, rt: &W, fragment: Fragment) -> Result<Receipt<J>, Refusal>
         ensures legal { IfOk result (λ list. is_legal list ≡ true) }
         ensures change { ChangesSome J.kind (JoinOf fragment) result }
@@ -91,17 +97,37 @@ impl<J: NodeName, R: Wait + Drop> Node<J, R> {
         change(&mut *publisher, Op::Join(fragment))
     }
 
-    /// Takes items, all or nothing: the node holds then what absorbing them one after the other gives, by one join of those
-    /// that tell something new. They are tested before that join is added, in every node: it is damaged after the call only
-    /// where it was before, and `Conflict` changed nothing.
+    /// Joins the fragment that items were gathered to, with the refusals of `join`, and tells how many of the items told the
+    /// node something new: entries whose number it did not have, and marks that close more than it had closed, each
+    /// compared with what the node held before. Cost: that of `join`, and of a look at each item.
+    pub fn join_gathered<W: Wait>(
+        &self,
+        rt: &W,
+        fragment: Fragment,
+        items: &[Item],
+    ) -> Result<(u64, Receipt<J>), Refusal>
+        ensures legal { IfOk result (λ t. is_legal t.1 ≡ true) }
+        ensures change { CountedAs (ChangesSome J.kind (JoinOf fragment)) result }
+        ensures last { IfOk result (λ t. last_of t.1 ≡ Some (JoinOf fragment)) }
+        ensures new { IfOk result (λ t. t.0 ≡ new_to t.1 items.now) }
+    {
+        let mut publisher = self.publisher.lock(rt);
+        join_gathered(&mut *publisher, fragment, items)
+    }
+
+    /// Takes items, all or nothing, and tells how many of them told something new, as `join_gathered` does: the node holds then
+    /// what absorbing them one after the other gives, by one join of those that tell something new. They are tested before that
+    /// join is added, in every node: it is damaged after the call only where it was before, and `Conflict` changed nothing.
     ///
     /// Refusals in order: `Damaged`; the refusal of the first item that an absorb would refuse, as `ForeignLog`,
-    /// `WrongStreams`, or `Conflict` with the state, with an item before it, or with the closed time of its stream;
-    /// `NodeFull`; `Memory`, which comes before the refusal of an item where memory ran out while the items were tested;
-    /// `Unpublished`. Cost: that of `join` of what is new, and that of `hk_delta::agreed` under the lock.
-    pub fn take<W: Wait>(&self, rt: &W, items: &[Item]) -> Result<Receipt<J>, Refusal>
-        ensures legal { IfOk result (λ list. is_legal list ≡ true) }
-        ensures take { TakesSome J.kind items.now result }
+    /// `WrongStreams`, or `Conflict` with the state, with an item before it, or with the closed time of its stream; in a
+    /// guarded node `Conflict` where an entry of a time above the horizon stands otherwise than it is told; `NodeFull`;
+    /// `Memory`, which comes before the refusal of an item where memory ran out while the items were tested; `Unpublished`.
+    /// Cost: that of `join` of what is new, and under the lock that of `hk_delta::agreed` and a look at each item.
+    pub fn take<W: Wait>(&self, rt: &W, items: &[Item]) -> Result<(u64, Receipt<J>), Refusal>
+        ensures legal { IfOk result (λ t. is_legal t.1 ≡ true) }
+        ensures take { CountedAs (TakesSome J.kind items.now) result }
+        ensures new { IfOk result (λ t. t.0 ≡ new_to t.1 items.now) }
     {
         let mut publisher = self.publisher.lock(rt);
         take_agreed(&mut *publisher, self.alloc, items)
@@ -123,7 +149,8 @@ impl<J: NodeName, R: Wait + Drop> Node<J, R> {
     /// Prunes to a time, or to the least hold that stands where that is lower, and gives the horizon after it. Where the
     /// lower of the two is at most the horizon, the horizon and what can be read stay as they are.
     ///
-    /// Refusals in order: `Damaged`; `AheadOfMark` with the readable mark, where the time is above it; `NodeFull`;
+    /// Refusals in order: `Damaged`; `AheadOfMark` with the readable mark, where the time is above it; in a guarded node
+    /// `Conflict` where a row that goes lets an older one show, which no prune of one log's items does; `NodeFull`;
     /// `Memory`; `Unpublished`, which tells the operation's number and no horizon: once `publish` gave a receipt, the
     /// front of a seat that learnt it has the horizon. Cost: that of pruning a state, and O(h), h holds that stand.
     pub fn prune<W: Wait>(&self, rt: &W, time: Time) -> Result<(Time, Receipt<J>), Refusal>

@@ -2,20 +2,21 @@
 
 ghost use Rattle.std.specs.Prelude.{◌≡◌, ◌++◌, ◌∷◌, [], fold, length, None, true, MatchResult, IfOk, IfErr, IfSome, IsTrue, OnErr, ◌<◌, ◌≤◌, ◌^◌};
 ghost use Rattle.left_right.specs.Sides.{view as known};
-ghost use Rattle.hk_node.specs.declared.op.Op.TheVariants.{Start as StartOf};
+ghost use Rattle.hk_oplog.specs.declared.op.Op.TheVariants.{Start as StartOf};
 ghost use Rattle.hk_types.specs.declared.faults.Refusal.TheVariants.{Memory};
 ghost use Rattle.hk_model.specs.Replica.Fragments.{cut};
-ghost use Rattle.hk_node.specs.Replay.{full_refusal, join_refused, kind_of, start_content, is_legal, refusal_of, replay, IsListOf};
-ghost use Rattle.hk_node.specs.Guarded.{AgreesWith};
+ghost use Rattle.hk_oplog.specs.Replay.{full_refusal, join_refused, kind_of, start_content, is_legal, refusal_of, replay, IsListOf};
+ghost use Rattle.hk_oplog.specs.Guarded.{AgreesWith};
+ghost use Rattle.hk_oplog.specs.NewItems.{count_new};
 ghost use Rattle.hk_node.specs.Published.{IsEmptied, IsReady, IsReplay, IsShown, ShowsAll, next, pending, shown, waiting};
 
 use crate::book::{Counter, NodeName, Prefix};
-use crate::op::{NodeKind, Op};
 use crate::replica::{Logged, Replica};
 use core::mem::replace_with;
 use crossbeam_utils::rule::{Outcome, Protocol};
 use hk_delta::Fragment;
 use hk_log::Item;
+use hk_oplog::{NodeKind, Op};
 use hk_state::ReplicaState;
 use hk_types::{Refusal, Time};
 use left_right::reader::{Reader, Reading};
@@ -150,10 +151,10 @@ pub struct Receipt<J: NodeName> {
 
 impl<J: NodeName> Model for Receipt<J> {
     ghost use Rattle.std.specs.Prelude.{◌≡◌, List};
-    ghost use Rattle.hk_node.specs.declared.op.Op.{Op};
-    ghost use Rattle.hk_node.specs.Replay.{kind_of};
+    ghost use Rattle.hk_oplog.specs.declared.op.Op.{Op};
+    ghost use Rattle.hk_oplog.specs.Replay.{kind_of};
     ghost use Rattle.std.specs.Coded.{coded_list};
-    ghost use Rattle.hk_node.specs.contracts.op.Op as op;
+    ghost use Rattle.hk_oplog.specs.contracts.op.Op as op;
 
     ghost Value = { List Op };
 
@@ -194,9 +195,9 @@ pub struct Publisher<J: NodeName, R: Wait + Drop> {
 
 impl<J: NodeName, R: Wait + Drop> Model for Publisher<J, R> {
     ghost use Rattle.std.specs.Prelude.{List};
-    ghost use Rattle.hk_node.specs.declared.op.Op.{Op};
+    ghost use Rattle.hk_oplog.specs.declared.op.Op.{Op};
     ghost use Rattle.std.specs.Coded.{coded×, coded_list};
-    ghost use Rattle.hk_node.specs.contracts.op.Op as op;
+    ghost use Rattle.hk_oplog.specs.contracts.op.Op as op;
 
     ghost Value = { List Op × List Op };
 
@@ -283,7 +284,7 @@ impl<J: NodeName, R: Wait + Drop> Publisher<J, R> {
     }
 
     /// Why an operation is refused after the published list, if it is. Cost: O(s + h), s streams, h holds that
-    /// stand, and in a guarded node that of the test of a fragment for a conflict.
+    /// stand, and in a guarded node that of the tests of a fragment, and of a prune, as `Body::refusal` has them.
     pub fn refusal(&self, op: &Op) -> Option<Refusal>
         ensures { result ≡ refusal_of (replay self.now.0) op.now }
     {
@@ -310,6 +311,13 @@ impl<J: NodeName, R: Wait + Drop> Publisher<J, R> {
         ensures { AgreesWith (replay self.now.0) items.now result }
     {
         self.published().body.agreed(alloc, items)
+    }
+
+    /// How many of the items tell something new after the published list, each compared with it alone. It takes no memory.
+    pub fn count_new(&self, items: &[Item]) -> u64
+        ensures { result ≡ count_new (replay self.now.0).content items.now }
+    {
+        self.published().body.count_new(items)
     }
 
     /// The published list with one operation more, which the node's list has from now on.

@@ -2,11 +2,10 @@
 
 ghost use Rattle.std.specs.Prelude.{◌≡◌, ◌++◌, ◌∷◌, [], None, IfOk, IfSome, IfErr};
 ghost use Rattle.hk_types.specs.declared.faults.Refusal.TheVariants.{Memory};
-ghost use Rattle.hk_node.specs.Replay.{start_content, refusal_of, replay};
+ghost use Rattle.hk_oplog.specs.Replay.{start_content, refusal_of, replay};
 
-use crate::body::Body;
 use crate::book::{Counter, Prefix};
-use crate::op::{NodeKind, Op};
+use hk_oplog::{Body, NodeKind, Op};
 use hk_types::Refusal;
 use left_right::Absorb;
 use std::alloc::{AllocError, Global};

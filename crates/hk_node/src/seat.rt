@@ -6,11 +6,12 @@ ghost use Rattle.hk_model.specs.Replica.Pages.{page_seen};
 ghost use Rattle.hk_model.specs.Replica.StreamsTold.{streams_seen};
 ghost use mathlib.Core.List.{IsPrefix};
 ghost use Rattle.left_right.specs.Sides.{view as known};
-ghost use Rattle.hk_node.specs.Carried.{IsLatestOfPrimary, IsOfPrimary};
-ghost use Rattle.hk_node.specs.Holds.{HoldsBack};
+ghost use Rattle.hk_oplog.specs.Carried.{IsLatestOfPrimary, IsOfPrimary};
+ghost use Rattle.hk_oplog.specs.Final.{IsFinal, IsLatestFinal, IsPageFinal};
+ghost use Rattle.hk_oplog.specs.Holds.{HoldsBack};
 ghost use Rattle.hk_node.specs.Published.{IsOf, IsReplay, KeepsShown};
-ghost use Rattle.hk_node.specs.Replay.{config_of, guarded_of, is_legal, kind_of, replay, IsListOf};
-ghost use Rattle.hk_node.specs.Replies.{Answers, GivesOrMemory, GivesSeen, timed_seen, node_delta, node_front, node_latest, node_page, node_reply, node_streams, node_whole};
+ghost use Rattle.hk_oplog.specs.Replay.{config_of, guarded_of, is_legal, kind_of, replay, IsListOf};
+ghost use Rattle.hk_oplog.specs.Replies.{Answers, GivesOrMemory, GivesSeen, timed_seen, node_delta, node_front, node_latest, node_page, node_reply, node_streams, node_whole};
 
 use crate::book::{NodeName, Prefix};
 use crate::publisher::{NodeReader, NodeReading, NodeWriter, Observes, Receipt};
@@ -92,16 +93,16 @@ pub struct ReaderSeat<J: NodeName> {
 impl<J: NodeName> Model for ReaderSeat<J> {
     ghost use Rattle.std.specs.Prelude.{◌≡◌, List, MatchOption};
     ghost use Rattle.left_right.specs.Sides.{view as known};
-    ghost use Rattle.hk_node.specs.declared.op.Op.{Op};
+    ghost use Rattle.hk_oplog.specs.declared.op.Op.{Op};
     ghost use Rattle.std.specs.Coded.{coded_list};
-    ghost use Rattle.hk_node.specs.contracts.op.Op as op;
+    ghost use Rattle.hk_oplog.specs.contracts.op.Op as op;
 
     ghost Value = { List Op };
 
     ghost coded = { coded_list op.the_row.coded };
 
     ghost use Rattle.hk_node.specs.Published.{IsOf};
-    ghost use Rattle.hk_node.specs.Replay.{kind_of};
+    ghost use Rattle.hk_oplog.specs.Replay.{kind_of};
 
     ghost view = { λ s. s.prefix.1 };
 
@@ -253,13 +254,16 @@ impl<J: NodeName> ReaderSeat<J> {
 
     /// What the node answers to a query at a time, from a list of operations that begins with all that was seen.
     ///
-    /// Refusals in order: `Damaged` where the node met a conflict, which a guarded one never does; then as a state's: `TooOld` below the horizon,
-    /// `NotYet` above the readable mark, `Memory`. Cost: that of asking a state.
+    /// Refusals in order: `Damaged` where the node met a conflict, which a guarded one never does; then as a state's: `TooOld`
+    /// below the horizon, `NotYet` above the readable mark, `Memory`. Cost: that of asking a state.
     pub fn ask(&mut self, time: Time, query: &Query) -> Result<Answer, Refusal>
         ensures legal { is_legal self.new ≡ true }
         ensures seen { IsPrefix self.old self.new }
         ensures answer { Answers (node_reply (replay self.new) time query.now) result }
         ensures sound { J.kind.guarded ≡ true → IfErr result (λ why. why ≢ Damaged) }
+
+        // In a guarded node the answer stays the answer, or its time comes below the horizon.
+        ensures stays { J.kind.guarded ≡ true → IsFinal self.new time query.now result }
 
         // A time that is held is too old only where the hold was released.
         ensures held { HoldsBack self.new time result }
@@ -277,6 +281,7 @@ impl<J: NodeName> ReaderSeat<J> {
         ensures seen { IsPrefix self.old self.new }
         ensures latest { GivesSeen timed_seen (node_latest (replay self.new) query.now) result }
         ensures sound { J.kind.guarded ≡ true → IfErr result (λ why. why ≢ Damaged) }
+        ensures stays { J.kind.guarded ≡ true → IsLatestFinal self.new query.now result }
         ensures err { IfErr result (λ why. (why ≡ Memory) ⊎ (why ≡ Damaged)) }
         ensures primary { IsLatestOfPrimary self.new query.now result }
     {
@@ -301,6 +306,7 @@ impl<J: NodeName> ReaderSeat<J> {
         ensures seen { IsPrefix self.old self.new }
         ensures page { GivesSeen page_seen (node_page (replay self.new) time table low high most) result }
         ensures sound { J.kind.guarded ≡ true → IfErr result (λ why. why ≢ Damaged) }
+        ensures stays { J.kind.guarded ≡ true → IsPageFinal self.new time table low high most result }
     {
         self.first_page(time, table, low, high, most)
     }

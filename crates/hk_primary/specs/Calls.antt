@@ -1,5 +1,5 @@
 -- What calls on a primary leave and tell.
-use Rattle.std.specs.Prelude.{◌≡◌, ◌⊎◌, ◌<◌, ◌≤◌, ℕ, List, ◌∷◌, Option, Some, None, Result, Ok, Err, length, nat_lt, if◌then◌else◌}
+use Rattle.std.specs.Prelude.{◌≡◌, ◌⊎◌, ◌<◌, ◌≤◌, ℕ, List, ◌∷◌, Option, Some, None, Result, Ok, Err, true, length, nat_lt, if◌then◌else◌}
 use Rattle.std.specs.Option.{option_map}
 use Rattle.hk_types.specs.declared.faults.Refusal.{Refusal}
 use Rattle.hk_types.specs.declared.faults.Refusal.TheVariants.{Memory, NoStream, NotYet, Retired}
@@ -12,6 +12,7 @@ use Rattle.hk_model.specs.History.Histories.{Transaction, commits, is_retired, e
 use Rattle.hk_model.specs.Replica.Answers.{AnswerValue, answer}
 use Rattle.hk_model.specs.World.Worlds.{mark_now, readable_on_primary, retirement}
 use Rattle.hk_model.specs.declared.query.Query.{Query}
+use Rattle.hk_query.specs.Memory.{takes_memory}
 use Rattle.hk_primary.specs.Log.{PrimaryValue, with_item, IsHonest}
 use Rattle.hk_primary.specs.Txns.{IsRefusal, TxnValue}
 use Rattle.hk_primary.specs.Verdicts.{committed_after}
@@ -104,6 +105,9 @@ answer_on p time query = answer (table_at (commits p.history) time) query
 abbrev pub IsAnswered : PrimaryValue → ℕ → Query → AnswerValue → Type 0
 IsAnswered p time query a = (a ≡ answer_on p time query) × (time ≤ readable_on p)
 
--- a query at a time was rightly refused: the time is above what may be read, which is told, or memory ran out
-abbrev pub NotAnswered : PrimaryValue → ℕ → Refusal → Type 0
-NotAnswered p time why = ((readable_on p < time) × (why ≡ NotYet (readable_on p))) ⊎ ((time ≤ readable_on p) × (why ≡ Memory))
+-- a query at a time was rightly refused: the time is above what may be read, which is told; or memory ran out for an answer that
+-- takes some
+abbrev pub NotAnswered : PrimaryValue → ℕ → Query → Refusal → Type 0
+NotAnswered p time query why =
+    ((readable_on p < time) × (why ≡ NotYet (readable_on p)))
+    ⊎ ((time ≤ readable_on p) × (why ≡ Memory) × (takes_memory (answer_on p time query) ≡ true))

@@ -1,9 +1,10 @@
 //! Questions to a primary.
 
-ghost use Rattle.std.specs.Prelude.{◌≡◌, ◌≤◌, ◌<◌, ℕ, None, IfErr, IfOk, IsOk, OnOk};
+ghost use Rattle.std.specs.Prelude.{◌≡◌, ◌≤◌, ◌<◌, ℕ, true, None, IfErr, IfOk, IsOk, OnErr, OnOk};
 ghost use Rattle.hk_types.specs.declared.faults.Refusal.TheVariants.{Memory, NotYet as Early};
 ghost use Rattle.hk_model.specs.Replica.Answers.{One, answer_seen};
 ghost use Rattle.hk_model.specs.declared.query.Query.TheVariants.{Count};
+ghost use Rattle.hk_query.specs.Memory.{takes_memory};
 ghost use Rattle.hk_primary.specs.Calls.{answer_on, readable_on};
 
 use crate::primary::Primary;
@@ -31,6 +32,8 @@ impl Primary {
         // Nor does it to tell that there is no such row.
         ensures absent { time ≤ readable_on self.now
             → answer_on self.now time query.now ≡ One None → IsOk result }
+        ensures lacks { time ≤ readable_on self.now
+            → OnErr result (takes_memory (answer_on self.now time query.now) ≡ true) }
     {
         let readable = self.readable();
         if readable < time {

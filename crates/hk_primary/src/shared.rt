@@ -248,11 +248,13 @@ impl<K: Naming> SharedPrimary<K> {
         self.held.lock(rt).primary.items(from)
     }
 
-    /// Answers a query at a time, as `Primary::ask` does. Cost: that of `Primary::ask`.
+    /// Answers a query at a time, as `Primary::ask` does; a `Count` and a row that is not there take no memory. Cost: that of
+    /// `Primary::ask`.
     pub fn ask<R: Wait>(&self, rt: &R, time: Time, query: &Query) -> Result<Answer, Refusal>
         ensures told { IfOk result (λ a. AtSome K.config K.after 0
             (λ p. IsAnswered p time query.now (answer_seen a))) }
-        ensures refused { IfErr result (λ why. AtSome K.config K.after 0 (λ p. NotAnswered p time why)) }
+        ensures refused { IfErr result (λ why. AtSome K.config K.after 0
+            (λ p. NotAnswered p time query.now why)) }
     {
         let held = self.held.lock(rt);
         let readable = held.primary.readable();

@@ -2,3 +2,4 @@ pub mod Newest
 pub mod OfPrimary
 pub mod PageAtTime
 pub mod ReplyAtTime
+mod JoinedPages

@@ -1,16 +1,18 @@
 -- A time that can be asked is replied with the answer on the rows that show then.
-use Rattle.std.proofs.Common.{◌≡◌, refl, sym, ap, ◌∙◌, ℕ, Bool, true, false, cond, nat_lt, Option, Some, None, Result, Ok, Err, IsOk, IfOk, IfErr, MatchResult, ◌⊎◌, inr}
+use Rattle.std.proofs.Common.{◌≡◌, refl, sym, ap, ◌∙◌, ℕ, Bool, true, false, cond, nat_lt, Option, Some, None, Result, Ok, Err, IsOk, IfOk, IfErr, OnErr, MatchResult, ◌⊎◌, inr, true≢false}
 use Rattle.std.specs.FinMap as finmap
 use Rattle.hk_types.specs.Values.{RowValue}
 use Rattle.hk_types.specs.declared.faults.Refusal.{Refusal}
 use Rattle.hk_types.specs.declared.faults.Refusal.TheVariants.{Memory, TooOld, NotYet}
 use Rattle.hk_model.specs.declared.answer.Answer.{Answer}
 use Rattle.hk_model.specs.declared.query.Query.{Query}
+use Rattle.hk_model.specs.declared.query.Query.TheVariants.{Get, Range, ByTag, Count}
 use Rattle.hk_model.specs.History.Rows.{version_key_cmp}
 use Rattle.hk_model.specs.Replica.Content.{Content, readable}
 use Rattle.hk_model.specs.History.Histories.{Tables}
 use Rattle.hk_model.specs.Replica.Answers.{AnswerValue, One, answer, answer_seen, reply, visible}
 use Rattle.hk_query.specs.Times.{time_refusal}
+use Rattle.hk_query.specs.Memory.{asking_may_lack, takes_memory}
 use Rattle.hk_store.specs.Facts.{FactsValue}
 use Rattle.hk_store.specs.Reads.{with_facts}
 
@@ -63,3 +65,33 @@ not_absent c t q why r told e = absurd (other (reply c t q) told e)
   where
     other : (s : Result AnswerValue Refusal) → s ≡ Err why → s ≡ Ok (One None) → ⊥
     other s f g = cc
+
+-- ---- where memory may run out
+
+-- a time that can't be asked is no want of memory
+pub refused_first : (c : Content) (t : ℕ) (why : Refusal) (X : Type 0) → Some why ≡ time_refusal c t → why ≡ Memory → X
+refused_first c t why X e m = by (nat_lt t c.horizon) (nat_lt (readable c) t) e
+  where
+    by : (a b : Bool) → Some why ≡ cond a (Some (TooOld c.horizon)) (cond b (Some (NotYet (readable c))) None) → X
+    by true b f = absurd cc
+    by false true f = absurd cc
+    by false false f = absurd cc
+
+-- where neither a count nor the answer that there is no row is refused, what is refused takes memory
+pub needs_memory : (tables : Tables) (q : Query) (r : Result Answer Refusal) → ((table : ℕ) → q ≡ Count table → IsOk r) → (answer tables q ≡ One None → IsOk r) → OnErr r (takes_memory (answer tables q) ≡ true)
+needs_memory tables q (Ok a) count absent = tt
+needs_memory tables (Get table key) (Err why) count absent = by (finmap.get tables (record { table = table; key = key })) refl
+  where
+    by : (row : Option RowValue) → finmap.get tables (record { table = table; key = key }) ≡ row → takes_memory (One row) ≡ true
+    by (Some row) e = refl
+    by None e = absurd (true≢false (sym (absent (ap One e))))
+needs_memory tables (Range table low high) (Err why) count absent = refl
+needs_memory tables (ByTag table tag) (Err why) count absent = refl
+needs_memory tables (Count table) (Err why) count absent = absurd (true≢false (sym (count table refl)))
+
+pub replied_lacks : (c : Content) (t : ℕ) (q : Query) (f : FactsValue) → f.rows ≡ c.rows → f.ends ≡ c.ends → None ≡ time_refusal c t
+    → (r : Result Answer Refusal) → ((table : ℕ) → q ≡ Count table → IsOk r) → (answer (visible (with_facts f) t) q ≡ One None → IsOk r) → IfErr r (λ why. why ≡ Memory → asking_may_lack (reply c t q) ≡ true)
+replied_lacks c t q f rows ends free (Ok a) count absent = tt
+replied_lacks c t q f rows ends free (Err why) count absent = λ m.
+    ap asking_may_lack (shown c t q free) ∙ ap (λ tables. takes_memory (answer tables q)) (sym (same_shown c t f rows ends))
+    ∙ needs_memory (visible (with_facts f) t) q (Err why) count absent

@@ -1,6 +1,6 @@
 //! Pages of a state's rows.
 
-ghost use Rattle.hk_query.specs.Pages.{PageReplies};
+ghost use Rattle.hk_query.specs.Pages.{PageReplies, PagesEnd, PagesGoOn};
 
 use crate::reply::time_refusal;
 use hk_model::{PAGE_BYTES, Page};
@@ -33,3 +33,10 @@ pub fn page(
             .page(alloc, table, low, high, time, most, PAGE_BYTES),
     }
 }
+
+/// Pages that are asked one after another, each with `low` above the last key of the one before, are together the rows of their
+/// range at that time, whatever was asked or changed in between: a law, it does nothing.
+pub fn pages_law()
+    ensures goes_on { PagesGoOn }
+    ensures ends { PagesEnd }
+{}

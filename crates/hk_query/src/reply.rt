@@ -1,8 +1,9 @@
 //! Asking a state.
 
-ghost use Rattle.std.specs.Prelude.{◌≡◌, ◌≢◌, ℕ, Ok, None, IsOk, IfOk, IfErr};
+ghost use Rattle.std.specs.Prelude.{◌≡◌, ◌≢◌, ℕ, true, Ok, None, IsOk, IfOk, IfErr};
 ghost use Rattle.hk_types.specs.declared.faults.Refusal.TheVariants.{Memory};
 ghost use Rattle.hk_model.specs.declared.query.Query.TheVariants.{Count};
+ghost use Rattle.hk_query.specs.Memory.{asking_may_lack};
 ghost use Rattle.hk_query.specs.Primary.{IsLatestOfPrimary, IsOfPrimary, Replies};
 ghost use Rattle.hk_query.specs.Times as times;
 ghost use Rattle.hk_model.specs.Replica.Answers.{One, answer_seen, reply};
@@ -50,6 +51,8 @@ pub fn ask(
 
     // Nor does it to tell that there is no such row.
     ensures absent { reply state.now time query.now ≡ Ok (One None) → IsOk result }
+    ensures memory { IfErr result (λ why. why ≡ Memory
+        → asking_may_lack (reply state.now time query.now) ≡ true) }
 {
     match time_refusal(state, time) {
         Some(why) => Err(why),
@@ -66,6 +69,10 @@ pub fn latest(alloc: Global, state: &ReplicaState, query: &Query) -> Result<(Tim
     ensures answer { IfOk result (λ told. reply state.now told.0 query.now ≡ Ok (answer_seen told.1)) }
     ensures err { IfErr result (λ why. why ≡ Memory) }
     ensures primary { IsLatestOfPrimary state.now query.now result }
+
+    // A count takes no memory, nor does it to tell that there is no such row.
+    ensures count { (table : ℕ) → query.now ≡ Count table → IsOk result }
+    ensures absent { reply state.now (readable state.now) query.now ≡ Ok (One None) → IsOk result }
 {
     let time = state.readable();
     let answer = ask(alloc, state, time, query)?;

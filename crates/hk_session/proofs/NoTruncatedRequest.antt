@@ -76,7 +76,8 @@ of_kind_whole kind bytes =
     (cond_whole (eqb kind 21) _ _ (made_whole _ fragment_at fragment_whole bytes)
     (cond_whole (eqb kind 22) _ _ (made_whole _ whole_at whole_whole bytes)
     (cond_whole (eqb kind 23) _ _ (made_whole _ time_at time_whole bytes)
-    (made_whole _ (later_request_of kind) (later_of_kind_whole kind) bytes))))))))
+    (cond_whole (eqb kind 58) _ _ (made_whole _ items_at items_whole bytes)
+    (made_whole _ (later_request_of kind) (later_of_kind_whole kind) bytes)))))))))
 
 -- ---- messages
 

@@ -1,14 +1,15 @@
 -- What a host over a state answers, and what state it is left in.
-use Rattle.std.specs.Prelude.{ℕ, ◌≡◌, ◌⊎◌, ◌+◌, ◌^◌, ◌&&◌, Bool, true, false, List, length, nat_lt, is_ok, if◌then◌else◌, Some, None, Result, Ok, Err}
+use Rattle.std.specs.Prelude.{ℕ, ◌≡◌, ◌⊎◌, ◌+◌, ◌^◌, ◌&&◌, Bool, true, false, List, length, nat_lt, is_ok, if◌then◌else◌, Result, Ok, Err}
 use Rattle.hk_types.specs.Values.{ConfigValue}
 use Rattle.hk_types.specs.declared.faults.FormFault.TheVariants.{BadKind}
 use Rattle.hk_types.specs.declared.faults.Refusal.{Refusal}
 use Rattle.hk_types.specs.declared.faults.Refusal.TheVariants as refusals
 use Rattle.hk_log.specs.declared.item.Item.{Item}
-use Rattle.hk_model.specs.Replica.Answers.{AnswerValue, One, Rows, Number, reply}
+use Rattle.hk_model.specs.Replica.Answers.{AnswerValue, reply}
 use Rattle.hk_model.specs.Replica.Content.{Content, readable}
 use Rattle.hk_model.specs.Replica.Fragments.{FragmentValue, cut}
 use Rattle.hk_model.specs.Replica.Rules.{gather_result, join_result, prune_result}
+use Rattle.hk_query.specs.Memory.{asking_may_lack}
 use Rattle.hk_wire.specs.declared.reply.Reply.{Reply}
 use Rattle.hk_wire.specs.declared.request.Request.{Request}
 use Rattle.hk_wire.specs.declared.request.Request.TheVariants as asked
@@ -58,23 +59,20 @@ answer_step h (asked.Ask t query) = (query_reply (reply h.content t query), h)
 answer_step h (asked.JoinThis fragment) = change_step h (join_result h.content fragment)
 answer_step h (asked.MergeThis fragment) = change_step h (join_result h.content fragment)
 answer_step h (asked.Prune horizon) = change_step h (prune_result h.content horizon)
+answer_step h (asked.Feed items) = (Refused (refusals.Form BadKind), h)
 answer_step h (asked.Later request) = (Refused (refusals.Form BadKind), h)
 
--- whether an answer takes memory: a number takes none, nor does it to say that there is no row
-abbrev pub takes_memory : AnswerValue → Bool
-takes_memory (One None) = false
-takes_memory (One (Some row)) = true
-takes_memory (Rows rows) = true
-takes_memory (Number n) = false
+-- whether a change takes memory: where the host has room, and the change itself takes some
+abbrev pub change_may_lack : HostValue → Bool → Bool
+change_may_lack h takes = nat_lt h.ops (2 ^ 62) && takes
 
--- whether what is asked takes memory: a refusal takes none
-abbrev pub asking_may_lack : Result AnswerValue Refusal → Bool
-asking_may_lack (Ok a) = takes_memory a
-asking_may_lack (Err why) = false
-
--- whether a change takes memory: where the host has room, and the change is made
+-- the same of one that takes memory wherever it is made
 abbrev pub has_room_for : {X : Type 0} → HostValue → Result X Refusal → Bool
-has_room_for h made = nat_lt h.ops (2 ^ 62) && is_ok made
+has_room_for h made = change_may_lack h (is_ok made)
+
+-- whether a prune takes memory: where it is made, and raises the horizon
+abbrev pub prune_takes : Content → ℕ → Bool
+prune_takes c horizon = nat_lt c.horizon horizon && is_ok (prune_result c horizon)
 
 -- whether memory may run out at a request: at items where they make a fragment and the host has room; else where the
 -- request is not refused, and takes memory
@@ -86,7 +84,8 @@ may_lack h asked.Full = true
 may_lack h (asked.Ask t query) = asking_may_lack (reply h.content t query)
 may_lack h (asked.JoinThis fragment) = has_room_for h (join_result h.content fragment)
 may_lack h (asked.MergeThis fragment) = has_room_for h (join_result h.content fragment)
-may_lack h (asked.Prune horizon) = has_room_for h (prune_result h.content horizon)
+may_lack h (asked.Prune horizon) = change_may_lack h (prune_takes h.content horizon)
+may_lack h (asked.Feed items) = false
 may_lack h (asked.Later request) = false
 
 -- a host replied and was left so: as it is told; or it refused because memory ran out, where it may, and nothing changed
@@ -101,6 +100,11 @@ Step old request answer new = IsGiven (may_lack old request) old (answer_step ol
 abbrev pub Changes : Bool → Content → Content → Result Content Refusal → Result (Unit {0}) Refusal → Type 0
 Changes may old new given (Ok done) = given ≡ Ok new
 Changes may old new given (Err why) = (new ≡ old) × ((given ≡ Err why) ⊎ ((why ≡ refusals.Memory) × (may ≡ true)))
+
+-- the host pruned to this time, or it says why not
+abbrev pub PrunesTo : HostValue → ℕ → Reply → HostValue → Type 0
+PrunesTo old horizon answer new =
+    IsGiven (change_may_lack old (prune_takes old.content horizon)) old (change_step old (prune_result old.content horizon)) answer new
 
 -- what items make in this log: a fragment
 abbrev pub gathered : HostValue → List Item → Result FragmentValue Refusal

@@ -219,9 +219,9 @@ fn run<const LATEST: u8, R: Read, W: Write, H: Host>(
 /// one read are written together, or as soon as they have more than 65,536 bytes. Where memory for the session's own
 /// buffers runs out, what stands is written and nothing more, and the last requests may stay unanswered. A failed
 /// write, or one that takes 0 bytes, ends it, and so does a failed read, an interrupted one too; so does the read
-/// number 2^32, where it does not end otherwise. After a failed write, and where memory ran out, no request is executed
-/// any more. Of those that were executed the last may stay without a reply, and before it others, whose replies have
-/// together at most 65,536 bytes. The writer is never flushed: who hands in one that keeps bytes back flushes it after.
+/// number 2^32, where it does not end otherwise. Of the requests that were executed the last may stay without a reply after
+/// a failed write, or where memory ran out, and before it others, whose replies have together at most 65,536 bytes: none
+/// beyond these is executed. The writer is never flushed: who hands in one that keeps bytes back flushes it after.
 ///
 /// The host has to be such as can be asked (`Host::ready`), and is left so, as the last request that it answered left
 /// it. Cost: that of the answers, a copy of each reply, and a pass over what is read; up to 65,536 bytes are read at a time.

@@ -4,11 +4,12 @@ ghost use Rattle.std.specs.Prelude.{◌≡◌, ◌<◌, ◌+◌, ◌^◌, Ok, tr
 ghost use Rattle.hk_model.specs.Replica.Answers.{reply};
 ghost use Rattle.hk_model.specs.Replica.Fragments.{cut};
 ghost use Rattle.hk_model.specs.Replica.Rules.{join_result, prune_result};
-ghost use Rattle.hk_session.specs.Steps.{since, fragment_reply, gathered, with_items, Counts, GivesAnswer, HandsOut, IsGiven, JoinsItems, MakesChange, Step, Takes};
+ghost use Rattle.hk_session.specs.Steps.{since, fragment_reply, gathered, with_items, Counts, GivesAnswer, HandsOut, IsGiven, JoinsItems, MakesChange, PrunesTo, Step, Takes};
 
 use crate::host::Host;
 use hk_delta::{Fragment, delta_since, fragment_of, join, whole_of};
 use hk_log::Item;
+use hk_merge::merge;
 use hk_model::Query;
 use hk_query::ask;
 use hk_state::{ReplicaState, front_of};
@@ -23,8 +24,8 @@ use std::marker::Model;
 /// It takes items all or nothing, as one fragment; joins fragments; prunes; and tells what the state holds. A
 /// change is refused `NodeFull` after operation 2^62, before any other test; else each request is refused as the
 /// call on the state is, and `Memory` comes last: only where the request is not refused otherwise, or, of items,
-/// where they make a fragment. A request of version 2 is refused `Form(BadKind)`. A front, a count and a row that is not there take no memory. A refused request
-/// changes nothing. Cost: that of the calls.
+/// where they make a fragment. A request of version 2 is refused `Form(BadKind)`. A front, a count and a row that is not
+/// there take no memory. A refused request changes nothing. Cost: that of the calls.
 #[derive(Drop)]
 pub struct StateHost {
     alloc: Global,
@@ -117,8 +118,20 @@ impl StateHost {
         self.settle(outcome)
     }
 
+    /// Joins all that a peer's state holds, as a MergeThis of the whole of it, without a copy of it: `NodeFull` comes first, then
+    /// the refusals of `merge`, of which `Memory` is the last. A refusal changes nothing. Cost: that of `merge`.
+    pub fn merge(&mut self, peer: &ReplicaState) -> Reply
+        ensures { Takes self.old (join_result self.old.content (cut peer.now 0)) result self.new }
+    {
+        if self.is_full() {
+            return Reply::Refused(Refusal::NodeFull);
+        }
+        let outcome = merge(&mut self.state, peer);
+        self.settle(outcome)
+    }
+
     fn prune(&mut self, horizon: Time) -> Reply
-        ensures { Takes self.old (prune_result self.old.content horizon) result self.new }
+        ensures { PrunesTo self.old horizon result self.new }
     {
         if self.is_full() {
             return Reply::Refused(Refusal::NodeFull);
@@ -167,7 +180,9 @@ impl Host for StateHost {
             Request::Ask { t, query } => self.ask(t, &query),
             Request::JoinThis(fragment) | Request::MergeThis(fragment) => self.join_this(&fragment),
             Request::Prune { horizon } => self.prune(horizon),
-            Request::Later(_) => Reply::Refused(Refusal::Form(FormFault::BadKind)),
+            Request::Feed(_) | Request::Later(_) => Reply::Refused(Refusal::Form(
+                FormFault::BadKind,
+            )),
         }
     }
 }

@@ -9,6 +9,8 @@ use Rattle.hk_model.specs.declared.took.Took.{Took}
 use Rattle.hk_model.specs.declared.took.Took.TheVariants.{Taken}
 use Rattle.hk_model.specs.Replica.Content.{Content, readable}
 use Rattle.hk_model.specs.History.Histories.{History, IsHistory, IsItemOf}
+use Rattle.hk_model.specs.declared.query.Query.{Query}
+use Rattle.hk_model.specs.Replica.Answers.{reply}
 use Rattle.hk_model.specs.Replica.Replicas.{Represents}
 use Rattle.hk_model.specs.Replica.Rules.{take_result, prune_result}
 
@@ -35,3 +37,7 @@ abbrev pub PrunesOf : Content → Content → ℕ → Result (Unit {0}) Refusal 
 PrunesOf old new h result =
     (config : ConfigValue) (history : History) (items : List Item) (horizon : ℕ) → Represents config history items horizon old → h ≤ readable old
     → IfOk result (λ done. Represents config history items (max horizon h) new) × IfErr result (λ why. why ≡ Memory)
+
+-- every query is answered as before, from the horizon to the readable mark that there was
+abbrev pub AnswersStay : Content → Content → Type 0
+AnswersStay old new = (t : ℕ) → new.horizon ≤ t → t ≤ readable old → (query : Query) → reply new t query ≡ reply old t query

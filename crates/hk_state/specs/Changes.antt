@@ -9,7 +9,7 @@ use Rattle.hk_store.specs.Changes.{facts_after_replace}
 use Rattle.hk_store.specs.Facts.{FactsValue}
 use Rattle.hk_store.specs.Learning.{facts_told, with_told}
 use Rattle.hk_store.specs.Reads.{facts_of_content, with_facts}
-use Rattle.hk_store.specs.declared.learn.Told.{Told}
+use Rattle.hk_store.specs.declared.learn.LearnSource.{LearnSource}
 use Rattle.hk_state.specs.declared.apply.Change.{Change}
 
 -- the facts after a change
@@ -24,11 +24,11 @@ content_after_change c change given =
     record { log = c.log; horizon = change.horizon; rows = f.rows; ends = f.ends; streams = all_together c.streams given }
 
 -- the content with what comes of all that is told, at its horizon, and with the streams that are given
-abbrev pub content_learnt : Content → Bool → Told → List StreamContent → Content
+abbrev pub content_learnt : Content → Bool → LearnSource → List StreamContent → Content
 content_learnt c old told given =
     let f = with_told old c.horizon (facts_of_content c) (facts_told told) in
     record { log = c.log; horizon = c.horizon; rows = f.rows; ends = f.ends; streams = all_together c.streams given }
 
 -- why what is told is not learnt: it contradicts what is known, or memory was refused
-abbrev pub RefusesLearning : Content → Told → Refusal → Type 0
+abbrev pub RefusesLearning : Content → LearnSource → Refusal → Type 0
 RefusesLearning c told why = ((why ≡ Conflict) × (contents_conflict c (with_facts (facts_told told)) ≡ true)) ⊎ (why ≡ Memory)

@@ -8,7 +8,7 @@ ghost use Rattle.hk_log.specs.declared.item.Item.TheVariants.{Commit, Closed};
 ghost use Rattle.hk_model.specs.declared.took.Took.TheVariants.{Taken};
 ghost use Rattle.hk_model.specs.Replica.Items as spec;
 ghost use Rattle.hk_model.specs.Replica.Streams.{all_together, stream_at, streams_of};
-ghost use Rattle.hk_state.specs.Calls.{Absorbs, AbsorbsOf};
+ghost use Rattle.hk_state.specs.Calls.{Absorbs, AbsorbsOf, AnswersStay};
 ghost use Rattle.hk_store.specs.Facts.{with_entry, conflicts_with_entry};
 ghost use Rattle.hk_store.specs.Journal.{without_journal};
 ghost use Rattle.hk_store.specs.Reads.{facts_of_content};
@@ -187,12 +187,14 @@ impl ReplicaState {
     /// `WrongStreams`. An entry whose number is taken is `Repeated` and takes no memory. An entry that
     /// gives a version another row or another end than is known, or whose time is at most the closed time
     /// of its stream, is refused `Conflict`. `Memory` comes last, where a growth was refused. A refusal
-    /// changes nothing. `Repeated` is told exactly where nothing changed.
+    /// changes nothing. `Repeated` is told exactly where nothing changed. Whatever the item says, each answer at a time from
+    /// the horizon to the readable mark before stays as it was.
     /// Cost: O((1 + w + f) · log n + b), w writes of the entry, f extra numbers and marks that it frees,
     /// n facts, extra numbers and waiting marks held, b bytes of bodies compared or copied.
     pub fn absorb(&mut self, item: &Item) -> Result<Took, Refusal>
         ensures gives { Absorbs self.old self.new item.now result }
         ensures represents { AbsorbsOf self.old self.new item.now result }
+        ensures stays { AnswersStay self.old self.new }
     {
         if let Some(why) = wrong_log(self.config, item) {
             return Err(why);
@@ -208,6 +210,7 @@ impl ReplicaState {
     pub fn absorb_owned(&mut self, item: Item) -> Result<Took, Refusal>
         ensures gives { Absorbs self.old self.new item result }
         ensures represents { AbsorbsOf self.old self.new item result }
+        ensures stays { AnswersStay self.old self.new }
     {
         if let Some(why) = wrong_log(self.config, &item) {
             return Err(why);

@@ -12,7 +12,7 @@ ghost use Rattle.hk_store.specs.Reads.{with_facts};
 use crate::replica::ReplicaState;
 use hk_facts::Part;
 use hk_marks::Got;
-use hk_store::{Coming, Facts, Told};
+use hk_store::{Facts, LearnScope, LearnSource};
 use hk_types::{Refusal, VersionKey};
 use std::alloc::Global;
 
@@ -22,8 +22,8 @@ fn learn_noted(
     facts: &mut Facts,
     got: &mut Got,
     journal: &mut Vec<(VersionKey, Part)>,
-    told: &Told,
-    coming: &Coming,
+    told: &LearnSource,
+    coming: &LearnScope,
     given: &Got,
 ) -> Result<(), Refusal>
     requires told { IsTold told.now }
@@ -44,8 +44,8 @@ fn learn_all(
     alloc: Global,
     facts: &mut Facts,
     got: &mut Got,
-    told: &Told,
-    coming: &Coming,
+    told: &LearnSource,
+    coming: &LearnScope,
     given: &Got,
 ) -> Result<(), Refusal>
     requires told { IsTold told.now }
@@ -75,7 +75,7 @@ impl ReplicaState {
     ///
     /// Cost: O((s + c + g) · log (n + c) + b), s streams, c versions that are told, g numbers and marks given and those
     /// held that they free, n facts, extra numbers and waiting marks held, b bytes of bodies compared or copied.
-    pub fn learn(&mut self, told: &Told, old: bool, given: &Got) -> Result<(), Refusal>
+    pub fn learn(&mut self, told: &LearnSource, old: bool, given: &Got) -> Result<(), Refusal>
         requires told { IsTold told.now }
         requires lawful { IsLawful (content_learnt self.old old told.now given.now) }
         requires as_many { length given.now ≡ length self.old.streams }
@@ -84,7 +84,7 @@ impl ReplicaState {
         ensures err { IfErr result (λ why. RefusesLearning self.old told.now why) }
         ensures kept { OnErr result (self.new ≡ self.old) }
     {
-        let coming = Coming {
+        let coming = LearnScope {
             old,
             horizon: self.horizon,
         };

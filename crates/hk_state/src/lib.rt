@@ -5,6 +5,7 @@ mod absorb;
 mod apply;
 mod copy;
 mod learn;
+mod past;
 mod prune;
 mod reads;
 mod replica;

@@ -1,8 +1,9 @@
 //! Pruning.
 
-ghost use Rattle.std.specs.Prelude.{◌≡◌, ◌≤◌, nat_le, OnOk, IfOk, IsOk};
+ghost use Rattle.std.specs.Prelude.{◌≡◌, ◌≤◌, false, nat_le, OnOk, IfOk, IsOk};
 ghost use Rattle.hk_model.specs.Replica.Content.{readable};
-ghost use Rattle.hk_state.specs.Calls.{Prunes, PrunesOf};
+ghost use Rattle.hk_model.specs.Replica.Touches.{prune_touches_past};
+ghost use Rattle.hk_state.specs.Calls.{AnswersStay, Prunes, PrunesOf};
 
 use crate::replica::ReplicaState;
 use hk_model::Front;
@@ -21,13 +22,16 @@ impl ReplicaState {
     ///
     /// A time above the readable mark is refused `AheadOfMark` with that mark. One at most the horizon
     /// is never refused, changes nothing and takes no memory. `Memory` comes where the list of what goes could not be
-    /// made. A refusal changes nothing. Cost: O(s + (1 + d) · log n), s streams, n facts held,
-    /// d versions that go.
+    /// made. A refusal changes nothing. Where the prune does not touch the past, which `prune_touches_past` tells and no
+    /// prune of one log's items does, each answer at a time from there to the readable mark stays as it was. Cost:
+    /// O(s + (1 + d) · log n), s streams, n facts held, d versions that go.
     pub fn prune(&mut self, time: Time) -> Result<(), Refusal>
         ensures gives { Prunes self.old self.new time result }
         ensures represents { PrunesOf self.old self.new time result }
         ensures below { time ≤ self.old.horizon → IsOk result }
+        ensures stays { prune_touches_past self.old time ≡ false → AnswersStay self.old self.new }
     {
+        let _known = self.horizon();
         self.raise_horizon(time)
     }
 

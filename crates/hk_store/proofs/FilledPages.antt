@@ -9,7 +9,7 @@ use Rattle.hk_model.specs.History.Rows.{RowKey}
 use Rattle.hk_facts.specs.Chains.{ChainValue, row_at}
 use Rattle.hk_store.specs.Paging.{Takes, IsFull, final_len}
 use Rattle.hk_store.specs.Reads.{keyed_if, rows_at}
-use Rattle.hk_store.specs.declared.page.Filling.{Filling}
+use Rattle.hk_store.specs.declared.page.PageBuilder.{PageBuilder}
 
 -- ---- all rows
 
@@ -53,11 +53,11 @@ empty_page most room done all none is = ap (λ (rows : List (ℕ × RowValue)). 
 
 -- what a page that is filled from the rows that chains have at t has, while some of the chains are to come: the rows of
 -- the others, and as many in the end as the first page of all
-abbrev pub Fills : ℕ → ℕ → ℕ → List (ℕ × RowValue) → Filling → List (RowKey × ChainValue) → Type 0
+abbrev pub Fills : ℕ → ℕ → ℕ → List (ℕ × RowValue) → PageBuilder → List (RowKey × ChainValue) → Type 0
 Fills t most room all page chains =
     (page.most ≡ most) × (page.rows.items ++ rows_at t chains ≡ all) × (final_len (length page.rows.items) most page.room (rows_at t chains) ≡ page_len most room all)
 
-module _ (t most room : ℕ) (all : List (ℕ × RowValue)) (old new : Filling) (chains rest : List (RowKey × ChainValue)) (e : RowKey × ChainValue) (rows : List (ℕ × RowValue)) (is : chains ≡ e ∷ rest) (same : rows ≡ keyed_if e.0.key (row_at e.1 t)) (fills : Fills t most room all old chains) where
+module _ (t most room : ℕ) (all : List (ℕ × RowValue)) (old new : PageBuilder) (chains rest : List (RowKey × ChainValue)) (e : RowKey × ChainValue) (rows : List (ℕ × RowValue)) (is : chains ≡ e ∷ rest) (same : rows ≡ keyed_if e.0.key (row_at e.1 t)) (fills : Fills t most room all old chains) where
   split : rows_at t chains ≡ rows ++ rows_at t rest
   split = ap (rows_at t) is ∙ ap (λ l. l ++ rows_at t rest) (sym same)
 

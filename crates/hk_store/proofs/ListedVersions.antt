@@ -66,7 +66,7 @@ module _ (f : FactsValue) where
     rising = subst (IsStrictlySortedBy version_key_cmp) (sym kept) (IsStrictlySortedBy-filter version_key_cmp knows ks lists.rising);
   }
 
-any_either : {A : Type 0} (p q : A → Bool) (xs : List A) → list_any (λ x. p x || q x) xs ≡ (list_any p xs || list_any q xs)
+pub any_either : {A : Type 0} (p q : A → Bool) (xs : List A) → list_any (λ x. p x || q x) xs ≡ (list_any p xs || list_any q xs)
 any_either p q [] = refl
 any_either p q (x ∷ xs) = ap (λ b. (p x || q x) || b) (any_either p q xs) ∙ regroup (p x) (q x) (list_any p xs) (list_any q xs)
   where

@@ -16,9 +16,9 @@ use Rattle.hk_store.specs.Changes.{with_listed}
 use Rattle.hk_store.specs.Facts.{FactsValue, entry_if}
 use Rattle.hk_store.specs.Reads.{with_facts}
 use Rattle.hk_store.specs.Versions.{AreVersions, value_conflicts_at}
-use Rattle.hk_store.specs.declared.learn.Coming.{Coming}
-use Rattle.hk_store.specs.declared.learn.Told.{Told}
-use Rattle.hk_store.specs.declared.learn.Told.TheVariants.{Listed, Held}
+use Rattle.hk_store.specs.declared.learn.LearnScope.{LearnScope}
+use Rattle.hk_store.specs.declared.learn.LearnSource.{LearnSource}
+use Rattle.hk_store.specs.declared.learn.LearnSource.TheVariants.{Listed, Held}
 
 -- the facts that a list of versions tells
 abbrev pub told_by : List (VersionKey × VersionValue) → FactsValue
@@ -29,12 +29,12 @@ abbrev pub mapped : finmap.FinMap version_key_cmp VersionValue → FactsValue
 mapped m = told_by (finmap.entries m)
 
 -- the facts that are told: those of a list, or all that another holds
-abbrev pub facts_told : Told → FactsValue
+abbrev pub facts_told : LearnSource → FactsValue
 facts_told (Listed versions) = told_by versions.now
 facts_told (Held facts) = facts.now
 
 -- a list tells of each version once, in rising order
-abbrev pub IsTold : Told → Type 0
+abbrev pub IsTold : LearnSource → Type 0
 IsTold (Listed versions) = AreVersions (told_by versions.now) versions.now
 IsTold (Held facts) = Unit {0}
 
@@ -68,19 +68,19 @@ module _ (old : Bool) (h : ℕ) where
 -- ---- what calls leave
 
 -- a version's row, where it comes and none is known
-abbrev pub LearnsRow : FactsValue → FactsValue → Coming → VersionKey → VersionValue → Type 0
+abbrev pub LearnsRow : FactsValue → FactsValue → LearnScope → VersionKey → VersionValue → Type 0
 LearnsRow old new coming v told = new ≡ with_listed old (entry_if v (row_told coming.old coming.horizon v told)) []
 
 -- a version's end
-abbrev pub LearnsEnd : FactsValue → FactsValue → Coming → VersionKey → VersionValue → Type 0
+abbrev pub LearnsEnd : FactsValue → FactsValue → LearnScope → VersionKey → VersionValue → Type 0
 LearnsEnd old new coming v told = new ≡ with_listed old [] (entry_if v (end_told coming.old coming.horizon v told))
 
 -- both
-abbrev pub LearnsVersion : FactsValue → FactsValue → Coming → VersionKey → VersionValue → Type 0
+abbrev pub LearnsVersion : FactsValue → FactsValue → LearnScope → VersionKey → VersionValue → Type 0
 LearnsVersion old new coming v told = new ≡ with_version_told coming.old coming.horizon old v told
 
 -- all that comes of other facts
-abbrev pub Learns : FactsValue → FactsValue → Coming → FactsValue → Type 0
+abbrev pub Learns : FactsValue → FactsValue → LearnScope → FactsValue → Type 0
 Learns old new coming told = new ≡ with_told coming.old coming.horizon old told
 
 -- whether other facts give a version another row, or another end

@@ -3,7 +3,7 @@ use Rattle.std.specs.Prelude.{◌≡◌, ℕ, zero, suc, ◌+◌, ◌-◌, ◌<�
 use Rattle.hk_types.specs.Values.{RowValue}
 use Rattle.hk_model.specs.declared.page.Page.{Page}
 use Rattle.hk_model.specs.Replica.Pages.{page_len, page_of, page_seen, rows_within}
-use Rattle.hk_store.specs.declared.page.Filling.{Filling}
+use Rattle.hk_store.specs.declared.page.PageBuilder.{PageBuilder}
 
 -- whether a page with so many rows, of at most so many, with room for so many bytes has room for a row of this size
 abbrev pub has_room : ℕ → ℕ → ℕ → ℕ → Bool
@@ -19,13 +19,13 @@ abbrev pub final_len : ℕ → ℕ → ℕ → List (ℕ × RowValue) → ℕ
 final_len count most room rows = count + taken_of count most room rows
 
 -- the page has these rows too, and takes of those that follow what it would have taken of them after these
-abbrev pub Takes : Filling → Filling → List (ℕ × RowValue) → Type 0
+abbrev pub Takes : PageBuilder → PageBuilder → List (ℕ × RowValue) → Type 0
 Takes old new rows =
     (new.most ≡ old.most) × (new.rows.items ≡ old.rows.items ++ rows)
     × ((more : List (ℕ × RowValue)) → final_len (length new.rows.items) old.most new.room more ≡ final_len (length old.rows.items) old.most old.room (rows ++ more))
 
 -- the page is as before, since it has no room for the first of these rows
-abbrev pub IsFull : Filling → Filling → List (ℕ × RowValue) → Type 0
+abbrev pub IsFull : PageBuilder → PageBuilder → List (ℕ × RowValue) → Type 0
 IsFull old new rows =
     (new.rows.items ≡ old.rows.items) × (0 < length rows)
     × ((more : List (ℕ × RowValue)) → final_len (length old.rows.items) old.most old.room (rows ++ more) ≡ length old.rows.items)

@@ -18,7 +18,7 @@ use hk_types::{Refusal, Row, Time, VersionKey};
 
 /// What is told to a replica.
 #[derive(Clone, Copy)]
-pub enum Told<'a> {
+pub enum LearnSource<'a> {
     /// Versions by rising version key, each with what is told of it.
     Listed(&'a [(VersionKey, Version)]),
     /// All that another replica holds.
@@ -27,14 +27,14 @@ pub enum Told<'a> {
 
 /// What comes of all that is told.
 #[derive(Clone, Copy)]
-pub struct Coming {
+pub struct LearnScope {
     /// Whether rows born at the horizon or before come too.
     pub old: bool,
     /// The horizon: ends up to it don't come.
     pub horizon: Time,
 }
 
-impl Coming {
+impl LearnScope {
     /// The row that comes of a version, if one does.
     fn row<'a>(&self, version: &VersionKey, told: &'a Version) -> Option<&'a Row>
         ensures { option_copied result ≡ spec.row_told self.now.old self.now.horizon version.now told.now }
@@ -67,8 +67,8 @@ impl Facts {
     pub fn learn(
         &mut self,
         journal: &mut Vec<(VersionKey, Part)>,
-        told: &Told,
-        coming: &Coming,
+        told: &LearnSource,
+        coming: &LearnScope,
     ) -> Result<(), Refusal>
         requires told { IsTold told.now }
         ensures ok { OnOk result (Learns self.old self.new coming.now (facts_told told.now)) }
@@ -78,8 +78,8 @@ impl Facts {
             ≡ without_journal journal.old.items self.old }
     {
         match told {
-            Told::Listed(versions) => self.learn_listed(journal, versions, coming),
-            Told::Held(facts) => self.learn_held(journal, facts, coming),
+            LearnSource::Listed(versions) => self.learn_listed(journal, versions, coming),
+            LearnSource::Held(facts) => self.learn_held(journal, facts, coming),
         }
     }
 
@@ -87,7 +87,7 @@ impl Facts {
         &mut self,
         journal: &mut Vec<(VersionKey, Part)>,
         told: &[(VersionKey, Version)],
-        coming: &Coming,
+        coming: &LearnScope,
     ) -> Result<(), Refusal>
         requires told { AreVersions (told_by told.now) told.now }
         ensures ok { OnOk result (Learns self.old self.new coming.now (told_by told.now)) }
@@ -105,7 +105,7 @@ impl Facts {
         &mut self,
         journal: &mut Vec<(VersionKey, Part)>,
         told: &Facts,
-        coming: &Coming,
+        coming: &LearnScope,
     ) -> Result<(), Refusal>
         ensures ok { OnOk result (Learns self.old self.new coming.now told.now) }
         ensures agrees { OnOk result (facts_conflict self.old told.now ≡ false) }
@@ -122,7 +122,7 @@ impl Facts {
     fn learn_version(
         &mut self,
         journal: &mut Vec<(VersionKey, Part)>,
-        coming: &Coming,
+        coming: &LearnScope,
         version: &VersionKey,
         told: &Version,
     ) -> Result<(), Refusal>
@@ -150,7 +150,7 @@ impl Facts {
     fn learn_row(
         &mut self,
         journal: &mut Vec<(VersionKey, Part)>,
-        coming: &Coming,
+        coming: &LearnScope,
         version: &VersionKey,
         told: &Version,
     ) -> Result<(), Refusal>
@@ -171,7 +171,7 @@ impl Facts {
     fn learn_end(
         &mut self,
         journal: &mut Vec<(VersionKey, Part)>,
-        coming: &Coming,
+        coming: &LearnScope,
         version: &VersionKey,
         told: &Version,
     ) -> Result<(), Refusal>

@@ -25,7 +25,7 @@ mod walk;
 
 pub use facts::Facts;
 pub use key_index::KeyIndex;
-pub use learn::{Coming, Told};
+pub use learn::{LearnScope, LearnSource};
 pub use replace::meets;
 pub use row_key::RowKey;
 pub use tag_index::TagIndex;

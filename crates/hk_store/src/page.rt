@@ -41,7 +41,7 @@ fn has_room(count: usize, most: u32, room: u64, size: u64) -> bool
 
 /// A page that is filled from its first row on.
 #[derive(Drop)]
-struct Filling {
+struct PageBuilder {
     /// The rows that it has, with their keys.
     rows: Vec<(Key, Row)>,
     /// How many it may have.
@@ -51,7 +51,7 @@ struct Filling {
 }
 
 /// Adds a copy of a row with its key, where the page has room for it. Answers whether it has.
-fn put_row(alloc: Global, page: &mut Filling, key: Key, row: &Row) -> Result<bool, AllocError>
+fn put_row(alloc: Global, page: &mut PageBuilder, key: Key, row: &Row) -> Result<bool, AllocError>
     ensures taken { IfOk result (λ has. OnTrue has (Takes page.old page.new ((key, row.now) ∷ []))) }
     ensures full { IfOk result (λ has. OnFalse has (IsFull page.old page.new ((key, row.now) ∷ []))) }
 {
@@ -68,7 +68,7 @@ fn put_row(alloc: Global, page: &mut Filling, key: Key, row: &Row) -> Result<boo
 /// nothing was left out.
 fn put_row_at(
     alloc: Global,
-    page: &mut Filling,
+    page: &mut PageBuilder,
     key: Key,
     chain: &Chain,
     time: Time,
@@ -98,7 +98,7 @@ fn page_in_range(
     ensures { IsPageOf most room
         (rows_from_to time first last (finmap.entries (map_of row_key_cmp chains.now))) result }
 {
-    let mut page = Filling {
+    let mut page = PageBuilder {
         rows: Vec::new(alloc),
         most,
         room,

@@ -5,8 +5,8 @@ use Rattle.hk_types.specs.declared.faults.FormFault.TheVariants.{BadBody}
 use Rattle.hk_types.specs.declared.faults.Refusal.{Refusal}
 use Rattle.hk_types.specs.declared.faults.Refusal.TheVariants.{Form, Memory}
 use Rattle.std.specs.Arc.{arc_value}
-use Rattle.hk_types.specs.declared.row.Form.{Form as Kept}
-use Rattle.hk_types.specs.declared.row.Form.TheVariants.{Own, To16, To32, To48, To64, To96, To128, Long}
+use Rattle.hk_types.specs.declared.row.RowForm.{RowForm as Kept}
+use Rattle.hk_types.specs.declared.row.RowForm.TheVariants.{Own, To16, To32, To48, To64, To96, To128, Long}
 
 abbrev pub stored : Kept → RowValue
 stored (Own tag bytes) = record { tag = tag; body = bytes.items }

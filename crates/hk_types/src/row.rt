@@ -18,14 +18,14 @@ pub const MOST_BODY_BYTES: usize = 4_096;
 /// A row of a table: a tag, and a body of 0 to 4,096 bytes.
 #[derive(Drop)]
 pub struct Row {
-    form: Form,
+    form: RowForm,
 }
 
 /// How a row is kept. Where its body was not given as a list of its own, copies of the row share it: a body of up to 128 bytes stands behind
 /// a count of its owners in one piece of memory, of a size just above its own. The tag stands in each form, since beside them it would take
 /// eight bytes.
 #[derive(Drop)]
-enum Form {
+enum RowForm {
     Own(Tag, Vec<u8>),
     To16(Tag, u16, Arc<[u8; 16]>),
     To32(Tag, u16, Arc<[u8; 32]>),
@@ -85,7 +85,7 @@ impl Row {
             return Err((body, FormFault::BadBody));
         }
         Ok(Row {
-            form: Form::Own(tag, body),
+            form: RowForm::Own(tag, body),
         })
     }
 
@@ -113,13 +113,13 @@ impl Row {
     {
         let count = body.len() as u16;
         let form = match body.len() {
-            0..=16 => Form::To16(tag, count, shared(alloc, body)?),
-            17..=32 => Form::To32(tag, count, shared(alloc, body)?),
-            33..=48 => Form::To48(tag, count, shared(alloc, body)?),
-            49..=64 => Form::To64(tag, count, shared(alloc, body)?),
-            65..=96 => Form::To96(tag, count, shared(alloc, body)?),
-            97..=128 => Form::To128(tag, count, shared(alloc, body)?),
-            _ => Form::Long(tag, Arc::new(alloc, Vec::from_slice(alloc, body)?)?),
+            0..=16 => RowForm::To16(tag, count, shared(alloc, body)?),
+            17..=32 => RowForm::To32(tag, count, shared(alloc, body)?),
+            33..=48 => RowForm::To48(tag, count, shared(alloc, body)?),
+            49..=64 => RowForm::To64(tag, count, shared(alloc, body)?),
+            65..=96 => RowForm::To96(tag, count, shared(alloc, body)?),
+            97..=128 => RowForm::To128(tag, count, shared(alloc, body)?),
+            _ => RowForm::Long(tag, Arc::new(alloc, Vec::from_slice(alloc, body)?)?),
         };
         Ok(Row { form })
     }
@@ -130,14 +130,14 @@ impl Row {
         ensures { result ≡ self.now.tag }
     {
         match &self.form {
-            Form::Own(tag, _) => *tag,
-            Form::To16(tag, _, _) => *tag,
-            Form::To32(tag, _, _) => *tag,
-            Form::To48(tag, _, _) => *tag,
-            Form::To64(tag, _, _) => *tag,
-            Form::To96(tag, _, _) => *tag,
-            Form::To128(tag, _, _) => *tag,
-            Form::Long(tag, _) => *tag,
+            RowForm::Own(tag, _) => *tag,
+            RowForm::To16(tag, _, _) => *tag,
+            RowForm::To32(tag, _, _) => *tag,
+            RowForm::To48(tag, _, _) => *tag,
+            RowForm::To64(tag, _, _) => *tag,
+            RowForm::To96(tag, _, _) => *tag,
+            RowForm::To128(tag, _, _) => *tag,
+            RowForm::Long(tag, _) => *tag,
         }
     }
 
@@ -148,14 +148,14 @@ impl Row {
         ensures bound { length result.now ≤ 4096 }
     {
         match &self.form {
-            Form::Own(_, bytes) => bytes.as_slice(),
-            Form::To16(_, count, block) => &block[..*count as usize],
-            Form::To32(_, count, block) => &block[..*count as usize],
-            Form::To48(_, count, block) => &block[..*count as usize],
-            Form::To64(_, count, block) => &block[..*count as usize],
-            Form::To96(_, count, block) => &block[..*count as usize],
-            Form::To128(_, count, block) => &block[..*count as usize],
-            Form::Long(_, bytes) => bytes.as_slice(),
+            RowForm::Own(_, bytes) => bytes.as_slice(),
+            RowForm::To16(_, count, block) => &block[..*count as usize],
+            RowForm::To32(_, count, block) => &block[..*count as usize],
+            RowForm::To48(_, count, block) => &block[..*count as usize],
+            RowForm::To64(_, count, block) => &block[..*count as usize],
+            RowForm::To96(_, count, block) => &block[..*count as usize],
+            RowForm::To128(_, count, block) => &block[..*count as usize],
+            RowForm::Long(_, bytes) => bytes.as_slice(),
         }
     }
 
@@ -165,14 +165,18 @@ impl Row {
         ensures { IfOk result (λ row. row ≡ self.now) }
     {
         let form = match &self.form {
-            Form::Own(tag, bytes) => return Row::sharing(alloc, *tag, bytes),
-            Form::To16(tag, count, block) => Form::To16(*tag, *count, Arc::try_clone(block)?),
-            Form::To32(tag, count, block) => Form::To32(*tag, *count, Arc::try_clone(block)?),
-            Form::To48(tag, count, block) => Form::To48(*tag, *count, Arc::try_clone(block)?),
-            Form::To64(tag, count, block) => Form::To64(*tag, *count, Arc::try_clone(block)?),
-            Form::To96(tag, count, block) => Form::To96(*tag, *count, Arc::try_clone(block)?),
-            Form::To128(tag, count, block) => Form::To128(*tag, *count, Arc::try_clone(block)?),
-            Form::Long(tag, bytes) => Form::Long(*tag, Arc::try_clone(bytes)?),
+            RowForm::Own(tag, bytes) => return Row::sharing(alloc, *tag, bytes),
+            RowForm::To16(tag, count, block) => RowForm::To16(*tag, *count, Arc::try_clone(block)?),
+            RowForm::To32(tag, count, block) => RowForm::To32(*tag, *count, Arc::try_clone(block)?),
+            RowForm::To48(tag, count, block) => RowForm::To48(*tag, *count, Arc::try_clone(block)?),
+            RowForm::To64(tag, count, block) => RowForm::To64(*tag, *count, Arc::try_clone(block)?),
+            RowForm::To96(tag, count, block) => RowForm::To96(*tag, *count, Arc::try_clone(block)?),
+            RowForm::To128(tag, count, block) => RowForm::To128(
+                *tag,
+                *count,
+                Arc::try_clone(block)?,
+            ),
+            RowForm::Long(tag, bytes) => RowForm::Long(*tag, Arc::try_clone(bytes)?),
         };
         Ok(Row { form })
     }

@@ -15,4 +15,5 @@ pub mod FragmentFits
 pub mod ToldLengths
 pub mod PartsReadAgain
 pub mod ToldReadAgain
-pub mod WireSizes
+pub mod CutParts
+pub mod OwnParts

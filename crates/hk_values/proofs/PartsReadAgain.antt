@@ -18,7 +18,7 @@ use Rattle.hk_values.proofs.ReadersAndEncodings.{IsField, field64, both_field, s
 use Rattle.hk_values.proofs.FragmentsReadAgain.{after_field, FragmentIs, fragment_there, fragment_back, HeadFits as StartFits, AreStreams, head_text as start_text, head_field as start_field, streams_field, facts_field, base_there}
 use Rattle.hk_values.proofs.FragmentFits.{streams_fit, facts_chained, least_same, count_same}
 use Rattle.hk_values.proofs.FactsRead.{facts_stand}
-use Rattle.hk_parts.specs.Heads.{head_with}
+use Rattle.hk_fragment.specs.Heads.{head_with}
 use Rattle.hk_values.specs.Parts.{IsHead, WireHead, wire_head_of, bare, head_text, head_at, HeadFits, head_is_counted, part_at, PartFits, part_keeps_rules, whole_head_at}
 use Rattle.hk_types.specs.declared.faults.FormFault.TheVariants.{BadNumber}
 

@@ -6,3 +6,4 @@ pub mod Fragments
 pub mod FragmentSteps
 pub mod Parts
 pub mod Told
+pub mod Cutting

@@ -1,5 +1,5 @@
 -- Parts and heads of fragments: what their bytes tell, their encoding and their reading.
-use Rattle.std.specs.Prelude.{◌≡◌, ℕ, ◌≤◌, ◌<◌, ◌^◌, Bool, true, not, ◌&&◌, ◌||◌, ◌==◌, nat_le, nat_lt, is_some, List, [], ◌++◌, length, map, None, refl}
+use Rattle.std.specs.Prelude.{◌≡◌, ℕ, ◌≤◌, ◌<◌, ◌^◌, Bool, true, not, ◌&&◌, ◌||◌, ◌==◌, nat_le, nat_lt, is_some, if◌then◌else◌, List, [], ◌++◌, length, map, Option, Some, None, refl}
 use Rattle.std.specs.Coded.{Coded, code_by, coded×, coded_ℕ, coded_list}
 use Rattle.std.specs.Int.{w16, w64}
 use Rattle.std.specs.List.{flat_map}
@@ -9,15 +9,16 @@ use Rattle.hk_model.specs.Replica.Content.{least_closed}
 use Rattle.hk_model.specs.Replica.Codes.{stream_code}
 use Rattle.hk_fragment.specs.Parts.{Known, facts_fault}
 use Rattle.hk_frames.specs.Fields.{number, number_at}
-use Rattle.hk_parts.specs.Heads.{Head}
+use Rattle.hk_model.specs.Replica.Fragments.{FragmentValue}
+use Rattle.hk_fragment.specs.Heads.{HeadValue, head_of}
 use Rattle.hk_values.specs.Readers.{Reader, both, after, mapped_value, Chained, fault_where}
 use Rattle.hk_values.specs.Fragments.{WireStream, WireFragment, wire_stream_of, stream_text, fragment_head_at, streams_at, facts_at, streams_are_counted, FactFits, FragmentFits}
 use Rattle.hk_types.specs.declared.faults.FormFault.TheVariants.{BadNumber}
 
 -- ---- heads
 
--- the code of the value of a `Head`, by which proofs tell such values apart
-abbrev pub head_code : Coded Head
+-- the code of the value of a `HeadValue`, by which proofs tell such values apart
+abbrev pub head_code : Coded HeadValue
 head_code =
     code_by (ℕ × (ℕ × (ℕ × (List StreamContent × ℕ)))) (coded× coded_ℕ (coded× coded_ℕ (coded× coded_ℕ (coded× (coded_list stream_code) coded_ℕ))))
     (λ h. (h.log, (h.base, (h.horizon, (h.streams, h.count))))) (λ p. record { log = p.0; base = p.1.0; horizon = p.1.1.0; streams = p.1.1.1.0; count = p.1.1.1.1 }) (λ _. refl)
@@ -40,7 +41,7 @@ pub record WireHead : Type 0 where
   pub streams : List WireStream
   pub count : ℕ
 
-abbrev pub wire_head_of : Head → WireHead
+abbrev pub wire_head_of : HeadValue → WireHead
 wire_head_of h = record { log = h.log; base = h.base; horizon = h.horizon; streams = map wire_stream_of h.streams; count = h.count }
 
 -- a head as a fragment that has no facts
@@ -58,6 +59,10 @@ HeadFits h = FragmentFits (bare h) × (h.count < 2 ^ 64)
 -- whether the numbers and marks of a head can be counted
 abbrev pub head_is_counted : WireHead → Bool
 head_is_counted h = streams_are_counted h.streams
+
+-- how many bytes the head of a fragment has, where it can be counted
+abbrev pub head_bytes : FragmentValue → Option ℕ
+head_bytes f = if head_is_counted (wire_head_of (head_of f)) then Some (length (head_text (wire_head_of (head_of f)))) else None
 
 -- a head
 unfoldable pub head_at : Reader WireHead

@@ -124,7 +124,7 @@ fn version_len(version: VersionKey) -> u64
 
 /// How many bytes a version has with what is known of it.
 #[tactic(auto, using(crate::proofs::Lengths::fact_text_len))]
-fn fact_len(version: VersionKey, known: &Version) -> u64
+pub(crate) fn fact_len(version: VersionKey, known: &Version) -> u64
     ensures len { result ≡ length (spec.fact_text (version, known.now)) }
     ensures bound { result ≤ 4129 }
     ensures fits { spec.KnownFits (version, known.now) }

@@ -1,12 +1,17 @@
-//! Laws of the encodings.
+//! Laws of the encodings, and of parts: what is cut and put together again is the same fragment.
 
-ghost use Rattle.std.specs.Prelude.{◌≡◌, List, length};
-ghost use Rattle.std.specs.List.{flat_map};
+ghost use Rattle.std.specs.Prelude.{◌≡◌, ℕ, List, Ok, IfErr, IfOk};
+ghost use Rattle.hk_types.specs.declared.faults.Refusal.TheVariants.{Memory};
+ghost use Rattle.hk_model.specs.Replica.Fragments.{FragmentValue};
 ghost use Rattle.hk_fragment.specs.Parts.{Known};
-ghost use Rattle.hk_parts.specs.Sizes.{facts_bytes};
-ghost use Rattle.hk_values.specs.Fragments.{fact_text, wire_fragment_of};
+ghost use Rattle.hk_fragment.specs.Heads.{facts_of, head_of, of_facts, HeadValue};
+ghost use Rattle.hk_values.specs.Cutting.{parts_of, AreParts, of_parts, IsOfItsParts, IsPutTogether};
+ghost use Rattle.hk_values.specs.Fragments.{wire_fragment_of};
 
-use hk_fragment::Fragment;
+use crate::split::Split;
+use hk_fragment::{Assembly, Fragment, copy_facts};
+use hk_types::Refusal;
+use std::alloc::Global;
 
 /// What the bytes of a fragment tell is the whole of it: no two fragments are told alike.
 pub fn one_wire_fragment(one: &Fragment, other: &Fragment)
@@ -15,7 +20,48 @@ pub fn one_wire_fragment(one: &Fragment, other: &Fragment)
     let (_one, _other) = (one.got(), other.got());
 }
 
-/// How many bytes facts have, as parts are cut by it, is how long their encoding is.
-pub fn sizes_law()
-    ensures { (facts : List Known) → facts_bytes facts ≡ length (flat_map fact_text facts) }
+/// Every list of facts is cut into parts that are, one after the other, that list; each has a fact, and is at most so
+/// many bytes unless it is one fact.
+pub fn parts_law()
+    ensures { (most : ℕ) (facts : List Known) → AreParts most facts (parts_of most facts) }
 {}
+
+/// Every fragment is the one of its head and its facts, and of its head and its parts, however long these are.
+pub fn fragment_law(fragment: &Fragment)
+    ensures facts { of_facts (head_of fragment.now) (facts_of fragment.now) ≡ Ok fragment.now }
+    ensures parts { IsOfItsParts fragment.now }
+{
+    let _known = fragment.facts();
+}
+
+/// Where a head and parts make a fragment, it has that head, and its facts are those of the parts, one after the
+/// other.
+pub fn together_law()
+    ensures { (h : HeadValue) (parts : List (List Known)) (f : FragmentValue)
+        → of_parts h parts ≡ Ok f → IsPutTogether h parts f }
+{}
+
+/// The same fragment again, by way of parts that are at most so many bytes long: it is split, each part is copied and
+/// added, and the head, with the count of its facts, and all of them are put together. The only refusal is `Memory`. Cost: O(n + w · log w + b),
+/// n facts, w extra numbers and waiting marks, b bytes of bodies, all copied.
+pub fn copy_by_parts(
+    alloc: Global,
+    fragment: Fragment,
+    most_bytes: u64,
+) -> Result<Fragment, Refusal>
+    ensures ok { IfOk result (λ again. again ≡ fragment) }
+    ensures err { IfErr result (λ why. why ≡ Memory) }
+{
+    let mut split = Split::new(fragment);
+    let mut came = Assembly::new(alloc);
+    while split.left() > 0 {
+        split.advance(most_bytes);
+        came.add(copy_facts(alloc, split.part())?)?;
+    }
+    let whole = split.whole();
+    fragment_law(whole);
+    let got = whole.got().copy(alloc)?;
+    let count = whole.facts().len() as u64;
+    let again = came.into_fragment(whole.config(), whole.base(), whole.horizon(), got, count)?;
+    Ok(again)
+}

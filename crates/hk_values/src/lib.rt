@@ -5,16 +5,19 @@
 #![tactic(auto)]
 
 pub mod answer;
+mod cutting;
 pub mod field_len;
 pub mod fragment_encoding;
+pub mod fragment_head;
 pub mod fragment_reading;
-pub mod head;
 mod laws;
 pub mod numbers;
 pub mod part;
 pub mod query;
 pub mod refusal;
+mod split;
 pub mod told;
 
-pub use head::Head;
-pub use laws::{one_wire_fragment, sizes_law};
+pub use fragment_head::{FragmentHead, head_bytes};
+pub use laws::{copy_by_parts, fragment_law, one_wire_fragment, parts_law, together_law};
+pub use split::Split;

@@ -11,7 +11,7 @@ use Rattle.hk_frames.specs.Framing.{Begins, AddsBy}
 use Rattle.hk_frames.proofs.FrameStream.{one_value_begins, one_reading_only, one_reading_as, pieces_join_up}
 use Rattle.hk_wire.specs.declared.request.Request.{Request}
 use Rattle.hk_wire.specs.declared.reply.Reply.{Reply}
-use Rattle.hk_wire.specs.Requests.{RequestValue, Items, Front, Delta, Full, Ask, JoinThis, MergeThis, Prune, Later, new_items, newly_written, keeps_rules, request_seen, request_meant, as_written, request_at, request_rest, IsRequest, IsRequestUpTo, ReadsRequests, ReadsBack}
+use Rattle.hk_wire.specs.Requests.{RequestValue, Items, Front, Delta, Full, Ask, JoinThis, MergeThis, Prune, Feed, Later, new_items, newly_written, keeps_rules, request_seen, request_meant, as_written, request_at, request_rest, IsRequest, IsRequestUpTo, ReadsRequests, ReadsBack}
 use Rattle.hk_wire.specs.Replies.{ReplyValue, reply_seen, reply_at, reply_rest, reply_text, IsReply, ReadsReplies, AddsReplies, reply_format}
 use Rattle.hk_wire.proofs.RequestsReadAgain.{requests_up_to}
 use Rattle.hk_wire.proofs.RepliesReadAgain.{replies_are_sound}
@@ -37,6 +37,7 @@ keeps_same (Ask t query) = refl
 keeps_same (JoinThis fragment) = refl
 keeps_same (MergeThis fragment) = refl
 keeps_same (Prune horizon) = refl
+keeps_same (Feed items) = keeps_as_many (length (new_items items)) (length items) (length-map items _)
 keeps_same (Later request) = refl
 
 items_meant : (items : List Item) → map (λ (w : WrittenItem). w.item) (new_items items) ≡ items
@@ -53,6 +54,7 @@ newly_meant (Ask t query) = refl
 newly_meant (JoinThis fragment) = refl
 newly_meant (MergeThis fragment) = refl
 newly_meant (Prune horizon) = refl
+newly_meant (Feed items) = ap (λ (l : List Item). Feed l) (items_meant items)
 newly_meant (Later request) = refl
 
 pub new_items_text : (items : List Item) → flat_map frame_text (new_items items) ≡ flat_map (encoding_of 2) items

@@ -9,7 +9,7 @@ use Rattle.hk_model.specs.Replica.StreamsTold.{StreamsValue}
 use Rattle.hk_fragment.specs.Parts.{Known}
 use Rattle.hk_frames.specs.Fields.{IsBytes, number, number_at}
 use Rattle.hk_frames.proofs.ReadingSteps.{Takes, both as both_true}
-use Rattle.hk_values.specs.Readers.{both, time_at, positive_at, ops_at}
+use Rattle.hk_values.specs.Readers.{both, time_at, positive_at, is_ops, ops_at}
 use Rattle.hk_values.specs.Answers.{answer_text, answer_at}
 use Rattle.hk_values.specs.Fragments.{facts_text}
 use Rattle.hk_values.specs.Refusals.{later_refusal_at}
@@ -20,7 +20,7 @@ use Rattle.hk_values.proofs.AnswersReadAgain.{answer_field, AnswerKeeps}
 use Rattle.hk_values.proofs.PartsReadAgain.{head_field, part_field}
 use Rattle.hk_values.proofs.ToldReadAgain.{page_field, streams_field}
 use Rattle.hk_values.proofs.RefusalsReadAgain.{later_refusal_field}
-use Rattle.hk_wire.specs.LaterReplies.{ReplyValue, Done, Streams, Latest, Page, Part, LastPart, Added, Held, Refused, reply_kind, reply_body, keeps_rules, ReplyFits, part_reply_of, reply_of}
+use Rattle.hk_wire.specs.LaterReplies.{ReplyValue, Done, Streams, Latest, Page, Part, LastPart, Added, Held, Refused, Fed, reply_kind, reply_body, keeps_rules, ReplyFits, part_reply_of, reply_of}
 
 latest_field : IsField (both time_at answer_at) (λ p. number w64 p.0 ++ answer_text p.1) (λ p. (p.0 ≤ 2 ^ 62) × AnswerKeeps p.1)
 latest_field = both_field time_at answer_at (number w64) answer_text (λ n. n ≤ 2 ^ 62) AnswerKeeps time_field answer_field
@@ -42,6 +42,12 @@ last_field = both_field part_at head_at facts_text head_text ArePart IsHead part
 
 held_field : IsField (both positive_at time_at) (λ p. number w64 p.0 ++ number w64 p.1) (λ p. IsPositive p.0 × (p.1 ≤ 2 ^ 62))
 held_field = both_field positive_at time_at (number w64) (number w64) IsPositive (λ n. n ≤ 2 ^ 62) positive_field time_field
+
+abbrev IsCount : ℕ → Type 0
+IsCount n = (n < 2 ^ 64) × (is_ops n ≡ true)
+
+fed_field : IsField (both ops_at (number_at w64)) (λ p. number w64 p.0 ++ number w64 p.1) (λ p. IsCount p.0 × (p.1 < 2 ^ 64))
+fed_field = both_field ops_at (number_at w64) (number w64) (number w64) IsCount (λ n. n < 2 ^ 64) ops_field field64
 
 -- ---- replies
 
@@ -72,6 +78,9 @@ held_of p = Held p.0 p.1
 abbrev refused_of : Refusal → ReplyValue
 refused_of why = Refused why
 
+abbrev fed_of : ℕ × ℕ → ReplyValue
+fed_of p = Fed p.0 p.1
+
 abbrev pub Keeps : ReplyValue → Type 0
 Keeps r = ReplyFits r × (keeps_rules r ≡ true)
 
@@ -97,7 +106,9 @@ part_reply_takes k bytes x fits e =
     (λ is f. made_takes held_of (both positive_at time_at) _ _ held_field reply_kind reply_body Keeps k (λ a. sym is) (λ a. refl) (λ a h. ((h.0.0, h.1), h.0.1)) bytes x fits f)
     (λ e4. this_or k 72 _ _ x (IsReplyOf k bytes x) e4
     (λ is f. made_takes refused_of later_refusal_at _ _ later_refusal_field reply_kind reply_body Keeps k (λ a. sym is) (λ a. refl) (λ a h. h) bytes x fits f)
-    (λ e5. absurd cc)))))
+    (λ e5. this_or k 73 _ _ x (IsReplyOf k bytes x) e5
+    (λ is f. made_takes fed_of (both ops_at (number_at w64)) _ _ fed_field reply_kind reply_body Keeps k (λ a. sym is) (λ a. refl) (λ a h. ((h.0.0, h.1), h.0.1)) bytes x fits f)
+    (λ e6. absurd cc))))))
 
 pub reply_takes : (k : ℕ) (bytes : List ℕ) (x : ReplyValue × List ℕ) → IsBytes bytes → reply_of k bytes ≡ Ok x → IsReplyOf k bytes x
 unfolding reply_of
@@ -127,3 +138,4 @@ reply_again (LastPart facts head) rest h =
 reply_again (Added count) rest h = made_again added_of (number_at w64) _ _ field64 count rest h.0
 reply_again (Held hold t) rest h = made_again held_of (both positive_at time_at) _ _ held_field (hold, t) rest ((h.0.0, h.1), h.0.1)
 reply_again (Refused why) rest h = made_again refused_of later_refusal_at _ _ later_refusal_field why rest h
+reply_again (Fed ops new) rest h = made_again fed_of (both ops_at (number_at w64)) _ _ fed_field (ops, new) rest ((h.0.0, h.1), h.0.1)

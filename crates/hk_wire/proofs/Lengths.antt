@@ -16,8 +16,8 @@ use Rattle.hk_values.specs.Fragments.{facts_text}
 use Rattle.hk_values.specs.Parts.{WireHead, head_text}
 use Rattle.hk_wire.specs.LaterRequests.{Page, Whole}
 use Rattle.hk_wire.specs.LaterRequests as later_requests
-use Rattle.hk_wire.specs.Requests.{WrittenRequest, Items, Ask, request_body, request_rest}
-use Rattle.hk_wire.specs.LaterReplies.{Latest, Part, LastPart, Held}
+use Rattle.hk_wire.specs.Requests.{WrittenRequest, Items, Feed, Ask, request_body, request_rest}
+use Rattle.hk_wire.specs.LaterReplies.{Latest, Part, LastPart, Held, Fed}
 use Rattle.hk_wire.specs.LaterReplies as later_replies
 use Rattle.hk_wire.specs.Replies.{ReplyValue, Front, reply_body, reply_rest}
 
@@ -25,6 +25,9 @@ use Rattle.hk_wire.specs.Replies.{ReplyValue, Front, reply_body, reply_rest}
 
 pub items_len : (items : List WrittenItem) → length (request_body (Items items)) ≡ 4 + length (flat_map frame_text items)
 items_len items = simp (length-append, len32) refl
+
+pub feed_len : (items : List WrittenItem) → length (request_body (Feed items)) ≡ 4 + length (flat_map frame_text items)
+feed_len items = simp (length-append, len32) refl
 
 pub ask_len : (t : ℕ) (query : Query) → length (request_body (Ask t query)) ≡ 8 + length (query_text query)
 ask_len t query = simp (length-append, len64) refl
@@ -52,6 +55,9 @@ part_len left facts = simp (length-append, len64) refl
 
 pub last_part_len : (facts : List Known) (h : WireHead) → length (later_replies.reply_body (LastPart facts h)) ≡ length (facts_text facts) + length (head_text h)
 last_part_len facts h = length-append (facts_text facts) (head_text h)
+
+pub fed_len : (ops new : ℕ) → length (later_replies.reply_body (Fed ops new)) ≡ 16
+fed_len ops new = simp (length-append, len64) refl
 
 pub held_len : (hold t : ℕ) → length (later_replies.reply_body (Held hold t)) ≡ 16
 held_len hold t = simp (length-append, len64) refl

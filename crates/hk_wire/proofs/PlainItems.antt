@@ -14,7 +14,7 @@ use Rattle.hk_values.specs.Queries.{query_at}
 use Rattle.hk_values.specs.Fragments.{fragment_at, whole_at}
 use Rattle.hk_wire.specs.Messages.{head_at, message_at}
 use Rattle.hk_wire.specs.LaterRequests as later
-use Rattle.hk_wire.specs.Requests.{RequestValue, WrittenRequest, Items, Delta, Ask, JoinThis, MergeThis, Prune, Later, request_meant, frame_taken, item_frame_at, item_count_at, no_place, items_at, plain_frame_at, plain_items_at, request_of, request_at, plain_request_at}
+use Rattle.hk_wire.specs.Requests.{RequestValue, WrittenRequest, Items, Delta, Ask, JoinThis, MergeThis, Prune, Feed, Later, request_meant, frame_taken, item_frame_at, item_count_at, no_place, items_at, plain_frame_at, plain_items_at, request_of, request_at, plain_request_at}
 
 abbrev item_of : WrittenItem → Item
 item_of w = w.item
@@ -90,6 +90,13 @@ items_body_seen : (r : Result (List WrittenItem × List ℕ) FormFault) → mapp
 items_body_seen (Ok a) = refl
 items_body_seen (Err f) = refl
 
+feed_body_seen : (r : Result (List WrittenItem × List ℕ) FormFault) → mapped (seen_of request_meant) (r >>= λ a. Ok (Feed a.0, a.1)) ≡ (mapped (seen_of (map item_of)) r >>= λ a. Ok (Feed a.0, a.1))
+feed_body_seen (Ok a) = refl
+feed_body_seen (Err f) = refl
+
+feed_same : (bytes : List ℕ) → (plain_items_at bytes >>= λ a. Ok (Feed a.0, a.1)) ≡ mapped (seen_of request_meant) (items_at bytes >>= λ a. Ok (Feed a.0, a.1))
+feed_same bytes = ap (λ (r : Result (List Item × List ℕ) FormFault). r >>= λ a. Ok (Feed a.0, a.1)) (items_plain bytes) ∙ sym (feed_body_seen (items_at bytes))
+
 items_same : (bytes : List ℕ) → (plain_items_at bytes >>= λ a. Ok (Items a.0, a.1)) ≡ mapped (seen_of request_meant) (items_at bytes >>= λ a. Ok (Items a.0, a.1))
 items_same bytes = ap (λ (r : Result (List Item × List ℕ) FormFault). r >>= λ a. Ok (Items a.0, a.1)) (items_plain bytes) ∙ sym (items_body_seen (items_at bytes))
 
@@ -113,7 +120,8 @@ of_plain k bytes =
     (same_or (seen_of request_meant) (eqb k 21) _ _ _ _ (made_same (λ f. JoinThis f) (λ f. JoinThis f) (λ a. refl) (fragment_at bytes))
     (same_or (seen_of request_meant) (eqb k 22) _ _ _ _ (made_same (λ f. MergeThis f) (λ f. MergeThis f) (λ a. refl) (whole_at bytes))
     (same_or (seen_of request_meant) (eqb k 23) _ _ _ _ (made_same (λ horizon. Prune horizon) (λ horizon. Prune horizon) (λ a. refl) (time_at bytes))
-    (made_same (λ r. Later r) (λ r. Later r) (λ a. refl) (later.request_of k bytes)))))))))
+    (same_or (seen_of request_meant) (eqb k 58) _ _ _ _ (feed_same bytes)
+    (made_same (λ r. Later r) (λ r. Later r) (λ a. refl) (later.request_of k bytes))))))))))
 
 pub request_plain : (latest : ℕ) (bytes : List ℕ) → plain_request_at latest bytes ≡ mapped request_meant (request_at latest bytes)
 unfolding plain_request_at request_at message_at

@@ -25,7 +25,7 @@ use Rattle.hk_values.proofs.FragmentsReadAgain.{fragment_field, whole_field}
 use Rattle.hk_wire.specs.Messages.{message_text, message_at}
 use Rattle.hk_wire.specs.LaterRequests.{Streams, AskLatest, Page, Whole, More, AddPart, JoinParts, MergeParts, Hold, Release}
 use Rattle.hk_wire.specs.LaterRequests as later
-use Rattle.hk_wire.specs.Requests.{WrittenRequest, Items, Front, Delta, Full, Ask, JoinThis, MergeThis, Prune, Later, frame_taken, item_frame_at, item_count_at, no_place, items_at, keeps_rules, request_kind, request_body, request_rest, RequestFits, IsRequest, IsRequestUpTo, request_of, request_at}
+use Rattle.hk_wire.specs.Requests.{WrittenRequest, Items, Front, Delta, Full, Ask, JoinThis, MergeThis, Prune, Feed, Later, frame_taken, item_frame_at, item_count_at, no_place, items_at, keeps_rules, request_kind, request_body, request_rest, RequestFits, IsRequest, IsRequestUpTo, request_of, request_at}
 use Rattle.hk_wire.proofs.MessagesReadAgain.{at_most_two, IsMessage, message_format, same_format}
 use Rattle.hk_wire.proofs.LaterRequestsReadAgain.{Keeps as LaterKeeps, request_takes as later_request_takes, request_again as later_request_again}
 
@@ -103,6 +103,9 @@ merge_of fragment = MergeThis fragment
 abbrev items_of : List WrittenItem → WrittenRequest
 items_of items = Items items
 
+abbrev feed_of : List WrittenItem → WrittenRequest
+feed_of items = Feed items
+
 abbrev Keeps : WrittenRequest → Type 0
 Keeps r = RequestFits r × (keeps_rules r ≡ true)
 
@@ -136,7 +139,9 @@ request_takes k bytes x fits e =
     (λ is f. made_takes merge_of whole_at _ _ whole_field request_kind request_body Keeps k (λ a. sym is) (λ a. refl) (λ a h. h) bytes x fits f)
     (λ e7. this_or k 23 _ _ x (IsRequestOf k bytes x) e7
     (λ is f. made_takes prune_of time_at _ _ time_field request_kind request_body Keeps k (λ a. sym is) (λ a. refl) (λ a h. (h, refl)) bytes x fits f)
-    (λ e8. later_takes k bytes x fits e8))))))))
+    (λ e8. this_or k 58 _ _ x (IsRequestOf k bytes x) e8
+    (λ is f. made_takes feed_of items_at _ _ items_field request_kind request_body Keeps k (λ a. sym is) (λ a. refl) (λ a h. h) bytes x fits f)
+    (λ e9. later_takes k bytes x fits e9)))))))))
 
 later_again : (r : later.RequestValue) (rest : List ℕ) → LaterKeeps r → mapped_value later_of (later.request_of (later.request_kind r)) (later.request_body r ++ rest) ≡ Ok (later_of r, rest)
 later_again r rest h = ap (λ (y : Result (later.RequestValue × List ℕ) FormFault). y >>= λ a. Ok (later_of a.0, a.1)) (later_request_again r rest h)
@@ -151,6 +156,7 @@ request_again (Ask t query) rest h = made_again ask_of (both time_at query_at) _
 request_again (JoinThis fragment) rest h = made_again join_of fragment_at _ _ fragment_field fragment rest h
 request_again (MergeThis fragment) rest h = made_again merge_of whole_at _ _ whole_field fragment rest h
 request_again (Prune horizon) rest h = made_again prune_of time_at _ _ time_field horizon rest h.0
+request_again (Feed items) rest h = made_again feed_of items_at _ _ items_field items rest h
 request_again (Later Streams) rest h = later_again Streams rest h
 request_again (Later (AskLatest query)) rest h = later_again (AskLatest query) rest h
 request_again (Later (Page t table low high most)) rest h = later_again (Page t table low high most) rest h

@@ -28,6 +28,7 @@ pub data ReplyValue : Type 0 where
   Added : ℕ → ReplyValue
   Held : ℕ → ℕ → ReplyValue
   Refused : Refusal → ReplyValue
+  Fed : ℕ → ℕ → ReplyValue
 
 -- the value that a `LaterReply` has
 abbrev pub reply_seen : LaterReply → ReplyValue
@@ -40,6 +41,7 @@ reply_seen (replied.LastPart facts head) = LastPart facts.items (wire_head_of he
 reply_seen (replied.Added count) = Added count
 reply_seen (replied.Held hold t) = Held hold t
 reply_seen (replied.Refused why) = Refused why
+reply_seen (replied.Fed ops new) = Fed ops new
 
 -- the kind byte of a reply
 abbrev pub reply_kind : ReplyValue → ℕ
@@ -52,6 +54,7 @@ reply_kind (LastPart facts head) = 69
 reply_kind (Added count) = 70
 reply_kind (Held hold t) = 71
 reply_kind (Refused why) = 72
+reply_kind (Fed ops new) = 73
 
 -- its body
 abbrev pub reply_body : ReplyValue → List ℕ
@@ -64,6 +67,7 @@ reply_body (LastPart facts head) = facts_text facts ++ head_text head
 reply_body (Added count) = number w64 count
 reply_body (Held hold t) = number w64 hold ++ number w64 t
 reply_body (Refused why) = refusal_text why
+reply_body (Fed ops new) = number w64 ops ++ number w64 new
 
 -- whether a reply keeps the rules of its kind
 abbrev pub keeps_rules : ReplyValue → Bool
@@ -76,6 +80,7 @@ keeps_rules (LastPart facts head) = part_keeps_rules facts && head_is_counted he
 keeps_rules (Added count) = true
 keeps_rules (Held hold t) = not (hold == 0)
 keeps_rules (Refused why) = is_told why
+keeps_rules (Fed ops new) = is_ops ops
 
 -- a reply whose numbers fit their fields
 abbrev pub ReplyFits : ReplyValue → Type 0
@@ -88,8 +93,9 @@ ReplyFits (LastPart facts head) = PartFits facts × HeadFits head
 ReplyFits (Added count) = count < 2 ^ 64
 ReplyFits (Held hold t) = (hold < 2 ^ 64) × (t ≤ 2 ^ 62)
 ReplyFits (Refused why) = RefusalFits why
+ReplyFits (Fed ops new) = (ops < 2 ^ 64) × (new < 2 ^ 64)
 
--- the body of a kind of parts, of holds, or of refusals
+-- the body of a kind of parts, of holds, of refusals, or of what was fed
 unfoldable pub part_reply_of : ℕ → Reader ReplyValue
 part_reply_of kind bytes =
     if kind == 68 then mapped_value (λ p. Part p.0 p.1) (both positive_at part_at) bytes
@@ -97,6 +103,7 @@ part_reply_of kind bytes =
     else if kind == 70 then mapped_value (λ count. Added count) (number_at w64) bytes
     else if kind == 71 then mapped_value (λ p. Held p.0 p.1) (both positive_at time_at) bytes
     else if kind == 72 then mapped_value (λ why. Refused why) later_refusal_at bytes
+    else if kind == 73 then mapped_value (λ p. Fed p.0 p.1) (both ops_at (number_at w64)) bytes
     else Err BadKind
 
 -- the body of a kind

@@ -31,6 +31,7 @@ pub data RequestOf (I : Type 0) : Type 0 where
   JoinThis : WireFragment → RequestOf I
   MergeThis : WireFragment → RequestOf I
   Prune : ℕ → RequestOf I
+  Feed : List I → RequestOf I
   Later : later.RequestValue → RequestOf I
 
 -- the value of a `Request`
@@ -51,6 +52,7 @@ with_items f (Ask t query) = Ask t query
 with_items f (JoinThis fragment) = JoinThis fragment
 with_items f (MergeThis fragment) = MergeThis fragment
 with_items f (Prune horizon) = Prune horizon
+with_items f (Feed items) = Feed (map f items)
 with_items f (Later request) = Later request
 
 -- the request, without the versions
@@ -79,6 +81,7 @@ request_seen (asked.Ask t query) = Ask t query
 request_seen (asked.JoinThis fragment) = JoinThis (wire_fragment_of fragment)
 request_seen (asked.MergeThis fragment) = MergeThis (wire_fragment_of fragment)
 request_seen (asked.Prune horizon) = Prune horizon
+request_seen (asked.Feed items) = Feed items.items
 request_seen (asked.Later request) = Later (later.request_seen request)
 
 -- the kind byte of a request, which tells its version
@@ -91,6 +94,7 @@ request_kind (Ask t query) = 20
 request_kind (JoinThis fragment) = 21
 request_kind (MergeThis fragment) = 22
 request_kind (Prune horizon) = 23
+request_kind (Feed items) = 58
 request_kind (Later request) = later.request_kind request
 
 -- its body
@@ -103,6 +107,7 @@ request_body (Ask t query) = number w64 t ++ query_text query
 request_body (JoinThis fragment) = fragment_text fragment
 request_body (MergeThis fragment) = fragment_text fragment
 request_body (Prune horizon) = number w64 horizon
+request_body (Feed items) = number w32 (length items) ++ flat_map frame_text items
 request_body (Later request) = later.request_body request
 
 -- the rest of its frame
@@ -123,6 +128,7 @@ keeps_rules (Ask t query) = true
 keeps_rules (JoinThis fragment) = is_counted fragment
 keeps_rules (MergeThis fragment) = (fragment.base == 0) && is_counted fragment
 keeps_rules (Prune horizon) = true
+keeps_rules (Feed items) = nat_le (length items) 65536
 keeps_rules (Later request) = later.keeps_rules request
 
 -- whether a request has an encoding with these versions of its item frames: it keeps its rules, and its rest has at most 2^28 bytes
@@ -139,6 +145,7 @@ RequestFits (Ask t query) = (t ≤ 2 ^ 62) × QueryFits query
 RequestFits (JoinThis fragment) = FragmentFits fragment
 RequestFits (MergeThis fragment) = FragmentFits fragment
 RequestFits (Prune horizon) = horizon ≤ 2 ^ 62
+RequestFits (Feed items) = AllByRecursion IsWritten items
 RequestFits (Later request) = later.RequestFits request
 
 -- what has an encoding
@@ -195,6 +202,7 @@ request_of listed_at kind bytes =
     else if kind == 21 then mapped_value (λ fragment. JoinThis fragment) fragment_at bytes
     else if kind == 22 then mapped_value (λ fragment. MergeThis fragment) whole_at bytes
     else if kind == 23 then mapped_value (λ horizon. Prune horizon) time_at bytes
+    else if kind == 58 then mapped_value (λ items. Feed items) listed_at bytes
     else mapped_value (λ request. Later request) (later.request_of kind) bytes
 
 -- the request of a version up to the latest that is read, which is all of the rest of a frame

@@ -7,9 +7,9 @@ use hk_frames::{Cursor, ReadError};
 use hk_log::Version;
 use hk_model::{Answer, Page, StreamsTold};
 use hk_types::{FormFault, Refusal, Time, VersionKey};
-use hk_values::Head;
+use hk_values::FragmentHead;
 use hk_values::answer::read_answer;
-use hk_values::head::read_head;
+use hk_values::fragment_head::read_head;
 use hk_values::numbers::{read_ops, read_positive, read_time};
 use hk_values::part::read_part;
 use hk_values::refusal::read_later_refusal;
@@ -40,7 +40,7 @@ pub enum LaterReply {
     /// The last part of it, and the head of all parts, which says how many facts they have.
     LastPart {
         facts: Vec<(VersionKey, Version)>,
-        head: Head,
+        head: FragmentHead,
     },
     /// How many facts were added so far.
     Added {
@@ -50,6 +50,11 @@ pub enum LaterReply {
     Held {
         number: u64,
         t: Time,
+    },
+    /// The items took effect; the node has had so many operations, 1 to 2^62, and so many of the items were not known before.
+    Fed {
+        ops: u64,
+        new: u64,
     },
     /// Why nothing happened.
     Refused(Refusal),
@@ -74,7 +79,9 @@ pub(crate) const HELD: u8 = 71;
 
 pub(crate) const REFUSED: u8 = 72;
 
-/// Reads the body of a kind of parts, of holds, or of refusals.
+pub(crate) const FED: u8 = 73;
+
+/// Reads the body of a kind of parts, of holds, of refusals, or of what was fed.
 #[tactic(auto, unfolding(crate::specs::LaterReplies::part_reply_of))]
 fn read_part_reply(alloc: Global, cursor: &mut Cursor, kind: u8) -> Result<LaterReply, ReadError>
     ensures { GivesOrRunsOut (λ x. (spec.reply_seen x, cursor.new)) result (spec.part_reply_of kind cursor.old) }
@@ -102,6 +109,11 @@ fn read_part_reply(alloc: Global, cursor: &mut Cursor, kind: u8) -> Result<Later
         REFUSED => {
             let why = read_later_refusal(cursor)?;
             Ok(LaterReply::Refused(why))
+        }
+        FED => {
+            let ops = read_ops(cursor)?;
+            let new = cursor.u64()?;
+            Ok(LaterReply::Fed { ops, new })
         }
         _ => Err(ReadError::Fault(FormFault::BadKind)),
     }

@@ -4,7 +4,7 @@ ghost use Rattle.std.specs.Prelude.{◌≡◌, ◌≤◌, ◌^◌, ◌++◌, tru
 ghost use Rattle.hk_wire.specs.LaterReplies as spec;
 
 use crate::later_reply::{
-    ADDED, DONE, HELD, LAST_PART, LATEST, LaterReply, PAGE, PART, REFUSED, STREAMS,
+    ADDED, DONE, FED, HELD, LAST_PART, LATEST, LaterReply, PAGE, PART, REFUSED, STREAMS,
 };
 use hk_frames::put_u64;
 use hk_values::answer::{answer_len, keeps_answer_rules, put_answer};
@@ -32,6 +32,7 @@ pub(crate) fn later_kind(reply: &LaterReply) -> u8
         LaterReply::Added { .. } => ADDED,
         LaterReply::Held { .. } => HELD,
         LaterReply::Refused(_) => REFUSED,
+        LaterReply::Fed { .. } => FED,
     }
 }
 
@@ -49,11 +50,12 @@ pub(crate) fn later_keeps_rules(reply: &LaterReply) -> bool
         LaterReply::Added { .. } => true,
         LaterReply::Held { number, .. } => *number != 0,
         LaterReply::Refused(why) => is_told(*why),
+        LaterReply::Fed { ops, .. } => is_ops(*ops),
     }
 }
 
 /// How many bytes the body of a reply that keeps its rules has.
-#[tactic(auto, using(crate::proofs::Lengths::latest_len, crate::proofs::Lengths::part_len, crate::proofs::Lengths::last_part_len, crate::proofs::Lengths::held_len, crate::proofs::Lengths::refused_len, hk_codec::proofs::Lengths::len64))]
+#[tactic(auto, using(crate::proofs::Lengths::latest_len, crate::proofs::Lengths::part_len, crate::proofs::Lengths::last_part_len, crate::proofs::Lengths::held_len, crate::proofs::Lengths::fed_len, crate::proofs::Lengths::refused_len, hk_codec::proofs::Lengths::len64))]
 pub(crate) fn later_body_len(reply: &LaterReply) -> u64
     requires { spec.keeps_rules (spec.reply_seen reply.now) ≡ true }
     ensures len { result ≡ length (spec.reply_body (spec.reply_seen reply.now)) }
@@ -70,6 +72,7 @@ pub(crate) fn later_body_len(reply: &LaterReply) -> u64
         LaterReply::Added { count } => number_len(*count),
         LaterReply::Held { number, t } => number_len(*number) + time_len(*t),
         LaterReply::Refused(why) => refusal_len(*why),
+        LaterReply::Fed { ops, new } => number_len(*ops) + number_len(*new),
     }
 }
 
@@ -102,5 +105,9 @@ pub(crate) fn put_later(out: &mut Vec<u8>, reply: &LaterReply) -> Result<(), All
             put_u64(out, t.number())
         }
         LaterReply::Refused(why) => put_refusal(out, why),
+        LaterReply::Fed { ops, new } => {
+            put_u64(out, *ops)?;
+            put_u64(out, *new)
+        }
     }
 }

@@ -7,8 +7,8 @@ use hk_frames::{Cursor, ReadError};
 use hk_log::Version;
 use hk_model::Query;
 use hk_types::{FormFault, Key, Table, Time, VersionKey};
-use hk_values::Head;
-use hk_values::head::{read_head, read_whole_head};
+use hk_values::FragmentHead;
+use hk_values::fragment_head::{read_head, read_whole_head};
 use hk_values::numbers::{read_positive, read_time};
 use hk_values::part::read_part;
 use hk_values::query::read_query;
@@ -42,9 +42,9 @@ pub enum LaterRequest {
     /// To keep these facts until the other parts and the head are there.
     AddPart(Vec<(VersionKey, Version)>),
     /// To take the fragment of this head and of all parts that were added, which have as many facts as the head says.
-    JoinParts(Head),
+    JoinParts(FragmentHead),
     /// To take the whole of them: the base of the head is 0.
-    MergeParts(Head),
+    MergeParts(FragmentHead),
     /// To keep a time readable.
     Hold {
         t: Time,

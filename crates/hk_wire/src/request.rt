@@ -35,7 +35,9 @@ pub enum Request {
     MergeThis(Fragment),
     /// To forget what no one reads from a horizon on.
     Prune { horizon: Time },
-    /// What is asked in version 2.
+    /// To take items, at most 65,536, and to tell how many of them were not known: of version 2.
+    Feed(Vec<Item>),
+    /// What else is asked in version 2.
     Later(LaterRequest),
 }
 
@@ -55,6 +57,8 @@ pub(crate) const JOIN_THIS: u8 = 21;
 pub(crate) const MERGE_THIS: u8 = 22;
 
 pub(crate) const PRUNE: u8 = 23;
+
+pub(crate) const FEED: u8 = 58;
 
 /// Reads the body of a kind.
 #[tactic(auto, unfolding(crate::specs::Requests::request_of))]
@@ -88,6 +92,10 @@ fn read_body(alloc: Global, cursor: &mut Cursor, kind: u8) -> Result<Request, Re
         PRUNE => {
             let horizon = read_time(cursor)?;
             Ok(Request::Prune { horizon })
+        }
+        FEED => {
+            let items = read_items(alloc, cursor)?;
+            Ok(Request::Feed(items))
         }
         _ => {
             let request = read_later(alloc, cursor, kind)?;

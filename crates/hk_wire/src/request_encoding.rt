@@ -6,7 +6,7 @@ ghost use Rattle.hk_wire.specs.Requests as requests;
 use crate::head::{HEAD_BYTES, MOST_REST_BYTES, put_head};
 use crate::items::{MOST_ITEMS, items_len, put_items};
 use crate::later_request_encoding::{later_body_len, later_keeps_rules, later_kind, put_later};
-use crate::request::{ASK, DELTA, FRONT, FULL, ITEMS, JOIN_THIS, MERGE_THIS, PRUNE, Request};
+use crate::request::{ASK, DELTA, FEED, FRONT, FULL, ITEMS, JOIN_THIS, MERGE_THIS, PRUNE, Request};
 use hk_frames::put_u64;
 use hk_types::{FormFault, Refusal};
 use hk_values::field_len::time_len;
@@ -27,6 +27,7 @@ fn kind_of(request: &Request) -> u8
         Request::JoinThis(_) => JOIN_THIS,
         Request::MergeThis(_) => MERGE_THIS,
         Request::Prune { .. } => PRUNE,
+        Request::Feed(_) => FEED,
         Request::Later(later) => later_kind(later),
     }
 }
@@ -36,7 +37,7 @@ fn keeps_rules(request: &Request) -> bool
     ensures { result ≡ requests.keeps_rules (requests.request_seen request.now) }
 {
     match request {
-        Request::Items(items) => items.len() <= MOST_ITEMS,
+        Request::Items(items) | Request::Feed(items) => items.len() <= MOST_ITEMS,
         Request::JoinThis(fragment) => is_counted(fragment),
         Request::MergeThis(fragment) => fragment.base().number() == 0 && is_counted(fragment),
         Request::Later(later) => later_keeps_rules(later),
@@ -45,7 +46,7 @@ fn keeps_rules(request: &Request) -> bool
 }
 
 /// How many bytes the body of a request that keeps its rules has.
-#[tactic(auto, using(crate::proofs::Lengths::items_len, crate::proofs::Lengths::ask_len, hk_codec::proofs::Lengths::len64))]
+#[tactic(auto, using(crate::proofs::Lengths::items_len, crate::proofs::Lengths::feed_len, crate::proofs::Lengths::ask_len, hk_codec::proofs::Lengths::len64))]
 fn body_len(request: &Request) -> u64
     requires { requests.keeps_rules (requests.request_seen request.now) ≡ true }
     ensures len { result ≡ length (requests.request_body (requests.as_written request.now)) }
@@ -53,7 +54,7 @@ fn body_len(request: &Request) -> u64
     ensures fits { requests.RequestFits (requests.as_written request.now) }
 {
     match request {
-        Request::Items(items) => 4 + items_len(items),
+        Request::Items(items) | Request::Feed(items) => 4 + items_len(items),
         Request::Front | Request::Full => 0,
         Request::Delta { base } => time_len(*base),
         Request::Ask { t, query } => time_len(*t) + query_len(query),
@@ -88,7 +89,7 @@ fn put_body(out: &mut Vec<u8>, request: &Request) -> Result<(), AllocError>
     ensures kept { OnErr result (take (length out.old.items) out.new.items ≡ out.old.items) }
 {
     match request {
-        Request::Items(items) => put_items(out, items),
+        Request::Items(items) | Request::Feed(items) => put_items(out, items),
         Request::Front | Request::Full => Ok(()),
         Request::Delta { base } => put_u64(out, base.number()),
         Request::Ask { t, query } => {

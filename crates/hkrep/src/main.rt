@@ -4,11 +4,11 @@
 mod watched;
 
 use crate::watched::Watched;
-use hk_arguments::read_call;
 use hk_cli::{
     run_ask, run_at, run_explain, run_frames, run_front, run_items, run_order, run_rewrite,
     run_serve, run_status, run_stay, run_world,
 };
+use hk_cli_arguments::read_call;
 use hk_cli_calls::{Alone, Call};
 use std::alloc::Global;
 use std::fs::Files;

@@ -5,8 +5,8 @@ mod merge;
 mod primary;
 mod replica;
 
+use hk_cli_lines::line_of;
 use hk_decode::decode_all;
-use hk_lines::line_of;
 use hk_query::Answer;
 use hk_types::Refusal;
 use std::alloc::{AllocError, Global};

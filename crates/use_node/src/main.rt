@@ -3,9 +3,9 @@
 
 ghost use Rattle.std.specs.Prelude.{◌≡◌};
 
+use hk_cli_lines::line_of;
 use hk_decode::decode_all;
 use hk_delta::{Fragment, fragment_of};
-use hk_lines::line_of;
 use hk_node::{NewList, NodeName, ReaderSeat, start};
 use hk_query::Query;
 use hk_types::{Config, Key, Refusal, Table, Time};

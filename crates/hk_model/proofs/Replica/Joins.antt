@@ -46,10 +46,10 @@ content_of_row config p h v = get-without_ended (ends_of p) h (rows_of p) v
 pub content_of_end : (config : ConfigValue) (p : List Item) (h : ℕ) (v : VersionKey) → finmap.get (content_of config p h).ends v ≡ cond (not (at_most h (finmap.get (ends_of p) v))) (finmap.get (ends_of p) v) None
 content_of_end config p h v = get-without_ended (ends_of p) h (ends_of p) v
 
-part_row : (config : ConfigValue) (p : List Item) (h r : ℕ) (v : VersionKey) → finmap.get (part config p h r).content.rows v ≡ cond (nat_lt r v.born) (cond (not (at_most h (finmap.get (ends_of p) v))) (finmap.get (rows_of p) v) None) None
+pub part_row : (config : ConfigValue) (p : List Item) (h r : ℕ) (v : VersionKey) → finmap.get (part config p h r).content.rows v ≡ cond (nat_lt r v.born) (cond (not (at_most h (finmap.get (ends_of p) v))) (finmap.get (rows_of p) v) None) None
 part_row config p h r v = get-retain version_key_total version_key_same (content_of config p h).rows (λ w. nat_lt r w.born) v ∙ ap (λ x. cond (nat_lt r v.born) x None) (content_of_row config p h v)
 
-part_end : (config : ConfigValue) (p : List Item) (h r : ℕ) (v : VersionKey) → finmap.get (part config p h r).content.ends v ≡ cond (not (at_most r (cond (not (at_most h (finmap.get (ends_of p) v))) (finmap.get (ends_of p) v) None))) (cond (not (at_most h (finmap.get (ends_of p) v))) (finmap.get (ends_of p) v) None) None
+pub part_end : (config : ConfigValue) (p : List Item) (h r : ℕ) (v : VersionKey) → finmap.get (part config p h r).content.ends v ≡ cond (not (at_most r (cond (not (at_most h (finmap.get (ends_of p) v))) (finmap.get (ends_of p) v) None))) (cond (not (at_most h (finmap.get (ends_of p) v))) (finmap.get (ends_of p) v) None) None
 part_end config p h r v = get-without_ended (content_of config p h).ends r (content_of config p h).ends v ∙ ap (λ x. cond (not (at_most r x)) x None) (content_of_end config p h v)
 
 pub alike_differ : {X : Type 0} (alike : X → X → Bool) (x y : Option X) → ((a b : X) → x ≡ Some a → y ≡ Some b → alike a b ≡ true) → values_conflict alike x y ≡ false

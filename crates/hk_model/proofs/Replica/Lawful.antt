@@ -68,7 +68,7 @@ together_lawful (a ∷ more) [] = All-nil IsLawfulStream
 together_lawful (a ∷ more) (b ∷ rest) = All-cons IsLawfulStream (together a b) (all_together more rest) (settled_lawful (set.union a.taken b.taken) (max a.closed b.closed) (finmap.entries a.waiting ++ finmap.entries b.waiting)) (together_lawful more rest)
 
 -- the readable mark of two together is no earlier than either's
-closer : (xs ys : List StreamContent) → length xs ≡ length ys → (least_closed xs ≤ least_closed (all_together xs ys)) × (least_closed ys ≤ least_closed (all_together xs ys))
+pub closer : (xs ys : List StreamContent) → length xs ≡ length ys → (least_closed xs ≤ least_closed (all_together xs ys)) × (least_closed ys ≤ least_closed (all_together xs ys))
 closer [] [] e = (omega arith, omega arith)
 closer [] (b ∷ rest) e = absurd (omega arith)
 closer (a ∷ more) [] e = absurd (omega arith)
@@ -123,7 +123,7 @@ pruned_lawful c h l within = record {
   streams = l.streams;
 }
 
-least_at : (streams : List StreamContent) (i : ℕ) → i < length streams → least_closed streams ≤ (get_or streams i unknown).closed
+pub least_at : (streams : List StreamContent) (i : ℕ) → i < length streams → least_closed streams ≤ (get_or streams i unknown).closed
 least_at [] i l = absurd (omega arith)
 least_at (s ∷ []) zero l = omega arith
 least_at (s ∷ []) (suc i) l = absurd (omega arith)

@@ -358,10 +358,12 @@ const DAMAGE: [(Does, Tells); 11] = [
 ];
 
 /// What contradicts a guarded node is refused and damages nothing, and of a list that is refused nothing is kept: 7 ends a
-/// version at another time than 2, and 9 has a number that is taken.
-const GUARDED: [(Does, Tells); 12] = [
+/// version at another time than 2, and 9 has the number of 1 and another row.
+const GUARDED: [(Does, Tells); 14] = [
+    (Does::Take(&[1, 9]), (23, 0, 0)),
     (Does::Take(&[1, 2]), (0, 2, 0)),
-    (Does::Take(&[9]), (0, 3, 0)),
+    (Does::Take(&[9]), (23, 0, 0)),
+    (Does::Take(&[1]), (0, 3, 0)),
     (Does::Join(&[9]), (23, 0, 0)),
     (Does::Take(&[3, 7]), (23, 0, 0)),
     (Does::Take(&[4]), (0, 4, 0)),
@@ -383,13 +385,15 @@ const MERGED: [(Does, Tells); 5] = [
     (Does::Front, (0, 0, 3)),
 ];
 
-/// The mark 8 closes the stream before the entry 2 comes.
-const CLOSED: [(Does, Tells); 5] = [
+/// The mark 8 closes the stream before the entry 2 comes, as an item or in a fragment.
+const CLOSED: [(Does, Tells); 7] = [
     (Does::Take(&[1, 8, 2]), (23, 0, 0)),
     (Does::Front, (0, 0, 0)),
     (Does::Take(&[1, 8]), (0, 2, 0)),
     (Does::Take(&[2]), (23, 0, 0)),
+    (Does::Join(&[2]), (23, 0, 0)),
     (Does::Front, (0, 0, 9)),
+    (Does::Get(5, 3), (0, 0x41, 0)),
 ];
 
 /// Key 5 is put and replaced, key 6 put. A damaged node tells of its streams, and nothing else.

@@ -1,10 +1,10 @@
 use Rattle.std.proofs.Common.{List, refl, sym, ap, ◌∙◌, subst}
 use Rattle.hk_types.specs.declared.faults.Refusal.{Refusal}
-use Rattle.hk_node.specs.declared.op.Op.{Op}
-use Rattle.hk_node.specs.declared.op.Op.TheVariants.{Hold as HoldAt}
-use Rattle.hk_node.specs.Replay.{replay}
+use Rattle.hk_oplog.specs.declared.op.Op.{Op}
+use Rattle.hk_oplog.specs.declared.op.Op.TheVariants.{Hold as HoldAt}
+use Rattle.hk_oplog.specs.Replay.{replay}
 use Rattle.hk_node.specs.Changes.{Lists, Refuses}
-use Rattle.hk_node.proofs.Holds.{replay_count}
+use Rattle.hk_oplog.proofs.Holds.{replay_count}
 use Rattle.hk_node.proofs.WaitingHold.{hold_waits}
 use Rattle.hk_node.proofs.change.hold_at.Goals as goal
 

@@ -1,6 +1,6 @@
 use Rattle.std.proofs.Common.{List, sym, ap, ◌∙◌}
-use Rattle.hk_node.specs.declared.op.Op.{Op}
-use Rattle.hk_node.specs.Replay.{replay}
+use Rattle.hk_oplog.specs.declared.op.Op.{Op}
+use Rattle.hk_oplog.specs.Replay.{replay}
 use Rattle.hk_node.specs.Changes.{Lists}
 use Rattle.hk_node.proofs.change.prune_to.Goals as goal
 

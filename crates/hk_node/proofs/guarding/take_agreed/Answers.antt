@@ -1,11 +1,22 @@
-use Rattle.std.proofs.Common.{sym, ◌∙◌}
+use Rattle.std.proofs.Common.{Ok, Err, sym, ◌∙◌}
+use Rattle.hk_oplog.specs.declared.op.Op.TheVariants.{Join}
 use Rattle.hk_node.proofs.GuardedChanges.{take_made, take_refused}
+use Rattle.hk_node.proofs.NewItems.{told_new}
 use Rattle.hk_node.proofs.guarding.take_agreed.Goals as goal
 
 pub returns-in-Err-clause-take : goal.returns-in-Err-clause-take
 returns-in-Err-clause-take g c = take_refused c.args.publisher.now c.publish.new.self c.args.items.now c.in-Err.why c.in-Ok.ensures.lists c.in-Err.ensures
 
-pub returns-in-None-clause-take : goal.returns-in-None-clause-take
-returns-in-None-clause-take g c =
-    take_made c.args.publisher.now c.publish.new.self c.add.new.publisher c.args.items.now c.in-Ok-agreed.fragment c.add.result c.publish.ensures.legal.0 c.in-Ok.ensures.lists c.in-Ok-agreed.ensures
-    (sym c.in-None.is ∙ c.full_refusal.ensures) c.add.ensures.adds
+pub returns-in-Ok-add-clause-take : goal.returns-in-Ok-add-clause-take
+returns-in-Ok-add-clause-take g c =
+    take_made c.args.publisher.now c.publish.new.self c.add.new.publisher c.args.items.now c.in-Ok-agreed.fragment (Ok c.in-Ok-add.receipt) c.publish.ensures.legal.0 c.in-Ok.ensures.lists c.in-Ok-agreed.ensures
+    (sym c.in_default-full_refusal.is ∙ c.full_refusal.ensures) c.in-Ok-add.ensures.adds
+
+pub returns-in-Err-add-clause-take : goal.returns-in-Err-add-clause-take
+returns-in-Err-add-clause-take g c =
+    take_made c.args.publisher.now c.publish.new.self c.add.new.publisher c.args.items.now c.in-Ok-agreed.fragment (Err c.in-Err-add.why) c.publish.ensures.legal.0 c.in-Ok.ensures.lists c.in-Ok-agreed.ensures
+    (sym c.in_default-full_refusal.is ∙ c.full_refusal.ensures) c.in-Err-add.ensures.adds
+
+pub returns-in-Ok-add-clause-new : goal.returns-in-Ok-add-clause-new
+returns-in-Ok-add-clause-new g c =
+    told_new c.publish.new.self.0 c.in-Ok-add.receipt (Join c.in-Ok-agreed.fragment) c.args.items.now c.count_new-new.result c.in-Ok-add.ensures.adds.1 c.count_new-new.ensures

@@ -5,7 +5,7 @@ use hk_log::Version;
 use hk_model::Query;
 use hk_tests_values::{bytes_of, entry, mark, row, time, version};
 use hk_types::{Config, FormFault, Key, Refusal, Table, VersionKey};
-use hk_values::Head;
+use hk_values::FragmentHead;
 use hk_wire::{
     LaterReply, LaterRequest, Reply, ReplyFeeder, Request, RequestFeeder, encode_reply,
     encode_request,
@@ -21,12 +21,12 @@ fn facts(alloc: Global) -> Result<Vec<(VersionKey, Version)>, Fail> {
 }
 
 /// The head of all that the only stream of log 7 has up to time 1: that row.
-fn head(alloc: Global) -> Result<Head, Fail> {
+fn head(alloc: Global) -> Result<FragmentHead, Fail> {
     let mut items = Vec::new(alloc);
     items.push(entry(alloc, 7, (1, 1, 1), (None, Some((5, &[0x41]))))?)?;
     items.push(mark(1, 1, 1)?)?;
     let fragment = fragment_of(alloc, Config::new(7, 1)?, &items)?;
-    Ok(Head::of_fragment(alloc, &fragment)?)
+    Ok(FragmentHead::of_fragment(alloc, &fragment)?)
 }
 
 const REQUESTS: [&str; 10] = [

@@ -1,7 +1,7 @@
 use Rattle.std.proofs.Common.{◌≤◌, ◌<◌, ap, subst, arith, length, List}
 use Rattle.std.proofs.lemmas.Bool.Decides.{nat_tests}
 use mathlib.Core.List.{IsPrefix}
-use Rattle.hk_node.specs.declared.op.Op.{Op}
+use Rattle.hk_oplog.specs.declared.op.Op.{Op}
 use Rattle.hk_node.proofs.Prefixes.{prefix_shorter}
 use Rattle.hk_node.proofs.book.Prefix.compare.Goals as goal
 

@@ -1,9 +1,9 @@
 use Rattle.std.proofs.Common.{◌≡◌, ◌+◌, true, length-append, None, List, [], ◌∷◌, ◌++◌, length, sym, ◌∙◌, ap, subst, arith}
 use Rattle.logbook.specs.Pages.{Book}
-use Rattle.hk_node.specs.declared.op.Op.{Op}
-use Rattle.hk_node.specs.Replay.{kind_of, replay, refusal_of, is_legal}
+use Rattle.hk_oplog.specs.declared.op.Op.{Op}
+use Rattle.hk_oplog.specs.Replay.{kind_of, replay, refusal_of, is_legal}
 use Rattle.hk_node.proofs.AddedOperation.{adds_moves, added}
-use Rattle.hk_node.proofs.LegalLists.{kind-snoc, legal-snoc}
+use Rattle.hk_oplog.proofs.LegalLists.{kind-snoc, legal-snoc}
 use Rattle.hk_node.proofs.book.Prefix.extended.Goals as goal
 
 pub compare_exchange-found-requires : goal.compare_exchange-found-requires

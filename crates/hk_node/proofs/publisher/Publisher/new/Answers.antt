@@ -1,6 +1,6 @@
 use Rattle.std.proofs.Common.{drop, subst}
 use Rattle.std.specs.Prelude.{None}
-use Rattle.hk_node.specs.declared.op.NodeKind.{NodeKind}
+use Rattle.hk_oplog.specs.declared.op.NodeKind.{NodeKind}
 use Rattle.hk_node.specs.Published.{queue, IsPublisher}
 use Rattle.hk_node.proofs.PublisherSteps.{new_publisher}
 use Rattle.hk_node.proofs.publisher.Publisher.new.Goals as goal

@@ -1,6 +1,6 @@
 use Rattle.std.proofs.Common.{◌≡◌, ◌≤◌, ◌++◌, true, drop, length, subst}
 use Rattle.std.proofs.lemmas.List.{length-map}
-use Rattle.hk_node.specs.Replay.{kind_of, is_legal, IsListOf}
+use Rattle.hk_oplog.specs.Replay.{kind_of, is_legal, IsListOf}
 use Rattle.hk_node.specs.Changes.{Lists}
 use Rattle.hk_node.specs.Published.{View, queue, ops_of}
 use Rattle.hk_node.proofs.publisher.Publisher.publish.Goals as goal

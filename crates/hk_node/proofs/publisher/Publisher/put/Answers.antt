@@ -1,6 +1,6 @@
 use Rattle.std.proofs.Common.{◌≡◌, [], ◌∷◌, ◌++◌, List, None, drop, sym, ap, ◌∙◌, subst}
-use Rattle.hk_node.specs.declared.op.Op.{Op}
-use Rattle.hk_node.specs.Replay.{replay, refusal_of}
+use Rattle.hk_oplog.specs.declared.op.Op.{Op}
+use Rattle.hk_oplog.specs.Replay.{replay, refusal_of}
 use Rattle.hk_node.specs.Changes.{Lists}
 use Rattle.hk_node.specs.Published.{queue, ops_of}
 use Rattle.hk_node.proofs.PublisherSteps.{none_pending, puts}

@@ -1,5 +1,5 @@
-use Rattle.hk_node.proofs.HoldsBack.{delta_holds_back}
-use Rattle.hk_node.proofs.SoundReplies.{delta_sound}
+use Rattle.hk_oplog.proofs.HoldsBack.{delta_holds_back}
+use Rattle.hk_oplog.proofs.SoundReplies.{delta_sound}
 use Rattle.hk_node.proofs.seat.ReaderSeat.delta_since.Goals as goal
 
 pub returns-clause-held : goal.returns-clause-held

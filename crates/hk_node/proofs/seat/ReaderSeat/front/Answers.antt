@@ -1,4 +1,4 @@
-use Rattle.hk_node.proofs.SoundReplies.{front_sound}
+use Rattle.hk_oplog.proofs.SoundReplies.{front_sound}
 use Rattle.hk_node.proofs.seat.ReaderSeat.front.Goals as goal
 
 pub returns-clause-sound : goal.returns-clause-sound

@@ -1,4 +1,4 @@
-use Rattle.hk_node.proofs.SoundReplies.{whole_sound}
+use Rattle.hk_oplog.proofs.SoundReplies.{whole_sound}
 use Rattle.hk_node.proofs.seat.ReaderSeat.whole.Goals as goal
 
 pub returns-clause-sound : goal.returns-clause-sound

@@ -13,4 +13,4 @@ returns c =
     let mid : HostValue = record { content = c.join-outcome.new.target; ops = a.ops } in
     let same : a.ops ≡ c.args.self.now.ops = ap (λ (h : HostValue). h.ops) c.self.view_is in
     let room : a.ops < 2 ^ 62 = omega (arith, same, ltb-false _ _ (sym c.is_full.ensures ∙ c.if-is_full.false)) in
-    rw (← c.self.view_is) (settled_is made old mid made _ _ room refl (c.settle.ensures (is_ok made) a.state made (left_so a.state mid.content made c.join-outcome.result c.join-outcome.ensures.gives)))
+    rw (← c.self.view_is) (settled_is (is_ok made) old mid made _ _ room refl (c.settle.ensures (is_ok made) a.state made (left_so a.state mid.content made c.join-outcome.result c.join-outcome.ensures.gives)))

@@ -1,8 +1,9 @@
-use Rattle.std.proofs.Common.{◌≡◌, ◌<◌, ◌^◌, arith, refl, sym, ap, is_ok, ◌∙◌}
+use Rattle.std.proofs.Common.{◌≡◌, ◌<◌, ◌^◌, arith, refl, sym, ap, ◌∙◌}
 use Rattle.std.proofs.lemmas.Bool.{ltb-false}
 use Rattle.hk_model.specs.Replica.Rules.{prune_result}
 use Rattle.hk_session.specs.Values.{HostValue}
-use Rattle.hk_session.proofs.ChangeReplies.{settled_is, left_so}
+use Rattle.hk_session.specs.Steps.{prune_takes}
+use Rattle.hk_session.proofs.ChangeReplies.{settled_is, pruned_so}
 use Rattle.hk_session.proofs.state_host.StateHost.prune.Goals as goal
 
 pub returns : goal.returns
@@ -13,4 +14,4 @@ returns c =
     let mid : HostValue = record { content = c.prune-outcome.new.self; ops = a.ops } in
     let same : a.ops ≡ c.args.self.now.ops = ap (λ (h : HostValue). h.ops) c.self.view_is in
     let room : a.ops < 2 ^ 62 = omega (arith, same, ltb-false _ _ (sym c.is_full.ensures ∙ c.if-is_full.false)) in
-    rw (← c.self.view_is) (settled_is made old mid made _ _ room refl (c.settle.ensures (is_ok made) a.state made (left_so a.state mid.content made c.prune-outcome.result c.prune-outcome.ensures.gives)))
+    rw (← c.self.view_is) (settled_is (prune_takes a.state c.args.horizon) old mid made _ _ room refl (c.settle.ensures (prune_takes a.state c.args.horizon) a.state made (pruned_so a.state mid.content c.args.horizon made c.prune-outcome.result c.prune-outcome.ensures.below c.prune-outcome.ensures.gives)))

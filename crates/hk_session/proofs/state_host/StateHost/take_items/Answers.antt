@@ -1,4 +1,4 @@
-use Rattle.std.proofs.Common.{◌<◌, ◌^◌, arith, sym, ◌∙◌}
+use Rattle.std.proofs.Common.{◌<◌, ◌^◌, arith, is_ok, sym, ◌∙◌}
 use Rattle.std.proofs.lemmas.Bool.{ltb-false}
 use Rattle.hk_model.specs.Replica.Rules.{gather_result}
 use Rattle.hk_session.specs.Steps.{config_of}
@@ -8,4 +8,4 @@ use Rattle.hk_session.proofs.state_host.StateHost.take_items.Goals as goal
 pub returns : goal.returns
 returns c =
     let room : c.args.self.now.ops < 2 ^ 62 = omega (arith, ltb-false _ _ (sym c.is_full.ensures ∙ c.if-is_full.false)) in
-    settled_is (gather_result (config_of c.args.self.now.content) c.args.items.now) c.args.self.now c.join_items-outcome.new.self _ _ _ room c.join_items-outcome.ensures.ops (c.settle.ensures _ c.args.self.now.content _ c.join_items-outcome.ensures.gives)
+    settled_is (is_ok (gather_result (config_of c.args.self.now.content) c.args.items.now)) c.args.self.now c.join_items-outcome.new.self _ _ _ room c.join_items-outcome.ensures.ops (c.settle.ensures _ c.args.self.now.content _ c.join_items-outcome.ensures.gives)

@@ -1,10 +1,11 @@
-use Rattle.std.proofs.Common.{◌≡◌, sym, ◌∙◌, subst, ap, None, Err, length}
+use Rattle.std.proofs.Common.{◌≡◌, refl, sym, ◌∙◌, subst, ap, None, Err, length}
 use Rattle.hk_log.specs.declared.item.Item.TheVariants.{Commit, Closed}
 use Rattle.hk_model.specs.Replica.Content.{Content}
 use Rattle.hk_model.specs.Replica.Items.{wrong_log}
 use Rattle.hk_state.specs.Calls.{Absorbs}
 use Rattle.hk_state.proofs.AbsorbedItem.{fits, refused}
 use Rattle.hk_state.proofs.Represented.{absorbs_of}
+use Rattle.hk_state.proofs.StayingAnswers.{absorb_stays}
 use Rattle.hk_state.proofs.replica.ReplicaState.absorb.Goals as goal
 
 pub returns-in-Some-clause-gives : goal.returns-in-Some-clause-gives
@@ -39,3 +40,12 @@ returns-in-Commit-clause-represents c = rw c.in-Commit.is (absorbs_of c.args.sel
 
 pub returns-in-Closed-clause-represents : goal.returns-in-Closed-clause-represents
 returns-in-Closed-clause-represents c = rw c.in-Closed.is (absorbs_of c.args.self.now c.absorb_mark.new.self (Closed c.in-Closed.mark) c.absorb_mark.result c.absorb_mark.ensures)
+
+pub returns-in-Some-clause-stays : goal.returns-in-Some-clause-stays
+returns-in-Some-clause-stays c t old soon q = refl
+
+pub returns-in-Commit-clause-stays : goal.returns-in-Commit-clause-stays
+returns-in-Commit-clause-stays c = absorb_stays c.args.self.now c.absorb_entry.new.self (Commit c.in-Commit.entry) c.absorb_entry.result c.absorb_entry.ensures
+
+pub returns-in-Closed-clause-stays : goal.returns-in-Closed-clause-stays
+returns-in-Closed-clause-stays c = absorb_stays c.args.self.now c.absorb_mark.new.self (Closed c.in-Closed.mark) c.absorb_mark.result c.absorb_mark.ensures

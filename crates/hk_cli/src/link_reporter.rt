@@ -1,0 +1,176 @@
+//! What a node that stays tells of its links.
+
+use crate::notice::Notice;
+use hk_cli_calls::Level;
+use hk_cli_commands::Output;
+use hk_cli_reasons::Place;
+use hk_net::{LinkEvent, Watch};
+use hk_node::{NodeName, ReaderSeat};
+use hk_session::Ended;
+use hk_types::Time;
+use std::alloc::{AllocError, Global};
+use std::io::Write;
+
+/// How many places a node has at most.
+const MOST_PLACES: usize = 64;
+
+/// A seat that asks for the front, and after how many changes it does.
+#[derive(Drop)]
+pub(crate) struct Reports<J: NodeName> {
+    seat: ReaderSeat<J>,
+    every: u64,
+    /// How many changes took effect.
+    changes: u64,
+    /// How many of them were not reported yet.
+    since: u64,
+}
+
+impl<J: NodeName> Reports<J> {
+    pub(crate) fn new(seat: ReaderSeat<J>, every: u64) -> Reports<J> {
+        Reports {
+            seat,
+            every,
+            changes: 0,
+            since: 0,
+        }
+    }
+
+    /// Counts a change; says whether it is time for a report.
+    fn count(&mut self) -> bool {
+        self.changes = self.changes.saturating_add(1);
+        self.since = self.since.saturating_add(1);
+        if self.since < self.every {
+            return false;
+        }
+        self.since = 0;
+        true
+    }
+}
+
+/// Tells what happens to the links of a node. They are counted from 1 as they open.
+#[derive(Drop)]
+pub(crate) struct LinkReporter<'o, 'a, W: Write, E: Write, J: NodeName> {
+    alloc: Global,
+    output: &'o mut Output<'a, W, E>,
+    level: Level,
+    reports: Option<Reports<J>>,
+    /// How many links opened.
+    count: u64,
+    /// The number of the last link of each place.
+    links: [u64; MOST_PLACES],
+}
+
+impl<'o, 'a, W: Write, E: Write, J: NodeName> LinkReporter<'o, 'a, W, E, J> {
+    pub(crate) fn new(
+        alloc: Global,
+        output: &'o mut Output<'a, W, E>,
+        level: Level,
+        reports: Option<Reports<J>>,
+    ) -> LinkReporter<'o, 'a, W, E, J> {
+        LinkReporter {
+            alloc,
+            output,
+            level,
+            reports,
+            count: 0,
+            links: [0; MOST_PLACES],
+        }
+    }
+
+    /// The number of the last link of a place.
+    fn link(&self, place: usize) -> u64 {
+        match self.links.get(place) {
+            Some(link) => *link,
+            None => 0,
+        }
+    }
+
+    /// Counts a link of a place.
+    fn count(&mut self, place: usize) {
+        self.count = self.count.saturating_add(1);
+        if let Some(link) = self.links.get_mut(place) {
+            *link = self.count;
+        }
+    }
+
+    /// Tells a line, where there was memory for it.
+    fn say(&mut self, line: Result<String, AllocError>) {
+        if let Ok(line) = line {
+            self.output.note(line.as_str());
+        }
+    }
+
+    /// Tells that a link did something that is no fault, unless only faults are wanted.
+    fn note(&mut self, link: u64, what: &str) {
+        if self.level == Level::Faults {
+            return;
+        }
+        let line = format!(in self.alloc; "link {link}: {what}\n");
+        self.say(line);
+    }
+
+    /// Tells that a change took effect, where each is wanted.
+    fn note_change(&mut self, link: u64, ops: u64) {
+        if self.level != Level::Changes {
+            return;
+        }
+        let line = format!(in self.alloc; "link {link}: done {ops}\n");
+        self.say(line);
+    }
+
+    /// Tells the front after so many changes.
+    fn note_front(&mut self, changes: u64, horizon: Time, readable: Time) {
+        let line = format!(in self.alloc; "after {changes} changes: front {horizon} {readable}\n");
+        self.say(line);
+    }
+
+    /// Counts a change, and tells the front where it is time for that.
+    fn report_change(&mut self) {
+        let Some(reports) = &mut self.reports else {
+            return;
+        };
+        if !reports.count() {
+            return;
+        }
+        let changes = reports.changes;
+        match reports.seat.front() {
+            Ok(front) => self.note_front(changes, front.horizon, front.readable),
+            Err(why) => self.output.tell_known(Place::Whole, "front", why.number()),
+        }
+    }
+
+    /// Tells how a link ended.
+    fn ended(&mut self, link: u64, ended: Ended) {
+        let number = ended.number();
+        if number == 0 {
+            self.note(link, "ended 0");
+        } else {
+            self.output.tell_known(Place::Link(link), "ended", number);
+        }
+        // Where the line can't be printed the node serves on.
+        let _printed = self.output.print(&Notice::Ended(number));
+    }
+}
+
+impl<W: Write, E: Write, J: NodeName> Watch for LinkReporter<'_, '_, W, E, J> {
+    fn told(&mut self, place: usize, event: LinkEvent) {
+        if event == LinkEvent::Opened {
+            self.count(place);
+        }
+        let link = self.link(place);
+        match event {
+            LinkEvent::Opened => self.note(link, "opened"),
+            LinkEvent::Refused(number) => {
+                self.output.tell_known(Place::Link(link), "refused", number);
+            }
+            LinkEvent::Changed(ops) => {
+                self.note_change(link, ops);
+                self.report_change();
+            }
+            LinkEvent::Ended(ended) => self.ended(link, ended),
+            LinkEvent::NotAccepted => self.output.tell_known(Place::Whole, "not accepted", 93),
+            LinkEvent::NotStarted => self.output.tell_known(Place::Whole, "not started", 90),
+        }
+        let _written = self.output.flush();
+    }
+}

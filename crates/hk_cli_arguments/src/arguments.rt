@@ -1,0 +1,218 @@
+//! The command line.
+
+use crate::calls::{call_of, is_second};
+use crate::forms::{
+    CommandForm, FORMS, Number, QUERIES, SERVE_NUMBERS, SERVE_WORDS, form_named, numbers_of,
+    with_forms, with_numbers,
+};
+use crate::stay::{stay_call, with_stay};
+use clap::error::ErrorKind;
+use clap::{ArgMatches, Command, Error};
+use hk_cli_calls::{Call, VERSION};
+use hk_types::{Config, Links};
+use std::alloc::{AllocError, Global};
+
+const ABOUT: &str = "Read replicas of an in-memory multiversion primary";
+
+const LONG_ABOUT: &str = "Read replicas of an in-memory multiversion primary.
+
+A primary writes a log in 1 to 64 streams of item frames: entries, which say what a transaction \
+put in and ended, and marks, which say that a stream is complete up to a time. A replica takes \
+them in any order, late or twice, and answers at a past time with exactly the primary's rows of \
+that time, or with a numbered refusal.
+
+Answers and refusals go to standard output, and why something was refused, in words, to standard \
+error; 'hkrep explain' lists all refusals. The status is 0; 1 where a line 'refused', 'line N: bad \
+command' or 'ended N' with N above 0 was printed, where 'frames', 'rewrite' or 'save' was stopped, \
+which standard error alone tells, or where a write failed; 2 for a bad command line.";
+
+/// How many bytes all links keep for messages of version 2 where that isn't said.
+const PARTS_BYTES: u64 = 1_073_741_824;
+
+const SERVE_ABOUT: &str =
+    "Start a node, and serve links to it on a port of 127.0.0.1; with --stay without an end";
+
+const LINKS_EXAMPLE: &str = "Example, a node and a feeder:
+  hkrep serve --log 7 --streams 1 --port 47110 --links 1 &
+  hkrep push --port 47110 < examples/links/first.bin
+The node prints 'listening 47110' once links can be opened. The feeder sends two items and asks \
+for a row: it prints 'done 2' and '9 41'. When the links have ended, the node prints 'ended 0' for \
+each, or the number of what ended it.
+
+A node that stays, with a port of its own for readers:
+  hkrep serve --stay --log 7 --streams 1 --port 47110 --links 40 --read-port 47111 --read-links 20 &";
+
+const SERVE_LONG_ABOUT: &str = "Start a node, and serve links to it on a port of 127.0.0.1.
+
+It serves as many links as --links says, side by side, and ends when all have ended. It prints \
+'refused 93' where the port can't be listened to. docs/PROTOCOL.md says what goes over a link.
+
+With --guard a change that says another thing of a version than the node has is refused 23 and changes \
+nothing, where else it damages the node for good; docs/SECURITY.md has what it doesn't refuse.
+
+With --messages 2 it answers messages of version 2 too: the whole in parts, pages of rows, the latest answer, and holds, which end with their link. What the links keep for these is at most --parts-bytes, all together; what would be more is refused 46.
+
+With --stay it serves links without an end, --links of them at once: a further link waits until one ends. \
+It prints 'ended' and a number as each link ends. --read-port opens a second port, whose links may \
+ask and not change, --feed-port a further one, whose links may send items and ask. NOTHING IS ENCRYPTED OR AUTHENTICATED: whoever reaches the port may write. Give \
+--address only behind a proxy that does both (docs/OPERATING.md).";
+
+fn serve_command<'a>(alloc: Global) -> Result<Command<'a>, AllocError> {
+    let command = plain(alloc, "serve", SERVE_ABOUT, LINKS_EXAMPLE).long_about(SERVE_LONG_ABOUT);
+    with_stay(alloc, with_numbers(alloc, command, &SERVE_NUMBERS)?)
+}
+
+/// A command of this name. (A function for each of the next steps, since a proof of several together takes a minute.)
+pub(crate) fn named<'a>(alloc: Global, name: &'a str, about: &'a str) -> Command<'a> {
+    Command::new(alloc, name).about(about)
+}
+
+fn with_example<'a>(command: Command<'a>, example: &'a str) -> Command<'a> {
+    command.after_help(example)
+}
+
+pub(crate) fn plain<'a>(
+    alloc: Global,
+    name: &'a str,
+    about: &'a str,
+    example: &'a str,
+) -> Command<'a> {
+    with_example(named(alloc, name, about), example)
+}
+
+fn with_program_texts<'a>(command: Command<'a>) -> Command<'a> {
+    command.long_about(LONG_ABOUT).version(VERSION)
+}
+
+/// A command that needs another one behind it.
+fn with_need_of_command<'a>(command: Command<'a>) -> Command<'a> {
+    command
+        .subcommand_required(true)
+        .arg_required_else_help(true)
+}
+
+fn whole<'a>(alloc: Global) -> Command<'a> {
+    with_need_of_command(with_program_texts(named(alloc, "hkrep", ABOUT)))
+}
+
+fn program<'a>(alloc: Global) -> Result<Command<'a>, AllocError> {
+    let command = with_forms(alloc, whole(alloc))?;
+    command.subcommand(serve_command(alloc)?)
+}
+
+fn is_decimal(word: &str) -> bool {
+    !word.is_empty() && word.bytes().all(|byte| byte.is_ascii_digit())
+}
+
+/// The named word, where it is not made of decimal digits alone.
+fn signed<'a>(matches: &ArgMatches<'a>, name: &str) -> Option<&'a str> {
+    let word = matches.get_str(name)?;
+    if is_decimal(word) { None } else { Some(word) }
+}
+
+/// The first word of these numbers that is not made of decimal digits alone.
+fn first_signed<'a>(matches: &ArgMatches<'a>, numbers: &[Number]) -> Option<&'a str> {
+    for number in numbers {
+        if let Some(word) = signed(matches, number.name) {
+            return Some(word);
+        }
+    }
+    None
+}
+
+/// The log that the arguments name, where they are in their ranges.
+pub(crate) fn config_of(matches: &ArgMatches<'_>) -> Option<Config> {
+    let log = matches.get_one::<u64>("log")?;
+    let streams = matches.get_one::<u16>("streams")?;
+    Config::new(log, streams).ok()
+}
+
+/// How many bytes all links keep for messages of version 2, where these are answered.
+pub(crate) fn parts_bytes_of(matches: &ArgMatches<'_>) -> Option<u64> {
+    if !is_second(matches) {
+        return None;
+    }
+    Some(matches.get_one::<u64>("parts-bytes").unwrap_or(PARTS_BYTES))
+}
+
+/// The call that the arguments of `serve` make, where each of them is in its range.
+fn serve_call<'a>(matches: &ArgMatches<'a>) -> Option<Call<'a>> {
+    if matches.get_flag("stay") {
+        return stay_call(matches);
+    }
+    let links = matches.get_one::<u16>("links")?;
+    Some(Call::Serve {
+        config: config_of(matches)?,
+        port: matches.get_one::<u16>("port")?,
+        links: Links::new(links)?,
+        is_guarded: matches.get_flag("guard"),
+        parts_bytes: parts_bytes_of(matches),
+    })
+}
+
+/// The error of a bad command line, with this text before the usage.
+fn bad_line(alloc: Global, message: &str) -> Result<Error, AllocError> {
+    let mut command = program(alloc)?;
+    command.error(ErrorKind::ValueValidation, message)
+}
+
+fn bad_word(alloc: Global, word: &str) -> Result<Error, AllocError> {
+    let message = format!(in alloc;
+        "invalid value '{word}': a number is written in decimal digits alone"
+    )?;
+    bad_line(alloc, message.as_str())
+}
+
+/// The call of `serve`, where the words of its numbers are made of decimal digits alone and it could be made.
+fn read_serve<'a>(alloc: Global, matches: &ArgMatches<'a>) -> Result<Call<'a>, Error> {
+    if let Some(word) = first_signed(matches, &SERVE_WORDS) {
+        return Err(bad_word(alloc, word)?);
+    }
+    match serve_call(matches) {
+        Some(call) => Ok(call),
+        None => Err(bad_line(alloc, "a number is out of its range")?),
+    }
+}
+
+/// The first word of a form's numbers, or of its query's, that is not made of decimal digits alone.
+fn first_bad<'a>(form: &CommandForm, matches: &ArgMatches<'a>) -> Option<&'a str> {
+    if let Some((name, words)) = matches.subcommand() {
+        if let Some(word) = first_signed(words, numbers_of(&QUERIES, name)) {
+            return Some(word);
+        }
+    }
+    first_signed(matches, form.numbers)
+}
+
+/// The call of a form, where the words of its numbers are made of decimal digits alone and it could be made.
+fn checked_form<'a>(
+    alloc: Global,
+    form: &CommandForm,
+    matches: &ArgMatches<'a>,
+) -> Result<Call<'a>, Error> {
+    if let Some(word) = first_bad(form, matches) {
+        return Err(bad_word(alloc, word)?);
+    }
+    match call_of(form.name, matches) {
+        Some(call) => Ok(call),
+        None => Err(bad_line(alloc, "a number is out of its range")?),
+    }
+}
+
+fn read_form<'a>(alloc: Global, name: &str, matches: &ArgMatches<'a>) -> Result<Call<'a>, Error> {
+    match form_named(&FORMS, name) {
+        Some(form) => checked_form(alloc, form, matches),
+        None => Err(bad_line(alloc, "no such command")?),
+    }
+}
+
+/// Reads the words of the command line, the program's name first. An error has a text and a status: 2 for a
+/// bad command line, 0 where help or the version was asked for. Cost: O(n), n bytes of the words.
+pub fn read_call<'a>(alloc: Global, words: &'a [String]) -> Result<Call<'a>, Error> {
+    let matches = program(alloc)?.try_get_matches_from(words)?;
+    match matches.subcommand() {
+        Some(("serve", serve)) => read_serve(alloc, serve),
+        Some((name, words)) => read_form(alloc, name, words),
+        None => Err(bad_line(alloc, "a command is missing")?),
+    }
+}

@@ -1,0 +1,92 @@
+//! Reading item frames.
+
+use crate::pieces::{Pieces, read_pieces};
+use crate::stop::Stop;
+use hk_cli_reasons::{Origin, Place, RequestContext};
+use hk_codec::Feeder;
+use hk_log::Item;
+use hk_types::Refusal;
+use std::alloc::Global;
+use std::io::Read;
+use std::mem;
+
+/// What takes the items of an input, one after the other.
+pub trait Sink {
+    /// Takes the next item, or says what stops the command.
+    fn take(&mut self, item: Item) -> Result<(), Stop>;
+}
+
+/// What is asked where an item is to be taken.
+fn asked_of(item: &Item) -> RequestContext {
+    let (log, stream) = match item {
+        Item::Commit(entry) => (entry.log(), entry.stream()),
+        Item::Closed(mark) => (mark.log(), mark.stream()),
+    };
+    RequestContext::Item { log, stream }
+}
+
+/// Where an item came from that stands behind so many frames.
+fn origin_of(frames: u64, asked: RequestContext) -> Origin {
+    let place = Place::Frame(frames.saturating_add(1));
+    Origin { place, asked }
+}
+
+/// Hands items to the sink, and counts those that it took.
+fn take_all<S: Sink>(items: Vec<Item>, sink: &mut S, frames: &mut u64) -> Result<(), Stop> {
+    for item in items {
+        let asked = asked_of(&item);
+        if let Err(stop) = sink.take(item) {
+            return Err(stop.at(origin_of(*frames, asked)));
+        }
+        *frames = frames.saturating_add(1);
+    }
+    Ok(())
+}
+
+/// What an answer of a feeder stops, behind so many frames.
+fn checked(fed: Result<(), Refusal>, frames: u64) -> Result<(), Stop> {
+    match fed {
+        Ok(()) => Ok(()),
+        Err(why) => Err(Stop::RefusedAt(why, origin_of(frames, RequestContext::Nothing))),
+    }
+}
+
+/// Frames on their way to a sink of items.
+#[derive(Drop)]
+struct Frames<'a, S> {
+    alloc: Global,
+    feeder: Feeder,
+    /// How many frames' items the sink took.
+    count: u64,
+    sink: &'a mut S,
+}
+
+impl<S: Sink> Pieces for Frames<'_, S> {
+    fn take(&mut self, piece: &[u8]) -> Result<(), Stop> {
+        let mut items = Vec::new(self.alloc);
+        let fed = self.feeder.feed(piece, &mut items);
+        take_all(items, self.sink, &mut self.count)?;
+        checked(fed, self.count)
+    }
+
+    fn end(&mut self) -> Result<(), Stop> {
+        let feeder = mem::replace(&mut self.feeder, Feeder::new(self.alloc));
+        checked(feeder.finish(), self.count)
+    }
+}
+
+/// Hands the items of the input to the sink in their order, up to the end, or to what stops them first:
+/// the sink, a fault of the input, or a read. Cost: O(n), n bytes of the input, and that of the sink.
+pub fn hand_items<I: Read, S: Sink>(
+    alloc: Global,
+    input: &mut I,
+    sink: &mut S,
+) -> Result<(), Stop> {
+    let mut frames = Frames {
+        alloc,
+        feeder: Feeder::new(alloc),
+        count: 0,
+        sink,
+    };
+    read_pieces(alloc, input, &mut frames)
+}

@@ -1,0 +1,353 @@
+//! What a command prints, gathered into larger writes.
+
+ghost use Rattle.std.specs.Prelude.{◌≡◌};
+
+use crate::flaw::{Flaw, put_bad_line};
+use crate::json::{LineFault, put_bad_item};
+use crate::stop::Stop;
+use hk_cli_calls::OutputForm;
+use hk_cli_json::InJson;
+use hk_cli_lines::Printed;
+use hk_cli_reasons::{Origin, Place, RequestContext, put_known, put_reason};
+use hk_model::{Front, Told};
+use hk_types::Refusal;
+use std::alloc::{AllocError, Global};
+use std::io;
+use std::io::Write;
+
+/// How many bytes of lines are gathered before they are written.
+const GATHERED_BYTES: usize = 65_536;
+
+/// What is told where memory runs out for the words.
+const NO_WORDS: &[u8] = b"refused: no memory to say why; hkrep explain has the numbers\n";
+
+/// What is told where memory ran out.
+const NO_MEMORY: &[u8] = b"refused 90: out of memory; free memory, and make the same call again\n";
+
+/// What is told where a write of the file of items failed.
+const NO_ITEMS: &[u8] = b"stopped: the file of items can't be written; see where it goes\n";
+
+/// What is told where a write of the output failed.
+const NO_OUTPUT: &[u8] = b"stopped: the output can't be written; see where standard output goes\n";
+
+/// The lines of a command on their way to a writer, and what is told of refusals in words on its way to another.
+#[derive(Drop)]
+pub struct Output<'a, W: Write, E: Write> {
+    alloc: Global,
+    form: OutputForm,
+    writer: &'a mut W,
+    errors: &'a mut E,
+    /// What was gathered: whole lines.
+    lines: String,
+    /// The same of what is told in words.
+    reasons: String,
+    /// The lines of the value that is being printed; where memory runs out none of them is.
+    next: String,
+    /// Whether nobody reads the output any more, as behind `head`.
+    is_closed: bool,
+}
+
+impl<'a, W: Write, E: Write> Output<'a, W, E> {
+    /// An output in lines.
+    pub fn new(alloc: Global, writer: &'a mut W, errors: &'a mut E) -> Output<'a, W, E> {
+        Output::of_form(alloc, OutputForm::Lines, writer, errors)
+    }
+
+    pub fn of_form(
+        alloc: Global,
+        form: OutputForm,
+        writer: &'a mut W,
+        errors: &'a mut E,
+    ) -> Output<'a, W, E> {
+        Output {
+            alloc,
+            form,
+            writer,
+            errors,
+            lines: String::new(alloc),
+            reasons: String::new(alloc),
+            next: String::new(alloc),
+            is_closed: false,
+        }
+    }
+
+    /// Adds the lines of a value, all of them or none, and writes what was gathered once that is much.
+    /// Cost: O(n), n bytes of the lines and of what is written.
+    pub fn print<T: Printed>(&mut self, value: &T) -> Result<(), Stop> {
+        self.next.clear();
+        value.print_to(self.alloc, &mut self.next)?;
+        self.keep_lines()
+    }
+
+    /// The same in the form of the output. Cost: as that of `print`.
+    pub fn show<T: Printed + InJson>(&mut self, value: &T) -> Result<(), Stop> {
+        match self.form {
+            OutputForm::Json => self.print_json(value),
+            OutputForm::Lines | OutputForm::Bytes => self.print(value),
+        }
+    }
+
+    /// The same of from where to where can be read. Cost: O(1).
+    pub fn show_front(&mut self, front: Front) -> Result<(), Stop> {
+        match self.form {
+            OutputForm::Json => self.print_json(&front),
+            OutputForm::Lines | OutputForm::Bytes => self.print(&Told::Fronted(front)),
+        }
+    }
+
+    /// Adds a value's line of JSON, all of it or nothing. Cost: as that of `print`.
+    pub fn print_json<T: InJson>(&mut self, value: &T) -> Result<(), Stop> {
+        self.next.clear();
+        value.json_to(self.alloc, &mut self.next)?;
+        self.keep_lines()
+    }
+
+    /// Adds the lines that were made, and writes what was gathered once that is much.
+    fn keep_lines(&mut self) -> Result<(), Stop> {
+        self.lines.push_str(&self.next)?;
+        if self.lines.len() >= GATHERED_BYTES || self.reasons.len() >= GATHERED_BYTES {
+            return self.flush();
+        }
+        Ok(())
+    }
+
+    /// Adds why something was refused, in words: a line. Where there is no memory for it another line says that.
+    /// Cost: O(1).
+    pub fn tell(&mut self, origin: Origin, refusal: &Refusal) {
+        self.next.clear();
+        let made = put_reason(origin, refusal, &mut self.next);
+        self.keep_reason(made);
+    }
+
+    /// The same of a number that is no refusal of a call's, behind what happened with it. Cost: O(1).
+    pub fn tell_known(&mut self, place: Place, what: &str, number: u8) {
+        self.next.clear();
+        let made = put_known(place, what, number, &mut self.next);
+        self.keep_reason(made);
+    }
+
+    /// The same of a line that is no command. Cost: O(n), n bytes of the line.
+    pub(crate) fn tell_line(&mut self, number: u64, line: &[u8], flaw: Flaw) {
+        self.next.clear();
+        let made = put_bad_line(number, line, flaw, &mut self.next);
+        self.keep_reason(made);
+    }
+
+    /// The same of a line of JSON that is no item. Cost: O(1).
+    pub(crate) fn tell_item(&mut self, number: u64, fault: &LineFault) {
+        self.next.clear();
+        let made = put_bad_item(self.alloc, number, fault, &mut self.next);
+        self.keep_reason(made);
+    }
+
+    /// Adds that a link was cut before the reply to a request. Cost: O(1).
+    fn tell_cut(&mut self, request: u64) {
+        self.next.clear();
+        let made = writeln!(
+            self.next,
+            "request {request}: refused 1: the link was cut before the reply; see whether the node still runs"
+        );
+        self.keep_reason(made);
+    }
+
+    /// Adds that a node replied nothing for so long. Cost: O(1).
+    fn tell_late(&mut self, request: u64, seconds: u64) {
+        self.next.clear();
+        let made = writeln!(
+            self.next,
+            "request {request}: refused 91: no reply for {seconds} s; see whether the node runs, and whether all its links are taken, or give --reply-seconds more"
+        );
+        self.keep_reason(made);
+    }
+
+    /// Tells that a link to a port of 127.0.0.1 can't be opened, in the system's words, and gives what stops the command.
+    /// Cost: O(1).
+    pub fn connect_fault(&mut self, port: u16, error: &io::Error) -> Stop {
+        self.next.clear();
+        let made = writeln!(
+            self.next,
+            "refused 93: can't connect to port {port}: {error}; see that a node listens there"
+        );
+        self.keep_reason(made);
+        Stop::NetTold
+    }
+
+    /// The same of a port that can't be listened to. Cost: O(1).
+    pub fn listen_fault(&mut self, port: u16, error: &io::Error) -> Stop {
+        self.next.clear();
+        let made = writeln!(
+            self.next,
+            "refused 93: can't listen on port {port}: {error}; see that no other program has the port"
+        );
+        self.keep_reason(made);
+        Stop::NetTold
+    }
+
+    /// Adds a line of words that are no reason, as how fast something went. Cost: O(n), n bytes of the line.
+    pub fn note(&mut self, line: &str) {
+        if self.reasons.push_str(line).is_err() {
+            self.say(NO_WORDS);
+        }
+    }
+
+    /// Gathers the line that was made, where there was memory for it.
+    fn keep_reason(&mut self, made: Result<(), AllocError>) {
+        let is_kept = made.is_ok() && self.reasons.push_str(&self.next).is_ok();
+        if !is_kept {
+            self.say(NO_WORDS);
+        }
+    }
+
+    /// Writes a line in words; where that fails there is nobody to tell.
+    fn say(&mut self, line: &[u8]) {
+        let _ = self.errors.write_all(line);
+    }
+
+    /// Writes what was gathered. Cost: O(n), n bytes written.
+    pub fn flush(&mut self) -> Result<(), Stop> {
+        let written = self.writer.write_all(self.lines.as_bytes());
+        self.lines.clear();
+        if !self.reasons.is_empty() {
+            let _ = self.errors.write_all(self.reasons.as_bytes());
+            self.reasons.clear();
+        }
+        match written {
+            Ok(()) => self.sent(),
+            Err(error) => Err(self.write_fault(&error)),
+        }
+    }
+
+    /// Writes bytes that are no lines. Cost: O(n), n bytes written.
+    pub fn send(&mut self, bytes: &[u8]) -> Result<(), Stop> {
+        match self.writer.write_all(bytes) {
+            Ok(()) => self.sent(),
+            Err(error) => Err(self.write_fault(&error)),
+        }
+    }
+
+    /// Why a write that failed stops the command. Where nobody reads the output any more that is kept.
+    fn write_fault(&mut self, error: &io::Error) -> Stop {
+        if error.kind() == io::ErrorKind::BrokenPipe {
+            self.is_closed = true;
+        }
+        Stop::WriteFault
+    }
+
+    /// Tells that the output can't be written, but where its reader is gone, of which other tools tell nothing either.
+    fn say_no_output(&mut self) {
+        if !self.is_closed {
+            self.say(NO_OUTPUT);
+        }
+    }
+
+    fn sent(&mut self) -> Result<(), Stop> {
+        match self.writer.flush() {
+            Ok(()) => Ok(()),
+            Err(error) => Err(self.write_fault(&error)),
+        }
+    }
+
+    /// Writes what was gathered, and then why the command stopped. The status of the command: 1.
+    /// Cost: that of `flush`.
+    pub fn stop(&mut self, stop: Stop) -> u8
+        ensures { result ≡ 1 }
+    {
+        self.tell_stop(&stop);
+        let printed = self.print_stop(&stop);
+        let flushed = self.flush();
+        if printed.is_err() || flushed.is_err() {
+            self.say_no_output();
+        }
+        1
+    }
+
+    /// Adds why the command stopped, in words. Of a line that is no command it was told.
+    fn tell_stop(&mut self, stop: &Stop) {
+        match stop {
+            Stop::Refused(Refusal::Memory) | Stop::RefusedAt(Refusal::Memory, _) => {
+                self.say(NO_MEMORY)
+            }
+            Stop::Refused(refusal) => self.tell(
+                Origin {
+                    place: Place::Whole,
+                    asked: RequestContext::Nothing,
+                },
+                refusal,
+            ),
+            Stop::RefusedAt(refusal, origin) => self.tell(*origin, refusal),
+            Stop::ReadFault => self.tell_known(Place::Whole, "refused", 91),
+            Stop::SendFault => self.tell_known(Place::Whole, "refused", 92),
+            Stop::NetFault => self.tell_known(Place::Whole, "refused", 93),
+            Stop::LinkCut(request) => self.tell_cut(*request),
+            Stop::ReplyLate { request, seconds } => self.tell_late(*request, *seconds),
+            Stop::ItemsFault => self.say(NO_ITEMS),
+            Stop::WriteFault => self.say_no_output(),
+            Stop::BadCommand(_) | Stop::NetTold => (),
+        }
+    }
+
+    /// Adds why the command stopped, in the form of the output.
+    fn print_stop(&mut self, stop: &Stop) -> Result<(), Stop> {
+        self.flush()?;
+        match stop {
+            Stop::Refused(refusal) | Stop::RefusedAt(refusal, _) => self.print_refusal(refusal),
+            Stop::BadCommand(line) => self.print_bad(*line),
+            Stop::ReadFault | Stop::ReplyLate { .. } => {
+                self.print_device(b"refused 91\n", b"{\"refused\":91}\n")
+            }
+            Stop::WriteFault | Stop::ItemsFault => Ok(()),
+            Stop::SendFault => self.print_device(b"refused 92\n", b"{\"refused\":92}\n"),
+            Stop::LinkCut(_request) => self.print_device(b"refused 1\n", b"{\"refused\":1}\n"),
+            Stop::NetFault | Stop::NetTold => {
+                self.print_device(b"refused 93\n", b"{\"refused\":93}\n")
+            }
+        }
+    }
+
+    fn print_refusal(&mut self, refusal: &Refusal) -> Result<(), Stop> {
+        if matches!(self.form, OutputForm::Bytes) {
+            return Ok(());
+        }
+        if !matches!(refusal, Refusal::Memory) {
+            match self.show(refusal) {
+                Err(Stop::Refused(_memory)) => (),
+                other => return other,
+            }
+        }
+        self.print_device(b"refused 90\n", b"{\"refused\":90}\n")
+    }
+
+    /// Writes one of two lines, which take no memory: that of the form of the output.
+    fn print_device(&mut self, line: &[u8], json: &[u8]) -> Result<(), Stop> {
+        match self.form {
+            OutputForm::Lines => self.write_plain(line),
+            OutputForm::Json => self.write_plain(json),
+            OutputForm::Bytes => Ok(()),
+        }
+    }
+
+    /// Adds that a line is no command.
+    fn print_bad(&mut self, line: u64) -> Result<(), Stop> {
+        if !matches!(self.form, OutputForm::Lines) {
+            return Ok(());
+        }
+        match self.add_bad(line) {
+            Ok(()) => Ok(()),
+            Err(_memory) => self.write_plain(b"refused 90\n"),
+        }
+    }
+
+    fn add_bad(&mut self, line: u64) -> Result<(), AllocError> {
+        self.next.clear();
+        writeln!(self.next, "line {line}: bad command")?;
+        self.lines.push_str(&self.next)
+    }
+
+    /// Writes a line that takes no memory.
+    fn write_plain(&mut self, line: &[u8]) -> Result<(), Stop> {
+        match self.writer.write_all(line) {
+            Ok(()) => Ok(()),
+            Err(error) => Err(self.write_fault(&error)),
+        }
+    }
+}

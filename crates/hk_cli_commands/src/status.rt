@@ -1,0 +1,176 @@
+//! How far each stream of a replica is.
+
+ghost use Rattle.std.specs.Prelude.{◌≡◌, ◌≤◌, ◌++◌, ℕ, nat_le, length, OnOk};
+ghost use Rattle.hk_model.specs.Replica.Streams.{covers, stream_at};
+ghost use Rattle.std.specs.FinMap as finmap;
+ghost use Rattle.std.specs.FinSet as set;
+ghost use Rattle.std.specs.String.{string_bytes};
+ghost use Rattle.hk_marks.specs.Steps.{extra_numbers};
+ghost use Rattle.hk_cli_commands.specs.Statuses as spec;
+
+use crate::output::Output;
+use crate::stop::Stop;
+use hk_cli_json::{InJson, StreamLine};
+use hk_cli_lines::Printed;
+use hk_marks::Got;
+use hk_model::Front;
+use hk_types::{Refusal, StreamNo, Time};
+use std::alloc::{AllocError, Global};
+use std::io::Write;
+
+/// What a stream does to the readable mark.
+#[derive(Clone, Copy)]
+pub enum Standing {
+    /// It is closed up to a time above the mark, or all streams are closed up to the mark.
+    Open,
+    /// It is closed up to the mark, another stream is closed further, and so it holds the mark back.
+    Holds,
+    /// It is retired, and holds nobody back.
+    Retired,
+}
+
+/// How far a stream is.
+#[derive(Clone, Copy)]
+pub struct StreamStatus {
+    /// The stream's number.
+    pub stream: StreamNo,
+    /// The number up to which all its entries are taken.
+    pub prefix: u64,
+    /// How many entries above the prefix are taken.
+    pub extra: u64,
+    /// The time up to which it is closed.
+    pub closed: Time,
+    /// How many marks wait for entries.
+    pub waiting: u64,
+    /// What it does to the readable mark.
+    pub standing: Standing,
+}
+
+/// Whether all streams are closed up to a time and no further.
+fn are_closed_at(got: &Got, time: Time) -> bool
+    ensures { result ≡ spec.are_closed_at time got.now }
+{
+    for index in 0..got.streams() {
+        let Ok(stream) = StreamNo::new(index + 1) else {
+            return false;
+        };
+        if got.closed(stream) != time {
+            return false;
+        }
+    }
+    true
+}
+
+/// What a stream does to the readable mark.
+fn standing_of(got: &Got, stream: StreamNo) -> Standing
+    requires { stream ≤ length got.now }
+    ensures { result ≡ spec.standing_of (stream_at got.now stream).closed got.now }
+{
+    let closed = got.closed(stream);
+    if got.retired(stream) {
+        return Standing::Retired;
+    }
+    if closed == got.readable() && !are_closed_at(got, closed) {
+        return Standing::Holds;
+    }
+    Standing::Open
+}
+
+/// How far a stream is. It takes no memory. Cost: O(s), s streams.
+pub fn stream_status(got: &Got, stream: StreamNo) -> StreamStatus
+    requires { stream ≤ length got.now }
+    ensures stream { result.stream ≡ stream }
+    ensures prefix { (n : ℕ) → covers (stream_at got.now stream).taken n ≡ nat_le n result.prefix }
+    ensures extra { result.extra ≡ set.len (extra_numbers (stream_at got.now stream)) }
+    ensures closed { result.closed ≡ (stream_at got.now stream).closed }
+    ensures waiting { result.waiting ≡ finmap.len (stream_at got.now stream).waiting }
+    ensures standing { result.standing ≡ spec.standing_of (stream_at got.now stream).closed got.now }
+{
+    StreamStatus {
+        stream,
+        prefix: got.prefix(stream),
+        extra: got.extra_count(stream),
+        closed: got.closed(stream),
+        waiting: got.waiting_count(stream),
+        standing: standing_of(got, stream),
+    }
+}
+
+fn put_taken(status: &StreamStatus, out: &mut String) -> Result<(), AllocError>
+    ensures { OnOk result (string_bytes out.new ≡ string_bytes out.old ++ spec.taken_part status.now) }
+{
+    let stream = status.stream;
+    let prefix = status.prefix;
+    let extra = status.extra;
+    write!(out, "stream {stream} prefix {prefix} extra {extra}")
+}
+
+fn put_closed(status: &StreamStatus, out: &mut String) -> Result<(), AllocError>
+    ensures { OnOk result (string_bytes out.new ≡ string_bytes out.old ++ spec.closed_part status.now) }
+{
+    let closed = status.closed;
+    let waiting = status.waiting;
+    write!(out, " closed {closed} waiting {waiting}")
+}
+
+fn put_standing(standing: Standing, out: &mut String) -> Result<(), AllocError>
+    ensures { OnOk result (string_bytes out.new ≡ string_bytes out.old ++ spec.standing_part standing) }
+{
+    match standing {
+        Standing::Open => writeln!(out, " open"),
+        Standing::Holds => writeln!(out, " holds"),
+        Standing::Retired => writeln!(out, " retired"),
+    }
+}
+
+#[tactic(auto, using(std::proofs::Common::append_assoc))]
+fn put_stream(status: &StreamStatus, out: &mut String) -> Result<(), AllocError>
+    ensures { OnOk result (string_bytes out.new ≡ string_bytes out.old ++ spec.status_line status.now) }
+{
+    put_taken(status, out)?;
+    put_closed(status, out)?;
+    put_standing(status.standing, out)
+}
+
+impl Printed for StreamStatus {
+    ghost text = { spec.status_line };
+
+    fn print_to(&self, _alloc: Global, out: &mut String) -> Result<(), AllocError> {
+        put_stream(self, out)
+    }
+}
+
+fn word_of(standing: Standing) -> &'static str {
+    match standing {
+        Standing::Open => "open",
+        Standing::Holds => "holds",
+        Standing::Retired => "retired",
+    }
+}
+
+impl InJson for StreamStatus {
+    fn json_to(&self, alloc: Global, out: &mut String) -> Result<(), Refusal> {
+        let line = StreamLine {
+            stream: self.stream,
+            prefix: self.prefix,
+            extra: self.extra,
+            closed: self.closed,
+            waiting: self.waiting,
+            standing: word_of(self.standing),
+        };
+        line.json_to(alloc, out)
+    }
+}
+
+/// Adds a line of each stream, how far it is, and then one from where to where can be read. Cost: O(s²), s streams.
+pub fn put_status<W: Write, E: Write>(
+    got: &Got,
+    front: Front,
+    output: &mut Output<'_, W, E>,
+) -> Result<(), Stop> {
+    for index in 0..got.streams() {
+        let stream = StreamNo::new(index + 1)?;
+        output.show(&stream_status(got, stream))?;
+    }
+    output.show_front(front)
+}

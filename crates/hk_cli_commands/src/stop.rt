@@ -1,0 +1,70 @@
+//! What ends a command before its time.
+
+ghost use Rattle.std.specs.Prelude.{◌≡◌};
+ghost use Rattle.hk_types.specs.declared.faults.Refusal.TheVariants.{Form, Memory};
+ghost use Rattle.hk_cli_commands.specs.declared.stop.Stop.TheVariants.{Refused};
+
+use hk_cli_reasons::Origin;
+use hk_types::{FormFault, Refusal};
+use std::alloc::AllocError;
+
+/// Why a command stops.
+#[derive(Clone, Copy)]
+pub enum Stop {
+    /// A fault of the input, or a refusal, `Memory` included.
+    Refused(Refusal),
+    /// The same, with where it came from.
+    RefusedAt(Refusal, Origin),
+    /// A read failed, or there were 2^32 reads without an end.
+    ReadFault,
+    /// The line of this number, counted from 1, is no command.
+    BadCommand(u64),
+    /// A write failed or took no bytes, so nothing more can be printed.
+    WriteFault,
+    /// A write to the file of items failed or took no bytes.
+    ItemsFault,
+    /// A write to a link failed or took no bytes.
+    SendFault,
+    /// A port can't be listened to, or a link can't be opened or accepted.
+    NetFault,
+    /// The same, where it was told already what failed and why.
+    NetTold,
+    /// A link ended before the reply to the request of this number, counted from 1.
+    LinkCut(u64),
+    /// A node let the request of this number, counted from 1, wait for so many seconds.
+    ReplyLate { request: u64, seconds: u64 },
+}
+
+impl From<Refusal> for Stop {
+    ghost from_gives = { λ refusal e. e ≡ Refused refusal };
+
+    fn from(refusal: Refusal) -> Stop {
+        Stop::Refused(refusal)
+    }
+}
+
+impl From<FormFault> for Stop {
+    ghost from_gives = { λ fault e. e ≡ Refused (Form fault) };
+
+    fn from(fault: FormFault) -> Stop {
+        Stop::Refused(Refusal::Form(fault))
+    }
+}
+
+impl From<AllocError> for Stop {
+    ghost from_gives = { λ _ e. e ≡ Refused Memory };
+
+    fn from(_error: AllocError) -> Stop {
+        Stop::Refused(Refusal::Memory)
+    }
+}
+
+impl Stop {
+    /// The same, with where it came from, where it is a refusal of which that isn't known.
+    pub fn at(self, origin: Origin) -> Stop {
+        match self {
+            Stop::Refused(refusal) => Stop::RefusedAt(refusal, origin),
+            other => other,
+        }
+    }
+}

@@ -1,0 +1,35 @@
+//! The lines of replies.
+
+ghost use Rattle.std.specs.Prelude.{◌≡◌, ◌++◌, OnOk};
+ghost use Rattle.std.specs.String.{string_bytes};
+ghost use Rattle.hk_wire.specs.Replies.{reply_seen};
+ghost use Rattle.hk_cli_lines.specs.Replies as spec;
+
+use crate::line::{Printed, put_front};
+use hk_types::Time;
+use hk_wire::Reply;
+use std::alloc::{AllocError, Global};
+
+fn put_part(base: Time, horizon: Time, facts: usize, out: &mut String) -> Result<(), AllocError>
+    ensures { OnOk result (string_bytes out.new ≡ string_bytes out.old ++ spec.part_line base horizon facts) }
+{
+    writeln!(out, "fragment base {base} horizon {horizon} facts {facts}")
+}
+
+impl Printed for Reply {
+    ghost text = { λ reply. spec.reply_lines (reply_seen reply) };
+
+    fn print_to(&self, alloc: Global, out: &mut String) -> Result<(), AllocError> {
+        match self {
+            Reply::Done { ops } => writeln!(out, "done {ops}"),
+            Reply::Front(front) => put_front(*front, out),
+            Reply::Fragment(fragment) => {
+                let facts = fragment.facts().len();
+                put_part(fragment.base(), fragment.horizon(), facts, out)
+            }
+            Reply::Answer(answer) => answer.print_to(alloc, out),
+            Reply::Refused(refusal) => refusal.print_to(alloc, out),
+            Reply::Later(later) => later.print_to(alloc, out),
+        }
+    }
+}

@@ -1,0 +1,140 @@
+//! What changes a node: `pull` and `prune`.
+
+use crate::link::{Link, opened, unasked};
+use crate::parts::{Parts, TOO_LONG, hand_parts, is_too_long, taking};
+use crate::read::front_at;
+use hk_cli_commands::{Output, Stop};
+use hk_cli_reasons::{Origin, RequestContext};
+use hk_log::Version;
+use hk_types::{Refusal, Time, VersionKey};
+use hk_wire::{LaterReply, LaterRequest, Reply, Request};
+use std::io::Write;
+use std::net::{Net, TcpListener, TcpStream};
+use std::rt::Clock;
+
+/// Sends a request, and prints its reply.
+fn tell<W: Write, E: Write>(
+    link: &mut Link<'_>,
+    request: &Request,
+    output: &mut Output<'_, W, E>,
+) -> Result<(), Stop> {
+    let reply = link.granted(request)?;
+    output.print(&reply)
+}
+
+/// Has the node forget what is below a time, and prints its number.
+pub(crate) fn prune<W: Write, E: Write>(
+    link: &mut Link<'_>,
+    horizon: Time,
+    output: &mut Output<'_, W, E>,
+) -> Result<(), Stop> {
+    tell(link, &Request::Prune { horizon }, output)
+}
+
+/// Whether a delta was refused for its base alone, so that the whole may be had.
+fn is_of_base(why: &Refusal) -> bool {
+    matches!(
+        why,
+        Refusal::TooOld { .. } | Refusal::NotYet { .. } | Refusal::AheadOfMark { .. }
+    )
+}
+
+/// What a node hands on.
+#[derive(Drop)]
+enum Handed {
+    /// A fragment, as the request that hands it on.
+    Frame(Request),
+    /// A fragment since a time for which a message has no room, as the request from there was refused.
+    Long(Time, Origin),
+}
+
+/// A whole that was refused since a message has no room for it; any other refusal stops the command.
+fn long_whole(why: Refusal, origin: Origin) -> Result<Handed, Stop> {
+    if is_too_long(&why) {
+        return Ok(Handed::Long(Time::zero(), origin));
+    }
+    Err(Stop::RefusedAt(why, origin))
+}
+
+/// All that a node holds where it refused a delta for its base; any other refusal stops the command.
+fn whole_after(from: &mut Link<'_>, base: Time, why: Refusal) -> Result<Handed, Stop> {
+    if !is_of_base(&why) {
+        let origin = from.origin(RequestContext::At(base));
+        return Err(Stop::RefusedAt(why, origin));
+    }
+    let reply = from.ask(&Request::Full)?;
+    match reply {
+        Reply::Fragment(whole) => Ok(Handed::Frame(Request::MergeThis(whole))),
+        Reply::Refused(why) => long_whole(why, from.origin(RequestContext::Nothing)),
+        _none => Err(unasked()),
+    }
+}
+
+/// What a node hands on that refused a delta: the same in parts where a message has no room for it, or all that it holds.
+fn without_delta(from: &mut Link<'_>, base: Time, why: Refusal) -> Result<Handed, Stop> {
+    if is_too_long(&why) {
+        return Ok(Handed::Long(base, from.origin(RequestContext::At(base))));
+    }
+    whole_after(from, base, why)
+}
+
+/// What a node has learnt since a time, or all that it holds where it can't cut a delta there.
+fn handed_on(from: &mut Link<'_>, base: Time) -> Result<Handed, Stop> {
+    let request = Request::Delta { base };
+    let reply = from.ask(&request)?;
+    match reply {
+        Reply::Fragment(delta) => Ok(Handed::Frame(Request::JoinThis(delta))),
+        Reply::Refused(why) => without_delta(from, base, why),
+        _none => Err(unasked()),
+    }
+}
+
+/// Parts on their way to a node.
+#[derive(Drop)]
+struct Adder<'k, 'l> {
+    link: &'k mut Link<'l>,
+}
+
+impl Parts for Adder<'_, '_> {
+    /// Has the node keep the facts until the head is there.
+    fn take(&mut self, facts: Vec<(VersionKey, Version)>) -> Result<(), Stop> {
+        match self.link.granted_later(LaterRequest::AddPart(facts))? {
+            LaterReply::Added { .. } => Ok(()),
+            _none => Err(unasked()),
+        }
+    }
+}
+
+/// Has a node take in parts what another has learnt since a time, or all that it holds since 0, and prints its number.
+/// Where one of them doesn't read requests of parts, it stops for what was refused before.
+fn pull_parts<W: Write, E: Write>(
+    own: &mut Link<'_>,
+    other: &mut Link<'_>,
+    base: Time,
+    long: Origin,
+    output: &mut Output<'_, W, E>,
+) -> Result<(), Stop> {
+    if !own.reads_later()? || !other.reads_later()? {
+        return Err(Stop::RefusedAt(TOO_LONG, long));
+    }
+    let mut adder = Adder { link: own };
+    let head = hand_parts(other, base, &mut adder)?;
+    let reply = own.granted_later(taking(head))?;
+    output.print(&reply)
+}
+
+/// Has the node take what the one on another port has learnt since its readable mark, and prints its number.
+pub(crate) fn pull<R: Net<Listener = TcpListener, Stream = TcpStream> + Clock, W: Write, E: Write>(
+    rt: &R,
+    own: &mut Link<'_>,
+    from: u16,
+    output: &mut Output<'_, W, E>,
+) -> Result<(), Stop> {
+    let stream = opened(rt, from, own.limits(), output)?;
+    let mut other = Link::new(own.alloc(), &stream, own.limits())?;
+    let front = front_at(own)?;
+    match handed_on(&mut other, front.readable)? {
+        Handed::Frame(request) => tell(own, &request, output),
+        Handed::Long(base, long) => pull_parts(own, &mut other, base, long, output),
+    }
+}

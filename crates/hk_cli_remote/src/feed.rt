@@ -1,0 +1,130 @@
+//! Item frames in batches: `feed`.
+
+use crate::link::{Link, unasked};
+use hk_cli_commands::{Output, Sink, Stop, hand_items};
+use hk_codec::frame_len;
+use hk_log::Item;
+use hk_types::Refusal;
+use hk_wire::{Reply, Request};
+use std::alloc::Global;
+use std::io::{Read, Write};
+use std::mem;
+use std::rt::Clock;
+use std::time::Instant;
+
+/// The most items of a batch.
+const MOST_ITEMS: u64 = 65_536;
+
+/// The most bytes of a batch: with one item more it is still a message.
+const MOST_BYTES: u64 = 67_108_864;
+
+/// Items on their way to a node.
+#[derive(Drop)]
+struct Batches<'a, 'l> {
+    alloc: Global,
+    link: &'a mut Link<'l>,
+    /// How many items a batch has.
+    most: u64,
+    items: Vec<Item>,
+    /// How many bytes their frames have.
+    bytes: u64,
+    /// How many items the node took.
+    taken: u64,
+    /// The number of the node's last operation.
+    ops: u64,
+}
+
+impl Batches<'_, '_> {
+    /// Sends what was gathered, and waits until the node took it.
+    fn send(&mut self) -> Result<(), Stop> {
+        let count = self.items.len() as u64;
+        let items = mem::replace(&mut self.items, Vec::new(self.alloc));
+        self.bytes = 0;
+        match self.link.granted(&Request::Items(items))? {
+            Reply::Done { ops } => {
+                self.ops = ops;
+                self.taken = self.taken.saturating_add(count);
+                Ok(())
+            }
+            _other => Err(unasked()),
+        }
+    }
+
+    /// Sends what is left; a batch of none where there was no item at all, so that the node tells its number.
+    fn finish(&mut self) -> Result<(), Stop> {
+        if self.items.is_empty() && self.ops > 0 {
+            return Ok(());
+        }
+        self.send()
+    }
+
+    fn is_full(&self) -> bool {
+        let count = self.items.len() as u64;
+        count >= self.most || count >= MOST_ITEMS || self.bytes >= MOST_BYTES
+    }
+}
+
+impl Sink for Batches<'_, '_> {
+    fn take(&mut self, item: Item) -> Result<(), Stop> {
+        self.bytes = self.bytes.saturating_add(frame_len(&item) as u64);
+        if self.items.push(item).is_err() {
+            return Err(Stop::Refused(Refusal::Memory));
+        }
+        if self.is_full() {
+            return self.send();
+        }
+        Ok(())
+    }
+}
+
+/// How long ago that was, in milliseconds.
+fn millis_since<R: Clock>(rt: &R, start: Option<Instant>) -> Option<u64> {
+    let gone = start?.elapsed(rt).ok()?;
+    Some(
+        gone.as_secs()
+            .saturating_mul(1_000)
+            .saturating_add(u64::from(gone.subsec_millis())),
+    )
+}
+
+/// Tells how many items the node took, and how many that is a second.
+fn tell_rate<W: Write, E: Write>(
+    alloc: Global,
+    taken: u64,
+    millis: u64,
+    output: &mut Output<'_, W, E>,
+) -> Result<(), Stop> {
+    let rate = taken.saturating_mul(1_000) / millis.max(1);
+    let line = format!(in alloc; "fed {taken} items in {millis} ms, {rate} a second\n")?;
+    output.note(&line);
+    Ok(())
+}
+
+/// Hands the items of the input to the node, in batches of so many items or as many bytes as a batch may have, and prints the
+/// number of its last operation. The batches before what stops it are taken.
+pub(crate) fn feed<R: Clock, I: Read, W: Write, E: Write>(
+    rt: &R,
+    link: &mut Link<'_>,
+    input: &mut I,
+    most: u64,
+    output: &mut Output<'_, W, E>,
+) -> Result<(), Stop> {
+    let alloc = link.alloc();
+    let start = Instant::now(rt).ok();
+    let mut batches = Batches {
+        alloc,
+        link,
+        most,
+        items: Vec::new(alloc),
+        bytes: 0,
+        taken: 0,
+        ops: 0,
+    };
+    hand_items(alloc, input, &mut batches)?;
+    batches.finish()?;
+    let (ops, taken) = (batches.ops, batches.taken);
+    if let Some(millis) = millis_since(rt, start) {
+        tell_rate(alloc, taken, millis, output)?;
+    }
+    output.print(&Reply::Done { ops })
+}

@@ -1,0 +1,117 @@
+//! How a node that runs is asked to do something.
+
+ghost use Rattle.std.specs.Prelude.{◌≤◌};
+
+use crate::change::{prune, pull};
+use crate::feed::feed;
+use crate::link::{Link, opened};
+use crate::push::{Accepted, push_all};
+use crate::read::{save, tell_answer, tell_front, tell_status};
+use crate::shell::answer_lines;
+use hk_cli_calls::{NodeCall, Order};
+use hk_cli_commands::{Output, Stop};
+use std::alloc::Global;
+use std::io::{Read, Write};
+use std::net::{Net, TcpListener, TcpStream};
+use std::rt::Clock;
+
+/// Has a node do what is asked, and says whether a reply was a refusal that the command went on behind.
+fn obey<R, I: Read, W: Write, E: Write>(
+    rt: &R,
+    link: &mut Link<'_>,
+    input: &mut I,
+    is_terminal: bool,
+    output: &mut Output<'_, W, E>,
+    order: &Order,
+) -> Result<bool, Stop>
+where
+    R: Net<Listener = TcpListener, Stream = TcpStream> + Clock,
+{
+    let told = match order {
+        Order::Push { with_second: false } => {
+            return push_all::<_, _, _, 1>(link, input, Accepted::All, output);
+        }
+        Order::Push { with_second: true } => {
+            return push_all::<_, _, _, 2>(link, input, Accepted::All, output);
+        }
+        Order::Load => return push_all::<_, _, _, 2>(link, input, Accepted::Fragments, output),
+        Order::Shell => return answer_lines(link, input, is_terminal, output),
+        Order::Ask { time, query, .. } => tell_answer(link, *time, *query, output),
+        Order::Front { .. } => tell_front(link, output),
+        Order::Status { .. } => tell_status(link, output),
+        Order::Save { form } => save(link, *form, output),
+        Order::Pull { from } => pull(rt, link, *from, output),
+        Order::Prune { horizon } => prune(link, *horizon, output),
+        Order::Feed { batch } => feed(rt, link, input, *batch, output),
+    };
+    told.map(|()| false)
+}
+
+/// The same over a new link to the node on a port, and writes what was printed.
+fn obey_at<R, I: Read, W: Write, E: Write>(
+    rt: &R,
+    alloc: Global,
+    call: &NodeCall,
+    input: &mut I,
+    is_terminal: bool,
+    output: &mut Output<'_, W, E>,
+) -> Result<bool, Stop>
+where
+    R: Net<Listener = TcpListener, Stream = TcpStream> + Clock,
+{
+    let stream = opened(rt, call.port, call.limits, output)?;
+    let mut link = Link::new(alloc, &stream, call.limits)?;
+    let is_refused = obey(rt, &mut link, input, is_terminal, output, &call.order)?;
+    output.flush().map(|_written| is_refused)
+}
+
+/// Has the node on a port of 127.0.0.1 do what is asked, over a link that is opened for it, and prints its replies.
+///
+/// Where nobody listens on the port it tries again to connect, for as many seconds as the call's limits have it. Where the node
+/// then replies nothing for as many seconds as they have it, or takes nothing of a request, the command ends.
+///
+/// `Push` sends a request, waits for its reply and prints it, and then sends the next; a reply that is a
+/// refusal is printed and told, and the next request goes on, but behind a part that is refused. A request of version 2 is sent only
+/// where the order has it so, and else is one that can't be read: 3. `Load` does the same with fragments and parts alone; another
+/// request is not sent, and ends it with 4. `Shell` reads lines such as `get 1 5`, `at 5 range 1 0 9`, `front` and `status`, prints rows as a table, and on a
+/// terminal a prompt before each line; a line of another form is told to `errors`, a refusal is printed and told, and the next
+/// line goes on. `Status` reads a delta since the readable mark, and is refused as too old where the node is pruned between.
+/// `Save` and `Pull` go by parts of up to 8,388,608 bytes, or of one fact, where a node refuses the whole as too long and both
+/// nodes read version 2; else they end with 2, as it was refused. Of what goes by parts nothing is joined before all is there.
+/// `Pull`, `Prune` and `Feed` print `done` and the number of the node's last operation; `Feed` ends at the first batch that is
+/// refused, and tells `errors` how many items a second went.
+///
+/// The status is 0, or 1 where a reply was a refusal, a line had no form, or one of these ended it:
+///
+/// - the node's refusal, with its number;
+/// - the fault of the input, 1 to 10, behind the replies to the requests before it, or the items before it;
+/// - the fault of a reply, 1 to 10: 1 where the link was cut before the reply, 4 where the reply is none to its request;
+/// - 90 where memory ran out;
+/// - 91 where a read failed, of the input or the link, 2^32 reads did not come to an end, or the node replied nothing in time;
+/// - 92 where a write to the link failed or took no bytes;
+/// - 93 where the link could not be opened, as to a port that nobody listens to;
+/// - a write of the output that failed or took no bytes.
+///
+/// Each but the last is printed as `refused` and the number, in the order's form (where `Save` writes one frame it writes
+/// all of it or nothing, and where it writes parts the last frame comes with the last of them or not at all), and told to `errors` in words. What the node took before stays. It
+/// holds 65,536 bytes of the input, a batch, and one reply. Cost: O(n · log n), n bytes of the requests and the replies,
+/// beside the node's answers; `Status` O(s²) for s streams.
+pub fn run_order<R, I: Read, W: Write, E: Write>(
+    rt: &R,
+    alloc: Global,
+    call: &NodeCall,
+    input: &mut I,
+    is_terminal: bool,
+    writer: &mut W,
+    errors: &mut E,
+) -> u8
+where
+    R: Net<Listener = TcpListener, Stream = TcpStream> + Clock,
+    ensures { result ≤ 1 }
+{
+    let mut output = Output::of_form(alloc, call.order.form(), writer, errors);
+    match obey_at(rt, alloc, call, input, is_terminal, &mut output) {
+        Ok(is_refused) => u8::from(is_refused),
+        Err(stop) => output.stop(stop),
+    }
+}

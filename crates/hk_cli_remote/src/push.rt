@@ -1,0 +1,130 @@
+//! Requests as bytes: `push` and `load`.
+
+use crate::link::{Link, asked_of, refusal_of};
+use hk_cli_commands::{Output, Pieces, Stop, read_pieces};
+use hk_types::{FormFault, Refusal};
+use hk_wire::{LaterRequest, Request, RequestFeeder};
+use std::io::{Read, Write};
+use std::mem;
+
+/// What is told of a request that is none of a fragment.
+const BAD_KIND: Refusal = Refusal::Form(FormFault::BadKind);
+
+/// Whether a request hands a whole or a part of one to a node.
+fn is_fragment(request: &Request) -> bool {
+    matches!(
+        request,
+        Request::JoinThis(_)
+            | Request::MergeThis(_)
+            | Request::Later(
+                LaterRequest::AddPart(_) | LaterRequest::JoinParts(_) | LaterRequest::MergeParts(_)
+            )
+    )
+}
+
+/// Whether a request hands a part to a node: where it is refused, those behind it would make a fragment that lacks it.
+fn is_part(request: &Request) -> bool {
+    matches!(request, Request::Later(LaterRequest::AddPart(_)))
+}
+
+/// Which requests are sent.
+#[derive(Clone, Copy)]
+pub(crate) enum Accepted {
+    All,
+    /// Those that hand a fragment to a node.
+    Fragments,
+}
+
+/// Whether a request is sent.
+fn is_accepted(accepted: Accepted, request: &Request) -> bool {
+    matches!(accepted, Accepted::All) || is_fragment(request)
+}
+
+/// Requests up to a version, on their way to a node.
+#[derive(Drop)]
+struct Pusher<'k, 'l, 'o, 'p, W: Write, E: Write, const LATEST: u8> {
+    link: &'k mut Link<'l>,
+    output: &'o mut Output<'p, W, E>,
+    accepted: Accepted,
+    feeder: RequestFeeder<LATEST>,
+    /// Those of a read.
+    requests: Vec<Request>,
+    /// Whether a reply was a refusal.
+    is_refused: bool,
+}
+
+impl<'k, 'l, 'o, 'p, W: Write, E: Write, const LATEST: u8> Pusher<'k, 'l, 'o, 'p, W, E, LATEST> {
+    fn new(
+        link: &'k mut Link<'l>,
+        output: &'o mut Output<'p, W, E>,
+        accepted: Accepted,
+    ) -> Pusher<'k, 'l, 'o, 'p, W, E, LATEST> {
+        let alloc = link.alloc();
+        Pusher {
+            link,
+            output,
+            accepted,
+            feeder: RequestFeeder::new(alloc),
+            requests: Vec::new(alloc),
+            is_refused: false,
+        }
+    }
+
+    /// Sends each request, waits for its reply and prints it, before the next. It stops at a part that is refused.
+    fn ask_all(&mut self) -> Result<(), Stop> {
+        for request in &self.requests {
+            if !is_accepted(self.accepted, request) {
+                return Err(Stop::RefusedAt(BAD_KIND, self.link.next_origin()));
+            }
+            let reply = self.link.ask(request)?;
+            if let Some(why) = refusal_of(&reply) {
+                let origin = self.link.origin(asked_of(request));
+                if is_part(request) {
+                    return Err(Stop::RefusedAt(why, origin));
+                }
+                self.is_refused = true;
+                self.output.tell(origin, &why);
+            }
+            self.output.print(&reply)?;
+            self.output.flush()?;
+        }
+        Ok(())
+    }
+
+    /// What an answer of the feeder stops, in front of the next request.
+    fn checked(&self, fed: Result<(), Refusal>) -> Result<(), Stop> {
+        match fed {
+            Ok(()) => Ok(()),
+            Err(why) => Err(Stop::RefusedAt(why, self.link.next_origin())),
+        }
+    }
+}
+
+impl<W: Write, E: Write, const LATEST: u8> Pieces for Pusher<'_, '_, '_, '_, W, E, LATEST> {
+    fn take(&mut self, piece: &[u8]) -> Result<(), Stop> {
+        let fed = self.feeder.feed(piece, &mut self.requests);
+        self.ask_all()?;
+        self.requests.clear();
+        self.checked(fed)
+    }
+
+    fn end(&mut self) -> Result<(), Stop> {
+        let feeder = mem::replace(&mut self.feeder, RequestFeeder::new(self.link.alloc()));
+        self.checked(feeder.finish())
+    }
+}
+
+/// Sends the requests of the input, one after the other, up to its end or to what stops them first, and says whether a reply
+/// was a refusal. Where `accepted` is the fragments alone, another request stops them before it is sent; one of a version above
+/// `LATEST` is a bad version, which can't be read.
+pub(crate) fn push_all<I: Read, W: Write, E: Write, const LATEST: u8>(
+    link: &mut Link<'_>,
+    input: &mut I,
+    accepted: Accepted,
+    output: &mut Output<'_, W, E>,
+) -> Result<bool, Stop> {
+    let alloc = link.alloc();
+    let mut pusher: Pusher<'_, '_, '_, '_, W, E, LATEST> = Pusher::new(link, output, accepted);
+    read_pieces(alloc, input, &mut pusher)?;
+    Ok(pusher.is_refused)
+}

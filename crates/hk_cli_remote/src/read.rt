@@ -1,0 +1,183 @@
+//! What reads a node: `ask`, `front`, `status` and `save`.
+
+use crate::link::{Link, unasked};
+use crate::parts::{Parts, hand_parts, is_too_long, taking};
+use hk_cli_calls::OutputForm;
+use hk_cli_commands::{Output, Stop, put_status};
+use hk_cli_json::FragmentSummary;
+use hk_cli_reasons::RequestContext;
+use hk_fragment::Fragment;
+use hk_log::Version;
+use hk_model::{Answer, Front, Query};
+use hk_types::{Refusal, Time, VersionKey};
+use hk_wire::{LaterRequest, Reply, Request, encode_request};
+use std::alloc::Global;
+use std::io::Write;
+
+/// From where to where the node can be read.
+pub(crate) fn front_at(link: &mut Link<'_>) -> Result<Front, Stop> {
+    match link.granted(&Request::Front)? {
+        Reply::Front(front) => Ok(front),
+        _none => Err(unasked()),
+    }
+}
+
+/// The fragment that a request asks for.
+pub(crate) fn fragment_at(link: &mut Link<'_>, request: &Request) -> Result<Fragment, Stop> {
+    match link.granted(request)? {
+        Reply::Fragment(fragment) => Ok(fragment),
+        _none => Err(unasked()),
+    }
+}
+
+/// The node's answer to a query at a time, or at its readable mark.
+pub(crate) fn answer_at(
+    link: &mut Link<'_>,
+    time: Option<Time>,
+    query: Query,
+) -> Result<Answer, Stop> {
+    let t = match time {
+        Some(time) => time,
+        None => front_at(link)?.readable,
+    };
+    match link.granted(&Request::Ask { t, query })? {
+        Reply::Answer(answer) => Ok(answer),
+        _none => Err(unasked()),
+    }
+}
+
+/// Prints the node's answer to a query at a time, or at its readable mark.
+pub(crate) fn tell_answer<W: Write, E: Write>(
+    link: &mut Link<'_>,
+    time: Option<Time>,
+    query: Query,
+    output: &mut Output<'_, W, E>,
+) -> Result<(), Stop> {
+    let answer = answer_at(link, time, query)?;
+    output.show(&answer)
+}
+
+/// Prints from where to where the node can be read.
+pub(crate) fn tell_front<W: Write, E: Write>(
+    link: &mut Link<'_>,
+    output: &mut Output<'_, W, E>,
+) -> Result<(), Stop> {
+    let front = front_at(link)?;
+    output.show_front(front)
+}
+
+/// Prints how far each stream of the node is, by a delta since its readable mark.
+pub(crate) fn tell_status<W: Write, E: Write>(
+    link: &mut Link<'_>,
+    output: &mut Output<'_, W, E>,
+) -> Result<(), Stop> {
+    let front = front_at(link)?;
+    let request = Request::Delta {
+        base: front.readable,
+    };
+    let fragment = fragment_at(link, &request)?;
+    let got = fragment.got();
+    let (horizon, readable) = (fragment.horizon(), got.readable());
+    put_status(got, Front { horizon, readable }, output)
+}
+
+/// Writes a whole as the request that hands it to a node.
+fn send_whole<W: Write, E: Write>(
+    alloc: Global,
+    whole: Fragment,
+    output: &mut Output<'_, W, E>,
+) -> Result<(), Stop> {
+    let mut frame = Vec::new(alloc);
+    encode_request(&Request::MergeThis(whole), &mut frame)?;
+    output.send(&frame)
+}
+
+/// Prints a whole in JSON: its head, and a line of each version.
+fn print_whole<W: Write, E: Write>(
+    whole: &Fragment,
+    output: &mut Output<'_, W, E>,
+) -> Result<(), Stop> {
+    output.print_json(&FragmentSummary(whole))?;
+    for fact in whole.facts() {
+        output.print_json(fact)?;
+    }
+    Ok(())
+}
+
+/// Parts on their way to an output, as the requests that hand them to a node.
+#[derive(Drop)]
+struct Writer<'o, 'p, W: Write, E: Write> {
+    output: &'o mut Output<'p, W, E>,
+    frame: Vec<u8>,
+}
+
+impl<'o, 'p, W: Write, E: Write> Writer<'o, 'p, W, E> {
+    fn new(alloc: Global, output: &'o mut Output<'p, W, E>) -> Writer<'o, 'p, W, E> {
+        Writer {
+            output,
+            frame: Vec::new(alloc),
+        }
+    }
+
+    /// Writes a request.
+    fn send(&mut self, request: LaterRequest) -> Result<(), Stop> {
+        self.frame.clear();
+        encode_request(&Request::Later(request), &mut self.frame)?;
+        self.output.send(&self.frame)
+    }
+}
+
+impl<W: Write, E: Write> Parts for Writer<'_, '_, W, E> {
+    fn take(&mut self, facts: Vec<(VersionKey, Version)>) -> Result<(), Stop> {
+        self.send(LaterRequest::AddPart(facts))
+    }
+}
+
+/// Writes the requests that hand the parts of a whole to a node.
+fn send_parts<W: Write, E: Write>(
+    link: &mut Link<'_>,
+    output: &mut Output<'_, W, E>,
+) -> Result<(), Stop> {
+    let mut writer = Writer::new(link.alloc(), output);
+    let head = hand_parts(link, Time::zero(), &mut writer)?;
+    writer.send(taking(head))
+}
+
+/// The same of a whole that was refused, where a message has no room for it and the node reads requests of parts. Else it
+/// stops for what was refused.
+fn send_refused<W: Write, E: Write>(
+    link: &mut Link<'_>,
+    why: Refusal,
+    output: &mut Output<'_, W, E>,
+) -> Result<(), Stop> {
+    let origin = link.origin(RequestContext::Nothing);
+    if is_too_long(&why) && link.reads_later()? {
+        return send_parts(link, output);
+    }
+    Err(Stop::RefusedAt(why, origin))
+}
+
+/// Writes all that the node holds as the request that hands it to a node, or in parts where a message has no room for it.
+fn save_frames<W: Write, E: Write>(
+    link: &mut Link<'_>,
+    output: &mut Output<'_, W, E>,
+) -> Result<(), Stop> {
+    let reply = link.ask(&Request::Full)?;
+    match reply {
+        Reply::Fragment(whole) => send_whole(link.alloc(), whole, output),
+        Reply::Refused(why) => send_refused(link, why, output),
+        _none => Err(unasked()),
+    }
+}
+
+/// Writes all that the node holds.
+pub(crate) fn save<W: Write, E: Write>(
+    link: &mut Link<'_>,
+    form: OutputForm,
+    output: &mut Output<'_, W, E>,
+) -> Result<(), Stop> {
+    match form {
+        OutputForm::Json => print_whole(&fragment_at(link, &Request::Full)?, output),
+        OutputForm::Lines | OutputForm::Bytes => save_frames(link, output),
+    }
+}

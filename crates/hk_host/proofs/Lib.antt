@@ -1,0 +1,8 @@
+mod WholeGiven
+mod LettingGo
+mod LinkHolds
+mod JoinRequests
+pub mod Seen
+mod ChangeReplies
+pub mod BothSeen
+mod LinkReplies

@@ -1,0 +1,130 @@
+//! A host over a running node and one seat of it, through which items come in and nothing else.
+
+ghost use Rattle.std.specs.Prelude.{◌≡◌, true};
+ghost use mathlib.Core.List.{IsPrefix};
+ghost use Rattle.hk_types.specs.declared.faults.FormFault.TheVariants.{BadKind};
+ghost use Rattle.hk_types.specs.declared.faults.Refusal.TheVariants.{Form};
+ghost use Rattle.hk_wire.specs.Replies.{Refused, reply_seen};
+ghost use Rattle.hk_oplog.specs.Replay.{is_legal};
+ghost use Rattle.hk_host.specs.Replying.{MayFeed};
+
+use crate::node_host::NodeHost;
+use crate::node_side::NodeSide;
+use hk_delta::Fragment;
+use hk_model::{Answer, Page, Query, StreamsTold};
+use hk_node::{Hold, NodeName, ReaderSeat};
+use hk_session::Host;
+use hk_types::{Key, Refusal, Table, Time};
+use hk_wire::{Reply, Request};
+use std::marker::Model;
+use std::sync::Wait;
+use std::thread::Threads;
+
+/// A host over a running node and one seat of it, through which items come in and nothing else: what a feeder's link has. Contracts see
+/// it as the list of operations that the seat has seen or was told of.
+///
+/// Items, Feed, Front, Delta, Full and Ask are answered as `NodeHost` answers them. JoinThis, MergeThis and Prune, a hold and
+/// its release are refused with 4, as kinds that have no meaning here, and nothing changed: so no fragment comes in, and nothing
+/// goes. Cost: that of `NodeHost`.
+#[derive(Drop)]
+pub struct FeedHost<'a, J: NodeName, N: Wait + Drop, R: Threads + Wait + Sync> {
+    inner: NodeHost<'a, J, N, R>,
+}
+
+impl<'a, J: NodeName, N: Wait + Drop, R: Threads + Wait + Sync> Model for FeedHost<'a, J, N, R> {
+    ghost use Rattle.std.specs.Prelude.{List};
+    ghost use Rattle.hk_oplog.specs.declared.op.Op.{Op};
+    ghost use Rattle.std.specs.Coded.{coded_list};
+    ghost use Rattle.hk_oplog.specs.contracts.op.Op as op;
+
+    ghost Value = { List Op };
+
+    ghost coded = { coded_list op.the_row.coded };
+
+    ghost view = { λ h. h.inner };
+}
+
+impl<'a, J: NodeName, N: Wait + Drop, R: Threads + Wait + Sync> FeedHost<'a, J, N, R> {
+    /// The same node and seat, through which only items come in.
+    pub fn new(inner: NodeHost<'a, J, N, R>) -> FeedHost<'a, J, N, R>
+        ensures { result ≡ inner.entry }
+    {
+        FeedHost { inner }
+    }
+
+    /// Gives the seat back, with all that it has seen or was told of.
+    pub fn into_seat(self) -> ReaderSeat<J>
+        ensures { result ≡ self.entry }
+    {
+        self.inner.into_seat()
+    }
+
+    /// The reply to a request that has no meaning here, which is let go.
+    fn no_kind<C: Drop>(&self, asked: C) -> Reply
+        ensures legal { is_legal self.now ≡ true }
+        ensures told { reply_seen result ≡ Refused (Form BadKind) }
+    {
+        self.inner.no_kind(asked)
+    }
+}
+
+impl<'a, J: NodeName, N: Wait + Drop, R: Threads + Wait + Sync> Host for FeedHost<'a, J, N, R> {
+    ghost use Rattle.std.specs.Thread.{IsSync};
+
+    ghost may = { MayFeed J.kind };
+
+    ghost ready = { λ _. IsSync R.row };
+
+    fn answer(&mut self, request: Request) -> Reply {
+        match request {
+            Request::Items(items) => self.inner.answer(Request::Items(items)),
+            Request::Feed(items) => self.inner.answer(Request::Feed(items)),
+            Request::Front => self.inner.answer(Request::Front),
+            Request::Delta { base } => self.inner.answer(Request::Delta { base }),
+            Request::Full => self.inner.answer(Request::Full),
+            Request::Ask { t, query } => self.inner.answer(Request::Ask { t, query }),
+            Request::JoinThis(fragment) | Request::MergeThis(fragment) => self.no_kind(fragment),
+            Request::Prune { horizon } => self.no_kind(horizon),
+            Request::Later(later) => self.no_kind(later),
+        }
+    }
+}
+
+impl<'a, J: NodeName, N: Wait + Drop, R: Threads + Wait + Sync> NodeSide for FeedHost<'a, J, N, R> {
+    ghost use Rattle.hk_host.specs.NodeSides.{RefusesHold, RefusesRelease};
+
+    ghost side = { record { list = λ l. l; may_hold = RefusesHold; may_release = RefusesRelease } };
+
+    fn latest(&mut self, query: &Query) -> Result<(Time, Answer), Refusal> {
+        self.inner.latest(query)
+    }
+
+    fn page(
+        &mut self,
+        time: Time,
+        table: Table,
+        low: Key,
+        high: Key,
+        most: u32,
+    ) -> Result<Page, Refusal> {
+        self.inner.page(time, table, low, high, most)
+    }
+
+    fn streams(&mut self) -> Result<StreamsTold, Refusal> {
+        self.inner.streams()
+    }
+
+    fn cut(&mut self, base: Time) -> Result<Fragment, Refusal> {
+        self.inner.cut(base)
+    }
+
+    fn hold(&mut self, time: Time) -> Result<Hold, (Option<Hold>, Refusal)> {
+        self.inner.reads.hold(time)
+    }
+
+    fn release(&mut self, hold: Hold) -> Result<u64, (Option<Hold>, Refusal)> {
+        self.inner.reads.release(hold)
+    }
+
+    fn laws() {}
+}

@@ -1,0 +1,79 @@
+//! Holds over a node, learnt by a seat of it.
+
+ghost use Rattle.std.specs.Prelude.{◌≡◌, true};
+ghost use mathlib.Core.List.{IsPrefix};
+ghost use Rattle.hk_oplog.specs.Replay.{is_legal};
+ghost use Rattle.hk_host.specs.NodeSides.{ReleasesHold, TakesHold};
+
+use crate::link_events::{LinkEvent, Teller};
+use crate::seat_host::SeatHost;
+use hk_node::{Hold, Node, NodeName};
+use hk_types::{Refusal, Time};
+use std::sync::Wait;
+
+/// Tells that a change took effect, if anyone is told.
+fn tell_changed<R: Wait>(rt: &R, teller: Option<&Teller>, ops: u64) {
+    if let Some(teller) = teller {
+        teller.tell_changed(rt, ops);
+    }
+}
+
+/// Tells that a change was refused, if anyone is told.
+fn tell_refused<R: Wait>(rt: &R, teller: Option<&Teller>, why: &Refusal) {
+    if let Some(teller) = teller {
+        teller.tell(rt, LinkEvent::Refused(why.number()));
+    }
+}
+
+/// Holds a time in a node, and has the seat learn it.
+pub(crate) fn hold_on<J: NodeName, N: Wait + Drop, R: Wait>(
+    rt: &R,
+    node: &Node<J, N>,
+    reads: &mut SeatHost<J>,
+    teller: Option<&Teller>,
+    time: Time,
+) -> Result<Hold, (Option<Hold>, Refusal)>
+    ensures held { TakesHold J.kind reads.old time result reads.new }
+    ensures legal { is_legal reads.new ≡ true }
+    ensures seen { IsPrefix reads.old reads.new }
+{
+    match node.hold(rt, time) {
+        Ok((hold, receipt)) => {
+            tell_changed(rt, teller, receipt.ops());
+            reads.learn(receipt);
+            Ok(hold)
+        }
+        Err((hold, why)) => {
+            let _known = reads.config();
+            tell_refused(rt, teller, &why);
+            Err((hold, why))
+        }
+    }
+}
+
+/// Releases a hold in a node, and has the seat learn it. Gives the number of operations.
+pub(crate) fn release_on<J: NodeName, N: Wait + Drop, R: Wait>(
+    rt: &R,
+    node: &Node<J, N>,
+    reads: &mut SeatHost<J>,
+    teller: Option<&Teller>,
+    hold: Hold,
+) -> Result<u64, (Option<Hold>, Refusal)>
+    ensures released { ReleasesHold J.kind reads.old hold result reads.new }
+    ensures legal { is_legal reads.new ≡ true }
+    ensures seen { IsPrefix reads.old reads.new }
+{
+    match node.release(rt, hold) {
+        Ok(receipt) => {
+            let ops = receipt.ops();
+            tell_changed(rt, teller, ops);
+            reads.learn(receipt);
+            Ok(ops)
+        }
+        Err((back, why)) => {
+            let _known = reads.config();
+            tell_refused(rt, teller, &why);
+            Err((back, why))
+        }
+    }
+}

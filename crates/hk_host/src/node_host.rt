@@ -1,0 +1,385 @@
+//! A host over a running node and one seat of it.
+
+ghost use Rattle.std.specs.Prelude.{◌≡◌, true, length, take, IfOk, Some};
+ghost use Rattle.std.specs.Thread.{IsSync};
+ghost use mathlib.Core.List.{IsPrefix};
+ghost use Rattle.hk_model.specs.Replica.Rules.{gather_result};
+ghost use Rattle.hk_delta.specs.Gathers.{Gathers};
+ghost use Rattle.hk_types.specs.declared.faults.FormFault.TheVariants.{BadKind};
+ghost use Rattle.hk_types.specs.declared.faults.Refusal.TheVariants.{Form};
+ghost use Rattle.hk_wire.specs.Replies.{Done, Refused, reply_seen};
+ghost use Rattle.hk_oplog.specs.declared.op.Op.{Op};
+ghost use Rattle.hk_oplog.specs.declared.op.Op.TheVariants.{Join, Prune as PruneTo};
+ghost use Rattle.hk_node.specs.Guarded.{TakesSome};
+ghost use Rattle.hk_oplog.specs.Lists.{last_of};
+ghost use Rattle.hk_oplog.specs.NewItems.{new_to};
+ghost use Rattle.hk_session.specs.Steps.{query_reply, fragment_reply};
+ghost use Rattle.hk_oplog.specs.Replay.{is_legal, replay};
+ghost use Rattle.hk_oplog.specs.Replies.{node_delta, node_front, node_reply, node_whole};
+ghost use Rattle.hk_host.specs.Replying.{IsChangeReply, IsFedReply, IsItemsReply, IsOrOutOfMemory, IsReplyToItems, IsTold, MayReply, front_reply, items_reply};
+
+use crate::holding::{hold_on, release_on};
+use crate::link_events::{LinkEvent, Teller};
+use crate::node_side::NodeSide;
+use crate::seat_host::SeatHost;
+use hk_batch::{OpenGate, build};
+use hk_delta::{Fragment, fragment_of};
+use hk_log::Item;
+use hk_model::{Answer, Page, Query, StreamsTold};
+use hk_node::{Hold, Node, NodeName, ReaderSeat, Receipt};
+use hk_session::Host;
+use hk_types::{Key, Refusal, Table, Time};
+use hk_wire::{LaterReply, Reply, Request};
+use std::alloc::Global;
+use std::marker::Model;
+use std::sync::Wait;
+use std::thread::Threads;
+
+/// How many items a list has at least that several workers gather.
+const LONG_LIST: usize = 4_096;
+
+/// How many workers gather a long list.
+const WORKERS: usize = 4;
+
+/// A host over a running node, which others share, and one seat of that node. Contracts see it as the list of
+/// operations that the seat has seen or was told of.
+///
+/// Items are taken all or nothing, as the join of the one fragment that they make. Lists of 4,096 items and
+/// more are gathered by four workers side by side, shorter ones by the thread that answers. In a guarded node they are
+/// taken by `Node::take`, as absorbed one after the other. A fragment is joined, and a whole is joined in the same way.
+/// A change that took effect is learnt by the seat, so that the link's later replies show it, and is answered `Done` with the
+/// number of operations that ends with it; how far a prune reached is told by the next front. Feed is Items, answered `Fed`,
+/// which also tells how many of the items told something new to what the node held right before.
+/// A refused change is answered as the node refuses it, and items that make no fragment as their gathering
+/// is: a guarded node refuses `Conflict` what contradicts it, with nothing changed, and is never damaged, while another
+/// is damaged by it. `Unpublished` says that the change stands and waits. The other requests are answered by the seat, and
+/// take no lock. Cost: that of the calls.
+///
+/// It can be asked where threads may share the runtime (`Host::ready`), as its bound `Sync` says that they
+/// may.
+#[derive(Drop)]
+pub struct NodeHost<'a, J: NodeName, N: Wait + Drop, R: Threads + Wait + Sync> {
+    rt: &'a R,
+    alloc: Global,
+    node: &'a Node<J, N>,
+    pub(crate) reads: SeatHost<J>,
+    /// Who is told of changes, if anyone is.
+    teller: Option<&'a Teller>,
+}
+
+impl<'a, J: NodeName, N: Wait + Drop, R: Threads + Wait + Sync> Model for NodeHost<'a, J, N, R> {
+    ghost use Rattle.std.specs.Prelude.{◌≡◌, true, List};
+    ghost use Rattle.hk_oplog.specs.declared.op.Op.{Op};
+    ghost use Rattle.hk_oplog.specs.Replay.{is_legal};
+    ghost use Rattle.std.specs.Coded.{coded_list};
+    ghost use Rattle.hk_oplog.specs.contracts.op.Op as op;
+
+    ghost Value = { List Op };
+
+    ghost coded = { coded_list op.the_row.coded };
+
+    ghost view = { λ h. h.reads };
+
+    ghost invariant = { λ h. is_legal h.reads ≡ true };
+}
+
+impl<'a, J: NodeName, N: Wait + Drop, R: Threads + Wait + Sync> NodeHost<'a, J, N, R> {
+    /// A host over a node and a seat of it; their types name the node, so that a seat of another is none of these.
+    pub fn new(
+        rt: &'a R,
+        alloc: Global,
+        node: &'a Node<J, N>,
+        seat: ReaderSeat<J>,
+    ) -> NodeHost<'a, J, N, R>
+        ensures { result ≡ seat }
+    {
+        NodeHost {
+            rt,
+            alloc,
+            node,
+            reads: SeatHost::new(seat),
+            teller: None,
+        }
+    }
+
+    /// The same, of which each refused change is told, and where the teller wants it each that takes effect.
+    pub fn telling(
+        rt: &'a R,
+        alloc: Global,
+        node: &'a Node<J, N>,
+        seat: ReaderSeat<J>,
+        teller: &'a Teller,
+    ) -> NodeHost<'a, J, N, R>
+        ensures { result ≡ seat }
+    {
+        NodeHost {
+            rt,
+            alloc,
+            node,
+            reads: SeatHost::new(seat),
+            teller: Some(teller),
+        }
+    }
+
+    /// Gives the seat back, with all that it has seen or was told of.
+    pub fn into_seat(self) -> ReaderSeat<J>
+        ensures { result ≡ self.entry }
+    {
+        self.reads.into_seat()
+    }
+
+    /// Takes in the receipt of a change, and gives the number of its operations.
+    fn learn(&mut self, receipt: Receipt<J>) -> u64
+        ensures legal { is_legal self.new ≡ true }
+        ensures seen { IsPrefix self.old self.new }
+        ensures prefix { IsPrefix receipt self.new }
+        ensures done { result ≡ length receipt }
+        ensures told { (o : Op) → last_of receipt ≡ Some o → IsChangeReply J.kind self.old self.new o (Done result) }
+    {
+        let ops = receipt.ops();
+        self.reads.learn(receipt);
+        self.tell_changed(ops);
+        ops
+    }
+
+    /// Tells that a change took effect.
+    fn tell_changed(&self, ops: u64) {
+        if let Some(teller) = self.teller {
+            teller.tell_changed(self.rt, ops);
+        }
+    }
+
+    /// Tells that a change was refused.
+    fn tell_refused(&self, why: &Refusal) {
+        if let Some(teller) = self.teller {
+            teller.tell(self.rt, LinkEvent::Refused(why.number()));
+        }
+    }
+
+    /// The one fragment that items make. A long list is gathered by several workers, which are waited for.
+    fn gather(&self, items: &[Item]) -> Result<Fragment, Refusal>
+        ensures legal { is_legal self.now ≡ true }
+        ensures gives { Gathers J.kind.config items.now result }
+    {
+        let config = self.reads.config();
+        if items.len() < LONG_LIST {
+            return fragment_of(self.alloc, config, items);
+        }
+        build(self.rt, self.alloc, config, items, WORKERS, &OpenGate)
+    }
+
+    /// A fragment that items made, to a node that is not guarded: it is joined. Gives the number of operations, and how many of
+    /// the items told something new.
+    fn join_gathered(&mut self, fragment: Fragment, items: &[Item]) -> Result<(u64, u64), Refusal>
+        ensures legal { is_legal self.new ≡ true }
+        ensures seen { IsPrefix self.old self.new }
+        ensures told { IsChangeReply J.kind self.old self.new (Join fragment) (items_reply result) }
+        ensures new { IfOk result (λ t. t.1 ≡ new_to (take t.0 self.new) items.now) }
+    {
+        match self.node.join_gathered(self.rt, fragment, items) {
+            Ok((new, receipt)) => Ok((self.learn(receipt), new)),
+            Err(why) => {
+                self.tell_refused(&why);
+                Err(why)
+            }
+        }
+    }
+
+    /// Items to a node that is not guarded: the fragment that they make is joined.
+    fn gather_and_join(&mut self, items: &[Item]) -> Result<(u64, u64), Refusal>
+        ensures legal { is_legal self.new ≡ true }
+        ensures seen { IsPrefix self.old self.new }
+        ensures told { IsItemsReply J.kind self.old self.new (gather_result J.kind.config items.now) (items_reply result) }
+        ensures new { IfOk result (λ t. t.1 ≡ new_to (take t.0 self.new) items.now) }
+    {
+        match self.gather(items) {
+            Ok(fragment) => self.join_gathered(fragment, items),
+            Err(why) => {
+                self.tell_refused(&why);
+                Err(why)
+            }
+        }
+    }
+
+    /// Items to a guarded node: they are taken where each agrees with what it holds, and with those before it.
+    fn take(&mut self, items: &[Item]) -> Result<(u64, u64), Refusal>
+        ensures legal { is_legal self.new ≡ true }
+        ensures seen { IsPrefix self.old self.new }
+        ensures told { IsTold (TakesSome J.kind items.now) self.old self.new (items_reply result) }
+        ensures new { IfOk result (λ t. t.1 ≡ new_to (take t.0 self.new) items.now) }
+    {
+        match self.node.take(self.rt, items) {
+            Ok((new, receipt)) => Ok((self.learn(receipt), new)),
+            Err(why) => {
+                self.tell_refused(&why);
+                Err(why)
+            }
+        }
+    }
+
+    fn take_items(&mut self, items: &[Item]) -> Result<(u64, u64), Refusal>
+        ensures legal { is_legal self.new ≡ true }
+        ensures seen { IsPrefix self.old self.new }
+        ensures told { IsReplyToItems J.kind self.old self.new items.now (items_reply result) }
+        ensures new { IfOk result (λ t. t.1 ≡ new_to (take t.0 self.new) items.now) }
+    {
+        if self.reads.is_guarded() {
+            return self.take(items);
+        }
+        self.gather_and_join(items)
+    }
+
+    fn items(&mut self, items: &[Item]) -> Reply
+        ensures legal { is_legal self.new ≡ true }
+        ensures seen { IsPrefix self.old self.new }
+        ensures told { IsReplyToItems J.kind self.old self.new items.now (reply_seen result) }
+    {
+        match self.take_items(items) {
+            Ok((ops, _)) => Reply::Done { ops },
+            Err(why) => Reply::Refused(why),
+        }
+    }
+
+    /// The same, where the feeder is told how many of the items told something new.
+    fn feed(&mut self, items: &[Item]) -> Reply
+        ensures legal { is_legal self.new ≡ true }
+        ensures seen { IsPrefix self.old self.new }
+        ensures told { IsFedReply J.kind self.old self.new items.now (reply_seen result) }
+    {
+        match self.take_items(items) {
+            Ok((ops, new)) => Reply::Later(LaterReply::Fed { ops, new }),
+            Err(why) => Reply::Later(LaterReply::Refused(why)),
+        }
+    }
+
+    fn join(&mut self, fragment: Fragment) -> Reply
+        ensures legal { is_legal self.new ≡ true }
+        ensures seen { IsPrefix self.old self.new }
+        ensures told { IsChangeReply J.kind self.old self.new (Join fragment) (reply_seen result) }
+    {
+        match self.node.join(self.rt, fragment) {
+            Ok(receipt) => Reply::Done {
+                ops: self.learn(receipt),
+            },
+            Err(why) => {
+                self.tell_refused(&why);
+                Reply::Refused(why)
+            }
+        }
+    }
+
+    fn prune(&mut self, horizon: Time) -> Reply
+        ensures legal { is_legal self.new ≡ true }
+        ensures seen { IsPrefix self.old self.new }
+        ensures told { IsChangeReply J.kind self.old self.new (PruneTo horizon) (reply_seen result) }
+    {
+        match self.node.prune(self.rt, horizon) {
+            Ok((_, receipt)) => Reply::Done {
+                ops: self.learn(receipt),
+            },
+            Err(why) => {
+                self.tell_refused(&why);
+                Reply::Refused(why)
+            }
+        }
+    }
+
+    fn front(&mut self) -> Reply
+        ensures legal { is_legal self.new ≡ true }
+        ensures seen { IsPrefix self.old self.new }
+        ensures told { IsOrOutOfMemory (front_reply (node_front (replay self.new))) (reply_seen result) }
+    {
+        self.reads.front()
+    }
+
+    fn delta(&mut self, base: Time) -> Reply
+        ensures legal { is_legal self.new ≡ true }
+        ensures seen { IsPrefix self.old self.new }
+        ensures told { IsOrOutOfMemory (fragment_reply (node_delta (replay self.new) base)) (reply_seen result) }
+    {
+        self.reads.delta(base)
+    }
+
+    fn whole(&mut self) -> Reply
+        ensures legal { is_legal self.new ≡ true }
+        ensures seen { IsPrefix self.old self.new }
+        ensures told { IsOrOutOfMemory (fragment_reply (node_whole (replay self.new))) (reply_seen result) }
+    {
+        self.reads.whole()
+    }
+
+    fn ask(&mut self, time: Time, query: &Query) -> Reply
+        ensures legal { is_legal self.new ≡ true }
+        ensures seen { IsPrefix self.old self.new }
+        ensures told { IsOrOutOfMemory (query_reply (node_reply (replay self.new) time query.now)) (reply_seen result) }
+    {
+        self.reads.ask(time, query)
+    }
+
+    /// The reply to a request that has no meaning here, which is let go.
+    pub(crate) fn no_kind<C: Drop>(&self, asked: C) -> Reply
+        ensures legal { is_legal self.now ≡ true }
+        ensures told { reply_seen result ≡ Refused (Form BadKind) }
+    {
+        self.reads.no_kind(asked)
+    }
+}
+
+impl<'a, J: NodeName, N: Wait + Drop, R: Threads + Wait + Sync> Host for NodeHost<'a, J, N, R> {
+    ghost may = { MayReply J.kind };
+
+    ghost ready = { λ _. IsSync R.row };
+
+    fn answer(&mut self, request: Request) -> Reply {
+        match request {
+            Request::Items(items) => self.items(&items),
+            Request::Feed(items) => self.feed(&items),
+            Request::Front => self.front(),
+            Request::Delta { base } => self.delta(base),
+            Request::Full => self.whole(),
+            Request::Ask { t, query } => self.ask(t, &query),
+            Request::JoinThis(fragment) | Request::MergeThis(fragment) => self.join(fragment),
+            Request::Prune { horizon } => self.prune(horizon),
+            Request::Later(later) => self.no_kind(later),
+        }
+    }
+}
+
+impl<'a, J: NodeName, N: Wait + Drop, R: Threads + Wait + Sync> NodeSide for NodeHost<'a, J, N, R> {
+    ghost use Rattle.hk_host.specs.NodeSides.{ReleasesHold, TakesHold};
+
+    ghost side = { record { list = λ l. l; may_hold = TakesHold J.kind; may_release = ReleasesHold J.kind } };
+
+    fn latest(&mut self, query: &Query) -> Result<(Time, Answer), Refusal> {
+        self.reads.latest(query)
+    }
+
+    fn page(
+        &mut self,
+        time: Time,
+        table: Table,
+        low: Key,
+        high: Key,
+        most: u32,
+    ) -> Result<Page, Refusal> {
+        self.reads.page(time, table, low, high, most)
+    }
+
+    fn streams(&mut self) -> Result<StreamsTold, Refusal> {
+        self.reads.streams()
+    }
+
+    fn cut(&mut self, base: Time) -> Result<Fragment, Refusal> {
+        self.reads.cut(base)
+    }
+
+    fn hold(&mut self, time: Time) -> Result<Hold, (Option<Hold>, Refusal)> {
+        hold_on(self.rt, self.node, &mut self.reads, self.teller, time)
+    }
+
+    fn release(&mut self, hold: Hold) -> Result<u64, (Option<Hold>, Refusal)> {
+        release_on(self.rt, self.node, &mut self.reads, self.teller, hold)
+    }
+
+    fn laws() {}
+}

@@ -1,0 +1,204 @@
+//! A host over one seat of a node, which can't change the node.
+
+ghost use Rattle.std.specs.Prelude.{◌≡◌, true};
+ghost use mathlib.Core.List.{IsPrefix};
+ghost use Rattle.hk_types.specs.declared.faults.FormFault.TheVariants.{BadKind};
+ghost use Rattle.hk_types.specs.declared.faults.Refusal.TheVariants.{Form};
+ghost use Rattle.hk_wire.specs.Replies.{Refused, reply_seen};
+ghost use Rattle.hk_session.specs.Steps.{query_reply, fragment_reply};
+ghost use Rattle.hk_oplog.specs.Replay.{is_legal, replay};
+ghost use Rattle.hk_oplog.specs.Replies.{node_delta, node_front, node_reply, node_whole};
+ghost use Rattle.hk_host.specs.Replying.{IsOrOutOfMemory, MayOnlyRead, front_reply};
+
+use crate::node_side::NodeSide;
+use hk_delta::Fragment;
+use hk_model::{Answer, Page, Query, StreamsTold};
+use hk_node::{Hold, NodeName, ReaderSeat, Receipt};
+use hk_session::Host;
+use hk_types::{Config, FormFault, Key, Refusal, Table, Time};
+use hk_wire::{Reply, Request};
+use std::marker::Model;
+
+/// A host over one seat of a node, with no way to the node itself. Contracts see it as the list of operations that
+/// the seat has seen or was told of.
+///
+/// Front, Delta, Full and Ask are answered by the seat, and take no lock. Each other request is refused with 4, as a
+/// kind that has no meaning here, and nothing changed. Cost: that of the seat's calls.
+#[derive(Drop)]
+pub struct SeatHost<J: NodeName> {
+    seat: ReaderSeat<J>,
+}
+
+impl<J: NodeName> Model for SeatHost<J> {
+    ghost use Rattle.std.specs.Prelude.{◌≡◌, true, List};
+    ghost use Rattle.hk_oplog.specs.declared.op.Op.{Op};
+    ghost use Rattle.hk_oplog.specs.Replay.{is_legal};
+    ghost use Rattle.std.specs.Coded.{coded_list};
+    ghost use Rattle.hk_oplog.specs.contracts.op.Op as op;
+
+    ghost Value = { List Op };
+
+    ghost coded = { coded_list op.the_row.coded };
+
+    ghost view = { λ h. h.seat };
+
+    ghost invariant = { λ h. is_legal h.seat ≡ true };
+}
+
+impl<J: NodeName> SeatHost<J> {
+    /// A host over a seat.
+    pub fn new(seat: ReaderSeat<J>) -> SeatHost<J>
+        ensures { result ≡ seat }
+    {
+        let _known = seat.seen();
+        SeatHost { seat }
+    }
+
+    /// Gives the seat back, with all that it has seen or was told of.
+    pub fn into_seat(self) -> ReaderSeat<J>
+        ensures { result ≡ self }
+    {
+        self.seat
+    }
+
+    /// The log that the node is of.
+    pub(crate) fn config(&self) -> Config
+        ensures log { result ≡ J.kind.config }
+        ensures legal { is_legal self.now ≡ true }
+    {
+        let _known = self.seat.seen();
+        self.seat.config()
+    }
+
+    /// Whether the node is guarded.
+    pub(crate) fn is_guarded(&self) -> bool
+        ensures { result ≡ J.kind.guarded }
+    {
+        self.seat.is_guarded()
+    }
+
+    /// Takes in the receipt of a change.
+    pub(crate) fn learn(&mut self, receipt: Receipt<J>)
+        ensures legal { is_legal self.new ≡ true }
+        ensures seen { IsPrefix self.old self.new }
+        ensures told { IsPrefix receipt self.new }
+    {
+        self.seat.learn(receipt);
+        let _known = self.seat.seen();
+    }
+
+    /// The reply to a request that has no meaning here, which is let go.
+    pub(crate) fn no_kind<C: Drop>(&self, _asked: C) -> Reply
+        ensures legal { is_legal self.now ≡ true }
+        ensures told { reply_seen result ≡ Refused (Form BadKind) }
+    {
+        let _known = self.seat.seen();
+        Reply::Refused(Refusal::Form(FormFault::BadKind))
+    }
+
+    pub(crate) fn front(&mut self) -> Reply
+        ensures legal { is_legal self.new ≡ true }
+        ensures seen { IsPrefix self.old self.new }
+        ensures told { IsOrOutOfMemory (front_reply (node_front (replay self.new))) (reply_seen result) }
+    {
+        match self.seat.front() {
+            Ok(front) => Reply::Front(front),
+            Err(why) => Reply::Refused(why),
+        }
+    }
+
+    pub(crate) fn delta(&mut self, base: Time) -> Reply
+        ensures legal { is_legal self.new ≡ true }
+        ensures seen { IsPrefix self.old self.new }
+        ensures told { IsOrOutOfMemory (fragment_reply (node_delta (replay self.new) base)) (reply_seen result) }
+    {
+        match self.seat.delta_since(base) {
+            Ok(fragment) => Reply::Fragment(fragment),
+            Err(why) => Reply::Refused(why),
+        }
+    }
+
+    pub(crate) fn whole(&mut self) -> Reply
+        ensures legal { is_legal self.new ≡ true }
+        ensures seen { IsPrefix self.old self.new }
+        ensures told { IsOrOutOfMemory (fragment_reply (node_whole (replay self.new))) (reply_seen result) }
+    {
+        match self.seat.whole() {
+            Ok(fragment) => Reply::Fragment(fragment),
+            Err(why) => Reply::Refused(why),
+        }
+    }
+
+    pub(crate) fn ask(&mut self, time: Time, query: &Query) -> Reply
+        ensures legal { is_legal self.new ≡ true }
+        ensures seen { IsPrefix self.old self.new }
+        ensures told { IsOrOutOfMemory (query_reply (node_reply (replay self.new) time query.now)) (reply_seen result) }
+    {
+        match self.seat.ask(time, query) {
+            Ok(answer) => Reply::Answer(answer),
+            Err(why) => Reply::Refused(why),
+        }
+    }
+}
+
+impl<J: NodeName> Host for SeatHost<J> {
+    ghost may = { MayOnlyRead };
+
+    fn answer(&mut self, request: Request) -> Reply {
+        match request {
+            Request::Front => self.front(),
+            Request::Delta { base } => self.delta(base),
+            Request::Full => self.whole(),
+            Request::Ask { t, query } => self.ask(t, &query),
+            Request::Items(items) | Request::Feed(items) => self.no_kind(items),
+            Request::JoinThis(fragment) | Request::MergeThis(fragment) => self.no_kind(fragment),
+            Request::Prune { horizon } => self.no_kind(horizon),
+            Request::Later(later) => self.no_kind(later),
+        }
+    }
+}
+
+impl<J: NodeName> NodeSide for SeatHost<J> {
+    ghost use Rattle.hk_host.specs.NodeSides.{RefusesHold, RefusesRelease};
+
+    ghost side = { record { list = λ l. l; may_hold = RefusesHold; may_release = RefusesRelease } };
+
+    fn latest(&mut self, query: &Query) -> Result<(Time, Answer), Refusal> {
+        self.seat.latest(query)
+    }
+
+    fn page(
+        &mut self,
+        time: Time,
+        table: Table,
+        low: Key,
+        high: Key,
+        most: u32,
+    ) -> Result<Page, Refusal> {
+        self.seat.page(time, table, low, high, most)
+    }
+
+    fn streams(&mut self) -> Result<StreamsTold, Refusal> {
+        self.seat.streams()
+    }
+
+    fn cut(&mut self, base: Time) -> Result<Fragment, Refusal> {
+        if base.number() == 0 {
+            self.seat.whole()
+        } else {
+            self.seat.delta_since(base)
+        }
+    }
+
+    fn hold(&mut self, _time: Time) -> Result<Hold, (Option<Hold>, Refusal)> {
+        let _known = self.seat.seen();
+        Err((None, Refusal::Form(FormFault::BadKind)))
+    }
+
+    fn release(&mut self, hold: Hold) -> Result<u64, (Option<Hold>, Refusal)> {
+        let _known = self.seat.seen();
+        Err((Some(hold), Refusal::Form(FormFault::BadKind)))
+    }
+
+    fn laws() {}
+}

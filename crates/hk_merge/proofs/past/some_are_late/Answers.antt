@@ -1,0 +1,27 @@
+use Rattle.std.proofs.Common.{◌∷◌, ◌||◌, sym, ap, ◌∙◌, Bool, map}
+use Rattle.std.proofs.lemmas.List.Folds.{list_any-append}
+use Rattle.std.specs.List.{list_any}
+use Rattle.hk_types.specs.declared.version_key.VersionKey.{VersionKey}
+use Rattle.hk_log.specs.Versions.{VersionValue}
+use Rattle.hk_store.specs.Versions.{borrowed}
+use Rattle.hk_store.proofs.WalkedChains.{all_taken, one_more_taken}
+use Rattle.hk_merge.specs.Late.{is_late}
+use Rattle.hk_merge.proofs.past.some_are_late.Goals as goal
+
+pub returns-then-is_late : goal.returns-then-is_late
+returns-then-is_late c =
+    let p : VersionKey × VersionValue → Bool = λ e. is_late c.args.own.now c.args.readable c.args.coming.now e.0 e.1 in
+    let l = c.loop-version in
+    let whole = sym c.into_iter-version-iterator.ensures.into_iter_gives ∙ one_more_taken c.into_iter-version-iterator.result l.yielded l.version-iterator c.next.new.self c.next.result (c.in-Some.version, c.in-Some.known) l.yielded_by c.in-Some.is c.next.ensures.steps in (
+      c.walk-version-items.result,
+      c.walk-version-items.ensures,
+      sym (ap (list_any p) whole ∙ list_any-append p (map borrowed l.yielded) (borrowed (c.in-Some.version, c.in-Some.known) ∷ c.next.new.self)
+          ∙ (λ i. l.invariant i || ((sym c.is_late.ensures ∙ c.if-is_late.true) i || list_any p c.next.new.self))),
+    )
+
+pub returns : goal.returns
+returns c =
+    let p : VersionKey × VersionValue → Bool = λ e. is_late c.args.own.now c.args.readable c.args.coming.now e.0 e.1 in
+    let l = c.loop-version in
+    let whole = sym c.into_iter-version-iterator.ensures.into_iter_gives ∙ all_taken c.into_iter-version-iterator.result l.yielded l.version-iterator c.next.new.self c.next.result l.yielded_by c.in-None.is c.next.ensures.steps in
+    (c.walk-version-items.result, c.walk-version-items.ensures, sym (ap (list_any p) whole ∙ l.invariant))

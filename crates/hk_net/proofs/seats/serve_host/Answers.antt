@@ -1,6 +1,0 @@
-use Rattle.std.proofs.Common.{refl}
-use Rattle.hk_net.proofs.Seen.{served_step}
-use Rattle.hk_net.proofs.seats.serve_host.Goals as goal
-
-pub returns-clause-seen : goal.returns-clause-seen
-returns-clause-seen g c = let told = c.serve-ended.ensures.transcript in served_step _ _ _ _ _ _ _ told.0 _ refl c.into_seat.ensures told.2

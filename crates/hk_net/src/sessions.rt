@@ -1,0 +1,83 @@
+//! One session over a host of a seat.
+
+ghost use Rattle.std.specs.Prelude.{◌≡◌};
+ghost use mathlib.Core.List.{IsPrefix};
+ghost use Rattle.hk_net.specs.Serving.{Runs, ServesHost};
+
+use hk_host::{LinkState, NodeSide, PartsBudget, PartsHost};
+use hk_node::Hold;
+use hk_session::{Counted, Ended, serve};
+use std::alloc::Global;
+use std::io::{Read, Write};
+
+/// Runs one session in version 1 over a host, as `serve`, and gives how it ended, with the host. Cost: that of the session.
+pub fn serve_plain<H: NodeSide + Drop, I: Read + Drop, O: Write + Drop>(
+    alloc: Global,
+    host: H,
+    reader: &mut Counted<I>,
+    writer: &mut Counted<O>,
+) -> (Ended, H)
+    requires reader { reader.old.faults ≡ 0 }
+    requires writer { writer.old.faults ≡ 0 }
+    requires ready { H.ready host }
+    ensures seen { IsPrefix (H.side.list host) (H.side.list result.1) }
+    // The bytes read, and what was done and written for them.
+    ensures transcript { ServesHost H.may host
+        I.remaining reader.old reader.new O.contents writer.old writer.new result }
+{
+    H::laws();
+    let mut served = host;
+    let ended = serve::<1, _, _, _>(alloc, reader, writer, &mut served);
+    (ended, served)
+}
+
+/// Runs the session of a link in both versions, as `serve` over a `PartsHost`. However it ends, each hold that the link has
+/// then is asked to be released, and no other, as `PartsHost::end` does. Gives how it ended, the host for version 1, and just
+/// those of the link's holds that the node handed back, with which the next link of the place begins. Cost: that of the session
+/// and of the releases.
+pub fn serve_parts<H: NodeSide + Drop, I: Read + Drop, O: Write + Drop>(
+    alloc: Global,
+    link: PartsHost<'_, H>,
+    reader: &mut Counted<I>,
+    writer: &mut Counted<O>,
+) -> (Ended, H, Vec<Hold>)
+    requires reader { reader.old.faults ≡ 0 }
+    requires writer { writer.old.faults ≡ 0 }
+    requires ready { H.ready link.inner }
+    ensures seen { IsPrefix (H.side.list link.entry.inner) (H.side.list result.1) }
+    // The bytes read, and what was done and written for them; then the link's holds were let go.
+    ensures transcript { Runs H.may H.side link.entry
+        I.remaining reader.old reader.new O.contents writer.old writer.new result }
+{
+    let mut served = link;
+    let ended = serve::<2, _, _, _>(alloc, reader, writer, &mut served);
+    let (inner, left) = served.end();
+    (ended, inner, left)
+}
+
+/// Runs the session of a link over a host: with a budget in both versions, with these holds, else in version 1. Gives how it ended, the
+/// host, and the holds that stand.
+pub(crate) fn serve_host<H: NodeSide + Drop, I: Read + Drop, O: Write + Drop>(
+    alloc: Global,
+    budget: Option<&PartsBudget>,
+    host: H,
+    holds: Vec<Hold>,
+    reader: &mut Counted<I>,
+    writer: &mut Counted<O>,
+) -> (Ended, H, Vec<Hold>)
+    requires reader { reader.old.faults ≡ 0 }
+    requires writer { writer.old.faults ≡ 0 }
+    requires ready { H.ready host }
+    ensures seen { IsPrefix (H.side.list host) (H.side.list result.1) }
+{
+    match budget {
+        Some(budget) => {
+            let link = PartsHost::new(host, LinkState::new(alloc, budget, holds));
+            serve_parts(alloc, link, reader, writer)
+        }
+        None => {
+            let (ended, host) = serve_plain(alloc, host, reader, writer);
+            (ended, host, holds)
+        }
+    }
+}

@@ -1,6 +1,0 @@
-use Rattle.std.proofs.Common.{◌≡◌, None, fold, take}
-use Rattle.hk_node.specs.Replay.{first_of_two}
-use Rattle.hk_node.proofs.body.least_hold.Given as goal
-
-abbrev pub invariant-loop-hold : goal.invariant-loop-hold
-invariant-loop-hold l = l.least ≡ fold first_of_two None (take l.hold-index l.holds)

@@ -1,5 +1,0 @@
-use Rattle.hk_node.proofs.Carries.{carry_law_proof}
-use Rattle.hk_node.proofs.laws.carry_law.Goals as goal
-
-pub returns : goal.returns
-returns c = carry_law_proof

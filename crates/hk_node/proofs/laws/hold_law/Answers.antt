@@ -1,5 +1,0 @@
-use Rattle.hk_node.proofs.Holds.{hold_law_proof}
-use Rattle.hk_node.proofs.laws.hold_law.Goals as goal
-
-pub returns : goal.returns
-returns c = hold_law_proof

@@ -1,0 +1,10 @@
+pub mod LegalLists
+pub mod JoinTests
+pub mod Holds
+pub mod GuardedLists
+pub mod Carries
+pub mod HoldsBack
+pub mod SoundReplies
+pub mod AgreedItems
+pub mod NewestAnswers
+pub mod FinalAnswers

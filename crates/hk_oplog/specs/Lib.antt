@@ -1,0 +1,9 @@
+pub mod NodeContent
+pub mod Replay
+pub mod Holds
+pub mod Final
+pub mod Lists
+pub mod Guarded
+pub mod NewItems
+pub mod Replies
+pub mod Carried

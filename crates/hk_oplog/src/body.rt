@@ -1,0 +1,594 @@
+//! What a copy of the node's state holds, and what operations make of it.
+
+ghost use Rattle.std.specs.Prelude.{◌≡◌, ◌⊎◌, ◌<◌, ◌≤◌, ◌^◌, None, IfOk, IfErr, MatchResult};
+ghost use Rattle.std.specs.Option.{option_map};
+ghost use Rattle.hk_types.specs.declared.faults.Refusal.TheVariants.{Damaged, Memory};
+ghost use Rattle.hk_model.specs.Replica.Fragments.{cut};
+ghost use Rattle.hk_model.specs.Replica.Rules.{contents_conflict};
+ghost use Rattle.hk_model.specs.Replica.Touches.{join_touches_past, prune_touches_past};
+ghost use Rattle.hk_model.specs.Replica.Pages.{page_seen};
+ghost use Rattle.hk_model.specs.Replica.StreamsTold.{streams_seen};
+ghost use Rattle.hk_oplog.specs.declared.op.Op.TheVariants.{Hold as HoldAt, Join as JoinOf, Prune as PruneTo, Release};
+ghost use Rattle.hk_oplog.specs.Replay as spec;
+ghost use Rattle.std.specs.List.{list_any};
+ghost use Rattle.hk_oplog.specs.Replay.{is_hold, content_after_op, start_content, effect, full_refusal, held_refusal, past_refusal, prune_reach, refusal_of, IsApplied};
+ghost use Rattle.hk_merge.specs.Sent.{fragment_sent};
+ghost use Rattle.hk_oplog.specs.Guarded.{AgreesWith};
+ghost use Rattle.hk_oplog.specs.NewItems.{count_new};
+ghost use Rattle.hk_oplog.specs.Replies.{Answers, GivesOrMemory, GivesSeen, timed_seen, node_delta, node_front, node_latest, node_page, node_reply, node_streams, node_whole};
+
+use crate::op::{Hold, NodeKind, Op};
+use hk_delta::{Fragment, agreed_so, conflicts_with, delta_since, join, whole_of};
+use hk_log::Item;
+use hk_merge::{Sent, join_touches_past, wrong_log};
+use hk_model::{Answer, Front, Page, Query, StreamsTold};
+use hk_query::{ask, latest, page};
+use hk_state::{ReplicaState, front_of};
+use hk_types::{Config, Key, LAST_OP, Refusal, Table, Time};
+use std::alloc::{AllocError, Global};
+use std::marker::Model;
+
+/// The number of the operation after so many, or `NodeFull` after `LAST_OP` of them. It takes no memory.
+pub fn next_op(count: u64) -> Result<u64, Refusal>
+    ensures { result ≡ spec.next_op count }
+{
+    if count >= LAST_OP {
+        return Err(Refusal::NodeFull);
+    }
+    Ok(count + 1)
+}
+
+/// What a copy holds: the state of a replica, the holds that stand, whether it met a conflict, whether it is guarded, and
+/// the counts of holds and of operations.
+#[derive(Drop)]
+pub struct Body {
+    state: ReplicaState,
+    holds: Vec<Hold>,
+    damaged: bool,
+    guarded: bool,
+    hold_count: u64,
+    op_count: u64,
+}
+
+impl Model for Body {
+    ghost use Rattle.std.specs.Prelude.{◌≤◌, ◌^◌};
+    ghost use Rattle.hk_oplog.specs.NodeContent.{NodeContent, node_code};
+
+    ghost Value = { NodeContent };
+
+    ghost coded = { node_code };
+
+    ghost view = { λ b. record { content = b.state; holds = b.holds.items; damaged = b.damaged; guarded = b.guarded; hold_count = b.hold_count; op_count = b.op_count } };
+
+    ghost invariant = { λ b. (b.hold_count ≤ b.op_count) × (b.op_count ≤ 2 ^ 62) };
+}
+
+/// The first of two holds, by time and then by number.
+fn first_of_two(least: Option<Hold>, hold: &Hold) -> Option<Hold>
+    ensures { result ≡ spec.first_of_two least hold.now }
+{
+    if let Some(least) = least {
+        let is_before = hold.at < least.at || (hold.at == least.at && hold.reader < least.reader);
+        if !is_before {
+            return Some(least);
+        }
+    }
+    Some(Hold {
+        reader: hold.reader,
+        at: hold.at,
+    })
+}
+
+/// The hold of the least time, and of the least number there. It takes no memory.
+fn least_hold(holds: &[Hold]) -> Option<Hold>
+    ensures { result ≡ spec.least_hold holds.now }
+{
+    let mut least = None;
+    for hold in holds {
+        least = first_of_two(least, hold);
+    }
+    least
+}
+
+/// Whether a hold of this number and time is among these. It takes no memory.
+fn is_among(holds: &[Hold], reader: u64, at: Time) -> bool
+    ensures { result ≡ list_any (is_hold reader at) holds.now }
+{
+    holds
+        .iter()
+        .any(|hold| hold.reader == reader && hold.at == at)
+}
+
+impl Body {
+    /// What a copy of a new node holds. The only refusal is `Memory`.
+    pub fn new(alloc: Global, kind: NodeKind) -> Result<Body, Refusal>
+        ensures ok { IfOk result (λ body. body ≡ start_content kind) }
+        ensures err { IfErr result (λ why. why ≡ Memory) }
+    {
+        Ok(Body {
+            state: ReplicaState::new(alloc, kind.config)?,
+            holds: Vec::new(alloc),
+            damaged: false,
+            guarded: kind.guarded,
+            hold_count: 0,
+            op_count: 1,
+        })
+    }
+
+    /// `NodeFull` where there is no room for one operation more. It takes no memory.
+    pub fn full_refusal(&self) -> Option<Refusal>
+        ensures { result ≡ full_refusal self.now }
+    {
+        match next_op(self.op_count) {
+            Ok(_) => None,
+            Err(why) => Some(why),
+        }
+    }
+
+    /// How far a prune to a time reaches: to the least hold that stands, where that is lower.
+    fn reach(&self, time: Time) -> Time
+        ensures { result ≡ spec.prune_reach self.now time }
+    {
+        match least_hold(&self.holds) {
+            Some(Hold { at, .. }) if at < time => at,
+            _ => time,
+        }
+    }
+
+    /// The hold that the horizon of a join would pass, where it rises to this.
+    fn held_refusal(&self, horizon: Time) -> Option<Refusal>
+        ensures { result ≡ held_refusal self.now horizon }
+    {
+        if horizon <= self.state.horizon() {
+            return None;
+        }
+        match least_hold(&self.holds) {
+            Some(Hold { reader, at }) if at < horizon => Some(Refusal::Held { reader, at }),
+            _ => None,
+        }
+    }
+
+    /// Why a fragment of this log, this base and this horizon does not fit. It takes no memory.
+    fn fit_refusal(&self, config: Config, base: Time, horizon: Time) -> Option<Refusal>
+        ensures { result ≡ spec.fit_refusal self.now config.log config.streams base horizon }
+    {
+        if self.damaged {
+            return Some(Refusal::Damaged);
+        }
+        if let Some(why) = wrong_log(&self.state, config) {
+            return Some(why);
+        }
+        let readable = self.state.readable();
+        if readable < base {
+            return Some(Refusal::Gap { base, readable });
+        }
+        self.held_refusal(horizon)
+    }
+
+    /// Why a fragment is not joined, but for a conflict. It takes no memory.
+    fn fit_or_full(&self, fragment: &Fragment) -> Option<Refusal>
+        ensures { result ≡ spec.fit_or_full self.now fragment.now }
+    {
+        match self.fit_refusal(fragment.config(), fragment.base(), fragment.horizon()) {
+            Some(why) => Some(why),
+            None => self.full_refusal(),
+        }
+    }
+
+    /// `Conflict` where this is guarded and conflicts with a fragment.
+    fn guard_refusal(&self, fragment: &Fragment) -> Option<Refusal>
+        ensures { result ≡ spec.guard_refusal self.now fragment.now.content }
+    {
+        if self.guarded && conflicts_with(&self.state, fragment) {
+            return Some(Refusal::Conflict);
+        }
+        None
+    }
+
+    fn conflicts_with_state(&self, state: &ReplicaState) -> bool
+        ensures { result ≡ contents_conflict self.now.content (cut state.now 0).content }
+    {
+        let _known = state.horizon();
+        let theirs = state.facts();
+        self.state.facts().conflicts_with(theirs)
+    }
+
+    /// `Conflict` where this is guarded and conflicts with a state.
+    fn guard_refusal_of_state(&self, state: &ReplicaState) -> Option<Refusal>
+        ensures { result ≡ spec.guard_refusal self.now (cut state.now 0).content }
+    {
+        if self.guarded && self.conflicts_with_state(state) {
+            return Some(Refusal::Conflict);
+        }
+        None
+    }
+
+    /// `Conflict` where this is guarded and joining what is sent would touch its past.
+    fn past_refusal(&self, sent: &Sent) -> Option<Refusal>
+        ensures { result ≡ spec.past_refusal self.now (join_touches_past self.now.content (fragment_sent sent.now)) }
+    {
+        if self.guarded && join_touches_past(&self.state, sent) {
+            return Some(Refusal::Conflict);
+        }
+        None
+    }
+
+    /// The same of the whole of a state.
+    fn past_refusal_of_state(&self, state: &ReplicaState) -> Option<Refusal>
+        ensures { result ≡ spec.past_refusal self.now (join_touches_past self.now.content (cut state.now 0)) }
+    {
+        let _known = state.horizon();
+        self.past_refusal(&Sent::Whole(state))
+    }
+
+    fn join_refused(&self, fragment: &Fragment) -> Option<Refusal>
+        ensures { result ≡ spec.join_refused self.now fragment.now }
+    {
+        if let Some(why) = self.fit_refusal(
+            fragment.config(),
+            fragment.base(),
+            fragment.horizon(),
+        ) {
+            return Some(why);
+        }
+        if let Some(why) = self.guard_refusal(fragment) {
+            return Some(why);
+        }
+        match self.past_refusal(&Sent::Part(fragment)) {
+            Some(why) => Some(why),
+            None => self.full_refusal(),
+        }
+    }
+
+    /// Why the whole of a state is not joined. It is never refused for want of memory.
+    pub fn merge_refusal(&self, state: &ReplicaState) -> Option<Refusal>
+        ensures { result ≡ spec.join_refused self.now (cut state.now 0) }
+    {
+        if let Some(why) = self.fit_refusal(state.config(), Time::zero(), state.horizon()) {
+            return Some(why);
+        }
+        if let Some(why) = self.guard_refusal_of_state(state) {
+            return Some(why);
+        }
+        match self.past_refusal_of_state(state) {
+            Some(why) => Some(why),
+            None => self.full_refusal(),
+        }
+    }
+
+    /// The fragment of what items tell that is new, where they agree with what is held and with each other; where this is
+    /// guarded, each entry that is told again is compared.
+    pub fn agreed(&self, alloc: Global, items: &[Item]) -> Result<Fragment, Refusal>
+        ensures { AgreesWith self.now items.now result }
+    {
+        if self.damaged {
+            return Err(Refusal::Damaged);
+        }
+        agreed_so(alloc, &self.state, items, self.guarded)
+    }
+
+    /// How many of the items tell something new, each compared with what is held.
+    pub fn count_new(&self, items: &[Item]) -> u64
+        ensures { result ≡ count_new self.now.content items.now }
+    {
+        crate::new_items::count_new(&self.state, items)
+    }
+
+    /// Why this is not pruned to a time, whether or not it touches the past.
+    fn prune_unfit(&self, time: Time) -> Option<Refusal>
+        ensures { result ≡ spec.unfit_of self.now (PruneTo time) }
+    {
+        if self.damaged {
+            return Some(Refusal::Damaged);
+        }
+        let readable = self.state.readable();
+        if readable < time {
+            return Some(Refusal::AheadOfMark { readable });
+        }
+        self.full_refusal()
+    }
+
+    /// `Conflict` where this is guarded and the prune, as far as it reaches, would touch its past.
+    fn uncovering_refusal(&self, time: Time) -> Option<Refusal>
+        ensures { result ≡ past_refusal self.now
+            (prune_touches_past self.now.content (prune_reach self.now time)) }
+    {
+        if self.guarded && self.state.prune_touches_past(self.reach(time)) {
+            return Some(Refusal::Conflict);
+        }
+        None
+    }
+
+    fn prune_refused(&self, time: Time) -> Option<Refusal>
+        ensures { result ≡ refusal_of self.now (PruneTo time) }
+    {
+        if self.damaged {
+            return Some(Refusal::Damaged);
+        }
+        let readable = self.state.readable();
+        if readable < time {
+            return Some(Refusal::AheadOfMark { readable });
+        }
+        match self.uncovering_refusal(time) {
+            Some(why) => Some(why),
+            None => self.full_refusal(),
+        }
+    }
+
+    fn hold_refused(&self, time: Time) -> Option<Refusal>
+        ensures { result ≡ refusal_of self.now (HoldAt time) }
+    {
+        if self.damaged {
+            return Some(Refusal::Damaged);
+        }
+        let horizon = self.state.horizon();
+        if time < horizon {
+            return Some(Refusal::TooOld { horizon });
+        }
+        self.full_refusal()
+    }
+
+    fn release_refused(&self, reader: u64, at: Time) -> Option<Refusal>
+        ensures { result ≡ refusal_of self.now (Release reader at) }
+    {
+        if self.damaged {
+            return Some(Refusal::Damaged);
+        }
+        if !is_among(&self.holds, reader, at) {
+            return Some(Refusal::NoHold);
+        }
+        self.full_refusal()
+    }
+
+    /// Why an operation is refused, if it is. It is never refused for want of memory. Cost: O(s + h), s streams, h holds that
+    /// stand, which are looked at where the horizon of a join would rise, and for a release; where this is guarded, for a join
+    /// or merge also that of `conflicts_with` and of `hk_merge::join_touches_past`, for a prune that of
+    /// `ReplicaState::prune_touches_past`.
+    pub fn refusal(&self, op: &Op) -> Option<Refusal>
+        ensures { result ≡ refusal_of self.now op.now }
+    {
+        match op {
+            Op::Start(_) => Some(Refusal::Damaged),
+            Op::Join(fragment) => self.join_refused(fragment),
+            Op::Merge(whole) => self.join_refused(whole),
+            Op::Prune(time) => self.prune_refused(*time),
+            Op::Hold(time) => self.hold_refused(*time),
+            Op::Release { reader, at } => self.release_refused(*reader, *at),
+        }
+    }
+
+    /// What is left by a conflict that a join met: a guarded node refuses such a join.
+    fn meet_conflict(&mut self)
+        requires { self.old.op_count < 2 ^ 62 }
+        ensures { self.new ≡ spec.after_conflict self.old }
+    {
+        if !self.guarded {
+            self.damaged = true;
+            self.op_count += 1;
+        }
+    }
+
+    fn join_fitting(&mut self, fragment: &Fragment) -> Result<(), AllocError>
+        requires { spec.fit_or_full self.old fragment.now ≡ None }
+        ensures { IsApplied self.old (JoinOf fragment.now) self.new result }
+    {
+        match join(&mut self.state, fragment) {
+            Ok(()) => {
+                self.op_count += 1;
+                Ok(())
+            }
+            Err(why) => match why {
+                Refusal::Memory => Err(AllocError),
+                _ => {
+                    self.meet_conflict();
+                    Ok(())
+                }
+            },
+        }
+    }
+
+    /// Joins a fragment, or does nothing where that is refused. Whether it conflicts is seen while it is joined, not tested
+    /// before. It changes nothing where memory is refused.
+    fn join(&mut self, fragment: &Fragment) -> Result<(), AllocError>
+        ensures { IsApplied self.old (JoinOf fragment.now) self.new result }
+    {
+        match self.fit_or_full(fragment) {
+            Some(_) => Ok(()),
+            None => self.join_fitting(fragment),
+        }
+    }
+
+    /// Prunes to a time, or does nothing where that does not fit. It changes nothing where memory is refused.
+    fn prune(&mut self, time: Time) -> Result<(), AllocError>
+        ensures { IsApplied self.old (PruneTo time) self.new result }
+    {
+        match self.prune_unfit(time) {
+            Some(_) => Ok(()),
+            None => self.prune_fitting(time),
+        }
+    }
+
+    fn prune_fitting(&mut self, time: Time) -> Result<(), AllocError>
+        requires { spec.unfit_of self.old (PruneTo time) ≡ None }
+        ensures { MatchResult result (λ _. self.new ≡ effect self.old (PruneTo time)) (λ _. self.new ≡ self.old) }
+    {
+        let reach = self.reach(time);
+        if self.state.prune(reach).is_err() {
+            return Err(AllocError);
+        }
+        self.op_count += 1;
+        Ok(())
+    }
+
+    fn hold(&mut self, at: Time) -> Result<(), AllocError>
+        requires { self.old.op_count < 2 ^ 62 }
+        ensures { MatchResult result (λ _. self.new ≡ effect self.old (HoldAt at)) (λ _. self.new ≡ self.old) }
+    {
+        let reader = self.hold_count + 1;
+        self.holds.push(Hold { reader, at })?;
+        self.hold_count = reader;
+        self.op_count += 1;
+        Ok(())
+    }
+
+    fn release(&mut self, reader: u64, at: Time)
+        requires { self.old.op_count < 2 ^ 62 }
+        ensures { self.new ≡ effect self.old (Release reader at) }
+    {
+        self.holds
+            .retain(|hold| !(hold.reader == reader && hold.at == at));
+        self.op_count += 1;
+    }
+
+    /// Makes an operation of a list, which does nothing where it does not fit; whether it touches the past was tested before
+    /// it was let in. It changes nothing where memory is refused.
+    pub fn apply(&mut self, op: &Op) -> Result<(), AllocError>
+        ensures { MatchResult result (λ _. self.new ≡ content_after_op self.old op.now)
+            (λ _. self.new ≡ self.old) }
+    {
+        match op {
+            Op::Start(_) => Ok(()),
+            Op::Join(fragment) | Op::Merge(fragment) => self.join(fragment),
+            Op::Prune(time) => self.prune(*time),
+            Op::Hold(time) => self.apply_hold(*time),
+            Op::Release { reader, at } => {
+                self.apply_release(*reader, *at);
+                Ok(())
+            }
+        }
+    }
+
+    fn apply_hold(&mut self, at: Time) -> Result<(), AllocError>
+        ensures { IsApplied self.old (HoldAt at) self.new result }
+    {
+        match self.hold_refused(at) {
+            Some(_) => Ok(()),
+            None => self.hold(at),
+        }
+    }
+
+    fn apply_release(&mut self, reader: u64, at: Time)
+        ensures { self.new ≡ content_after_op self.old (Release reader at) }
+    {
+        match self.release_refused(reader, at) {
+            Some(_) => {}
+            None => self.release(reader, at),
+        }
+    }
+
+    /// Whether it met a conflict.
+    pub fn is_damaged(&self) -> bool
+        ensures { result ≡ self.now.damaged }
+    {
+        self.damaged
+    }
+
+    /// How many holds it gave.
+    pub fn hold_count(&self) -> u64
+        ensures count { result ≡ self.now.hold_count }
+        ensures bound { result ≤ 2 ^ 62 }
+    {
+        self.hold_count
+    }
+
+    /// The horizon of its state.
+    pub fn horizon(&self) -> Time
+        ensures { result ≡ self.now.content.horizon }
+    {
+        self.state.horizon()
+    }
+
+    /// The answer to a query at a time.
+    pub fn ask(&self, alloc: Global, time: Time, query: &Query) -> Result<Answer, Refusal>
+        ensures { Answers (node_reply self.now time query.now) result }
+    {
+        if self.damaged {
+            return Err(Refusal::Damaged);
+        }
+        ask(alloc, &self.state, time, query)
+    }
+
+    /// The answer to a query at the readable mark, with that time.
+    pub fn latest(&self, alloc: Global, query: &Query) -> Result<(Time, Answer), Refusal>
+        ensures latest { GivesSeen timed_seen (node_latest self.now query.now) result }
+        ensures err { IfErr result (λ why. (why ≡ Memory) ⊎ (why ≡ Damaged)) }
+    {
+        if self.damaged {
+            return Err(Refusal::Damaged);
+        }
+        latest(alloc, &self.state, query)
+    }
+
+    /// The first page of the rows of a table with keys from a low to a high one, at a time.
+    pub fn page(
+        &self,
+        alloc: Global,
+        time: Time,
+        table: Table,
+        low: Key,
+        high: Key,
+        most: u32,
+    ) -> Result<Page, Refusal>
+        ensures { GivesSeen page_seen (node_page self.now time table low high most) result }
+    {
+        if self.damaged {
+            return Err(Refusal::Damaged);
+        }
+        page(alloc, &self.state, time, table, low, high, most)
+    }
+
+    /// The least time that is held, where a hold stands.
+    fn least_held(&self) -> Option<Time>
+        ensures { result ≡ option_map (λ h. h.at) (spec.least_hold self.now.holds) }
+    {
+        let hold = least_hold(&self.holds)?;
+        Some(hold.at)
+    }
+
+    /// How far it is, and each of its streams, though it be damaged. The only refusal is `Memory`.
+    pub fn streams(&self, alloc: Global) -> Result<StreamsTold, Refusal>
+        ensures ok { IfOk result (λ told. streams_seen told ≡ node_streams self.now) }
+        ensures err { IfErr result (λ why. why ≡ Memory) }
+    {
+        let streams = self.state.got().told(alloc)?;
+        Ok(StreamsTold {
+            log: self.state.config().log(),
+            horizon: self.state.horizon(),
+            readable: self.state.readable(),
+            damaged: self.damaged,
+            operations: self.op_count,
+            least_hold: self.least_held(),
+            streams,
+        })
+    }
+
+    /// From where to where it can be read.
+    pub fn front(&self) -> Result<Front, Refusal>
+        ensures { result ≡ node_front self.now }
+    {
+        if self.damaged {
+            return Err(Refusal::Damaged);
+        }
+        Ok(front_of(&self.state))
+    }
+
+    /// What it holds since a time.
+    pub fn delta_since(&self, alloc: Global, base: Time) -> Result<Fragment, Refusal>
+        ensures { GivesOrMemory (node_delta self.now base) result }
+    {
+        if self.damaged {
+            return Err(Refusal::Damaged);
+        }
+        delta_since(alloc, &self.state, base)
+    }
+
+    /// All that it holds.
+    pub fn whole(&self, alloc: Global) -> Result<Fragment, Refusal>
+        ensures { GivesOrMemory (node_whole self.now) result }
+    {
+        if self.damaged {
+            return Err(Refusal::Damaged);
+        }
+        whole_of(alloc, &self.state)
+    }
+}

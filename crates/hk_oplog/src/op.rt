@@ -1,0 +1,55 @@
+//! The operations of a node.
+
+ghost use Rattle.std.specs.Prelude.{◌≡◌};
+
+use hk_delta::Fragment;
+use hk_types::{Config, Time};
+
+/// A time that stays readable until the hold is released: while it stands, no horizon passes the time. Dropping
+/// it releases nothing.
+#[derive(Debug, PartialEq, Eq, Drop)]
+pub struct Hold {
+    /// The number of the hold. The holds of a node are numbered 1, 2, 3, and no number comes twice.
+    pub reader: u64,
+    /// The time that is held.
+    pub at: Time,
+}
+
+/// What a node is from its start on: the log that it is of, and whether it is guarded.
+#[derive(Clone, Copy, Debug, PartialEq, Eq)]
+pub struct NodeKind {
+    /// The log.
+    pub config: Config,
+    /// Whether a join or merge that conflicts with what the node holds is refused, instead of damaging the node, and so is
+    /// one, or a prune, that touches the past.
+    pub guarded: bool,
+}
+
+impl NodeKind {
+    /// The same, once more. It takes no memory.
+    pub fn again(&self) -> NodeKind
+        ensures { result ≡ self.now }
+    {
+        NodeKind {
+            config: self.config,
+            guarded: self.guarded,
+        }
+    }
+}
+
+/// One operation of a node.
+#[derive(Drop)]
+pub enum Op {
+    /// The start of such a node. It is the first operation of each list, and no other.
+    Start(NodeKind),
+    /// A join of a fragment.
+    Join(Fragment),
+    /// A merge of a state, as the join of the whole of it.
+    Merge(Fragment),
+    /// A prune to a time, or to the least hold that stands where that is lower.
+    Prune(Time),
+    /// A hold at a time.
+    Hold(Time),
+    /// The release of a hold.
+    Release { reader: u64, at: Time },
+}

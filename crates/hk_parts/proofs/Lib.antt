@@ -1,3 +1,0 @@
-pub mod RisingParts
-pub mod CutParts
-pub mod OwnParts

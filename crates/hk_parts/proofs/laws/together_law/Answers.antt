@@ -1,5 +1,0 @@
-use Rattle.hk_parts.proofs.OwnParts.{put_together}
-use Rattle.hk_parts.proofs.laws.together_law.Goals as goal
-
-pub returns : goal.returns
-returns c = put_together

@@ -1,4 +1,0 @@
-pub mod Sizes
-pub mod Cutting
-pub mod Heads
-pub mod Values
