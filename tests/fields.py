@@ -272,6 +272,15 @@ def fields_of_held(hold, time):
     return later(71, [("number", u64(hold)), ("time", u64(time))])
 
 
+def fields_of_feed(frames):
+    """The body of Items, under its own kind."""
+    return later(58, fields_of_items(frames)[2:])
+
+
+def fields_of_fed(operations, new):
+    return later(73, [("operations", u64(operations)), ("new items", u64(new))])
+
+
 def fields_of_later_refused(number, first=0, second=0):
     return later(72, [("number", u8(number)), ("first", u64(first)), ("second", u64(second))])
 

@@ -17,6 +17,8 @@ import vadungsil as va
 from checks import differ, ended, is_built, report
 from client import Node
 from messages import E1, E2, E3
+from packaged import PACKAGE
+from python_servers import Peer
 from staying import PROGRAM, Staying
 from vector_values import is_of_version_2, vectors
 
@@ -27,7 +29,8 @@ ALL = say.items(E1, E2, E3, say.mark(1, 3, 3))
 # What the three versions of ALL count in parts: their bytes in a message, and 128 for each.
 FACT_BYTES = (19 + 7 + 8) + (19 + 7) + (19 + 7) + 3 * 128
 REQUESTS = {"Streams": say.status(), "AskLatest": say.latest(say.get(1, 5)), "Page": say.page(3, 1, 0, 9, 1), "Whole": say.whole(0, 0), "More": say.more(),
-            "AddPart": say.add([]), "JoinParts": say.join_parts(), "MergeParts": say.merge_parts(), "Hold": say.hold(1), "Release": say.release(1)}
+            "AddPart": say.add([]), "JoinParts": say.join_parts(), "MergeParts": say.merge_parts(), "Hold": say.hold(1), "Release": say.release(1),
+            "Feed": say.feed(E1)}
 
 
 def least_hold(link, wanted):
@@ -194,7 +197,7 @@ def damage():
             link.ask(ALL)
             pairs += [("parts that contradict", (link.ask(say.add(wrong)), link.ask(say.merge_parts(**head))), (("added", 1), ("refused", told, 0, 0))),
                       ("whether it is damaged", link.ask(say.status())[1].damaged, after)]
-            for name in ("AskLatest", "Page", "Whole", "MergeParts", "Hold"):
+            for name in ("AskLatest", "Page", "Whole", "MergeParts", "Hold", "Feed"):
                 pairs.append((name, link.ask(REQUESTS[name])[:2] == ("refused", 41), after))
     report("damaged and guarded nodes in version 2", differ(pairs))
 
@@ -322,6 +325,60 @@ def is_broken(call):
     return False
 
 
+def of_version_2(node):
+    """What `items` tells where a node reads version 2: by one request and many, on the port for feeders, and on that for readers."""
+    log = va.LogWriter(7, 1)
+    first, second = log.commit([(1, 5, 9, b"A")]), log.commit([(1, 6, 9, b"B")])
+    told = lambda it: (it, it.new)
+
+    async def gathered():
+        async with va.AsyncNode(node.port) as it:
+            return [told(await it.items([first])), [told(of) for of in await asyncio.gather(*(it.items([second, second, None]) for _ in range(3)))]]
+
+    with va.Node(node.feed_port) as feeder, va.Node(node.read_port) as reader, va.Node(node.port, messages=1) as old:
+        pairs = [("two items", told(feeder.items([first, *log.marks()[:0], va.Mark(7, 1, 1, 1)])), (2, 2)), ("again", told(feeder.items([first, va.encode(va.Mark(7, 1, 1, 1), 1)])), (3, 0)),
+                 ("none", told(feeder.items([])), (4, 0)), ("in version 1", told(old.items([first])), (5, None)), ("by tasks", asyncio.run(gathered()), [(6, 0), [(7, 2), (8, 0), (9, 0)]])]
+        with feeder.pipeline() as pipe:
+            laters = [pipe.items([first, log.marks()[0]]), pipe.front(), pipe.items([*log.marks()])]
+        pairs += [("in a pipeline", [told(laters[0].result()), laters[1].result(), told(laters[2].result())], [(10, 1), va.Front(0, 2), (11, 0)]),
+                  ("of another log", refusal_of(lambda: feeder.items([va.Mark(8, 1, 0, 0)])), 20), ("no frame", refusal_of(lambda: feeder.items([b"\0\0\0\x1c" + b"\7" * 28])), 3),
+                  ("and behind it", told(feeder.items([first])), (12, 0)), ("a reader", refusal_of(lambda: reader.items([first])), 4)]
+    return pairs
+
+
+def of_version_1(node):
+    """The same of a node that reads version 1 alone: it is asked once, which ends a link, or told by the caller."""
+    first = va.LogWriter(7, 1).commit([(1, 5, 9, b"A")])
+
+    async def gathered():
+        async with va.AsyncNode(node.port) as it:
+            return [(of, of.new) for of in await asyncio.gather(*(it.items([first]) for _ in range(3)))]
+
+    with va.Node(node.port) as asking, va.Node(node.port, messages=1) as knowing, va.Node(node.port, messages=2) as wrong:
+        found = [asking.items([first]), asking.items([first]), knowing.items([first])]
+        pairs = [("items", [(it, it.new) for it in found], [(2, None), (3, None), (4, None)]), ("wrong", refusal_of(lambda: wrong.items([first])), 3),
+                 ("and then it is asked", (wrong.items([first]), wrong.items([first]).new), (5, None)), ("by tasks", asyncio.run(gathered()), [(7, None), (8, None), (9, None)])]
+        with wrong.pipeline() as pipe:
+            later = pipe.items([first])
+        pairs.append(("in a pipeline", (later.result(), later.result().new), (10, None)))
+    return pairs + [("ends", sorted(node.line() for _ in range(7)), ["ended 0"] * 3 + ["ended 3"] * 4)]
+
+
+def python_feeds():
+    """`items` of the Python client tells how many were new where the node reads version 2, and so does its command."""
+    with Staying(4, *LATER, reading=1, feeding=1) as node:
+        pairs = of_version_2(node)
+        for words, told in (((), "new 0 of 2\n"), (("--messages", "2"), "new 0 of 2\n"), (("--messages", "1"), "")):
+            done = subprocess.run([sys.executable, "-m", "vadungsil", "--port", str(node.port), "push", *words], input=E1 + say.mark(1, 1, 1), cwd=PACKAGE, capture_output=True, timeout=LIMIT, check=False)
+            pairs.append((f"push {words}", (done.stdout[:5], done.stderr.decode(), done.returncode), (b"done ", told, 0)))
+    with Staying(4) as node:
+        pairs += [(f"version 1: {it}", got, wanted) for it, got, wanted in of_version_1(node)]
+    lying = va.later.encode_reply(va.later.Fed(2, 2))
+    with Peer([(1, 0, False)], reply=lying) as peer, va.Node(peer.port, messages=2) as node:
+        pairs.append(("more new items than were sent", refusal_of(lambda: node.items([E1])), 8))
+    report("items of the Python client, and how many of them were new", differ(pairs))
+
+
 # ---------------------------------------------------------------- the commands
 
 def whole_frame(link):
@@ -413,7 +470,7 @@ def commands():
     report("pull, save and load in parts", differ(pairs))
 
 
-CHECKS = (sessions, faults, without_it, links_that_only_read, holds, a_limit_for_all, many_at_once, damage, python_node, commands)
+CHECKS = (sessions, faults, without_it, links_that_only_read, holds, a_limit_for_all, many_at_once, damage, python_node, python_feeds, commands)
 
 
 def main():

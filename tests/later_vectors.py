@@ -89,6 +89,8 @@ def replies():
                       [f"last part {len(facts)} base {head.get('base', 0)}"]))
     found += [(f"added {n}", {"kind": "added", "count": n}, of.later(70, [("count", of.u64(n))]), [f"added {n}"]) for n in (0, MOST)]
     found += [(f"held {n} at {time}", {"kind": "held", "number": n, "time": time}, of.fields_of_held(n, time), [f"held {n} at {time}"]) for n, time in ((1, 0), (MOST, LAST))]
+    found += [(f"fed {ops}, {new} new", {"kind": "fed", "operations": ops, "new": new}, of.fields_of_fed(ops, new), [f"fed {ops} new {new}"])
+              for ops, new in ((1, 0), (2, 65_536), (LAST, MOST))]
     found += refusals()
     return [{"name": name, "value": value, "bytes": of.spelled(fields).hex(), "lines": told} for name, value, fields, told in found]
 
@@ -148,6 +150,8 @@ def listed(cases):
 def request_faults():
     asked, page = of.later(49, of.get(1, 5)), of.fields_of_page_of(1, 1, 0, 9, 1)
     hold, whole = of.later(56, [("time", of.u64(1))]), of.fields_of_whole(0, 1)
+    entry, mark = of.fields_of_new_entry(1, 2, [(1, 5, 9, b"a")], [(1, 5, 1)]), of.fields_of_mark(1, 1, 1)
+    feed = of.fields_of_feed([of.spelled(entry), of.spelled(mark)])
     cases = heads_of_frames(48, 64) + [
         ("streams with a byte", of.framed(b"\2\x30\0"), 10), ("more with a byte", of.framed(b"\2\x34\0"), 10), ("query 0", of.patched(asked, "query", b"\0"), 6),
         ("query 5", of.patched(asked, "query", b"\5"), 6), ("query with a byte", of.spelled(asked + [("more", b"\0")]), 10), ("no query", of.framed(b"\2\x31"), 10),
@@ -157,18 +161,23 @@ def request_faults():
         ("base below the horizon", of.spelled(of.later(54, of.fields_of_head(base=2, horizon=3, streams=[(3, 3, [], [])]))), 6),
         ("base of a merge", of.spelled(of.later(55, of.fields_of_head(base=1, streams=[(3, 3, [], [])]))), 6), ("time of a hold", of.patched(hold, "time", OVER), 6),
         ("a hold without a time", of.framed(b"\2\x38"), 10), ("hold 0", of.spelled(of.later(57, [("number", of.u64(0))])), 6),
-        ("a number that is cut", of.spelled(of.later(57, [("number", b"\1")])), 10)]
+        ("a number that is cut", of.spelled(of.later(57, [("number", b"\1")])), 10), ("no count of what is fed", of.framed(b"\2\x3a"), 10),
+        ("count of what is fed", of.patched(feed, "count", of.u32(65_537)), 8), ("items that are not there", of.patched(feed, "count", of.u32(3)), 10),
+        ("items that are not counted", of.patched(feed, "count", of.u32(1)), 10)]
+    cases += [(f"feed: {name}", of.spelled(of.fields_of_feed([of.patched(entry, field, text)])), number) for name, field, text, number in (
+        ("an item's version", "version", b"\3", 3), ("an item's kind", "kind", b"\3", 4), ("an item's stream", "stream", of.u16(65), 5),
+        ("an item's number", "number", of.u64(3), 6), ("an item's time", "time", OVER, 6), ("an item's groups", "groups of rows", of.u16(1_025), 8))]
     cases += [(f"add: {name}", data, number) for name, data, number in part_faults(lambda fields: of.later(53, fields))]
     cases += [("add: a byte behind", of.spelled(of.later(53, of.fields_of_facts(FACTS)) + [("more", b"\0")]), 10)]
     for kind in (54, 55):
         cases += [(f"{'join' if kind == 54 else 'merge'} parts: {name}", data, number) for name, data, number in head_faults(lambda fields: of.later(kind, fields))]
-    return listed(cases + cuts("a page", of.spelled(page)) + cuts("a part", of.spelled(of.later(53, of.fields_of_facts(FACTS)))))
+    return listed(cases + cuts("a page", of.spelled(page)) + cuts("a part", of.spelled(of.later(53, of.fields_of_facts(FACTS)))) + cuts("a feed", of.spelled(feed)))
 
 
 def reply_faults():
     told = of.fields_of_told(1, 3, 9, 2, [(3, 3, 0, 0), (0, 4, 1, 2)])
     page, rows = of.fields_of_page([(5, 9, b"a"), (6, 9, b"b")], 1), [("kind of answer", b"\2")]
-    part, refused = of.fields_of_part(FACTS, 1), of.fields_of_later_refused(47)
+    part, refused, fed = of.fields_of_part(FACTS, 1), of.fields_of_later_refused(47), of.fields_of_fed(2, 1)
     cases = heads_of_frames(64, 48) + [
         ("done with 0", of.spelled(of.later(64, [("operations", of.u64(0))])), 6), ("done above the most", of.spelled(of.later(64, [("operations", OVER)])), 6),
         ("horizon above readable", of.patched(told, "horizon", of.u64(4)), 6), ("readable above the last time", of.patched(told, "readable", OVER), 6),
@@ -179,7 +188,9 @@ def reply_faults():
         ("time of the latest", of.spelled(of.later(66, [("time", OVER)] + rows)), 6), ("an answer of no kind", of.spelled(of.later(66, [("time", of.u64(1)), ("kind", b"\4")])), 6),
         ("more 2", of.patched(page, "more", b"\2"), 6), ("one key twice", of.patched(page, "key", of.u64(5), 1), 7), ("keys that fall", of.patched(page, "key", of.u64(4), 1), 7),
         ("rows that are not there", of.ended_by(page, "count of rows", b"\xff" * 4), 10), ("no facts to come", of.patched(part, "facts to come", of.u64(0)), 6),
-        ("added without a number", of.framed(b"\2\x46"), 10), ("hold 0", of.spelled(of.fields_of_held(0, 1)), 6), ("time of a hold", of.spelled(of.fields_of_held(1, LAST + 1)), 6),
+        ("added without a number", of.framed(b"\2\x46"), 10), ("fed with 0 operations", of.patched(fed, "operations", of.u64(0)), 6),
+        ("fed with operations above the most", of.patched(fed, "operations", OVER), 6), ("fed without how many were new", of.spelled(fed[:-1]), 10),
+        ("fed and a byte", of.spelled(fed + [("more", b"\0")]), 10), ("hold 0", of.spelled(of.fields_of_held(0, 1)), 6), ("time of a hold", of.spelled(of.fields_of_held(1, LAST + 1)), 6),
         ("47 with a field", of.spelled(of.fields_of_later_refused(47, 1)), 6), ("46 with a second field", of.spelled(of.fields_of_later_refused(46, 1, 1)), 6),
         ("a field that is not 0", of.spelled(of.fields_of_later_refused(1, 1)), 6), ("a base above the last time", of.spelled(of.fields_of_later_refused(22, LAST + 1, 1)), 6)]
     cases += [(f"refusal {number}", of.patched(refused, "number", of.u8(number)), 6) for number in (0, 11, 19, 27, 30, 36, 39, 48, 89, 91, 255)]

@@ -115,15 +115,19 @@ def value_of_fragment(base=0, horizon=0, streams=((0, 0, (), ()),), facts=(), lo
             "facts": [[table, key, born, None if row is None else [row[0], row[1].hex()], died] for table, key, born, row, died in facts]}
 
 
-def items_request(items_, version):
-    return of.spelled(of.fields_of_items([reference.frame(it, version) for it in items_]))
+def items_request(items_, version, fields=of.fields_of_items):
+    return of.spelled(fields([reference.frame(it, version) for it in items_]))
+
+
+def items_requests(kind, fields):
+    """Requests with the body of Items."""
+    return [{"name": name, "value": {"kind": kind, "items": [value_of(it) for it in chosen]}, "bytes": items_request(chosen, 2, fields).hex(),
+             "bytes_of_version1_items": items_request(chosen, 1, fields).hex()}
+            for name, chosen in ((f"no {kind}", []), ("an entry and its mark", [E1, reference.Mark(7, 1, 1, 1)]), ("many items", [it for _, it in ITEMS[:6]]))]
 
 
 def requests():
-    found = []
-    for name, chosen in (("no items", []), ("an entry and its mark", [E1, reference.Mark(7, 1, 1, 1)]), ("many items", [it for _, it in ITEMS[:6]])):
-        found.append({"name": name, "value": {"kind": "items", "items": [value_of(it) for it in chosen]}, "bytes": items_request(chosen, 2).hex(),
-                      "bytes_of_version1_items": items_request(chosen, 1).hex()})
+    found = items_requests("items", of.fields_of_items)
     found.append({"name": "front", "value": {"kind": "front"}, "bytes": of.front().hex()})
     found.append({"name": "full", "value": {"kind": "full"}, "bytes": of.full().hex()})
     for time in (0, 4, LAST):
@@ -431,6 +435,18 @@ class LaterSession(Session):
         self.came += facts
         return self.later_step(request, of.later(70, [("count", of.u64(len(self.came)))]))
 
+    def is_new(self, item):
+        """Whether an item tells something new to what is held: a number that isn't taken, or of a mark what changes its stream."""
+        before, after = (reference.content_of(items, self.streams, 0) for items in (self.items, [*self.items, item]))
+        return before[3] != after[3]
+
+    def feed(self, *found, version=2):
+        """Items, each of them compared with what was held before the first."""
+        new = sum(map(self.is_new, found))
+        self.items += [it for it in found if not any(value_of(it) == value_of(known) for known in self.items)]
+        self.ops += 1
+        self.later_step(of.fields_of_feed([reference.frame(it, version) for it in found]), of.fields_of_fed(self.ops, new))
+
     def take_parts(self, other, base, refused=None, is_merge=False, count=None):
         """Joins what another holds, of which all facts came, or is refused. The head tells of as many facts as came, or of another number."""
         head = {name: it for name, it in other.fragment(base).items() if name != "facts"}
@@ -621,6 +637,31 @@ def later_holds():
     return it
 
 
+def later_feeds():
+    """Items of which the feeder is told how many were new: entries that stand, twice in one request, and behind a gap; marks that close more, no
+    more, or wait; and items that are refused, in version 2."""
+    it, mark = LaterSession("items and how many were new", streams=2), lambda stream, n, m: reference.Mark(7, stream, n, m)
+    it.feed()
+    it.feed(E1, mark(1, 1, 1))
+    it.feed(E1, mark(1, 1, 1))
+    it.feed(E1, mark(1, 1, 1), E2, version=1)
+    it.feed(mark(1, 2, 2), mark(1, 2, 3), mark(1, 1, 3), mark(2, 0, 0))
+    it.take(mark(2, 0, 2))
+    it.feed(mark(2, 0, 2), mark(2, 0, 1), mark(2, 0, 3))
+    fourth = entry(4, 5, [(1, 9, 9, b"d")])
+    it.feed(fourth, fourth, mark(1, 4, 6), mark(1, 4, 6))
+    it.feed(fourth, mark(1, 4, 6), mark(1, 4, 5), mark(1, 4, 7), mark(1, 5, 9))
+    it.feed(entry(3, 4, [(1, 6, 9, b"c")]))
+    it.feed(entry(3, 4, [(1, 6, 9, b"c")]), fourth, mark(1, 4, 7))
+    it.status()
+    it.prune(3)
+    it.feed(E1, E2, mark(1, 1, 1), entry(5, 9, [(1, 5, 9, b"e")], [(1, 5, 2)]))
+    it.later_refuse(of.fields_of_feed([reference.frame(reference.Mark(8, 1, 0, 1), 2)]), 20)
+    it.later_refuse(of.fields_of_feed([reference.frame(E1, 2), reference.frame(mark(3, 0, 1), 2)]), 21)
+    it.status()
+    return it
+
+
 def later_faulty(name, data, number):
     it = LaterSession(name)
     it.take(E1, reference.Mark(7, 1, 1, 1))
@@ -631,7 +672,8 @@ def later_faulty(name, data, number):
 
 def later_sessions():
     """Sessions with a node that reads both versions. A fault of form is told in version 1 in either."""
-    found = [later_parts(), later_holds(), later_faulty("facts of a part that fall", of.spelled(of.later(53, of.fields_of_facts([FACT, FACT]))), 7),
+    found = [later_parts(), later_holds(), later_feeds(), later_faulty("an item of version 3", of.spelled(of.fields_of_feed([of.framed(b"\3\2" + bytes(26))])), 3),
+             later_faulty("facts of a part that fall", of.spelled(of.later(53, of.fields_of_facts([FACT, FACT]))), 7),
              later_faulty("a kind of version 1 in version 2", of.framed(b"\2\x11"), 4), later_faulty("a version 3", of.framed(b"\3\x30"), 3),
              later_faulty("a half of a frame", of.spelled(of.later(52))[:5], 1)]
     return [it.told() for it in found]
@@ -643,7 +685,8 @@ FACT = (1, 5, 1, (9, b"a"), None)
 # ---------------------------------------------------------------- files
 
 FILES = {"items": items, "item_faults": item_faults, "requests": requests, "request_faults": request_faults, "replies": replies,
-         "reply_faults": reply_faults, "sessions": sessions, "later_requests": later.requests, "later_request_faults": later.request_faults,
+         "reply_faults": reply_faults, "sessions": sessions,
+         "later_requests": lambda: later.requests() + items_requests("feed", of.fields_of_feed), "later_request_faults": later.request_faults,
          "later_replies": later.replies, "later_reply_faults": later.reply_faults, "later_sessions": later_sessions}
 
 

@@ -161,6 +161,10 @@ def release(number):
     return later(vadungsil.later.Release(number))
 
 
+def feed(*frames):
+    return later(vadungsil.later.Feed(frames))
+
+
 # ---- replies
 
 def done(ops):
@@ -193,6 +197,8 @@ def read_later(it):
     later_ = vadungsil.later
     if isinstance(it, later_.Done):
         return "done", it.operations
+    if isinstance(it, later_.Fed):
+        return "fed", it.operations, it.new
     if isinstance(it, later_.Held):
         return "held", it.number, it.time
     if isinstance(it, later_.Added):

@@ -204,7 +204,7 @@ def links_that_feed():
     with Staying(1, *later, reading=1, feeding=1) as node, node.link() as link:
         with node.link(node.feed_port) as feeder:
             pairs = [("items", feeder.ask(PUSHED), ("done", 2)), ("an ask", feeder.ask(GET), ROW), ("its front", feeder.ask(say.front()), ("front", 0, 1)),
-                     ("the status", feeder.ask(say.status())[0], "streams"), ("a whole", feeder.ask(say.whole(0, 0))[0], "last part")]
+                     ("the status", feeder.ask(say.status())[0], "streams"), ("a whole", feeder.ask(say.whole(0, 0))[0], "last part"), ("known items", feeder.ask(say.feed(E1, say.mark(1, 1, 1))), ("fed", 3, 0))]
         pairs.append(("its end", node.line(), "ended 0"))
         changes = {name: change for name, change in CHANGES.items() if name != "items"}
         for name, change in (changes | {"a part": say.add([]), "a hold": say.hold(1), "a release": say.release(1)}).items():
@@ -212,7 +212,7 @@ def links_that_feed():
                 feeder.send(GET + change + GET)
                 pairs += [(f"{name}: an ask before it", feeder.reply(), ROW), (name, feeder.reply()[:2], ("refused", 4)), (f"{name}: the end", feeder.reply(), None)]
             pairs.append((f"{name}: its line", node.line(), "ended 4"))
-        pairs.append(("nothing else changed", link.ask(say.items()), ("done", 3)))
+        pairs.append(("nothing else changed", link.ask(say.items()), ("done", 4)))
         report("links that feed", differ(pairs))
 
 

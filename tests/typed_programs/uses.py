@@ -5,8 +5,8 @@ import asyncio
 from typing import Iterator, List, Optional, Tuple, Union
 
 import vadungsil
-from vadungsil import (AsyncNode, Count, Entry, Feeder, Fragment, Front, Get, Hold, KeyRow, LinkBroken, LogWriter, Mark, Node, Nodes, Range,
-                       Refused, Row, Stream, export, later)
+from vadungsil import (AsyncNode, Count, Entry, Feeder, Fragment, Front, Get, Hold, KeyRow, LinkBroken, Later, LogWriter, Mark, Node, Nodes,
+                       Operations, Range, Refused, Row, Stream, export, later)
 from vadungsil.embedded import Replica
 from vadungsil.web import Server
 
@@ -20,7 +20,9 @@ def written(log: LogWriter, node: Node) -> int:
     operations: int = node.items([entry, it.entry, *marks])
     if entry is not None:
         operations += node.items([vadungsil.encode(entry)])
-    return operations
+    told: Operations = node.items(marks)
+    new: Optional[int] = told.new
+    return operations + (new or 0)
 
 
 def read(node: Node) -> Tuple[Optional[Row], List[KeyRow], int]:
@@ -49,6 +51,7 @@ def later_version(node: Node, other: Node) -> Optional[Row]:
     time, row = node.latest(Get(1, 5))
     _, rows = node.latest(Range(1))
     _, count = node.latest(Count(1))
+    later.encode_request(later.Feed(()))
     page: later.Page = node.page(1, at=time, most=3)
     each: Iterator[KeyRow] = node.rows(1, at=time)
     keys: List[int] = [it.key for it in each] + [it.key for it in page.rows] + [it.key for it in rows]
@@ -62,8 +65,8 @@ def later_version(node: Node, other: Node) -> Optional[Row]:
 def many(node: Node) -> List[Optional[Row]]:
     with node.pipeline() as pipe:
         asked = [pipe.get(1, key) for key in range(5, 8)]
-        count = pipe.count(1)
-    print(count.result() + 1)
+        counts: List[Later[int]] = [pipe.count(1), pipe.items([])]
+    print(counts[0].result() + 1)
     nodes = Nodes([47001, "other:47001"])
     print(nodes.latest() + nodes.at().count(1), export(nodes, "rows.csv", "csv", 1, [1]) + 1)
     return [it.result() for it in asked]
@@ -72,6 +75,7 @@ def many(node: Node) -> List[Optional[Row]]:
 async def side_by_side() -> Tuple[Optional[Row], int]:
     async with AsyncNode(47001) as node:
         row, count = await asyncio.gather(node.get(1, 5), node.count(1))
+        count += (await node.items([])).new or 0
         time, newest = await node.latest(Get(1, 5))
         async with node.at(time) as moment:
             rows: List[KeyRow] = await moment.range(1)

@@ -37,7 +37,8 @@ def parser() -> argparse.ArgumentParser:
             of.add_argument(place, type=int)
         of.add_argument("--at", type=int, metavar="T", help="the time; without it the readable mark")
     commands.add_parser("front", help="from where to where can be read")
-    commands.add_parser("push", help="send the item frames of standard input, at most 65,536")
+    of = commands.add_parser("push", help="send the item frames of standard input, at most 65,536")
+    of.add_argument("--messages", type=int, choices=(1, 2), help="the latest version of messages that the node reads; else it is asked")
     commands.add_parser("whole", help="what the node holds, in a line")
     of = commands.add_parser("delta", help="what happened since a time, in a line")
     of.add_argument("base", type=int)
@@ -78,7 +79,10 @@ def told(node: Node, words: argparse.Namespace, frames: Bytes) -> str:
         feeder = Feeder()
         found = [frame for _, frame in feeder.feed_frames(frames)]
         feeder.finish()
-        return f"done {node.items(found)}"
+        operations = node.items(found)
+        if operations.new is not None:
+            print(f"new {operations.new} of {len(found)}", file=sys.stderr)
+        return f"done {operations}"
     if words.command == "whole":
         return node.whole().line()
     if words.command == "delta":
@@ -98,8 +102,9 @@ def run(words: argparse.Namespace) -> str:
                 return asked(nodes, words)
         with Node(addresses[0], words.limit, **certificates) as node:
             return asked(node, words)
-    with Node(addresses[0], words.limit, **certificates) as node:
-        return told(node, words, sys.stdin.buffer.read() if words.command == "push" else b"")
+    is_push = words.command == "push"
+    with Node(addresses[0], words.limit, **certificates, messages=words.messages if is_push else None) as node:
+        return told(node, words, sys.stdin.buffer.read() if is_push else b"")
 
 
 def main(arguments: Optional[List[str]] = None) -> int:

@@ -10,12 +10,12 @@ import ssl
 from collections import deque
 from typing import Any, Awaitable, Deque, List, Optional, Tuple
 
-from .errors import Fault, LinkBroken, TimeLimit
+from .errors import Fault, LinkBroken, Refused, TimeLimit
 from .link import PAUSE, Address, Certificates, address_of, is_joined_with_itself, security_of
 from .messages import MOST_MESSAGE
 from .node import _ends_link
-from .requests import Moment, Read, Requests, ask_frame
-from .values import LAST_TIME, Fragment, Front, KeyRow, Page, Query, Row, Stream, Streams, time_of
+from .requests import STREAMS, Moment, Read, Requests, ask_frame, feeding, read_streams, version_seen
+from .values import LAST_TIME, Fragment, Front, KeyRow, Operations, Page, Query, Row, Stream, Streams, number_in, time_of
 
 
 class _AsyncLink:
@@ -66,14 +66,16 @@ class _AsyncLink:
 
 class AsyncNode(Requests[Awaitable[Optional[Row]], Awaitable[List[KeyRow]], Awaitable[int], Awaitable[Front], Awaitable[Fragment],
                          Awaitable[Streams], Awaitable[Page], Awaitable[Tuple[int, Optional[Row]]], Awaitable[Tuple[int, List[KeyRow]]],
-                         Awaitable[Tuple[int, int]]]):
+                         Awaitable[Tuple[int, int]], Awaitable[Operations]]):
     """As `Node`, with awaitable answers: `async with AsyncNode(47000) as node:`, `await node.get(1, 5)`. `asyncio.gather` of many
     questions is a pipeline. `limit` is the most seconds from a request to its reply; past it the link is closed."""
 
     def __init__(self, address: Address, limit: Optional[float] = 20.0, tries: int = 2, wait: float = 3.0, *, ca: Optional[str] = None,
-                 cert: Optional[str] = None, key: Optional[str] = None) -> None:
+                 cert: Optional[str] = None, key: Optional[str] = None, messages: Optional[int] = None) -> None:
         certificates = Certificates(ca, cert, key)
         certificates.see([address])
+        self._version = None if messages is None else number_in(messages, 1, 2, "messages")
+        self._learning: Optional[asyncio.Lock] = None
         self.address, self.limit, self.tries, self.wait = address_of(address), limit, max(tries, 1), wait
         self._security = security_of(address, certificates)
         self._link: Optional[_AsyncLink] = None
@@ -92,6 +94,30 @@ class AsyncNode(Requests[Awaitable[Optional[Row]], Awaitable[List[KeyRow]], Awai
             except LinkBroken:
                 if not left:
                     raise
+
+    async def _feed(self, body: bytes) -> Any:
+        version = await self._latest_version()
+        try:
+            return await self._call(*feeding(body, version))
+        except Fault as fault:
+            if (fault.number, version) == (3, 2):      # it may have been started anew, without messages of version 2
+                self._version = None
+            raise
+
+    async def _latest_version(self) -> int:
+        """The latest version of messages that the node reads, which one task asks."""
+        if self._learning is None:
+            self._learning = asyncio.Lock()
+        async with self._learning:
+            version = self._version
+            if version is None:
+                try:
+                    await self._call(STREAMS, read_streams)
+                    version = 2
+                except Refused as refused:
+                    version = version_seen(refused)
+                self._version = version
+            return version
 
     async def _read(self, at: Optional[int], query: Query, read: Read) -> Any:
         time = (await self.front()).readable if at is None else at

@@ -58,7 +58,7 @@ class Replica(Node):
     def __init__(self, log: int, streams: int, library: Optional[str] = None) -> None:
         self._handle, self._buffer, self._size = _Handle(None, False), ctypes.create_string_buffer(ROOM), ctypes.c_size_t()
         self._library = _library(library)
-        super().__init__(1)
+        super().__init__(1, messages=1)
         self.log, self.count_of_streams = number_in(log, 0, 2 ** 64 - 1, "log"), number_in(streams, 0, 2 ** 16 - 1, "streams")
         self._found = _Found()
         self._done(self._library.hk_open(self._handle, log, streams))

@@ -6,12 +6,12 @@ from __future__ import annotations
 from . import messages as _messages
 from .errors import Refused
 from .reading import Bytes
-from .values import (MOST_ROWS, PART_BYTES, AddPart, Added, AskHold, AskLatest, AskPage, AskStreams, FragmentHead as Head, Held, JoinParts,
-                     LastPart, LaterDone as Done, LaterReply, LaterRequest, Latest, MergeParts, More, Page, Part, Release, Reply, Request,
+from .values import (MOST_ROWS, PART_BYTES, AddPart, Added, AskHold, AskLatest, AskPage, AskStreams, Fed, Feed, FragmentHead as Head, Held,
+                     JoinParts, LastPart, LaterDone as Done, LaterReply, LaterRequest, Latest, MergeParts, More, Page, Part, Release, Reply, Request,
                      Streams, StreamTold, Whole)
 
-__all__ = ["MOST_ROWS", "PART_BYTES", "AddPart", "Added", "AskHold", "AskLatest", "AskPage", "AskStreams", "Done", "Head", "Held",
-           "JoinParts", "LastPart", "LaterReply", "LaterRequest", "Latest", "MergeParts", "More", "Page", "Part", "Refused", "Release",
+__all__ = ["MOST_ROWS", "PART_BYTES", "AddPart", "Added", "AskHold", "AskLatest", "AskPage", "AskStreams", "Done", "Fed", "Feed",
+           "Head", "Held", "JoinParts", "LastPart", "LaterReply", "LaterRequest", "Latest", "MergeParts", "More", "Page", "Part", "Refused", "Release",
            "Reply", "ReplyFeeder", "Request", "RequestFeeder", "StreamTold", "Streams", "Whole", "decode_reply", "decode_request",
            "encode_reply", "encode_request", "reply_of", "request_of"]
 

@@ -10,8 +10,8 @@ from .items import LEAST_REST, MOST_REST, encode
 from .reading import Bytes, FrameFeeder, Reader, Value, whole_frame
 from .reasons import REASONS
 from .values import (LAST_TIME, MOST_STREAMS, AddPart, Added, Answer, Ask, AskFront, AskHold, AskLatest, AskPage, AskStreams, ByTag, Count,
-                     Delta, Done, Fact, Fragment, FragmentHead, Front, Full, Get, Held, Item, Items, JoinParts, JoinThis, KeyRow, LastPart,
-                     LaterDone, Latest, MergeParts, MergeThis, More, Number, One, Page, Part, Prune, Query, Range, Release, Reply, Request,
+                     Delta, Done, Fact, Fed, Feed, Fragment, FragmentHead, Front, Full, Get, Held, Item, Items, JoinParts, JoinThis, KeyRow,
+                     LastPart, LaterDone, Latest, MergeParts, MergeThis, More, Number, One, Page, Part, Prune, Query, Range, Release, Reply, Request,
                      Row, Rows, Stream, Streams, StreamTold, VersionKey, Whole)
 
 MOST_MESSAGE = 2 ** 28
@@ -115,10 +115,11 @@ def _refused_bytes(why: Refused, version: int) -> bytes:
 def items_frame(frames: Iterable[Union[Item, Bytes, None]], version: int = 2) -> bytes:
     """The request Items of items, or of the bytes of their frames, which are taken as they stand. None, which is what a commit that writes
     nothing gives, is passed over."""
-    return framed(16, _items_bytes(frames, version))
+    return framed(16, items_bytes(frames, version))
 
 
-def _items_bytes(frames: Iterable[Union[Item, Bytes, None]], version: int) -> bytes:
+def items_bytes(frames: Iterable[Union[Item, Bytes, None]], version: int = 2) -> bytes:
+    """The body of Items and of Feed: their count, and the frame of each."""
     texts: List[bytes] = []
     for frame in frames:
         if frame is not None:
@@ -380,7 +381,7 @@ class Kind(NamedTuple):
 
 
 REQUESTS: Dict[int, Kind] = {
-    16: Kind((Items,), lambda it: _items_bytes(it.items, 2), _items_at),
+    16: Kind((Items,), lambda it: items_bytes(it.items), _items_at),
     17: Kind((AskFront,), lambda it: b"", lambda _: AskFront()),
     18: Kind((Delta,), lambda it: _U64(it.base), lambda it: Delta(it.time("base"))),
     19: Kind((Full,), lambda it: b"", lambda _: Full()),
@@ -398,6 +399,7 @@ REQUESTS: Dict[int, Kind] = {
     55: Kind((MergeParts,), lambda it: _counted_head_bytes(it.head), lambda it: MergeParts(_of_all(_counted_head_at(it), it))),
     56: Kind((AskHold,), lambda it: _U64(it.time), lambda it: AskHold(it.time("time"))),
     57: Kind((Release,), lambda it: _U64(it.number), lambda it: Release(_positive_at(it, "number of a hold"))),
+    58: Kind((Feed,), lambda it: items_bytes(it.items), lambda it: Feed(_items_at(it).items)),
 }
 
 REPLIES: Dict[int, Kind] = {
@@ -416,6 +418,7 @@ REPLIES: Dict[int, Kind] = {
     71: Kind((Held,), lambda it: struct.pack(">QQ", it.number, it.time),
              lambda it: Held(_positive_at(it, "number of a hold"), it.time("time"))),
     72: Kind((), lambda it: _refused_bytes(it, 2), lambda it: _refused_at(it, 2)),
+    73: Kind((Fed,), lambda it: struct.pack(">QQ", it.operations, it.new), lambda it: Fed(_operations_at(it), it.u64("new items"))),
 }
 
 
@@ -428,12 +431,10 @@ _REQUEST_KINDS, _REPLY_KINDS = _kinds_by_value(REQUESTS), _kinds_by_value(REPLIE
 
 def encode_request(request: Request, version: int = 2) -> bytes:
     """The frame of a request; `version` is that of its items."""
-    if isinstance(request, Items):
-        return items_frame(request.items, version)
     kind = _REQUEST_KINDS.get(type(request))
     if kind is None:
         raise TypeError(f"no request: {type(request).__name__}")
-    return framed(kind, REQUESTS[kind].write(request))
+    return framed(kind, items_bytes(request.items, version) if isinstance(request, Items) else REQUESTS[kind].write(request))
 
 
 def encode_reply(reply: Reply, version: int = 1) -> bytes:

@@ -5,14 +5,14 @@ import threading
 from types import TracebackType
 from typing import Any, Generic, Iterable, Iterator, List, Optional, Tuple, Type, TypeVar
 
-from .errors import Fault, LinkBroken, TimeLimit
+from .errors import Fault, LinkBroken, Refused, TimeLimit
 from .link import Address, Certificates, Link, address_of, security_of
-from .requests import FRONT, Moment, Read, Requests, ask_frame, read_front
+from .requests import FRONT, STREAMS, Moment, Read, Requests, ask_frame, feeding, read_front, read_streams, version_seen
 from .transfer import AnyPart, Hold, parts_from, parts_to
-from .values import (LAST_KEY, LAST_TIME, PART_BYTES, Fact, Fragment, FragmentHead, Front, KeyRow, LastPart, Page, Query, Row,
-                     Stream, Streams, time_of)
+from .values import (LAST_KEY, LAST_TIME, PART_BYTES, Fact, Fragment, FragmentHead, Front, KeyRow, LastPart, Operations, Page, Query, Row,
+                     Stream, Streams, number_in, time_of)
 
-Result = TypeVar("Result")
+Result = TypeVar("Result", covariant=True)
 Own = TypeVar("Own", bound="Node")
 Rows_ = List[KeyRow]
 
@@ -39,7 +39,7 @@ class Later(Generic[Result]):
 
 
 class Node(Requests[Optional[Row], Rows_, int, Front, Fragment,
-                    Streams, Page, Tuple[int, Optional[Row]], Tuple[int, Rows_], Tuple[int, int]]):
+                    Streams, Page, Tuple[int, Optional[Row]], Tuple[int, Rows_], Tuple[int, int], Operations]):
     """A node: `Node(47000)`, `Node("127.0.0.1:47000")`. The link is opened with the first request, kept, and opened anew where it broke;
     a request whose reply did not come is then made once more, which is safe for all of them: a change made twice is as made once (the
     number that it tells is another). A time limit is not tried again: `TimeLimit` is raised.
@@ -47,14 +47,18 @@ class Node(Requests[Optional[Row], Rows_, int, Front, Fragment,
     Threads may share a node; their requests go one after the other. `limit` is the most seconds of each wait, None without one. While
     nobody listens the first link is tried again for `wait` seconds, so that a node may be asked that was started just before.
 
+    `messages` is the latest version of messages that the node reads, 1 or 2, where the caller knows: else it is asked before the first items
+    are sent, by Streams, and a node that reads version 1 alone ends that link (3).
+
     `Node("tls://HOST:PORT", ca=.., cert=.., key=..)` asks over TLS, through what stands before the node there: its certificate is for that
     host, signed by one of the file `ca`, or of the system; ours is in the file `cert`, with its key there or in `key`. What either side
     finds wrong is a `LinkBroken` that says so; `ValueError`: a file can't be read, or the address isn't one over TLS."""
 
     def __init__(self, address: Address, limit: Optional[float] = 20.0, tries: int = 2, wait: float = 3.0, *, ca: Optional[str] = None,
-                 cert: Optional[str] = None, key: Optional[str] = None) -> None:
+                 cert: Optional[str] = None, key: Optional[str] = None, messages: Optional[int] = None) -> None:
         certificates = Certificates(ca, cert, key)
         certificates.see([address])
+        self._version = None if messages is None else number_in(messages, 1, 2, "messages")
         self.address, self.limit, self.tries, self.wait = address_of(address), limit, max(tries, 1), wait
         self._security = security_of(address, certificates)
         self._link: Optional[Link] = None
@@ -71,6 +75,27 @@ class Node(Requests[Optional[Row], Rows_, int, Front, Fragment,
 
     def _read(self, at: Optional[int], query: Query, read: Read) -> Any:
         return self._call(ask_frame(self.front().readable if at is None else at, query), read)
+
+    def _feed(self, body: bytes) -> Any:
+        version = self._latest_version()
+        try:
+            return self._call(*feeding(body, version))
+        except Fault as fault:
+            if (fault.number, version) == (3, 2):      # it may have been started anew, without messages of version 2
+                self._version = None
+            raise
+
+    def _latest_version(self) -> int:
+        """The latest version of messages that the node reads."""
+        version = self._version
+        if version is None:
+            try:
+                self._call(STREAMS, read_streams)
+                version = 2
+            except Refused as refused:
+                version = version_seen(refused)
+            self._version = version
+        return version
 
     def streams(self) -> Tuple[Stream, ...]:
         """How far each stream is: for feeders, which go on behind each `prefix`. A delta since the last time of all has no facts."""
@@ -214,7 +239,7 @@ class NodeMoment(Moment[Optional[Row], Rows_, int]):
 
 class Pipeline(Requests["Later[Optional[Row]]", "Later[Rows_]", "Later[int]", "Later[Front]", "Later[Fragment]",
                         "Later[Streams]", "Later[Page]", "Later[Tuple[int, Optional[Row]]]", "Later[Tuple[int, Rows_]]",
-                        "Later[Tuple[int, int]]"]):
+                        "Later[Tuple[int, int]]", "Later[Operations]"]):
     """Requests that are sent together when the block is left, or by `run`. Each gives a `Later`; what a node refuses is raised by its
     `result`. Questions without a time are asked at the readable mark of when the first of them was written."""
 
@@ -228,6 +253,9 @@ class Pipeline(Requests["Later[Optional[Row]]", "Later[Rows_]", "Later[int]", "L
         self._requests.append(request)
         self._laters.append(later)
         return later
+
+    def _feed(self, body: bytes) -> Any:
+        return self._call(*feeding(body, self.node._latest_version()))
 
     def _read(self, at: Optional[int], query: Query, read: Read) -> Any:
         if at is None:

@@ -5,10 +5,10 @@ from __future__ import annotations
 from typing import Any, Callable, Dict, Generic, Iterable, List, Optional, Tuple, TypeVar, Union, overload
 
 from .errors import Fault, Refused
-from .messages import encode_request, framed, items_frame, query_bytes, reply_of
+from .messages import encode_request, framed, items_bytes, query_bytes, reply_of
 from .reading import Bytes
-from .values import (LAST_KEY, Answer, AskLatest, AskPage, AskStreams, ByTag, Count, Delta, Done, Fragment, Front, Get, Item, JoinThis, KeyRow,
-                     Latest, MergeThis, Number, One, Page, Prune, Query, Range, Row, Rows, Streams, time_of)
+from .values import (LAST_KEY, Answer, AskLatest, AskPage, ByTag, Count, Delta, Done, Fed, Fragment, Front, Get, Item, JoinThis,
+                     KeyRow, Latest, MergeThis, Number, One, Operations, Page, Prune, Query, Range, Row, Rows, Streams, time_of)
 
 RowT = TypeVar("RowT")
 RowsT = TypeVar("RowsT")
@@ -20,11 +20,14 @@ PageT = TypeVar("PageT")
 LatestRowT = TypeVar("LatestRowT")
 LatestRowsT = TypeVar("LatestRowsT")
 LatestNumberT = TypeVar("LatestNumberT")
+OperationsT = TypeVar("OperationsT")
 Read = Callable[[bytes], Any]
 
 NOT_READ = "the node reads messages of version 1 alone (hkrep serve --messages 2)"
+NOT_FED = f"{NOT_READ}, or an item's frame is of none that it reads"
 FRONT = framed(17, b"")
 FULL = framed(19, b"")
+STREAMS = framed(48, b"")
 
 
 def ask_frame(time: int, query: Query) -> bytes:
@@ -32,12 +35,12 @@ def ask_frame(time: int, query: Query) -> bytes:
     return (len(body) + 10).to_bytes(4, "big") + b"\1\x14" + time_of(time).to_bytes(8, "big") + body
 
 
-def value_of(rest: bytes, *kinds: type, latest: int = 1) -> Any:
+def value_of(rest: bytes, *kinds: type, latest: int = 1, unread: str = NOT_READ) -> Any:
     """The reply, which is of one of these kinds; a refusal is raised, and a reply of another kind is 4. A node that doesn't read version 2
     refuses what it was asked in it in version 1, with 3."""
     value = reply_of(rest, latest)
     if isinstance(value, Refused):
-        raise value.at(NOT_READ) if rest[0] < latest and value.number == 3 else value
+        raise value.at(unread) if rest[0] < latest and value.number == 3 else value
     if not isinstance(value, kinds):
         wanted = " or ".join(kind.__name__ for kind in kinds)
         raise Fault(4, place=f"a reply of {type(value).__name__}, where {wanted} was asked for")
@@ -78,6 +81,31 @@ def read_fragment(rest: bytes) -> Fragment:
 def read_done(rest: bytes) -> int:
     operations: int = value_of(rest, Done).operations
     return operations
+
+
+def read_items(rest: bytes) -> Operations:
+    return Operations(read_done(rest))
+
+
+def read_fed(rest: bytes, count: int) -> Operations:
+    """What is told of so many items; more of them can't be new (8)."""
+    fed: Fed = value_of(rest, Fed, latest=2, unread=NOT_FED)
+    if fed.new > count:
+        raise Fault(8, place=f"{fed.new} new items of {count}")
+    return Operations(fed.operations, fed.new)
+
+
+def feeding(body: bytes, version: int) -> Tuple[bytes, Read]:
+    """The request that takes items, in messages of this version: Items, or Feed; and what reads its reply."""
+    if version == 1:
+        return framed(16, body), read_items
+    count = int.from_bytes(body[:4], "big")
+    return framed(58, body), lambda rest: read_fed(rest, count)
+
+
+def version_seen(refused: Refused) -> int:
+    """The latest version that a node reads which refused Streams so: 1 where it is 3, and else it has read it."""
+    return 1 if refused.number == 3 else 2
 
 
 _ANSWERS: Dict[type, type] = {Get: One, Range: Rows, ByTag: Rows, Count: Number}
@@ -166,20 +194,26 @@ class Reads(Generic[RowT, RowsT, NumberT]):
 
 
 class Requests(Reads[RowT, RowsT, NumberT],
-               Generic[RowT, RowsT, NumberT, FrontT, FragmentT, StreamsT, PageT, LatestRowT, LatestRowsT, LatestNumberT]):
+               Generic[RowT, RowsT, NumberT, FrontT, FragmentT, StreamsT, PageT, LatestRowT, LatestRowsT, LatestNumberT, OperationsT]):
     """All requests of docs/PROTOCOL.md. A change gives the number of the node's operations that ends with it."""
 
     def _call(self, request: bytes, read: Read) -> Any:
+        raise NotImplementedError
+
+    def _feed(self, body: bytes) -> Any:
+        """Sends the body of Items, as Feed to a node that reads messages of version 2."""
         raise NotImplementedError
 
     def front(self) -> FrontT:
         """From where to where can be read."""
         return self._call(FRONT, read_front)
 
-    def items(self, items: Iterable[Union[Item, Bytes, None]]) -> NumberT:
-        """Takes items, or the bytes of their frames, all or none; at most 65,536, and None is passed over. Sent twice is as once. 20 and 21: not of this log;
-        23: they conflict with one another, or with what the node holds, which damages it (41 from then on)."""
-        return self._call(items_frame(items), read_done)
+    def items(self, items: Iterable[Union[Item, Bytes, None]]) -> OperationsT:
+        """Takes items, or the bytes of their frames, all or none; at most 65,536, and None is passed over. Sent twice is as once: `new` of the
+        number has how many the node did not know before, where it reads messages of version 2, which it is asked before the first of them.
+        20 and 21: not of this log; 23: they conflict with one another, or with what the node holds, which damages it (41 from then on), but
+        for one with a guard: that refuses also what touches the past, and a repeat that differs, and nothing is changed."""
+        return self._feed(items_bytes(items))
 
     def delta(self, base: int) -> FragmentT:
         """What happened since a time from the horizon to the readable mark."""
@@ -205,7 +239,7 @@ class Requests(Reads[RowT, RowsT, NumberT],
 
     def status(self) -> StreamsT:
         """How far the node is, and each of its streams (`later.Streams`): also of a damaged node."""
-        return self._call(encode_request(AskStreams()), read_streams)
+        return self._call(STREAMS, read_streams)
 
     @overload
     def latest(self, query: Get) -> LatestRowT: ...

@@ -112,6 +112,18 @@ def put_of(written: Written) -> Put:
     return Put(it[0], it[1], it[2] if len(it) == 3 else Row(it[2], it[3]))
 
 
+class Operations(int):
+    """The number of a node's operations that ends with the items that it was sent. `new` is how many of them it did not know before, each
+    compared with what it held before the first; None where it reads messages of version 1 alone."""
+
+    new: Optional[int]
+
+    def __new__(cls, operations: int, new: Optional[int] = None) -> "Operations":
+        it = super().__new__(cls, operations)
+        it.new = new
+        return it
+
+
 class KeyRow(NamedTuple):
     """A row of an answer, with its key."""
 
@@ -541,7 +553,12 @@ class Release:
         number_in(self.number, 1, LAST_KEY, "number of a hold")
 
 
-LaterRequest = Union[AskStreams, AskLatest, AskPage, Whole, More, AddPart, JoinParts, MergeParts, AskHold, Release]
+@dataclass(frozen=True)
+class Feed(Items):
+    """Take these items, all or none, and tell how many of them were new."""
+
+
+LaterRequest = Union[AskStreams, AskLatest, AskPage, Whole, More, AddPart, JoinParts, MergeParts, AskHold, Release, Feed]
 Request = Union[Items, AskFront, Delta, Full, Ask, JoinThis, MergeThis, Prune, LaterRequest]
 
 
@@ -735,5 +752,20 @@ class Held:
         return f"held {self.number} at {self.time}"
 
 
-LaterReply = Union[LaterDone, Streams, Latest, Page, Part, LastPart, Added, Held]
+@dataclass(frozen=True)
+class Fed:
+    """The number of the node's operations that ends with these items, 1 to 2^62, and how many of them told something new."""
+
+    operations: int
+    new: int
+
+    def __post_init__(self) -> None:
+        number_in(self.operations, 1, LAST_TIME, "operations")
+        number_in(self.new, 0, LAST_KEY, "new items")
+
+    def line(self) -> str:
+        return f"fed {self.operations} new {self.new}"
+
+
+LaterReply = Union[LaterDone, Streams, Latest, Page, Part, LastPart, Added, Held, Fed]
 Reply = Union[Done, Front, Fragment, Answer, LaterReply, Refused]
