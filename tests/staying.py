@@ -32,9 +32,12 @@ class Staying:
         self.words_thread = threading.Thread(target=lambda: self.words.extend(self.child.stderr), daemon=True)
         self.words_thread.start()
         wanted = [f"listening {self.port}"] + ([f"feeding {self.feed_port}"] if feeding else []) + ([f"reading {self.read_port}"] if reading else [])
-        said = [self.line() for _ in wanted]
+        said = []
+        while len(said) < len(wanted) and None not in said:
+            said.append(self.line())
         if said != wanted:
             self.child.kill()
+            self.child.wait()
             raise RuntimeError(f"the node said {said}")
 
     def _read(self):
