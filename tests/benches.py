@@ -16,7 +16,7 @@ from shown import of
 # Debian's Python has Debian's modules
 PYTHON = "/usr/bin/python3" if os.path.exists("/usr/bin/python3") else sys.executable
 # the smallest number that is worth a run, and what it needs beside bin/hkrep
-SMALL = {"bench/run": ("500", ()), "bench/links": ("20", ()), "bench/parts": ("1", ()), "bench/python": ("1000", ("redis",)), "bench/connectors.py": ("50 1", ("redis",)),
+SMALL = {"bench/run": ("500", ()), "bench/links": ("20", ()), "bench/guard": ("400 3", ()), "bench/parts": ("1", ()), "bench/python": ("1000", ("redis",)), "bench/connectors.py": ("50 1", ("redis",)),
          "bench/postgres": ("keys 100", ("redis", "postgres")), "bench/fanout.py": ("1 2", ("nats",)),
          "bench/c_library": ("2000", ("gcc", "lib/"))}
 

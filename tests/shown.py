@@ -61,7 +61,7 @@ ROWS = (
     (".*", "said|set in", "rt ", "pages.py toolchain"),
     (".*", "said|set in", "(pip|apt-get) install", "pages.py packages"),
     ("docs/CONTRIBUTING.md", "said", "git show", "pages.py history"),
-    (".*", "said", r"bench/(links|parts|run|python|postgres|connectors\.py|fanout\.py|c_library)", "benches.py benches"),
+    (".*", "said", r"bench/(links|guard|parts|run|python|postgres|connectors\.py|fanout\.py|c_library)", "benches.py benches"),
     (".*", "said|set in", r"(python3 )?(tests|docs|examples|deploy|bench|connectors)/", "pages.py scripts"),
 )
 

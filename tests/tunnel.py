@@ -28,7 +28,7 @@ STUNNEL = shutil.which("stunnel") or shutil.which("stunnel4")
 AUTHORITY = ROOT / "deploy" / "stunnel" / "authority"
 LIMIT = 30
 # the ports of the page and of deploy/stunnel
-PORTS = ("7420", "7421", "47000", "47001", "47100", "47101")
+PORTS = ("7420", "7421", "47000", "47001", "47002", "47100", "47101")
 ENTRY = va.Entry.of(7, 1, 1, 1, rows=[(1, 5, 9, b"A")])
 ROW = va.Row(9, b"A")
 # what each client that may not come is told; the words are those of TLS
@@ -90,9 +90,9 @@ def typed():
 
 
 def typed_one(started, folder, shown, ports):
-    line = shown.text.replace("/etc/vadungsil", str(folder)).replace("NODE", "localhost").replace("--links 20", "--links 40")
+    line = shown.text.replace("/etc/vadungsil", str(folder)).replace("NODE", "localhost")
     line = re.sub(r"(?<=[ =])(\w+\.pem)", rf"{folder}/\1", line)
-    line = re.sub(r"(?<=[ :])(742[01]|47[01]0[01])\b", lambda found: ports[found[1]], line)
+    line = re.sub(r"(?<=[ :])(742[01]|47[01]0[01]|47002)\b", lambda found: ports[found[1]], line)
     env = {**os.environ, "PATH": f"{PROGRAM.parent}:{os.environ['PATH']}", "PYTHONPATH": str(ROOT / "clients" / "python"),
            "NATS_URL": f"127.0.0.1:{ports['nothing']}"}
     if line.startswith("stunnel "):
@@ -150,15 +150,15 @@ async def asked_beside(port, **files):
 
 def strangers():
     """A reader and a feeder come through. A client without a certificate, with one of another authority, and one past its days are told so,
-    also by asyncio; a reader can't feed; a node's side of another name, or of an authority that isn't ours, is left. The node sees
+    also by asyncio; a reader can't feed; a feeder sends no fragment and prunes nothing; a node's side of another name, or of an authority that isn't ours, is left. The node sees
     those alone that may come, and what they do over TLS is what they do without."""
-    with tempfile.TemporaryDirectory() as name, Staying(30, reading=20) as node:
+    with tempfile.TemporaryDirectory() as name, Staying(2, "--messages", "2", reading=20, feeding=20) as node:
         folder, other = pathlib.Path(name) / "ours", pathlib.Path(name) / "theirs"
         certified(folder, ("reader", "reader"), ("feeder", "feeder"), ("reader", "late", "-1"))
         certified(other, ("reader", "other"))
         with Started(folder) as started:
             readers, feeders = str(free_port()), str(free_port())
-            started.stunnel("node.conf", {"7421": readers, "7420": feeders, "47000": str(node.port), "47001": str(node.read_port)})
+            started.stunnel("node.conf", {"7421": readers, "7420": feeders, "47002": str(node.feed_port), "47001": str(node.read_port)})
             report("who may come over TLS, and what the others are told",
                    come(folder, node, readers, feeders) + stay_out(folder, other, node, readers, feeders))
 
@@ -168,7 +168,8 @@ def come(folder, node, readers, feeders):
     ca, mine = str(folder / "ca.pem"), {who: str(folder / f"{who}.pem") for who in ("reader", "feeder")}
     bulk = va.Entry.of(7, 1, 2, 2, rows=[(2, key, 0, bytes(4_000)) for key in range(500)])
     with va.Node(f"tls://localhost:{feeders}", ca=ca, cert=mine["feeder"]) as feeder:
-        fed = [feeder.items([ENTRY, bulk, va.Mark(7, 1, 2, 2)])]
+        fed = [(it, it.new) for it in (feeder.items([ENTRY, bulk, va.Mark(7, 1, 2, 2)]), feeder.items([ENTRY]))]
+        others = [refused_number(call) for call in (lambda: feeder.prune(1), lambda: feeder.merge(feeder.whole()), lambda: feeder.hold(1))]
     with va.Node(f"tls://localhost:{readers}", ca=ca, cert=mine["reader"]) as reader:
         rows = reader.range(2, at=2)
         with reader.pipeline() as pipe:
@@ -181,7 +182,7 @@ def come(folder, node, readers, feeders):
     feed.send_blocks([walked(va.encode(it), it.number, 7, 1, "a block") for it in entries])
     pairs.append(("a connector's link", (feed.streams()[0].prefix, feed.front().readable), (32, 2)))
     feed.close()
-    pairs += [("a feeder feeds", fed, [2]), ("a reader can't change", changed, 4), ("many nodes", [one.at(1).get(1, 5) for _ in range(2)], [ROW] * 2),
+    pairs += [("a feeder feeds", fed, [(2, 3), (3, 0)]), ("and does nothing else", others, [4] * 3), ("a reader can't change", changed, 4), ("many nodes", [one.at(1).get(1, 5) for _ in range(2)], [ROW] * 2),
               ("asyncio", asyncio.run(asked_beside(readers, ca=ca, cert=mine["reader"])), ROW)]
     one.close()
     return differ(pairs)
