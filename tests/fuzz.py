@@ -264,7 +264,8 @@ def random_later(source):
     return source.choice([
         say.status, lambda: say.latest(say.get(1, key)), lambda: say.latest(say.scan(1, 0, key)), lambda: say.page(time_, 1, 0, key, source.randint(1, 3)),
         lambda: say.whole(base, source.choice([0, 50, 2 ** 32 - 1])), say.more, say.more, lambda: say.add(facts), lambda: say.add(facts[:1]),
-        lambda: say.join_parts(**head), lambda: say.merge_parts(**{**head, "base": 0}), lambda: say.hold(time_), lambda: say.release(key)])()
+        lambda: say.join_parts(**head), lambda: say.merge_parts(**{**head, "base": 0}), lambda: say.hold(time_), lambda: say.release(key),
+        lambda: say.feed(say.new_entry(key, key, [(1, key, 9, b"")]), say.mark(1, key, time_))])()
 
 
 def session_of(source, makes):
@@ -329,7 +330,7 @@ def random_later_reply(source):
     facts = [(1, 5, 1, (9, b"a"), 3), (1, 6, 2, None, 4)]
     return source.choice([say.spelled(told), say.framed(rows), say.spelled(say.fields.fields_of_part(facts, 1)), say.framed(b"\2\x46" + say.u64(7)),
                           say.spelled(say.fields.fields_of_last_part(facts, streams=[(1, 1, (4,), ((5, 6),))])), say.spelled(say.fields.fields_of_held(1, 2)),
-                          say.framed(b"\2\x42" + say.u64(3) + b"\3" + say.u64(7)), say.spelled(say.fields.fields_of_later_refused(46, 9))])
+                          say.framed(b"\2\x42" + say.u64(3) + b"\3" + say.u64(7)), say.spelled(say.fields.fields_of_later_refused(46, 9)), say.spelled(say.fields.fields_of_fed(2, 1))])
 
 
 def random_reply(source):

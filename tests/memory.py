@@ -444,7 +444,8 @@ LATER_CASES = [
     ("parts behind it", [ALL], [say.add([FIRST_FACT])], say.add(LATER_FACTS)),
     ("a delta of parts", [ALL], [say.add([FIRST_FACT]), say.add(LATER_FACTS)], JOINED),
     ("a whole of parts", [LATE], [say.add([(1, 5, 1, (9, b"\x41"), 2)]), say.add([(1, 5, 2, (9, b"\x42"), 4), row(5, 4), (1, 6, 3, (9, b"\x43"), None)])], MERGED),
-    ("a hold", [ALL], [], say.hold(2)), ("a second hold", [ALL], [say.hold(2)], say.hold(1)), ("a release", [ALL], [say.hold(2)], RELEASED)]
+    ("a hold", [ALL], [], say.hold(2)), ("a second hold", [ALL], [say.hold(2)], say.hold(1)), ("a release", [ALL], [say.hold(2)], RELEASED),
+    ("items that are counted", [LATE], [], say.feed(E1, E2))]
 
 
 class LaterChange:
