@@ -194,7 +194,13 @@ def stream_ahead(source, it):
     return "a stream further than it is"
 
 
-LIES = (late_row, late_row, late_end, late_end, end_alone, other_row, row_without_end, row_without_end, fact_left_out, no_facts, horizon_raised, horizon_raised, stream_ahead)
+def row_astray(source, it):
+    """A whole of a greater horizon which lacks a row that had not ended by then, or has one again that had."""
+    it["base"] = 0
+    return f"{source.choice([row_without_end, fact_left_out, fact_left_out])(source, it)} and {horizon_raised(source, it)}"
+
+
+LIES = (late_row, late_row, late_end, late_end, end_alone, other_row, row_without_end, fact_left_out, no_facts, horizon_raised, horizon_raised, stream_ahead, row_astray, row_astray)
 
 
 def is_fit(fact, base, horizon):
