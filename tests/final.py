@@ -71,7 +71,7 @@ class Reader:
         self.front, self.gone = (0, 0), 0      # how many answers became a time below the horizon
 
     def differing(self, link):
-        """What is answered otherwise than before, of all that was asked; and new questions, for the next time."""
+        """What is answered otherwise than before, of all that was asked."""
         now = link.ask(say.front())
         if now[0] != "front":
             return [] if now[1] in (90, 42) else [DAMAGED if now[1] == 41 else ("the front", self.front, now)]
