@@ -104,8 +104,8 @@ def feeding(body: bytes, version: int) -> Tuple[bytes, Read]:
 
 
 def version_seen(refused: Refused) -> int:
-    """The latest version that a node reads which refused Streams so: 1 where it is 3, and else it has read it."""
-    return 1 if refused.number == 3 else 2
+    """The latest version that a node reads which refused Streams so: 1 where it doesn't read it (3), or has no meaning for it (4)."""
+    return 1 if refused.number in (3, 4) else 2
 
 
 _ANSWERS: Dict[type, type] = {Get: One, Range: Rows, ByTag: Rows, Count: Number}
