@@ -53,7 +53,7 @@ ROWS = (
     ("docs/FORMATS.md|docs/PROTOCOL.md", "set in", " *[0-9a-f]{4}", "pages.py bytes"),
     ("docs/PROTOCOL.md", "set in", " +[0-9a-f]{2}", "pages.py bytes"),
     ("docs/FORMATS.md", "set in", "", "pages.py words"),
-    (".*", "said", r"hkrep [a-z]+( --(?!help)[a-z-]+)*$|python3 -m vadungsil\.\w+$", "pages.py names"),
+    (".*", "said", r"hkrep [a-z]+( --messages 2| --(?!help)[a-z-]+)*$|python3 -m vadungsil\.\w+$", "pages.py names"),
     (".*", "said|set in", r"(bin/)?hkrep .*( \.\.|L$)", "pages.py names"),
     (".*", "said|set in", "(bin/)?hkrep ", "pages.py typed"),
     ("uses/README.md", "said", "examples/links/ask.py", "pages.py asked node"),
