@@ -332,10 +332,10 @@ def of_version_2(node):
     told = lambda it: (it, it.new)
 
     async def gathered():
-        async with va.AsyncNode(node.port) as it:
+        async with va.AsyncNode(node.port, messages=2) as it:
             return [told(await it.items([first])), [told(of) for of in await asyncio.gather(*(it.items([second, second, None]) for _ in range(3)))]]
 
-    with va.Node(node.feed_port) as feeder, va.Node(node.read_port) as reader, va.Node(node.port, messages=1) as old:
+    with va.Node(node.feed_port, messages=2) as feeder, va.Node(node.read_port, messages=2) as reader, va.Node(node.port, messages=1) as old, va.Node(node.port) as plain:
         pairs = [("two items", told(feeder.items([first, *log.marks()[:0], va.Mark(7, 1, 1, 1)])), (2, 2)), ("again", told(feeder.items([first, va.encode(va.Mark(7, 1, 1, 1), 1)])), (3, 0)),
                  ("none", told(feeder.items([])), (4, 0)), ("in version 1", told(old.items([first])), (5, None)), ("by tasks", asyncio.run(gathered()), [(6, 0), [(7, 2), (8, 0), (9, 0)]])]
         with feeder.pipeline() as pipe:
@@ -343,32 +343,34 @@ def of_version_2(node):
         pairs += [("in a pipeline", [told(laters[0].result()), laters[1].result(), told(laters[2].result())], [(10, 1), va.Front(0, 2), (11, 0)]),
                   ("of another log", refusal_of(lambda: feeder.items([va.Mark(8, 1, 0, 0)])), 20), ("no frame", refusal_of(lambda: feeder.items([b"\0\0\0\x1c" + b"\7" * 28])), 3),
                   ("and behind it", told(feeder.items([first])), (12, 0)), ("a reader", refusal_of(lambda: reader.items([first])), 4)]
+        pairs += [("of whom nothing is known", told(plain.items([first])), (13, None)), ("who answers in version 2", plain.status().operations, 13), ("and then", told(plain.items([first])), (14, 0)),
+                  ("told version 1", (old.status().operations, told(old.items([first]))), (14, (15, None)))]
     return pairs
 
 
 def of_version_1(node):
-    """The same of a node that reads version 1 alone: it is asked once, which ends a link, or told by the caller."""
+    """The same of a node that reads version 1 alone."""
     first = va.LogWriter(7, 1).commit([(1, 5, 9, b"A")])
 
     async def gathered():
         async with va.AsyncNode(node.port) as it:
             return [(of, of.new) for of in await asyncio.gather(*(it.items([first]) for _ in range(3)))]
 
-    with va.Node(node.port) as asking, va.Node(node.port, messages=1) as knowing, va.Node(node.port, messages=2) as wrong:
-        found = [asking.items([first]), asking.items([first]), knowing.items([first])]
+    with va.Node(node.port) as plain, va.Node(node.port, messages=1) as knowing, va.Node(node.port, messages=2) as wrong:
+        found = [plain.items([first]), plain.items([first]), knowing.items([first])]
         pairs = [("items", [(it, it.new) for it in found], [(2, None), (3, None), (4, None)]), ("wrong", refusal_of(lambda: wrong.items([first])), 3),
-                 ("and then it is asked", (wrong.items([first]), wrong.items([first]).new), (5, None)), ("by tasks", asyncio.run(gathered()), [(7, None), (8, None), (9, None)])]
-        with wrong.pipeline() as pipe:
+                 ("wrong again", refusal_of(lambda: wrong.items([first])), 3), ("by tasks", asyncio.run(gathered()), [(5, None), (6, None), (7, None)])]
+        with plain.pipeline() as pipe:
             later = pipe.items([first])
-        pairs.append(("in a pipeline", (later.result(), later.result().new), (10, None)))
-    return pairs + [("ends", sorted(node.line() for _ in range(7)), ["ended 0"] * 3 + ["ended 3"] * 4)]
+        pairs.append(("in a pipeline", (later.result(), later.result().new), (8, None)))
+    return pairs + [("ends", sorted(node.line() for _ in range(5)), ["ended 0"] * 3 + ["ended 3"] * 2)]
 
 
 def python_feeds():
     """`items` of the Python client tells how many were new where the node reads version 2, and so does its command."""
     with Staying(4, *LATER, reading=1, feeding=1) as node:
         pairs = of_version_2(node)
-        for words, told in (((), "new 0 of 2\n"), (("--messages", "2"), "new 0 of 2\n"), (("--messages", "1"), "")):
+        for words, told in (((), ""), (("--messages", "2"), "new 0 of 2\n"), (("--messages", "1"), "")):
             done = subprocess.run([sys.executable, "-m", "vadungsil", "--port", str(node.port), "push", *words], input=E1 + say.mark(1, 1, 1), cwd=PACKAGE, capture_output=True, timeout=LIMIT, check=False)
             pairs.append((f"push {words}", (done.stdout[:5], done.stderr.decode(), done.returncode), (b"done ", told, 0)))
     with Staying(4) as node:

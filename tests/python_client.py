@@ -430,8 +430,7 @@ def asynchronous():
             pass
         return found
 
-    # one of the links is that which the node ends, as it is asked for messages of version 2
-    with Served(3) as served:
+    with Served(2) as served:
         problems += differ(asyncio.run(asyncio.wait_for(story(served.port), LIMIT)))
     report("an asyncio node: gathered questions, refusals, limits, new links", problems)
 
@@ -635,7 +634,7 @@ def wheel():
             problems.append(f"pip: {pip.stderr.decode()[-300:]}")
         source = run([sys.executable, "-m", "pip", "install", "--no-index", "--quiet", "--target", path / "from_source", path / "one" / names[1]])
         problems += differ([("from source", source.returncode, 0)])
-        example = "import vadungsil; node = vadungsil.Node(%d, messages=1); log = vadungsil.LogWriter(7, 1); node.items([log.commit([(1, 5, 9, b'A')]), *log.marks()]); " \
+        example = "import vadungsil; node = vadungsil.Node(%d); log = vadungsil.LogWriter(7, 1); node.items([log.commit([(1, 5, 9, b'A')]), *log.marks()]); " \
                   "print(vadungsil.__file__, node.get(1, 5).body)" % served.port
         page = run([sys.executable, "-c", "from vadungsil.web import Server; print(len(Server([1], ('127.0.0.1', 0)).assets))"], cwd=folder, env={"PYTHONPATH": str(path / "site")})
         problems += differ([("the files of the page", page.stdout.decode(), "7\n")])

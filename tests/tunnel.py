@@ -167,7 +167,7 @@ def come(folder, node, readers, feeders):
     """A feeder and a reader, with requests and replies of many records."""
     ca, mine = str(folder / "ca.pem"), {who: str(folder / f"{who}.pem") for who in ("reader", "feeder")}
     bulk = va.Entry.of(7, 1, 2, 2, rows=[(2, key, 0, bytes(4_000)) for key in range(500)])
-    with va.Node(f"tls://localhost:{feeders}", ca=ca, cert=mine["feeder"]) as feeder:
+    with va.Node(f"tls://localhost:{feeders}", ca=ca, cert=mine["feeder"], messages=2) as feeder:
         fed = [(it, it.new) for it in (feeder.items([ENTRY, bulk, va.Mark(7, 1, 2, 2)]), feeder.items([ENTRY]))]
         others = [refused_number(call) for call in (lambda: feeder.prune(1), lambda: feeder.merge(feeder.whole()), lambda: feeder.hold(1))]
     with va.Node(f"tls://localhost:{readers}", ca=ca, cert=mine["reader"]) as reader:

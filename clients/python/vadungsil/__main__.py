@@ -38,7 +38,7 @@ def parser() -> argparse.ArgumentParser:
         of.add_argument("--at", type=int, metavar="T", help="the time; without it the readable mark")
     commands.add_parser("front", help="from where to where can be read")
     of = commands.add_parser("push", help="send the item frames of standard input, at most 65,536")
-    of.add_argument("--messages", type=int, choices=(1, 2), help="the latest version of messages that the node reads; else it is asked")
+    of.add_argument("--messages", type=int, choices=(1, 2), default=1, help="the latest version of messages that the node reads")
     commands.add_parser("whole", help="what the node holds, in a line")
     of = commands.add_parser("delta", help="what happened since a time, in a line")
     of.add_argument("base", type=int)

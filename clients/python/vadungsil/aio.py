@@ -10,11 +10,11 @@ import ssl
 from collections import deque
 from typing import Any, Awaitable, Deque, List, Optional, Tuple
 
-from .errors import Fault, LinkBroken, Refused, TimeLimit
+from .errors import Fault, LinkBroken, TimeLimit
 from .link import PAUSE, Address, Certificates, address_of, is_joined_with_itself, security_of
 from .messages import MOST_MESSAGE
 from .node import _ends_link
-from .requests import STREAMS, Moment, Read, Requests, ask_frame, feeding, read_streams, version_seen
+from .requests import Moment, Read, Requests, ask_frame, feeding, version_seen
 from .values import LAST_TIME, Fragment, Front, KeyRow, Operations, Page, Query, Row, Stream, Streams, number_in, time_of
 
 
@@ -74,8 +74,7 @@ class AsyncNode(Requests[Awaitable[Optional[Row]], Awaitable[List[KeyRow]], Awai
                  cert: Optional[str] = None, key: Optional[str] = None, messages: Optional[int] = None) -> None:
         certificates = Certificates(ca, cert, key)
         certificates.see([address])
-        self._version = None if messages is None else number_in(messages, 1, 2, "messages")
-        self._learning: Optional[asyncio.Lock] = None
+        self._told = self._version = None if messages is None else number_in(messages, 1, 2, "messages")
         self.address, self.limit, self.tries, self.wait = address_of(address), limit, max(tries, 1), wait
         self._security = security_of(address, certificates)
         self._link: Optional[_AsyncLink] = None
@@ -88,7 +87,9 @@ class AsyncNode(Requests[Awaitable[Optional[Row]], Awaitable[List[KeyRow]], Awai
     async def _call(self, request: bytes, read: Read) -> Any:
         for left in range(self.tries - 1, -1, -1):
             try:
-                return read(await self._exchange(request))
+                rest = await self._exchange(request)
+                self._version = version_seen(self._version, rest)
+                return read(rest)
             except TimeLimit:
                 raise
             except LinkBroken:
@@ -96,28 +97,13 @@ class AsyncNode(Requests[Awaitable[Optional[Row]], Awaitable[List[KeyRow]], Awai
                     raise
 
     async def _feed(self, body: bytes) -> Any:
-        version = await self._latest_version()
+        version = self._version or 1
         try:
             return await self._call(*feeding(body, version))
         except Fault as fault:
-            if (fault.number, version) == (3, 2):      # it may have been started anew, without messages of version 2
-                self._version = None
+            if (fault.number, version) == (3, 2):      # it may have been started anew, and reads version 1 alone
+                self._version = self._told
             raise
-
-    async def _latest_version(self) -> int:
-        """The latest version of messages that the node reads, which one task asks."""
-        if self._learning is None:
-            self._learning = asyncio.Lock()
-        async with self._learning:
-            version = self._version
-            if version is None:
-                try:
-                    await self._call(STREAMS, read_streams)
-                    version = 2
-                except Refused as refused:
-                    version = version_seen(refused)
-                self._version = version
-            return version
 
     async def _read(self, at: Optional[int], query: Query, read: Read) -> Any:
         time = (await self.front()).readable if at is None else at

@@ -5,9 +5,9 @@ import threading
 from types import TracebackType
 from typing import Any, Generic, Iterable, Iterator, List, Optional, Tuple, Type, TypeVar
 
-from .errors import Fault, LinkBroken, Refused, TimeLimit
+from .errors import Fault, LinkBroken, TimeLimit
 from .link import Address, Certificates, Link, address_of, security_of
-from .requests import FRONT, STREAMS, Moment, Read, Requests, ask_frame, feeding, read_front, read_streams, version_seen
+from .requests import FRONT, Moment, Read, Requests, ask_frame, feeding, read_front, version_seen
 from .transfer import AnyPart, Hold, parts_from, parts_to
 from .values import (LAST_KEY, LAST_TIME, PART_BYTES, Fact, Fragment, FragmentHead, Front, KeyRow, LastPart, Operations, Page, Query, Row,
                      Stream, Streams, number_in, time_of)
@@ -47,8 +47,8 @@ class Node(Requests[Optional[Row], Rows_, int, Front, Fragment,
     Threads may share a node; their requests go one after the other. `limit` is the most seconds of each wait, None without one. While
     nobody listens the first link is tried again for `wait` seconds, so that a node may be asked that was started just before.
 
-    `messages` is the latest version of messages that the node reads, 1 or 2, where the caller knows: else it is asked before the first items
-    are sent, by Streams, and a node that reads version 1 alone ends that link (3).
+    `messages` is the latest version of messages that the node reads, 1 or 2, where the caller knows. Else items are sent in version 1, until the
+    node has answered a request of version 2 (`latest`, `page`, `status`).
 
     `Node("tls://HOST:PORT", ca=.., cert=.., key=..)` asks over TLS, through what stands before the node there: its certificate is for that
     host, signed by one of the file `ca`, or of the system; ours is in the file `cert`, with its key there or in `key`. What either side
@@ -58,7 +58,7 @@ class Node(Requests[Optional[Row], Rows_, int, Front, Fragment,
                  cert: Optional[str] = None, key: Optional[str] = None, messages: Optional[int] = None) -> None:
         certificates = Certificates(ca, cert, key)
         certificates.see([address])
-        self._version = None if messages is None else number_in(messages, 1, 2, "messages")
+        self._told = self._version = None if messages is None else number_in(messages, 1, 2, "messages")
         self.address, self.limit, self.tries, self.wait = address_of(address), limit, max(tries, 1), wait
         self._security = security_of(address, certificates)
         self._link: Optional[Link] = None
@@ -71,31 +71,21 @@ class Node(Requests[Optional[Row], Rows_, int, Front, Fragment,
     # ------------------------------------------------------------ requests
 
     def _call(self, request: bytes, read: Read) -> Any:
-        return read(self._exchange([request])[0])
+        rest = self._exchange([request])[0]
+        self._version = version_seen(self._version, rest)
+        return read(rest)
 
     def _read(self, at: Optional[int], query: Query, read: Read) -> Any:
         return self._call(ask_frame(self.front().readable if at is None else at, query), read)
 
     def _feed(self, body: bytes) -> Any:
-        version = self._latest_version()
+        version = self._version or 1
         try:
             return self._call(*feeding(body, version))
         except Fault as fault:
-            if (fault.number, version) == (3, 2):      # it may have been started anew, without messages of version 2
-                self._version = None
+            if (fault.number, version) == (3, 2):      # it may have been started anew, and reads version 1 alone
+                self._version = self._told
             raise
-
-    def _latest_version(self) -> int:
-        """The latest version of messages that the node reads."""
-        version = self._version
-        if version is None:
-            try:
-                self._call(STREAMS, read_streams)
-                version = 2
-            except Refused as refused:
-                version = version_seen(refused)
-            self._version = version
-        return version
 
     def streams(self) -> Tuple[Stream, ...]:
         """How far each stream is: for feeders, which go on behind each `prefix`. A delta since the last time of all has no facts."""
@@ -255,7 +245,7 @@ class Pipeline(Requests["Later[Optional[Row]]", "Later[Rows_]", "Later[int]", "L
         return later
 
     def _feed(self, body: bytes) -> Any:
-        return self._call(*feeding(body, self.node._latest_version()))
+        return self._call(*feeding(body, self.node._version or 1))
 
     def _read(self, at: Optional[int], query: Query, read: Read) -> Any:
         if at is None:
@@ -272,6 +262,7 @@ class Pipeline(Requests["Later[Optional[Row]]", "Later[Rows_]", "Later[int]", "L
             try:
                 for later, rest in zip(laters, self.node._exchange(requests)):
                     later._rest = rest
+                    self.node._version = version_seen(self.node._version, rest)
             except Exception as error:
                 for later in laters:
                     later._error = error

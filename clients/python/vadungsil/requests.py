@@ -103,9 +103,9 @@ def feeding(body: bytes, version: int) -> Tuple[bytes, Read]:
     return framed(58, body), lambda rest: read_fed(rest, count)
 
 
-def version_seen(refused: Refused) -> int:
-    """The latest version that a node reads which refused Streams so: 1 where it doesn't read it (3), or has no meaning for it (4)."""
-    return 1 if refused.number in (3, 4) else 2
+def version_seen(known: Optional[int], rest: bytes) -> Optional[int]:
+    """The latest version that a node reads, as far as is known: a reply of version 2 tells it."""
+    return 2 if known is None and rest[:1] == b"\2" else known
 
 
 _ANSWERS: Dict[type, type] = {Get: One, Range: Rows, ByTag: Rows, Count: Number}
@@ -210,7 +210,7 @@ class Requests(Reads[RowT, RowsT, NumberT],
 
     def items(self, items: Iterable[Union[Item, Bytes, None]]) -> OperationsT:
         """Takes items, or the bytes of their frames, all or none; at most 65,536, and None is passed over. Sent twice is as once: `new` of the
-        number has how many the node did not know before, where it reads messages of version 2, which it is asked before the first of them.
+        number has how many the node did not know before, where it is known to read messages of version 2, and else None.
         20 and 21: not of this log; 23: they conflict with one another, or with what the node holds, which damages it (41 from then on), but
         for one with a guard: that refuses also what touches the past, and a repeat that differs, and nothing is changed."""
         return self._feed(items_bytes(items))
