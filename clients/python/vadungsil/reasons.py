@@ -23,7 +23,7 @@ REASONS: Dict[int, Reason] = {
            "mend the sender: 4233248 bytes are the most of an item, 268435456 of a message"),
     3: _of("BadVersion", "the version byte is not 1, nor 2 where that is read",
            "mend the sender: items have version 1 or 2, messages 1, and 2 for a node with --messages 2"),
-    4: _of("BadKind", "the kind byte has no meaning there", "mend the sender: items have kind 1 or 2, requests 16 to 23 or 48 to 57, replies 32 to 36 or 64 to 72"),
+    4: _of("BadKind", "the kind byte has no meaning there", "mend the sender: items have kind 1 or 2, requests 16 to 23 or 48 to 58, replies 32 to 36 or 64 to 73"),
     5: _of("BadStream", "a stream number or count outside 1 to 64", "mend the sender: a log has 1 to 64 streams"),
     6: _of("BadNumber", "a number, time, mark, flag or reserved field outside its range", "mend the sender: docs/FORMATS.md has the range of each field"),
     7: _of("BadOrder", "a list does not rise strictly", "mend the sender: lists rise by table and key, each at most once"),

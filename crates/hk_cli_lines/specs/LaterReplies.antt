@@ -8,7 +8,7 @@ use Rattle.hk_model.specs.Replica.StreamsTold.{StreamsValue}
 use Rattle.hk_model.specs.declared.streams_told.StreamTold.{StreamTold}
 use Rattle.hk_values.specs.Parts.{WireHead}
 use Rattle.hk_wire.specs.LaterReplies.{ReplyValue}
-use Rattle.hk_wire.specs.LaterReplies.ReplyValue.{Done, Streams, Latest, Page, Part, LastPart, Added, Held, Refused}
+use Rattle.hk_wire.specs.LaterReplies.ReplyValue.{Done, Streams, Latest, Page, Part, LastPart, Added, Held, Refused, Fed}
 use Rattle.hk_cli_lines.specs.Lines.{line_end, field, keyed_line, answer_lines, refusal_line}
 
 -- ---- streams
@@ -72,6 +72,16 @@ part_line facts left = codes "part " ++ decimal (length facts) ++ codes " left "
 abbrev pub last_part_line : List Known → WireHead → List ℕ
 last_part_line facts head = codes "last part " ++ decimal (length facts) ++ codes " base " ++ decimal head.base ++ line_end
 
+-- ---- holds, and items that were fed
+
+-- what is printed of a hold
+abbrev pub held_line : ℕ → ℕ → List ℕ
+held_line hold t = codes "held " ++ decimal hold ++ codes " at " ++ decimal t ++ line_end
+
+-- what is printed of items that were fed: the node's operations, and how many of the items were new
+abbrev pub fed_line : ℕ → ℕ → List ℕ
+fed_line ops new = codes "fed " ++ decimal ops ++ codes " new " ++ decimal new ++ line_end
+
 -- ---- replies
 
 -- what is printed of a reply
@@ -83,5 +93,6 @@ reply_lines (Page page) = page_lines page
 reply_lines (Part left facts) = part_line facts left
 reply_lines (LastPart facts head) = last_part_line facts head
 reply_lines (Added count) = codes "added " ++ decimal count ++ line_end
-reply_lines (Held hold t) = codes "held " ++ decimal hold ++ codes " at " ++ decimal t ++ line_end
+reply_lines (Held hold t) = held_line hold t
 reply_lines (Refused why) = refusal_line why
+reply_lines (Fed ops new) = fed_line ops new

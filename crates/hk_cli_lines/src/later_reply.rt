@@ -116,6 +116,18 @@ fn put_page(alloc: Global, page: &Page, out: &mut String) -> Result<(), AllocErr
     out.push('\n')
 }
 
+fn put_held(number: u64, t: Time, out: &mut String) -> Result<(), AllocError>
+    ensures { OnOk result (string_bytes out.new ≡ string_bytes out.old ++ spec.held_line number t) }
+{
+    writeln!(out, "held {number} at {t}")
+}
+
+fn put_fed(ops: u64, new: u64, out: &mut String) -> Result<(), AllocError>
+    ensures { OnOk result (string_bytes out.new ≡ string_bytes out.old ++ spec.fed_line ops new) }
+{
+    writeln!(out, "fed {ops} new {new}")
+}
+
 impl Printed for LaterReply {
     ghost text = { λ reply. spec.reply_lines (reply_seen reply) };
 
@@ -138,7 +150,8 @@ impl Printed for LaterReply {
                 writeln!(out, "last part {count} base {base}")
             }
             LaterReply::Added { count } => writeln!(out, "added {count}"),
-            LaterReply::Held { number, t } => writeln!(out, "held {number} at {t}"),
+            LaterReply::Held { number, t } => put_held(*number, *t, out),
+            LaterReply::Fed { ops, new } => put_fed(*ops, *new, out),
             LaterReply::Refused(refusal) => refusal.print_to(alloc, out),
         }
     }

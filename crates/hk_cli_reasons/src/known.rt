@@ -50,7 +50,7 @@ fn fault(number: u8) -> Option<Known> {
         4 => told(
             "BadKind",
             "the kind byte has no meaning there",
-            "mend the sender: items have kind 1 or 2, requests 16 to 23 or 48 to 57, replies 32 to 36 or 64 to 72",
+            "mend the sender: items have kind 1 or 2, requests 16 to 23 or 48 to 58, replies 32 to 36 or 64 to 73",
         ),
         5 => told(
             "BadStream",
