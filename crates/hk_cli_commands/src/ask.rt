@@ -11,7 +11,7 @@ use hk_cli_reasons::{Origin, Place, RequestContext};
 use hk_log::Item;
 use hk_query::{Answer, Query, ask};
 use hk_state::{ReplicaState, front_of};
-use hk_types::{Config, Key, Table, Time};
+use hk_types::{Config, Key, Refusal, Table, Time};
 use std::alloc::Global;
 use std::io::{Read, Write};
 use std::mem;
@@ -37,35 +37,62 @@ impl Sink for Absorber {
     }
 }
 
-/// A replica that absorbed the items of the input.
-fn absorbed<I: Read>(alloc: Global, input: &mut I, config: Config) -> Result<Absorber, Stop> {
-    let mut absorber = Absorber {
+/// A replica of a log that absorbed nothing yet. (What follows lends it to functions, since a proof of one that moves it on costs
+/// much more.)
+fn empty(alloc: Global, config: Config) -> Result<Absorber, Stop> {
+    Ok(Absorber {
         state: ReplicaState::new(alloc, config)?,
-    };
-    hand_items(alloc, input, &mut absorber)?;
-    Ok(absorber)
+    })
 }
 
-fn answer_at<I: Read>(
+/// Why a query at a time is refused.
+fn refused_at(refusal: Refusal, time: Time) -> Stop {
+    let origin = Origin {
+        place: Place::Whole,
+        asked: RequestContext::At(time),
+    };
+    Stop::RefusedAt(refusal, origin)
+}
+
+/// A replica's answer to a query at a time.
+fn answer_of(
+    alloc: Global,
+    absorber: &Absorber,
+    time: Time,
+    query: &Query,
+) -> Result<Answer, Stop> {
+    match ask(alloc, &absorber.state, time, query) {
+        Ok(answer) => Ok(answer),
+        Err(refusal) => Err(refused_at(refusal, time)),
+    }
+}
+
+/// Has a replica absorb the items of the input, and prints its answer to a query at a time.
+fn show_answer<I: Read, W: Write, E: Write>(
+    alloc: Global,
+    input: &mut I,
+    absorber: &mut Absorber,
+    time: Time,
+    query: &Query,
+    output: &mut Output<'_, W, E>,
+) -> Result<(), Stop> {
+    hand_items(alloc, input, absorber)?;
+    let answer = answer_of(alloc, absorber, time, query)?;
+    output.show(&answer)
+}
+
+fn print_answer<I: Read, W: Write, E: Write>(
     alloc: Global,
     input: &mut I,
     config: Config,
     time: Time,
     query: &Query,
-) -> Result<Answer, Stop> {
-    let absorber = absorbed(alloc, input, config)?;
-    let answered = ask(alloc, &absorber.state, time, query);
+    output: &mut Output<'_, W, E>,
+) -> Result<(), Stop> {
+    let mut absorber = empty(alloc, config)?;
+    let shown = show_answer(alloc, input, &mut absorber, time, query, output);
     absorber.leave();
-    match answered {
-        Ok(answer) => Ok(answer),
-        Err(refusal) => Err(Stop::RefusedAt(
-            refusal,
-            Origin {
-                place: Place::Whole,
-                asked: RequestContext::At(time),
-            },
-        )),
-    }
+    shown
 }
 
 /// Absorbs the item frames of the input, and prints the answer to a query at a time, in a form. The replica's memory is left
@@ -86,10 +113,7 @@ pub fn run_ask<I: Read, W: Write, E: Write>(
     ensures { result ≤ 1 }
 {
     let mut output = Output::of_form(alloc, form, writer, errors);
-    let printed = match answer_at(alloc, input, config, time, query) {
-        Ok(answer) => output.show(&answer),
-        Err(stop) => Err(stop),
-    };
+    let printed = print_answer(alloc, input, config, time, query, &mut output);
     ended(printed, &mut output)
 }
 
@@ -111,6 +135,29 @@ pub fn run_at<I: Read, W: Write, E: Write>(
     run_ask(alloc, input, writer, errors, config, time, &query, form)
 }
 
+/// Has a replica absorb the items of the input, and prints from where to where it can be read.
+fn show_front<I: Read, W: Write, E: Write>(
+    alloc: Global,
+    input: &mut I,
+    absorber: &mut Absorber,
+    output: &mut Output<'_, W, E>,
+) -> Result<(), Stop> {
+    hand_items(alloc, input, absorber)?;
+    output.show_front(front_of(&absorber.state))
+}
+
+fn print_front<I: Read, W: Write, E: Write>(
+    alloc: Global,
+    input: &mut I,
+    config: Config,
+    output: &mut Output<'_, W, E>,
+) -> Result<(), Stop> {
+    let mut absorber = empty(alloc, config)?;
+    let shown = show_front(alloc, input, &mut absorber, output);
+    absorber.leave();
+    shown
+}
+
 /// Absorbs the item frames of the input, and prints from where to where the replica can be read. What stops it, and the
 /// status, are as at `run_ask`. Cost: O(n · log n), n bytes of the input.
 pub fn run_front<I: Read, W: Write, E: Write>(
@@ -124,15 +171,32 @@ pub fn run_front<I: Read, W: Write, E: Write>(
     ensures { result ≤ 1 }
 {
     let mut output = Output::of_form(alloc, form, writer, errors);
-    let printed = match absorbed(alloc, input, config) {
-        Ok(absorber) => {
-            let front = front_of(&absorber.state);
-            absorber.leave();
-            output.show_front(front)
-        }
-        Err(stop) => Err(stop),
-    };
+    let printed = print_front(alloc, input, config, &mut output);
     ended(printed, &mut output)
+}
+
+/// Has a replica absorb the items of the input, and prints how far its streams are, and from where to where it can be read.
+fn show_status<I: Read, W: Write, E: Write>(
+    alloc: Global,
+    input: &mut I,
+    absorber: &mut Absorber,
+    output: &mut Output<'_, W, E>,
+) -> Result<(), Stop> {
+    hand_items(alloc, input, absorber)?;
+    let front = front_of(&absorber.state);
+    put_status(absorber.state.got(), front, output)
+}
+
+fn print_status<I: Read, W: Write, E: Write>(
+    alloc: Global,
+    input: &mut I,
+    config: Config,
+    output: &mut Output<'_, W, E>,
+) -> Result<(), Stop> {
+    let mut absorber = empty(alloc, config)?;
+    let shown = show_status(alloc, input, &mut absorber, output);
+    absorber.leave();
+    shown
 }
 
 /// Absorbs the item frames of the input, and prints a line for each stream, how far it is, and then from where to where
@@ -148,15 +212,7 @@ pub fn run_status<I: Read, W: Write, E: Write>(
     ensures { result ≤ 1 }
 {
     let mut output = Output::of_form(alloc, form, writer, errors);
-    let printed = match absorbed(alloc, input, config) {
-        Ok(absorber) => {
-            let front = front_of(&absorber.state);
-            let put = put_status(absorber.state.got(), front, &mut output);
-            absorber.leave();
-            put
-        }
-        Err(stop) => Err(stop),
-    };
+    let printed = print_status(alloc, input, config, &mut output);
     ended(printed, &mut output)
 }
 

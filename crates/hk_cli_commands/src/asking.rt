@@ -39,18 +39,23 @@ fn at_time(words: &mut Words<'_>) -> Result<Asking, Unread> {
     })
 }
 
+/// A query of this name at the readable mark.
+fn at_mark(name: &str, words: &mut Words<'_>) -> Result<Asking, Unread> {
+    Ok(Asking::Query {
+        time: None,
+        query: query_named(name, words)?,
+    })
+}
+
 /// What the words ask that begin with this one.
 fn named(name: &str, words: &mut Words<'_>) -> Result<Asking, Unread> {
-    Ok(match name {
-        "at" => at_time(words)?,
-        "front" => Asking::Front,
-        "status" => Asking::Status,
-        "help" => Asking::Help,
-        name => Asking::Query {
-            time: None,
-            query: query_named(name, words)?,
-        },
-    })
+    match name {
+        "at" => at_time(words),
+        "front" => Ok(Asking::Front),
+        "status" => Ok(Asking::Status),
+        "help" => Ok(Asking::Help),
+        name => at_mark(name, words),
+    }
 }
 
 /// What a line asks, where it has one of the forms. Its words are parted by one space or more. Cost: O(n), n bytes of the

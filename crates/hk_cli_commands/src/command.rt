@@ -59,15 +59,21 @@ pub(crate) fn opening_of(line: &str) -> Result<Opening, Unread>
     if words.word()? != "world" {
         return Err(Unread::Bad(Flaw::NoWorld));
     }
-    let log = words.number()?;
-    let streams = words.within(1, 64)?;
+    let config = config(&mut words)?;
     let replicas = words.within(1, 16)?;
     words.end()?;
-    let config = Config::new(log, streams as u16);
     Ok(Opening {
-        config: config.ok().ok_or(Unread::Bad(Flaw::NoWorld))?,
+        config,
         replicas: replicas as u16,
     })
+}
+
+/// The log, and how many streams it has.
+fn config(words: &mut Words<'_>) -> Result<Config, Unread> {
+    let log = words.number()?;
+    let streams = words.within(1, 64)?;
+    let config = Config::new(log, streams as u16);
+    config.ok().ok_or(Unread::Bad(Flaw::NoWorld))
 }
 
 /// The time that a command asks for.
@@ -83,29 +89,46 @@ pub(crate) fn asked_of(command: &Command) -> RequestContext {
 /// The command of a line.
 pub(crate) fn command_of(alloc: Global, line: &str) -> Result<Command, Unread> {
     let mut words = Words::new(line);
-    let command = match words.word()? {
-        "begin" => Command::Begin {
-            slot: slot(&mut words)?,
-        },
-        "put" => put(alloc, &mut words)?,
-        "remove" => Command::Remove {
-            slot: slot(&mut words)?,
-            table: words.table()?,
-            key: words.key()?,
-        },
-        "commit" => Command::Commit {
-            slot: slot(&mut words)?,
-            stream: words.stream()?,
-        },
-        name => Command::Event(event(alloc, name, &mut words)?),
-    };
+    let name = words.word()?;
+    let command = command_named(alloc, name, &mut words)?;
     words.end()?;
     Ok(command)
+}
+
+/// The command of this name, with the words behind it. (Here and below each has a function of its own, since a proof of several
+/// together takes minutes.)
+fn command_named(alloc: Global, name: &str, words: &mut Words<'_>) -> Result<Command, Unread> {
+    match name {
+        "begin" => begin(words),
+        "put" => put(alloc, words),
+        "remove" => remove(words),
+        "commit" => commit(words),
+        name => Ok(Command::Event(event(alloc, name, words)?)),
+    }
 }
 
 fn slot(words: &mut Words<'_>) -> Result<usize, Unread> {
     let number = words.within(1, SLOTS as u64)?;
     Ok(number as usize - 1)
+}
+
+fn begin(words: &mut Words<'_>) -> Result<Command, Unread> {
+    Ok(Command::Begin { slot: slot(words)? })
+}
+
+fn remove(words: &mut Words<'_>) -> Result<Command, Unread> {
+    Ok(Command::Remove {
+        slot: slot(words)?,
+        table: words.table()?,
+        key: words.key()?,
+    })
+}
+
+fn commit(words: &mut Words<'_>) -> Result<Command, Unread> {
+    Ok(Command::Commit {
+        slot: slot(words)?,
+        stream: words.stream()?,
+    })
 }
 
 fn put(alloc: Global, words: &mut Words<'_>) -> Result<Command, Unread> {
@@ -117,45 +140,82 @@ fn put(alloc: Global, words: &mut Words<'_>) -> Result<Command, Unread> {
     })
 }
 
-fn event(alloc: Global, name: &str, words: &mut Words<'_>) -> Result<Event, Unread> {
-    Ok(match name {
-        "mark" => Event::MarkOf {
-            stream: words.stream()?,
-        },
-        "retire" => Event::Retire {
-            stream: words.stream()?,
-        },
-        "absorb" => Event::Absorb {
-            replica: words.small()?,
-            item: words.number()?,
-        },
-        "batch" => Event::Batch {
-            replica: words.small()?,
-            items: items(alloc, words)?,
-        },
-        "prune" => Event::Prune {
-            replica: words.small()?,
-            horizon: words.time()?,
-        },
-        "merge" => Event::Merge {
-            to: words.small()?,
-            from: words.small()?,
-        },
-        "delta" => Event::Delta {
-            to: words.small()?,
-            from: words.small()?,
-            base: words.time()?,
-        },
-        "ask" => Event::Ask {
-            replica: words.small()?,
-            t: words.time()?,
-            query: query(words)?,
-        },
-        "front" => Event::FrontOf {
-            replica: words.small()?,
-        },
-        _other => return Err(Unread::Bad(Flaw::NoCommand)),
+fn mark(words: &mut Words<'_>) -> Result<Event, Unread> {
+    Ok(Event::MarkOf {
+        stream: words.stream()?,
     })
+}
+
+fn retire(words: &mut Words<'_>) -> Result<Event, Unread> {
+    Ok(Event::Retire {
+        stream: words.stream()?,
+    })
+}
+
+fn absorb(words: &mut Words<'_>) -> Result<Event, Unread> {
+    Ok(Event::Absorb {
+        replica: words.small()?,
+        item: words.number()?,
+    })
+}
+
+fn batch(alloc: Global, words: &mut Words<'_>) -> Result<Event, Unread> {
+    Ok(Event::Batch {
+        replica: words.small()?,
+        items: items(alloc, words)?,
+    })
+}
+
+fn prune(words: &mut Words<'_>) -> Result<Event, Unread> {
+    Ok(Event::Prune {
+        replica: words.small()?,
+        horizon: words.time()?,
+    })
+}
+
+fn merge(words: &mut Words<'_>) -> Result<Event, Unread> {
+    Ok(Event::Merge {
+        to: words.small()?,
+        from: words.small()?,
+    })
+}
+
+fn delta(words: &mut Words<'_>) -> Result<Event, Unread> {
+    Ok(Event::Delta {
+        to: words.small()?,
+        from: words.small()?,
+        base: words.time()?,
+    })
+}
+
+fn ask(words: &mut Words<'_>) -> Result<Event, Unread> {
+    Ok(Event::Ask {
+        replica: words.small()?,
+        t: words.time()?,
+        query: query(words)?,
+    })
+}
+
+fn front(words: &mut Words<'_>) -> Result<Event, Unread> {
+    Ok(Event::FrontOf {
+        replica: words.small()?,
+    })
+}
+
+/// What happens in the world by this name, with the words behind it.
+fn event(alloc: Global, name: &str, words: &mut Words<'_>) -> Result<Event, Unread> {
+    match name {
+        "mark" => mark(words),
+        "retire" => retire(words),
+        "absorb" => absorb(words),
+        "batch" => batch(alloc, words),
+        "prune" => prune(words),
+        "merge" => merge(words),
+        "delta" => delta(words),
+        "ask" => ask(words),
+        "front" => front(words),
+        _other => Err(Unread::Bad(Flaw::NoCommand)),
+    }
 }
 
 /// The items of a batch: 1 to 64 numbers, up to the end of the line.
@@ -178,23 +238,39 @@ pub(crate) fn query(words: &mut Words<'_>) -> Result<Query, Unread> {
 
 /// The query of this name, with the words behind it.
 pub(crate) fn query_named(name: &str, words: &mut Words<'_>) -> Result<Query, Unread> {
-    Ok(match name {
-        "get" => Query::Get {
-            table: words.table()?,
-            key: words.key()?,
-        },
-        "range" => Query::Range {
-            table: words.table()?,
-            low: words.key()?,
-            high: words.key()?,
-        },
-        "tag" => Query::ByTag {
-            table: words.table()?,
-            tag: words.tag()?,
-        },
-        "count" => Query::Count {
-            table: words.table()?,
-        },
-        _other => return Err(words.no_query()),
+    match name {
+        "get" => get(words),
+        "range" => range(words),
+        "tag" => by_tag(words),
+        "count" => count(words),
+        _other => Err(words.no_query()),
+    }
+}
+
+fn get(words: &mut Words<'_>) -> Result<Query, Unread> {
+    Ok(Query::Get {
+        table: words.table()?,
+        key: words.key()?,
+    })
+}
+
+fn range(words: &mut Words<'_>) -> Result<Query, Unread> {
+    Ok(Query::Range {
+        table: words.table()?,
+        low: words.key()?,
+        high: words.key()?,
+    })
+}
+
+fn by_tag(words: &mut Words<'_>) -> Result<Query, Unread> {
+    Ok(Query::ByTag {
+        table: words.table()?,
+        tag: words.tag()?,
+    })
+}
+
+fn count(words: &mut Words<'_>) -> Result<Query, Unread> {
+    Ok(Query::Count {
+        table: words.table()?,
     })
 }

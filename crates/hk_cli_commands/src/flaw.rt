@@ -8,6 +8,9 @@ pub(crate) const MOST_LINE_BYTES: usize = 16_384;
 /// The most letters of a line that are shown again.
 const MOST_SHOWN: usize = 60;
 
+/// What a word is that is wanted to be a body, and is none.
+const NO_BODY: &str = "no body, which is - or up to 4096 pairs of 0 to 9 and a to f";
+
 /// The form of the first line.
 const OPENING: &str = "world LOG STREAMS REPLICAS";
 
@@ -38,14 +41,9 @@ pub(crate) enum Flaw {
     EmptySlot,
 }
 
-/// The form of the line that has this first word.
-fn form_of(name: &str) -> &'static str {
+/// The form of the line that has this first word, where that is not of a transaction.
+fn form_of_event(name: &str) -> &'static str {
     match name {
-        "world" => OPENING,
-        "begin" => "begin SLOT",
-        "put" => "put SLOT TABLE KEY TAG BODY",
-        "remove" => "remove SLOT TABLE KEY",
-        "commit" => "commit SLOT STREAM",
         "mark" => "mark STREAM",
         "retire" => "retire STREAM",
         "absorb" => "absorb REPLICA ITEM",
@@ -63,6 +61,18 @@ fn form_of(name: &str) -> &'static str {
     }
 }
 
+/// The form of the line that has this first word.
+fn form_of(name: &str) -> &'static str {
+    match name {
+        "world" => OPENING,
+        "begin" => "begin SLOT",
+        "put" => "put SLOT TABLE KEY TAG BODY",
+        "remove" => "remove SLOT TABLE KEY",
+        "commit" => "commit SLOT STREAM",
+        other => form_of_event(other),
+    }
+}
+
 fn wanted(flaw: Flaw, text: &str) -> &'static str {
     match flaw {
         Flaw::NoWorld => OPENING,
@@ -75,22 +85,31 @@ fn wanted(flaw: Flaw, text: &str) -> &'static str {
     }
 }
 
+/// What is wrong with a line as a whole.
+fn words_of(flaw: Flaw) -> &'static str {
+    match flaw {
+        Flaw::NoText => "its bytes are no text",
+        Flaw::NoWorld => "the first line makes the world",
+        Flaw::NoCommand => "no such command",
+        Flaw::TooFew => "a word is missing",
+        Flaw::TooMany => "there is more than its words",
+        _slot => "the slot has no transaction",
+    }
+}
+
+/// Adds what is wrong with a word.
+fn put_word(word: u64, what: &str, out: &mut String) -> Result<(), AllocError> {
+    write!(out, "word {word} is {what}")
+}
+
 fn put_flaw(flaw: Flaw, out: &mut String) -> Result<(), AllocError> {
     match flaw {
-        Flaw::NoText => out.push_str("its bytes are no text"),
         Flaw::TooLong => write!(out, "it has more than {MOST_LINE_BYTES} bytes"),
-        Flaw::NoWorld => out.push_str("the first line makes the world"),
-        Flaw::NoCommand => out.push_str("no such command"),
-        Flaw::NoQuery(word) => write!(out, "word {word} is no query"),
-        Flaw::TooFew => out.push_str("a word is missing"),
-        Flaw::TooMany => out.push_str("there is more than its words"),
-        Flaw::NoNumber(word) => write!(out, "word {word} is no number"),
-        Flaw::OutOfRange(word) => write!(out, "word {word} is outside its range"),
-        Flaw::NoBody(word) => write!(
-            out,
-            "word {word} is no body, which is - or up to 4096 pairs of 0 to 9 and a to f"
-        ),
-        Flaw::EmptySlot => out.push_str("the slot has no transaction"),
+        Flaw::NoQuery(word) => put_word(word, "no query", out),
+        Flaw::NoNumber(word) => put_word(word, "no number", out),
+        Flaw::OutOfRange(word) => put_word(word, "outside its range", out),
+        Flaw::NoBody(word) => put_word(word, NO_BODY, out),
+        whole => out.push_str(words_of(whole)),
     }
 }
 

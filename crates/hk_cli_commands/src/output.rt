@@ -30,6 +30,34 @@ const NO_ITEMS: &[u8] = b"stopped: the file of items can't be written; see where
 /// What is told where a write of the output failed.
 const NO_OUTPUT: &[u8] = b"stopped: the output can't be written; see where standard output goes\n";
 
+/// Where a refusal came from that names no place.
+const NOWHERE: Origin = Origin {
+    place: Place::Whole,
+    asked: RequestContext::Nothing,
+};
+
+/// The line of a number that is all that is said of a refusal.
+fn line_of(number: u8) -> &'static [u8] {
+    match number {
+        1 => b"refused 1\n",
+        90 => b"refused 90\n",
+        92 => b"refused 92\n",
+        93 => b"refused 93\n",
+        _read => b"refused 91\n",
+    }
+}
+
+/// The same in JSON.
+fn json_of(number: u8) -> &'static [u8] {
+    match number {
+        1 => b"{\"refused\":1}\n",
+        90 => b"{\"refused\":90}\n",
+        92 => b"{\"refused\":92}\n",
+        93 => b"{\"refused\":93}\n",
+        _read => b"{\"refused\":91}\n",
+    }
+}
+
 /// The lines of a command on their way to a writer, and what is told of refusals in words on its way to another.
 #[derive(Drop)]
 pub struct Output<'a, W: Write, E: Write> {
@@ -264,25 +292,31 @@ impl<'a, W: Write, E: Write> Output<'a, W, E> {
     /// Adds why the command stopped, in words. Of a line that is no command it was told.
     fn tell_stop(&mut self, stop: &Stop) {
         match stop {
-            Stop::Refused(Refusal::Memory) | Stop::RefusedAt(Refusal::Memory, _) => {
-                self.say(NO_MEMORY)
+            Stop::Refused(refusal) => self.tell_refusal(NOWHERE, refusal),
+            Stop::RefusedAt(refusal, origin) => self.tell_refusal(*origin, refusal),
+            other => self.tell_fault(other),
+        }
+    }
+
+    /// Adds why something was refused, in words, by a line that takes no memory where that ran out.
+    fn tell_refusal(&mut self, origin: Origin, refusal: &Refusal) {
+        match refusal {
+            Refusal::Memory => self.say(NO_MEMORY),
+            other => self.tell(origin, other),
+        }
+    }
+
+    /// Adds what failed, in words.
+    fn tell_fault(&mut self, stop: &Stop) {
+        match stop {
+            Stop::ReadFault | Stop::SendFault | Stop::NetFault => {
+                self.tell_known(Place::Whole, "refused", stop.device_number())
             }
-            Stop::Refused(refusal) => self.tell(
-                Origin {
-                    place: Place::Whole,
-                    asked: RequestContext::Nothing,
-                },
-                refusal,
-            ),
-            Stop::RefusedAt(refusal, origin) => self.tell(*origin, refusal),
-            Stop::ReadFault => self.tell_known(Place::Whole, "refused", 91),
-            Stop::SendFault => self.tell_known(Place::Whole, "refused", 92),
-            Stop::NetFault => self.tell_known(Place::Whole, "refused", 93),
             Stop::LinkCut(request) => self.tell_cut(*request),
             Stop::ReplyLate { request, seconds } => self.tell_late(*request, *seconds),
             Stop::ItemsFault => self.say(NO_ITEMS),
             Stop::WriteFault => self.say_no_output(),
-            Stop::BadCommand(_) | Stop::NetTold => (),
+            _told => (),
         }
     }
 
@@ -292,15 +326,8 @@ impl<'a, W: Write, E: Write> Output<'a, W, E> {
         match stop {
             Stop::Refused(refusal) | Stop::RefusedAt(refusal, _) => self.print_refusal(refusal),
             Stop::BadCommand(line) => self.print_bad(*line),
-            Stop::ReadFault | Stop::ReplyLate { .. } => {
-                self.print_device(b"refused 91\n", b"{\"refused\":91}\n")
-            }
             Stop::WriteFault | Stop::ItemsFault => Ok(()),
-            Stop::SendFault => self.print_device(b"refused 92\n", b"{\"refused\":92}\n"),
-            Stop::LinkCut(_request) => self.print_device(b"refused 1\n", b"{\"refused\":1}\n"),
-            Stop::NetFault | Stop::NetTold => {
-                self.print_device(b"refused 93\n", b"{\"refused\":93}\n")
-            }
+            other => self.print_number(other.device_number()),
         }
     }
 
@@ -314,14 +341,14 @@ impl<'a, W: Write, E: Write> Output<'a, W, E> {
                 other => return other,
             }
         }
-        self.print_device(b"refused 90\n", b"{\"refused\":90}\n")
+        self.print_number(90)
     }
 
-    /// Writes one of two lines, which take no memory: that of the form of the output.
-    fn print_device(&mut self, line: &[u8], json: &[u8]) -> Result<(), Stop> {
+    /// Writes that something was refused with a number that is all that is said of it: a line that takes no memory.
+    fn print_number(&mut self, number: u8) -> Result<(), Stop> {
         match self.form {
-            OutputForm::Lines => self.write_plain(line),
-            OutputForm::Json => self.write_plain(json),
+            OutputForm::Lines => self.write_plain(line_of(number)),
+            OutputForm::Json => self.write_plain(json_of(number)),
             OutputForm::Bytes => Ok(()),
         }
     }

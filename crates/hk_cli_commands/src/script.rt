@@ -83,20 +83,30 @@ impl Script {
 
     /// Does what a command says, unless it names an empty slot.
     pub(crate) fn make(&mut self, command: Command) -> Result<Reply, Unread> {
-        let outcome = match command {
-            Command::Begin { slot } => return self.begin(slot),
+        match command {
+            Command::Begin { slot } => self.begin(slot),
             Command::Put {
                 slot,
                 table,
                 key,
                 row,
-            } => self.put(slot, table, key, row)?,
-            Command::Remove { slot, table, key } => self.remove(slot, table, key)?,
-            Command::Commit { slot, stream } => self.commit(slot, stream)?,
-            Command::Event(event) => self.world.step(event),
-        };
+            } => self.put(slot, table, key, row),
+            Command::Remove { slot, table, key } => self.remove(slot, table, key),
+            Command::Commit { slot, stream } => self.commit(slot, stream),
+            Command::Event(event) => self.step(event),
+        }
+    }
+
+    /// Something happens in the world.
+    fn step(&mut self, event: Event) -> Result<Reply, Unread> {
+        let outcome = self.world.step(event);
+        Ok(self.told(outcome))
+    }
+
+    /// The reply with what was told, noted where it is a refusal.
+    fn told(&mut self, outcome: Told) -> Reply {
         self.is_refused = self.is_refused || matches!(outcome, Told::Refused(_));
-        Ok(Reply::Told(outcome))
+        Reply::Told(outcome)
     }
 
     /// A transaction that reads at the last commit begins, in place of what the slot had.
@@ -121,33 +131,56 @@ impl Script {
         }
     }
 
-    fn put(&mut self, slot: usize, table: Table, key: Key, row: Row) -> Result<Told, Unread> {
-        Ok(match self.txn(slot)?.put(table, key, row) {
-            Ok(()) => Told::Done,
-            Err((_row, why)) => Told::Refused(why),
-        })
+    fn put(&mut self, slot: usize, table: Table, key: Key, row: Row) -> Result<Reply, Unread> {
+        let outcome = put_told(self.txn(slot)?, table, key, row);
+        Ok(self.told(outcome))
     }
 
-    fn remove(&mut self, slot: usize, table: Table, key: Key) -> Result<Told, Unread> {
-        Ok(match self.txn(slot)?.remove(table, key) {
-            Ok(()) => Told::Done,
-            Err(why) => Told::Refused(why),
-        })
+    fn remove(&mut self, slot: usize, table: Table, key: Key) -> Result<Reply, Unread> {
+        let outcome = remove_told(self.txn(slot)?, table, key);
+        Ok(self.told(outcome))
     }
 
     /// The transaction of a slot commits; the slot is empty after, unless it was refused.
-    fn commit(&mut self, slot: usize, stream: StreamNo) -> Result<Told, Unread> {
+    fn commit(&mut self, slot: usize, stream: StreamNo) -> Result<Reply, Unread> {
         let alloc = self.alloc;
-        let outcome = match commit_of(alloc, self.txn(slot)?, stream) {
+        let event = commit_of(alloc, self.txn(slot)?, stream);
+        let outcome = self.commit_told(event);
+        if !matches!(outcome, Told::Refused(_)) {
+            self.clear(slot);
+        }
+        Ok(self.told(outcome))
+    }
+
+    /// What a commit is told, where there was memory for it.
+    fn commit_told(&mut self, event: Result<Event, AllocError>) -> Told {
+        match event {
             Ok(event) => self.world.step(event),
             Err(_memory) => Told::Refused(Refusal::Memory),
-        };
-        if !matches!(outcome, Told::Refused(_)) {
-            if let Some(place) = self.slots.get_mut(slot) {
-                *place = None;
-            }
         }
-        Ok(outcome)
+    }
+
+    /// Empties a slot.
+    fn clear(&mut self, slot: usize) {
+        if let Some(place) = self.slots.get_mut(slot) {
+            *place = None;
+        }
+    }
+}
+
+/// What a transaction tells that puts a row.
+fn put_told(txn: &mut Txn, table: Table, key: Key, row: Row) -> Told {
+    match txn.put(table, key, row) {
+        Ok(()) => Told::Done,
+        Err((_row, why)) => Told::Refused(why),
+    }
+}
+
+/// What a transaction tells that removes a row.
+fn remove_told(txn: &mut Txn, table: Table, key: Key) -> Told {
+    match txn.remove(table, key) {
+        Ok(()) => Told::Done,
+        Err(why) => Told::Refused(why),
     }
 }
 

@@ -14,7 +14,7 @@ use hk_cli_json::{InJson, StreamLine};
 use hk_cli_lines::Printed;
 use hk_marks::Got;
 use hk_model::Front;
-use hk_types::{Refusal, StreamNo, Time};
+use hk_types::{StreamNo, Time};
 use std::alloc::{AllocError, Global};
 use std::io::Write;
 
@@ -149,7 +149,7 @@ fn word_of(standing: Standing) -> &'static str {
 }
 
 impl InJson for StreamStatus {
-    fn json_to(&self, alloc: Global, out: &mut String) -> Result<(), Refusal> {
+    fn json_to(&self, alloc: Global, out: &mut String) -> Result<(), AllocError> {
         let line = StreamLine {
             stream: self.stream,
             prefix: self.prefix,

@@ -60,6 +60,16 @@ impl From<AllocError> for Stop {
 }
 
 impl Stop {
+    /// The number of what failed, where that is a device or a link.
+    pub(crate) fn device_number(&self) -> u8 {
+        match self {
+            Stop::LinkCut(_) => 1,
+            Stop::SendFault => 92,
+            Stop::NetFault | Stop::NetTold => 93,
+            _read => 91,
+        }
+    }
+
     /// The same, with where it came from, where it is a refusal of which that isn't known.
     pub fn at(self, origin: Origin) -> Stop {
         match self {

@@ -47,19 +47,37 @@ impl<W: Write, E: Write> Player<'_, W, E> {
     }
 
     /// Makes the command of a line; the first line makes the world, and is told nothing.
-    fn make_line(&mut self, line: &[u8]) -> Result<Option<(Reply, RequestContext)>, Unread> {
-        let line = match str::from_utf8(line) {
-            Ok(line) => line,
-            Err(_error) => return Err(Unread::Bad(Flaw::NoText)),
-        };
-        if let Some(script) = &mut self.script {
-            let command = command_of(self.alloc, line)?;
-            let asked = asked_of(&command);
-            return Ok(Some((script.make(command)?, asked)));
+    fn make_line(&mut self, line: &str) -> Result<Option<(Reply, RequestContext)>, Unread> {
+        match &mut self.script {
+            Some(script) => Ok(Some(made(self.alloc, script, line)?)),
+            None => {
+                self.script = Some(opened(self.alloc, line)?);
+                Ok(None)
+            }
         }
-        let script = Script::new(self.alloc, opening_of(line)?);
-        self.script = Some(script.map_err(|_refused| Unread::Memory)?);
-        Ok(None)
+    }
+
+    /// The same of the bytes of a line.
+    fn make_bytes(&mut self, line: &[u8]) -> Result<Option<(Reply, RequestContext)>, Unread> {
+        match str::from_utf8(line) {
+            Ok(line) => self.make_line(line),
+            Err(_error) => Err(Unread::Bad(Flaw::NoText)),
+        }
+    }
+}
+
+/// Makes the command of a line, and gives the time that it asks for.
+fn made(alloc: Global, script: &mut Script, line: &str) -> Result<(Reply, RequestContext), Unread> {
+    let command = command_of(alloc, line)?;
+    let asked = asked_of(&command);
+    Ok((script.make(command)?, asked))
+}
+
+/// The script behind its first line.
+fn opened(alloc: Global, line: &str) -> Result<Script, Unread> {
+    match Script::new(alloc, opening_of(line)?) {
+        Ok(script) => Ok(script),
+        Err(_refused) => Err(Unread::Memory),
     }
 }
 
@@ -71,7 +89,7 @@ impl<W: Write, E: Write> Lines for Player<'_, W, E> {
         if line.is_empty() {
             return Ok(());
         }
-        match self.make_line(line) {
+        match self.make_bytes(line) {
             Ok(Some((reply, asked))) => self.tell(number, &reply, asked),
             Ok(None) => Ok(()),
             Err(unread) => Err(self.stop_of(number, line, unread)),

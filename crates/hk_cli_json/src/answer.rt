@@ -1,95 +1,52 @@
 //! Answers and fronts in JSON.
 
-use crate::field::{Body, Moment, Wide};
-use crate::line::{InJson, put_line};
+use crate::line::{InJson, put_comma};
+use crate::row::{put_maybe_row, put_row};
 use hk_model::{Answer, Front};
-use hk_types::{Key, Refusal, Row};
-use serde::Serialize;
+use hk_types::{Key, Row};
 use std::alloc::{AllocError, Global};
 
-/// A row without its key.
-#[derive(Drop, Serialize)]
-pub(crate) struct PlainRow {
-    tag: u32,
-    body: Body,
+fn put_one(alloc: Global, row: Option<&Row>, out: &mut String) -> Result<(), AllocError> {
+    out.push_str("{\"row\":")?;
+    put_maybe_row(alloc, row, out)?;
+    out.push_str("}\n")
 }
 
-/// A row behind its key.
-#[derive(Drop, Serialize)]
-struct KeyedRow {
-    key: Wide,
-    tag: u32,
-    body: Body,
+fn put_keyed(alloc: Global, key: Key, row: &Row, out: &mut String) -> Result<(), AllocError> {
+    write!(out, "{{\"key\":\"{key}\",")?;
+    put_row(alloc, row, out)
 }
 
-/// An answer.
-#[derive(Drop, Serialize)]
-#[serde(rename_all = "lowercase")]
-enum AnswerLine {
-    Row(Option<PlainRow>),
-    Rows(Vec<KeyedRow>),
-    Count(Wide),
-}
-
-pub(crate) fn plain_row(alloc: Global, row: &Row) -> Result<PlainRow, AllocError> {
-    Ok(PlainRow {
-        tag: row.tag().number(),
-        body: Body::of(alloc, row.body())?,
-    })
-}
-
-/// The row, where there is one.
-pub(crate) fn maybe_row(alloc: Global, row: Option<&Row>) -> Result<Option<PlainRow>, AllocError> {
-    match row {
-        Some(row) => Ok(Some(plain_row(alloc, row)?)),
-        None => Ok(None),
+fn put_rows(alloc: Global, rows: &[(Key, Row)], out: &mut String) -> Result<(), AllocError> {
+    out.push_str("{\"rows\":[")?;
+    for (index, (key, row)) in rows.iter().enumerate() {
+        put_comma(index, out)?;
+        put_keyed(alloc, *key, row, out)?;
     }
+    out.push_str("]}\n")
 }
 
-fn keyed_row(alloc: Global, key: Key, row: &Row) -> Result<KeyedRow, AllocError> {
-    Ok(KeyedRow {
-        key: Wide(key.number()),
-        tag: row.tag().number(),
-        body: Body::of(alloc, row.body())?,
-    })
-}
-
-fn keyed_rows(alloc: Global, rows: &[(Key, Row)]) -> Result<Vec<KeyedRow>, AllocError> {
-    let mut lines = Vec::new(alloc);
-    for (key, row) in rows {
-        lines.push(keyed_row(alloc, *key, row)?)?;
-    }
-    Ok(lines)
+fn put_count(count: u64, out: &mut String) -> Result<(), AllocError> {
+    writeln!(out, "{{\"count\":\"{count}\"}}")
 }
 
 impl InJson for Answer {
-    fn json_to(&self, alloc: Global, out: &mut String) -> Result<(), Refusal> {
-        let line = match self {
-            Answer::One(row) => AnswerLine::Row(maybe_row(alloc, row.as_ref())?),
-            Answer::Rows(rows) => AnswerLine::Rows(keyed_rows(alloc, rows)?),
-            Answer::Number(number) => AnswerLine::Count(Wide(*number)),
-        };
-        put_line(alloc, &line, out)
+    fn json_to(&self, alloc: Global, out: &mut String) -> Result<(), AllocError> {
+        match self {
+            Answer::One(row) => put_one(alloc, row.as_ref(), out),
+            Answer::Rows(rows) => put_rows(alloc, rows, out),
+            Answer::Number(number) => put_count(*number, out),
+        }
     }
 }
 
-#[derive(Clone, Copy, Serialize)]
-struct FrontFields {
-    horizon: Moment,
-    readable: Moment,
-}
-
-#[derive(Clone, Copy, Serialize)]
-struct FrontLine {
-    front: FrontFields,
-}
-
 impl InJson for Front {
-    fn json_to(&self, alloc: Global, out: &mut String) -> Result<(), Refusal> {
-        let front = FrontFields {
-            horizon: Moment(self.horizon),
-            readable: Moment(self.readable),
-        };
-        put_line(alloc, &FrontLine { front }, out)
+    fn json_to(&self, _alloc: Global, out: &mut String) -> Result<(), AllocError> {
+        let horizon = self.horizon;
+        let readable = self.readable;
+        writeln!(
+            out,
+            "{{\"front\":{{\"horizon\":\"{horizon}\",\"readable\":\"{readable}\"}}}}"
+        )
     }
 }

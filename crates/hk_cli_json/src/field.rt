@@ -1,20 +1,12 @@
-//! The fields of lines.
+//! The fields of lines that are read.
 
 use hk_types::{MOST_BODY_BYTES, StreamNo, Time};
-use serde::{Described, Deserialize, Deserializer, Format, Serialize, Serializer};
-use std::alloc::{AllocError, Global};
+use serde::{Deserialize, Deserializer, Format};
+use std::alloc::Global;
 
 /// A number of 64 bits, as a string.
 #[derive(Clone, Copy)]
 pub(crate) struct Wide(pub(crate) u64);
-
-impl Described for Wide {}
-
-impl Serialize for Wide {
-    fn serialize<S: Serializer>(&self, out: &mut S) -> Result<(), S::Error> {
-        out.collect_str(&self.0)
-    }
-}
 
 /// The number that decimal digits alone make.
 fn number_of(digits: &str) -> Option<u64> {
@@ -41,14 +33,6 @@ impl<'de> Deserialize<'de> for Wide {
 #[derive(Clone, Copy)]
 pub(crate) struct Moment(pub(crate) Time);
 
-impl Described for Moment {}
-
-impl Serialize for Moment {
-    fn serialize<S: Serializer>(&self, out: &mut S) -> Result<(), S::Error> {
-        Wide(self.0.number()).serialize(out)
-    }
-}
-
 impl<'de> Deserialize<'de> for Moment {
     fn deserialize<F: Format>(
         alloc: Global,
@@ -65,14 +49,6 @@ impl<'de> Deserialize<'de> for Moment {
 /// The number of a stream.
 #[derive(Clone, Copy)]
 pub(crate) struct Stream(pub(crate) StreamNo);
-
-impl Described for Stream {}
-
-impl Serialize for Stream {
-    fn serialize<S: Serializer>(&self, out: &mut S) -> Result<(), S::Error> {
-        self.0.number().serialize(out)
-    }
-}
 
 impl<'de> Deserialize<'de> for Stream {
     fn deserialize<F: Format>(
@@ -92,22 +68,9 @@ impl<'de> Deserialize<'de> for Stream {
 pub(crate) struct Body(String);
 
 impl Body {
-    /// The digits of these bytes.
-    pub(crate) fn of(alloc: Global, bytes: &[u8]) -> Result<Body, AllocError> {
-        Ok(Body(hex::encode(alloc, bytes)?))
-    }
-
     /// The bytes of these digits.
     pub(crate) fn bytes(&self, alloc: Global) -> Option<Vec<u8>> {
         hex::decode(alloc, &self.0).ok()
-    }
-}
-
-impl Described for Body {}
-
-impl Serialize for Body {
-    fn serialize<S: Serializer>(&self, out: &mut S) -> Result<(), S::Error> {
-        out.str(&self.0)
     }
 }
 

@@ -2,129 +2,123 @@
 
 ghost use Rattle.std.specs.Prelude.{◌≤◌, length};
 
-use crate::answer::{PlainRow, maybe_row};
-use crate::field::{Moment, Wide};
-use crate::line::{InJson, put_line};
+use crate::line::{InJson, put_comma};
+use crate::row::put_maybe_row;
 use hk_fragment::Fragment;
 use hk_log::Version;
 use hk_marks::Got;
-use hk_types::{Refusal, StreamNo, VersionKey};
-use serde::Serialize;
+use hk_types::{StreamNo, Time, VersionKey};
 use std::alloc::{AllocError, Global};
 
-/// A mark that waits for entries.
-#[derive(Clone, Copy, Serialize)]
-struct WaitingMark {
-    n: Wide,
-    m: Moment,
+/// Adds up to which number all entries of a stream are taken.
+fn put_prefix(prefix: u64, out: &mut String) -> Result<(), AllocError> {
+    write!(out, "{{\"prefix\":\"{prefix}\",\"extra\":[")
 }
 
-/// How far a stream is.
-#[derive(Drop, Serialize)]
-struct StreamFields {
-    prefix: Wide,
-    extra: Vec<Wide>,
-    closed: Moment,
-    waiting: Vec<WaitingMark>,
+/// Adds the number of an entry that is taken above it.
+fn put_number(index: usize, number: u64, out: &mut String) -> Result<(), AllocError> {
+    put_comma(index, out)?;
+    write!(out, "\"{number}\"")
 }
 
-#[derive(Drop, Serialize)]
-struct HeadFields {
-    log: Wide,
-    base: Moment,
-    horizon: Moment,
-    streams: Vec<StreamFields>,
-    facts: Wide,
-}
-
-#[derive(Drop, Serialize)]
-struct HeadLine {
-    fragment: HeadFields,
-}
-
-/// What is known of a version.
-#[derive(Drop, Serialize)]
-struct FactFields {
-    table: u16,
-    key: Wide,
-    born: Moment,
-    row: Option<PlainRow>,
-    died: Option<Moment>,
-}
-
-#[derive(Drop, Serialize)]
-struct FactLine {
-    fact: FactFields,
-}
-
-fn extra_of(alloc: Global, got: &Got, stream: StreamNo) -> Result<Vec<Wide>, AllocError>
+fn put_extra(got: &Got, stream: StreamNo, out: &mut String) -> Result<(), AllocError>
     requires { stream ≤ length got.now }
 {
-    let mut extra = Vec::new(alloc);
-    for number in got.extra_numbers(stream) {
-        extra.push(Wide(*number))?;
+    for (index, number) in got.extra_numbers(stream).enumerate() {
+        put_number(index, *number, out)?;
     }
-    Ok(extra)
+    Ok(())
 }
 
-fn waiting_of(alloc: Global, got: &Got, stream: StreamNo) -> Result<Vec<WaitingMark>, AllocError>
+/// Adds up to when a stream is closed.
+fn put_closed(closed: Time, out: &mut String) -> Result<(), AllocError> {
+    write!(out, "],\"closed\":\"{closed}\",\"waiting\":[")
+}
+
+/// Adds a mark that waits for entries.
+fn put_mark(index: usize, n: u64, m: Time, out: &mut String) -> Result<(), AllocError> {
+    put_comma(index, out)?;
+    write!(out, "{{\"n\":\"{n}\",\"m\":\"{m}\"}}")
+}
+
+fn put_waiting(got: &Got, stream: StreamNo, out: &mut String) -> Result<(), AllocError>
     requires { stream ≤ length got.now }
 {
-    let mut waiting = Vec::new(alloc);
-    for (n, m) in got.waiting_marks(stream) {
-        let (n, m) = (Wide(*n), Moment(*m));
-        waiting.push(WaitingMark { n, m })?;
+    for (index, (n, m)) in got.waiting_marks(stream).enumerate() {
+        put_mark(index, *n, *m, out)?;
     }
-    Ok(waiting)
+    out.push_str("]}")
 }
 
-fn stream_fields(alloc: Global, got: &Got, stream: StreamNo) -> Result<StreamFields, AllocError>
+fn put_stream(got: &Got, stream: StreamNo, out: &mut String) -> Result<(), AllocError>
     requires { stream ≤ length got.now }
 {
-    Ok(StreamFields {
-        prefix: Wide(got.prefix(stream)),
-        extra: extra_of(alloc, got, stream)?,
-        closed: Moment(got.closed(stream)),
-        waiting: waiting_of(alloc, got, stream)?,
-    })
+    put_prefix(got.prefix(stream), out)?;
+    put_extra(got, stream, out)?;
+    put_closed(got.closed(stream), out)?;
+    put_waiting(got, stream, out)
 }
 
-fn streams_of(alloc: Global, got: &Got) -> Result<Vec<StreamFields>, Refusal> {
-    let mut streams = Vec::new(alloc);
+fn put_streams(got: &Got, out: &mut String) -> Result<(), AllocError> {
     for index in 0..got.streams() {
-        let stream = StreamNo::new(index + 1)?;
-        streams.push(stream_fields(alloc, got, stream)?)?;
+        if let Ok(stream) = StreamNo::new(index + 1) {
+            put_comma(usize::from(index), out)?;
+            put_stream(got, stream, out)?;
+        }
     }
-    Ok(streams)
+    Ok(())
 }
 
 /// The head of a fragment: its log, its times, and how far its streams are.
 #[derive(Clone, Copy)]
 pub struct FragmentSummary<'a>(pub &'a Fragment);
 
+fn put_head(fragment: &Fragment, out: &mut String) -> Result<(), AllocError> {
+    let log = fragment.config().log();
+    let base = fragment.base();
+    let horizon = fragment.horizon();
+    write!(
+        out,
+        "{{\"fragment\":{{\"log\":\"{log}\",\"base\":\"{base}\",\"horizon\":\"{horizon}\",\"streams\":["
+    )
+}
+
+/// Adds how many facts there are, and the end of the line.
+fn put_count(facts: usize, out: &mut String) -> Result<(), AllocError> {
+    writeln!(out, "],\"facts\":\"{facts}\"}}}}")
+}
+
 impl InJson for FragmentSummary<'_> {
-    fn json_to(&self, alloc: Global, out: &mut String) -> Result<(), Refusal> {
-        let fragment = HeadFields {
-            log: Wide(self.0.config().log()),
-            base: Moment(self.0.base()),
-            horizon: Moment(self.0.horizon()),
-            streams: streams_of(alloc, self.0.got())?,
-            facts: Wide(self.0.facts().len() as u64),
-        };
-        put_line(alloc, &HeadLine { fragment }, out)
+    fn json_to(&self, _alloc: Global, out: &mut String) -> Result<(), AllocError> {
+        let fragment = self.0;
+        put_head(fragment, out)?;
+        put_streams(fragment.got(), out)?;
+        put_count(fragment.facts().len(), out)
+    }
+}
+
+fn put_key(key: &VersionKey, out: &mut String) -> Result<(), AllocError> {
+    let table = key.table;
+    let born = key.born;
+    let key = key.key;
+    write!(
+        out,
+        "{{\"fact\":{{\"table\":{table},\"key\":\"{key}\",\"born\":\"{born}\",\"row\":"
+    )
+}
+
+fn put_died(died: Option<Time>, out: &mut String) -> Result<(), AllocError> {
+    match died {
+        Some(time) => writeln!(out, ",\"died\":\"{time}\"}}}}"),
+        None => out.push_str(",\"died\":null}}\n"),
     }
 }
 
 impl InJson for (VersionKey, Version) {
-    fn json_to(&self, alloc: Global, out: &mut String) -> Result<(), Refusal> {
+    fn json_to(&self, alloc: Global, out: &mut String) -> Result<(), AllocError> {
         let (key, version) = self;
-        let fact = FactFields {
-            table: key.table.number(),
-            key: Wide(key.key.number()),
-            born: Moment(key.born),
-            row: maybe_row(alloc, version.row())?,
-            died: version.died().map(Moment),
-        };
-        put_line(alloc, &FactLine { fact }, out)
+        put_key(key, out)?;
+        put_maybe_row(alloc, version.row(), out)?;
+        put_died(version.died(), out)
     }
 }

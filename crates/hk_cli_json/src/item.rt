@@ -1,121 +1,86 @@
 //! Items in JSON.
 
-use crate::field::{Body, Moment, Stream, Wide};
-use crate::line::{InJson, put_line};
+use crate::line::{InJson, put_comma};
+use crate::row::put_row;
 use hk_log::{Entry, Item, Mark};
-use hk_types::{Key, Refusal, Row, Table, VersionKey};
-use serde::{Deserialize, Serialize};
+use hk_types::{Key, Row, Table, VersionKey};
 use std::alloc::{AllocError, Global};
 
-/// A version that an entry ends.
-#[derive(Clone, Copy, Serialize, Deserialize)]
-#[serde(deny_unknown_fields)]
-pub(crate) struct EndLine {
-    pub(crate) table: u16,
-    pub(crate) key: Wide,
-    pub(crate) born: Moment,
+/// Adds a version that an entry ends.
+fn put_end(end: &VersionKey, out: &mut String) -> Result<(), AllocError> {
+    let table = end.table;
+    let key = end.key;
+    let born = end.born;
+    write!(
+        out,
+        "{{\"table\":{table},\"key\":\"{key}\",\"born\":\"{born}\"}}"
+    )
 }
 
-/// A row that an entry puts in.
-#[derive(Drop, Serialize, Deserialize)]
-#[serde(deny_unknown_fields)]
-pub(crate) struct RowLine {
-    pub(crate) table: u16,
-    pub(crate) key: Wide,
-    pub(crate) tag: u32,
-    pub(crate) body: Body,
+/// Adds a row that an entry puts in.
+fn put_placed(
+    alloc: Global,
+    table: Table,
+    key: Key,
+    row: &Row,
+    out: &mut String,
+) -> Result<(), AllocError> {
+    write!(out, "{{\"table\":{table},\"key\":\"{key}\",")?;
+    put_row(alloc, row, out)
 }
 
-/// An entry.
-#[derive(Drop, Serialize, Deserialize)]
-#[serde(deny_unknown_fields)]
-pub(crate) struct EntryLine {
-    pub(crate) log: Wide,
-    pub(crate) stream: Stream,
-    pub(crate) number: Wide,
-    pub(crate) time: Moment,
-    pub(crate) ends: Vec<EndLine>,
-    pub(crate) rows: Vec<RowLine>,
-}
-
-/// A mark.
-#[derive(Clone, Copy, Serialize, Deserialize)]
-#[serde(deny_unknown_fields)]
-pub(crate) struct MarkLine {
-    pub(crate) log: Wide,
-    pub(crate) stream: Stream,
-    pub(crate) n: Wide,
-    pub(crate) m: Moment,
-}
-
-/// An item.
-#[derive(Drop, Serialize, Deserialize)]
-#[serde(rename_all = "lowercase")]
-pub(crate) enum ItemLine {
-    Commit(EntryLine),
-    Mark(MarkLine),
-}
-
-/// What an end is in JSON.
-pub(crate) fn end_line(end: &VersionKey) -> EndLine {
-    EndLine {
-        table: end.table.number(),
-        key: Wide(end.key.number()),
-        born: Moment(end.born),
+fn put_ends(ends: &[VersionKey], out: &mut String) -> Result<(), AllocError> {
+    out.push_str(",\"ends\":[")?;
+    for (index, end) in ends.iter().enumerate() {
+        put_comma(index, out)?;
+        put_end(end, out)?;
     }
+    Ok(())
 }
 
-fn row_line(alloc: Global, table: Table, key: Key, row: &Row) -> Result<RowLine, AllocError> {
-    Ok(RowLine {
-        table: table.number(),
-        key: Wide(key.number()),
-        tag: row.tag().number(),
-        body: Body::of(alloc, row.body())?,
-    })
-}
-
-fn end_lines(alloc: Global, ends: &[VersionKey]) -> Result<Vec<EndLine>, AllocError> {
-    let mut lines = Vec::new(alloc);
-    for end in ends {
-        lines.push(end_line(end))?;
+fn put_rows(alloc: Global, rows: &[(Table, Key, Row)], out: &mut String) -> Result<(), AllocError> {
+    out.push_str("],\"rows\":[")?;
+    for (index, (table, key, row)) in rows.iter().enumerate() {
+        put_comma(index, out)?;
+        put_placed(alloc, *table, *key, row, out)?;
     }
-    Ok(lines)
+    out.push_str("]}}\n")
 }
 
-fn row_lines(alloc: Global, rows: &[(Table, Key, Row)]) -> Result<Vec<RowLine>, AllocError> {
-    let mut lines = Vec::new(alloc);
-    for (table, key, row) in rows {
-        lines.push(row_line(alloc, *table, *key, row)?)?;
-    }
-    Ok(lines)
+/// Adds which entry it is.
+fn put_place(entry: &Entry, out: &mut String) -> Result<(), AllocError> {
+    let log = entry.log();
+    let stream = entry.stream();
+    let number = entry.number();
+    let time = entry.time();
+    write!(
+        out,
+        "{{\"commit\":{{\"log\":\"{log}\",\"stream\":{stream},\"number\":\"{number}\",\"time\":\"{time}\""
+    )
 }
 
-fn entry_line(alloc: Global, entry: &Entry) -> Result<EntryLine, AllocError> {
-    Ok(EntryLine {
-        log: Wide(entry.log()),
-        stream: Stream(entry.stream()),
-        number: Wide(entry.number()),
-        time: Moment(entry.time()),
-        ends: end_lines(alloc, entry.ends())?,
-        rows: row_lines(alloc, entry.rows())?,
-    })
+fn put_entry(alloc: Global, entry: &Entry, out: &mut String) -> Result<(), AllocError> {
+    put_place(entry, out)?;
+    put_ends(entry.ends(), out)?;
+    put_rows(alloc, entry.rows(), out)
 }
 
-fn mark_line(mark: &Mark) -> MarkLine {
-    MarkLine {
-        log: Wide(mark.log()),
-        stream: Stream(mark.stream()),
-        n: Wide(mark.n()),
-        m: Moment(mark.m()),
-    }
+fn put_mark(mark: &Mark, out: &mut String) -> Result<(), AllocError> {
+    let log = mark.log();
+    let stream = mark.stream();
+    let n = mark.n();
+    let m = mark.m();
+    writeln!(
+        out,
+        "{{\"mark\":{{\"log\":\"{log}\",\"stream\":{stream},\"n\":\"{n}\",\"m\":\"{m}\"}}}}"
+    )
 }
 
 impl InJson for Item {
-    fn json_to(&self, alloc: Global, out: &mut String) -> Result<(), Refusal> {
-        let line = match self {
-            Item::Commit(entry) => ItemLine::Commit(entry_line(alloc, entry)?),
-            Item::Closed(mark) => ItemLine::Mark(mark_line(mark)),
-        };
-        put_line(alloc, &line, out)
+    fn json_to(&self, alloc: Global, out: &mut String) -> Result<(), AllocError> {
+        match self {
+            Item::Commit(entry) => put_entry(alloc, entry, out),
+            Item::Closed(mark) => put_mark(mark, out),
+        }
     }
 }

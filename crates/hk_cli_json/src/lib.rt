@@ -8,9 +8,11 @@ mod answer;
 mod field;
 mod fragment;
 mod item;
+mod item_line;
 mod line;
 mod reading;
 mod refusal;
+mod row;
 mod status;
 
 pub use fragment::FragmentSummary;

@@ -1,7 +1,7 @@
 //! Items from JSON.
 
 use crate::field::{Body, Wide};
-use crate::item::{EndLine, EntryLine, ItemLine, MarkLine, RowLine};
+use crate::item_line::{EndLine, EntryLine, ItemLine, MarkLine, RowLine};
 use hk_log::{Entry, Item, Mark};
 use hk_types::{FormFault, Key, Row, Table, Tag, VersionKey};
 use serde_json::Error;

@@ -1,93 +1,74 @@
 //! Refusals in JSON.
 
-use crate::field::{Moment, Wide};
-use crate::line::{InJson, put_line};
-use hk_types::Refusal;
-use serde::Serialize;
-use std::alloc::Global;
+use crate::line::InJson;
+use hk_types::{Key, Refusal, Table, Time};
+use std::alloc::{AllocError, Global};
 
-/// A refusal: its number, and the fields that it has, by the names that its line has.
-#[derive(Clone, Copy, Serialize)]
-struct RefusalLine {
-    refused: u8,
-    #[serde(skip_serializing_if = "Option::is_none")]
-    base: Option<Moment>,
-    #[serde(skip_serializing_if = "Option::is_none")]
-    readable: Option<Moment>,
-    #[serde(skip_serializing_if = "Option::is_none")]
-    horizon: Option<Moment>,
-    #[serde(skip_serializing_if = "Option::is_none")]
-    table: Option<u16>,
-    #[serde(skip_serializing_if = "Option::is_none")]
-    key: Option<Wide>,
-    #[serde(skip_serializing_if = "Option::is_none")]
-    at: Option<Moment>,
-    #[serde(skip_serializing_if = "Option::is_none")]
-    stream: Option<u16>,
-    #[serde(skip_serializing_if = "Option::is_none")]
-    reader: Option<Wide>,
-    #[serde(skip_serializing_if = "Option::is_none")]
-    ops: Option<Wide>,
-    #[serde(skip_serializing_if = "Option::is_none")]
-    most: Option<Wide>,
+/// Adds a field that is a time.
+fn put_time(name: &str, time: Time, out: &mut String) -> Result<(), AllocError> {
+    write!(out, ",\"{name}\":\"{time}\"")
 }
 
-/// The number alone.
-fn plain(refusal: &Refusal) -> RefusalLine {
-    RefusalLine {
-        refused: refusal.number(),
-        base: None,
-        readable: None,
-        horizon: None,
-        table: None,
-        key: None,
-        at: None,
-        stream: None,
-        reader: None,
-        ops: None,
-        most: None,
+/// Adds a field that is a number of 64 bits.
+fn put_number(name: &str, number: u64, out: &mut String) -> Result<(), AllocError> {
+    write!(out, ",\"{name}\":\"{number}\"")
+}
+
+/// Adds which row it is of.
+fn put_place(table: Table, key: Key, out: &mut String) -> Result<(), AllocError> {
+    write!(out, ",\"table\":{table},\"key\":\"{key}\"")
+}
+
+fn put_gap(base: Time, readable: Time, out: &mut String) -> Result<(), AllocError> {
+    put_time("base", base, out)?;
+    put_time("readable", readable, out)
+}
+
+fn put_write_conflict(
+    table: Table,
+    key: Key,
+    at: Time,
+    out: &mut String,
+) -> Result<(), AllocError> {
+    put_place(table, key, out)?;
+    put_time("at", at, out)
+}
+
+fn put_held(reader: u64, at: Time, out: &mut String) -> Result<(), AllocError> {
+    put_time("at", at, out)?;
+    put_number("reader", reader, out)
+}
+
+/// Adds the fields of a refusal that has no times.
+fn put_plain(refusal: &Refusal, out: &mut String) -> Result<(), AllocError> {
+    match refusal {
+        Refusal::NoRow { table, key } => put_place(*table, *key, out),
+        Refusal::Retired { stream } => write!(out, ",\"stream\":{stream}"),
+        Refusal::Unpublished { ops } => put_number("ops", *ops, out),
+        Refusal::LinkFull { most } => put_number("most", *most, out),
+        _other => Ok(()),
     }
 }
 
-/// The number, and the times that the refusal names.
-fn with_times(refusal: &Refusal) -> RefusalLine {
-    let mut line = plain(refusal);
+/// Adds the fields of a refusal, by the names that its line has.
+fn put_fields(refusal: &Refusal, out: &mut String) -> Result<(), AllocError> {
     match refusal {
-        Refusal::Gap { base, readable } => {
-            line.base = Some(Moment(*base));
-            line.readable = Some(Moment(*readable));
-        }
+        Refusal::Gap { base, readable } => put_gap(*base, *readable, out),
         Refusal::AheadOfMark { readable } | Refusal::NotYet { readable } => {
-            line.readable = Some(Moment(*readable));
+            put_time("readable", *readable, out)
         }
-        Refusal::TooOld { horizon } => line.horizon = Some(Moment(*horizon)),
-        Refusal::WriteConflict { at, .. } | Refusal::Held { at, .. } => {
-            line.at = Some(Moment(*at));
-        }
-        _other => (),
+        Refusal::TooOld { horizon } => put_time("horizon", *horizon, out),
+        Refusal::WriteConflict { table, key, at } => put_write_conflict(*table, *key, *at, out),
+        Refusal::Held { reader, at } => put_held(*reader, *at, out),
+        other => put_plain(other, out),
     }
-    line
-}
-
-/// The number, and all that the refusal names.
-fn refusal_line(refusal: &Refusal) -> RefusalLine {
-    let mut line = with_times(refusal);
-    match refusal {
-        Refusal::WriteConflict { table, key, .. } | Refusal::NoRow { table, key } => {
-            line.table = Some(table.number());
-            line.key = Some(Wide(key.number()));
-        }
-        Refusal::Retired { stream } => line.stream = Some(stream.number()),
-        Refusal::Held { reader, .. } => line.reader = Some(Wide(*reader)),
-        Refusal::Unpublished { ops } => line.ops = Some(Wide(*ops)),
-        Refusal::LinkFull { most } => line.most = Some(Wide(*most)),
-        _other => (),
-    }
-    line
 }
 
 impl InJson for Refusal {
-    fn json_to(&self, alloc: Global, out: &mut String) -> Result<(), Refusal> {
-        put_line(alloc, &refusal_line(self), out)
+    fn json_to(&self, _alloc: Global, out: &mut String) -> Result<(), AllocError> {
+        let number = self.number();
+        write!(out, "{{\"refused\":{number}")?;
+        put_fields(self, out)?;
+        out.push_str("}\n")
     }
 }

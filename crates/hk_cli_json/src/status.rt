@@ -1,10 +1,8 @@
 //! How far a stream is, in JSON.
 
-use crate::field::{Moment, Stream, Wide};
-use crate::line::{InJson, put_line};
-use hk_types::{Refusal, StreamNo, Time};
-use serde::Serialize;
-use std::alloc::Global;
+use crate::line::InJson;
+use hk_types::{StreamNo, Time};
+use std::alloc::{AllocError, Global};
 
 /// How far a stream is; `standing` is what it does to the readable mark, in a word.
 #[derive(Clone, Copy)]
@@ -17,26 +15,29 @@ pub struct StreamLine {
     pub standing: &'static str,
 }
 
-#[derive(Clone, Copy, Serialize)]
-struct StatusLine {
-    stream: Stream,
-    prefix: Wide,
-    extra: Wide,
-    closed: Moment,
-    waiting: Wide,
-    standing: &'static str,
+fn put_taken(line: &StreamLine, out: &mut String) -> Result<(), AllocError> {
+    let stream = line.stream;
+    let prefix = line.prefix;
+    let extra = line.extra;
+    write!(
+        out,
+        "{{\"stream\":{stream},\"prefix\":\"{prefix}\",\"extra\":\"{extra}\""
+    )
+}
+
+fn put_closed(line: &StreamLine, out: &mut String) -> Result<(), AllocError> {
+    let closed = line.closed;
+    let waiting = line.waiting;
+    let standing = line.standing;
+    writeln!(
+        out,
+        ",\"closed\":\"{closed}\",\"waiting\":\"{waiting}\",\"standing\":\"{standing}\"}}"
+    )
 }
 
 impl InJson for StreamLine {
-    fn json_to(&self, alloc: Global, out: &mut String) -> Result<(), Refusal> {
-        let line = StatusLine {
-            stream: Stream(self.stream),
-            prefix: Wide(self.prefix),
-            extra: Wide(self.extra),
-            closed: Moment(self.closed),
-            waiting: Wide(self.waiting),
-            standing: self.standing,
-        };
-        put_line(alloc, &line, out)
+    fn json_to(&self, _alloc: Global, out: &mut String) -> Result<(), AllocError> {
+        put_taken(self, out)?;
+        put_closed(self, out)
     }
 }

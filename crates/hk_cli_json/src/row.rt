@@ -1,0 +1,26 @@
+//! Rows in JSON.
+
+use hk_types::Row;
+use std::alloc::{AllocError, Global};
+
+/// Adds the tag and the body of a row, and the end of the object that they are the last fields of.
+pub(crate) fn put_row(alloc: Global, row: &Row, out: &mut String) -> Result<(), AllocError> {
+    let tag = row.tag();
+    let body = hex::encode(alloc, row.body())?;
+    write!(out, "\"tag\":{tag},\"body\":\"{body}\"}}")
+}
+
+/// Adds a row as an object, or `null` where there is none.
+pub(crate) fn put_maybe_row(
+    alloc: Global,
+    row: Option<&Row>,
+    out: &mut String,
+) -> Result<(), AllocError> {
+    match row {
+        Some(row) => {
+            out.push('{')?;
+            put_row(alloc, row, out)
+        }
+        None => out.push_str("null"),
+    }
+}
