@@ -11,12 +11,27 @@ use hk_query::Answer;
 use hk_types::Refusal;
 use std::alloc::{AllocError, Global};
 use std::io::{self, Read};
+use std::thread::Threads;
 
 /// The line of an answer, or of a refusal.
-fn told(alloc: Global, reply: &Result<Answer, Refusal>) -> Result<String, AllocError> {
+fn told(alloc: Global, reply: Result<Answer, Refusal>) -> Result<String, AllocError> {
     match reply {
-        Ok(answer) => line_of(alloc, answer),
-        Err(why) => line_of(alloc, why),
+        Ok(answer) => line_of(alloc, &answer),
+        Err(why) => line_of(alloc, &why),
+    }
+}
+
+/// What merging two replicas, each of one half of the items of these bytes, tells.
+fn counted<R: Threads + Sync>(rt: &R, alloc: Global, bytes: &[u8]) -> Result<Answer, Refusal> {
+    let items = decode_all(rt, alloc, bytes)?;
+    merge::count(alloc, &items)
+}
+
+/// What a primary's log comes to.
+fn logged(alloc: Global) -> Result<String, AllocError> {
+    match primary::log_of(alloc) {
+        Ok(log) => format!(in alloc; "{} bytes\n", log.len()),
+        Err(why) => format!(in alloc; "{why}\n"),
     }
 }
 
@@ -26,15 +41,9 @@ fn main(rt: HostRuntime) -> io::Result<()> {
     let (front, back) = bytes.split_at(bytes.len() / 2);
     for time in [1, 2] {
         let row = replica::row_at(rt.alloc(), &[front, back], time);
-        print!(rt; "{}", told(rt.alloc(), &row)?)?;
+        print!(rt; "{}", told(rt.alloc(), row)?)?;
     }
-    let counted = match decode_all(&rt, rt.alloc(), &bytes) {
-        Ok(items) => merge::count(rt.alloc(), &items),
-        Err(why) => Err(why),
-    };
-    print!(rt; "{}", told(rt.alloc(), &counted)?)?;
-    match primary::log_of(rt.alloc()) {
-        Ok(log) => println!(rt; "{} bytes", log.len()),
-        Err(why) => println!(rt; "{why}"),
-    }
+    let count = counted(&rt, rt.alloc(), &bytes);
+    print!(rt; "{}", told(rt.alloc(), count)?)?;
+    print!(rt; "{}", logged(rt.alloc())?)
 }

@@ -1,35 +1,25 @@
 //! Two half-fed replicas of one log, joined.
 
+use crate::replica::replica_of;
 use hk_log::Item;
 use hk_merge::merge;
 use hk_query::{Answer, Query, ask};
 use hk_state::ReplicaState;
-use hk_types::{Config, Refusal, Table, Time};
+use hk_types::{Refusal, Table, Time};
 use std::alloc::Global;
 
-/// A replica of log 7, which has one stream, that took these items.
-fn replica_of(alloc: Global, items: &[Item]) -> Result<ReplicaState, Refusal> {
-    let mut replica = ReplicaState::new(alloc, Config::new(7, 1)?)?;
-    for item in items {
-        replica.absorb(item)?;
-    }
-    Ok(replica)
+/// Merges a replica that took these items into another one.
+fn merge_of(alloc: Global, replica: &mut ReplicaState, items: &[Item]) -> Result<(), Refusal> {
+    let other = replica_of(alloc, items)?;
+    merge(replica, &other)
 }
 
-/// A replica that took these items, into which one of the others is merged.
-fn merged(alloc: Global, first: &[Item], others: &[Item]) -> Result<ReplicaState, Refusal> {
-    let other = replica_of(alloc, others)?;
-    let mut replica = replica_of(alloc, first)?;
-    merge(&mut replica, &other)?;
-    Ok(replica)
-}
-
-/// How many rows table 1 has at time 1, on a replica of the first item into which one of the others is merged.
+/// How many rows table 1 has at time 1, on a replica of one half of the items into which one of the other half is
+/// merged.
 pub(crate) fn count(alloc: Global, items: &[Item]) -> Result<Answer, Refusal> {
+    let (table, at) = (Table::new(1), Time::new(1)?);
     let (first, others) = items.split_at(items.len() / 2);
-    let replica = merged(alloc, first, others)?;
-    let query = Query::Count {
-        table: Table::new(1),
-    };
-    ask(alloc, &replica, Time::new(1)?, &query)
+    let mut replica = replica_of(alloc, first)?;
+    merge_of(alloc, &mut replica, others)?;
+    ask(alloc, &replica, at, &Query::Count { table })
 }

@@ -11,24 +11,29 @@ fn row(alloc: Global, byte: u8) -> Result<Row, Refusal> {
     Row::new(Tag::new(9), body).map_err(|(_body, fault)| Refusal::Form(fault))
 }
 
-/// Puts a row at a key of table 1, in a transaction of its own, and tells its time.
-fn put(alloc: Global, primary: &mut Primary, key: u64, byte: u8) -> Result<u64, Refusal> {
-    let mut txn: Txn = primary.begin();
-    txn.put(Table::new(1), Key::new(key), row(alloc, byte)?)
-        .map_err(|(_row, why)| why)?;
-    let time = primary
-        .commit(txn, StreamNo::new(1)?)
-        .map_err(|(_txn, why)| why)?;
-    Ok(time.map_or(0, |time| time.number()))
+/// Puts a row of one byte at key 5 of table 1, in a transaction.
+fn put(alloc: Global, txn: &mut Txn, byte: u8) -> Result<(), Refusal> {
+    txn.put(Table::new(1), Key::new(5), row(alloc, byte)?)
+        .map_err(|(_row, why)| why)
 }
 
-/// A primary after two transactions of one stream, with the mark that closes it up to the last.
-fn committed(alloc: Global) -> Result<Primary, Refusal> {
-    let mut primary = Primary::new(alloc, Config::new(7, 1)?)?;
-    put(alloc, &mut primary, 5, 0x41)?;
-    put(alloc, &mut primary, 5, 0x42)?;
-    primary.mark(StreamNo::new(1)?)?;
-    Ok(primary)
+/// Puts it in a transaction of its own, on a stream.
+fn commit(alloc: Global, primary: &mut Primary, stream: StreamNo, byte: u8) -> Result<(), Refusal> {
+    let mut txn = primary.begin();
+    put(alloc, &mut txn, byte)?;
+    match primary.commit(txn, stream) {
+        Ok(_time) => Ok(()),
+        Err((_txn, why)) => Err(why),
+    }
+}
+
+/// Commits two transactions, and emits the mark that closes the stream up to the last.
+fn fill(alloc: Global, primary: &mut Primary) -> Result<(), Refusal> {
+    let stream = StreamNo::new(1)?;
+    commit(alloc, primary, stream, 0x41)?;
+    commit(alloc, primary, stream, 0x42)?;
+    primary.mark(stream)?;
+    Ok(())
 }
 
 /// The bytes of a primary's log.
@@ -40,7 +45,9 @@ fn bytes_of(alloc: Global, primary: &Primary) -> Result<Vec<u8>, Refusal> {
     Ok(bytes)
 }
 
-/// The log of two transactions, as bytes.
+/// The log of two transactions of one stream, as bytes.
 pub(crate) fn log_of(alloc: Global) -> Result<Vec<u8>, Refusal> {
-    bytes_of(alloc, &committed(alloc)?)
+    let mut primary = Primary::new(alloc, Config::new(7, 1)?)?;
+    fill(alloc, &mut primary)?;
+    bytes_of(alloc, &primary)
 }
