@@ -1,13 +1,11 @@
 //! The command line.
 
-use crate::calls::{call_of, is_second};
-use crate::forms::{
-    CommandForm, FORMS, Number, QUERIES, SERVE_NUMBERS, SERVE_WORDS, form_named, numbers_of,
-    with_forms, with_numbers,
-};
-use crate::stay::{stay_call, with_stay};
+use crate::calls::{call_of, has_flag, is_second, port_of, u16_of, u64_of};
+use crate::forms::{CommandForm, add_forms, command_named, numbers_of, query_numbers};
+use crate::numbers::{Number, add_numbers, keep, name_of, serve_numbers, serve_words};
+use crate::stay::{add_stay, stay_call};
 use clap::error::ErrorKind;
-use clap::{ArgMatches, Command, Error};
+use clap::{Arg, ArgMatches, Command, Error};
 use hk_cli_calls::{Call, VERSION};
 use hk_types::{Config, Links};
 use std::alloc::{AllocError, Global};
@@ -57,9 +55,27 @@ It prints 'ended' and a number as each link ends. --read-port opens a second por
 ask and not change, --feed-port a further one, whose links may send items and ask. NOTHING IS ENCRYPTED OR AUTHENTICATED: whoever reaches the port may write. Give \
 --address only behind a proxy that does both (docs/OPERATING.md).";
 
+/// What is told of a number that no call can be made of.
+const OUT_OF_RANGE: &str = "a number is out of its range";
+
+fn with_long_about<'a>(command: Command<'a>) -> Command<'a> {
+    command.long_about(SERVE_LONG_ABOUT)
+}
+
+fn bare_serve<'a>(alloc: Global) -> Command<'a> {
+    with_long_about(plain(alloc, "serve", SERVE_ABOUT, LINKS_EXAMPLE))
+}
+
+fn serve_args<'a>(alloc: Global) -> Result<Vec<Arg<'a>>, AllocError> {
+    let mut args = Vec::new(alloc);
+    add_numbers(alloc, serve_numbers(), &mut args)?;
+    add_stay(alloc, &mut args)?;
+    Ok(args)
+}
+
 fn serve_command<'a>(alloc: Global) -> Result<Command<'a>, AllocError> {
-    let command = plain(alloc, "serve", SERVE_ABOUT, LINKS_EXAMPLE).long_about(SERVE_LONG_ABOUT);
-    with_stay(alloc, with_numbers(alloc, command, &SERVE_NUMBERS)?)
+    let args = serve_args(alloc)?;
+    bare_serve(alloc).args(args)
 }
 
 /// A command of this name. (A function for each of the next steps, since a proof of several together takes a minute.)
@@ -95,9 +111,20 @@ fn whole<'a>(alloc: Global) -> Command<'a> {
     with_need_of_command(with_program_texts(named(alloc, "hkrep", ABOUT)))
 }
 
+fn add_serve<'a>(alloc: Global, commands: &mut Vec<Command<'a>>) -> Result<(), AllocError> {
+    keep(serve_command(alloc)?, commands)
+}
+
+fn all_commands<'a>(alloc: Global) -> Result<Vec<Command<'a>>, AllocError> {
+    let mut commands = Vec::new(alloc);
+    add_forms(alloc, &mut commands)?;
+    add_serve(alloc, &mut commands)?;
+    Ok(commands)
+}
+
 fn program<'a>(alloc: Global) -> Result<Command<'a>, AllocError> {
-    let command = with_forms(alloc, whole(alloc))?;
-    command.subcommand(serve_command(alloc)?)
+    let commands = all_commands(alloc)?;
+    whole(alloc).subcommands(commands)
 }
 
 fn is_decimal(word: &str) -> bool {
@@ -113,7 +140,7 @@ fn signed<'a>(matches: &ArgMatches<'a>, name: &str) -> Option<&'a str> {
 /// The first word of these numbers that is not made of decimal digits alone.
 fn first_signed<'a>(matches: &ArgMatches<'a>, numbers: &[Number]) -> Option<&'a str> {
     for number in numbers {
-        if let Some(word) = signed(matches, number.name) {
+        if let Some(word) = signed(matches, name_of(*number)) {
             return Some(word);
         }
     }
@@ -122,8 +149,8 @@ fn first_signed<'a>(matches: &ArgMatches<'a>, numbers: &[Number]) -> Option<&'a 
 
 /// The log that the arguments name, where they are in their ranges.
 pub(crate) fn config_of(matches: &ArgMatches<'_>) -> Option<Config> {
-    let log = matches.get_one::<u64>("log")?;
-    let streams = matches.get_one::<u16>("streams")?;
+    let log = u64_of(matches, "log")?;
+    let streams = u16_of(matches, "streams")?;
     Config::new(log, streams).ok()
 }
 
@@ -132,87 +159,128 @@ pub(crate) fn parts_bytes_of(matches: &ArgMatches<'_>) -> Option<u64> {
     if !is_second(matches) {
         return None;
     }
-    Some(matches.get_one::<u64>("parts-bytes").unwrap_or(PARTS_BYTES))
+    Some(u64_of(matches, "parts-bytes").unwrap_or(PARTS_BYTES))
+}
+
+/// How many links are served.
+pub(crate) fn links_of(matches: &ArgMatches<'_>) -> Option<Links> {
+    Links::new(u16_of(matches, "links")?)
 }
 
 /// The call that the arguments of `serve` make, where each of them is in its range.
 fn serve_call<'a>(matches: &ArgMatches<'a>) -> Option<Call<'a>> {
-    if matches.get_flag("stay") {
+    if has_flag(matches, "stay") {
         return stay_call(matches);
     }
-    let links = matches.get_one::<u16>("links")?;
     Some(Call::Serve {
         config: config_of(matches)?,
-        port: matches.get_one::<u16>("port")?,
-        links: Links::new(links)?,
-        is_guarded: matches.get_flag("guard"),
+        port: port_of(matches)?,
+        links: links_of(matches)?,
+        is_guarded: has_flag(matches, "guard"),
         parts_bytes: parts_bytes_of(matches),
     })
 }
 
-/// The error of a bad command line, with this text before the usage.
-fn bad_line(alloc: Global, message: &str) -> Result<Error, AllocError> {
-    let mut command = program(alloc)?;
+/// The error of a command, with this text before the usage.
+fn error_of<'a>(command: &mut Command<'a>, message: &str) -> Result<Error, AllocError> {
     command.error(ErrorKind::ValueValidation, message)
 }
 
-fn bad_word(alloc: Global, word: &str) -> Result<Error, AllocError> {
+/// The error of a bad command line, with this text before the usage.
+fn bad_line(alloc: Global, message: &str) -> Result<Error, AllocError> {
+    match program(alloc) {
+        Ok(mut command) => error_of(&mut command, message),
+        Err(error) => Err(error),
+    }
+}
+
+/// No call, since the command line is bad.
+fn no_call<'a>(alloc: Global, message: &str) -> Result<Call<'a>, Error> {
+    Err(bad_line(alloc, message)?)
+}
+
+/// The same since this word is not made of decimal digits alone.
+fn bad_word<'a>(alloc: Global, word: &str) -> Result<Call<'a>, Error> {
     let message = format!(in alloc;
         "invalid value '{word}': a number is written in decimal digits alone"
     )?;
-    bad_line(alloc, message.as_str())
+    no_call(alloc, message.as_str())
+}
+
+/// The call of `serve`, where it could be made.
+fn made_serve<'a>(alloc: Global, matches: &ArgMatches<'a>) -> Result<Call<'a>, Error> {
+    match serve_call(matches) {
+        Some(call) => Ok(call),
+        None => no_call(alloc, OUT_OF_RANGE),
+    }
+}
+
+/// The call of a form, where it could be made.
+fn made_form<'a>(
+    alloc: Global,
+    form: CommandForm,
+    matches: &ArgMatches<'a>,
+) -> Result<Call<'a>, Error> {
+    match call_of(form, matches) {
+        Some(call) => Ok(call),
+        None => no_call(alloc, OUT_OF_RANGE),
+    }
 }
 
 /// The call of `serve`, where the words of its numbers are made of decimal digits alone and it could be made.
 fn read_serve<'a>(alloc: Global, matches: &ArgMatches<'a>) -> Result<Call<'a>, Error> {
-    if let Some(word) = first_signed(matches, &SERVE_WORDS) {
-        return Err(bad_word(alloc, word)?);
-    }
-    match serve_call(matches) {
-        Some(call) => Ok(call),
-        None => Err(bad_line(alloc, "a number is out of its range")?),
+    match first_signed(matches, serve_words()) {
+        Some(word) => bad_word(alloc, word),
+        None => made_serve(alloc, matches),
     }
 }
 
 /// The first word of a form's numbers, or of its query's, that is not made of decimal digits alone.
-fn first_bad<'a>(form: &CommandForm, matches: &ArgMatches<'a>) -> Option<&'a str> {
+fn first_bad<'a>(form: CommandForm, matches: &ArgMatches<'a>) -> Option<&'a str> {
     if let Some((name, words)) = matches.subcommand() {
-        if let Some(word) = first_signed(words, numbers_of(&QUERIES, name)) {
+        if let Some(word) = first_signed(words, query_numbers(name)) {
             return Some(word);
         }
     }
-    first_signed(matches, form.numbers)
+    first_signed(matches, numbers_of(form))
 }
 
 /// The call of a form, where the words of its numbers are made of decimal digits alone and it could be made.
 fn checked_form<'a>(
     alloc: Global,
-    form: &CommandForm,
+    form: CommandForm,
     matches: &ArgMatches<'a>,
 ) -> Result<Call<'a>, Error> {
-    if let Some(word) = first_bad(form, matches) {
-        return Err(bad_word(alloc, word)?);
-    }
-    match call_of(form.name, matches) {
-        Some(call) => Ok(call),
-        None => Err(bad_line(alloc, "a number is out of its range")?),
+    match first_bad(form, matches) {
+        Some(word) => bad_word(alloc, word),
+        None => made_form(alloc, form, matches),
     }
 }
 
 fn read_form<'a>(alloc: Global, name: &str, matches: &ArgMatches<'a>) -> Result<Call<'a>, Error> {
-    match form_named(&FORMS, name) {
+    match command_named(name) {
         Some(form) => checked_form(alloc, form, matches),
-        None => Err(bad_line(alloc, "no such command")?),
+        None => no_call(alloc, "no such command"),
     }
+}
+
+/// The call of what was read of the words.
+fn read_matches<'a>(alloc: Global, matches: &ArgMatches<'a>) -> Result<Call<'a>, Error> {
+    match matches.subcommand() {
+        Some(("serve", serve)) => read_serve(alloc, serve),
+        Some((name, words)) => read_form(alloc, name, words),
+        None => no_call(alloc, "a command is missing"),
+    }
+}
+
+/// What is read of the words.
+fn matches_of<'a>(alloc: Global, words: &'a [String]) -> Result<ArgMatches<'a>, Error> {
+    program(alloc)?.try_get_matches_from(words)
 }
 
 /// Reads the words of the command line, the program's name first. An error has a text and a status: 2 for a
 /// bad command line, 0 where help or the version was asked for. Cost: O(n), n bytes of the words.
 pub fn read_call<'a>(alloc: Global, words: &'a [String]) -> Result<Call<'a>, Error> {
-    let matches = program(alloc)?.try_get_matches_from(words)?;
-    match matches.subcommand() {
-        Some(("serve", serve)) => read_serve(alloc, serve),
-        Some((name, words)) => read_form(alloc, name, words),
-        None => Err(bad_line(alloc, "a command is missing")?),
-    }
+    let matches = matches_of(alloc, words)?;
+    read_matches(alloc, &matches)
 }

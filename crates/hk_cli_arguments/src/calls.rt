@@ -1,6 +1,7 @@
 //! The calls that the arguments of the commands make.
 
 use crate::arguments::config_of;
+use crate::forms::CommandForm;
 use clap::ArgMatches;
 use hk_cli_calls::{Alone, Call, Limits, NodeCall, Order, OutputForm};
 use hk_model::Query;
@@ -15,25 +16,44 @@ const CONNECT_SECONDS: u64 = 3;
 /// For how many seconds a command that only asks waits for a reply where that isn't said; the others wait without a limit.
 const REPLY_SECONDS: u64 = 30;
 
+/// The number of this name, where it is given. (This and the next are all that ask for numbers of 64 and 16 bits, since what the
+/// call says weighs on what follows.)
+pub(crate) fn u64_of(matches: &ArgMatches<'_>, name: &str) -> Option<u64> {
+    matches.get_one::<u64>(name)
+}
+
+pub(crate) fn u16_of(matches: &ArgMatches<'_>, name: &str) -> Option<u16> {
+    matches.get_one::<u16>(name)
+}
+
+/// Whether the option of this name is given.
+pub(crate) fn has_flag(matches: &ArgMatches<'_>, name: &str) -> bool {
+    matches.get_flag(name)
+}
+
 fn table_of(matches: &ArgMatches<'_>) -> Option<Table> {
-    Some(Table::new(matches.get_one::<u16>("table")?))
+    u16_of(matches, "table").map(Table::new)
 }
 
 fn key_of(matches: &ArgMatches<'_>, name: &str) -> Option<Key> {
-    Some(Key::new(matches.get_one::<u64>(name)?))
+    u64_of(matches, name).map(Key::new)
 }
 
 fn time_of(matches: &ArgMatches<'_>) -> Option<Time> {
-    Time::new(matches.get_one::<u64>("time")?).ok()
+    Time::new(u64_of(matches, "time")?).ok()
 }
 
-fn port_of(matches: &ArgMatches<'_>) -> Option<u16> {
-    matches.get_one::<u16>("port")
+fn tag_of(matches: &ArgMatches<'_>) -> Option<Tag> {
+    matches.get_one::<u32>("tag").map(Tag::new)
+}
+
+pub(crate) fn port_of(matches: &ArgMatches<'_>) -> Option<u16> {
+    u16_of(matches, "port")
 }
 
 /// The form of lines.
 fn form_of(matches: &ArgMatches<'_>) -> OutputForm {
-    if matches.get_flag("json") {
+    if has_flag(matches, "json") {
         OutputForm::Json
     } else {
         OutputForm::Lines
@@ -42,7 +62,7 @@ fn form_of(matches: &ArgMatches<'_>) -> OutputForm {
 
 /// The form of a whole.
 fn whole_form_of(matches: &ArgMatches<'_>) -> OutputForm {
-    if matches.get_flag("json") {
+    if has_flag(matches, "json") {
         OutputForm::Json
     } else {
         OutputForm::Bytes
@@ -51,8 +71,8 @@ fn whole_form_of(matches: &ArgMatches<'_>) -> OutputForm {
 
 /// How long a command waits that waits for so many seconds for a reply where that isn't said.
 fn limits_of(matches: &ArgMatches<'_>, reply: u64) -> Limits {
-    let connect_seconds = matches.get_one::<u64>("connect-seconds");
-    let reply_seconds = matches.get_one::<u64>("reply-seconds");
+    let connect_seconds = u64_of(matches, "connect-seconds");
+    let reply_seconds = u64_of(matches, "reply-seconds");
     Limits {
         connect_seconds: connect_seconds.unwrap_or(CONNECT_SECONDS),
         reply_seconds: reply_seconds.unwrap_or(reply),
@@ -69,26 +89,32 @@ fn node_of<'a>(matches: &ArgMatches<'a>, port: u16, reply: u64, order: Order) ->
     })
 }
 
+fn get_of(table: Table, words: &ArgMatches<'_>) -> Option<Query> {
+    let key = key_of(words, "key")?;
+    Some(Query::Get { table, key })
+}
+
+fn range_of(table: Table, words: &ArgMatches<'_>) -> Option<Query> {
+    let low = key_of(words, "low")?;
+    let high = key_of(words, "high")?;
+    Some(Query::Range { table, low, high })
+}
+
+fn by_tag_of(table: Table, words: &ArgMatches<'_>) -> Option<Query> {
+    let tag = tag_of(words)?;
+    Some(Query::ByTag { table, tag })
+}
+
 /// The query that the words behind the time make.
 fn query_of(name: &str, words: &ArgMatches<'_>) -> Option<Query> {
     let table = table_of(words)?;
-    Some(match name {
-        "get" => Query::Get {
-            table,
-            key: key_of(words, "key")?,
-        },
-        "range" => Query::Range {
-            table,
-            low: key_of(words, "low")?,
-            high: key_of(words, "high")?,
-        },
-        "tag" => Query::ByTag {
-            table,
-            tag: Tag::new(words.get_one::<u32>("tag")?),
-        },
-        "count" => Query::Count { table },
-        _other => return None,
-    })
+    match name {
+        "get" => get_of(table, words),
+        "range" => range_of(table, words),
+        "tag" => by_tag_of(table, words),
+        "count" => Some(Query::Count { table }),
+        _other => None,
+    }
 }
 
 fn at_call<'a>(matches: &ArgMatches<'a>) -> Option<Call<'a>> {
@@ -139,68 +165,93 @@ fn status_call<'a>(matches: &ArgMatches<'a>) -> Option<Call<'a>> {
 }
 
 fn batch_of(matches: &ArgMatches<'_>) -> u64 {
-    matches.get_one::<u64>("batch").unwrap_or(BATCH)
+    u64_of(matches, "batch").unwrap_or(BATCH)
 }
 
 /// Whether messages of version 2 are meant too.
 pub(crate) fn is_second(matches: &ArgMatches<'_>) -> bool {
-    matches.get_one::<u64>("messages").unwrap_or(1) > 1
+    u64_of(matches, "messages").unwrap_or(1) > 1
 }
 
-/// What a command asks of a node alone.
-fn order_of(name: &str, matches: &ArgMatches<'_>) -> Option<Order> {
-    Some(match name {
-        "push" => Order::Push {
-            with_second: is_second(matches),
-        },
-        "shell" => Order::Shell,
-        "save" => Order::Save {
-            form: whole_form_of(matches),
-        },
-        "load" => Order::Load,
-        "pull" => Order::Pull {
-            from: matches.get_one::<u16>("from")?,
-        },
-        "prune" => Order::Prune {
-            horizon: time_of(matches)?,
-        },
-        "feed" => Order::Feed {
-            batch: batch_of(matches),
-        },
-        _other => return None,
+fn push_order(matches: &ArgMatches<'_>) -> Order {
+    Order::Push {
+        with_second: is_second(matches),
+    }
+}
+
+fn save_order(matches: &ArgMatches<'_>) -> Order {
+    Order::Save {
+        form: whole_form_of(matches),
+    }
+}
+
+fn pull_order(matches: &ArgMatches<'_>) -> Option<Order> {
+    Some(Order::Pull {
+        from: u16_of(matches, "from")?,
     })
 }
 
-fn node_call<'a>(name: &str, matches: &ArgMatches<'a>) -> Option<Call<'a>> {
-    let order = order_of(name, matches)?;
+fn prune_order(matches: &ArgMatches<'_>) -> Option<Order> {
+    Some(Order::Prune {
+        horizon: time_of(matches)?,
+    })
+}
+
+fn feed_order(matches: &ArgMatches<'_>) -> Order {
+    Order::Feed {
+        batch: batch_of(matches),
+        with_second: is_second(matches),
+    }
+}
+
+/// What a command asks of a node alone.
+fn order_of(form: CommandForm, matches: &ArgMatches<'_>) -> Option<Order> {
+    match form {
+        CommandForm::Push => Some(push_order(matches)),
+        CommandForm::Shell => Some(Order::Shell),
+        CommandForm::Save => Some(save_order(matches)),
+        CommandForm::Load => Some(Order::Load),
+        CommandForm::Pull => pull_order(matches),
+        CommandForm::Prune => prune_order(matches),
+        CommandForm::Feed => Some(feed_order(matches)),
+        _other => None,
+    }
+}
+
+fn node_call<'a>(form: CommandForm, matches: &ArgMatches<'a>) -> Option<Call<'a>> {
+    let order = order_of(form, matches)?;
     let port = port_of(matches)?;
     Some(node_of(matches, port, 0, order))
 }
 
-fn items_call<'a>(matches: &ArgMatches<'a>) -> Call<'a> {
+fn items_call<'a>(matches: &ArgMatches<'a>) -> Option<Call<'a>> {
     let form = form_of(matches);
-    Call::Alone(Alone::Items { form })
+    Some(Call::Alone(Alone::Items { form }))
 }
 
-fn explain_call<'a>(matches: &ArgMatches<'a>) -> Call<'a> {
-    let number = matches.get_one::<u64>("number");
-    Call::Alone(Alone::Explain { number })
+fn explain_call<'a>(matches: &ArgMatches<'a>) -> Option<Call<'a>> {
+    let number = u64_of(matches, "number");
+    Some(Call::Alone(Alone::Explain { number }))
+}
+
+fn world_call<'a>(matches: &ArgMatches<'a>) -> Option<Call<'a>> {
+    Some(Call::World {
+        items: matches.get_str("items"),
+    })
 }
 
 /// The call that the arguments of a command make, where each of them is in its range.
-pub(crate) fn call_of<'a>(name: &str, matches: &ArgMatches<'a>) -> Option<Call<'a>> {
-    match name {
-        "at" => at_call(matches),
-        "ask" => ask_call(matches),
-        "front" => front_call(matches),
-        "status" => status_call(matches),
-        "items" => Some(items_call(matches)),
-        "frames" => Some(Call::Alone(Alone::Frames)),
-        "rewrite" => Some(Call::Alone(Alone::Rewrite)),
-        "world" => Some(Call::World {
-            items: matches.get_str("items"),
-        }),
-        "explain" => Some(explain_call(matches)),
+pub(crate) fn call_of<'a>(form: CommandForm, matches: &ArgMatches<'a>) -> Option<Call<'a>> {
+    match form {
+        CommandForm::At => at_call(matches),
+        CommandForm::Ask => ask_call(matches),
+        CommandForm::Front => front_call(matches),
+        CommandForm::Status => status_call(matches),
+        CommandForm::Items => items_call(matches),
+        CommandForm::Frames => Some(Call::Alone(Alone::Frames)),
+        CommandForm::Rewrite => Some(Call::Alone(Alone::Rewrite)),
+        CommandForm::World => world_call(matches),
+        CommandForm::Explain => explain_call(matches),
         node => node_call(node, matches),
     }
 }

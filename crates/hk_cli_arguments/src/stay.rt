@@ -1,8 +1,10 @@
 //! The options of `serve` for a node that stays, and for one that tests each change.
 
-use crate::arguments::{config_of, parts_bytes_of};
-use crate::forms::{STAY_NUMBERS, flag, with_numbers};
-use clap::{Arg, ArgAction, ArgMatches, Command};
+use crate::arguments::{config_of, links_of, parts_bytes_of};
+use crate::calls::{has_flag, port_of, u16_of, u64_of};
+use crate::forms::flag;
+use crate::numbers::{add_numbers, keep, stay_numbers, valued};
+use clap::{Arg, ArgMatches};
 use hk_cli_calls::{Call, Level, OtherPort, Stay};
 use hk_types::Links;
 use std::alloc::{AllocError, Global};
@@ -37,70 +39,83 @@ fn verbose_flag<'a>(alloc: Global) -> Result<Arg<'a>, AllocError> {
 }
 
 fn address_arg<'a>(alloc: Global) -> Result<Arg<'a>, AllocError> {
-    Arg::new(alloc, "address")
-        .long("address")
-        .value_name("A")
-        .help(ADDRESS_HELP)
-        .action(ArgAction::Set)
-        .requires_arg("stay")
+    let arg = valued(alloc, "address", "A", ADDRESS_HELP);
+    arg.long("address").requires_arg("stay")
 }
 
-fn with_kind<'a>(alloc: Global, command: Command<'a>) -> Result<Command<'a>, AllocError> {
-    command
-        .arg(flag(alloc, "stay", STAY_HELP))?
-        .arg(flag(alloc, "guard", GUARD_HELP))
-}
-
-fn with_telling<'a>(alloc: Global, command: Command<'a>) -> Result<Command<'a>, AllocError> {
-    command.arg(quiet_flag(alloc)?)?.arg(verbose_flag(alloc)?)
-}
-
-/// A command with the options of a node that stays, and of one that tests each change. (A function for each few of them,
-/// since a proof of all together takes minutes.)
-pub(crate) fn with_stay<'a>(
+/// Adds an option that is there or not.
+fn add_flag<'a>(
     alloc: Global,
-    command: Command<'a>,
-) -> Result<Command<'a>, AllocError> {
-    let command = with_telling(alloc, with_kind(alloc, command)?)?;
-    let command = command.arg(address_arg(alloc)?)?;
-    with_numbers(alloc, command, &STAY_NUMBERS)
+    name: &'a str,
+    help: &'a str,
+    args: &mut Vec<Arg<'a>>,
+) -> Result<(), AllocError> {
+    let flag = flag(alloc, name, help);
+    keep(flag, args)
+}
+
+fn add_quiet<'a>(alloc: Global, args: &mut Vec<Arg<'a>>) -> Result<(), AllocError> {
+    keep(quiet_flag(alloc)?, args)
+}
+
+fn add_verbose<'a>(alloc: Global, args: &mut Vec<Arg<'a>>) -> Result<(), AllocError> {
+    keep(verbose_flag(alloc)?, args)
+}
+
+fn add_address<'a>(alloc: Global, args: &mut Vec<Arg<'a>>) -> Result<(), AllocError> {
+    keep(address_arg(alloc)?, args)
+}
+
+/// Adds the options of a node that stays, and of one that tests each change. (A function for each of them, since a proof of all
+/// together takes minutes.)
+pub(crate) fn add_stay<'a>(alloc: Global, args: &mut Vec<Arg<'a>>) -> Result<(), AllocError> {
+    add_flag(alloc, "stay", STAY_HELP, args)?;
+    add_flag(alloc, "guard", GUARD_HELP, args)?;
+    add_quiet(alloc, args)?;
+    add_verbose(alloc, args)?;
+    add_address(alloc, args)?;
+    add_numbers(alloc, stay_numbers(), args)
 }
 
 /// How many links this option asks for, 0 without it.
-fn links_of(matches: &ArgMatches<'_>, name: &str) -> u16 {
-    matches.get_one::<u16>(name).unwrap_or(0)
+fn count_of(matches: &ArgMatches<'_>, name: &str) -> u16 {
+    u16_of(matches, name).unwrap_or(0)
 }
 
 /// A further port by these options, if there is one.
 fn other_port(matches: &ArgMatches<'_>, port: &str, links: &str) -> Option<OtherPort> {
-    let port = matches.get_one::<u16>(port)?;
-    let links = Links::new(links_of(matches, links))?;
+    let port = u16_of(matches, port)?;
+    let links = Links::new(count_of(matches, links))?;
     Some(OtherPort { port, links })
 }
 
 /// Whether the links of all ports, and what is told of changes, have as many seats as there are.
 fn are_seated(matches: &ArgMatches<'_>, report_changes: u64) -> bool {
-    let others = links_of(matches, "feed-links").saturating_add(links_of(matches, "read-links"));
+    let others = count_of(matches, "feed-links").saturating_add(count_of(matches, "read-links"));
     let telling = u16::from(report_changes > 0);
-    links_of(matches, "links")
+    count_of(matches, "links")
         .saturating_add(others)
         .saturating_add(telling)
         <= MOST_LINKS
+}
+
+fn address_named(word: &str) -> Option<Ipv4Addr> {
+    word.parse::<Ipv4Addr>().ok()
 }
 
 /// The address that is named, or that of this machine alone.
 fn address_of(matches: &ArgMatches<'_>) -> Option<Ipv4Addr> {
     match matches.get_str("address") {
         None => Some(Ipv4Addr::LOCALHOST),
-        Some(word) => word.parse::<Ipv4Addr>().ok(),
+        Some(word) => address_named(word),
     }
 }
 
 /// What is told of links.
 fn level_of(matches: &ArgMatches<'_>) -> Level {
-    if matches.get_flag("quiet") {
+    if has_flag(matches, "quiet") {
         Level::Faults
-    } else if matches.get_flag("verbose") {
+    } else if has_flag(matches, "verbose") {
         Level::Changes
     } else {
         Level::Links
@@ -109,19 +124,19 @@ fn level_of(matches: &ArgMatches<'_>) -> Level {
 
 /// The call that `serve --stay` makes, where each argument is in its range.
 pub(crate) fn stay_call<'a>(matches: &ArgMatches<'a>) -> Option<Call<'a>> {
-    let report_changes = matches.get_one::<u64>("report-changes").unwrap_or(0);
+    let report_changes = u64_of(matches, "report-changes").unwrap_or(0);
     if !are_seated(matches, report_changes) {
         return None;
     }
     let config = config_of(matches)?;
     let stay = Stay {
         address: address_of(matches)?,
-        port: matches.get_one::<u16>("port")?,
-        links: Links::new(links_of(matches, "links"))?,
+        port: port_of(matches)?,
+        links: links_of(matches)?,
         feeding: other_port(matches, "feed-port", "feed-links"),
         reading: other_port(matches, "read-port", "read-links"),
-        read_seconds: matches.get_one::<u64>("read-seconds").unwrap_or(0),
-        is_guarded: matches.get_flag("guard"),
+        read_seconds: u64_of(matches, "read-seconds").unwrap_or(0),
+        is_guarded: has_flag(matches, "guard"),
         parts_bytes: parts_bytes_of(matches),
         level: level_of(matches),
         report_changes,

@@ -174,7 +174,8 @@ pub(crate) const FEED_ABOUT: &str = "Hand the item frames of standard input to a
 pub(crate) const FEED_EXAMPLE: &str = "Example:
   hkrep feed --port 47110 < examples/first.bin
 prints 'done' and the number of the node's last operation. Standard error says how many items a second went. \
-The first batch that is refused ends it; those before it are taken.";
+The first batch that is refused ends it; those before it are taken. With --messages 2, to a node that answers these, \
+standard error also says how many of the items the node didn't know before: 'new 2 of 2'.";
 
 pub(crate) const SHELL_ABOUT: &str = "Answer the lines of standard input from a node that runs";
 

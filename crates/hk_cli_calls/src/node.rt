@@ -43,9 +43,11 @@ pub enum Order {
     Prune {
         horizon: Time,
     },
-    /// To take the items of the input, in batches of so many, or of 67,108,864 bytes.
+    /// To take the items of the input, in batches of so many, or of 67,108,864 bytes; by requests of version 2 where the number of
+    /// new ones is to be told.
     Feed {
         batch: u64,
+        with_second: bool,
     },
 }
 

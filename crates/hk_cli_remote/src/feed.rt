@@ -5,7 +5,7 @@ use hk_cli_commands::{Output, Sink, Stop, hand_items};
 use hk_codec::frame_len;
 use hk_log::Item;
 use hk_types::Refusal;
-use hk_wire::{Reply, Request};
+use hk_wire::{LaterReply, Reply, Request};
 use std::alloc::Global;
 use std::io::{Read, Write};
 use std::mem;
@@ -25,29 +25,79 @@ struct Batches<'a, 'l> {
     link: &'a mut Link<'l>,
     /// How many items a batch has.
     most: u64,
+    /// Whether requests of version 2 go, whose replies tell how many items were new.
+    with_second: bool,
     items: Vec<Item>,
     /// How many bytes their frames have.
     bytes: u64,
     /// How many items the node took.
     taken: u64,
+    /// How many of them it told to be new.
+    new: u64,
     /// The number of the node's last operation.
     ops: u64,
 }
 
-impl Batches<'_, '_> {
+impl<'a, 'l> Batches<'a, 'l> {
+    fn new(link: &'a mut Link<'l>, most: u64, with_second: bool) -> Batches<'a, 'l> {
+        let alloc = link.alloc();
+        Batches {
+            alloc,
+            link,
+            most,
+            with_second,
+            items: Vec::new(alloc),
+            bytes: 0,
+            taken: 0,
+            new: 0,
+            ops: 0,
+        }
+    }
+
+    /// Hands over the items of the input.
+    fn hand_all<I: Read>(&mut self, input: &mut I) -> Result<(), Stop> {
+        hand_items(self.alloc, input, self)?;
+        self.finish()
+    }
+
+    /// Notes that the node took so many items, of which so many were new.
+    fn count(&mut self, items: u64, ops: u64, new: u64) {
+        self.ops = ops;
+        self.taken = self.taken.saturating_add(items);
+        self.new = self.new.saturating_add(new);
+    }
+
+    /// Has the node take these items, so many.
+    fn hand(&mut self, items: Vec<Item>, count: u64) -> Result<(), Stop> {
+        match self.link.granted(&Request::Items(items))? {
+            Reply::Done { ops } => {
+                self.count(count, ops, 0);
+                Ok(())
+            }
+            _other => Err(unasked()),
+        }
+    }
+
+    /// The same by a request of version 2, whose reply tells how many were new.
+    fn hand_counted(&mut self, items: Vec<Item>, count: u64) -> Result<(), Stop> {
+        match self.link.granted(&Request::Feed(items))? {
+            Reply::Later(LaterReply::Fed { ops, new }) => {
+                self.count(count, ops, new);
+                Ok(())
+            }
+            _other => Err(unasked()),
+        }
+    }
+
     /// Sends what was gathered, and waits until the node took it.
     fn send(&mut self) -> Result<(), Stop> {
         let count = self.items.len() as u64;
         let items = mem::replace(&mut self.items, Vec::new(self.alloc));
         self.bytes = 0;
-        match self.link.granted(&Request::Items(items))? {
-            Reply::Done { ops } => {
-                self.ops = ops;
-                self.taken = self.taken.saturating_add(count);
-                Ok(())
-            }
-            _other => Err(unasked()),
+        if self.with_second {
+            return self.hand_counted(items, count);
         }
+        self.hand(items, count)
     }
 
     /// Sends what is left; a batch of none where there was no item at all, so that the node tells its number.
@@ -100,31 +150,52 @@ fn tell_rate<W: Write, E: Write>(
     Ok(())
 }
 
+/// Tells how many of the items that the node took were new to it.
+fn tell_new<W: Write, E: Write>(
+    alloc: Global,
+    new: u64,
+    taken: u64,
+    output: &mut Output<'_, W, E>,
+) -> Result<(), Stop> {
+    let line = format!(in alloc; "new {new} of {taken}\n")?;
+    output.note(&line);
+    Ok(())
+}
+
+/// Tells how fast items went, where that is known, and how many were new, where the node told it.
+fn tell_taken<W: Write, E: Write>(
+    alloc: Global,
+    taken: u64,
+    new: Option<u64>,
+    millis: Option<u64>,
+    output: &mut Output<'_, W, E>,
+) -> Result<(), Stop> {
+    if let Some(millis) = millis {
+        tell_rate(alloc, taken, millis, output)?;
+    }
+    match new {
+        Some(new) => tell_new(alloc, new, taken, output),
+        None => Ok(()),
+    }
+}
+
 /// Hands the items of the input to the node, in batches of so many items or as many bytes as a batch may have, and prints the
-/// number of its last operation. The batches before what stops it are taken.
+/// number of its last operation. By requests of version 2 it also tells how many items were new. The batches before what stops
+/// it are taken.
 pub(crate) fn feed<R: Clock, I: Read, W: Write, E: Write>(
     rt: &R,
     link: &mut Link<'_>,
     input: &mut I,
     most: u64,
+    with_second: bool,
     output: &mut Output<'_, W, E>,
 ) -> Result<(), Stop> {
     let alloc = link.alloc();
     let start = Instant::now(rt).ok();
-    let mut batches = Batches {
-        alloc,
-        link,
-        most,
-        items: Vec::new(alloc),
-        bytes: 0,
-        taken: 0,
-        ops: 0,
-    };
-    hand_items(alloc, input, &mut batches)?;
-    batches.finish()?;
+    let mut batches = Batches::new(link, most, with_second);
+    batches.hand_all(input)?;
     let (ops, taken) = (batches.ops, batches.taken);
-    if let Some(millis) = millis_since(rt, start) {
-        tell_rate(alloc, taken, millis, output)?;
-    }
+    let new = if with_second { Some(batches.new) } else { None };
+    tell_taken(alloc, taken, new, millis_since(rt, start), output)?;
     output.print(&Reply::Done { ops })
 }

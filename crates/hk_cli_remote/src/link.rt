@@ -49,6 +49,11 @@ pub(crate) fn refusal_of(reply: &Reply) -> Option<Refusal> {
     }
 }
 
+/// Whether a request is of version 2.
+fn is_later(request: &Request) -> bool {
+    matches!(request, Request::Later(_) | Request::Feed(_))
+}
+
 /// The refusal of a message of another version.
 const OTHER_VERSION: Refusal = Refusal::Form(FormFault::BadVersion);
 
@@ -227,7 +232,7 @@ impl<'a> Link<'a> {
         encode_request(request, &mut self.text)?;
         self.send()?;
         let reply = self.reply()?;
-        if matches!(reply, Reply::Later(_)) && !matches!(request, Request::Later(_)) {
+        if matches!(reply, Reply::Later(_)) && !is_later(request) {
             return Err(Stop::Refused(OTHER_VERSION));
         }
         Ok(reply)

@@ -42,7 +42,7 @@ where
         Order::Save { form } => save(link, *form, output),
         Order::Pull { from } => pull(rt, link, *from, output),
         Order::Prune { horizon } => prune(link, *horizon, output),
-        Order::Feed { batch } => feed(rt, link, input, *batch, output),
+        Order::Feed { batch, with_second } => feed(rt, link, input, *batch, *with_second, output),
     };
     told.map(|()| false)
 }
@@ -79,7 +79,7 @@ where
 /// `Save` and `Pull` go by parts of up to 8,388,608 bytes, or of one fact, where a node refuses the whole as too long and both
 /// nodes read version 2; else they end with 2, as it was refused. Of what goes by parts nothing is joined before all is there.
 /// `Pull`, `Prune` and `Feed` print `done` and the number of the node's last operation; `Feed` ends at the first batch that is
-/// refused, and tells `errors` how many items a second went.
+/// refused, and tells `errors` how many items a second went, and by requests of version 2 how many of them the node didn't know.
 ///
 /// The status is 0, or 1 where a reply was a refusal, a line had no form, or one of these ended it:
 ///

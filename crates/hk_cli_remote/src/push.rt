@@ -3,7 +3,7 @@
 use crate::link::{Link, asked_of, refusal_of};
 use hk_cli_commands::{Output, Pieces, Stop, read_pieces};
 use hk_types::{FormFault, Refusal};
-use hk_wire::{LaterRequest, Request, RequestFeeder};
+use hk_wire::{LaterRequest, Reply, Request, RequestFeeder};
 use std::io::{Read, Write};
 use std::mem;
 
@@ -38,6 +38,42 @@ pub(crate) enum Accepted {
 /// Whether a request is sent.
 fn is_accepted(accepted: Accepted, request: &Request) -> bool {
     matches!(accepted, Accepted::All) || is_fragment(request)
+}
+
+/// Tells why a reply refuses its request, and says whether it does. It stops at a part that is refused.
+fn is_refused<W: Write, E: Write>(
+    link: &Link<'_>,
+    request: &Request,
+    reply: &Reply,
+    output: &mut Output<'_, W, E>,
+) -> Result<bool, Stop> {
+    let Some(why) = refusal_of(reply) else {
+        return Ok(false);
+    };
+    let origin = link.origin(asked_of(request));
+    if is_part(request) {
+        return Err(Stop::RefusedAt(why, origin));
+    }
+    output.tell(origin, &why);
+    Ok(true)
+}
+
+/// Prints a reply, and writes what was printed.
+fn show<W: Write, E: Write>(reply: &Reply, output: &mut Output<'_, W, E>) -> Result<(), Stop> {
+    output.print(reply)?;
+    output.flush()
+}
+
+/// Sends a request, waits for its reply and prints it, and says whether that is a refusal.
+fn asked<W: Write, E: Write>(
+    link: &mut Link<'_>,
+    request: &Request,
+    output: &mut Output<'_, W, E>,
+) -> Result<bool, Stop> {
+    let reply = link.ask(request)?;
+    let is_refused = is_refused(link, request, &reply, output)?;
+    show(&reply, output)?;
+    Ok(is_refused)
 }
 
 /// Requests up to a version, on their way to a node.
@@ -76,17 +112,9 @@ impl<'k, 'l, 'o, 'p, W: Write, E: Write, const LATEST: u8> Pusher<'k, 'l, 'o, 'p
             if !is_accepted(self.accepted, request) {
                 return Err(Stop::RefusedAt(BAD_KIND, self.link.next_origin()));
             }
-            let reply = self.link.ask(request)?;
-            if let Some(why) = refusal_of(&reply) {
-                let origin = self.link.origin(asked_of(request));
-                if is_part(request) {
-                    return Err(Stop::RefusedAt(why, origin));
-                }
+            if asked(self.link, request, self.output)? {
                 self.is_refused = true;
-                self.output.tell(origin, &why);
             }
-            self.output.print(&reply)?;
-            self.output.flush()?;
         }
         Ok(())
     }

@@ -1,0 +1,393 @@
+//! The arguments that are numbers. (What is said of them stands in functions of one column each: a table of all columns takes
+//! minutes to prove wherever it is named.)
+
+use clap::builder::ValueParser;
+use clap::{Arg, ArgAction, value_parser};
+use std::alloc::{AllocError, Global};
+
+/// An argument that is a number. Those of a name that begins with `Or` are of a command that asks a node where a port is given,
+/// and those with `Serve` tell a negative number as one that is not in the range.
+#[derive(Clone, Copy)]
+pub(crate) enum Number {
+    Log,
+    OrLog,
+    Streams,
+    OrStreams,
+    ServeStreams,
+    Port,
+    OrPort,
+    ServePort,
+    Links,
+    From,
+    Batch,
+    Time,
+    OrTime,
+    Horizon,
+    Table,
+    Key,
+    Low,
+    High,
+    Tag,
+    Refusal,
+    ConnectSeconds,
+    OrConnectSeconds,
+    ReplySeconds,
+    OrReplySeconds,
+    Messages,
+    SentMessages,
+    PartsBytes,
+    ReadSeconds,
+    ReportChanges,
+    FeedPort,
+    FeedLinks,
+    ReadPort,
+    ReadLinks,
+}
+
+/// When an argument has to be given.
+#[derive(Clone, Copy)]
+enum Need {
+    Always,
+    /// Where no port is given.
+    NoPort,
+    /// The same, and with a port it may not be.
+    NotWithPort,
+    /// It need not, and with it this has to be.
+    With(&'static str),
+    /// It need not, and with it this and `stay` have to be.
+    WithStayAnd(&'static str),
+    Never,
+}
+
+/// What a number may be.
+#[derive(Clone, Copy)]
+enum Range {
+    /// Any of 64 bits.
+    Any,
+    /// From here to there.
+    Within(i64, i64),
+    /// The same, where a negative one is told as one that is not in it.
+    Signed(i64, i64),
+}
+
+/// The name of a number that a node's ports, links and limits of time have.
+fn name_of_node<'a>(number: Number) -> &'a str {
+    match number {
+        Number::ConnectSeconds | Number::OrConnectSeconds => "connect-seconds",
+        Number::ReplySeconds | Number::OrReplySeconds => "reply-seconds",
+        Number::Messages | Number::SentMessages => "messages",
+        Number::PartsBytes => "parts-bytes",
+        Number::ReadSeconds => "read-seconds",
+        Number::ReportChanges => "report-changes",
+        Number::FeedPort => "feed-port",
+        Number::FeedLinks => "feed-links",
+        Number::ReadPort => "read-port",
+        Number::ReadLinks => "read-links",
+        Number::Links => "links",
+        Number::From => "from",
+        _port => "port",
+    }
+}
+
+/// The name that it is read back by.
+pub(crate) fn name_of<'a>(number: Number) -> &'a str {
+    match number {
+        Number::Log | Number::OrLog => "log",
+        Number::Streams | Number::OrStreams | Number::ServeStreams => "streams",
+        Number::Batch => "batch",
+        Number::Time | Number::OrTime | Number::Horizon => "time",
+        Number::Table => "table",
+        Number::Key => "key",
+        Number::Low => "low",
+        Number::High => "high",
+        Number::Tag => "tag",
+        Number::Refusal => "number",
+        other => name_of_node(other),
+    }
+}
+
+/// What stands for its value in the help of a number that a node's ports, links and limits of time have.
+fn value_of_node<'a>(number: Number) -> &'a str {
+    match number {
+        Number::Messages | Number::SentMessages => "V",
+        Number::FeedPort => "P3",
+        Number::FeedLinks => "M3",
+        Number::ReadPort => "P2",
+        Number::ReadLinks => "M",
+        Number::From => "Q",
+        Number::Port | Number::OrPort | Number::ServePort => "P",
+        _other => "N",
+    }
+}
+
+/// What stands for its value in the help.
+fn value_of<'a>(number: Number) -> &'a str {
+    match number {
+        Number::Log | Number::OrLog => "L",
+        Number::Streams | Number::OrStreams | Number::ServeStreams => "S",
+        Number::Time | Number::OrTime | Number::Horizon => "T",
+        Number::Table => "TABLE",
+        Number::Key => "KEY",
+        Number::Low => "LOW",
+        Number::High => "HIGH",
+        Number::Tag => "TAG",
+        Number::Refusal => "NUMBER",
+        other => value_of_node(other),
+    }
+}
+
+/// What the help says of a number of a node's links.
+fn help_of_links<'a>(number: Number) -> &'a str {
+    match number {
+        Number::Links => "How many links are served, with --stay at once: 1 to 64",
+        Number::FeedPort => "A further port, whose links may send items and ask: 1 to 65535",
+        Number::FeedLinks => {
+            "How many links to that port are served at once: 1 to 63, and 64 with the others"
+        }
+        Number::ReadPort => "A second port, whose links may only read: 1 to 65535",
+        Number::ReadLinks => {
+            "How many links that only read are served at once: 1 to 63, and 64 with the others"
+        }
+        Number::ReadSeconds => {
+            "End a link where inside a frame nothing comes for so long: 0 (never) to 86400"
+        }
+        _changes => {
+            "Tell standard error the front after each N changes, 1 to 1000000000; takes one of the 64 places"
+        }
+    }
+}
+
+/// What the help says of a number of messages or of limits of time.
+fn help_of_messages<'a>(number: Number) -> &'a str {
+    match number {
+        Number::ConnectSeconds | Number::OrConnectSeconds => {
+            "Try again to connect for so long where nobody listens: 0 (once) to 86400; 3 where it isn't given"
+        }
+        Number::ReplySeconds => {
+            "End where the node replies nothing for so long: 0 (never) to 86400; 0 where it isn't given"
+        }
+        Number::OrReplySeconds => {
+            "End where the node replies nothing for so long: 0 (never) to 86400; 30 where it isn't given"
+        }
+        Number::Messages => {
+            "The latest version of messages that is answered: 1 or 2; 1 where it isn't given"
+        }
+        Number::SentMessages => {
+            "The latest version of requests that is sent: 1 or 2; 1 where it isn't given"
+        }
+        Number::PartsBytes => {
+            "How many bytes all links keep for --messages 2 at most; 1073741824 where it isn't given"
+        }
+        other => help_of_links(other),
+    }
+}
+
+/// What the help says of a number of a query.
+fn help_of_query<'a>(number: Number) -> &'a str {
+    match number {
+        Number::Horizon => "The time: 0 to 4611686018427387904",
+        Number::Time | Number::OrTime => "The time to read at: 0 to 4611686018427387904",
+        Number::Table => "The number of the table: 0 to 65535",
+        Number::Key => "The key of the row: 0 to 18446744073709551615",
+        Number::Low => "The least key",
+        Number::High => "The greatest key",
+        Number::Tag => "The tag: 0 to 4294967295",
+        other => help_of_messages(other),
+    }
+}
+
+/// What the help says of it.
+fn help_of<'a>(number: Number) -> &'a str {
+    match number {
+        Number::Log | Number::OrLog => "The id of the log: a number up to 18446744073709551615",
+        Number::Streams | Number::OrStreams | Number::ServeStreams => {
+            "How many streams the log has: 1 to 64"
+        }
+        Number::Port | Number::ServePort => "The port of 127.0.0.1: 1 to 65535",
+        Number::OrPort => "Ask the node on this port of 127.0.0.1: 1 to 65535",
+        Number::From => "The port of the other node: 1 to 65535",
+        Number::Batch => "How many items a batch has: 1 to 65536; 4096 where it isn't given",
+        Number::Refusal => "The number of a refusal",
+        other => help_of_query(other),
+    }
+}
+
+fn range_of(number: Number) -> Range {
+    match number {
+        Number::Streams | Number::OrStreams => Range::Within(1, 64),
+        Number::ServeStreams | Number::Links => Range::Signed(1, 64),
+        Number::Port | Number::OrPort | Number::From => Range::Within(1, 65_535),
+        Number::FeedPort | Number::ReadPort => Range::Within(1, 65_535),
+        Number::ServePort => Range::Signed(1, 65_535),
+        Number::FeedLinks | Number::ReadLinks => Range::Within(1, 63),
+        Number::Batch => Range::Within(1, 65_536),
+        Number::Time | Number::OrTime | Number::Horizon => {
+            Range::Within(0, 4_611_686_018_427_387_904)
+        }
+        Number::Table => Range::Within(0, 65_535),
+        Number::Tag => Range::Within(0, 4_294_967_295),
+        Number::ConnectSeconds | Number::OrConnectSeconds => Range::Within(0, 86_400),
+        Number::ReplySeconds | Number::OrReplySeconds => Range::Within(0, 86_400),
+        Number::ReadSeconds => Range::Within(0, 86_400),
+        Number::Messages | Number::SentMessages => Range::Within(1, 2),
+        Number::ReportChanges => Range::Within(1, 1_000_000_000),
+        _any => Range::Any,
+    }
+}
+
+fn need_of(number: Number) -> Need {
+    match number {
+        Number::OrLog | Number::OrStreams => Need::NotWithPort,
+        Number::OrTime => Need::NoPort,
+        Number::OrConnectSeconds | Number::OrReplySeconds => Need::With("port"),
+        Number::PartsBytes => Need::With("messages"),
+        Number::ReadSeconds | Number::ReportChanges => Need::With("stay"),
+        Number::FeedPort => Need::WithStayAnd("feed-links"),
+        Number::FeedLinks => Need::WithStayAnd("feed-port"),
+        Number::ReadPort => Need::WithStayAnd("read-links"),
+        Number::ReadLinks => Need::WithStayAnd("read-port"),
+        Number::OrPort | Number::Batch | Number::Refusal => Need::Never,
+        Number::ConnectSeconds | Number::ReplySeconds => Need::Never,
+        Number::Messages | Number::SentMessages => Need::Never,
+        _always => Need::Always,
+    }
+}
+
+/// Whether it has a name in the command line, and not a place.
+fn is_option(number: Number) -> bool {
+    !matches!(
+        number,
+        Number::Time
+            | Number::OrTime
+            | Number::Horizon
+            | Number::Table
+            | Number::Key
+            | Number::Low
+            | Number::High
+            | Number::Tag
+            | Number::Refusal
+    )
+}
+
+fn parser_of<'a>(range: Range) -> ValueParser<'a> {
+    match range {
+        Range::Any => value_parser!(u64),
+        Range::Within(least, most) => value_parser!(u64).range(least..=most),
+        Range::Signed(least, most) => value_parser!(u16).range(least..=most),
+    }
+}
+
+fn not_with_port<'a>(arg: Arg<'a>) -> Result<Arg<'a>, AllocError> {
+    arg.required_unless_present("port")?.conflicts_with("port")
+}
+
+fn with_stay_and<'a>(arg: Arg<'a>, name: &'static str) -> Result<Arg<'a>, AllocError> {
+    arg.requires_arg("stay")?.requires_arg(name)
+}
+
+fn with_need<'a>(arg: Arg<'a>, need: Need) -> Result<Arg<'a>, AllocError> {
+    match need {
+        Need::Always => Ok(arg.required(true)),
+        Need::NoPort => arg.required_unless_present("port"),
+        Need::NotWithPort => not_with_port(arg),
+        Need::With(name) => arg.requires_arg(name),
+        Need::WithStayAnd(name) => with_stay_and(arg, name),
+        Need::Never => Ok(arg),
+    }
+}
+
+/// An argument with a value.
+pub(crate) fn valued<'a>(alloc: Global, name: &'a str, value: &'a str, help: &'a str) -> Arg<'a> {
+    Arg::new(alloc, name)
+        .value_name(value)
+        .help(help)
+        .action(ArgAction::Set)
+}
+
+/// The argument of a number, without when it has to be given.
+fn plain_arg<'a>(alloc: Global, number: Number) -> Arg<'a> {
+    let arg = valued(alloc, name_of(number), value_of(number), help_of(number));
+    arg.value_parser(parser_of(range_of(number)))
+}
+
+/// The same with its name in the command line, where it has one.
+fn named_arg<'a>(alloc: Global, number: Number) -> Arg<'a> {
+    let arg = plain_arg(alloc, number);
+    if is_option(number) {
+        return arg.long(name_of(number));
+    }
+    arg
+}
+
+/// The argument of a number.
+fn number_arg<'a>(alloc: Global, number: Number) -> Result<Arg<'a>, AllocError> {
+    with_need(named_arg(alloc, number), need_of(number))
+}
+
+/// Adds a value to a list.
+pub(crate) fn keep<T: Drop>(value: T, list: &mut Vec<T>) -> Result<(), AllocError> {
+    list.push(value)?;
+    Ok(())
+}
+
+fn add_number<'a>(
+    alloc: Global,
+    number: Number,
+    args: &mut Vec<Arg<'a>>,
+) -> Result<(), AllocError> {
+    keep(number_arg(alloc, number)?, args)
+}
+
+/// Adds the arguments of numbers.
+pub(crate) fn add_numbers<'a>(
+    alloc: Global,
+    numbers: &[Number],
+    args: &mut Vec<Arg<'a>>,
+) -> Result<(), AllocError> {
+    for number in numbers {
+        add_number(alloc, *number, args)?;
+    }
+    Ok(())
+}
+
+/// The numbers of `serve`.
+pub(crate) fn serve_numbers() -> &'static [Number] {
+    &[
+        Number::Log,
+        Number::ServeStreams,
+        Number::ServePort,
+        Number::Links,
+        Number::Messages,
+        Number::PartsBytes,
+    ]
+}
+
+/// Those that are of a node that stays.
+pub(crate) fn stay_numbers() -> &'static [Number] {
+    &[
+        Number::ReadSeconds,
+        Number::FeedPort,
+        Number::FeedLinks,
+        Number::ReadPort,
+        Number::ReadLinks,
+        Number::ReportChanges,
+    ]
+}
+
+/// Both, in the order in which a bad word is looked for.
+pub(crate) fn serve_words() -> &'static [Number] {
+    &[
+        Number::Log,
+        Number::ServeStreams,
+        Number::ServePort,
+        Number::Links,
+        Number::Messages,
+        Number::PartsBytes,
+        Number::FeedPort,
+        Number::FeedLinks,
+        Number::ReadPort,
+        Number::ReadLinks,
+        Number::ReadSeconds,
+        Number::ReportChanges,
+    ]
+}
