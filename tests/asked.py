@@ -273,11 +273,24 @@ def words_that_mislead():
     report("messages that tell what is so", differ(pairs))
 
 
+def how_many_were_new():
+    """`feed --messages 2` prints what `feed` prints, and tells how many items the node didn't know; a node that reads version 1 alone refuses it 3."""
+    with Node(60, words=("--messages", "2")) as node, Node(60) as plain:
+        told = [run("feed", "--port", node.port, "--messages", 2, *more, data=data) for more, data in (([], FIRST), ([], FIRST), (["--batch", 1], FIRST), ([], b""))]
+        pairs = [(f"feed {n}", (out, status, why.splitlines()[-1]), wanted) for n, ((out, status, why), wanted) in enumerate(zip(told, (
+            (b"done 2\n", 0, "new 2 of 2"), (b"done 3\n", 0, "new 0 of 2"), (b"done 5\n", 0, "new 0 of 2"), (b"done 6\n", 0, "new 0 of 0"))))]
+        once = run("feed", "--port", node.port, data=FIRST)
+        refused = run("feed", "--port", plain.port, "--messages", 2, data=FIRST)
+        pairs += [("version 1 tells none", (once[:2], "new" in once[2]), ((b"done 7\n", 0), False)),
+                  ("a node of version 1", (refused[:2], refused[2].startswith("request 1: refused 3: ")), ((b"refused 3\n", 1), True))]
+    report("how many items were new", differ(pairs))
+
+
 def main():
     if not is_built(PROGRAM):
         return ended()
     start = time.monotonic()
-    for check in (there_and_back, bad_lines, json_answers, over_a_link, shell, connected_later, silent_nodes, told_apart, words_that_mislead):
+    for check in (there_and_back, bad_lines, json_answers, over_a_link, shell, connected_later, silent_nodes, told_apart, words_that_mislead, how_many_were_new):
         if not sys.argv[1:] or check.__name__ in sys.argv[1:]:
             guarded(check)
     print(f"asked: {time.monotonic() - start:.1f} s")
