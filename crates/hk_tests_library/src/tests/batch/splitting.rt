@@ -27,14 +27,21 @@ fn whole(alloc: Global) -> Result<Fragment, Fail> {
     Ok(fragment_of(alloc, Config::new(7, 2)?, &items)?)
 }
 
+/// Whether the fragment is cut into these parts.
+fn is_cut(split: &mut Split, most_bytes: u64, parts: &[(usize, usize)]) -> bool {
+    let mut is_cut = true;
+    for (len, left) in parts {
+        split.advance(most_bytes);
+        is_cut = is_cut && split.part().len() == *len && split.left() == *left;
+    }
+    is_cut
+}
+
 #[test]
 fn parts_are_as_long_as_they_may_be(rt: HostRuntime) -> Result<(), Fail> {
     for (most_bytes, parts) in CUTS {
         let mut split = Split::new(whole(rt.alloc())?);
-        for part in parts {
-            split.advance(most_bytes);
-            assert_eq!(rt; (split.part().len(), split.left()), *part, "{most_bytes}");
-        }
+        assert!(rt; is_cut(&mut split, most_bytes, parts), "{most_bytes}");
     }
     Ok(())
 }
@@ -57,37 +64,59 @@ fn made(alloc: Global, came: Assembly, whole: &Fragment) -> Result<Fragment, Ref
     Ok(made)
 }
 
+/// A part of one fact comes, and comes again: whether it is refused then.
+fn comes_once(
+    alloc: Global,
+    came: &mut Assembly,
+    fact: &(VersionKey, Version),
+) -> Result<bool, Refusal> {
+    came.add(part(alloc, fact)?)?;
+    let told = came.add(part(alloc, fact)?);
+    Ok(matches!(told, Err(Refusal::Form(FormFault::BadOrder))))
+}
+
+/// Whether each part comes once, and the parts that came.
+fn each_once(alloc: Global, whole: &Fragment) -> Result<(bool, Assembly), Refusal> {
+    let mut came = Assembly::new(alloc);
+    let mut is_once = true;
+    for fact in whole.facts() {
+        is_once = comes_once(alloc, &mut came, fact)? && is_once;
+    }
+    Ok((is_once && came.count() == 3, came))
+}
+
 #[test]
 fn a_refused_part_leaves_those_before_it(rt: HostRuntime) -> Result<(), Fail> {
-    let alloc = rt.alloc();
-    let whole = whole(alloc)?;
-    let mut came = Assembly::new(alloc);
-    for fact in whole.facts() {
-        came.add(part(alloc, fact)?)?;
-        let told = came.add(part(alloc, fact)?);
-        assert!(rt; matches!(told, Err(Refusal::Form(FormFault::BadOrder))));
-    }
-    assert_eq!(rt; came.count(), 3);
-    assert!(rt; is_whole(&made(alloc, came, &whole)?));
+    let whole = whole(rt.alloc())?;
+    let (is_once, came) = each_once(rt.alloc(), &whole)?;
+    assert!(rt; is_once);
+    assert!(rt; is_whole(&made(rt.alloc(), came, &whole)?));
     Ok(())
+}
+
+/// The parts of one fact each, without one of them.
+fn without(alloc: Global, whole: &Fragment, missing: usize) -> Result<Assembly, Refusal> {
+    let mut came = Assembly::new(alloc);
+    for (index, fact) in whole.facts().iter().enumerate() {
+        if index != missing {
+            came.add(part(alloc, fact)?)?;
+        }
+    }
+    Ok(came)
+}
+
+/// Whether that is told.
+fn is_missed(alloc: Global, whole: &Fragment, missing: usize) -> Result<bool, Refusal> {
+    let came = without(alloc, whole, missing)?;
+    let told = made(alloc, came, whole);
+    Ok(matches!(told, Err(Refusal::Form(FormFault::BadCount))))
 }
 
 #[test]
 fn a_part_that_is_missing_is_told(rt: HostRuntime) -> Result<(), Fail> {
-    let alloc = rt.alloc();
-    let whole = whole(alloc)?;
+    let whole = whole(rt.alloc())?;
     for missing in 0..whole.facts().len() {
-        let mut came = Assembly::new(alloc);
-        for (index, fact) in whole.facts().iter().enumerate() {
-            if index != missing {
-                came.add(part(alloc, fact)?)?;
-            }
-        }
-        let told = made(alloc, came, &whole);
-        assert!(rt;
-            matches!(told, Err(Refusal::Form(FormFault::BadCount))),
-            "{missing}"
-        );
+        assert!(rt; is_missed(rt.alloc(), &whole, missing)?, "{missing}");
     }
     Ok(())
 }

@@ -6,7 +6,7 @@ use super::transaction;
 use hk_log::Item;
 use hk_primary::{Answer, Naming, Query, SharedPrimary, Txn};
 use hk_tests_values::{stream, time};
-use hk_types::{Config, StreamNo, Table, Time};
+use hk_types::{Config, Refusal, StreamNo, Table, Time};
 use std::alloc::Global;
 use std::marker::Brand;
 use std::sync::Wait;
@@ -74,35 +74,45 @@ fn both_commit<K: Naming + Send + Sync, R: Threads + Wait + Sync>(
     requires config { config ≡ K.config }
     requires after { K.after ≡ 0 }
 {
-    let (primary, mut all) = SharedPrimary::<K>::new(alloc, config, blank)?;
+    let (left, right) = (stream(1)?, stream(2)?);
     let one = transaction(alloc, 5, 0x41)?;
     let other = transaction(alloc, 6, 0x42)?;
-    let (left, right) = (stream(1)?, stream(2)?);
-    let borrowed = &primary;
-    let part = all.split_off(1, 0);
+    let (primary, all) = SharedPrimary::<K>::new(alloc, config, blank)?;
+    let (times, count) = by_two(rt, &primary, all, (one, left), (other, right));
+    Ok((times, seen(rt, &primary)?, count))
+}
+
+/// The times of two commits by two threads, the lower one first, and the number of items.
+fn by_two<K: Naming + Send + Sync, R: Threads + Wait + Sync>(
+    rt: &R,
+    primary: &SharedPrimary<K>,
+    all: Share<K>,
+    one: (Txn, StreamNo),
+    other: (Txn, StreamNo),
+) -> ((u64, u64), u64)
+    requires { all.parts ≡ 2 }
+{
+    let mut mine = all;
+    let part = mine.split_off(1, 0);
     let ((first, mut whole), (second, back)) = thread::join(
         rt,
         ||
-            requires { 0 < all.parts }
-        { committed(rt, borrowed, all, one, left) },
+            requires { 0 < mine.parts }
+        { committed(rt, primary, mine, one.0, one.1) },
         ||
             requires { 0 < part.parts }
-        { committed(rt, borrowed, part, other, right) },
+        { committed(rt, primary, part, other.0, other.1) },
     );
     whole.merge(back);
     let count = primary.item_count(rt, &mut whole);
-    Ok((
-        (first.min(second), first.max(second)),
-        seen(rt, &primary)?,
-        count,
-    ))
+    ((first.min(second), first.max(second)), count)
 }
 
 #[test]
 fn two_threads_commit(rt: HostRuntime) -> Result<(), Fail> {
     let config = Config::new(7, 2)?;
     let both = both_commit::<Brand, HostRuntime>(&rt, rt.alloc(), config, Blank::new(2))?;
-    assert_eq!(rt; both, ((1, 2), (1, 1, 2), 2));
+    assert!(rt; both == ((1, 2), (1, 1, 2), 2));
     Ok(())
 }
 
@@ -119,6 +129,25 @@ fn counted<K: Naming, R: Wait>(rt: &R, primary: &SharedPrimary<K>, at: Time) -> 
 /// The counts at 5 and 6, the time of the mark of stream 2, and the number with which its second retirement is refused.
 type Tells = ((u8, u64), (u8, u64), u64, u8);
 
+/// The time of the mark of a stream, and the number with which its second retirement is refused.
+fn retired<K: Naming, R: Wait>(
+    rt: &R,
+    primary: &SharedPrimary<K>,
+    share: Share<K>,
+    stream: StreamNo,
+) -> Result<(u64, u8), Refusal>
+    requires { 0 < share.parts }
+{
+    let mut mine = share;
+    let mark = primary.mark(rt, &mut mine, stream)?;
+    primary.retire(rt, &mut mine, stream)?;
+    let again = match primary.retire(rt, &mut mine, stream) {
+        Ok(_mark) => 0,
+        Err(why) => why.number(),
+    };
+    Ok((mark.m().number(), again))
+}
+
 /// What a shared primary tells whose clock started after 4, once a key is put on stream 2 at 5.
 fn told<K: Naming, R: Wait>(
     rt: &R,
@@ -133,29 +162,19 @@ fn told<K: Naming, R: Wait>(
     requires config { config ≡ K.config }
     requires after { after ≡ K.after }
 {
-    let (primary, all) = SharedPrimary::<K>::starting_after(alloc, config, after, blank)?;
-    let two = stream(2)?;
+    let (two, put, early) = (stream(2)?, time(5)?, time(6)?);
     let txn = transaction(alloc, 5, 0x41)?;
-    let (_at, mut all) = committed(rt, &primary, all, txn, two);
-    let mark = primary.mark(rt, &mut all, two)?;
-    primary.retire(rt, &mut all, two)?;
-    let again = match primary.retire(rt, &mut all, two) {
-        Ok(_mark) => 0,
-        Err(why) => why.number(),
-    };
-    let early = counted(rt, &primary, time(6)?);
-    Ok((
-        counted(rt, &primary, time(5)?),
-        early,
-        mark.m().number(),
-        again,
-    ))
+    let (primary, all) = SharedPrimary::<K>::starting_after(alloc, config, after, blank)?;
+    let (_at, all) = committed(rt, &primary, all, txn, two);
+    let (mark, again) = retired(rt, &primary, all, two)?;
+    let early = counted(rt, &primary, early);
+    Ok((counted(rt, &primary, put), early, mark, again))
 }
 
 #[test]
 fn its_calls_are_those_of_the_primary(rt: HostRuntime) -> Result<(), Fail> {
     let config = Config::new(7, 2)?;
     let told = told::<Brand, HostRuntime>(&rt, rt.alloc(), config, time(4)?, Blank::new(1))?;
-    assert_eq!(rt; told, ((0, 1), (26, 0), 5, 36));
+    assert!(rt; told == ((0, 1), (26, 0), 5, 36));
     Ok(())
 }

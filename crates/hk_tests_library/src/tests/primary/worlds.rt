@@ -9,8 +9,9 @@ use std::test::Fail;
 #[test]
 fn a_run_of_two_events(rt: HostRuntime) -> Result<(), Fail> {
     let alloc = rt.alloc();
+    let stream = stream(1)?;
     let mut events = Vec::new(alloc);
-    events.push(Event::MarkOf { stream: stream(1)? })?;
+    events.push(Event::MarkOf { stream })?;
     events.push(Event::Absorb {
         replica: 1,
         item: 1,

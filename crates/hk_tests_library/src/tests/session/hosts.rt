@@ -45,8 +45,8 @@ fn a_reply_without_a_encoding_is_too_long(rt: HostRuntime) -> Result<(), Fail> {
     let (ended, count, written) = tallied(rt.alloc(), "00000002 01 11 00000002 01 13")?;
     let said =
         "00000013 01 24 02 0000000000000000 0000000000000000 0000000a 01 20 0000000000000001";
-    assert_eq!(rt; ended, 0);
-    assert_eq!(rt; count, 2);
+    assert!(rt; ended == 0);
+    assert!(rt; count == 2);
     assert!(rt; written == bytes_of(rt.alloc(), said)?);
     Ok(())
 }
@@ -56,8 +56,8 @@ fn it_is_told_so_in_its_version(rt: HostRuntime) -> Result<(), Fail> {
     let (ended, count, written) = tallied(rt.alloc(), "00000002 02 34 00000002 02 30")?;
     let said =
         "00000013 02 48 02 0000000000000000 0000000000000000 0000000a 02 40 0000000000000001";
-    assert_eq!(rt; ended, 0);
-    assert_eq!(rt; count, 2);
+    assert!(rt; ended == 0);
+    assert!(rt; count == 2);
     assert!(rt; written == bytes_of(rt.alloc(), said)?);
     Ok(())
 }

@@ -1,9 +1,10 @@
 //! Messages of version 2 and their bytes, which are written out.
 
-use hk_delta::fragment_of;
+use super::messages::items;
+use hk_delta::{Fragment, fragment_of};
 use hk_log::Version;
 use hk_model::Query;
-use hk_tests_values::{bytes_of, entry, mark, row, time, version};
+use hk_tests_values::{bytes_of, row, time, version};
 use hk_types::{Config, FormFault, Key, Refusal, Table, VersionKey};
 use hk_values::FragmentHead;
 use hk_wire::{
@@ -20,12 +21,15 @@ fn facts(alloc: Global) -> Result<Vec<(VersionKey, Version)>, Fail> {
     Ok(facts)
 }
 
-/// The head of all that the only stream of log 7 has up to time 1: that row.
+/// All that the only stream of log 7 has up to time 1: that row.
+fn fragment(alloc: Global) -> Result<Fragment, Fail> {
+    let items = items(alloc)?;
+    Ok(fragment_of(alloc, Config::new(7, 1)?, &items)?)
+}
+
+/// The head of it.
 fn head(alloc: Global) -> Result<FragmentHead, Fail> {
-    let mut items = Vec::new(alloc);
-    items.push(entry(alloc, 7, (1, 1, 1), (None, Some((5, &[0x41]))))?)?;
-    items.push(mark(1, 1, 1)?)?;
-    let fragment = fragment_of(alloc, Config::new(7, 1)?, &items)?;
+    let fragment = fragment(alloc)?;
     Ok(FragmentHead::of_fragment(alloc, &fragment)?)
 }
 
@@ -77,14 +81,19 @@ fn request(alloc: Global, which: usize) -> Result<LaterRequest, Fail> {
     }
 }
 
+fn encoded_request(alloc: Global, which: usize) -> Result<Vec<u8>, Fail> {
+    let request = Request::Later(request(alloc, which)?);
+    let mut bytes = Vec::new(alloc);
+    encode_request(&request, &mut bytes)?;
+    Ok(bytes)
+}
+
 #[test]
 fn encodes_each_request_of_version_2(rt: HostRuntime) -> Result<(), Fail> {
-    let alloc = rt.alloc();
     for which in 0..REQUESTS.len() {
-        let mut bytes = Vec::new(alloc);
-        encode_request(&Request::Later(request(alloc, which)?), &mut bytes)?;
+        let wanted = bytes_of(rt.alloc(), REQUESTS[which])?;
         assert!(rt;
-            bytes == bytes_of(alloc, REQUESTS[which])?,
+            encoded_request(rt.alloc(), which)? == wanted,
             "request {which}"
         );
     }
@@ -115,13 +124,21 @@ fn reply(alloc: Global, which: usize) -> Result<LaterReply, Fail> {
     }
 }
 
+fn encoded_reply(alloc: Global, which: usize) -> Result<Vec<u8>, Fail> {
+    let reply = Reply::Later(reply(alloc, which)?);
+    let mut bytes = Vec::new(alloc);
+    encode_reply(&reply, &mut bytes)?;
+    Ok(bytes)
+}
+
 #[test]
 fn encodes_replies_of_version_2(rt: HostRuntime) -> Result<(), Fail> {
-    let alloc = rt.alloc();
     for which in 0..REPLIES.len() {
-        let mut bytes = Vec::new(alloc);
-        encode_reply(&Reply::Later(reply(alloc, which)?), &mut bytes)?;
-        assert!(rt; bytes == bytes_of(alloc, REPLIES[which])?, "reply {which}");
+        let wanted = bytes_of(rt.alloc(), REPLIES[which])?;
+        assert!(rt;
+            encoded_reply(rt.alloc(), which)? == wanted,
+            "reply {which}"
+        );
     }
     Ok(())
 }
@@ -135,40 +152,55 @@ fn came(asked: &Request) -> u8 {
     }
 }
 
-/// What a feeder of requests of both versions answers to bytes.
-fn fed(alloc: Global, bytes: &str) -> Result<Result<(), Refusal>, Fail> {
+/// Which requests of those looked for a feeder of both versions reads of bytes, each as a digit, and what it answers to more.
+fn fed(
+    alloc: Global,
+    bytes: &[u8],
+    more: &[u8],
+) -> (Result<(), Refusal>, u32, Result<(), Refusal>) {
     let mut asked = Vec::new(alloc);
     let mut feeder = RequestFeeder::<2>::new(alloc);
-    Ok(feeder.feed(&bytes_of(alloc, bytes)?, &mut asked))
+    let told = feeder.feed(bytes, &mut asked);
+    let digits = digits(&asked);
+    (told, digits, feeder.feed(more, &mut asked))
+}
+
+/// What came, each as a digit.
+fn digits(asked: &[Request]) -> u32 {
+    let mut digits: u32 = 0;
+    for one in asked {
+        digits = digits
+            .saturating_mul(10)
+            .saturating_add(u32::from(came(one)));
+    }
+    digits
+}
+
+/// What a feeder of replies answers to bytes.
+fn replied(alloc: Global, bytes: &[u8]) -> Result<(), Refusal> {
+    let mut told = Vec::new(alloc);
+    ReplyFeeder::new(alloc).feed(bytes, &mut told)
 }
 
 #[test]
 fn reads_both_versions_and_no_third(rt: HostRuntime) -> Result<(), Fail> {
-    let alloc = rt.alloc();
-    let mut feeder = RequestFeeder::<2>::new(alloc);
-    let mut asked = Vec::new(alloc);
-    feeder.feed(
-        &bytes_of(alloc, "00000002 01 11 00000002 02 34")?,
-        &mut asked,
-    )?;
-    let mut seen = Vec::new(alloc);
-    for one in &asked {
-        seen.push(came(one))?;
-    }
-    assert!(rt; seen.as_slice() == [1, 2].as_slice());
-    let refused = feeder.feed(&bytes_of(alloc, "00000002 03 11")?, &mut asked);
+    let bytes = bytes_of(rt.alloc(), "00000002 01 11 00000002 02 34")?;
+    let third = bytes_of(rt.alloc(), "00000002 03 11")?;
+    let (told, digits, refused) = fed(rt.alloc(), &bytes, &third);
+    assert!(rt; told == Ok(()));
+    assert!(rt; digits == 12);
     assert!(rt; refused == Err(Refusal::Form(FormFault::BadVersion)));
     Ok(())
 }
 
 #[test]
 fn a_kind_has_one_version(rt: HostRuntime) -> Result<(), Fail> {
-    let alloc = rt.alloc();
     let bad_kind = Err(Refusal::Form(FormFault::BadKind));
-    assert!(rt; fed(alloc, "00000002 01 34")? == bad_kind);
-    assert!(rt; fed(alloc, "00000002 02 11")? == bad_kind);
-    let mut told = Vec::new(alloc);
-    let bytes = bytes_of(alloc, "0000000a 02 20 0000000000000001")?;
-    assert!(rt; ReplyFeeder::new(alloc).feed(&bytes, &mut told) == bad_kind);
+    for text in ["00000002 01 34", "00000002 02 11"] {
+        let bytes = bytes_of(rt.alloc(), text)?;
+        assert!(rt; fed(rt.alloc(), &bytes, &[]).0 == bad_kind, "{text}");
+    }
+    let bytes = bytes_of(rt.alloc(), "0000000a 02 20 0000000000000001")?;
+    assert!(rt; replied(rt.alloc(), &bytes) == bad_kind);
     Ok(())
 }

@@ -1,6 +1,6 @@
 //! Requests and their bytes, which are written out; replies and the reading of both are shown by tests/client.py.
 
-use hk_delta::fragment_of;
+use hk_delta::{Fragment, fragment_of};
 use hk_log::Item;
 use hk_model::Query;
 use hk_tests_values::{bytes_of, entry, mark, time};
@@ -10,7 +10,7 @@ use std::alloc::Global;
 use std::test::Fail;
 
 /// The entry that puts key 5 at time 1, and the mark up to time 1.
-fn items(alloc: Global) -> Result<Vec<Item>, Fail> {
+pub(super) fn items(alloc: Global) -> Result<Vec<Item>, Fail> {
     let mut items = Vec::new(alloc);
     items.push(entry(alloc, 7, (1, 1, 1), (None, Some((5, &[0x41]))))?)?;
     items.push(mark(1, 1, 1)?)?;
@@ -51,17 +51,19 @@ fn query(which: usize) -> Query {
     }
 }
 
+/// The fragment of the two items.
+fn fragment(alloc: Global) -> Result<Fragment, Fail> {
+    let items = items(alloc)?;
+    Ok(fragment_of(alloc, Config::new(7, 1)?, &items)?)
+}
+
 /// A request that carries the two items.
 fn carrying(alloc: Global, which: usize) -> Result<Request, Fail> {
-    let items = items(alloc)?;
-    if which == 0 {
-        return Ok(Request::Items(items));
+    match which {
+        0 => Ok(Request::Items(items(alloc)?)),
+        9 => Ok(Request::JoinThis(fragment(alloc)?)),
+        _ => Ok(Request::MergeThis(fragment(alloc)?)),
     }
-    let fragment = fragment_of(alloc, Config::new(7, 1)?, &items)?;
-    if which == 9 {
-        return Ok(Request::JoinThis(fragment));
-    }
-    Ok(Request::MergeThis(fragment))
 }
 
 fn request(alloc: Global, which: usize) -> Result<Request, Fail> {
@@ -78,16 +80,18 @@ fn request(alloc: Global, which: usize) -> Result<Request, Fail> {
     }
 }
 
+fn encoded(alloc: Global, which: usize) -> Result<Vec<u8>, Fail> {
+    let request = request(alloc, which)?;
+    let mut bytes = Vec::new(alloc);
+    encode_request(&request, &mut bytes)?;
+    Ok(bytes)
+}
+
 #[test]
 fn encodes_each_request(rt: HostRuntime) -> Result<(), Fail> {
-    let alloc = rt.alloc();
     for which in 0..REQUESTS.len() {
-        let mut bytes = Vec::new(alloc);
-        encode_request(&request(alloc, which)?, &mut bytes)?;
-        assert!(rt;
-            bytes == bytes_of(alloc, REQUESTS[which])?,
-            "request {which}"
-        );
+        let wanted = bytes_of(rt.alloc(), REQUESTS[which])?;
+        assert!(rt; encoded(rt.alloc(), which)? == wanted, "request {which}");
     }
     Ok(())
 }
@@ -96,14 +100,20 @@ fn encodes_each_request(rt: HostRuntime) -> Result<(), Fail> {
 const DELTA: &str =
     "0000006d 01 15 0000000000000007 0001 0000000000000004 0000000000000000 0000000000000003 0000000000000006 00000000 00000000 00000002 0001 0000000000000005 0000000000000002 02 0000000000000006 0001 0000000000000005 0000000000000006 01 00000009 0001 44";
 
+/// The fragment that a request of bytes joins.
+fn joined(alloc: Global, bytes: &[u8]) -> Result<Option<Fragment>, Refusal> {
+    let mut requests = Vec::new(alloc);
+    RequestFeeder::<1>::new(alloc).feed(bytes, &mut requests)?;
+    match requests.pop() {
+        Some(Request::JoinThis(delta)) => Ok(Some(delta)),
+        _ => Ok(None),
+    }
+}
+
 #[test]
 fn a_delta_has_no_encoding_as_a_merge(rt: HostRuntime) -> Result<(), Fail> {
     let mut bytes = bytes_of(rt.alloc(), DELTA)?;
-    let mut requests = Vec::new(rt.alloc());
-    RequestFeeder::<1>::new(rt.alloc()).feed(&bytes, &mut requests)?;
-    let Some(Request::JoinThis(delta)) = requests.pop() else {
-        return Err(Fail::from("no join"));
-    };
+    let delta = joined(rt.alloc(), &bytes)?.ok_or("no join")?;
     let refused = encode_request(&Request::MergeThis(delta), &mut bytes);
     assert!(rt; refused == Err(Refusal::Form(FormFault::TooLong)));
     Ok(())

@@ -10,12 +10,20 @@ use std::test::*;
 /// The number with which a session of a host over the state of log 7 with one stream ends, and what was written.
 fn session(alloc: Global, asked: &str) -> Result<(u8, Vec<u8>), Fail> {
     let bytes = bytes_of(alloc, asked)?;
-    let mut reader = Counted::new(bytes.as_slice());
-    let mut writer = Counted::new(Vec::new(alloc));
+    let mut host = host(alloc)?;
+    Ok(served(alloc, &bytes, &mut host))
+}
+
+fn host(alloc: Global) -> Result<StateHost, Fail> {
     let state = ReplicaState::new(alloc, Config::new(7, 1)?)?;
-    let mut host = StateHost::new(alloc, state);
-    let ended = serve::<1, _, _, _>(alloc, &mut reader, &mut writer, &mut host);
-    Ok((ended.number(), writer.into_inner()))
+    Ok(StateHost::new(alloc, state))
+}
+
+fn served(alloc: Global, bytes: &[u8], host: &mut StateHost) -> (u8, Vec<u8>) {
+    let mut reader = Counted::new(bytes);
+    let mut writer = Counted::new(Vec::new(alloc));
+    let ended = serve::<1, _, _, _>(alloc, &mut reader, &mut writer, host);
+    (ended.number(), writer.into_inner())
 }
 
 /// What a session is of, what it reads, with which number it ends, and what it writes. Log 7 has one stream; entry 1 puts
@@ -113,31 +121,39 @@ const SESSIONS: [(&str, &str, u8, &str); 15] = [
     ),
 ];
 
+fn served_both(alloc: Global, bytes: &[u8], host: &mut StateHost) -> (u8, Vec<u8>) {
+    let mut reader = Counted::new(bytes);
+    let mut writer = Counted::new(Vec::new(alloc));
+    let ended = serve::<2, _, _, _>(alloc, &mut reader, &mut writer, host);
+    (ended.number(), writer.into_inner())
+}
+
+/// With which number a session of both versions ends, how many operations there are then, and what was written.
+fn session_of_both(alloc: Global, asked: &str) -> Result<(u8, u64, Vec<u8>), Fail> {
+    let bytes = bytes_of(alloc, asked)?;
+    let mut host = host(alloc)?;
+    let (ended, written) = served_both(alloc, &bytes, &mut host);
+    Ok((ended, host.ops(), written))
+}
+
 #[test]
 fn a_replica_has_no_requests_of_version_2(rt: HostRuntime) -> Result<(), Fail> {
-    let alloc = rt.alloc();
-    let bytes = bytes_of(alloc, "00000002 02 30 00000002 01 11")?;
-    let mut reader = Counted::new(bytes.as_slice());
-    let mut writer = Counted::new(Vec::new(alloc));
-    let mut host = StateHost::new(alloc, ReplicaState::new(alloc, Config::new(7, 1)?)?);
-    let ended = serve::<2, _, _, _>(alloc, &mut reader, &mut writer, &mut host);
     let said =
         "00000013 01 24 04 0000000000000000 0000000000000000 00000012 01 21 0000000000000000 0000000000000000";
-    assert_eq!(rt; ended.number(), 0);
-    assert_eq!(rt; host.ops(), 1);
-    assert!(rt; writer.into_inner() == bytes_of(alloc, said)?);
+    let said = bytes_of(rt.alloc(), said)?;
+    let (ended, ops, written) = session_of_both(rt.alloc(), "00000002 02 30 00000002 01 11")?;
+    assert!(rt; ended == 0);
+    assert!(rt; ops == 1);
+    assert!(rt; written == said);
     Ok(())
 }
 
 #[test]
 fn worked_sessions(rt: HostRuntime) -> Result<(), Fail> {
-    let alloc = rt.alloc();
     for (name, asked, number, said) in SESSIONS {
-        let (ended, written) = session(alloc, asked)?;
-        assert!(rt;
-            ended == number && written == bytes_of(alloc, said)?,
-            "{name}"
-        );
+        let said = bytes_of(rt.alloc(), said)?;
+        let (ended, written) = session(rt.alloc(), asked)?;
+        assert!(rt; ended == number && written == said, "{name}");
     }
     Ok(())
 }
