@@ -6,7 +6,7 @@ ghost use Rattle.std.specs.Prelude.{◌≡◌};
 use hk_cli_lines::line_of;
 use hk_decode::decode_all;
 use hk_delta::{Fragment, fragment_of};
-use hk_node::{NewList, NodeName, ReaderSeat, start};
+use hk_node::{NewList, Node, NodeName, ReaderSeat, start};
 use hk_query::Query;
 use hk_types::{Config, Key, Refusal, Table, Time};
 use std::alloc::Global;
@@ -25,7 +25,27 @@ fn row<J: NodeName>(alloc: Global, seat: &mut ReaderSeat<J>) -> Result<String, R
     Ok(line)
 }
 
-/// Starts a node with two readers, and pushes a fragment to it. The first reader asks before, both ask after it.
+/// Pushes a fragment to a node. The first reader asks before, both ask after it.
+fn asked<J: NodeName, R: Wait>(
+    rt: &R,
+    alloc: Global,
+    node: &Node<J, &R>,
+    seats: &mut [ReaderSeat<J>],
+    pushed: Fragment,
+) -> Result<String, Refusal> {
+    let mut lines = String::new(alloc);
+    if let Some(first) = seats.first_mut() {
+        lines.push_str(row(alloc, first)?.as_str())?;
+    }
+    node.join(rt, pushed)?;
+    for seat in seats {
+        seat.learn(node.publish(rt)?);
+        lines.push_str(row(alloc, seat)?.as_str())?;
+    }
+    Ok(lines)
+}
+
+/// Starts a node with two readers, and pushes a fragment to it.
 fn told<J: NodeName, R: Wait>(
     rt: &R,
     alloc: Global,
@@ -35,29 +55,29 @@ fn told<J: NodeName, R: Wait>(
     requires { list ≡ (J.book, J.kind) }
 {
     let (node, mut seats) = start::<J, &R>(rt, alloc, list, 2)?;
-    let mut lines = String::new(alloc);
-    if let Some(first) = seats.first_mut() {
-        lines.push_str(row(alloc, first)?.as_str())?;
-    }
-    node.join(rt, pushed)?;
-    for seat in &mut seats {
-        seat.learn(node.publish(rt)?);
-        lines.push_str(row(alloc, seat)?.as_str())?;
-    }
-    Ok(lines)
+    asked(rt, alloc, &node, &mut seats, pushed)
 }
 
-/// The same of the items whose frames the bytes are, of log 7, which has one stream.
+/// The fragment of the items whose frames the bytes are.
+fn fragment<R: Threads + Sync>(
+    rt: &R,
+    alloc: Global,
+    config: Config,
+    bytes: &[u8],
+) -> Result<Fragment, Refusal> {
+    let items = decode_all(rt, alloc, bytes)?;
+    fragment_of(alloc, config, &items)
+}
+
+/// What the readers of a node are told of log 7, which has one stream, whose items it is pushed.
 fn filled<R: Threads + Wait + Sync>(
     rt: &R,
     alloc: Global,
     bytes: &[u8],
 ) -> Result<String, Refusal> {
     let config = Config::new(7, 1)?;
-    let items = decode_all(rt, alloc, bytes)?;
-    let pushed = fragment_of(alloc, config, &items)?;
-    let list = NewList::new(config);
-    told::<Brand, R>(rt, alloc, list, pushed)
+    let pushed = fragment(rt, alloc, config, bytes)?;
+    told::<Brand, R>(rt, alloc, NewList::new(config), pushed)
 }
 
 fn main(rt: HostRuntime) -> io::Result<()> {

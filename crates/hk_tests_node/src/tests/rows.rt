@@ -52,24 +52,30 @@ fn told<J: NodeName>(answer: Result<Receipt<J>, Refusal>) -> Tells {
     }
 }
 
-/// A state that took all three entries and the mark.
-fn filled(alloc: Global) -> Result<ReplicaState, Fail> {
+/// Joins all three entries and the mark.
+fn fill(alloc: Global, state: &mut ReplicaState) -> Result<(), Fail> {
     let items = fragment(alloc, &ALL)?;
+    Ok(join(state, &items)?)
+}
+
+/// A state that took them.
+fn filled(alloc: Global) -> Result<ReplicaState, Fail> {
     let mut state = ReplicaState::new(alloc, config()?)?;
-    join(&mut state, &items)?;
+    fill(alloc, &mut state)?;
     Ok(state)
 }
 
 /// It, pruned to a time.
-fn state_of(alloc: Global, to: u64) -> Result<ReplicaState, Fail> {
+fn state_of(alloc: Global, to: Time) -> Result<ReplicaState, Fail> {
     let mut state = filled(alloc)?;
-    state.prune(time(to)?)?;
+    state.prune(to)?;
     Ok(state)
 }
 
 /// The whole of it.
-fn pruned(alloc: Global, to: u64) -> Result<Fragment, Fail> {
-    Ok(whole_of(alloc, &state_of(alloc, to)?)?)
+fn pruned(alloc: Global, to: Time) -> Result<Fragment, Fail> {
+    let state = state_of(alloc, to)?;
+    Ok(whole_of(alloc, &state)?)
 }
 
 /// A node with a seat, and the holds that it gave. Of the requests for memory of each call of the node the one
@@ -201,11 +207,15 @@ impl<J: NodeName, S: Wait + Drop> Game<J, S> {
         told(joined)
     }
 
+    /// The number of operations, and how many items were new.
     fn take<R: Wait>(&mut self, rt: &R, items: &[Item]) -> Tells {
         refuse(self.alloc, self.number);
         let taken = self.node.take(rt, items);
         refuse(self.alloc, 0);
-        told(taken)
+        match taken {
+            Ok((count, receipt)) => (0, receipt.ops(), count),
+            Err(why) => refused(why),
+        }
     }
 
     fn merge<R: Wait>(&mut self, rt: &R, state: &ReplicaState) -> Tells {
@@ -226,22 +236,49 @@ impl<J: NodeName, S: Wait + Drop> Game<J, S> {
         }
     }
 
-    fn play<R: Wait>(&mut self, rt: &R, does: Does) -> Result<Tells, Fail> {
+    fn join_items<R: Wait>(&mut self, rt: &R, numbers: &[u64]) -> Result<Tells, Fail> {
+        let fragment = fragment(self.alloc, numbers)?;
+        Ok(self.join(rt, fragment))
+    }
+
+    fn take_items<R: Wait>(&mut self, rt: &R, numbers: &[u64]) -> Result<Tells, Fail> {
+        let items = items(self.alloc, numbers)?;
+        Ok(self.take(rt, &items))
+    }
+
+    fn merge_pruned<R: Wait>(&mut self, rt: &R, to: Time) -> Result<Tells, Fail> {
+        let state = state_of(self.alloc, to)?;
+        Ok(self.merge(rt, &state))
+    }
+
+    fn join_pruned<R: Wait>(&mut self, rt: &R, to: Time) -> Result<Tells, Fail> {
+        let fragment = pruned(self.alloc, to)?;
+        Ok(self.join(rt, fragment))
+    }
+
+    /// A step that changes the node.
+    fn change<R: Wait>(&mut self, rt: &R, does: Does) -> Result<Tells, Fail> {
         match does {
-            Does::Join(numbers) => Ok(self.join(rt, fragment(self.alloc, numbers)?)),
-            Does::Take(numbers) => Ok(self.take(rt, &items(self.alloc, numbers)?)),
-            Does::Merge(to) => Ok(self.merge(rt, &state_of(self.alloc, to)?)),
-            Does::JoinPruned(to) => Ok(self.join(rt, pruned(self.alloc, to)?)),
+            Does::Join(numbers) => self.join_items(rt, numbers),
+            Does::Take(numbers) => self.take_items(rt, numbers),
+            Does::Merge(to) => self.merge_pruned(rt, time(to)?),
+            Does::JoinPruned(to) => self.join_pruned(rt, time(to)?),
             Does::Prune(to) => Ok(self.prune(rt, time(to)?)),
             Does::Hold(at) => self.hold(rt, time(at)?),
             Does::Release(reader) => self.release(rt, reader),
             Does::Forged(reader, at) => self.release_this(rt, forged(reader, at)?),
-            Does::Publish => Ok(self.publish(rt)),
+            _ => Ok(self.publish(rt)),
+        }
+    }
+
+    fn play<R: Wait>(&mut self, rt: &R, does: Does) -> Result<Tells, Fail> {
+        match does {
             Does::Front => Ok(self.front()),
             Does::Get(key, at) => Ok(self.get(key, at)),
             Does::Latest(key) => Ok(self.latest(key)),
             Does::Page(low, most, at) => Ok(self.page(low, most, time(at)?)),
             Does::Streams => Ok(self.streams()),
+            change => self.change(rt, change),
         }
     }
 }
@@ -361,14 +398,14 @@ const DAMAGE: [(Does, Tells); 11] = [
 /// version at another time than 2, and 9 has the number of 1 and another row.
 const GUARDED: [(Does, Tells); 14] = [
     (Does::Take(&[1, 9]), (23, 0, 0)),
-    (Does::Take(&[1, 2]), (0, 2, 0)),
+    (Does::Take(&[1, 2]), (0, 2, 2)),
     (Does::Take(&[9]), (23, 0, 0)),
     (Does::Take(&[1]), (0, 3, 0)),
     (Does::Join(&[9]), (23, 0, 0)),
     (Does::Take(&[3, 7]), (23, 0, 0)),
-    (Does::Take(&[4]), (0, 4, 0)),
+    (Does::Take(&[4]), (0, 4, 1)),
     (Does::Front, (0, 0, 0)),
-    (Does::Take(&[3]), (0, 5, 0)),
+    (Does::Take(&[3]), (0, 5, 1)),
     (Does::Front, (0, 0, 3)),
     (Does::Get(5, 3), (0, 0x42, 0)),
     (Does::Join(&ALL), (0, 6, 0)),
@@ -378,7 +415,7 @@ const GUARDED: [(Does, Tells); 14] = [
 
 /// A guarded node refuses a state that contradicts it, and holds what it held.
 const MERGED: [(Does, Tells); 5] = [
-    (Does::Take(&[9]), (0, 2, 0)),
+    (Does::Take(&[9]), (0, 2, 1)),
     (Does::Merge(0), (23, 0, 0)),
     (Does::Streams, (0, 2, 1)),
     (Does::Join(&[2, 3, 4]), (0, 3, 0)),
@@ -389,7 +426,7 @@ const MERGED: [(Does, Tells); 5] = [
 const CLOSED: [(Does, Tells); 7] = [
     (Does::Take(&[1, 8, 2]), (23, 0, 0)),
     (Does::Front, (0, 0, 0)),
-    (Does::Take(&[1, 8]), (0, 2, 0)),
+    (Does::Take(&[1, 8]), (0, 2, 2)),
     (Does::Take(&[2]), (23, 0, 0)),
     (Does::Join(&[2]), (23, 0, 0)),
     (Does::Front, (0, 0, 9)),
@@ -440,6 +477,12 @@ fn one_day(rt: HostRuntime) -> Result<(), Fail> {
     ] {
         steps::<Brand, _>(&rt, alloc, new_list(is_guarded)?, rows)?;
     }
+    Ok(())
+}
+
+#[test]
+fn each_request_refused(rt: HostRuntime) -> Result<(), Fail> {
+    let alloc = rt.alloc();
     for turn in 0..=2 * MOST_REQUESTS + 1 {
         let list = new_list(turn % 2 == 1)?;
         waits::<Brand, _>(&rt, alloc, list, turn / 2)?;

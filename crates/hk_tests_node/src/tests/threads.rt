@@ -71,11 +71,39 @@ fn keys<J: NodeName + Send + Sync, R: Threads + Wait + Abort + Sync>(
     let (wrote, read) = thread::join(
         rt,
         move || joins_each(rt, alloc, node),
-        move || thread::join(rt, move || reads_keys(one), move || reads_keys(two)),
+        move || both_read(rt, one, two),
     );
     wrote?;
     assert!(rt; read.0 && read.1);
     Ok(())
+}
+
+fn both_read<J: NodeName + Send + Sync, R: Threads + Sync>(
+    rt: &R,
+    one: ReaderSeat<J>,
+    two: ReaderSeat<J>,
+) -> (bool, bool) {
+    thread::join(rt, move || reads_keys(one), move || reads_keys(two))
+}
+
+/// The entry that puts its number at key 5 and ends the one before it, and the mark of all entries up to it.
+fn put(alloc: Global, number: u64) -> Result<Vec<Item>, Fail> {
+    let body = (number as u16).to_be_bytes();
+    let ended = match number.checked_sub(1) {
+        None | Some(0) => None,
+        Some(before) => Some((5, before)),
+    };
+    let put = Some((5, body.as_slice()));
+    let mut items = Vec::new(alloc);
+    items.push(entry(alloc, 7, (1, number, number), (ended, put))?)?;
+    items.push(mark(1, number, number)?)?;
+    Ok(items)
+}
+
+/// The fragment of these.
+fn put_of(alloc: Global, number: u64) -> Result<Fragment, Fail> {
+    let items = put(alloc, number)?;
+    Ok(fragment_of(alloc, config()?, &items)?)
 }
 
 fn joins_each<J: NodeName, R: Wait, S: Wait + Drop>(
@@ -84,18 +112,7 @@ fn joins_each<J: NodeName, R: Wait, S: Wait + Drop>(
     node: &Node<J, S>,
 ) -> Result<(), Fail> {
     for number in 1..=1000u64 {
-        let body = (number as u16).to_be_bytes();
-        let ended = if number == 1 {
-            None
-        } else {
-            Some((5, number - 1))
-        };
-        let put = Some((5, body.as_slice()));
-        let items = vec![in alloc;
-            entry(alloc, 7, (1, number, number), (ended, put))?,
-            mark(1, number, number)?,
-        ]?;
-        node.join(rt, fragment_of(alloc, config()?, &items)?)?;
+        node.join(rt, put_of(alloc, number)?)?;
     }
     Ok(())
 }

@@ -2,6 +2,3 @@ use Rattle.hk_tests_node.proofs.tests.rows.one_day.Given as goal
 
 abbrev pub ghosts-steps : goal.ghosts-steps
 ghosts-steps g a = record { book = a.list.0; kind = a.list.1 }
-
-abbrev pub ghosts-waits : goal.ghosts-waits
-ghosts-waits g a = record { book = a.list.0; kind = a.list.1 }
