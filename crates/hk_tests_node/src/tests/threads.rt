@@ -87,21 +87,22 @@ fn both_read<J: NodeName + Send + Sync, R: Threads + Sync>(
 }
 
 /// The entry that puts its number at key 5 and ends the one before it, and the mark of all entries up to it.
-fn put(alloc: Global, number: u64) -> Result<Vec<Item>, Fail> {
-    let body = (number as u16).to_be_bytes();
-    let ended = match number.checked_sub(1) {
+fn put(alloc: Global, number: u16) -> Result<Vec<Item>, Fail> {
+    let body = number.to_be_bytes();
+    let at = u64::from(number);
+    let ended = match at.checked_sub(1) {
         None | Some(0) => None,
         Some(before) => Some((5, before)),
     };
     let put = Some((5, body.as_slice()));
     let mut items = Vec::new(alloc);
-    items.push(entry(alloc, 7, (1, number, number), (ended, put))?)?;
-    items.push(mark(1, number, number)?)?;
+    items.push(entry(alloc, 7, (1, at, at), (ended, put))?)?;
+    items.push(mark(1, at, at)?)?;
     Ok(items)
 }
 
 /// The fragment of these.
-fn put_of(alloc: Global, number: u64) -> Result<Fragment, Fail> {
+fn put_of(alloc: Global, number: u16) -> Result<Fragment, Fail> {
     let items = put(alloc, number)?;
     Ok(fragment_of(alloc, config()?, &items)?)
 }
@@ -111,7 +112,7 @@ fn joins_each<J: NodeName, R: Wait, S: Wait + Drop>(
     alloc: Global,
     node: &Node<J, S>,
 ) -> Result<(), Fail> {
-    for number in 1..=1000u64 {
+    for number in 1..=1000u16 {
         node.join(rt, put_of(alloc, number)?)?;
     }
     Ok(())
