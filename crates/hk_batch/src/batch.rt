@@ -16,7 +16,7 @@ use std::thread::Threads;
 pub trait Gate {
     ghost use Rattle.std.specs.Prelude.{ℕ};
 
-    /// Holds of a gate and the number of a worker that it let in; what it is, each gate says for itself.
+    /// True of a gate and the number of a worker that it let in. Each gate defines for itself what it means.
     ghost passed: { Self → ℕ → Type 0 };
 
     /// Lets a worker in, the first being 1. A worker begins once its call returns.
@@ -108,22 +108,21 @@ fn union_of_pieces<R: Threads + Sync, G: Gate + Sync>(
     Ok(whole)
 }
 
-/// The fragment of items, as `fragment_of` gives it, by so many workers, 1 to 16.
+/// The fragment of items, as `fragment_of` returns it, made by so many workers, 1 to 16.
 ///
 /// The list is cut into as many pieces of neighbours, some perhaps empty. The workers run side by side, each in a
 /// thread of its own where one can be made; each passes the gate with its number, the first being 1, and gathers its
 /// piece, and the pieces are joined from the first to the last. It joins its workers, so it waits for them and for
-/// the gate: what it gives is promised if it returns.
+/// the gate: its result is promised if it returns.
 ///
 /// The result and the refusals are those of `fragment_of`, in its order, for every number of workers: where the
 /// workers find no fragment, or no memory, the whole list is gathered once more by this thread alone, and its answer
 /// is the answer. So `Memory` comes only where the items have a fragment.
 ///
 /// Cost: O((n · log n + b) / w) for each worker, w workers, n items, rows and ends, b bytes of bodies, and
-/// O(w · n + n · log n + b) for joining their pieces; the rows of all pieces but the first are copied once more.
-/// Where the list is gathered once more, that of `fragment_of` too. While the pieces are joined, they and the
-/// fragment are held together: about twice the fragment, and at most what `fragment_of` takes of all pieces at
-/// once.
+/// O(w · n + n · log n + b) for joining their pieces; the rows of all pieces but the first are copied once more. Where
+/// the list is gathered once more, that of `fragment_of` too. While the pieces are joined, they and the fragment are
+/// in memory together: about twice the fragment, and at most what `fragment_of` uses for all pieces at once.
 pub fn build<R: Threads + Sync, G: Gate + Sync>(
     rt: &R,
     alloc: Global,

@@ -49,7 +49,7 @@ impl Replica {
         number_of(&reply)
     }
 
-    /// Takes items, where there are some. 0, or the number of the refusal.
+    /// Applies items, where there are some. Returns 0, or the number of the refusal.
     fn take(&mut self, items: Vec<Item>) -> u8
         ensures { Taken self.old self.new items.items result }
     {
@@ -59,7 +59,7 @@ impl Replica {
         self.change(Request::Items(items))
     }
 
-    /// Takes the items of the frames that are whole now. 0, or the number of the refusal.
+    /// Applies the items of the frames that are complete now. Returns 0, or the number of the refusal.
     pub(crate) fn absorb(&mut self, alloc: Global, piece: &[u8]) -> u8
         ensures { Absorbed self.old self.new piece.now result }
     {
@@ -79,7 +79,8 @@ impl Replica {
         number_done(ended.finish())
     }
 
-    /// Drops what ended at a horizon or before. 0, or the number of the refusal.
+    /// Drops the versions that ended at this time or before, which becomes the oldest readable time. Returns 0, or
+    /// the number of the refusal.
     pub(crate) fn prune(&mut self, horizon: u64) -> u8
         ensures { Pruned self.old self.new horizon result }
     {
@@ -89,7 +90,7 @@ impl Replica {
         }
     }
 
-    /// Joins what another replica holds. 0, or the number of the refusal.
+    /// Joins what another replica holds. Returns 0, or the number of the refusal.
     pub(crate) fn merge(&mut self, peer: &Replica) -> u8
         ensures { Merged self.old self.new peer.now result }
     {

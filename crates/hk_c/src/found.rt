@@ -1,4 +1,4 @@
-//! What is told of a row, and of a replica.
+//! What a call reports of a row, and of a replica.
 
 /// Whether there is a row, its tag, and how many bytes its body has.
 #[repr(C)]
@@ -9,7 +9,7 @@ pub struct Found {
     pub len: usize,
 }
 
-/// From where to where a replica can be read, and how many operations it has done.
+/// The range of a replica's readable times, and how many operations it has done.
 #[repr(C)]
 #[derive(Drop)]
 pub struct Bounds {

@@ -22,12 +22,12 @@ use std::alloc::Global;
 use std::mem::replace;
 use words::line_of;
 
-/// What a call answers that was handed a closed handle.
+/// What a call returns that got a closed handle.
 const CLOSED: u8 = 255;
 
 const MEMORY: u8 = 90;
 
-/// Puts a replica in a handle, and lets go what it held.
+/// Puts a replica in a handle, and frees what it held.
 fn put_back(alloc: Global, handle: &mut Handle, replica: Box<Replica>)
     ensures { handle.new.replica ≡ Some replica.value }
 {
@@ -35,7 +35,7 @@ fn put_back(alloc: Global, handle: &mut Handle, replica: Box<Replica>)
     drop(before.into_box(alloc));
 }
 
-/// Opens a replica of a log. What the handle held before is let go. 0, or the number of the refusal: 5 or 90.
+/// Opens a replica of a log. What the handle held before is freed. Returns 0, or the number of the refusal: 5 or 90.
 #[unsafe(no_mangle)]
 pub extern "C" fn hk_open(alloc: Global, handle: &mut Handle, log: u64, streams: u16) -> u8
     ensures { Opened handle.new.replica log streams result }
@@ -93,7 +93,7 @@ fn copy_prefix(from: &[u8], to: &mut [u8]) -> usize
     n
 }
 
-/// Copies the reply of the last call from a position on, as much as there is room, and tells how much.
+/// Copies the reply of the last call from a position on, as much as there is room, and returns how much.
 #[unsafe(no_mangle)]
 pub extern "C" fn hk_reply(alloc: Global, handle: &mut Handle, from: usize, out: &mut [u8]) -> usize
     ensures kept { handle.new.replica ≡ handle.old.replica }
@@ -112,7 +112,7 @@ pub extern "C" fn hk_reply(alloc: Global, handle: &mut Handle, from: usize, out:
     }
 }
 
-/// Lets the replica go. A closed handle stays closed.
+/// Frees the replica. A closed handle stays closed.
 #[unsafe(no_mangle)]
 pub extern "C" fn hk_close(alloc: Global, handle: &mut Handle)
     ensures { handle.new.replica ≡ None }
@@ -121,7 +121,7 @@ pub extern "C" fn hk_close(alloc: Global, handle: &mut Handle)
     drop(old.into_box(alloc));
 }
 
-/// Tells of a row, and copies as much of its body as there is room.
+/// Reports a row, and copies as much of its body as there is room.
 fn tell(row: Option<Row>, found: &mut Found, out: &mut [u8])
     ensures { Told row found.new out.old out.new }
 {
@@ -143,7 +143,7 @@ fn tell(row: Option<Row>, found: &mut Found, out: &mut [u8])
     }
 }
 
-/// Tells of the row that a replica answers. 0, or the number of the refusal.
+/// Reports the row that a replica answers. Returns 0, or the number of the refusal.
 fn get_row(
     alloc: Global,
     replica: &Replica,
@@ -217,7 +217,7 @@ pub extern "C" fn hk_count(
     }
 }
 
-/// From where to where the replica can be read, and how many operations it has done. 0, or 255 at a closed handle.
+/// The range of the replica's readable times, and how many operations it has done. Returns 0, or 255 at a closed handle.
 #[unsafe(no_mangle)]
 pub extern "C" fn hk_front(alloc: Global, handle: &mut Handle, bounds: &mut Bounds) -> u8
     ensures kept { handle.new.replica ≡ handle.old.replica }
@@ -287,7 +287,7 @@ fn list(
 
 /// The rows of a table from a low key to a high one, both inside, at a time: each its key in 8 bytes, its tag in 4,
 /// the length of its body in 2, the high byte first, and its body. As much as there is room; how many bytes they have
-/// is written, and `hk_reply` gives the rest. 0, or the number of the refusal, or 255 at a closed handle.
+/// is written, and `hk_reply` copies the rest. Returns 0, or the number of the refusal, or 255 at a closed handle.
 #[unsafe(no_mangle)]
 pub extern "C" fn hk_range(
     alloc: Global,
@@ -307,7 +307,7 @@ pub extern "C" fn hk_range(
     list(alloc, handle, time, &query, low, out, needed)
 }
 
-/// The rows of a table with a tag at a time, from a key on, as `hk_range` gives them.
+/// The rows of a table with a tag at a time, from a key on, as `hk_range` returns them.
 #[unsafe(no_mangle)]
 pub extern "C" fn hk_by_tag(
     alloc: Global,
@@ -327,8 +327,8 @@ pub extern "C" fn hk_by_tag(
     list(alloc, handle, time, &query, Key::new(low), out, needed)
 }
 
-/// Takes the next piece of a stream of item frames: the items of the frames that are whole now, all or none of them.
-/// What is cut off is kept for the next piece. 0, or the number of the refusal, or 255 at a closed handle.
+/// Applies the next piece of a stream of item frames: the items of the frames that are complete now, all or none of them.
+/// An incomplete frame is kept for the next piece. Returns 0, or the number of the refusal, or 255 at a closed handle.
 #[unsafe(no_mangle)]
 pub extern "C" fn hk_absorb(alloc: Global, handle: &mut Handle, piece: &[u8]) -> u8
     ensures { AbsorbedAt handle.old.replica handle.new.replica piece.now result }
@@ -359,7 +359,8 @@ pub extern "C" fn hk_finish(alloc: Global, handle: &mut Handle) -> u8
     }
 }
 
-/// Drops what ended at a horizon or before. 0, or the number of the refusal, or 255 at a closed handle.
+/// Drops the versions that ended at this time or before, which becomes the oldest readable time. Returns 0, or the
+/// number of the refusal, or 255 at a closed handle.
 #[unsafe(no_mangle)]
 pub extern "C" fn hk_prune(alloc: Global, handle: &mut Handle, horizon: u64) -> u8
     ensures { PrunedAt handle.old.replica handle.new.replica horizon result }
@@ -374,7 +375,7 @@ pub extern "C" fn hk_prune(alloc: Global, handle: &mut Handle, horizon: u64) -> 
     }
 }
 
-/// Joins what another handle's replica holds. 0, or the number of the refusal, or 255 where one is closed.
+/// Joins what another handle's replica holds. Returns 0, or the number of the refusal, or 255 where one is closed.
 #[unsafe(no_mangle)]
 pub extern "C" fn hk_merge(alloc: Global, handle: &mut Handle, peer: &mut Handle) -> u8
     ensures peer { peer.new.replica ≡ peer.old.replica }

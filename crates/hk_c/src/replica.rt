@@ -25,7 +25,7 @@ pub struct Replica {
 }
 
 impl Replica {
-    /// A replica of this log, that took nothing.
+    /// A replica of this log, that has applied no item.
     pub(crate) fn new(alloc: Global, log: u64, streams: u16) -> Result<Replica, Refusal>
         ensures ok { IfOk result (λ r. IsNew r log streams) }
         ensures err { IfErr result (λ why. NotOpened log streams (refusal_number why)) }

@@ -1,4 +1,4 @@
-//! What a node that stays tells of its links.
+//! What a long-running node reports of its connections.
 
 use crate::notice::Notice;
 use hk_cli_calls::Level;
@@ -11,10 +11,10 @@ use hk_types::Time;
 use std::alloc::{AllocError, Global};
 use std::io::Write;
 
-/// How many places a node has at most.
+/// How many connection slots a node has at most.
 const MOST_PLACES: usize = 64;
 
-/// A seat that asks for the front, and after how many changes it does.
+/// A seat that reads the node's front, and after how many changes it does.
 #[derive(Drop)]
 pub(crate) struct Reports<J: NodeName> {
     seat: ReaderSeat<J>,
@@ -35,7 +35,7 @@ impl<J: NodeName> Reports<J> {
         }
     }
 
-    /// Counts a change; says whether it is time for a report.
+    /// Counts a change; returns whether it is time for a report.
     fn count(&mut self) -> bool {
         self.changes = self.changes.saturating_add(1);
         self.since = self.since.saturating_add(1);
@@ -47,16 +47,16 @@ impl<J: NodeName> Reports<J> {
     }
 }
 
-/// Tells what happens to the links of a node. They are counted from 1 as they open.
+/// Prints what happens to the connections of a node. They are counted from 1 as they open.
 #[derive(Drop)]
 pub(crate) struct LinkReporter<'o, 'a, W: Write, E: Write, J: NodeName> {
     alloc: Global,
     output: &'o mut Output<'a, W, E>,
     level: Level,
     reports: Option<Reports<J>>,
-    /// How many links opened.
+    /// How many connections opened.
     count: u64,
-    /// The number of the last link of each place.
+    /// The number of the last connection of each slot.
     links: [u64; MOST_PLACES],
 }
 
@@ -77,7 +77,7 @@ impl<'o, 'a, W: Write, E: Write, J: NodeName> LinkReporter<'o, 'a, W, E, J> {
         }
     }
 
-    /// The number of the last link of a place.
+    /// The number of the last connection of a slot.
     fn link(&self, place: usize) -> u64 {
         match self.links.get(place) {
             Some(link) => *link,
@@ -85,7 +85,7 @@ impl<'o, 'a, W: Write, E: Write, J: NodeName> LinkReporter<'o, 'a, W, E, J> {
         }
     }
 
-    /// Counts a link of a place.
+    /// Counts a connection of a slot.
     fn count(&mut self, place: usize) {
         self.count = self.count.saturating_add(1);
         if let Some(link) = self.links.get_mut(place) {
@@ -93,14 +93,14 @@ impl<'o, 'a, W: Write, E: Write, J: NodeName> LinkReporter<'o, 'a, W, E, J> {
         }
     }
 
-    /// Tells a line, where there was memory for it.
+    /// Prints a line, where there was memory for it.
     fn say(&mut self, line: Result<String, AllocError>) {
         if let Ok(line) = line {
             self.output.note(line.as_str());
         }
     }
 
-    /// Tells that a link did something that is no fault, unless only faults are wanted.
+    /// Prints that a connection did something that is no fault, unless only faults are wanted.
     fn note(&mut self, link: u64, what: &str) {
         if self.level == Level::Faults {
             return;
@@ -109,7 +109,7 @@ impl<'o, 'a, W: Write, E: Write, J: NodeName> LinkReporter<'o, 'a, W, E, J> {
         self.say(line);
     }
 
-    /// Tells that a change took effect, where each is wanted.
+    /// Prints that a change took effect, where each is wanted.
     fn note_change(&mut self, link: u64, ops: u64) {
         if self.level != Level::Changes {
             return;
@@ -118,13 +118,13 @@ impl<'o, 'a, W: Write, E: Write, J: NodeName> LinkReporter<'o, 'a, W, E, J> {
         self.say(line);
     }
 
-    /// Tells the front after so many changes.
+    /// Prints the front after so many changes.
     fn note_front(&mut self, changes: u64, horizon: Time, readable: Time) {
         let line = format!(in self.alloc; "after {changes} changes: front {horizon} {readable}\n");
         self.say(line);
     }
 
-    /// Counts a change, and tells the front where it is time for that.
+    /// Counts a change, and prints the front where it is time for that.
     fn report_change(&mut self) {
         let Some(reports) = &mut self.reports else {
             return;
@@ -139,7 +139,7 @@ impl<'o, 'a, W: Write, E: Write, J: NodeName> LinkReporter<'o, 'a, W, E, J> {
         }
     }
 
-    /// Tells how a link ended.
+    /// Prints how a connection ended.
     fn ended(&mut self, link: u64, ended: Ended) {
         let number = ended.number();
         if number == 0 {

@@ -1,20 +1,20 @@
-//! The lines of a node that serves links, beside refusals.
+//! The lines of a node that serves connections, beside refusals.
 
 ghost use Rattle.hk_cli.specs.Notices as spec;
 
 use hk_cli_lines::Printed;
 use std::alloc::{AllocError, Global};
 
-/// What a node that serves links tells.
+/// What a node that serves connections prints.
 #[derive(Clone, Copy)]
 pub(crate) enum Notice {
-    /// Links can be opened to this port.
+    /// Connections can be opened to this port.
     Listening(u16),
-    /// Links that send items and ask can be opened to this port.
+    /// Connections that send items and ask can be opened to this port.
     Feeding(u16),
-    /// Links that only read can be opened to this port.
+    /// Read-only connections can be opened to this port.
     Reading(u16),
-    /// A link ended, with this number.
+    /// A connection ended, with this number.
     Ended(u8),
 }
 

@@ -25,11 +25,11 @@ pub(crate) fn stop_of(fault: NetFault) -> Stop {
     }
 }
 
-/// What is told of a program that was built without proofs.
+/// The line for a program that was built without proofs.
 const UNPROVED: &str =
     "unproved: this program was built without one proof, to be looked at; make builds the proved one\n";
 
-/// Tells where the program was built without proofs.
+/// Prints a line where the program was built without proofs.
 pub(crate) fn tell_unproved<W: Write, E: Write>(output: &mut Output<'_, W, E>) {
     if !IS_PROVED {
         output.note(UNPROVED);
@@ -49,7 +49,7 @@ pub(crate) fn listener_of<R: Net<Listener = TcpListener, Stream = TcpStream>, W:
     }
 }
 
-/// Prints how each link ended, and gives the status.
+/// Prints how each connection ended, and returns the status.
 fn print_ends<W: Write, E: Write>(ends: &[Ended], output: &mut Output<'_, W, E>) -> Result<u8, Stop>
     ensures { IfOk result (λ status. status ≤ 1) }
 {
@@ -74,7 +74,7 @@ pub(crate) fn new_list(config: Config, is_guarded: bool) -> NewList {
     }
 }
 
-/// Serves the links to a new node of this list.
+/// Serves the connections to a new node of this list.
 fn serve_list<
     J: NodeName + Send + Sync,
     R: Net<Listener = TcpListener, Stream = TcpStream> + Threads + Wait + Sync,
@@ -102,20 +102,21 @@ fn serve_list<
     print_ends(&ends, output)
 }
 
-/// Starts a node of a log, and serves links to it on a port of 127.0.0.1, until so many were opened and all have ended.
-/// Prints `listening` and the port once links can be opened, and at the end a line for each link in the order in which
-/// they were accepted: `ended` and its number, which is 0, the fault's of a request, 90, 91 or 92. A guarded node refuses
-/// 23 what contradicts it, with nothing changed, and is never damaged (`NewList::guarded`). Messages of version 1 are
-/// answered, and where a number of bytes is given those of version
-/// 2 too: the links keep at most so many bytes for them, all together.
+/// Starts a node of a log, and serves connections to it on a port of 127.0.0.1, until so many were opened and all have
+/// ended. Prints `listening` and the port once connections can be opened, and at the end a line for each connection in
+/// the order in which they were accepted: `ended` and its number, which is 0, the fault's of a request, 90, 91 or 92. A
+/// guarded node refuses with 23 what conflicts with it, changes nothing, and never fails (`NewList::guarded`). Messages
+/// of version 1 are answered, and where a number of bytes is given those of version 2 too: the connections keep at most
+/// so many bytes for them, all together.
 ///
 /// The status is 0, or 1 where a number above 0 or one of these lines was printed:
 ///
-/// - `refused 93` where the port can't be listened to, as one in use, or no further link can be accepted;
-/// - `refused 90` where memory ran out for the node or the list of links;
-/// - no line where a write failed or took no bytes: the status alone tells it.
+/// - `refused 93` where the port can't be listened to, as one in use, or no further connection can be accepted;
+/// - `refused 90` where memory ran out for the node or the list of connections;
+/// - no line where a write failed or took no bytes: the status alone shows it.
 ///
-/// Each number above 0 and each such line is told to `errors` in words. Cost: that of `start`, and of `serve_links`.
+/// Each number above 0 and each such line is explained in words on `errors`. Cost: that of `start`, and of
+/// `serve_links`.
 pub fn run_serve<
     R: Net<Listener = TcpListener, Stream = TcpStream> + Threads + Wait + Sync,
     W: Write,

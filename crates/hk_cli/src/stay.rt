@@ -1,4 +1,4 @@
-//! The command `serve` of a node that stays.
+//! The command `serve` of a long-running node.
 
 ghost use Rattle.std.specs.Prelude.{◌≡◌, ◌<◌, ◌≤◌};
 
@@ -58,7 +58,7 @@ fn listeners_of<R: Net<Listener = TcpListener, Stream = TcpStream>, W: Write, E:
     })
 }
 
-/// A door as its node has them: which messages its links are answered in, and whether changes are told.
+/// A door as its node has them: in which messages its connections are answered, and whether changes are reported.
 fn furnished<'d, J: NodeName, N: Wait + Drop>(
     door: Door<'d, J, N>,
     stay: &Stay,
@@ -75,7 +75,7 @@ fn furnished<'d, J: NodeName, N: Wait + Drop>(
     }
 }
 
-/// How many links a further port serves at once.
+/// How many connections a further port serves at once.
 fn links_of(other: Option<OtherPort>) -> usize
     ensures { result ≤ 64 }
 {
@@ -85,8 +85,8 @@ fn links_of(other: Option<OtherPort>) -> usize
     }
 }
 
-/// The door of the place with this number: the first places are behind the open door, the next ones behind that for feeders, the others
-/// behind the reading one.
+/// The door of the connection slot with this number: the first slots belong to the open door, the next ones to that for feeders, the
+/// others to the reading one.
 fn door_of<'d, J: NodeName, N: Wait + Drop>(
     node: &'d Node<J, N>,
     stay: &Stay,
@@ -104,12 +104,12 @@ fn door_of<'d, J: NodeName, N: Wait + Drop>(
     }
     match &listeners.reading {
         Some(listener) => Door::reading(listener, seconds),
-        // No place has this number: there are as many seats as links.
+        // No slot has this number: there are as many seats as connections.
         None => Door::open(&listeners.open, node, seconds),
     }
 }
 
-/// A place for each seat.
+/// A connection slot for each seat.
 fn places_of<'d, J: NodeName, N: Wait + Drop>(
     alloc: Global,
     node: &'d Node<J, N>,
@@ -126,8 +126,7 @@ fn places_of<'d, J: NodeName, N: Wait + Drop>(
     Ok(places)
 }
 
-/// How many seats a node has: one for each of its links, of all kinds, and one for what is told of its front; at most as many
-/// as it may have.
+/// How many seats a node has: one for each of its connections, of all kinds, and one to report its front; at most as many as it may have.
 fn seats_wanted(stay: &Stay) -> usize
     ensures { (0 < result) × (result ≤ 64) }
 {
@@ -136,7 +135,7 @@ fn seats_wanted(stay: &Stay) -> usize
     (stay.links.count() + others + reporter).min(64)
 }
 
-/// Tells that links can be opened, and to which ports.
+/// Prints that connections can be opened, and to which ports.
 fn tell_ports<W: Write, E: Write>(stay: &Stay, output: &mut Output<'_, W, E>) -> Result<(), Stop> {
     output.print(&Notice::Listening(stay.port))?;
     if let Some(feeding) = stay.feeding {
@@ -148,7 +147,7 @@ fn tell_ports<W: Write, E: Write>(stay: &Stay, output: &mut Output<'_, W, E>) ->
     output.flush()
 }
 
-/// Serves links to a new node of this list without an end.
+/// Serves connections to a new node of this list without an end.
 fn stay_list<
     J: NodeName + Send + Sync,
     R: Net<Listener = TcpListener, Stream = TcpStream> + Threads + Wait + Clock + Sync,
@@ -176,15 +175,15 @@ fn stay_list<
     serve_forever(rt, alloc, places, &mut reporter).map_err(stop_of)
 }
 
-/// Starts a node of a log, and serves links to it without an end: a place is given back when its link ends. Prints `listening`
-/// and the port once links can be opened, `feeding` and `reading` and a further port where there is one, and `ended` and its number for
-/// each link when it ends.
+/// Starts a node of a log, and serves connections to it without an end: a slot is free again when its connection ends. Prints
+/// `listening` and the port once connections can be opened, `feeding` and `reading` and a further port where there is one, and `ended`
+/// and its number for each connection when it ends.
 ///
 /// It ends, and the status is 1, only where one of these happens: `refused 93` where a port can't be listened to,
 /// `refused 90` where memory ran out for the node or its threads, and no line where those first lines can't be written.
-/// Later lines that can't be written are lost, and the node serves on. Each link that opens and ends, each change that is
-/// refused, and each accept that failed is told to `errors` in words, as the level has it, and the node's front after so many
-/// changes. What tells it has one of the 64 seats. Cost: that of `start` and of `serve_forever`.
+/// Later lines that can't be written are lost, and the node serves on. Each connection that opens and ends, each change that
+/// is refused, and each accept that failed is printed to `errors` in words, as far as the level asks for it, and the node's
+/// front after so many changes. That report uses one of the 64 seats. Cost: that of `start` and of `serve_forever`.
 pub fn run_stay<
     R: Net<Listener = TcpListener, Stream = TcpStream> + Threads + Wait + Clock + Sync,
     W: Write,

@@ -15,47 +15,50 @@ const ABOUT: &str = "Read replicas of an in-memory multiversion primary";
 const LONG_ABOUT: &str = "Read replicas of an in-memory multiversion primary.
 
 A primary writes a log in 1 to 64 streams of item frames: entries, which say what a transaction \
-put in and ended, and marks, which say that a stream is complete up to a time. A replica takes \
-them in any order, late or twice, and answers at a past time with exactly the primary's rows of \
+put in and ended, and marks, which say that a stream is complete up to a time. A replica applies them in \
+any order, late or twice, and answers at a past time with exactly the primary's rows of \
 that time, or with a numbered refusal.
 
 Answers and refusals go to standard output, and why something was refused, in words, to standard \
 error; 'hkrep explain' lists all refusals. The status is 0; 1 where a line 'refused', 'line N: bad \
 command' or 'ended N' with N above 0 was printed, where 'frames', 'rewrite' or 'save' was stopped, \
-which standard error alone tells, or where a write failed; 2 for a bad command line.";
+which only standard error shows, or where a write failed; 2 for a bad command line.";
 
-/// How many bytes all links keep for messages of version 2 where that isn't said.
+/// How many bytes all connections keep for messages of version 2 by default.
 const PARTS_BYTES: u64 = 1_073_741_824;
 
 const SERVE_ABOUT: &str =
-    "Start a node, and serve links to it on a port of 127.0.0.1; with --stay without an end";
+    "Start a node, and serve connections to it on a port of 127.0.0.1; with --stay without an end";
 
 const LINKS_EXAMPLE: &str = "Example, a node and a feeder:
   hkrep serve --log 7 --streams 1 --port 47110 --links 1 &
   hkrep push --port 47110 < examples/links/first.bin
-The node prints 'listening 47110' once links can be opened. The feeder sends two items and asks \
-for a row: it prints 'done 2' and '9 41'. When the links have ended, the node prints 'ended 0' for \
+The node prints 'listening 47110' once connections can be opened. The feeder sends two items and asks \
+for a row: it prints 'done 2' and '9 41'. When the connections have ended, the node prints 'ended 0' for \
 each, or the number of what ended it.
 
-A node that stays, with a port of its own for readers:
+A long-running node, with a port of its own for readers:
   hkrep serve --stay --log 7 --streams 1 --port 47110 --links 40 --read-port 47111 --read-links 20 &";
 
-const SERVE_LONG_ABOUT: &str = "Start a node, and serve links to it on a port of 127.0.0.1.
+const SERVE_LONG_ABOUT: &str = "Start a node, and serve connections to it on a port of 127.0.0.1.
 
-It serves as many links as --links says, side by side, and ends when all have ended. It prints \
-'refused 93' where the port can't be listened to. docs/PROTOCOL.md says what goes over a link.
+It serves --links connections, side by side, and ends when all have ended. It prints \
+'refused 93' where the port can't be listened to. docs/PROTOCOL.md describes the messages of a connection.
 
-With --guard a change that says another thing of a version than the node has is refused 23 and changes \
-nothing, where else it damages the node for good; docs/SECURITY.md has what it doesn't refuse.
+With --guard a change that conflicts with the node is refused 23 and changes nothing, where else the node \
+fails and has to be rebuilt; docs/SECURITY.md has what it doesn't refuse.
 
-With --messages 2 it answers messages of version 2 too: the whole in parts, pages of rows, the latest answer, and holds, which end with their link. What the links keep for these is at most --parts-bytes, all together; what would be more is refused 46.
+With --messages 2 it answers messages of version 2 too: full snapshots in chunks, pages of rows, the latest answer, \
+and pins, which end with their connection. What the connections keep for these is at most --parts-bytes, \
+all together; what would be more is refused 46.
 
-With --stay it serves links without an end, --links of them at once: a further link waits until one ends. \
-It prints 'ended' and a number as each link ends. --read-port opens a second port, whose links may \
-ask and not change, --feed-port a further one, whose links may send items and ask. NOTHING IS ENCRYPTED OR AUTHENTICATED: whoever reaches the port may write. Give \
+With --stay it serves connections without an end, --links of them at once: a further one waits until one ends. \
+It prints 'ended' and a number as each connection ends. --read-port opens a second port, whose connections \
+may ask and not change, --feed-port a further one, whose connections may send items and ask. \
+NOTHING IS ENCRYPTED OR AUTHENTICATED: whoever reaches the port may write. Give \
 --address only behind a proxy that does both (docs/OPERATING.md).";
 
-/// What is told of a number that no call can be made of.
+/// The error for a number that no call can be made of.
 const OUT_OF_RANGE: &str = "a number is out of its range";
 
 fn with_long_about<'a>(command: Command<'a>) -> Command<'a> {
@@ -154,7 +157,7 @@ pub(crate) fn config_of(matches: &ArgMatches<'_>) -> Option<Config> {
     Config::new(log, streams).ok()
 }
 
-/// How many bytes all links keep for messages of version 2, where these are answered.
+/// How many bytes all connections keep for messages of version 2, where these are answered.
 pub(crate) fn parts_bytes_of(matches: &ArgMatches<'_>) -> Option<u64> {
     if !is_second(matches) {
         return None;
@@ -162,7 +165,7 @@ pub(crate) fn parts_bytes_of(matches: &ArgMatches<'_>) -> Option<u64> {
     Some(u64_of(matches, "parts-bytes").unwrap_or(PARTS_BYTES))
 }
 
-/// How many links are served.
+/// How many connections are served.
 pub(crate) fn links_of(matches: &ArgMatches<'_>) -> Option<Links> {
     Links::new(u16_of(matches, "links")?)
 }

@@ -7,17 +7,17 @@ use hk_cli_calls::{Alone, Call, Limits, NodeCall, Order, OutputForm};
 use hk_model::Query;
 use hk_types::{Key, Table, Tag, Time};
 
-/// How many items a batch has where that isn't said.
+/// How many items a batch has by default.
 const BATCH: u64 = 4_096;
 
-/// For how many seconds a command tries to connect where that isn't said.
+/// For how many seconds a command tries to connect by default.
 const CONNECT_SECONDS: u64 = 3;
 
-/// For how many seconds a command that only asks waits for a reply where that isn't said; the others wait without a limit.
+/// For how many seconds a command that only asks waits for a reply by default; the others wait without a limit.
 const REPLY_SECONDS: u64 = 30;
 
-/// The number of this name, where it is given. (This and the next are all that ask for numbers of 64 and 16 bits, since what the
-/// call says weighs on what follows.)
+/// The number of this name, where it is given. (This and the next are all that ask for numbers of 64 and 16 bits, since the
+/// contract of the call makes what follows harder to prove.)
 pub(crate) fn u64_of(matches: &ArgMatches<'_>, name: &str) -> Option<u64> {
     matches.get_one::<u64>(name)
 }
@@ -60,7 +60,7 @@ fn form_of(matches: &ArgMatches<'_>) -> OutputForm {
     }
 }
 
-/// The form of a whole.
+/// The form of a full snapshot.
 fn whole_form_of(matches: &ArgMatches<'_>) -> OutputForm {
     if has_flag(matches, "json") {
         OutputForm::Json
@@ -69,7 +69,7 @@ fn whole_form_of(matches: &ArgMatches<'_>) -> OutputForm {
     }
 }
 
-/// How long a command waits that waits for so many seconds for a reply where that isn't said.
+/// How long a command waits, which by default waits for so many seconds for a reply.
 fn limits_of(matches: &ArgMatches<'_>, reply: u64) -> Limits {
     let connect_seconds = u64_of(matches, "connect-seconds");
     let reply_seconds = u64_of(matches, "reply-seconds");
@@ -117,13 +117,26 @@ fn query_of(name: &str, words: &ArgMatches<'_>) -> Option<Query> {
     }
 }
 
+/// The call of `at`: in JSON it is the question for one row.
 fn at_call<'a>(matches: &ArgMatches<'a>) -> Option<Call<'a>> {
-    Some(Call::Alone(Alone::At {
-        config: config_of(matches)?,
-        time: time_of(matches)?,
-        table: table_of(matches)?,
-        key: key_of(matches, "key")?,
-    }))
+    let config = config_of(matches)?;
+    let time = time_of(matches)?;
+    let table = table_of(matches)?;
+    let key = key_of(matches, "key")?;
+    match form_of(matches) {
+        OutputForm::Lines => Some(Call::Alone(Alone::At {
+            config,
+            time,
+            table,
+            key,
+        })),
+        form => Some(Call::Alone(Alone::Ask {
+            config,
+            time,
+            query: Query::Get { table, key },
+            form,
+        })),
+    }
 }
 
 /// The call of an order that only asks, to a node where a port is given, else of what is done alone.
@@ -134,7 +147,7 @@ fn either<'a>(matches: &ArgMatches<'a>, order: Order, alone: Option<Alone>) -> O
     }
 }
 
-/// The call of a query over a link, or of item frames.
+/// The call of a query over a connection, or of item frames.
 fn ask_call<'a>(matches: &ArgMatches<'a>) -> Option<Call<'a>> {
     let (name, words) = matches.subcommand()?;
     let query = query_of(name, words)?;

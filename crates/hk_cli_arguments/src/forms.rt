@@ -201,7 +201,7 @@ fn numbers_of_node(form: CommandForm) -> &'static [Number] {
     }
 }
 
-/// The numbers that it takes.
+/// The numbers that it accepts.
 pub(crate) fn numbers_of(form: CommandForm) -> &'static [Number] {
     match form {
         CommandForm::At => &[
@@ -235,7 +235,8 @@ pub(crate) fn numbers_of(form: CommandForm) -> &'static [Number] {
 fn has_json(form: CommandForm) -> bool {
     matches!(
         form,
-        CommandForm::Ask
+        CommandForm::At
+            | CommandForm::Ask
             | CommandForm::Front
             | CommandForm::Status
             | CommandForm::Items
@@ -286,7 +287,7 @@ fn items_arg<'a>(alloc: Global) -> Arg<'a> {
     valued(alloc, "items", "FILE", ITEMS_HELP).long("items")
 }
 
-/// Adds what a command takes beside numbers.
+/// Adds what a command accepts beside numbers.
 fn add_extra<'a>(
     alloc: Global,
     form: CommandForm,
@@ -301,7 +302,7 @@ fn add_extra<'a>(
     Ok(())
 }
 
-/// What a command takes.
+/// What a command accepts.
 fn args_of<'a>(alloc: Global, form: CommandForm) -> Result<Vec<Arg<'a>>, AllocError> {
     let mut args = Vec::new(alloc);
     add_numbers(alloc, numbers_of(form), &mut args)?;
@@ -309,7 +310,7 @@ fn args_of<'a>(alloc: Global, form: CommandForm) -> Result<Vec<Arg<'a>>, AllocEr
     Ok(args)
 }
 
-/// A command without what it takes. (A function for each step with a command, since a proof of several together takes a minute.)
+/// A command without its arguments. (A function for each step with a command, since a proof of several together takes a minute.)
 fn bare_command<'a>(alloc: Global, form: CommandForm) -> Command<'a> {
     plain(alloc, name_of(form), about_of(form), example_of(form))
 }

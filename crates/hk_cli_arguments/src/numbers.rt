@@ -1,4 +1,4 @@
-//! The arguments that are numbers. (What is said of them stands in functions of one column each: a table of all columns takes
+//! The arguments that are numbers. (Their properties are in functions of one column each: a table of all columns takes
 //! minutes to prove wherever it is named.)
 
 use clap::builder::ValueParser;
@@ -6,7 +6,7 @@ use clap::{Arg, ArgAction, value_parser};
 use std::alloc::{AllocError, Global};
 
 /// An argument that is a number. Those of a name that begins with `Or` are of a command that asks a node where a port is given,
-/// and those with `Serve` tell a negative number as one that is not in the range.
+/// and those with `Serve` report a negative number as one that is not in the range.
 #[derive(Clone, Copy)]
 pub(crate) enum Number {
     Log,
@@ -66,11 +66,11 @@ enum Range {
     Any,
     /// From here to there.
     Within(i64, i64),
-    /// The same, where a negative one is told as one that is not in it.
+    /// The same, where a negative one is reported as one that is not in it.
     Signed(i64, i64),
 }
 
-/// The name of a number that a node's ports, links and limits of time have.
+/// The name of a number that a node's ports, connections and limits of time have.
 fn name_of_node<'a>(number: Number) -> &'a str {
     match number {
         Number::ConnectSeconds | Number::OrConnectSeconds => "connect-seconds",
@@ -106,7 +106,7 @@ pub(crate) fn name_of<'a>(number: Number) -> &'a str {
     }
 }
 
-/// What stands for its value in the help of a number that a node's ports, links and limits of time have.
+/// The placeholder of its value in the help of a number that a node's ports, connections and limits of time have.
 fn value_of_node<'a>(number: Number) -> &'a str {
     match number {
         Number::Messages | Number::SentMessages => "V",
@@ -120,7 +120,7 @@ fn value_of_node<'a>(number: Number) -> &'a str {
     }
 }
 
-/// What stands for its value in the help.
+/// The placeholder of its value in the help.
 fn value_of<'a>(number: Number) -> &'a str {
     match number {
         Number::Log | Number::OrLog => "L",
@@ -136,28 +136,28 @@ fn value_of<'a>(number: Number) -> &'a str {
     }
 }
 
-/// What the help says of a number of a node's links.
+/// The help of a number of a node's connections.
 fn help_of_links<'a>(number: Number) -> &'a str {
     match number {
-        Number::Links => "How many links are served, with --stay at once: 1 to 64",
-        Number::FeedPort => "A further port, whose links may send items and ask: 1 to 65535",
+        Number::Links => "How many connections are served, with --stay at once: 1 to 64",
+        Number::FeedPort => "A further port, whose connections may send items and ask: 1 to 65535",
         Number::FeedLinks => {
-            "How many links to that port are served at once: 1 to 63, and 64 with the others"
+            "How many connections to that port are served at once: 1 to 63, and 64 with the others"
         }
-        Number::ReadPort => "A second port, whose links may only read: 1 to 65535",
+        Number::ReadPort => "A second port, whose connections may only read: 1 to 65535",
         Number::ReadLinks => {
-            "How many links that only read are served at once: 1 to 63, and 64 with the others"
+            "How many read-only connections are served at once: 1 to 63, and 64 with the others"
         }
         Number::ReadSeconds => {
-            "End a link where inside a frame nothing comes for so long: 0 (never) to 86400"
+            "End a connection where inside a frame nothing comes for so long: 0 (never) to 86400"
         }
         _changes => {
-            "Tell standard error the front after each N changes, 1 to 1000000000; takes one of the 64 places"
+            "Print the front to standard error after each N changes, 1 to 1000000000; uses one of the 64 slots"
         }
     }
 }
 
-/// What the help says of a number of messages or of limits of time.
+/// The help of a number of messages or of limits of time.
 fn help_of_messages<'a>(number: Number) -> &'a str {
     match number {
         Number::ConnectSeconds | Number::OrConnectSeconds => {
@@ -176,13 +176,13 @@ fn help_of_messages<'a>(number: Number) -> &'a str {
             "The latest version of requests that is sent: 1 or 2; 1 where it isn't given"
         }
         Number::PartsBytes => {
-            "How many bytes all links keep for --messages 2 at most; 1073741824 where it isn't given"
+            "How many bytes all connections keep for --messages 2 at most; 1073741824 where it isn't given"
         }
         other => help_of_links(other),
     }
 }
 
-/// What the help says of a number of a query.
+/// The help of a number of a query.
 fn help_of_query<'a>(number: Number) -> &'a str {
     match number {
         Number::Horizon => "The time: 0 to 4611686018427387904",
@@ -196,7 +196,7 @@ fn help_of_query<'a>(number: Number) -> &'a str {
     }
 }
 
-/// What the help says of it.
+/// The help of it.
 fn help_of<'a>(number: Number) -> &'a str {
     match number {
         Number::Log | Number::OrLog => "The id of the log: a number up to 18446744073709551615",
@@ -253,7 +253,7 @@ fn need_of(number: Number) -> Need {
     }
 }
 
-/// Whether it has a name in the command line, and not a place.
+/// Whether it has a name in the command line, and not a position.
 fn is_option(number: Number) -> bool {
     !matches!(
         number,
@@ -304,7 +304,7 @@ pub(crate) fn valued<'a>(alloc: Global, name: &'a str, value: &'a str, help: &'a
         .action(ArgAction::Set)
 }
 
-/// The argument of a number, without when it has to be given.
+/// The argument of a number, without the rule of when it has to be given.
 fn plain_arg<'a>(alloc: Global, number: Number) -> Arg<'a> {
     let arg = valued(alloc, name_of(number), value_of(number), help_of(number));
     arg.value_parser(parser_of(range_of(number)))
@@ -362,7 +362,7 @@ pub(crate) fn serve_numbers() -> &'static [Number] {
     ]
 }
 
-/// Those that are of a node that stays.
+/// Those of a long-running node.
 pub(crate) fn stay_numbers() -> &'static [Number] {
     &[
         Number::ReadSeconds,

@@ -1,4 +1,4 @@
-//! The options of `serve` for a node that stays, and for one that tests each change.
+//! The options of `serve` for a long-running node, and for one that tests each change.
 
 use crate::arguments::{config_of, links_of, parts_bytes_of};
 use crate::calls::{has_flag, port_of, u16_of, u64_of};
@@ -10,19 +10,19 @@ use hk_types::Links;
 use std::alloc::{AllocError, Global};
 use std::net::Ipv4Addr;
 
-const STAY_HELP: &str = "Serve links without an end, so many at once";
+const STAY_HELP: &str = "Serve connections without an end, so many at once";
 
-const QUIET_HELP: &str = "Tell standard error of faults alone, and not of each link";
+const QUIET_HELP: &str = "Print faults alone to standard error, and not each connection";
 
-const VERBOSE_HELP: &str = "Tell standard error of each change that takes effect, too";
+const VERBOSE_HELP: &str = "Print each change that takes effect to standard error, too";
 
 const GUARD_HELP: &str =
-    "Test each change first: another thing of a version is refused 23, and changes nothing";
+    "Test each change first: one that conflicts is refused 23, and changes nothing";
 
 const ADDRESS_HELP: &str =
     "Where the ports are opened, in place of 127.0.0.1. Nothing is encrypted or authenticated";
 
-/// How many links a node serves at once at most, of all kinds.
+/// How many connections a node serves at once at most, of all kinds.
 const MOST_LINKS: u16 = 64;
 
 fn quiet_flag<'a>(alloc: Global) -> Result<Arg<'a>, AllocError> {
@@ -66,8 +66,8 @@ fn add_address<'a>(alloc: Global, args: &mut Vec<Arg<'a>>) -> Result<(), AllocEr
     keep(address_arg(alloc)?, args)
 }
 
-/// Adds the options of a node that stays, and of one that tests each change. (A function for each of them, since a proof of all
-/// together takes minutes.)
+/// Adds the options of a long-running node, and of one that tests each change. (A function for each of them, since a proof of
+/// all together takes minutes.)
 pub(crate) fn add_stay<'a>(alloc: Global, args: &mut Vec<Arg<'a>>) -> Result<(), AllocError> {
     add_flag(alloc, "stay", STAY_HELP, args)?;
     add_flag(alloc, "guard", GUARD_HELP, args)?;
@@ -77,7 +77,7 @@ pub(crate) fn add_stay<'a>(alloc: Global, args: &mut Vec<Arg<'a>>) -> Result<(),
     add_numbers(alloc, stay_numbers(), args)
 }
 
-/// How many links this option asks for, 0 without it.
+/// How many connections this option asks for, 0 without it.
 fn count_of(matches: &ArgMatches<'_>, name: &str) -> u16 {
     u16_of(matches, name).unwrap_or(0)
 }
@@ -89,7 +89,7 @@ fn other_port(matches: &ArgMatches<'_>, port: &str, links: &str) -> Option<Other
     Some(OtherPort { port, links })
 }
 
-/// Whether the links of all ports, and what is told of changes, have as many seats as there are.
+/// Whether the seats suffice for the connections of all ports and for the report of changes.
 fn are_seated(matches: &ArgMatches<'_>, report_changes: u64) -> bool {
     let others = count_of(matches, "feed-links").saturating_add(count_of(matches, "read-links"));
     let telling = u16::from(report_changes > 0);
@@ -111,7 +111,7 @@ fn address_of(matches: &ArgMatches<'_>) -> Option<Ipv4Addr> {
     }
 }
 
-/// What is told of links.
+/// What is reported of connections.
 fn level_of(matches: &ArgMatches<'_>) -> Level {
     if has_flag(matches, "quiet") {
         Level::Faults

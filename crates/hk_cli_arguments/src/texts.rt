@@ -1,4 +1,4 @@
-//! What the help says.
+//! The texts of the help.
 
 pub(crate) const AT_ABOUT: &str =
     "Absorb the item frames of standard input, and print a row at a time";
@@ -17,7 +17,7 @@ pub(crate) const ASK_EXAMPLE: &str = "Example:
   hkrep ask --log 7 --streams 1 1 range 1 0 9 < examples/first.bin
 prints '5 9 41', the key, tag and body of each row of table 1 with a key from 0 to 9 at time 1, and \
 then 'rows 1'. What is refused is printed as at 'hkrep at'. With --port it asks a node that runs, and \
-reads at the readable mark where no time is given:
+reads at the resolved time where no time is given:
   hkrep ask --port 47110 get 1 5";
 
 pub(crate) const GET_ABOUT: &str = "The row at a key: prints 'TAG BODY' or 'none'";
@@ -32,7 +32,7 @@ pub(crate) const COUNT_ABOUT: &str = "How many rows there are: prints 'count COU
 
 pub(crate) const FRONT_ABOUT: &str =
     "Absorb the item frames of standard input, or ask a node that runs \
-(--port), and print from where to where can be read";
+(--port), and print the range of readable times";
 
 pub(crate) const FRONT_EXAMPLE: &str = "Example:
   hkrep front --log 7 --streams 1 < examples/first.bin
@@ -50,7 +50,7 @@ prints
   stream 2 prefix 0 extra 0 closed 0 waiting 0 holds
   front horizon 0 readable 0
 Of each stream: the number up to which all entries are there, how many are there above it, the time \
-up to which marks close it, how many marks wait for entries, and whether it holds the readable mark \
+up to which marks close it, how many marks wait for entries, and whether it holds the resolved time \
 back while another is closed further ('holds'), doesn't ('open') or is retired ('retired'). Of a node that runs:
   hkrep status --port 47110";
 
@@ -70,7 +70,7 @@ prints
   commit log 7 stream 1 number 1 time 1 ends 0 rows 1
   mark log 7 stream 1 n 1 m 1
 A fault of the input is printed after the items before it, as 'refused NUMBER'. With --json each item is \
-printed whole, as a line of JSON that 'hkrep frames' reads; docs/FORMATS.md has the lines.";
+printed in full, as a line of JSON that 'hkrep frames' reads; docs/FORMATS.md has the lines.";
 
 pub(crate) const REWRITE_ABOUT: &str = "Write the item frames of standard input in version 2";
 
@@ -80,7 +80,7 @@ writes the same items, their ends and rows in groups of one table. Where the inp
 written, and standard error says why.";
 
 pub(crate) const WORLD_ABOUT: &str =
-    "Play the script of standard input: a primary, and replicas that take its items";
+    "Play the script of standard input: a primary, and replicas that apply its items";
 
 pub(crate) const WORLD_EXAMPLE: &str =
     "The first line makes the world; the others are commands, one a line, in any order:
@@ -89,18 +89,18 @@ pub(crate) const WORLD_EXAMPLE: &str =
   put SLOT TABLE KEY TAG BODY     it puts a row; the body is - or pairs of hexadecimal digits
   remove SLOT TABLE KEY           it removes a row
   commit SLOT STREAM              it commits on a stream; the primary emits an entry
-  mark STREAM                     the primary emits a mark of a stream: all so far is told
-  retire STREAM                   it emits the last mark of a stream, which takes no more commits
-  absorb REPLICA ITEM             a replica takes an item; items are counted from 1 as they are emitted
-  batch REPLICA ITEM ITEM ..      a replica takes up to 64 items at once
-  prune REPLICA TIME              a replica forgets what is below a time
-  merge TO FROM                   a replica takes all that another has
-  delta TO FROM BASE              a replica takes what another learnt since a time
+  mark STREAM                     the primary emits a mark, which closes the stream so far
+  retire STREAM                   it emits the last mark of a stream, which accepts no more commits
+  absorb REPLICA ITEM             a replica applies an item; items are counted from 1 as they are emitted
+  batch REPLICA ITEM ITEM ..      a replica applies up to 64 items at once
+  prune REPLICA TIME              a replica discards the versions that no read at TIME or later needs
+  merge TO FROM                   a replica merges all that another has
+  delta TO FROM BASE              a replica joins what another applied since a time
   ask REPLICA TIME get TABLE KEY           the row at a key; replica 0 is the primary
   ask REPLICA TIME range TABLE LOW HIGH    the rows of a range of keys
   ask REPLICA TIME tag TABLE TAG           the rows with a tag
   ask REPLICA TIME count TABLE             how many rows there are
-  front REPLICA                   from where to where a replica can be read
+  front REPLICA                   the range of a replica's readable times
 
 Example:
   hkrep world <<END
@@ -114,12 +114,11 @@ Example:
   absorb 1 2
   ask 1 1 get 1 5
   END
-plays the script line by line, and prints what each line is told: 'begun 1 at 0', 'ok', 'committed 1', \
+plays the script line by line, and prints the reply to each line: 'begun 1 at 0', 'ok', 'committed 1', \
 'mark stream 1 n 1 m 1', 'taken', 'front horizon 0 readable 0', 'taken' and '9 41'. With --items FILE the \
 frames of the two items are written to FILE at the end of the script, none where it stopped before. A refused command \
 prints its refusal and changes nothing; a line that is no command prints 'line N: bad command' and ends \
-the script. Standard error says why. examples/world has longer scripts, and a README that tells their \
-stories.";
+the script. Standard error says why. examples/world has longer scripts, and a README that explains them.";
 
 pub(crate) const PUSH_ABOUT: &str =
     "Send the requests of standard input to a node, and print each reply";
@@ -127,13 +126,13 @@ pub(crate) const PUSH_ABOUT: &str =
 pub(crate) const PUSH_EXAMPLE: &str =
     "A request is sent once the reply to the one before was printed. 'refused' and a number ends it \
 where the input or a reply is malformed (1 to 10; 1 where the replies end), a read (91) or a \
-write (92) fails, or nobody listens (93). docs/PROTOCOL.md says what goes over a link.
+write (92) fails, or nobody listens (93). docs/PROTOCOL.md describes the messages of a connection.
 
 Example, a node and a feeder:
   hkrep serve --log 7 --streams 1 --port 47110 --links 1 &
   hkrep push --port 47110 < examples/links/first.bin
-The node prints 'listening 47110' once links can be opened. The feeder sends two items and asks \
-for a row: it prints 'done 2' and '9 41'. When the links have ended, the node prints 'ended 0' for \
+The node prints 'listening 47110' once connections can be opened. The feeder sends two items and asks \
+for a row: it prints 'done 2' and '9 41'. When the connections have ended, the node prints 'ended 0' for \
 each, or the number of what ended it.";
 
 pub(crate) const FRAMES_ABOUT: &str =
@@ -144,45 +143,45 @@ pub(crate) const FRAMES_EXAMPLE: &str = "Example:
 writes the same items in version 2. A line that is no item ends it with status 1: standard error has its \
 number, the column and what was expected, and nothing is written for it.";
 
-pub(crate) const SAVE_ABOUT: &str = "Write all that a node holds, for 'hkrep load'";
+pub(crate) const SAVE_ABOUT: &str = "Write a full snapshot of a node, for 'hkrep load'";
 
 pub(crate) const SAVE_EXAMPLE: &str = "Example:
   hkrep save --port 47110 > whole.bin
 writes one frame. With --json it prints a line of the head and one of each version.";
 
-pub(crate) const LOAD_ABOUT: &str = "Hand what 'hkrep save' wrote to a node";
+pub(crate) const LOAD_ABOUT: &str = "Send what 'hkrep save' wrote to a node";
 
 pub(crate) const LOAD_EXAMPLE: &str = "Example:
   hkrep load --port 47110 < whole.bin
 prints 'done' and the number of the node's operation.";
 
-pub(crate) const PULL_ABOUT: &str = "Have a node take what another one has learnt";
+pub(crate) const PULL_ABOUT: &str = "Copy missing data from another node";
 
 pub(crate) const PULL_EXAMPLE: &str = "Example:
   hkrep pull --port 47111 --from 47110
-asks the node on 47110 for a delta since the readable mark of the one on 47111, or for the whole where it \
-can't cut one there, hands it to that one, and prints 'done' and the number of its operation.";
+asks the node on 47110 for a delta since the resolved time of the one on 47111, or for a full snapshot where \
+it can't cut one there, sends it to that one, and prints 'done' and the number of its operation.";
 
-pub(crate) const PRUNE_ABOUT: &str = "Have a node forget what no one reads from a time on";
+pub(crate) const PRUNE_ABOUT: &str = "Discard the versions that no read at TIME or later needs";
 
 pub(crate) const PRUNE_EXAMPLE: &str = "Example:
   hkrep prune --port 47110 1
 prints 'done' and the number of the node's operation.";
 
-pub(crate) const FEED_ABOUT: &str = "Hand the item frames of standard input to a node";
+pub(crate) const FEED_ABOUT: &str = "Send the item frames of standard input to a node";
 
 pub(crate) const FEED_EXAMPLE: &str = "Example:
   hkrep feed --port 47110 < examples/first.bin
 prints 'done' and the number of the node's last operation. Standard error says how many items a second went. \
-The first batch that is refused ends it; those before it are taken. With --messages 2, to a node that answers these, \
+The first batch that is refused ends it; those before it are applied. With --messages 2, to a node that answers these, \
 standard error also says how many of the items the node didn't know before: 'new 2 of 2'.";
 
 pub(crate) const SHELL_ABOUT: &str = "Answer the lines of standard input from a node that runs";
 
 pub(crate) const SHELL_EXAMPLE: &str = "Example:
   echo 'range 1 0 9' | hkrep shell --port 47110
-prints the rows of table 1 with a key from 0 to 9 at the readable mark as a table, and how many they are. The lines:
-  get TABLE KEY | range TABLE LOW HIGH | tag TABLE TAG | count TABLE      at the readable mark
+prints the rows of table 1 with a key from 0 to 9 at the resolved time as a table, and how many they are. The lines:
+  get TABLE KEY | range TABLE LOW HIGH | tag TABLE TAG | count TABLE      at the resolved time
   at TIME get TABLE KEY                                                   the same at a time
   front | status | help
-On a terminal a prompt stands before each line. A refusal is printed, and the next line goes on.";
+On a terminal each line has a prompt. A refusal is printed, and the next line goes on.";

@@ -33,7 +33,7 @@ pub enum Alone {
         query: Query,
         form: OutputForm,
     },
-    /// Absorb item frames, and print from where to where can be read.
+    /// Absorb item frames, and print the range of readable times.
     Front {
         config: Config,
         form: OutputForm,
@@ -66,17 +66,17 @@ pub enum Call<'a> {
     World {
         items: Option<&'a str>,
     },
-    /// Start a node, and serve so many links on a port.
+    /// Start a node, and serve so many connections on a port.
     Serve {
         config: Config,
         port: u16,
         links: Links,
         /// Whether each change is tested before it is added.
         is_guarded: bool,
-        /// How many bytes all links keep for messages of version 2; none where those of version 1 alone are answered.
+        /// How many bytes all connections keep for messages of version 2; none where those of version 1 alone are answered.
         parts_bytes: Option<u64>,
     },
-    /// Start a node of a log, and serve links to it without an end.
+    /// Start a node of a log, and serve connections to it without an end.
     Stay(Config, Stay),
     /// Have a node that runs do something.
     Node(NodeCall),

@@ -13,38 +13,38 @@ pub enum Order {
     },
     /// To answer the lines of the input.
     Shell,
-    /// To answer a query, at the readable mark where no time is given.
+    /// To answer a query, at the resolved time where the caller names no time.
     Ask {
         time: Option<Time>,
         query: Query,
         form: OutputForm,
     },
-    /// To tell from where to where it can be read.
+    /// To return its range of readable times.
     Front {
         form: OutputForm,
     },
-    /// To tell how far each stream is.
+    /// To return how far each stream is.
     Status {
         form: OutputForm,
     },
-    /// To hand out all that it holds: in bytes, the frame of a request that hands it to a node, or those of its parts where one
+    /// To return a full snapshot: in bytes, the frame of a request that gives it to a node, or those of its chunks where one
     /// message has no room for it; or lines of JSON.
     Save {
         form: OutputForm,
     },
-    /// To take the fragments of the input, whole or in parts, as `Save` hands them out in bytes.
+    /// To join the fragments of the input, in one message or in chunks, as `Save` writes them in bytes.
     Load,
-    /// To take what the node on another port of 127.0.0.1 has learnt since this one's readable mark, or all that it holds
-    /// where it refuses the delta for its base; in parts where one message has no room for it.
+    /// To join what the node on another port of 127.0.0.1 has applied since this one's resolved time, or its full
+    /// snapshot where it refuses the delta for its base; in chunks where one message has no room for it.
     Pull {
         from: u16,
     },
-    /// To forget what is below a time.
+    /// To drop the versions that no read at a time or later needs.
     Prune {
         horizon: Time,
     },
-    /// To take the items of the input, in batches of so many, or of 67,108,864 bytes; by requests of version 2 where the number of
-    /// new ones is to be told.
+    /// To apply the items of the input, in batches of so many, or of 67,108,864 bytes; by requests of version 2 where the number
+    /// of new ones is wanted.
     Feed {
         batch: u64,
         with_second: bool,

@@ -16,15 +16,15 @@ use std::alloc::Global;
 use std::io::{Read, Write};
 use std::mem;
 
-/// A replica that absorbs what it is handed.
+/// A replica that absorbs what it gets.
 #[derive(Drop)]
 struct Absorber {
     state: ReplicaState,
 }
 
 impl Absorber {
-    /// Leaves the replica's memory to the system, which takes all of a process at its end: to give it back piece by piece
-    /// would cost a walk over all that is held.
+    /// Leaves the replica's memory to the system, which frees all memory of a process at its end: to free it piece by
+    /// piece would cost a walk over all of it.
     fn leave(self) {
         mem::forget(self);
     }
@@ -97,9 +97,9 @@ fn print_answer<I: Read, W: Write, E: Write>(
 
 /// Absorbs the item frames of the input, and prints the answer to a query at a time, in a form. The replica's memory is left
 /// to the system (so with each of these commands): a process calls one of them and ends. Where a frame has a fault, an item
-/// is refused or the query is, the one that comes first is printed and no answer, and is told to `errors` in words. The
-/// status: 0, or 1 where a line `refused` was printed or a write failed. Cost: O(n · log n), n bytes of the input, and
-/// that of the query.
+/// is refused or the query is, the one that comes first is printed in place of an answer, and is explained in words on
+/// `errors`. The status: 0, or 1 where a line `refused` was printed or a write failed. Cost: O(n · log n), n bytes of the
+/// input, and that of the query.
 pub fn run_ask<I: Read, W: Write, E: Write>(
     alloc: Global,
     input: &mut I,
@@ -135,7 +135,7 @@ pub fn run_at<I: Read, W: Write, E: Write>(
     run_ask(alloc, input, writer, errors, config, time, &query, form)
 }
 
-/// Has a replica absorb the items of the input, and prints from where to where it can be read.
+/// Has a replica absorb the items of the input, and prints its range of readable times.
 fn show_front<I: Read, W: Write, E: Write>(
     alloc: Global,
     input: &mut I,
@@ -158,7 +158,7 @@ fn print_front<I: Read, W: Write, E: Write>(
     shown
 }
 
-/// Absorbs the item frames of the input, and prints from where to where the replica can be read. What stops it, and the
+/// Absorbs the item frames of the input, and prints the replica's range of readable times. What stops it, and the
 /// status, are as at `run_ask`. Cost: O(n · log n), n bytes of the input.
 pub fn run_front<I: Read, W: Write, E: Write>(
     alloc: Global,
@@ -175,7 +175,7 @@ pub fn run_front<I: Read, W: Write, E: Write>(
     ended(printed, &mut output)
 }
 
-/// Has a replica absorb the items of the input, and prints how far its streams are, and from where to where it can be read.
+/// Has a replica absorb the items of the input, and prints how far its streams are, and its range of readable times.
 fn show_status<I: Read, W: Write, E: Write>(
     alloc: Global,
     input: &mut I,
@@ -199,8 +199,8 @@ fn print_status<I: Read, W: Write, E: Write>(
     shown
 }
 
-/// Absorbs the item frames of the input, and prints a line for each stream, how far it is, and then from where to where
-/// the replica can be read. What stops it, and the status, are as at `run_ask`. Cost: O(n · log n), n bytes of the input.
+/// Absorbs the item frames of the input, and prints a line for each stream, how far it is, and then the replica's range
+/// of readable times. What stops it, and the status, are as at `run_ask`. Cost: O(n · log n), n bytes of the input.
 pub fn run_status<I: Read, W: Write, E: Write>(
     alloc: Global,
     input: &mut I,
@@ -216,7 +216,7 @@ pub fn run_status<I: Read, W: Write, E: Write>(
     ended(printed, &mut output)
 }
 
-/// Writes what was printed, or why it stopped, and gives the status.
+/// Writes what was printed, or why it stopped, and returns the status.
 fn ended<W: Write, E: Write>(printed: Result<(), Stop>, output: &mut Output<'_, W, E>) -> u8
     ensures { result ≤ 1 }
 {

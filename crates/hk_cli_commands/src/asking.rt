@@ -10,9 +10,9 @@ use hk_types::Time;
 pub enum Asking {
     /// The line is empty.
     Nothing,
-    /// A query, at the readable mark where no time is given.
+    /// A query, at the resolved time where the caller names no time.
     Query { time: Option<Time>, query: Query },
-    /// From where to where can be read.
+    /// The range of readable times.
     Front,
     /// How far each stream is.
     Status,
@@ -31,7 +31,7 @@ help: this
 ";
 }
 
-/// What stands behind `at`.
+/// What follows `at`.
 fn at_time(words: &mut Words<'_>) -> Result<Asking, Unread> {
     Ok(Asking::Query {
         time: Some(words.time()?),
@@ -39,7 +39,7 @@ fn at_time(words: &mut Words<'_>) -> Result<Asking, Unread> {
     })
 }
 
-/// A query of this name at the readable mark.
+/// A query of this name at the resolved time.
 fn at_mark(name: &str, words: &mut Words<'_>) -> Result<Asking, Unread> {
     Ok(Asking::Query {
         time: None,

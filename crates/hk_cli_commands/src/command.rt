@@ -9,7 +9,7 @@ use hk_model::{Event, Query};
 use hk_types::{Config, Key, Row, StreamNo, Table, Time};
 use std::alloc::Global;
 
-/// The number of places for transactions that are being written.
+/// The number of slots for transactions that are being written.
 pub(crate) const SLOTS: usize = 16;
 
 /// The most items of a batch.

@@ -35,7 +35,7 @@ fn known_at(number: u64) -> Option<(u8, Known)> {
     Some((number, known))
 }
 
-/// Adds what is asked for, and says whether there is such a number.
+/// Adds what is asked for, and returns whether there is such a number.
 fn put_asked(number: Option<u64>, out: &mut String) -> Result<bool, AllocError> {
     let Some(number) = number else {
         put_all(out)?;
@@ -51,7 +51,7 @@ fn put_asked(number: Option<u64>, out: &mut String) -> Result<bool, AllocError> 
 /// Prints what a number of a refusal means and what to do about it, or that of all numbers: a line each.
 ///
 /// The status is 0; 1 where memory ran out, which prints `refused 90`, or a write failed; 2 where no refusal has the number,
-/// which is told to `errors`. Cost: O(1).
+/// which `errors` says. Cost: O(1).
 pub fn run_explain<W: Write, E: Write>(
     alloc: Global,
     number: Option<u64>,

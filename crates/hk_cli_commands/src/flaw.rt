@@ -125,7 +125,7 @@ fn put_shown(text: &str, out: &mut String) -> Result<(), AllocError> {
 }
 
 /// Adds a line that says what is wrong with the line of this number, and which form was expected. The only error is
-/// out of memory; then a part of the line may stand. Cost: O(n), n bytes of the line.
+/// out of memory; then the text may end with a part of the line. Cost: O(n), n bytes of the line.
 pub(crate) fn put_bad_line(
     number: u64,
     line: &[u8],

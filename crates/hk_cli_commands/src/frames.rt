@@ -10,13 +10,13 @@ use std::alloc::Global;
 use std::io::Read;
 use std::mem;
 
-/// What takes the items of an input, one after the other.
+/// What receives the items of an input, one after the other.
 pub trait Sink {
-    /// Takes the next item, or says what stops the command.
+    /// Receives the next item, or returns what stops the command.
     fn take(&mut self, item: Item) -> Result<(), Stop>;
 }
 
-/// What is asked where an item is to be taken.
+/// What was asked where an item is to be applied.
 fn asked_of(item: &Item) -> RequestContext {
     let (log, stream) = match item {
         Item::Commit(entry) => (entry.log(), entry.stream()),
@@ -25,13 +25,13 @@ fn asked_of(item: &Item) -> RequestContext {
     RequestContext::Item { log, stream }
 }
 
-/// Where an item came from that stands behind so many frames.
+/// The origin of an item that comes after so many frames.
 fn origin_of(frames: u64, asked: RequestContext) -> Origin {
     let place = Place::Frame(frames.saturating_add(1));
     Origin { place, asked }
 }
 
-/// Hands items to the sink, and counts those that it took.
+/// Passes items to the sink, and counts those that it accepted.
 fn take_all<S: Sink>(items: Vec<Item>, sink: &mut S, frames: &mut u64) -> Result<(), Stop> {
     for item in items {
         let asked = asked_of(&item);
@@ -56,7 +56,7 @@ fn checked(fed: Result<(), Refusal>, frames: u64) -> Result<(), Stop> {
 struct Frames<'a, S> {
     alloc: Global,
     feeder: Feeder,
-    /// How many frames' items the sink took.
+    /// How many frames' items the sink accepted.
     count: u64,
     sink: &'a mut S,
 }
@@ -75,8 +75,8 @@ impl<S: Sink> Pieces for Frames<'_, S> {
     }
 }
 
-/// Hands the items of the input to the sink in their order, up to the end, or to what stops them first:
-/// the sink, a fault of the input, or a read. Cost: O(n), n bytes of the input, and that of the sink.
+/// Passes the items of the input to the sink in their order, up to the end, or to what stops them first: the sink, a
+/// fault of the input, or a read. Cost: O(n), n bytes of the input, and that of the sink.
 pub fn hand_items<I: Read, S: Sink>(
     alloc: Global,
     input: &mut I,

@@ -16,16 +16,16 @@ impl<'a, W: Write, E: Write> Sink for Output<'a, W, E> {
     }
 }
 
-/// Prints a line for each item of the input, in a form, up to its end, and answers the status 0. Where something stops it
-/// first, the lines of the items before it stand, a line says why, and the status is 1:
+/// Prints a line for each item of the input, in a form, up to its end, and returns the status 0. Where something stops it
+/// first, the lines of the items before it are printed, a line says why, and the status is 1:
 ///
 /// - `refused` and the fault's number, 1 to 10, where the bytes that follow the items encode nothing;
 /// - `refused 90` where memory ran out;
 /// - `refused 91` where a read failed, or 2^32 reads did not come to the end;
-/// - no line where a write failed or took no bytes: the status alone tells it.
+/// - no line where a write failed or took no bytes: the status alone shows it.
 ///
-/// What stops it is told to `errors` in words. It reads 65,536 bytes at a time, holds their items and the part of a frame
-/// behind them, and writes once 65,536 bytes of lines are gathered, and at the end. Cost: O(n), n bytes of the input.
+/// What stops it is explained in words on `errors`. It reads 65,536 bytes at a time, keeps their items and the part of a
+/// frame behind them, and writes once 65,536 bytes of lines are gathered, and at the end. Cost: O(n), n bytes of the input.
 pub fn run_items<I: Read, W: Write, E: Write>(
     alloc: Global,
     input: &mut I,

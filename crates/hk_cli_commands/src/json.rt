@@ -34,7 +34,7 @@ pub(crate) enum LineFault {
     Item(BadItem),
 }
 
-/// Adds what is wrong, without the place that the words of an error of JSON end with.
+/// Adds what is wrong, without the position that the words of a JSON error end with.
 fn put_what(alloc: Global, fault: &LineFault, out: &mut String) -> Result<(), AllocError> {
     match fault {
         LineFault::NoText => out.push_str("its bytes are no text"),
@@ -52,7 +52,7 @@ fn put_what(alloc: Global, fault: &LineFault, out: &mut String) -> Result<(), Al
 }
 
 /// Adds a line that says at which column a line is bad and why, and what was expected. The only error is out of memory;
-/// then a part of the line may stand. Cost: O(1).
+/// then the text may end with a part of the line. Cost: O(1).
 pub(crate) fn put_bad_item(
     alloc: Global,
     number: u64,
@@ -78,7 +78,7 @@ struct Framer<'o, W: Write, E: Write> {
 }
 
 impl<W: Write, E: Write> Framer<'_, W, E> {
-    /// Adds the frame of a line, or says what is wrong with it.
+    /// Adds the frame of a line, or returns what is wrong with it.
     fn add_item(&mut self, line: &[u8]) -> Result<(), LineFault> {
         let Ok(text) = str::from_utf8(line) else {
             return Err(LineFault::NoText);
@@ -93,7 +93,7 @@ impl<W: Write, E: Write> Framer<'_, W, E> {
         }
     }
 
-    /// Writes the frames of the lines before, tells what is wrong with the one of this number, and stops.
+    /// Writes the frames of the lines before, prints what is wrong with the one of this number, and stops.
     fn stop_of(&mut self, number: u64, fault: &LineFault) -> Stop {
         if let Err(stop) = self.output.send(&self.frames) {
             return stop;
@@ -135,16 +135,16 @@ impl<W: Write, E: Write> Lines for Framer<'_, W, E> {
     }
 }
 
-/// Writes the frame, of version 2, of the item on each line of JSON of the input, up to its end, and answers the status 0.
-/// Empty lines are passed over. Where something stops it first, only frames of whole lines before it are written, `errors`
-/// is told why, and the status is 1:
+/// Writes the frame, of version 2, of the item on each line of JSON of the input, up to its end, and returns the status 0.
+/// Empty lines are passed over. Where something stops it first, only the frames of complete lines before it are written,
+/// `errors` says why, and the status is 1:
 ///
 /// - the number and column of a line that is no item, with what was expected there; nothing is written for it;
 /// - 90 where memory ran out;
 /// - 91 where a read failed, or 2^32 reads did not come to the end;
 /// - that the output can't be written, where a write failed or took no bytes.
 ///
-/// It holds one line, and up to 65,536 bytes of frames and one more frame. Cost: O(n), n bytes of the input.
+/// It keeps one line, and up to 65,536 bytes of frames and one more frame. Cost: O(n), n bytes of the input.
 pub fn run_frames<I: Read, W: Write, E: Write>(
     alloc: Global,
     input: &mut I,

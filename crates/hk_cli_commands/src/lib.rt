@@ -1,5 +1,5 @@
 //! The commands that need no network, over any reader and writers: `at`, `ask`, `front`, `status`, `items`, `frames`,
-//! `rewrite`, `world` and `explain`, with what reads an input, prints lines and says why a command stopped.
+//! `rewrite`, `world` and `explain`, with what reads an input, prints lines and reports why a command stopped.
 #![tactic(auto)]
 
 mod ask;

@@ -18,25 +18,25 @@ use std::io::Write;
 /// How many bytes of lines are gathered before they are written.
 const GATHERED_BYTES: usize = 65_536;
 
-/// What is told where memory runs out for the words.
+/// The line where memory runs out for the words.
 const NO_WORDS: &[u8] = b"refused: no memory to say why; hkrep explain has the numbers\n";
 
-/// What is told where memory ran out.
+/// The line where memory ran out.
 const NO_MEMORY: &[u8] = b"refused 90: out of memory; free memory, and make the same call again\n";
 
-/// What is told where a write of the file of items failed.
+/// The line where a write of the file of items failed.
 const NO_ITEMS: &[u8] = b"stopped: the file of items can't be written; see where it goes\n";
 
-/// What is told where a write of the output failed.
+/// The line where a write of the output failed.
 const NO_OUTPUT: &[u8] = b"stopped: the output can't be written; see where standard output goes\n";
 
-/// Where a refusal came from that names no place.
+/// The origin of a refusal that names no position.
 const NOWHERE: Origin = Origin {
     place: Place::Whole,
     asked: RequestContext::Nothing,
 };
 
-/// The line of a number that is all that is said of a refusal.
+/// The line of a refusal of which only the number is printed.
 fn line_of(number: u8) -> &'static [u8] {
     match number {
         1 => b"refused 1\n",
@@ -58,16 +58,16 @@ fn json_of(number: u8) -> &'static [u8] {
     }
 }
 
-/// The lines of a command on their way to a writer, and what is told of refusals in words on its way to another.
+/// The lines of a command on their way to a writer, and the explanations of refusals on their way to another.
 #[derive(Drop)]
 pub struct Output<'a, W: Write, E: Write> {
     alloc: Global,
     form: OutputForm,
     writer: &'a mut W,
     errors: &'a mut E,
-    /// What was gathered: whole lines.
+    /// What was gathered: complete lines.
     lines: String,
-    /// The same of what is told in words.
+    /// The same of the explanations.
     reasons: String,
     /// The lines of the value that is being printed; where memory runs out none of them is.
     next: String,
@@ -115,7 +115,7 @@ impl<'a, W: Write, E: Write> Output<'a, W, E> {
         }
     }
 
-    /// The same of from where to where can be read. Cost: O(1).
+    /// The same of the range of readable times. Cost: O(1).
     pub fn show_front(&mut self, front: Front) -> Result<(), Stop> {
         match self.form {
             OutputForm::Json => self.print_json(&front),
@@ -168,12 +168,12 @@ impl<'a, W: Write, E: Write> Output<'a, W, E> {
         self.keep_reason(made);
     }
 
-    /// Adds that a link was cut before the reply to a request. Cost: O(1).
+    /// Adds that a connection was cut before the reply to a request. Cost: O(1).
     fn tell_cut(&mut self, request: u64) {
         self.next.clear();
         let made = writeln!(
             self.next,
-            "request {request}: refused 1: the link was cut before the reply; see whether the node still runs"
+            "request {request}: refused 1: the connection was cut before the reply; see whether the node still runs"
         );
         self.keep_reason(made);
     }
@@ -183,13 +183,13 @@ impl<'a, W: Write, E: Write> Output<'a, W, E> {
         self.next.clear();
         let made = writeln!(
             self.next,
-            "request {request}: refused 91: no reply for {seconds} s; see whether the node runs, and whether all its links are taken, or give --reply-seconds more"
+            "request {request}: refused 91: no reply for {seconds} s; see whether the node runs, and whether all its connection slots are in use, or give --reply-seconds more"
         );
         self.keep_reason(made);
     }
 
-    /// Tells that a link to a port of 127.0.0.1 can't be opened, in the system's words, and gives what stops the command.
-    /// Cost: O(1).
+    /// Prints that a connection to a port of 127.0.0.1 can't be opened, in the system's words, and returns what stops the
+    /// command. Cost: O(1).
     pub fn connect_fault(&mut self, port: u16, error: &io::Error) -> Stop {
         self.next.clear();
         let made = writeln!(
@@ -226,7 +226,7 @@ impl<'a, W: Write, E: Write> Output<'a, W, E> {
         }
     }
 
-    /// Writes a line in words; where that fails there is nobody to tell.
+    /// Writes a line in words; a failure of that write is ignored.
     fn say(&mut self, line: &[u8]) {
         let _ = self.errors.write_all(line);
     }
@@ -261,7 +261,7 @@ impl<'a, W: Write, E: Write> Output<'a, W, E> {
         Stop::WriteFault
     }
 
-    /// Tells that the output can't be written, but where its reader is gone, of which other tools tell nothing either.
+    /// Prints that the output can't be written, unless its reader is gone, which other tools don't report either.
     fn say_no_output(&mut self) {
         if !self.is_closed {
             self.say(NO_OUTPUT);
@@ -289,7 +289,7 @@ impl<'a, W: Write, E: Write> Output<'a, W, E> {
         1
     }
 
-    /// Adds why the command stopped, in words. Of a line that is no command it was told.
+    /// Adds why the command stopped, in words. A line that is no command was reported before.
     fn tell_stop(&mut self, stop: &Stop) {
         match stop {
             Stop::Refused(refusal) => self.tell_refusal(NOWHERE, refusal),
@@ -298,7 +298,7 @@ impl<'a, W: Write, E: Write> Output<'a, W, E> {
         }
     }
 
-    /// Adds why something was refused, in words, by a line that takes no memory where that ran out.
+    /// Adds why something was refused, in words; where memory ran out, by a line that takes none.
     fn tell_refusal(&mut self, origin: Origin, refusal: &Refusal) {
         match refusal {
             Refusal::Memory => self.say(NO_MEMORY),
@@ -344,7 +344,7 @@ impl<'a, W: Write, E: Write> Output<'a, W, E> {
         self.print_number(90)
     }
 
-    /// Writes that something was refused with a number that is all that is said of it: a line that takes no memory.
+    /// Writes the number of a refusal and nothing else of it: a line that takes no memory.
     fn print_number(&mut self, number: u8) -> Result<(), Stop> {
         match self.form {
             OutputForm::Lines => self.write_plain(line_of(number)),

@@ -11,22 +11,22 @@ pub const PIECE_BYTES: usize = 65_536;
 /// The most reads of one input.
 pub const MOST_READS: u64 = 4_294_967_296;
 
-/// What takes the pieces of an input, one after the other.
+/// What receives the pieces of an input, one after the other.
 pub trait Pieces {
-    /// Takes that a read comes next, or says what stops the command.
+    /// Prepares for the next read, or returns what stops the command.
     fn ready(&mut self) -> Result<(), Stop> {
         Ok(())
     }
 
-    /// Takes the bytes of a read, or says what stops the command.
+    /// Receives the bytes of a read, or returns what stops the command.
     fn take(&mut self, piece: &[u8]) -> Result<(), Stop>;
 
-    /// Takes the end of the input.
+    /// Receives the end of the input.
     fn end(&mut self) -> Result<(), Stop>;
 }
 
-/// Reads the input up to its end, or to what stops it first: what takes its pieces, a read that fails, or that there were 2^32
-/// reads. Cost: O(n), n bytes of the input, and that of what takes them.
+/// Reads the input up to its end, or to what stops it first: the receiver of its pieces, a read that fails, or that there were
+/// 2^32 reads. Cost: O(n), n bytes of the input, and that of the receiver.
 pub fn read_pieces<I: Read, P: Pieces>(
     alloc: Global,
     input: &mut I,
@@ -47,23 +47,23 @@ pub fn read_pieces<I: Read, P: Pieces>(
     Err(Stop::ReadFault)
 }
 
-/// What takes the lines of an input, one after the other. Lines are counted from 1.
+/// What receives the lines of an input, one after the other. Lines are counted from 1.
 pub trait Lines {
     /// The most bytes of a line, without its line feed.
     const MOST_BYTES: usize;
 
-    /// Takes the line of this number, or says what stops the command.
+    /// Receives the line of this number, or returns what stops the command.
     fn line(&mut self, number: u64, line: &[u8]) -> Result<(), Stop>;
 
-    /// Takes that the line of this number goes on behind its first `MOST_BYTES`: once for each byte more, which is left out.
+    /// Receives that the line of this number goes on behind its first `MOST_BYTES`: once for each byte more, which is left out.
     fn long(&mut self, number: u64, line: &[u8]) -> Result<(), Stop>;
 
-    /// Takes that a read comes next, behind the lines of those before it.
+    /// Prepares for the next read, behind the lines of those before it.
     fn ready(&mut self) -> Result<(), Stop> {
         Ok(())
     }
 
-    /// Takes the end of the input, behind its last line.
+    /// Receives the end of the input, behind its last line.
     fn end(&mut self) -> Result<(), Stop>;
 }
 
@@ -111,8 +111,8 @@ impl<L: Lines> Pieces for Cut<'_, L> {
     }
 }
 
-/// Reads the lines of the input, as `read_pieces` its pieces; what stands behind the last line feed is the last line. It holds one
-/// line and one piece. Cost: as that of `read_pieces`.
+/// Reads the lines of the input, as `read_pieces` its pieces; what follows the last line feed is the last line. It keeps one line
+/// and one piece. Cost: as that of `read_pieces`.
 pub fn read_lines<I: Read, L: Lines>(
     alloc: Global,
     input: &mut I,

@@ -10,16 +10,15 @@ use hk_codec::rewrite;
 use std::alloc::Global;
 use std::io::{Read, Write};
 
-/// Writes the item frames of the input, which may be of version 1 and 2, as frames of version 2, once all of the input
-/// was read, and answers the status 0. Where something stops it first, nothing is written, `errors` is told why, and the
-/// status is 1:
+/// Writes the item frames of the input, which may be of version 1 and 2, as frames of version 2, once all of the input was
+/// read, and returns the status 0. Where something stops it first, nothing is written, `errors` says why, and the status is 1:
 ///
 /// - the fault's number, 1 to 10, where the bytes that follow the items encode nothing;
 /// - 90 where memory ran out;
 /// - 91 where a read failed, or 2^32 reads did not come to the end;
-/// - that the output can't be written, where a write failed or took no bytes; then a part of the frames may stand.
+/// - that the output can't be written, where a write failed or took no bytes; then a part of the frames may have been written.
 ///
-/// It holds the bytes that it reads and those that it writes. Cost: O(n), n bytes of the input.
+/// It keeps the bytes that it reads and those that it writes. Cost: O(n), n bytes of the input.
 pub fn run_rewrite<I: Read, W: Write, E: Write>(
     alloc: Global,
     input: &mut I,

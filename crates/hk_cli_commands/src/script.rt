@@ -14,17 +14,17 @@ use hk_primary::Txn;
 use hk_types::{Key, Refusal, Row, StreamNo, Table, Time};
 use std::alloc::{AllocError, Global};
 
-/// What a command is told.
+/// What a command returns.
 #[derive(Drop)]
 pub(crate) enum Reply {
     /// A transaction that reads at a time began in a slot, which is counted from 1.
     Begun { slot: usize, at: Time },
-    /// What the world, or a transaction, told.
+    /// What the world, or a transaction, returned.
     Told(Told),
 }
 
 impl Reply {
-    /// The refusal that it tells.
+    /// Its refusal.
     pub(crate) fn refusal(&self) -> Option<Refusal> {
         match self {
             Reply::Told(Told::Refused(refusal)) => Some(*refusal),
@@ -44,7 +44,7 @@ impl Printed for Reply {
     }
 }
 
-/// What a script is in the middle of.
+/// The state of a script.
 #[derive(Drop)]
 pub(crate) struct Script {
     alloc: Global,
@@ -103,7 +103,7 @@ impl Script {
         Ok(self.told(outcome))
     }
 
-    /// The reply with what was told, noted where it is a refusal.
+    /// The reply with what was returned, noted where it is a refusal.
     fn told(&mut self, outcome: Told) -> Reply {
         self.is_refused = self.is_refused || matches!(outcome, Told::Refused(_));
         Reply::Told(outcome)
@@ -152,7 +152,7 @@ impl Script {
         Ok(self.told(outcome))
     }
 
-    /// What a commit is told, where there was memory for it.
+    /// What a commit returns, where there was memory for it.
     fn commit_told(&mut self, event: Result<Event, AllocError>) -> Told {
         match event {
             Ok(event) => self.world.step(event),
@@ -168,7 +168,7 @@ impl Script {
     }
 }
 
-/// What a transaction tells that puts a row.
+/// What a transaction returns that puts a row.
 fn put_told(txn: &mut Txn, table: Table, key: Key, row: Row) -> Told {
     match txn.put(table, key, row) {
         Ok(()) => Told::Done,
@@ -176,7 +176,7 @@ fn put_told(txn: &mut Txn, table: Table, key: Key, row: Row) -> Told {
     }
 }
 
-/// What a transaction tells that removes a row.
+/// What a transaction returns that removes a row.
 fn remove_told(txn: &mut Txn, table: Table, key: Key) -> Told {
     match txn.remove(table, key) {
         Ok(()) => Told::Done,

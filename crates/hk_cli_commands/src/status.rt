@@ -18,14 +18,14 @@ use hk_types::{StreamNo, Time};
 use std::alloc::{AllocError, Global};
 use std::io::Write;
 
-/// What a stream does to the readable mark.
+/// What a stream does to the resolved time.
 #[derive(Clone, Copy)]
 pub enum Standing {
     /// It is closed up to a time above the mark, or all streams are closed up to the mark.
     Open,
-    /// It is closed up to the mark, another stream is closed further, and so it holds the mark back.
+    /// It is closed up to the resolved time, another stream is closed further, and so it holds the resolved time back.
     Holds,
-    /// It is retired, and holds nobody back.
+    /// It is retired, and holds nothing back.
     Retired,
 }
 
@@ -34,15 +34,15 @@ pub enum Standing {
 pub struct StreamStatus {
     /// The stream's number.
     pub stream: StreamNo,
-    /// The number up to which all its entries are taken.
+    /// The number up to which all its entries are applied.
     pub prefix: u64,
-    /// How many entries above the prefix are taken.
+    /// How many entries above the prefix are applied.
     pub extra: u64,
     /// The time up to which it is closed.
     pub closed: Time,
     /// How many marks wait for entries.
     pub waiting: u64,
-    /// What it does to the readable mark.
+    /// What it does to the resolved time.
     pub standing: Standing,
 }
 
@@ -61,7 +61,7 @@ fn are_closed_at(got: &Got, time: Time) -> bool
     true
 }
 
-/// What a stream does to the readable mark.
+/// What a stream does to the resolved time.
 fn standing_of(got: &Got, stream: StreamNo) -> Standing
     requires { stream ≤ length got.now }
     ensures { result ≡ spec.standing_of (stream_at got.now stream).closed got.now }
@@ -162,7 +162,7 @@ impl InJson for StreamStatus {
     }
 }
 
-/// Adds a line of each stream, how far it is, and then one from where to where can be read. Cost: O(s²), s streams.
+/// Adds a line of each stream, how far it is, and then one with the range of readable times. Cost: O(s²), s streams.
 pub fn put_status<W: Write, E: Write>(
     got: &Got,
     front: Front,

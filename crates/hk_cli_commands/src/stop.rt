@@ -23,13 +23,13 @@ pub enum Stop {
     WriteFault,
     /// A write to the file of items failed or took no bytes.
     ItemsFault,
-    /// A write to a link failed or took no bytes.
+    /// A write to a connection failed or took no bytes.
     SendFault,
-    /// A port can't be listened to, or a link can't be opened or accepted.
+    /// A port can't be listened to, or a connection can't be opened or accepted.
     NetFault,
-    /// The same, where it was told already what failed and why.
+    /// The same, where what failed and why is printed already.
     NetTold,
-    /// A link ended before the reply to the request of this number, counted from 1.
+    /// A connection ended before the reply to the request of this number, counted from 1.
     LinkCut(u64),
     /// A node let the request of this number, counted from 1, wait for so many seconds.
     ReplyLate { request: u64, seconds: u64 },
@@ -60,7 +60,7 @@ impl From<AllocError> for Stop {
 }
 
 impl Stop {
-    /// The number of what failed, where that is a device or a link.
+    /// The number of what failed, where that is a device or a connection.
     pub(crate) fn device_number(&self) -> u8 {
         match self {
             Stop::LinkCut(_) => 1,

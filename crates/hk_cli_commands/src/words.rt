@@ -31,7 +31,7 @@ pub(crate) struct Words<'a> {
     rest: Option<&'a str>,
     /// Whether words may be parted by more than a space.
     is_loose: bool,
-    /// How many words were taken.
+    /// How many words were read.
     taken: u64,
 }
 
@@ -45,7 +45,7 @@ impl<'a> Words<'a> {
         }
     }
 
-    /// Words that are parted by one space or more, which may stand at the ends, too.
+    /// Words that are separated by one space or more; spaces at the ends are allowed too.
     pub(crate) fn loose(line: &'a str) -> Words<'a> {
         let line = line.trim();
         Words {
@@ -55,17 +55,17 @@ impl<'a> Words<'a> {
         }
     }
 
-    /// That the word that was taken last is no number.
+    /// That the word that was read last is no number.
     fn no_number(&self) -> Unread {
         Unread::Bad(Flaw::NoNumber(self.taken))
     }
 
-    /// That the number that was taken last is outside its range.
+    /// That the number that was read last is outside its range.
     fn out_of_range(&self) -> Unread {
         Unread::Bad(Flaw::OutOfRange(self.taken))
     }
 
-    /// That the word that was taken last names no query.
+    /// That the word that was read last names no query.
     pub(crate) fn no_query(&self) -> Unread {
         Unread::Bad(Flaw::NoQuery(self.taken))
     }

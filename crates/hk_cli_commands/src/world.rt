@@ -21,7 +21,7 @@ use std::io::{Read, Write};
 struct Player<'o, W: Write, E: Write> {
     alloc: Global,
     output: Output<'o, W, E>,
-    /// What stands behind the first line that is not empty.
+    /// The script that the first line that is not empty makes.
     script: Option<Script>,
 }
 
@@ -37,7 +37,7 @@ impl<W: Write, E: Write> Player<'_, W, E> {
         }
     }
 
-    /// Prints what the line of this number is told, and tells why where that is a refusal.
+    /// Prints the reply to the line of this number, and why where that is a refusal.
     fn tell(&mut self, number: u64, reply: &Reply, asked: RequestContext) -> Result<(), Stop> {
         if let Some(refusal) = reply.refusal() {
             let place = Place::Line(number);
@@ -46,7 +46,7 @@ impl<W: Write, E: Write> Player<'_, W, E> {
         self.output.print(reply)
     }
 
-    /// Makes the command of a line; the first line makes the world, and is told nothing.
+    /// Runs the command of a line; the first line makes the world, and has no reply.
     fn make_line(&mut self, line: &str) -> Result<Option<(Reply, RequestContext)>, Unread> {
         match &mut self.script {
             Some(script) => Ok(Some(made(self.alloc, script, line)?)),
@@ -66,7 +66,7 @@ impl<W: Write, E: Write> Player<'_, W, E> {
     }
 }
 
-/// Makes the command of a line, and gives the time that it asks for.
+/// Runs the command of a line, and returns the time that it asks for.
 fn made(alloc: Global, script: &mut Script, line: &str) -> Result<(Reply, RequestContext), Unread> {
     let command = command_of(alloc, line)?;
     let asked = asked_of(&command);
@@ -84,7 +84,7 @@ fn opened(alloc: Global, line: &str) -> Result<Script, Unread> {
 impl<W: Write, E: Write> Lines for Player<'_, W, E> {
     const MOST_BYTES: usize = MOST_LINE_BYTES;
 
-    /// Makes the command of a line that is not empty, and prints what it is told.
+    /// Runs the command of a line that is not empty, and prints the reply.
     fn line(&mut self, number: u64, line: &[u8]) -> Result<(), Stop> {
         if line.is_empty() {
             return Ok(());
@@ -132,7 +132,7 @@ fn write_items<F: Write>(alloc: Global, items: &[Item], file: &mut F) -> Result<
 }
 
 /// Plays the script of the input up to its end, or to what stops it first, then writes the frames of the items that the
-/// primary emitted, where there is a file for them, and says whether a command was refused.
+/// primary emitted, where there is a file for them, and returns whether a command was refused.
 fn play_and_keep<I: Read, F: Write, W: Write, E: Write>(
     input: &mut I,
     player: &mut Player<'_, W, E>,
@@ -149,8 +149,8 @@ fn play_and_keep<I: Read, F: Write, W: Write, E: Write>(
     Ok(script.is_refused())
 }
 
-/// Plays the script of the input, line by line, up to its end, and prints what each line is told. What the lines
-/// of one read are told is written before the next read. At the end the frames of the items that the primary emitted are
+/// Plays the script of the input, line by line, up to its end, and prints the reply to each line. The replies to the
+/// lines of one read are written before the next read. At the end the frames of the items that the primary emitted are
 /// written to `items`, where it is there, in version 2 and in their order.
 ///
 /// The status is 0, or 1 where a refusal was printed or something stopped the script:
@@ -158,12 +158,12 @@ fn play_and_keep<I: Read, F: Write, W: Write, E: Write>(
 /// - `line N: bad command` where the line of that number is none, has more than 16,384 bytes, or names an empty slot;
 /// - `refused 90` where memory ran out outside a command;
 /// - `refused 91` where a read failed, or 2^32 reads did not come to the end;
-/// - no line where a write failed or took no bytes, of the lines or of the items: the status, and `errors`, tell it.
+/// - no line where a write failed or took no bytes, of the lines or of the items: the status, and `errors`, show it.
 ///
-/// Where something stopped the script no item is written; where a write of the items failed a part of them may stand.
-/// A command that is refused prints its refusal, changes nothing, and the script goes on. What is refused, and a line
-/// that is no command, is told to `errors` in words. Cost: that of the events, and O(n), n bytes of the script, of the
-/// lines and of the items.
+/// Where something stopped the script no item is written; where a write of the items failed a part of them may have
+/// been written. A command that is refused prints its refusal, changes nothing, and the script goes on. What is
+/// refused, and a line that is no command, is explained in words on `errors`. Cost: that of the events, and O(n), n
+/// bytes of the script, of the lines and of the items.
 pub fn run_world<I: Read, F: Write, W: Write, E: Write>(
     alloc: Global,
     input: &mut I,

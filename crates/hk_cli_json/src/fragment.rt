@@ -10,12 +10,12 @@ use hk_marks::Got;
 use hk_types::{StreamNo, Time, VersionKey};
 use std::alloc::{AllocError, Global};
 
-/// Adds up to which number all entries of a stream are taken.
+/// Adds up to which number all entries of a stream are applied.
 fn put_prefix(prefix: u64, out: &mut String) -> Result<(), AllocError> {
     write!(out, "{{\"prefix\":\"{prefix}\",\"extra\":[")
 }
 
-/// Adds the number of an entry that is taken above it.
+/// Adds the number of an entry that is applied above it.
 fn put_number(index: usize, number: u64, out: &mut String) -> Result<(), AllocError> {
     put_comma(index, out)?;
     write!(out, "\"{number}\"")
@@ -24,8 +24,10 @@ fn put_number(index: usize, number: u64, out: &mut String) -> Result<(), AllocEr
 fn put_extra(got: &Got, stream: StreamNo, out: &mut String) -> Result<(), AllocError>
     requires { stream ≤ length got.now }
 {
-    for (index, number) in got.extra_numbers(stream).enumerate() {
-        put_number(index, *number, out)?;
+    let mut index = 0;
+    for number in got.extra_numbers(stream) {
+        put_number(index, number, out)?;
+        index = 1;
     }
     Ok(())
 }

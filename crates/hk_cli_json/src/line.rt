@@ -2,10 +2,10 @@
 
 use std::alloc::{AllocError, Global};
 
-/// What has a form in JSON: one line, an object. The first key says what it is.
+/// What has a form in JSON: one line, an object. The first key is its kind.
 pub trait InJson {
-    /// Adds the line at the end of the text, with its line feed. The only error is out of memory; then a part of the line may
-    /// stand. Cost: O(n), n bytes of the line.
+    /// Adds the line at the end of the text, with its line feed. The only error is out of memory; then the text may end with
+    /// a part of the line. Cost: O(n), n bytes of the line.
     fn json_to(&self, alloc: Global, out: &mut String) -> Result<(), AllocError>;
 }
 

@@ -25,8 +25,7 @@ impl From<FormFault> for BadItem {
 }
 
 impl BadItem {
-    /// The column at which the line is bad, counted from 1: that at which the reader stood, or 1 where a rule of items is
-    /// broken.
+    /// The column at which the line is bad, counted from 1: that at which the reader stopped, or 1 where a rule of items is broken.
     pub fn column(&self) -> usize {
         match self {
             BadItem::Text(error) => error.column(),

@@ -4,7 +4,7 @@ use crate::line::InJson;
 use hk_types::{StreamNo, Time};
 use std::alloc::{AllocError, Global};
 
-/// How far a stream is; `standing` is what it does to the readable mark, in a word.
+/// How far a stream is; `standing` is what it does to the resolved time, in a word.
 #[derive(Clone, Copy)]
 pub struct StreamLine {
     pub stream: StreamNo,

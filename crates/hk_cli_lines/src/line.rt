@@ -13,13 +13,13 @@ use hk_model::{Answer, Front, Told, Took};
 use hk_types::{Key, Refusal, Row};
 use std::alloc::{AllocError, Global};
 
-/// What has lines of its own in the program's output: answers, refusals, items, replies, and what a world is told.
-/// Numbers are decimal; a body is lower-case hexadecimal, or `-` where it is empty. Each line ends with a line feed.
+/// What has lines of its own in the program's output: answers, refusals, items, replies, and what the events of a world
+/// return. Numbers are decimal; a body is lower-case hexadecimal, or `-` where it is empty. Each line ends with a line feed.
 pub trait Printed {
     ghost text: { Self → List ℕ };
 
-    /// Adds the lines at the end of the text. The only error is out of memory; then a part of the lines may stand.
-    /// Cost: O(n), n bytes of the lines.
+    /// Adds the lines at the end of the text. The only error is out of memory; then the text may end with a part of
+    /// the lines. Cost: O(n), n bytes of the lines.
     fn print_to(&self, alloc: Global, out: &mut String) -> Result<(), AllocError>
         ensures { OnOk result (string_bytes out.new ≡ string_bytes out.old ++ text self.now) };
 }

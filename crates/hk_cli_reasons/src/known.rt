@@ -1,6 +1,6 @@
 //! What each number means.
 
-/// A refusal, as it is told apart from any that came.
+/// A refusal, as it differs from any that came.
 #[derive(Clone, Copy)]
 pub struct Known {
     /// Its name, and the names of its fields.
@@ -40,22 +40,22 @@ fn fault(number: u8) -> Option<Known> {
         2 => told(
             "TooLong",
             "the length field is above its limit, or a value has no encoding",
-            "mend the sender: 4233248 bytes are the most of an item, 268435456 of a message",
+            "fix the sender: 4233248 bytes are the most of an item, 268435456 of a message",
         ),
         3 => told(
             "BadVersion",
             "the version byte is not 1, nor 2 where that is read",
-            "mend the sender: items have version 1 or 2, messages 1, and 2 for a node with --messages 2",
+            "fix the sender: items have version 1 or 2, messages 1, and 2 for a node with --messages 2",
         ),
         4 => told(
             "BadKind",
             "the kind byte has no meaning there",
-            "mend the sender: items have kind 1 or 2, requests 16 to 23 or 48 to 58, replies 32 to 36 or 64 to 73",
+            "fix the sender: items have kind 1 or 2, requests 16 to 23 or 48 to 58, replies 32 to 36 or 64 to 73",
         ),
         5 => told(
             "BadStream",
             "a stream number or count outside 1 to 64",
-            "mend the sender: a log has 1 to 64 streams",
+            "fix the sender: a log has 1 to 64 streams",
         ),
         _more => fault_of_lists(number),
     }
@@ -66,17 +66,17 @@ fn fault_of_lists(number: u8) -> Option<Known> {
         6 => told(
             "BadNumber",
             "a number, time, mark, flag or reserved field outside its range",
-            "mend the sender: docs/FORMATS.md has the range of each field",
+            "fix the sender: docs/FORMATS.md has the range of each field",
         ),
         7 => told(
             "BadOrder",
             "a list does not rise strictly",
-            "mend the sender: lists rise by table and key, each at most once",
+            "fix the sender: lists rise by table and key, each at most once",
         ),
         8 => told(
             "BadCount",
-            "a count above its limit, both lists of an entry empty, or other than so many facts in parts",
-            "mend the sender: an entry has 1 to 1024 ends or rows, and each part of a whole is sent once",
+            "a count above its limit, both lists of an entry empty, or another number of facts in chunks",
+            "fix the sender: an entry has 1 to 1024 ends or rows, and each chunk of a snapshot is sent once",
         ),
         9 => told(
             "BadBody",
@@ -86,7 +86,7 @@ fn fault_of_lists(number: u8) -> Option<Known> {
         10 => told(
             "WrongLength",
             "a field does not fit in the rest, or bytes are left, or the rest is shorter than its least",
-            "mend the sender: the length field counts the bytes behind it",
+            "fix the sender: the length field counts the bytes behind it",
         ),
         _none => None,
     }
@@ -106,31 +106,32 @@ fn of_items(number: u8) -> Option<Known> {
         ),
         22 => told(
             "Gap {base, readable}",
-            "a delta begins above the target's readable mark",
-            "ask for a delta since the readable mark, or for the whole",
+            "a delta begins above the target's resolved time",
+            "ask for a delta since the resolved time, or for a snapshot",
         ),
         23 => told(
             "Conflict",
             "a conflict",
-            "find the wrong feed: the items are not of one log, or it was begun anew under its id. Tested are: of items, what they say of one \
-version, and closed times where they are absorbed or the node has --guard; of a fragment, two facts of one version. A node with \
---guard also tests that answers about the past stay as they are (late rows and ends, older rows that would show again), and entries above \
-the horizon whose number is taken. Nobody tests horizons and marks",
+            "find the wrong feed: the items are not of one log, or it was begun anew under its id. Tested are: of items, their rows \
+and ends of one version, and closed times where they are absorbed or the node has --guard; of a fragment, two facts of one version. A node \
+with --guard also tests that answers about the past don't change (late rows and ends, older rows that would show again), and \
+entries above the oldest readable time whose number is applied already. No node tests \
+the oldest readable time and the marks that a sender states",
         ),
         24 => told(
             "AheadOfMark {readable}",
-            "a prune above the readable mark",
-            "prune to the readable mark at most",
+            "a prune above the resolved time",
+            "prune to the resolved time at most",
         ),
         25 => told(
             "TooOld {horizon}",
-            "a time below the horizon",
-            "ask at the horizon or later",
+            "a time below the oldest readable time",
+            "ask at the oldest readable time or later",
         ),
         26 => told(
             "NotYet {readable}",
-            "a time above the readable mark",
-            "feed the marks of all streams, or ask at the readable mark",
+            "a time above the resolved time",
+            "feed the marks of all streams, or ask at the resolved time",
         ),
         _none => None,
     }
@@ -181,8 +182,8 @@ fn of_nodes(number: u8) -> Option<Known> {
     match number {
         40 => told(
             "Held {reader, at}",
-            "the horizon of a join or merge would pass a hold",
-            "wait until the reader releases its hold",
+            "a join or merge would raise the oldest readable time past a pinned time",
+            "wait until the reader releases its pin",
         ),
         41 => told(
             "Damaged",
@@ -192,7 +193,7 @@ fn of_nodes(number: u8) -> Option<Known> {
         42 => told(
             "Unpublished {ops}",
             "appended, not yet published",
-            "publish again, or make the next change: this one stands",
+            "publish again, or make the next change: this one is kept",
         ),
         43 => told(
             "NodeFull",
@@ -201,8 +202,8 @@ fn of_nodes(number: u8) -> Option<Known> {
         ),
         44 => told(
             "NoHold",
-            "no such hold stands",
-            "release each hold once, at its own node",
+            "no such pin is active",
+            "release each pin once, at its own node",
         ),
         45 => told(
             "NoSuch",
@@ -217,13 +218,13 @@ fn of_parts(number: u8) -> Option<Known> {
     match number {
         46 => told(
             "LinkFull {most}",
-            "what links hold in parts would be more than the operator allows",
-            "wait until other links are done, or give the node more bytes for parts",
+            "what connections keep in chunks would be more than the operator allows",
+            "wait until other connections are done, or give the node more bytes for chunks",
         ),
         47 => told(
             "NoPart",
-            "nothing is being given",
-            "ask for the whole first, and for more until its last part",
+            "nothing is being sent in chunks",
+            "ask for the snapshot first, and for more until its last chunk",
         ),
         _none => None,
     }
@@ -239,12 +240,12 @@ fn of_devices(number: u8) -> Option<Known> {
         91 => told(
             "ReadFault",
             "a read failed, or the bound on reads (2^32) was met",
-            "look at the device or the link that is read",
+            "look at the device or the connection that is read",
         ),
         92 => told(
             "WriteFault",
             "a write failed or took 0 bytes",
-            "look at the device or the link that is written to",
+            "look at the device or the connection that is written to",
         ),
         93 => told(
             "NetFault",

@@ -7,7 +7,7 @@ use std::alloc::AllocError;
 /// Where in its input a command was refused; each is counted from 1.
 #[derive(Clone, Copy)]
 pub enum Place {
-    /// The input has no parts, or it is no matter of one of them.
+    /// The input has no positions, or none of them is to blame.
     Whole,
     /// An item frame.
     Frame(u64),
@@ -15,7 +15,7 @@ pub enum Place {
     Line(u64),
     /// A request.
     Request(u64),
-    /// A link, in the order in which they were accepted.
+    /// A connection, in the order in which they were accepted.
     Link(u64),
 }
 
@@ -26,7 +26,7 @@ pub enum RequestContext {
     Nothing,
     /// Something at a time.
     At(Time),
-    /// That an item of a log and a stream is taken.
+    /// That an item of a log and a stream is applied.
     Item { log: u64, stream: StreamNo },
 }
 
@@ -67,7 +67,7 @@ fn put_asked(asked: RequestContext, refusal: &Refusal, out: &mut String) -> Resu
 fn put_advice(refusal: &Refusal, out: &mut String) -> Result<(), AllocError> {
     match refusal {
         Refusal::Gap { readable, .. } => {
-            write!(out, "ask for a delta since {readable}, or for the whole")
+            write!(out, "ask for a delta since {readable}, or for a snapshot")
         }
         Refusal::AheadOfMark { readable } => write!(out, "prune to {readable} at most"),
         Refusal::TooOld { horizon } => write!(out, "ask at {horizon} or later"),
@@ -75,7 +75,7 @@ fn put_advice(refusal: &Refusal, out: &mut String) -> Result<(), AllocError> {
             write!(out, "feed the marks of all streams, or ask at {readable}")
         }
         Refusal::Held { reader, .. } => {
-            write!(out, "wait until reader {reader} releases its hold")
+            write!(out, "wait until reader {reader} releases its pin")
         }
         other => match known_of(other.number()) {
             Some(known) => out.push_str(known.advice),
@@ -85,7 +85,7 @@ fn put_advice(refusal: &Refusal, out: &mut String) -> Result<(), AllocError> {
 }
 
 /// Adds a line that says why something was refused: where, the number, what was refused, and what to do. The only
-/// error is out of memory; then a part of the line may stand. Cost: O(1).
+/// error is out of memory; then the text may end with a part of the line. Cost: O(1).
 pub fn put_reason(origin: Origin, refusal: &Refusal, out: &mut String) -> Result<(), AllocError> {
     let number = refusal.number();
     put_place(origin.place, out)?;
@@ -97,7 +97,7 @@ pub fn put_reason(origin: Origin, refusal: &Refusal, out: &mut String) -> Result
 }
 
 /// Adds a line that says what a number means, behind what happened with it: `refused` or `ended`. A number that no
-/// refusal has adds nothing. The only error is out of memory; then a part of the line may stand. Cost: O(1).
+/// refusal has adds nothing. The only error is out of memory; then the text may end with a part of the line. Cost: O(1).
 pub fn put_known(place: Place, what: &str, number: u8, out: &mut String) -> Result<(), AllocError> {
     let Some(known) = known_of(number) else {
         return Ok(());

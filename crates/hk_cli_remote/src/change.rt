@@ -22,7 +22,7 @@ fn tell<W: Write, E: Write>(
     output.print(&reply)
 }
 
-/// Has the node forget what is below a time, and prints its number.
+/// Has the node drop the versions that no read at a time or later needs, and prints its number.
 pub(crate) fn prune<W: Write, E: Write>(
     link: &mut Link<'_>,
     horizon: Time,
@@ -31,7 +31,7 @@ pub(crate) fn prune<W: Write, E: Write>(
     tell(link, &Request::Prune { horizon }, output)
 }
 
-/// Whether a delta was refused for its base alone, so that the whole may be had.
+/// Whether a delta was refused for its base alone, so that a full snapshot may serve in its place.
 fn is_of_base(why: &Refusal) -> bool {
     matches!(
         why,
@@ -39,16 +39,16 @@ fn is_of_base(why: &Refusal) -> bool {
     )
 }
 
-/// What a node hands on.
+/// What a node returns.
 #[derive(Drop)]
 enum Handed {
-    /// A fragment, as the request that hands it on.
+    /// A fragment, as the request that passes it on.
     Frame(Request),
     /// A fragment since a time for which a message has no room, as the request from there was refused.
     Long(Time, Origin),
 }
 
-/// A whole that was refused since a message has no room for it; any other refusal stops the command.
+/// A full snapshot that was refused since a message has no room for it; any other refusal stops the command.
 fn long_whole(why: Refusal, origin: Origin) -> Result<Handed, Stop> {
     if is_too_long(&why) {
         return Ok(Handed::Long(Time::zero(), origin));
@@ -56,7 +56,7 @@ fn long_whole(why: Refusal, origin: Origin) -> Result<Handed, Stop> {
     Err(Stop::RefusedAt(why, origin))
 }
 
-/// All that a node holds where it refused a delta for its base; any other refusal stops the command.
+/// The full snapshot of a node that refused a delta for its base; any other refusal stops the command.
 fn whole_after(from: &mut Link<'_>, base: Time, why: Refusal) -> Result<Handed, Stop> {
     if !is_of_base(&why) {
         let origin = from.origin(RequestContext::At(base));
@@ -70,7 +70,7 @@ fn whole_after(from: &mut Link<'_>, base: Time, why: Refusal) -> Result<Handed, 
     }
 }
 
-/// What a node hands on that refused a delta: the same in parts where a message has no room for it, or all that it holds.
+/// What a node returns that refused a delta: the same in chunks where a message has no room for it, or its full snapshot.
 fn without_delta(from: &mut Link<'_>, base: Time, why: Refusal) -> Result<Handed, Stop> {
     if is_too_long(&why) {
         return Ok(Handed::Long(base, from.origin(RequestContext::At(base))));
@@ -78,7 +78,7 @@ fn without_delta(from: &mut Link<'_>, base: Time, why: Refusal) -> Result<Handed
     whole_after(from, base, why)
 }
 
-/// What a node has learnt since a time, or all that it holds where it can't cut a delta there.
+/// What a node has applied since a time, or its full snapshot where it can't cut a delta there.
 fn handed_on(from: &mut Link<'_>, base: Time) -> Result<Handed, Stop> {
     let request = Request::Delta { base };
     let reply = from.ask(&request)?;
@@ -89,7 +89,7 @@ fn handed_on(from: &mut Link<'_>, base: Time) -> Result<Handed, Stop> {
     }
 }
 
-/// Parts on their way to a node.
+/// Chunks on their way to a node.
 #[derive(Drop)]
 struct Adder<'k, 'l> {
     link: &'k mut Link<'l>,
@@ -105,8 +105,8 @@ impl Parts for Adder<'_, '_> {
     }
 }
 
-/// Has a node take in parts what another has learnt since a time, or all that it holds since 0, and prints its number.
-/// Where one of them doesn't read requests of parts, it stops for what was refused before.
+/// Copies to a node in chunks what another has applied since a time, or its full snapshot since 0, and prints the
+/// node's number. Where one of them doesn't read requests of chunks, it stops for what was refused before.
 fn pull_parts<W: Write, E: Write>(
     own: &mut Link<'_>,
     other: &mut Link<'_>,
@@ -123,7 +123,7 @@ fn pull_parts<W: Write, E: Write>(
     output.print(&reply)
 }
 
-/// Has the node take what the one on another port has learnt since its readable mark, and prints its number.
+/// Copies to the node what the one on another port has applied since the node's resolved time, and prints its number.
 pub(crate) fn pull<R: Net<Listener = TcpListener, Stream = TcpStream> + Clock, W: Write, E: Write>(
     rt: &R,
     own: &mut Link<'_>,

@@ -25,14 +25,14 @@ struct Batches<'a, 'l> {
     link: &'a mut Link<'l>,
     /// How many items a batch has.
     most: u64,
-    /// Whether requests of version 2 go, whose replies tell how many items were new.
+    /// Whether it sends requests of version 2, whose replies say how many items were new.
     with_second: bool,
     items: Vec<Item>,
     /// How many bytes their frames have.
     bytes: u64,
-    /// How many items the node took.
+    /// How many items the node applied.
     taken: u64,
-    /// How many of them it told to be new.
+    /// How many of them it reported as new.
     new: u64,
     /// The number of the node's last operation.
     ops: u64,
@@ -54,20 +54,20 @@ impl<'a, 'l> Batches<'a, 'l> {
         }
     }
 
-    /// Hands over the items of the input.
+    /// Sends the items of the input.
     fn hand_all<I: Read>(&mut self, input: &mut I) -> Result<(), Stop> {
         hand_items(self.alloc, input, self)?;
         self.finish()
     }
 
-    /// Notes that the node took so many items, of which so many were new.
+    /// Notes that the node applied so many items, of which so many were new.
     fn count(&mut self, items: u64, ops: u64, new: u64) {
         self.ops = ops;
         self.taken = self.taken.saturating_add(items);
         self.new = self.new.saturating_add(new);
     }
 
-    /// Has the node take these items, so many.
+    /// Has the node apply these items, so many.
     fn hand(&mut self, items: Vec<Item>, count: u64) -> Result<(), Stop> {
         match self.link.granted(&Request::Items(items))? {
             Reply::Done { ops } => {
@@ -78,7 +78,7 @@ impl<'a, 'l> Batches<'a, 'l> {
         }
     }
 
-    /// The same by a request of version 2, whose reply tells how many were new.
+    /// The same by a request of version 2, whose reply says how many were new.
     fn hand_counted(&mut self, items: Vec<Item>, count: u64) -> Result<(), Stop> {
         match self.link.granted(&Request::Feed(items))? {
             Reply::Later(LaterReply::Fed { ops, new }) => {
@@ -89,7 +89,7 @@ impl<'a, 'l> Batches<'a, 'l> {
         }
     }
 
-    /// Sends what was gathered, and waits until the node took it.
+    /// Sends what was gathered, and waits until the node applied it.
     fn send(&mut self) -> Result<(), Stop> {
         let count = self.items.len() as u64;
         let items = mem::replace(&mut self.items, Vec::new(self.alloc));
@@ -100,7 +100,7 @@ impl<'a, 'l> Batches<'a, 'l> {
         self.hand(items, count)
     }
 
-    /// Sends what is left; a batch of none where there was no item at all, so that the node tells its number.
+    /// Sends what is left; an empty batch where there was no item at all, so that the node returns its number.
     fn finish(&mut self) -> Result<(), Stop> {
         if self.items.is_empty() && self.ops > 0 {
             return Ok(());
@@ -137,7 +137,7 @@ fn millis_since<R: Clock>(rt: &R, start: Option<Instant>) -> Option<u64> {
     )
 }
 
-/// Tells how many items the node took, and how many that is a second.
+/// Prints how many items the node applied, and how many that is a second.
 fn tell_rate<W: Write, E: Write>(
     alloc: Global,
     taken: u64,
@@ -150,7 +150,7 @@ fn tell_rate<W: Write, E: Write>(
     Ok(())
 }
 
-/// Tells how many of the items that the node took were new to it.
+/// Prints how many of the items that the node applied were new to it.
 fn tell_new<W: Write, E: Write>(
     alloc: Global,
     new: u64,
@@ -162,7 +162,7 @@ fn tell_new<W: Write, E: Write>(
     Ok(())
 }
 
-/// Tells how fast items went, where that is known, and how many were new, where the node told it.
+/// Prints how fast items went, where that is known, and how many were new, where the node reported it.
 fn tell_taken<W: Write, E: Write>(
     alloc: Global,
     taken: u64,
@@ -179,9 +179,9 @@ fn tell_taken<W: Write, E: Write>(
     }
 }
 
-/// Hands the items of the input to the node, in batches of so many items or as many bytes as a batch may have, and prints the
-/// number of its last operation. By requests of version 2 it also tells how many items were new. The batches before what stops
-/// it are taken.
+/// Sends the items of the input to the node, in batches of so many items or as many bytes as a batch may have, and prints the
+/// number of its last operation. By requests of version 2 it also prints how many items were new. The batches before what
+/// stops it stay applied.
 pub(crate) fn feed<R: Clock, I: Read, W: Write, E: Write>(
     rt: &R,
     link: &mut Link<'_>,

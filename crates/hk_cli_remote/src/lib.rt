@@ -1,5 +1,5 @@
-//! What a node that runs is asked to do over a link: a program's requests, a person's lines, and the commands `ask`, `front`,
-//! `status`, `save`, `load`, `pull`, `prune` and `feed` of a port.
+//! What a running node is asked to do over a connection: a program's requests, a person's lines, and the commands `ask`,
+//! `front`, `status`, `save`, `load`, `pull`, `prune` and `feed` of a port.
 #![tactic(auto)]
 
 mod change;

@@ -1,4 +1,4 @@
-//! An open link to a node.
+//! An open connection to a node.
 
 use hk_cli_calls::Limits;
 use hk_cli_commands::{MOST_READS, Output, PIECE_BYTES, Stop};
@@ -12,14 +12,14 @@ use std::rt::Clock;
 use std::time::Duration;
 use std::{io, thread};
 
-/// An open link to a node.
+/// An open connection to a node.
 #[derive(Drop)]
 pub(crate) struct Link<'a> {
     alloc: Global,
     stream: &'a TcpStream,
     limits: Limits,
     feeder: ReplyFeeder,
-    /// Replies that came and are not handed out yet: more than one where the node says more than it was asked.
+    /// Replies that came and are not returned yet: more than one where the node sends more than it was asked for.
     replies: Vec<Reply>,
     piece: Vec<u8>,
     text: Vec<u8>,
@@ -113,7 +113,7 @@ fn limited<R: Net<Listener = TcpListener, Stream = TcpStream> + Clock>(
     with_limit(stream, limits.reply_seconds)
 }
 
-/// Opens a stream to the node on a port of 127.0.0.1; where that fails the system's words are told.
+/// Opens a stream to the node on a port of 127.0.0.1; where that fails the system's words are printed.
 pub(crate) fn opened<
     R: Net<Listener = TcpListener, Stream = TcpStream> + Clock,
     W: Write,
@@ -121,7 +121,7 @@ pub(crate) fn opened<
 >(rt: &R, port: u16, limits: Limits, output: &mut Output<'_, W, E>) -> Result<TcpStream, Stop> {
     match limited(rt, port, limits) {
         Ok(stream) => {
-            // A request is sent at once; where that can't be had, it comes later.
+            // A request is sent at once; where the system doesn't allow that, it comes later.
             let _at_once = stream.set_nodelay(true);
             Ok(stream)
         }
@@ -168,7 +168,7 @@ impl<'a> Link<'a> {
         }
     }
 
-    /// Where a refusal comes from that answers a request, or a fault of the link behind it.
+    /// The origin of a refusal that answers a request, or of a fault of the connection behind it.
     pub(crate) fn origin(&self, asked: RequestContext) -> Origin {
         let place = Place::Request(self.sent);
         Origin { place, asked }
@@ -197,7 +197,7 @@ impl<'a> Link<'a> {
         }
     }
 
-    /// Takes what came next. A stream that ends has the fault of one that is cut.
+    /// Receives what comes next. A stream that ends has the fault of one that is cut.
     fn receive(&mut self) -> Result<(), Stop> {
         let mut reader = self.stream;
         let count = match reader.read(self.piece.as_mut_slice()) {
@@ -255,7 +255,7 @@ impl<'a> Link<'a> {
         }
     }
 
-    /// Whether the node reads requests of version 2. Where it doesn't, it ends the link.
+    /// Whether the node reads requests of version 2. Where it doesn't, it ends the connection.
     pub(crate) fn reads_later(&mut self) -> Result<bool, Stop> {
         match self.granted_later(LaterRequest::Streams) {
             Ok(_told) => Ok(true),

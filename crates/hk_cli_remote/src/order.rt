@@ -15,7 +15,7 @@ use std::io::{Read, Write};
 use std::net::{Net, TcpListener, TcpStream};
 use std::rt::Clock;
 
-/// Has a node do what is asked, and says whether a reply was a refusal that the command went on behind.
+/// Has a node do what is asked, and returns whether a reply was a refusal after which the command went on.
 fn obey<R, I: Read, W: Write, E: Write>(
     rt: &R,
     link: &mut Link<'_>,
@@ -47,7 +47,7 @@ where
     told.map(|()| false)
 }
 
-/// The same over a new link to the node on a port, and writes what was printed.
+/// The same over a new connection to the node on a port, and writes what was printed.
 fn obey_at<R, I: Read, W: Write, E: Write>(
     rt: &R,
     alloc: Global,
@@ -65,37 +65,37 @@ where
     output.flush().map(|_written| is_refused)
 }
 
-/// Has the node on a port of 127.0.0.1 do what is asked, over a link that is opened for it, and prints its replies.
+/// Has the node on a port of 127.0.0.1 do what is asked, over a new connection, and prints its replies.
 ///
 /// Where nobody listens on the port it tries again to connect, for as many seconds as the call's limits have it. Where the node
-/// then replies nothing for as many seconds as they have it, or takes nothing of a request, the command ends.
+/// then replies nothing for as many seconds as they have it, or reads nothing of a request, the command ends.
 ///
-/// `Push` sends a request, waits for its reply and prints it, and then sends the next; a reply that is a
-/// refusal is printed and told, and the next request goes on, but behind a part that is refused. A request of version 2 is sent only
-/// where the order has it so, and else is one that can't be read: 3. `Load` does the same with fragments and parts alone; another
-/// request is not sent, and ends it with 4. `Shell` reads lines such as `get 1 5`, `at 5 range 1 0 9`, `front` and `status`, prints rows as a table, and on a
-/// terminal a prompt before each line; a line of another form is told to `errors`, a refusal is printed and told, and the next
-/// line goes on. `Status` reads a delta since the readable mark, and is refused as too old where the node is pruned between.
-/// `Save` and `Pull` go by parts of up to 8,388,608 bytes, or of one fact, where a node refuses the whole as too long and both
-/// nodes read version 2; else they end with 2, as it was refused. Of what goes by parts nothing is joined before all is there.
-/// `Pull`, `Prune` and `Feed` print `done` and the number of the node's last operation; `Feed` ends at the first batch that is
-/// refused, and tells `errors` how many items a second went, and by requests of version 2 how many of them the node didn't know.
+/// `Push` sends a request, waits for its reply and prints it, and then sends the next; a reply that is a refusal is printed and explained,
+/// and the next request goes on, but not after a chunk that is refused. A request of version 2 is sent only where the order has it so, and
+/// else is one that can't be read: 3. `Load` does the same with fragments and chunks alone; another request is not sent, and ends it with
+/// 4. `Shell` reads lines such as `get 1 5`, `at 5 range 1 0 9`, `front` and `status`, prints rows as a table, and on a terminal a prompt
+/// before each line; a line of another form is reported on `errors`, a refusal is printed and explained, and the next line goes on.
+/// `Status` reads a delta since the resolved time, and is refused as too old where the node is pruned between. `Save` and `Pull` send
+/// chunks of up to 8,388,608 bytes, or of one fact, where a node refuses a single message as too long and both nodes read version 2; else
+/// they end with 2, as it was refused. Of what goes in chunks nothing is joined before all is there. `Pull`, `Prune` and `Feed` print
+/// `done` and the number of the node's last operation; `Feed` ends at the first batch that is refused, and prints to `errors` how many
+/// items a second went, and by requests of version 2 how many of them the node didn't know.
 ///
 /// The status is 0, or 1 where a reply was a refusal, a line had no form, or one of these ended it:
 ///
 /// - the node's refusal, with its number;
 /// - the fault of the input, 1 to 10, behind the replies to the requests before it, or the items before it;
-/// - the fault of a reply, 1 to 10: 1 where the link was cut before the reply, 4 where the reply is none to its request;
+/// - the fault of a reply, 1 to 10: 1 where the connection was cut before the reply, 4 where the reply is none to its request;
 /// - 90 where memory ran out;
-/// - 91 where a read failed, of the input or the link, 2^32 reads did not come to an end, or the node replied nothing in time;
-/// - 92 where a write to the link failed or took no bytes;
-/// - 93 where the link could not be opened, as to a port that nobody listens to;
+/// - 91 where a read failed, of the input or the connection, 2^32 reads did not come to an end, or the node replied nothing in time;
+/// - 92 where a write to the connection failed or took no bytes;
+/// - 93 where the connection could not be opened, as to a port that nobody listens to;
 /// - a write of the output that failed or took no bytes.
 ///
-/// Each but the last is printed as `refused` and the number, in the order's form (where `Save` writes one frame it writes
-/// all of it or nothing, and where it writes parts the last frame comes with the last of them or not at all), and told to `errors` in words. What the node took before stays. It
-/// holds 65,536 bytes of the input, a batch, and one reply. Cost: O(n · log n), n bytes of the requests and the replies,
-/// beside the node's answers; `Status` O(s²) for s streams.
+/// Each but the last is printed as `refused` and the number, in the order's form (where `Save` writes one frame it writes all of it or
+/// nothing, and where it writes chunks the last frame comes with the last of them or not at all), and explained in words on `errors`. What
+/// the node applied before stays. It keeps 65,536 bytes of the input, a batch, and one reply. Cost: O(n · log n), n bytes of the requests
+/// and the replies, beside the node's answers; `Status` O(s²) for s streams.
 pub fn run_order<R, I: Read, W: Write, E: Write>(
     rt: &R,
     alloc: Global,

@@ -1,4 +1,4 @@
-//! Fragments that go in parts, where a message has no room for them.
+//! Fragments that go in chunks, where a message has no room for them.
 
 use crate::link::{Link, unasked};
 use hk_cli_commands::Stop;
@@ -15,20 +15,20 @@ pub(crate) fn is_too_long(why: &Refusal) -> bool {
     matches!(why, Refusal::Form(FormFault::TooLong))
 }
 
-/// How many bytes the facts of a part have at most.
+/// How many bytes the facts of a chunk have at most.
 const PART_BYTES: u32 = 8_388_608;
 
-/// The most parts of a fragment.
+/// The most chunks of a fragment.
 const MOST_PARTS: u64 = 4_294_967_296;
 
-/// What takes the parts of a fragment, one after the other.
+/// What receives the chunks of a fragment, one after the other.
 pub(crate) trait Parts {
-    /// Takes the facts of a part, or says what stops the command.
+    /// Receives the facts of a chunk, or returns what stops the command.
     fn take(&mut self, facts: Vec<(VersionKey, Version)>) -> Result<(), Stop>;
 }
 
-/// Hands over what a node has learnt since a time, or all that it holds since 0, part by part, and gives the head of all.
-/// It holds one part.
+/// Passes on what a node has applied since a time, or its full snapshot since 0, chunk by chunk, and returns the head of
+/// all. It keeps one chunk.
 pub(crate) fn hand_parts<P: Parts>(
     from: &mut Link<'_>,
     base: Time,
@@ -50,7 +50,7 @@ pub(crate) fn hand_parts<P: Parts>(
     Err(Stop::ReadFault)
 }
 
-/// The request by which a node takes the parts that were added to it.
+/// The request by which a node joins the chunks that were added to it.
 pub(crate) fn taking(head: FragmentHead) -> LaterRequest {
     if head.base().number() == 0 {
         return LaterRequest::MergeParts(head);

@@ -7,10 +7,10 @@ use hk_wire::{LaterRequest, Reply, Request, RequestFeeder};
 use std::io::{Read, Write};
 use std::mem;
 
-/// What is told of a request that is none of a fragment.
+/// The refusal of a request that is none of a fragment.
 const BAD_KIND: Refusal = Refusal::Form(FormFault::BadKind);
 
-/// Whether a request hands a whole or a part of one to a node.
+/// Whether a request gives a fragment or a chunk of one to a node.
 fn is_fragment(request: &Request) -> bool {
     matches!(
         request,
@@ -22,7 +22,7 @@ fn is_fragment(request: &Request) -> bool {
     )
 }
 
-/// Whether a request hands a part to a node: where it is refused, those behind it would make a fragment that lacks it.
+/// Whether a request gives a chunk to a node: where it is refused, those behind it would make a fragment that lacks it.
 fn is_part(request: &Request) -> bool {
     matches!(request, Request::Later(LaterRequest::AddPart(_)))
 }
@@ -31,7 +31,7 @@ fn is_part(request: &Request) -> bool {
 #[derive(Clone, Copy)]
 pub(crate) enum Accepted {
     All,
-    /// Those that hand a fragment to a node.
+    /// Those that give a fragment to a node.
     Fragments,
 }
 
@@ -40,7 +40,7 @@ fn is_accepted(accepted: Accepted, request: &Request) -> bool {
     matches!(accepted, Accepted::All) || is_fragment(request)
 }
 
-/// Tells why a reply refuses its request, and says whether it does. It stops at a part that is refused.
+/// Prints why a reply refuses its request, and returns whether it does. It stops at a chunk that is refused.
 fn is_refused<W: Write, E: Write>(
     link: &Link<'_>,
     request: &Request,
@@ -64,7 +64,7 @@ fn show<W: Write, E: Write>(reply: &Reply, output: &mut Output<'_, W, E>) -> Res
     output.flush()
 }
 
-/// Sends a request, waits for its reply and prints it, and says whether that is a refusal.
+/// Sends a request, waits for its reply and prints it, and returns whether that is a refusal.
 fn asked<W: Write, E: Write>(
     link: &mut Link<'_>,
     request: &Request,
@@ -106,7 +106,7 @@ impl<'k, 'l, 'o, 'p, W: Write, E: Write, const LATEST: u8> Pusher<'k, 'l, 'o, 'p
         }
     }
 
-    /// Sends each request, waits for its reply and prints it, before the next. It stops at a part that is refused.
+    /// Sends each request, waits for its reply and prints it, before the next. It stops at a chunk that is refused.
     fn ask_all(&mut self) -> Result<(), Stop> {
         for request in &self.requests {
             if !is_accepted(self.accepted, request) {
@@ -142,7 +142,7 @@ impl<W: Write, E: Write, const LATEST: u8> Pieces for Pusher<'_, '_, '_, '_, W, 
     }
 }
 
-/// Sends the requests of the input, one after the other, up to its end or to what stops them first, and says whether a reply
+/// Sends the requests of the input, one after the other, up to its end or to what stops them first, and returns whether a reply
 /// was a refusal. Where `accepted` is the fragments alone, another request stops them before it is sent; one of a version above
 /// `LATEST` is a bad version, which can't be read.
 pub(crate) fn push_all<I: Read, W: Write, E: Write, const LATEST: u8>(

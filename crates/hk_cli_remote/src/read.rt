@@ -14,7 +14,7 @@ use hk_wire::{LaterRequest, Reply, Request, encode_request};
 use std::alloc::Global;
 use std::io::Write;
 
-/// From where to where the node can be read.
+/// The node's range of readable times.
 pub(crate) fn front_at(link: &mut Link<'_>) -> Result<Front, Stop> {
     match link.granted(&Request::Front)? {
         Reply::Front(front) => Ok(front),
@@ -30,7 +30,7 @@ pub(crate) fn fragment_at(link: &mut Link<'_>, request: &Request) -> Result<Frag
     }
 }
 
-/// The node's answer to a query at a time, or at its readable mark.
+/// The node's answer to a query at a time, or at its resolved time.
 pub(crate) fn answer_at(
     link: &mut Link<'_>,
     time: Option<Time>,
@@ -46,7 +46,7 @@ pub(crate) fn answer_at(
     }
 }
 
-/// Prints the node's answer to a query at a time, or at its readable mark.
+/// Prints the node's answer to a query at a time, or at its resolved time.
 pub(crate) fn tell_answer<W: Write, E: Write>(
     link: &mut Link<'_>,
     time: Option<Time>,
@@ -57,7 +57,7 @@ pub(crate) fn tell_answer<W: Write, E: Write>(
     output.show(&answer)
 }
 
-/// Prints from where to where the node can be read.
+/// Prints the node's range of readable times.
 pub(crate) fn tell_front<W: Write, E: Write>(
     link: &mut Link<'_>,
     output: &mut Output<'_, W, E>,
@@ -66,7 +66,7 @@ pub(crate) fn tell_front<W: Write, E: Write>(
     output.show_front(front)
 }
 
-/// Prints how far each stream of the node is, by a delta since its readable mark.
+/// Prints how far each stream of the node is, by a delta since its resolved time.
 pub(crate) fn tell_status<W: Write, E: Write>(
     link: &mut Link<'_>,
     output: &mut Output<'_, W, E>,
@@ -81,7 +81,7 @@ pub(crate) fn tell_status<W: Write, E: Write>(
     put_status(got, Front { horizon, readable }, output)
 }
 
-/// Writes a whole as the request that hands it to a node.
+/// Writes a full snapshot as the request that gives it to a node.
 fn send_whole<W: Write, E: Write>(
     alloc: Global,
     whole: Fragment,
@@ -92,7 +92,7 @@ fn send_whole<W: Write, E: Write>(
     output.send(&frame)
 }
 
-/// Prints a whole in JSON: its head, and a line of each version.
+/// Prints a full snapshot in JSON: its head, and a line of each version.
 fn print_whole<W: Write, E: Write>(
     whole: &Fragment,
     output: &mut Output<'_, W, E>,
@@ -104,7 +104,7 @@ fn print_whole<W: Write, E: Write>(
     Ok(())
 }
 
-/// Parts on their way to an output, as the requests that hand them to a node.
+/// Chunks on their way to an output, as the requests that give them to a node.
 #[derive(Drop)]
 struct Writer<'o, 'p, W: Write, E: Write> {
     output: &'o mut Output<'p, W, E>,
@@ -133,7 +133,7 @@ impl<W: Write, E: Write> Parts for Writer<'_, '_, W, E> {
     }
 }
 
-/// Writes the requests that hand the parts of a whole to a node.
+/// Writes the requests that give the chunks of a full snapshot to a node.
 fn send_parts<W: Write, E: Write>(
     link: &mut Link<'_>,
     output: &mut Output<'_, W, E>,
@@ -143,8 +143,8 @@ fn send_parts<W: Write, E: Write>(
     writer.send(taking(head))
 }
 
-/// The same of a whole that was refused, where a message has no room for it and the node reads requests of parts. Else it
-/// stops for what was refused.
+/// The same of a full snapshot that was refused, where a message has no room for it and the node reads requests of
+/// chunks. Else it stops for what was refused.
 fn send_refused<W: Write, E: Write>(
     link: &mut Link<'_>,
     why: Refusal,
@@ -157,7 +157,7 @@ fn send_refused<W: Write, E: Write>(
     Err(Stop::RefusedAt(why, origin))
 }
 
-/// Writes all that the node holds as the request that hands it to a node, or in parts where a message has no room for it.
+/// Writes the node's full snapshot as the request that gives it to a node, or in chunks where a message has no room for it.
 fn save_frames<W: Write, E: Write>(
     link: &mut Link<'_>,
     output: &mut Output<'_, W, E>,
@@ -170,7 +170,7 @@ fn save_frames<W: Write, E: Write>(
     }
 }
 
-/// Writes all that the node holds.
+/// Writes the node's full snapshot.
 pub(crate) fn save<W: Write, E: Write>(
     link: &mut Link<'_>,
     form: OutputForm,

@@ -13,7 +13,7 @@ use std::io::{Read, Write};
 /// The most bytes of a line.
 const MOST_LINE_BYTES: usize = 1_024;
 
-/// What stands before a line on a terminal.
+/// The prompt before a line on a terminal.
 const PROMPT: &[u8] = b"hkrep> ";
 
 /// Lines on their way to a node.
@@ -67,7 +67,7 @@ impl<'k, 'l, 'o, 'p, W: Write, E: Write> Shell<'k, 'l, 'o, 'p, W, E> {
         }
     }
 
-    /// Tells that the line of this number has no form.
+    /// Prints that the line of this number has no form.
     fn tell_unknown(&mut self, number: u64) -> Result<(), AllocError> {
         self.is_refused = true;
         let line = format!(in self.alloc;
@@ -77,7 +77,7 @@ impl<'k, 'l, 'o, 'p, W: Write, E: Write> Shell<'k, 'l, 'o, 'p, W, E> {
         Ok(())
     }
 
-    /// Prints and tells a refusal of the node's, and notes it; where memory ran out the command stops.
+    /// Prints and explains a refusal of the node's, and notes it; where memory ran out the command stops.
     fn tell_refusal(&mut self, why: Refusal, origin: Origin) -> Result<(), Stop> {
         if matches!(why, Refusal::Memory) {
             return Err(Stop::Refused(why));
@@ -138,7 +138,7 @@ impl<W: Write, E: Write> Lines for Shell<'_, '_, '_, '_, W, E> {
     }
 }
 
-/// Answers the lines of the input from the node, and says whether one was refused or had no form.
+/// Answers the lines of the input from the node, and returns whether one was refused or had no form.
 pub(crate) fn answer_lines<I: Read, W: Write, E: Write>(
     link: &mut Link<'_>,
     input: &mut I,

@@ -75,8 +75,8 @@ fn put_head(widths: (usize, usize), out: &mut String) -> Result<(), AllocError> 
     out.push_str("  body\n")
 }
 
-/// Adds rows as a table: a head, a line for each, and how many they are. The only error is out of memory; then a part of
-/// the lines may stand. Cost: O(n), n bytes of the lines.
+/// Adds rows as a table: a head, a line for each, and how many they are. The only error is out of memory; then the text
+/// may end with a part of the lines. Cost: O(n), n bytes of the lines.
 pub(crate) fn put_table(
     alloc: Global,
     rows: &[(Key, Row)],

@@ -8,7 +8,7 @@ use hk_frames::{Cursor, ReadError, put_body, put_u32, put_u64};
 use hk_types::{Key, Row, Table, Time, VersionKey};
 use std::alloc::{AllocError, Global};
 
-/// A kind of element. Each stands at a place, its table and key; the table stands before a group of them.
+/// A kind of element. Each has a place, its table and key; the table comes before a group of them.
 pub(crate) trait Elements {
     ghost use Rattle.std.specs.Prelude.{◌≡◌, ◌≤◌, ◌++◌, ℕ, List, Option, Result, length, take, OnOk, OnErr};
     ghost use Rattle.hk_types.specs.declared.faults.FormFault.{FormFault};
@@ -26,7 +26,7 @@ pub(crate) trait Elements {
     /// What an element is whose parts fit their fields.
     ghost Fits: { Self.Value → Type 0 };
 
-    /// What the bytes tell, in an entry of this time, of an element of this table after the place before it.
+    /// What the bytes encode, in an entry of this time, of an element of this table after the place before it.
     ghost read: { ℕ → ℕ → Option (ℕ × ℕ) → List ℕ → Result (Self.Value × List ℕ) FormFault };
 
     /// The table and the key.
@@ -76,7 +76,7 @@ pub(crate) fn put_keyed_row(out: &mut Vec<u8>, row: &(Table, Key, Row)) -> Resul
     put_body(out, row.2.body())
 }
 
-/// How many bytes an end has beside its table. Its numbers are read for what their types say of them.
+/// How many bytes an end has beside its table. Its numbers are read for the bounds that their types state.
 #[tactic(auto, using(crate::proofs::Lengths::keyed_end_len))]
 pub(crate) fn keyed_end_len(end: &VersionKey) -> u32
     ensures len { result ≡ length (spec.keyed_end_text end.now) }
@@ -88,7 +88,7 @@ pub(crate) fn keyed_end_len(end: &VersionKey) -> u32
     16
 }
 
-/// How many bytes a row has beside its table. Its numbers are read for what their types say of them.
+/// How many bytes a row has beside its table. Its numbers are read for the bounds that their types state.
 #[tactic(auto, using(crate::proofs::Lengths::keyed_row_len))]
 pub(crate) fn keyed_row_len(row: &(Table, Key, Row)) -> u32
     ensures len { result ≡ length (spec.keyed_row_text row.now) }

@@ -131,10 +131,10 @@ pub fn put_frame(out: &mut Vec<u8>, item: &Item) -> Result<(), AllocError>
     put_version(out, VERSION_2, item)
 }
 
-/// Adds the item's encoding in version 2 at the end, in which the ends and the rows stand in groups of one table. A
-/// feeder that is given it gives the item back, and holds nothing. The only refusal is `Memory`, and then the output is
-/// as before. Cost: O(n), n bytes of the encoding: the whole frame is reserved at once, so the output grows once at
-/// most; a few passes over the item count its bytes and groups, and one writes them.
+/// Adds the item's encoding in version 2 at the end, in which the ends and the rows are in groups of one table. A
+/// feeder that is given it returns the item, and keeps nothing. The only refusal is `Memory`, and then the output is as
+/// before. Cost: O(n), n bytes of the encoding: the whole frame is reserved at once, so the output grows once at most;
+/// a few passes over the item count its bytes and groups, and one writes them.
 pub fn encode(item: &Item, out: &mut Vec<u8>) -> Result<(), Refusal>
     ensures ok { OnOk result (out.new.items ≡ out.old.items ++ encoding_of 2 item.now) }
     // What is added is the encoding of an item, and is read as that item.

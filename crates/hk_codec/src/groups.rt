@@ -57,7 +57,7 @@ fn read_elements<E: Elements>(
 }
 
 /// Makes room for the first of so many groups where it is not there, and for as many elements in each of them, but for no
-/// more than what is left of the bytes can hold.
+/// more than the bytes that are left can encode.
 fn make_room<T>(
     elements: &mut Vec<T>,
     count: usize,

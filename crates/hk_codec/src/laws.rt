@@ -16,7 +16,7 @@ pub fn one_reading()
     ensures { OneReading (λ (items : List Item). items) Reads }
 {}
 
-/// Pieces that are read one after the other are read as the whole is.
+/// Pieces that are read one after the other are read as all of them together are.
 pub fn pieces_join()
     ensures { PiecesJoin Reads }
 {}

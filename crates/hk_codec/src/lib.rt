@@ -1,10 +1,10 @@
 //! Items as bytes, and bytes as items.
 //!
-//! A frame is a length of four bytes, the high one first, and then as many bytes. Each item has one
-//! encoding in version 2, which `encode` adds at the end of bytes, and one in version 1, which `encode_old`
-//! adds. A `Feeder` reads the items of a stream that comes in any pieces, each frame in its version. It gives
-//! exactly the items whose encodings the bytes begin with, and the first fault of what follows them.
-//! `rewrite` writes frames of either version in version 2.
+//! A frame is a length of four bytes, the high one first, and then as many bytes. Each item has one encoding in
+//! version 2, which `encode` adds at the end of bytes, and one in version 1, which `encode_old` adds. A `Feeder`
+//! reads the items of a stream that comes in any pieces, each frame in its version. It returns exactly the items
+//! whose encodings the bytes begin with, and the first fault of what follows them. `rewrite` writes frames of either
+//! version in version 2.
 #![tactic(auto)]
 
 mod elements;

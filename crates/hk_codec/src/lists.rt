@@ -47,7 +47,7 @@ fn read_end(cursor: &mut Cursor, time: Time, before: Before) -> Result<VersionKe
     read_keyed_end(cursor, time, table, before)
 }
 
-/// Reads so many ends. No more is reserved for them than what is left can hold.
+/// Reads so many ends. No more is reserved for them than the bytes that are left can encode.
 pub(crate) fn read_ends(
     alloc: Global,
     cursor: &mut Cursor,
@@ -99,7 +99,7 @@ fn read_row(
     read_keyed_row(alloc, cursor, table, before)
 }
 
-/// Reads so many rows. No more is reserved for them than what is left can hold.
+/// Reads so many rows. No more is reserved for them than the bytes that are left can encode.
 pub(crate) fn read_rows(
     alloc: Global,
     cursor: &mut Cursor,

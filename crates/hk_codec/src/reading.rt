@@ -141,7 +141,7 @@ fn read_mark(cursor: &mut Cursor, log: u64, stream: StreamNo) -> Result<Mark, Fo
     Mark::new(log, stream, n, m)
 }
 
-/// What the first bytes of a rest say.
+/// What the first bytes of a rest encode.
 #[derive(Clone, Copy)]
 struct FrameHead {
     version: u8,
@@ -185,7 +185,7 @@ fn read_entry(alloc: Global, cursor: &mut Cursor, head: FrameHead) -> Result<Ent
     Ok(Entry::of_parts(head.log, head.stream, number, time, ends, rows))
 }
 
-/// Reads what stands behind the head.
+/// Reads what follows the head.
 #[tactic(auto, unfolding(crate::specs::Reading::kind_at))]
 fn read_kind(alloc: Global, cursor: &mut Cursor, head: FrameHead) -> Result<Item, ReadError>
     requires bytes { IsBytes cursor.old }

@@ -9,10 +9,10 @@ use hk_frames::{ReadError, next_frame};
 use hk_types::{FormFault, Refusal};
 use std::alloc::Global;
 
-/// Adds the encodings in version 2 of the items that the bytes encode, at the end. Bytes that are not whole frames are
-/// refused with the fault that one `feed` of them and `finish` meet first, which is `Truncated` where they end inside a
-/// frame; or `Memory` is answered. On a refusal the output is as before. Cost: O(n), n bytes: one pass over them, and no
-/// more than one item is held at a time; the output grows as it is written.
+/// Adds the encodings in version 2 of the items that the bytes encode, at the end. Bytes that are not complete frames
+/// are refused with the fault that one `feed` of them and `finish` meet first, which is `Truncated` where they end
+/// inside a frame; or `Memory` is answered. On a refusal the output is as before. Cost: O(n), n bytes: one pass over
+/// them, and no more than one item is in memory at a time; the output grows as it is written.
 pub fn rewrite(alloc: Global, bytes: &[u8], out: &mut Vec<u8>) -> Result<(), Refusal>
     ensures { Rewrites bytes.now out.old.items out.new.items result }
 {

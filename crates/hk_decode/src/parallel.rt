@@ -13,24 +13,24 @@ use rayon::prelude::*;
 use std::alloc::{AllocError, Global};
 use std::thread::Threads;
 
-/// How many bytes a part has at least, but the last one.
+/// How many bytes a chunk has at least, but the last one.
 const PART_BYTES: usize = 65_536;
 
-/// A part of a text.
+/// A chunk of a text.
 #[derive(Clone, Copy)]
 struct Span {
     start: usize,
     end: usize,
 }
 
-/// What was read from a part of a text, where it is whole frames with no fault.
+/// What was read from a chunk of a text, where it is complete frames with no fault.
 #[derive(Drop)]
 struct Part {
     span: Span,
     items: Option<Vec<Item>>,
 }
 
-/// How many bytes the frame at the front has, as its length field tells; 0 where it is none or not all there.
+/// How many bytes the frame at the front has, as its length field says; 0 where it is none or not all there.
 fn frame_bytes(bytes: &[u8]) -> usize
     ensures { result ≤ length bytes.now }
 {
@@ -47,7 +47,7 @@ fn frame_bytes(bytes: &[u8]) -> usize
     LENGTH_BYTES + rest
 }
 
-/// Parts of whole frames, one after the other, as the length fields tell.
+/// Chunks of complete frames, one after the other, as the length fields say.
 fn spans(alloc: Global, bytes: &[u8]) -> Result<Vec<Span>, AllocError>
     ensures { IfOk result (λ v. All (λ s. (s.start ≤ s.end) × (s.end ≤ length bytes.now)) v.items) }
 {
@@ -69,7 +69,7 @@ fn spans(alloc: Global, bytes: &[u8]) -> Result<Vec<Span>, AllocError>
     Ok(spans)
 }
 
-/// The items of whole frames, or `None` where there is a fault or no memory.
+/// The items of complete frames, or `None` where there is a fault or no memory.
 fn items_of(alloc: Global, bytes: &[u8]) -> Option<Vec<Item>>
     ensures { IfSome result (λ v. Decodes bytes.now (Ok v)) }
 {
@@ -84,7 +84,7 @@ fn read_part(alloc: Global, bytes: &[u8], span: Span) -> Part
     Part { span, items }
 }
 
-/// What is read from each part, by several threads.
+/// What is read from each chunk, by several threads.
 fn read_parts(
     rt: &(impl Threads + Sync),
     alloc: Global,
@@ -106,8 +106,8 @@ fn read_parts(
         .collect(rt, alloc)
 }
 
-/// Adds the items of the parts, one after the other from the front of the bytes, up to the first that was not
-/// read. It answers how many bytes their frames have.
+/// Adds the items of the chunks, one after the other from the front of the bytes, up to the first that was not read.
+/// It returns how many bytes their frames have.
 fn take_parts(bytes: &[u8], parts: Vec<Part>, out: &mut Vec<Item>) -> Result<usize, AllocError>
     requires { All (λ p. IfSome p.items (λ v. IsPart bytes.now p.span.start p.span.end v.items)) parts.items }
     ensures { IfOk result (λ used. HasRead bytes.now out.old.items out.new.items used) }
@@ -126,7 +126,7 @@ fn take_parts(bytes: &[u8], parts: Vec<Part>, out: &mut Vec<Item>) -> Result<usi
     Ok(used)
 }
 
-/// Adds the items of the whole frames that the bytes begin with.
+/// Adds the items of the complete frames that the bytes begin with.
 fn take_side_by_side(
     rt: &(impl Threads + Sync),
     alloc: Global,
@@ -140,7 +140,7 @@ fn take_side_by_side(
     let spans = spans(alloc, bytes)?;
     let parts = read_parts(rt, alloc, bytes, &spans)?;
     let used = take_parts(bytes, parts, out)?;
-    // Less than a frame is left here, or a part with a fault, unless memory ran out.
+    // Less than a frame is left here, or a chunk with a fault, unless memory ran out.
     let progress = take_items(alloc, &bytes[used..], out)?;
     Ok(Progress {
         used: used + progress.used,
@@ -163,13 +163,12 @@ fn decode_alone(alloc: Global, bytes: &[u8]) -> Result<Vec<Item>, Refusal>
     Ok(items)
 }
 
-/// The items whose encodings, one after another, are all of the bytes. Else the fault of what follows the
-/// whole encodings that the bytes begin with, which is `Truncated` where they end inside a frame; or
-/// `Memory`.
+/// The items whose encodings, one after another, are all of the bytes. Else the fault of what follows the complete
+/// encodings that the bytes begin with, which is `Truncated` where they end inside a frame; or `Memory`.
 ///
-/// Parts of whole frames, of 65,536 bytes at least, are read by as many threads as there are processors. It joins
-/// them, so it waits: what it gives is promised if it returns. Bytes of less than two parts are read by this thread
-/// alone. Cost: O(n), n bytes: two passes over them, one of them over the length fields alone; where a part has a
+/// Chunks of complete frames, of 65,536 bytes at least, are read by as many threads as there are processors. It joins
+/// them, so it waits: its result is promised if it returns. Bytes of less than two chunks are read by this thread
+/// alone. Cost: O(n), n bytes: two passes over them, one of them over the length fields alone; where a chunk has a
 /// fault, or memory ran out in it, the frames from its first on are read once more.
 pub fn decode_all(
     rt: &(impl Threads + Sync),

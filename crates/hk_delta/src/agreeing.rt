@@ -22,7 +22,7 @@ use hk_store::Facts;
 use hk_types::{Refusal, Time, VersionKey};
 use std::alloc::Global;
 
-/// What items tell a state that is new, with the numbers and marks of both together.
+/// What is new to a state in items, with the numbers and marks of both together.
 #[derive(Drop)]
 pub struct News {
     /// The rows and ends of the new items.
@@ -33,7 +33,7 @@ pub struct News {
     pub all: Got,
 }
 
-/// Whether an item tells these streams nothing new.
+/// Whether an item has nothing new for these streams.
 fn tells_nothing(all: &Got, item: &Item) -> bool
     requires { stream_no item.now ≤ length all.now }
     ensures value { result ≡ spec.tells_nothing all.now item.now }
@@ -45,8 +45,8 @@ fn tells_nothing(all: &Got, item: &Item) -> bool
     }
 }
 
-/// Whether an item gives a version another row or another end than the state or the news, or is an entry whose time is
-/// at most the closed time of its stream.
+/// Whether an item has another row or another end of a version than the state or the news, or is an entry whose time
+/// is at most the closed time of its stream.
 fn contradicts(state: &ReplicaState, news: &News, item: &Item) -> bool
     requires { stream_no item.now ≤ length news.now.all }
     ensures { result ≡ spec.contradicts state.now news.now item.now }
@@ -72,7 +72,7 @@ fn add_facts(facts: &mut Facts, item: &Item) -> Result<(), Refusal>
     }
 }
 
-/// Learns an item, after it was tested as an absorb tests it.
+/// Adds an item to the news, after it was tested as an absorb tests it.
 fn learn(state: &ReplicaState, news: &mut News, item: &Item) -> Result<(), Refusal>
     requires got { length news.old.got ≡ length state.now.streams }
     requires all { length news.old.all ≡ length state.now.streams }
@@ -94,7 +94,7 @@ fn learn(state: &ReplicaState, news: &mut News, item: &Item) -> Result<(), Refus
     Ok(())
 }
 
-/// Learns items, one after the other, up to the first refusal.
+/// Adds items to the news, one after the other, up to the first refusal.
 fn learn_all(alloc: Global, state: &ReplicaState, items: &[Item]) -> Result<News, Refusal>
     ensures { LearnsAll state.now items.now result }
 {
@@ -112,12 +112,12 @@ fn learn_all(alloc: Global, state: &ReplicaState, items: &[Item]) -> Result<News
     Ok(news)
 }
 
-/// The fragment of those of the items that tell a state something new, with base 0 and horizon 0. Joining it leaves what
+/// The fragment of those of the items that are new to a state, with `base` 0 and `horizon` 0. Joining it leaves what
 /// absorbing the items one after the other leaves, and does not touch the state's past.
 ///
 /// The first item that an absorb would refuse is refused as there: of another log `ForeignLog`, of a stream above the
-/// configured number `WrongStreams`, and one that contradicts the state or an item before it `Conflict`. `Memory` comes
-/// where a growth was refused, also before an item that would be refused. The state is only read.
+/// configured number `WrongStreams`, and one that conflicts with the state or an item before it `Conflict`. `Memory`
+/// comes where a growth was refused, also before an item that would be refused. The state is only read.
 ///
 /// Cost: O(s + (e + i + w) · log n + b), s streams, e extra numbers and waiting marks of the state, i items, w their
 /// writes, n all these and the facts of the state, b bytes of bodies compared, or copied twice.
@@ -127,9 +127,10 @@ pub fn agreed(alloc: Global, state: &ReplicaState, items: &[Item]) -> Result<Fra
     agreed_so(alloc, state, items, false)
 }
 
-/// The same, where `compared` so that no entry that is told again passes as another: it is `Conflict` too where, of an
-/// entry of a time above the state's horizon, a row or an end is lacking in what absorbing leaves, or another; this comes
-/// after the refusals of all items. At or below the horizon nothing can be compared. Cost: that of `agreed`.
+/// The same, where `compared` so that no entry whose number is already applied passes as another: it is `Conflict` too
+/// where, of an entry of a time above the state's oldest readable time, a row or an end is lacking in what absorbing
+/// leaves, or differs from it; this comes after the refusals of all items. At or below the oldest readable time nothing
+/// can be compared. Cost: that of `agreed`.
 pub fn agreed_so(
     alloc: Global,
     state: &ReplicaState,
@@ -157,7 +158,7 @@ fn has_conflict(own: &Facts, facts: &[(VersionKey, Version)]) -> bool
         .any(|(version, known)| own.value_conflicts_at(version, known))
 }
 
-/// Whether a fragment gives a version another row or another end than a state. It takes no memory. Cost:
+/// Whether a fragment has another row or another end of a version than a state. It takes no memory. Cost:
 /// O(c · log n + b), c versions of the fragment, n facts of the state, b bytes of bodies compared.
 pub fn conflicts_with(state: &ReplicaState, fragment: &Fragment) -> bool
     ensures { result ≡ contents_conflict state.now fragment.now.content }

@@ -124,8 +124,8 @@ fn conflict_in_ends(items: &[Item]) -> bool
     items.iter().any(|item| are_ends_conflicting(items, item))
 }
 
-/// Whether two of the items give a version different rows or different ends. It takes no memory. Cost: O(n²),
-/// n rows and ends of the items.
+/// Whether two of the items have different rows or different ends of a version. It takes no memory. Cost: O(n²), n
+/// rows and ends of the items.
 pub(crate) fn conflict(items: &[Item]) -> bool
     ensures { result ≡ have_conflict items.now }
 {

@@ -1,4 +1,4 @@
-//! Fragments of a state: the whole of it, or what changed since a time.
+//! Fragments of a state: a full snapshot, or what changed since a time.
 
 ghost use Rattle.std.specs.Prelude.{◌≡◌, ◌⊎◌, ◌≤◌, ◌++◌, map, OnOk, IfOk, IfErr};
 ghost use Rattle.hk_types.specs.declared.faults.Refusal.TheVariants.{Memory, TooOld as Old};
@@ -87,7 +87,8 @@ pub(crate) fn left_of_all(
     Ok(left)
 }
 
-/// The fragment of a state with a base that is 0 or at least its horizon, of what is left of its versions above the base.
+/// The fragment of a state with a base that is 0 or at least its oldest readable time, of what is left of its versions
+/// above the base.
 fn fragment_from(
     alloc: Global,
     state: &ReplicaState,
@@ -103,7 +104,7 @@ fn fragment_from(
     Ok(Fragment::of_parts(state.config(), base, state.horizon(), got, left))
 }
 
-/// The whole of what a state holds, as a fragment of base 0.
+/// The full snapshot of a state: all that it holds, as a fragment of base 0.
 ///
 /// The only refusal is `Memory`. Cost: O(n · log n + b), n versions, extra numbers and waiting marks held,
 /// b bytes of bodies, all copied.
@@ -116,12 +117,12 @@ pub fn whole_of(alloc: Global, state: &ReplicaState) -> Result<Fragment, Refusal
     fragment_from(alloc, state, Time::zero(), left)
 }
 
-/// What a state holds that a replica may lack which is readable up to the base: the rows that were born above
+/// What a state holds and a replica may lack whose resolved time is at least the base: the rows that were born above
 /// it, the ends above it, and all numbers and marks.
 ///
-/// A base below the horizon is refused `TooOld` with the horizon, and then `Memory` comes where a growth was
-/// refused. Cost: O((1 + k) · log n + b), k versions with a row or an end above the base and extra numbers and waiting
-/// marks held, n versions, b bytes of the bodies that are copied.
+/// A base below the oldest readable time is refused `TooOld` with that time, and then `Memory` comes where a growth
+/// was refused. Cost: O((1 + k) · log n + b), k versions with a row or an end above the base and extra numbers and
+/// waiting marks held, n versions, b bytes of the bodies that are copied.
 pub fn delta_since(alloc: Global, state: &ReplicaState, base: Time) -> Result<Fragment, Refusal>
     ensures gives { Cuts state.now base result }
     ensures represents { CutsOf state.now base result }

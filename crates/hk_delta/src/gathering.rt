@@ -67,7 +67,7 @@ fn put_ends(facts: &mut VersionMap, ends: &[VersionKey], time: Time) -> Result<(
     Ok(())
 }
 
-/// Puts all that an item says of versions.
+/// Puts all rows and ends of an item.
 fn put_item(alloc: Global, facts: &mut VersionMap, item: &Item) -> Result<(), Refusal>
     ensures { Puts facts.old facts.new (item_facts item.now) result }
 {
@@ -82,7 +82,7 @@ fn put_item(alloc: Global, facts: &mut VersionMap, item: &Item) -> Result<(), Re
     }
 }
 
-/// Puts all that items say of versions.
+/// Puts all rows and ends of items.
 fn put_items(alloc: Global, facts: &mut VersionMap, items: &[Item]) -> Result<(), Refusal>
     ensures { Puts facts.old facts.new (flat_map item_facts items.now) result }
 {
@@ -108,7 +108,7 @@ pub(crate) fn note_item(got: &mut Got, config: Config, item: &Item) -> Result<()
     }
 }
 
-/// What items tell of the streams.
+/// The numbers and marks that items bring to the streams.
 fn note_items(alloc: Global, config: Config, items: &[Item]) -> Result<Got, Refusal>
     requires { rules.first_wrong_log config items.now ≡ None }
     ensures ok { IfOk result (λ got. got ≡ streams_of config.streams items.now) }
@@ -141,13 +141,12 @@ fn gather(alloc: Global, config: Config, items: &[Item]) -> Result<Fragment, Ref
     Ok(Fragment::of_parts(config, beginning, beginning, got, listed))
 }
 
-/// The fragment of items, with base 0 and horizon 0: the union of what they say, and all their numbers and marks.
+/// The fragment of items, with `base` 0 and `horizon` 0: all their rows and ends together, and all their numbers and marks.
 ///
 /// The first item that is of another log is refused `ForeignLog`, or of a stream above the configured number
-/// `WrongStreams`. Two items that give a version different rows or different ends are refused `Conflict`, and
-/// then `Memory` comes where a growth was refused. Cost: O(n · log n + b), n items, rows and ends, b bytes of
-/// bodies, all copied once. Only where memory was refused, the items are compared with each other, which takes no
-/// memory: O(n²).
+/// `WrongStreams`. Two items that have different rows or different ends of a version are refused `Conflict`, and then
+/// `Memory` comes where a growth was refused. Cost: O(n · log n + b), n items, rows and ends, b bytes of bodies, all
+/// copied once. Only where memory was refused, the items are compared with each other, which takes no memory: O(n²).
 pub fn fragment_of(alloc: Global, config: Config, items: &[Item]) -> Result<Fragment, Refusal>
     ensures gives { Gathers config items.now result }
     ensures represents { GathersOf config items.now result }

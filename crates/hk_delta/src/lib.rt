@@ -1,4 +1,4 @@
-//! Fragments: the parts of a replica's content that are sent to another replica of the same log.
+//! Fragments: what a replica sends of its content to another replica of the same log, a full snapshot or a delta.
 #![tactic(auto)]
 
 mod agreeing;

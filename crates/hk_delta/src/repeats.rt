@@ -1,4 +1,4 @@
-//! Entries that are told again, compared with what stands.
+//! Entries whose number is already applied, compared with the rows and ends that are known.
 
 ghost use Rattle.std.specs.Prelude.{◌≡◌, ◌&&◌, Some, not};
 ghost use Rattle.std.specs.List.{list_any};
@@ -9,8 +9,8 @@ use hk_log::{Entry, Item};
 use hk_store::Facts;
 use hk_types::{Row, Time, VersionKey};
 
-/// Whether items are compared, and one of them is an entry of a time above this that stands otherwise, in two that hold
-/// facts together, than it is told: a row or an end of it is lacking, or another. It takes no memory.
+/// Whether items are compared, and one of them is an entry of a time above this that differs from the facts of the two
+/// maps together: a row or an end of it is lacking there, or another is there. It takes no memory.
 pub(crate) fn some_stand_otherwise(
     compared: bool,
     own: &Facts,

@@ -61,7 +61,7 @@ fn has_conflict(own: &Fragment, other: &Fragment) -> bool
     conflicts_on(own, other.facts())
 }
 
-/// Adds what another fragment of the same log says, where both have base 0 and horizon 0, as `fragment_of` makes
+/// Adds what another fragment of the same log has, where both have `base` 0 and `horizon` 0, as `fragment_of` makes
 /// them: the rows, ends and numbers of both, and each stream closed by all marks whose entries both have together.
 ///
 /// A version that has different rows or different ends in the two is refused `Conflict`; so far no memory is taken.

@@ -15,8 +15,20 @@ use hk_types::{Refusal, Row, Time};
 use std::alloc::{AllocError, Global};
 use std::marker::Model;
 
-/// What is known of the versions of one key, by the time at which each was born. A lone one stands in the chain
-/// itself, a few stand in a sorted list, and more than that in ordered maps.
+/// What is known of the versions of one key, by the time at which each was born. One version alone is kept in the
+/// chain itself, a few are kept in a sorted list, and more than that in ordered maps.
+///
+/// An example, with the form and the versions after each call:
+///
+///     new()            One     none
+///     put_row(3, A)    One     3: A
+///     put_row(7, B)    Few     3: A              7: B
+///     put_end(3, 7)    Few     3: A, ends at 7   7: B
+///     put_end(9, 12)   Few     3: A, ends at 7   7: B     9: no row, ends at 12
+///     drop_until(7)    Few     7: B              9: no row, ends at 12
+///
+/// Before the drop `at(5)` is A, and `at(7)` is B. `at(10)` is B too, since the row of the version born at 9 has not
+/// come. The list has at most 32 versions: a new one beside these turns the chain into `Many`.
 #[derive(Drop)]
 pub struct Chain {
     form: ChainForm,
@@ -38,7 +50,7 @@ impl Model for Chain {
     ghost view = { λ a. stored a.form };
 }
 
-/// A clone is the same chain again, as `copy` gives it.
+/// A clone is the same chain again, as `copy` makes it.
 impl Clone for Chain {
     ghost use Rattle.std.specs.Prelude.{◌≡◌};
 
@@ -92,8 +104,8 @@ impl Chain {
         self.put(born, Fact::End(died))
     }
 
-    /// Takes a part of a version back. A version of which nothing else is known goes. Cost: O(log n),
-    /// n versions.
+    /// Removes a part of a version, its row or its end or both. A version of which nothing else is known is dropped.
+    /// Cost: O(log n), n versions.
     pub fn forget(&mut self, born: Time, part: Part)
         ensures { self.new ≡ chain_forget self.old born part }
     {
@@ -115,10 +127,10 @@ impl Chain {
         self.form.drop_until(until);
     }
 
-    /// Of the versions that have a row and were born at a time or before, the one born last, with the time
-    /// of its birth. It takes no memory. Cost: O(log n), n versions. In a list, of at most 32 versions, those with no
-    /// row are stepped over; in maps those of which only the end is known stand apart, and stepped over are alone
-    /// versions whose row was taken back, and, after memory was refused to the row of a version whose end had come
+    /// Of the versions that have a row and were born at a time or before, the one born last, with the time of its
+    /// birth. It takes no memory. Cost: O(log n), n versions. In a list, of at most 32 versions, those with no row
+    /// are stepped over; in maps those of which only the end is known are kept apart, and stepped over are alone
+    /// versions whose row was removed, and, after memory was refused to the row of a version whose end had come
     /// first, those whose end came first.
     pub fn latest(&self, time: Time) -> Option<(Time, &Version)>
         ensures { option_map (λ p. (p.0, p.1.now)) result ≡ latest_at self.now time }

@@ -17,7 +17,7 @@ use hk_log::Version;
 use hk_types::{Refusal, Time};
 use std::alloc::{AllocError, Global};
 
-/// At most one version in place, then a list, and from more than it is to have on maps.
+/// At most one version in place, then a list, and above the size of a list maps.
 #[derive(Drop)]
 pub(crate) enum ChainForm {
     One(Option<(Time, Version)>),
@@ -58,7 +58,8 @@ impl ChainForm {
         }
     }
 
-    /// Takes a part of a version back. A version of which nothing else is known goes. Cost: O(log n), n versions.
+    /// Removes a part of a version, its row or its end or both. A version of which nothing else is known is dropped.
+    /// Cost: O(log n), n versions.
     pub(crate) fn forget(&mut self, born: Time, part: Part)
         ensures { stored self.new ≡ chain_forget (stored self.old) born part }
     {
@@ -188,7 +189,7 @@ fn put_beyond(alloc: Global, few: &Few, born: Time, fact: Fact) -> Result<Box<Ot
     Ok(others)
 }
 
-/// Takes a part of a version back, where it was born then.
+/// Removes a part of a version, where it was born then.
 fn forget_first(first: &mut Option<(Time, Version)>, born: Time, part: Part)
     ensures { first_only first.new ≡ chain_forget (first_only first.old) born part }
 {

@@ -15,7 +15,7 @@ pub enum Fact {
     End(Time),
 }
 
-/// What is taken back of a version: its row, its end, or all that is known of it.
+/// What is removed of a version: its row, its end, or all that is known of it.
 #[derive(Clone, Copy, Debug, PartialEq, Eq)]
 pub enum Part {
     Row,
@@ -79,8 +79,7 @@ fn join_end(version: &mut Version, died: Time) -> Result<(), Refusal>
     Ok(())
 }
 
-/// Takes a part of a version back, and says whether anything is left. Where nothing would be left,
-/// the version stays as it was.
+/// Removes a part of a version, and returns whether anything is left. Where nothing would be left, the version is as it was.
 pub(crate) fn take_back(version: &mut Version, part: Part) -> bool
     ensures left { OnTrue result (without part (Some version.old) ≡ Some version.new) }
     ensures gone { OnFalse result (without part (Some version.old) ≡ None) }

@@ -16,7 +16,7 @@ use hk_types::{Refusal, Time};
 use std::alloc::{AllocError, Global};
 use std::marker::Model;
 
-/// The most versions that stand in a list.
+/// The most versions that a list has.
 const MOST: usize = 32;
 
 /// What is known of versions, by the time at which each was born, in one sorted list.
@@ -42,7 +42,7 @@ impl Model for Few {
 }
 
 impl Few {
-    /// The version that is there, if one is, which is moved. The only error is out of memory; then it stays there.
+    /// The version that is there, if one is, which is moved. The only error is out of memory; then it is left where it was.
     pub(crate) fn of_first(
         alloc: Global,
         first: &mut Option<(Time, Version)>,
@@ -93,7 +93,8 @@ impl Few {
         }
     }
 
-    /// Takes a part of a version back. A version of which nothing else is known goes. Cost: O(n), n versions.
+    /// Removes a part of a version, its row or its end or both. A version of which nothing else is known is dropped.
+    /// Cost: O(n), n versions.
     pub(crate) fn forget(&mut self, born: Time, part: Part)
         ensures { self.new ≡ chain_forget self.old born part }
     {
@@ -129,7 +130,7 @@ impl Few {
     }
 }
 
-/// Adds a fact to the version at a place.
+/// Adds a fact to the version at a position.
 #[inline(always)]
 fn join_at(
     versions: &mut Vec<(Time, Version)>,
@@ -147,7 +148,7 @@ fn join_at(
     join(&mut versions[place].1, fact)
 }
 
-/// Takes a part of the version at a place back. A version of which nothing else is known goes.
+/// Removes a part of the version at a position. A version of which nothing else is known is dropped.
 fn forget_at(versions: &mut Vec<(Time, Version)>, place: usize, born: Time, part: Part)
     requires sorted { AreByBirth versions.old.items }
     requires there { StandsAt versions.old.items born place }
@@ -160,7 +161,7 @@ fn forget_at(versions: &mut Vec<(Time, Version)>, place: usize, born: Time, part
     versions.remove(place);
 }
 
-/// Puts a version in at a place.
+/// Inserts a version at a position.
 #[inline(always)]
 fn insert_at(
     versions: &mut Vec<(Time, Version)>,

@@ -11,7 +11,7 @@ use hk_log::Version;
 use hk_types::Time;
 use std::cmp::Ordering;
 
-/// Where the version that was born then stands, or where it would. Cost: O(log n), and O(1) where it is the last.
+/// The position of the version that was born then, or the one that it would have. Cost: O(log n), and O(1) where it is the last.
 #[inline(always)]
 pub(crate) fn place_of(list: &[(Time, Version)], born: Time) -> Result<usize, usize>
     requires { AreByBirth list.now }
@@ -29,8 +29,7 @@ pub(crate) fn place_of(list: &[(Time, Version)], born: Time) -> Result<usize, us
     }
 }
 
-/// How many versions were born at a time or before; the others stand behind them. Cost: O(log n), and O(1) where all
-/// were.
+/// How many versions were born at a time or before; the others come after them. Cost: O(log n), and O(1) where all were.
 pub(crate) fn count_until(list: &[(Time, Version)], time: Time) -> usize
     requires { AreByBirth list.now }
     ensures within { result ≤ length list.now }
@@ -89,7 +88,7 @@ pub(crate) fn next_in<'a>(
     Some((*born, version))
 }
 
-/// How many versions were not born after a time, if there is a time; the others stand behind them.
+/// How many versions were not born after a time, if there is a time; the others come after them.
 fn count_before(list: &[(Time, Version)], after: &Option<Time>) -> usize
     requires { AreByBirth list.now }
     ensures within { result ≤ length list.now }

@@ -17,9 +17,9 @@ use hk_types::{Refusal, Row, Time};
 use std::alloc::{AllocError, Global};
 use std::marker::Model;
 
-/// What is known of versions, by the time at which each was born. Those of which only the end is known stand
-/// apart, so that none of them is stepped over on the way to the latest row. Where there was no memory to move
-/// one of them when its row came, it has its row there, and `mixed` says so.
+/// What is known of versions, by the time at which each was born. Those of which only the end is known are kept
+/// apart, so that none of them is stepped over on the way to the latest row. Where there was no memory to move one of
+/// them when its row came, it has its row there, and `mixed` is true.
 #[derive(Drop)]
 pub(crate) struct Others {
     rows: Versions,
@@ -98,8 +98,8 @@ impl Others {
         self.ends.put(born, Fact::End(died))
     }
 
-    /// Takes a part of a version back. A version of which nothing else is known goes. Cost: O(log n),
-    /// n versions.
+    /// Removes a part of a version, its row or its end or both. A version of which nothing else is known is dropped.
+    /// Cost: O(log n), n versions.
     pub(crate) fn forget(&mut self, born: Time, part: Part)
         ensures { self.new ≡ chain_forget self.old born part }
     {
@@ -119,9 +119,9 @@ impl Others {
         self.ends.drop_until(until);
     }
 
-    /// Of the versions that have a row and were born at a time or before, the one born last, with the time
-    /// of its birth. It takes no memory. Cost: O(log n), n versions. Stepped over are alone versions whose row was
-    /// taken back, and, where this is mixed, those whose end came before their row.
+    /// Of the versions that have a row and were born at a time or before, the one born last, with the time of its
+    /// birth. It takes no memory. Cost: O(log n), n versions. Stepped over are alone versions whose row was removed,
+    /// and, where this is mixed, those whose end came before their row.
     pub(crate) fn latest(&self, time: Time) -> Option<(Time, &Version)>
         ensures { option_map (λ p. (p.0, p.1.now)) result ≡ latest_at self.now time }
     {

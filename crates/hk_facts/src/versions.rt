@@ -75,8 +75,8 @@ impl Versions {
         Ok(())
     }
 
-    /// Takes a part of a version back. A version of which nothing else is known goes. Cost: O(log n),
-    /// n versions.
+    /// Removes a part of a version, its row or its end or both. A version of which nothing else is known is dropped.
+    /// Cost: O(log n), n versions.
     pub(crate) fn forget(&mut self, born: Time, part: Part)
         ensures { self.new ≡ chain_forget self.old born part }
     {

@@ -1,4 +1,4 @@
-//! A fragment that is put together of parts.
+//! A fragment that is put together from chunks.
 
 ghost use Rattle.std.specs.Prelude.{◌≡◌, ◌++◌, [], true, length, IfErr, OnErr, OnOk};
 ghost use Rattle.hk_fragment.specs.Parts.{checked_fragment};
@@ -12,10 +12,10 @@ use hk_types::{Config, FormFault, Refusal, Time, VersionKey};
 use std::alloc::Global;
 use std::marker::Model;
 
-/// The parts of a fragment that came so far. Contracts see the facts that were added, one part after the other.
+/// The chunks of a fragment that came so far. Contracts see the facts that were added, one chunk after the other.
 ///
 /// Nothing is tested of them but their order, and nothing can be done with them but to add more and, with the head,
-/// to make the one fragment of all: a part alone is no fragment.
+/// to make the one fragment of all: a chunk alone is no fragment.
 #[derive(Drop)]
 pub struct Assembly {
     facts: Vec<(VersionKey, Version)>,
@@ -73,21 +73,21 @@ impl Assembly {
         self.facts.len()
     }
 
-    /// Whether the part's version keys rise, and the first of them is above the last that was added. Cost: O(n), n facts of
-    /// the part.
+    /// Whether the chunk's version keys rise, and the first of them is above the last that was added. Cost: O(n), n facts
+    /// of the chunk.
     pub fn rises_with(&self, part: &[(VersionKey, Version)]) -> bool
         ensures { result ≡ rises (self.now ++ part.now) }
     {
         last_if_rising(self.last, part).is_ok()
     }
 
-    /// Adds a part behind those that were added before it. Its bodies are moved, and a refused part is dropped.
+    /// Adds a chunk behind those that were added before it. Its bodies are moved, and a refused chunk is dropped.
     ///
     /// - `Form(BadOrder)`: its version keys don't rise, or the first of them isn't above the last that was added.
     /// - `Memory`: a growth was refused.
     ///
-    /// After each refusal what was added before it is there as it was. Cost: O(n), n facts of the part, and now
-    /// and then O(m), m facts of all parts, where the list grows: O(m) for all parts together.
+    /// After each refusal what was added before it is there as it was. Cost: O(n), n facts of the chunk, and now and
+    /// then O(m), m facts of all chunks, where the list grows: O(m) for all chunks together.
     pub fn add(&mut self, part: Vec<(VersionKey, Version)>) -> Result<(), Refusal>
         ensures ok { OnOk result (self.new ≡ self.old ++ part.items) }
         ensures rises { OnOk result (rises self.new ≡ true) }
@@ -103,9 +103,9 @@ impl Assembly {
         Ok(())
     }
 
-    /// The fragment of this head, which says how many facts it has, and all added facts, or the first of these faults:
+    /// The fragment of this head, which has the number of its facts, and all added facts, or the first of these faults:
     ///
-    /// - `BadCount`: it is not so many facts that were added;
+    /// - `BadCount`: another number of facts was added;
     /// - then the faults of `Fragment::new`, in its order. Of the facts only `BadNumber` is left, since their order was
     ///   tested as they came.
     ///

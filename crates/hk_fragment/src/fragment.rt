@@ -18,11 +18,11 @@ use std::alloc::{AllocError, Global};
 use std::marker::Model;
 use std::mem;
 
-/// A part of what a replica of one log holds, for another replica that is readable up to the base: rows that
-/// were born above the base, ends above it, and all numbers and marks. A fragment of base 0 is a whole.
+/// What a replica of one log sends to another one whose resolved time is at least the base: rows that were born above
+/// the base, ends above it, and all numbers and marks. A fragment of base 0 is a full snapshot.
 ///
-/// The base is 0 or at least the horizon, the horizon is at most the least closed time of the streams, versions
-/// are born at 1 or later, and ends are above the base, the horizon and the birth of their version.
+/// `base` is 0 or at least `horizon`, `horizon` is at most the least closed time of the streams, versions are born at
+/// 1 or later, and ends are above `base`, `horizon` and the birth of their version.
 #[derive(Drop)]
 pub struct Fragment {
     config: Config,
@@ -56,7 +56,7 @@ pub(crate) fn follows(before: Option<VersionKey>, version: VersionKey) -> bool
     }
 }
 
-/// Whether an end may stand.
+/// Whether an end is allowed.
 fn is_valid_end(base: Time, horizon: Time, born: Time, died: Option<Time>) -> bool
     ensures { result ≡ spec.is_valid_end base horizon born died }
 {
@@ -66,7 +66,7 @@ fn is_valid_end(base: Time, horizon: Time, born: Time, died: Option<Time>) -> bo
     }
 }
 
-/// Whether what is known of a version may stand in a fragment with this base and this horizon.
+/// Whether what is known of a version is allowed in a fragment with this `base` and this `horizon`.
 fn stands(base: Time, horizon: Time, version: VersionKey, known: &Version) -> bool
     ensures { result ≡ spec.is_valid_fact base horizon (version, known.now) }
 {
@@ -77,8 +77,8 @@ fn stands(base: Time, horizon: Time, version: VersionKey, known: &Version) -> bo
     born.number() > 0 && is_valid_end(base, horizon, born, known.died())
 }
 
-/// The first fault of these facts in a fragment with this base and this horizon, if they have one: `BadOrder` and
-/// `BadNumber` as `Fragment::new` tells them of facts. Cost: O(n), n facts.
+/// The first fault of these facts in a fragment with this `base` and this `horizon`, if they have one: `BadOrder` and
+/// `BadNumber` as `Fragment::new` returns them for facts. Cost: O(n), n facts.
 pub fn facts_fault(base: Time, horizon: Time, facts: &[(VersionKey, Version)]) -> Option<FormFault>
     ensures { result ≡ spec.facts_fault base horizon None facts.now }
 {
@@ -110,16 +110,15 @@ pub fn copy_facts(
 }
 
 impl Fragment {
-    /// The fragment of these parts, or the first of these faults, in the order in which the bytes of a fragment
-    /// tell its parts:
+    /// The fragment of these fields, or the first of these faults, in the order that the fields have in the bytes of a fragment:
     ///
-    /// - `BadNumber`: the base is neither 0 nor at least the horizon;
-    /// - `BadNumber`: the horizon is above the least closed time of the streams;
+    /// - `BadNumber`: `base` is neither 0 nor at least `horizon`;
+    /// - `BadNumber`: `horizon` is above the least closed time of the streams;
     /// - then for each fact in turn `BadOrder` where its version does not come after the one before it, and
-    ///   `BadNumber` where the version is born at 0, or has a row and is not born above the base, or has an end
-    ///   that is not above the base, the horizon and its birth.
+    ///   `BadNumber` where the version is born at 0, or has a row and is not born above `base`, or has an end that is
+    ///   not above `base`, `horizon` and its birth.
     ///
-    /// The parts are moved in, and dropped with a fault. It takes no memory. Cost: O(s + n), s streams, n facts.
+    /// The fields are moved in, and dropped with a fault. It takes no memory. Cost: O(s + n), s streams, n facts.
     pub fn new(
         config: Config,
         base: Time,
@@ -142,7 +141,7 @@ impl Fragment {
         Ok(Fragment::of_parts(config, base, horizon, got, facts))
     }
 
-    /// The fragment of parts that make one.
+    /// The fragment of fields that make one.
     pub fn of_parts(
         config: Config,
         base: Time,
@@ -171,7 +170,7 @@ impl Fragment {
         self.config
     }
 
-    /// The time up to which a replica must be readable to join the fragment. 0 is a whole.
+    /// The least resolved time that a replica must have to join the fragment. 0 is a full snapshot.
     pub fn base(&self) -> Time
         ensures value { result ≡ self.now.base }
         ensures lawful { IsLawfulFragment self.now }
@@ -179,7 +178,7 @@ impl Fragment {
         self.base
     }
 
-    /// The horizon of what the fragment is a part of.
+    /// The oldest readable time of the replica that the fragment was cut from.
     pub fn horizon(&self) -> Time
         ensures value { result ≡ self.now.content.horizon }
         ensures lawful { IsLawfulFragment self.now }
@@ -215,9 +214,9 @@ impl Fragment {
         }
     }
 
-    /// Adds the facts, numbers and marks of another fragment of base 0 and horizon 0. The only refusal is `Memory`,
-    /// and then nothing is changed. Cost: O(n + w · log w + b), n facts of both, w numbers and marks of both that
-    /// wait for others, b bytes of the other one's bodies, which are copied.
+    /// Adds the facts, numbers and marks of another fragment with `base` 0 and `horizon` 0. The only refusal is
+    /// `Memory`, and then nothing is changed. Cost: O(n + w · log w + b), n facts of both, w numbers and marks of
+    /// both that wait for others, b bytes of the other one's bodies, which are copied.
     pub fn take_in(&mut self, other: &Fragment) -> Result<(), Refusal>
         requires own { IsFromZero self.old }
         requires coming { IsFromZero other.now }

@@ -1,4 +1,4 @@
-//! A fragment: a part of a replica's content that is sent to another replica of the same log, whole or in parts.
+//! A fragment: what a replica sends of its content to another replica of the same log, in one message or in chunks.
 #![tactic(auto)]
 
 mod assembly;

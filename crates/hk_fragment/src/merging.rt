@@ -19,7 +19,7 @@ fn with_row(own: Version, coming: Version) -> Version
     if own.row().is_some() { own } else { coming }
 }
 
-/// What two say of one version, the first where both say it.
+/// What two know of one version, the first one's where both know it.
 fn both_known(own: Version, coming: Version) -> Version
     ensures { result ≡ spec.both_known own coming }
 {
@@ -43,7 +43,7 @@ fn compare_last(own: &[(VersionKey, Version)], coming: &[(VersionKey, Version)])
     }
 }
 
-/// Takes the greatest version of two lists off them.
+/// Removes the greatest version of two lists from them.
 fn take_greatest(
     own: &mut Vec<(VersionKey, Version)>,
     coming: &mut Vec<(VersionKey, Version)>,

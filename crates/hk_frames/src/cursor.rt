@@ -8,7 +8,7 @@ use hk_types::{FormFault, MOST_BODY_BYTES, Refusal, Row, Tag};
 use std::alloc::{AllocError, AllocFailed, Global};
 use std::marker::Model;
 
-/// Why a reader that allocates gave nothing.
+/// Why a reader that allocates returned nothing.
 #[derive(Clone, Copy, Debug, PartialEq, Eq)]
 pub enum ReadError {
     /// A growth was refused.

@@ -12,7 +12,7 @@ pub trait Format {
     ghost use Rattle.hk_frames.specs.Fields.{GivesOrRunsOut, mapped};
     ghost use Rattle.hk_frames.specs.Framing.{FormatOf, IsSound, AddsSo};
 
-    /// What stands in a frame.
+    /// What a frame contains.
     type Value: Drop;
 
     /// The fewest bytes of a rest.
@@ -21,7 +21,7 @@ pub trait Format {
     /// The most.
     ghost MOST_BYTES: { ℕ };
 
-    /// How values stand in rests.
+    /// How values are encoded in rests.
     ghost format: { FormatOf Self.Value LEAST_BYTES MOST_BYTES };
 
     /// What is added to a list of values where this text is read so far.
@@ -37,7 +37,7 @@ pub trait Format {
     fn read_rest(alloc: Global, rest: &[u8]) -> Result<Self::Value, ReadError>
         ensures { GivesOrRunsOut format.seen result (mapped format.meant (format.read rest.now)) };
 
-    /// Does nothing: reading and encoding undo each other, and what frames of the format add is what `Adds` says.
+    /// Does nothing: reading and encoding undo each other, and what frames of the format add is what `Adds` defines.
     fn laws()
         ensures sound { IsSound format }
         ensures adds { AddsSo format Adds };

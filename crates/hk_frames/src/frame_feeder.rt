@@ -11,8 +11,7 @@ use hk_types::{FormFault, Refusal};
 use std::alloc::{AllocError, Global};
 use std::marker::{Model, PhantomData};
 
-/// Reads values from a stream of frames that comes in pieces. It holds less than a frame, or the fault that
-/// it met.
+/// Reads values from a stream of frames that comes in pieces. It keeps less than a frame, or the fault that it met.
 #[derive(Debug, Drop)]
 pub struct FrameFeeder<F: Format> {
     alloc: Global,
@@ -44,15 +43,14 @@ impl<F: Format> FrameFeeder<F> {
         }
     }
 
-    /// Takes the next piece of the stream, and adds the values of the frames that are whole now. A fault is
-    /// answered once the bytes have it, after the values before it, and then permanently. Where memory runs
-    /// out, which is `Memory`, the feeder and the list are as before. Cost: that of `Format::read_rest` for
-    /// each frame that is whole now, and O(n), n bytes of the piece, of which those that are left are
-    /// copied.
+    /// Reads the next piece of the stream, and adds the values of the frames that are complete now. A fault is
+    /// returned once the bytes have it, after the values before it, and then permanently. Where memory runs out,
+    /// which is `Memory`, the feeder and the list are as before. Cost: that of `Format::read_rest` for each frame
+    /// that is complete now, and O(n), n bytes of the piece, of which those that are left are copied.
     pub fn feed(&mut self, piece: &[u8], out: &mut Vec<F::Value>) -> Result<(), Refusal>
-        // What is held and the piece begin with the encodings of the added values. What follows them is held.
+        // The kept bytes and the piece begin with the encodings of the added values. What follows them is kept.
         ensures reads { Feeds F.Adds self.old self.new out.old.items out.new.items piece.now result }
-        // A fault stays.
+        // A fault is permanent.
         ensures fault { KeepsFault self.old self.new out.old.items out.new.items result }
         // Where memory runs out nothing changes.
         ensures memory { KeepsOnMemory self.old self.new out.old.items out.new.items result }
@@ -80,8 +78,7 @@ impl<F: Format> FrameFeeder<F> {
         }
     }
 
-    /// Ends the stream: the fault that was met, else `Truncated` where bytes are held, since they are cut
-    /// off.
+    /// Ends the stream: the fault that was met, else `Truncated` where bytes are left, since they are cut off.
     pub fn finish(self) -> Result<(), Refusal>
         ensures { result ≡ last_answer self }
     {
@@ -95,7 +92,7 @@ impl<F: Format> FrameFeeder<F> {
     }
 }
 
-/// Adds the values of a piece that nothing was held before, and holds what is left of it.
+/// Adds the values of a piece before which nothing was kept, and keeps what is left of it.
 fn fresh_frames<F: Format>(
     alloc: Global,
     rest: &mut Vec<u8>,
@@ -113,7 +110,7 @@ fn fresh_frames<F: Format>(
     Ok(progress.fault)
 }
 
-/// Adds the values of what is held and the piece behind it, and holds what is left of them.
+/// Adds the values of the kept bytes and the piece behind them, and keeps what is left of them.
 fn more_frames<F: Format>(
     alloc: Global,
     rest: &mut Vec<u8>,
@@ -133,8 +130,8 @@ fn more_frames<F: Format>(
     fed
 }
 
-/// As `more_frames`, but where memory runs out what was held may have bytes of the piece behind it. Only
-/// those bytes of the piece are copied that the held frame lacks, and those that are left.
+/// As `more_frames`, but where memory runs out the kept bytes may have bytes of the piece behind them. Only those
+/// bytes of the piece are copied that the kept frame lacks, and those that are left.
 fn topped_frames<F: Format>(
     alloc: Global,
     rest: &mut Vec<u8>,
@@ -161,8 +158,8 @@ fn topped_frames<F: Format>(
     Ok(behind.fault)
 }
 
-/// How many bytes of the piece go behind the held ones: those that the held frame lacks, where the piece
-/// has more and the frame's length is held, else all.
+/// How many bytes of the piece go behind the kept ones: those that the kept frame lacks, where the piece has more and
+/// the frame's length is known, else all.
 fn lacking(rest: &[u8], piece: &[u8]) -> usize
     ensures within { result ≤ length piece.now }
     ensures whole { (result ≡ length piece.now) ⊎ IsWhole (rest.now ++ take result piece.now) }
@@ -177,7 +174,7 @@ fn lacking(rest: &[u8], piece: &[u8]) -> usize
     }
 }
 
-/// Holds these bytes in the place of what was held, which stays where memory runs out.
+/// Keeps these bytes in place of those that were kept, which remain where memory runs out.
 fn replace(rest: &mut Vec<u8>, left: &[u8]) -> Result<(), AllocError>
     ensures ok { OnOk result (rest.new.items ≡ left.now) }
     ensures err { OnErr result (rest.new.items ≡ rest.old.items) }
@@ -187,7 +184,7 @@ fn replace(rest: &mut Vec<u8>, left: &[u8]) -> Result<(), AllocError>
     rest.extend_from_slice(left)
 }
 
-/// Drops the bytes before a place. Where there are none, nothing is moved.
+/// Drops the bytes before a position. Where there are none, nothing is moved.
 fn drop_front(bytes: &mut Vec<u8>, used: usize)
     requires { used ≤ length bytes.old.items }
     ensures { bytes.new.items ≡ drop used bytes.old.items }

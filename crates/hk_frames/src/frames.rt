@@ -46,8 +46,8 @@ pub fn frame_rest(bytes: &[u8], least: usize, most: usize) -> Result<Option<&[u8
     Ok(Some(&bytes[LENGTH_BYTES..LENGTH_BYTES + len]))
 }
 
-/// The value at the front and how many bytes its frame has, or `None` where a whole frame isn't there.
-/// Cost: that of `Format::read_rest`.
+/// The value at the front and how many bytes its frame has, or `None` where no complete frame is there. Cost: that of
+/// `Format::read_rest`.
 #[tactic(auto, unfolding(crate::specs::Framing::framed))]
 pub fn next_frame<F: Format>(
     alloc: Global,
@@ -71,8 +71,8 @@ pub struct Progress {
     pub fault: Option<FormFault>,
 }
 
-/// Adds the values of the whole frames that the bytes begin with. The only error is out of memory.
-/// Cost: that of `Format::read_rest` for each frame.
+/// Adds the values of the complete frames that the bytes begin with. The only error is out of memory. Cost: that of
+/// `Format::read_rest` for each frame.
 pub fn take_frames<F: Format>(
     alloc: Global,
     bytes: &[u8],

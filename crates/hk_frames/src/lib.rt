@@ -1,8 +1,8 @@
 //! Frames: a length of four bytes, the high one first, and then as many bytes, the rest.
 //!
-//! A format of frames is made of these parts: `Cursor` reads the fields of a rest, the `put_` functions write them,
-//! a `Format` says how a rest is read as a value, `next_frame` reads one frame, and `FrameFeeder` a stream of them that
-//! comes in any pieces.
+//! These items make a format of frames: `Cursor` reads the fields of a rest, the `put_` functions write them, a
+//! `Format` defines how a rest is read as a value, `next_frame` reads one frame, and `FrameFeeder` a stream of them
+//! that comes in any pieces.
 #![tactic(auto)]
 
 mod cursor;

@@ -5,4 +5,3 @@ mod JoinRequests
 pub mod Seen
 mod ChangeReplies
 pub mod BothSeen
-mod LinkReplies

@@ -1,14 +1,14 @@
 -- What a seat has seen after a session begins with what it had seen before.
-use Rattle.std.proofs.Common.{ℕ, Option, ◌≡◌, ◌⊎◌, inl, inr, List, [], ◌∷◌, ◌++◌, sym, ap, subst, ◌∙◌, append_assoc, append-nil}
+use Rattle.std.proofs.Common.{ℕ, Option, ◌≡◌, refl, List, [], ◌∷◌, ◌++◌, sym, ap, ◌∙◌, append_assoc, append-nil}
 use mathlib.Core.List.{IsPrefix}
 use Rattle.hk_wire.specs.declared.request.Request.{Request}
 use Rattle.hk_wire.specs.declared.reply.Reply.{Reply}
 use Rattle.hk_session.specs.declared.ended.Ended.{Ended}
 use Rattle.hk_session.specs.Transcript.{Answers, Ends, SessionStep}
 use Rattle.hk_oplog.specs.declared.op.Op.{Op}
-use Rattle.hk_wire.specs.declared.request.Request.TheVariants.{JoinThis, MergeThis}
+use Rattle.hk_wire.specs.declared.request.Request.TheVariants.{Items, Front, Delta, Full, Ask, JoinThis, MergeThis, Prune, Feed, Later}
 use Rattle.hk_wire.specs.Replies.{ReplyValue}
-use Rattle.hk_model.specs.Replica.Fragments.{FragmentValue}
+use Rattle.hk_model.specs.declared.query.Query.{Query}
 use Rattle.hk_host.specs.Replying.{IsNoChange, IsReading}
 use Rattle.hk_host.specs.NodeSides.{GoesOn, Sided}
 
@@ -29,14 +29,17 @@ pub goes_step : {S : Type 0} (side : Sided S) (may : S → Request → Reply →
     → SessionStep may old new before after bytes (Ends 1 e) → IsPrefix (side.list old) (side.list new)
 goes_step side may goes old new before after bytes e step = goes_seen side may goes old new step.requests step.replies step.answers
 
--- a request to join a fragment, whichever of the two it is, is no reading one
-pub no_change_is : (old new : List Op) (request : Request) (f : FragmentValue) (reply : ReplyValue) → (request ≡ JoinThis f) ⊎ (request ≡ MergeThis f)
+-- a request that is no reading one has no meaning for a host that only reads
+pub no_reading_is : (old new : List Op) (request : Request) (reply : ReplyValue)
+    → (request ≡ Front → ⊥) → ((base : ℕ) → request ≡ Delta base → ⊥) → (request ≡ Full → ⊥) → ((t : ℕ) (query : Query) → request ≡ Ask t query → ⊥)
     → IsNoChange old new reply → IsReading old new request reply
-no_change_is old new request f reply (inl is) told = subst (λ (q : Request). IsReading old new q reply) (sym is) told
-no_change_is old new request f reply (inr is) told = subst (λ (q : Request). IsReading old new q reply) (sym is) told
-
--- a request to take items, whichever of the two it is, is no reading one
-pub no_items_is : (old new : List Op) (request a b : Request) (reply : ReplyValue) → (request ≡ a) ⊎ (request ≡ b)
-    → IsReading old new a reply → IsReading old new b reply → IsReading old new request reply
-no_items_is old new request a b reply (inl is) one other = subst (λ (q : Request). IsReading old new q reply) (sym is) one
-no_items_is old new request a b reply (inr is) one other = subst (λ (q : Request). IsReading old new q reply) (sym is) other
+no_reading_is old new (Items items) reply no_front no_delta no_full no_ask told = told
+no_reading_is old new Front reply no_front no_delta no_full no_ask told = absurd (no_front refl)
+no_reading_is old new (Delta base) reply no_front no_delta no_full no_ask told = absurd (no_delta base refl)
+no_reading_is old new Full reply no_front no_delta no_full no_ask told = absurd (no_full refl)
+no_reading_is old new (Ask t query) reply no_front no_delta no_full no_ask told = absurd (no_ask t query refl)
+no_reading_is old new (JoinThis f) reply no_front no_delta no_full no_ask told = told
+no_reading_is old new (MergeThis f) reply no_front no_delta no_full no_ask told = told
+no_reading_is old new (Prune horizon) reply no_front no_delta no_full no_ask told = told
+no_reading_is old new (Feed items) reply no_front no_delta no_full no_ask told = told
+no_reading_is old new (Later r) reply no_front no_delta no_full no_ask told = told

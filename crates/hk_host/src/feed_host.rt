@@ -20,12 +20,12 @@ use std::marker::Model;
 use std::sync::Wait;
 use std::thread::Threads;
 
-/// A host over a running node and one seat of it, through which items come in and nothing else: what a feeder's link has. Contracts see
-/// it as the list of operations that the seat has seen or was told of.
+/// A host over a running node and one seat of it, through which items come in and nothing else: what a feeder's connection has.
+/// Contracts see it as the list of operations that the seat has seen or got a receipt of.
 ///
-/// Items, Feed, Front, Delta, Full and Ask are answered as `NodeHost` answers them. JoinThis, MergeThis and Prune, a hold and
-/// its release are refused with 4, as kinds that have no meaning here, and nothing changed: so no fragment comes in, and nothing
-/// goes. Cost: that of `NodeHost`.
+/// Items, Feed, Front, Delta, Full and Ask are answered as `NodeHost` answers them. JoinThis, MergeThis, Prune, Hold and Release
+/// are refused with 4, as kinds that have no meaning here, and nothing changed: so no fragment comes in, and nothing is dropped.
+/// Cost: that of `NodeHost`.
 #[derive(Drop)]
 pub struct FeedHost<'a, J: NodeName, N: Wait + Drop, R: Threads + Wait + Sync> {
     inner: NodeHost<'a, J, N, R>,
@@ -52,19 +52,19 @@ impl<'a, J: NodeName, N: Wait + Drop, R: Threads + Wait + Sync> FeedHost<'a, J, 
         FeedHost { inner }
     }
 
-    /// Gives the seat back, with all that it has seen or was told of.
+    /// Returns the seat, with all that it has seen or got a receipt of.
     pub fn into_seat(self) -> ReaderSeat<J>
         ensures { result ≡ self.entry }
     {
         self.inner.into_seat()
     }
 
-    /// The reply to a request that has no meaning here, which is let go.
+    /// The reply to a request that has no meaning here, which is dropped.
     fn no_kind<C: Drop>(&self, asked: C) -> Reply
         ensures legal { is_legal self.now ≡ true }
         ensures told { reply_seen result ≡ Refused (Form BadKind) }
     {
-        self.inner.no_kind(asked)
+        self.inner.reads.no_kind(asked)
     }
 }
 
@@ -77,15 +77,10 @@ impl<'a, J: NodeName, N: Wait + Drop, R: Threads + Wait + Sync> Host for FeedHos
 
     fn answer(&mut self, request: Request) -> Reply {
         match request {
-            Request::Items(items) => self.inner.answer(Request::Items(items)),
-            Request::Feed(items) => self.inner.answer(Request::Feed(items)),
-            Request::Front => self.inner.answer(Request::Front),
-            Request::Delta { base } => self.inner.answer(Request::Delta { base }),
-            Request::Full => self.inner.answer(Request::Full),
-            Request::Ask { t, query } => self.inner.answer(Request::Ask { t, query }),
             Request::JoinThis(fragment) | Request::MergeThis(fragment) => self.no_kind(fragment),
             Request::Prune { horizon } => self.no_kind(horizon),
             Request::Later(later) => self.no_kind(later),
+            other => self.inner.answer(other),
         }
     }
 }

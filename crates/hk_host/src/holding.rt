@@ -1,4 +1,4 @@
-//! Holds over a node, learnt by a seat of it.
+//! Pins and releases in a node, of which a seat of it gets the receipt.
 
 ghost use Rattle.std.specs.Prelude.{◌≡◌, true};
 ghost use mathlib.Core.List.{IsPrefix};
@@ -11,21 +11,21 @@ use hk_node::{Hold, Node, NodeName};
 use hk_types::{Refusal, Time};
 use std::sync::Wait;
 
-/// Tells that a change took effect, if anyone is told.
-fn tell_changed<R: Wait>(rt: &R, teller: Option<&Teller>, ops: u64) {
+/// Reports that a change took effect, if there is a teller.
+pub(crate) fn tell_changed<R: Wait>(rt: &R, teller: Option<&Teller>, ops: u64) {
     if let Some(teller) = teller {
         teller.tell_changed(rt, ops);
     }
 }
 
-/// Tells that a change was refused, if anyone is told.
-fn tell_refused<R: Wait>(rt: &R, teller: Option<&Teller>, why: &Refusal) {
+/// Reports that a change was refused, if there is a teller.
+pub(crate) fn tell_refused<R: Wait>(rt: &R, teller: Option<&Teller>, why: &Refusal) {
     if let Some(teller) = teller {
         teller.tell(rt, LinkEvent::Refused(why.number()));
     }
 }
 
-/// Holds a time in a node, and has the seat learn it.
+/// Pins a time in a node, and applies the receipt to the seat.
 pub(crate) fn hold_on<J: NodeName, N: Wait + Drop, R: Wait>(
     rt: &R,
     node: &Node<J, N>,
@@ -51,7 +51,7 @@ pub(crate) fn hold_on<J: NodeName, N: Wait + Drop, R: Wait>(
     }
 }
 
-/// Releases a hold in a node, and has the seat learn it. Gives the number of operations.
+/// Releases a pin in a node, and applies the receipt to the seat. Returns the number of operations.
 pub(crate) fn release_on<J: NodeName, N: Wait + Drop, R: Wait>(
     rt: &R,
     node: &Node<J, N>,

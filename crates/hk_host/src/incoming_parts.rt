@@ -1,4 +1,4 @@
-//! The parts that came over a link, with the room that is taken for them.
+//! The chunks that came over a connection, with the room that is reserved for them.
 
 ghost use Rattle.std.specs.Prelude.{◌≡◌, [], IfSome};
 ghost use Rattle.hk_wire.specs.LaterReplies.{reply_seen};
@@ -27,7 +27,7 @@ pub(crate) fn weight_of(facts: &[(VersionKey, Version)]) -> Option<u64>
     Some(facts_len(facts) + FACT_BYTES * facts.len() as u64)
 }
 
-/// The parts that came over a link. For all their facts room is taken of the budget. Contracts see the facts.
+/// The chunks that came over a connection. For all their facts room of the budget is reserved. Contracts see the facts.
 #[derive(Drop)]
 pub(crate) struct IncomingParts<'a> {
     facts: Assembly,
@@ -61,7 +61,7 @@ impl<'a> IncomingParts<'a> {
         }
     }
 
-    /// The refusal of a part for which there is no room: `BadOrder` where it doesn't rise, else `LinkFull` with this limit.
+    /// The refusal of a chunk for which there is no room: `BadOrder` where it doesn't rise, else `LinkFull` with this limit.
     fn refusal_of(&self, part: &[(VersionKey, Version)], most: u64) -> Refusal
         ensures { result ≡ no_room_for most self.now part.now }
     {
@@ -72,8 +72,8 @@ impl<'a> IncomingParts<'a> {
         }
     }
 
-    /// Takes a part behind those that came before, and replies how many facts came, or why they did not: as `Assembly::add`
-    /// does, and `LinkFull` with this limit where they rise and there is no room for them.
+    /// Adds a chunk behind those that came before, and replies how many facts came, or why they are refused: as
+    /// `Assembly::add` does, and `LinkFull` with this limit where they rise and there is no room for them.
     pub(crate) fn add(&mut self, part: Vec<(VersionKey, Version)>, most: u64) -> LaterReply
         ensures { TellsCome most self.old part.items (reply_seen result) self.new }
     {
@@ -94,7 +94,7 @@ impl<'a> IncomingParts<'a> {
         }
     }
 
-    /// The facts that came, and the room that is taken for them.
+    /// The facts that came, and the room that is reserved for them.
     pub(crate) fn into_parts(self) -> (Assembly, Room<'a>)
         ensures { result.0 ≡ self.entry }
     {

@@ -1,8 +1,8 @@
-//! What answers the requests of one link over a running node: hosts over a node and a seat of it, what a link gives and takes
-//! in parts, its holds, and the room that it takes for them.
+//! What answers the requests of one connection over a running node: hosts over a node and a seat of it, what a connection
+//! sends and receives in chunks, its pins, and the room that it reserves for them.
 //!
-//! `NodeHost` answers over the shared node and the link's own seat, `FeedHost` so that only items come in, `SeatHost` over a seat
-//! alone, and `PartsHost` over each of them, in both versions. hk_net runs sessions of them over sockets.
+//! `NodeHost` answers over the shared node and the connection's own seat, `FeedHost` so that only items come in, `SeatHost` over
+//! a seat alone, and `PartsHost` over each of them, in both versions. hk_net runs sessions of them over sockets.
 #![tactic(auto)]
 
 mod feed_host;

@@ -1,41 +1,41 @@
-//! What happens to the links of a node that stays, on its way to who is told.
+//! What happens to the connections of a long-running node, as events on their way to a watcher.
 
 use crossbeam_channel::{Receiver, Sender};
 use hk_session::Ended;
 use std::alloc::AllocError;
 use std::sync::Wait;
 
-/// How many events may wait to be told; a link whose event finds no room waits with it.
+/// How many events may wait for the watcher; a connection whose event finds no room waits with it.
 pub const EVENTS: usize = 1_024;
 
-/// What happens to the links of a node that stays.
+/// What happens to the connections of a long-running node.
 #[derive(Clone, Copy, Debug, PartialEq, Eq)]
 pub enum LinkEvent {
-    /// A link was opened.
+    /// A connection was opened.
     Opened,
-    /// A change that came over a link was refused with this number.
+    /// A change that came over a connection was refused with this number.
     Refused(u8),
-    /// A change that came over a link took effect; the node's list of operations that ends with it has so many.
+    /// A change that came over a connection took effect; the node's list of operations that ends with it has so many.
     Changed(u64),
-    /// A link ended so, and its seat waits for the next one.
+    /// A connection ended so, and its seat waits for the next one.
     Ended(Ended),
-    /// A link could not be accepted, as where no descriptor is left; it is tried again.
+    /// A connection could not be accepted, as where no descriptor is left; it is tried again.
     NotAccepted,
-    /// The thread of a seat could not be started, so that the node has one place less.
+    /// The thread of a seat could not be started, so that the node has one slot less.
     NotStarted,
 }
 
-/// Who is told what happens to links, one event after the other.
+/// Receives what happens to connections, one event after the other.
 pub trait Watch {
-    /// Takes in an event of a place; the first place is 0.
+    /// Receives an event of a slot; the first slot is 0.
     fn told(&mut self, place: usize, event: LinkEvent);
 }
 
-/// What tells of the links of one place.
+/// Reports the events of the connections of one slot.
 #[derive(Drop)]
 pub struct Teller {
     place: usize,
-    /// Whether changes that took effect are told too.
+    /// Whether changes that took effect are reported too.
     tells_changes: bool,
     events: Sender<(usize, LinkEvent)>,
 }
@@ -55,13 +55,13 @@ impl Teller {
         })
     }
 
-    /// Tells an event. It waits where many were not taken in yet.
+    /// Reports an event. It waits where many are not received yet.
     pub fn tell<R: Wait>(&self, rt: &R, event: LinkEvent) {
-        // Where nobody takes events in any more there is nobody to tell.
+        // Where nobody receives events any more the event is dropped.
         let _sent = self.events.send(rt, (self.place, event));
     }
 
-    /// Tells that a change took effect, where that is wanted.
+    /// Reports that a change took effect, where that is wanted.
     pub fn tell_changed<R: Wait>(&self, rt: &R, ops: u64) {
         if self.tells_changes {
             self.tell(rt, LinkEvent::Changed(ops));
@@ -69,7 +69,7 @@ impl Teller {
     }
 }
 
-/// Hands on what happens to links, until no teller is left that could say more.
+/// Passes on what happens to connections, until no teller is left.
 pub fn hand_on<R: Wait, T: Watch>(rt: &R, events: &Receiver<(usize, LinkEvent)>, watch: &mut T) {
     for _ in rt.forever() {
         match events.recv(rt) {

@@ -1,4 +1,4 @@
-//! The holds of a link.
+//! The pins of a connection.
 
 ghost use Rattle.std.specs.Prelude.{◌≡◌, ◌<◌, ◌-◌, ◌++◌, ◌∷◌, [], take, vec_len};
 ghost use mathlib.Core.List.{IsPrefix};
@@ -8,7 +8,7 @@ ghost use Rattle.hk_host.specs.LinkStates.{held_by};
 use crate::node_side::NodeSide;
 use hk_node::Hold;
 
-/// Puts a hold in the place of the last one.
+/// Replaces the last pin.
 pub(crate) fn set_last(holds: &mut Vec<Hold>, hold: Hold)
     requires { 0 < vec_len holds.old }
     ensures { holds.new.items ≡ take (vec_len holds.old - 1) holds.old.items ++ hold ∷ [] }
@@ -17,7 +17,7 @@ pub(crate) fn set_last(holds: &mut Vec<Hold>, hold: Hold)
     holds[last] = hold;
 }
 
-/// The hold of this number, if there is one.
+/// The pin of this number, if there is one.
 pub(crate) fn hold_of(holds: &[Hold], number: u64) -> Option<Hold>
     ensures { result ≡ held_by number holds.now }
 {
@@ -32,7 +32,7 @@ pub(crate) fn hold_of(holds: &[Hold], number: u64) -> Option<Hold>
     None
 }
 
-/// The same hold, to ask for its release.
+/// The same pin, to ask for its release.
 fn same_hold(hold: &Hold) -> Hold
     ensures { result ≡ hold.now }
 {
@@ -42,7 +42,7 @@ fn same_hold(hold: &Hold) -> Hold
     }
 }
 
-/// Asks for the release of a hold. Gives it back where it stands: one whose release waits to be published doesn't.
+/// Asks for the release of a pin. Returns it where it is still active: one whose release waits to be published isn't.
 fn release_one<H: NodeSide>(inner: &mut H, hold: Hold) -> Option<Hold>
     ensures asked { IsLetGo H.side.may_release inner.old hold inner.new result }
     ensures seen { IsPrefix (H.side.list inner.old) (H.side.list inner.new) }
@@ -53,7 +53,7 @@ fn release_one<H: NodeSide>(inner: &mut H, hold: Hold) -> Option<Hold>
     }
 }
 
-/// Puts a hold that was handed back, if one was, at this place, and gives the place of the next one.
+/// Puts a pin that was handed back, if one was, at this position, and returns the position of the next one.
 fn keep(holds: &mut Vec<Hold>, back: Option<Hold>, place: usize) -> usize
     requires { place < vec_len holds.old }
     ensures put { holds.new.items ≡ placed back holds.old.items place }
@@ -68,7 +68,7 @@ fn keep(holds: &mut Vec<Hold>, back: Option<Hold>, place: usize) -> usize
     }
 }
 
-/// Asks for the release of each of these holds, one after the other, and gives those that stand. It takes no memory.
+/// Asks for the release of each of these pins, one after the other, and returns those that are still active. It takes no memory.
 pub(crate) fn release_each<H: NodeSide>(inner: &mut H, holds: Vec<Hold>) -> Vec<Hold>
     ensures asked { AreLetGo H.side.may_release inner.old holds.items inner.new result.items }
     ensures seen { IsPrefix (H.side.list inner.old) (H.side.list inner.new) }

@@ -1,4 +1,4 @@
-//! What a link keeps beside its seat.
+//! What a connection keeps beside its seat.
 
 ghost use Rattle.std.specs.Prelude.{◌≡◌, ◌<◌, ◌-◌, ◌++◌, ◌∷◌, [], Ok, OnOk, OnErr, filter, length, take};
 ghost use Rattle.hk_wire.specs.LaterReplies.{reply_seen};
@@ -22,14 +22,14 @@ use std::mem::replace;
 /// How many bytes a message has at most behind its length.
 const MOST_MESSAGE: u64 = 268_435_456;
 
-/// How many bytes the head of a fragment has at most that is given in parts: a fact has room beside it.
+/// How many bytes the head of a fragment has at most that is sent in chunks: a fact has room beside it.
 const MOST_HEAD: u64 = 268_431_256;
 
 /// What a message has beside the facts and the head, and more.
 const BESIDE: u64 = 64;
 
-/// What a link keeps beside its seat and its node: the whole that it gives in parts, the parts that came, and its holds. For what it
-/// gives and for what came it takes room of the node's budget, and gives it back when it lets go of them.
+/// What a connection keeps beside its seat and its node: the fragment that it sends in chunks, the chunks that came, and its pins.
+/// For what it sends and for what came it reserves room of the node's budget, and returns the room when it drops them.
 #[derive(Drop)]
 pub struct LinkState<'a> {
     alloc: Global,
@@ -50,8 +50,8 @@ impl<'a> Model for LinkState<'a> {
     ghost view = { λ l. record { most = l.budget.now; giving = l.giving; came = l.came; holds = l.holds.items } };
 }
 
-/// How many bytes a part of this fragment may have where so many are asked for, so that its head has room beside the last one; none
-/// where the head is too long for a message.
+/// How many bytes a chunk of this fragment may have where so many are asked for, so that its head has room beside the last one;
+/// none where the head is too long for a message.
 fn room_of_part(fragment: &Fragment, most: u32) -> Option<u64>
     ensures { result ≡ part_room fragment.now most }
 {
@@ -63,7 +63,7 @@ fn room_of_part(fragment: &Fragment, most: u32) -> Option<u64>
 }
 
 impl<'a> LinkState<'a> {
-    /// Nothing is given, nothing came, and these holds, which a link before left. It takes no memory.
+    /// Nothing is sent, nothing came, and these pins, which a connection before it left. It takes no memory.
     pub fn new(alloc: Global, budget: &'a PartsBudget, holds: Vec<Hold>) -> LinkState<'a>
         ensures { result ≡ fresh_state budget.now holds.items }
     {
@@ -76,22 +76,22 @@ impl<'a> LinkState<'a> {
         }
     }
 
-    /// The holds, and nothing else, for which the room that was taken is given back.
+    /// The pins, and nothing else: the room that was reserved for the rest is returned.
     pub fn into_holds(self) -> Vec<Hold>
         ensures { result.items ≡ self.entry.holds }
     {
         self.holds
     }
 
-    /// Lets go of what is given.
+    /// Drops what is sent.
     pub(crate) fn stop_giving(&mut self)
         ensures { self.new ≡ record self.old { giving = None } }
     {
         self.giving = None;
     }
 
-    /// Begins to give a fragment in place of what is given, where there is room for it, and tells the first part. Where the head of the
-    /// fragment is too long for a message, what is given stays.
+    /// Begins to send a fragment in place of what is sent, where there is room for it, and returns the first chunk. Where the head of
+    /// the fragment is too long for a message, what was being sent goes on.
     pub(crate) fn begin(&mut self, fragment: Fragment, most: u32) -> LaterReply
         ensures told { TellsFirst self.old.most self.old.giving (Ok fragment) most (reply_seen result) self.new.giving }
         ensures same { self.new ≡ record self.old { giving = self.new.giving } }
@@ -99,7 +99,7 @@ impl<'a> LinkState<'a> {
         let Some(room) = room_of_part(&fragment, most) else {
             return LaterReply::Refused(Refusal::Form(FormFault::TooLong));
         };
-        // A link keeps one copy.
+        // A connection keeps one copy.
         self.giving = None;
         let Some(giving) = OutgoingTransfer::begin(fragment, room, self.budget) else {
             return LaterReply::Refused(Refusal::LinkFull {
@@ -115,7 +115,7 @@ impl<'a> LinkState<'a> {
         }
     }
 
-    /// Tells the next part of what is given.
+    /// Returns the next chunk of what is sent.
     pub(crate) fn more(&mut self) -> LaterReply
         ensures told { TellsMore self.old.giving (reply_seen result) self.new.giving }
         ensures same { self.new ≡ record self.old { giving = self.new.giving } }
@@ -135,7 +135,7 @@ impl<'a> LinkState<'a> {
         }
     }
 
-    /// Takes a part behind those that came before.
+    /// Adds a chunk behind those that came before.
     pub(crate) fn add(&mut self, facts: Vec<(VersionKey, Version)>) -> LaterReply
         ensures told { TellsCome self.old.most self.old.came facts.items (reply_seen result) self.new.came }
         ensures same { self.new ≡ record self.old { came = self.new.came } }
@@ -143,7 +143,7 @@ impl<'a> LinkState<'a> {
         self.came.add(facts, self.budget.most())
     }
 
-    /// Takes out the parts that came, with the room that is taken for them.
+    /// Takes out the chunks that came, with the room that is reserved for them.
     pub(crate) fn take_parts(&mut self) -> (Assembly, Room<'a>)
         ensures taken { result.0 ≡ self.old.came }
         ensures none { self.new ≡ record self.old { came = [] } }
@@ -151,14 +151,14 @@ impl<'a> LinkState<'a> {
         replace(&mut self.came, IncomingParts::new(self.alloc, self.budget)).into_parts()
     }
 
-    /// How many holds the link has.
+    /// How many pins the connection has.
     pub(crate) fn hold_count(&self) -> usize
         ensures { result ≡ length self.now.holds }
     {
         self.holds.len()
     }
 
-    /// Makes a place for a hold behind the others, which stands there with number 0.
+    /// Makes an entry for a pin behind the others, with number 0.
     pub(crate) fn make_place(&mut self, time: Time) -> Result<(), AllocError>
         ensures ok { OnOk result (self.new ≡ record self.old { holds = self.old.holds ++ (record { reader = 0; at = time }) ∷ [] }) }
         ensures kept { OnErr result (self.new ≡ self.old) }
@@ -170,7 +170,7 @@ impl<'a> LinkState<'a> {
         Ok(())
     }
 
-    /// Puts a hold into the last place.
+    /// Puts a pin into the last entry.
     pub(crate) fn fill_place(&mut self, hold: Hold)
         requires { 0 < length self.old.holds }
         ensures { self.new ≡ record self.old { holds = take (length self.old.holds - 1) self.old.holds ++ hold ∷ [] } }
@@ -178,7 +178,7 @@ impl<'a> LinkState<'a> {
         set_last(&mut self.holds, hold);
     }
 
-    /// Takes the last place away.
+    /// Removes the last entry.
     pub(crate) fn free_place(&mut self)
         requires { 0 < length self.old.holds }
         ensures { self.new ≡ record self.old { holds = take (length self.old.holds - 1) self.old.holds } }
@@ -186,14 +186,14 @@ impl<'a> LinkState<'a> {
         let _free = self.holds.pop();
     }
 
-    /// The hold of this number, if the link has it.
+    /// The pin of this number, if the connection has it.
     pub(crate) fn hold_of(&self, number: u64) -> Option<Hold>
         ensures { result ≡ held_by number self.now.holds }
     {
         hold_of(&self.holds, number)
     }
 
-    /// Takes the hold of this number out.
+    /// Removes the pin of this number.
     pub(crate) fn forget(&mut self, number: u64)
         ensures { self.new ≡ record self.old { holds = filter (is_other_hold number) self.old.holds } }
     {

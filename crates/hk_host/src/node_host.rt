@@ -5,21 +5,17 @@ ghost use Rattle.std.specs.Thread.{IsSync};
 ghost use mathlib.Core.List.{IsPrefix};
 ghost use Rattle.hk_model.specs.Replica.Rules.{gather_result};
 ghost use Rattle.hk_delta.specs.Gathers.{Gathers};
-ghost use Rattle.hk_types.specs.declared.faults.FormFault.TheVariants.{BadKind};
-ghost use Rattle.hk_types.specs.declared.faults.Refusal.TheVariants.{Form};
-ghost use Rattle.hk_wire.specs.Replies.{Done, Refused, reply_seen};
+ghost use Rattle.hk_wire.specs.Replies.{Done, reply_seen};
 ghost use Rattle.hk_oplog.specs.declared.op.Op.{Op};
 ghost use Rattle.hk_oplog.specs.declared.op.Op.TheVariants.{Join, Prune as PruneTo};
 ghost use Rattle.hk_node.specs.Guarded.{TakesSome};
 ghost use Rattle.hk_oplog.specs.Lists.{last_of};
 ghost use Rattle.hk_oplog.specs.NewItems.{new_to};
-ghost use Rattle.hk_session.specs.Steps.{query_reply, fragment_reply};
-ghost use Rattle.hk_oplog.specs.Replay.{is_legal, replay};
-ghost use Rattle.hk_oplog.specs.Replies.{node_delta, node_front, node_reply, node_whole};
-ghost use Rattle.hk_host.specs.Replying.{IsChangeReply, IsFedReply, IsItemsReply, IsOrOutOfMemory, IsReplyToItems, IsTold, MayReply, front_reply, items_reply};
+ghost use Rattle.hk_oplog.specs.Replay.{is_legal};
+ghost use Rattle.hk_host.specs.Replying.{IsChangeReply, IsFedReply, IsItemsReply, IsReading, IsReplyToItems, IsTold, MayReply, items_reply};
 
-use crate::holding::{hold_on, release_on};
-use crate::link_events::{LinkEvent, Teller};
+use crate::holding::{hold_on, release_on, tell_changed, tell_refused};
+use crate::link_events::Teller;
 use crate::node_side::NodeSide;
 use crate::seat_host::SeatHost;
 use hk_batch::{OpenGate, build};
@@ -42,18 +38,18 @@ const LONG_LIST: usize = 4_096;
 const WORKERS: usize = 4;
 
 /// A host over a running node, which others share, and one seat of that node. Contracts see it as the list of
-/// operations that the seat has seen or was told of.
+/// operations that the seat has seen or got a receipt of.
 ///
-/// Items are taken all or nothing, as the join of the one fragment that they make. Lists of 4,096 items and
-/// more are gathered by four workers side by side, shorter ones by the thread that answers. In a guarded node they are
-/// taken by `Node::take`, as absorbed one after the other. A fragment is joined, and a whole is joined in the same way.
-/// A change that took effect is learnt by the seat, so that the link's later replies show it, and is answered `Done` with the
-/// number of operations that ends with it; how far a prune reached is told by the next front. Feed is Items, answered `Fed`,
-/// which also tells how many of the items told something new to what the node held right before.
-/// A refused change is answered as the node refuses it, and items that make no fragment as their gathering
-/// is: a guarded node refuses `Conflict` what contradicts it, with nothing changed, and is never damaged, while another
-/// is damaged by it. `Unpublished` says that the change stands and waits. The other requests are answered by the seat, and
-/// take no lock. Cost: that of the calls.
+/// Items are applied all or nothing, as the join of the one fragment that they make. Lists of 4,096 items and more are
+/// gathered by four workers side by side, shorter ones by the thread that answers. In a guarded node they are applied by
+/// `Node::take`, as absorbed one after the other. A fragment is joined, and a full snapshot is joined in the same way. The
+/// receipt of a change that took effect goes to the seat, so that the connection's later replies show the change, and the
+/// reply is `Done` with the number of operations that ends with it; how far a prune reached is in the next front. Feed is
+/// Items, answered `Fed`, which also has how many of the items were new to what the node held right before. A refused change
+/// is answered as the node refuses it, and items that make no fragment as their gathering is: a guarded node refuses
+/// `Conflict` what conflicts with it, changes nothing, and never fails, while another node fails by it for good.
+/// `Unpublished` means that the change is made and waits. The other requests are answered by the seat, and take no lock.
+/// Cost: that of the calls.
 ///
 /// It can be asked where threads may share the runtime (`Host::ready`), as its bound `Sync` says that they
 /// may.
@@ -63,7 +59,7 @@ pub struct NodeHost<'a, J: NodeName, N: Wait + Drop, R: Threads + Wait + Sync> {
     alloc: Global,
     node: &'a Node<J, N>,
     pub(crate) reads: SeatHost<J>,
-    /// Who is told of changes, if anyone is.
+    /// Who receives reports of changes, if anyone does.
     teller: Option<&'a Teller>,
 }
 
@@ -102,7 +98,7 @@ impl<'a, J: NodeName, N: Wait + Drop, R: Threads + Wait + Sync> NodeHost<'a, J, 
         }
     }
 
-    /// The same, of which each refused change is told, and where the teller wants it each that takes effect.
+    /// The same, of which each refused change is reported, and where the teller wants it each that takes effect.
     pub fn telling(
         rt: &'a R,
         alloc: Global,
@@ -121,14 +117,14 @@ impl<'a, J: NodeName, N: Wait + Drop, R: Threads + Wait + Sync> NodeHost<'a, J, 
         }
     }
 
-    /// Gives the seat back, with all that it has seen or was told of.
+    /// Returns the seat, with all that it has seen or got a receipt of.
     pub fn into_seat(self) -> ReaderSeat<J>
         ensures { result ≡ self.entry }
     {
         self.reads.into_seat()
     }
 
-    /// Takes in the receipt of a change, and gives the number of its operations.
+    /// Applies the receipt of a change, and returns the number of its operations.
     fn learn(&mut self, receipt: Receipt<J>) -> u64
         ensures legal { is_legal self.new ≡ true }
         ensures seen { IsPrefix self.old self.new }
@@ -138,22 +134,8 @@ impl<'a, J: NodeName, N: Wait + Drop, R: Threads + Wait + Sync> NodeHost<'a, J, 
     {
         let ops = receipt.ops();
         self.reads.learn(receipt);
-        self.tell_changed(ops);
+        tell_changed(self.rt, self.teller, ops);
         ops
-    }
-
-    /// Tells that a change took effect.
-    fn tell_changed(&self, ops: u64) {
-        if let Some(teller) = self.teller {
-            teller.tell_changed(self.rt, ops);
-        }
-    }
-
-    /// Tells that a change was refused.
-    fn tell_refused(&self, why: &Refusal) {
-        if let Some(teller) = self.teller {
-            teller.tell(self.rt, LinkEvent::Refused(why.number()));
-        }
     }
 
     /// The one fragment that items make. A long list is gathered by several workers, which are waited for.
@@ -168,8 +150,8 @@ impl<'a, J: NodeName, N: Wait + Drop, R: Threads + Wait + Sync> NodeHost<'a, J, 
         build(self.rt, self.alloc, config, items, WORKERS, &OpenGate)
     }
 
-    /// A fragment that items made, to a node that is not guarded: it is joined. Gives the number of operations, and how many of
-    /// the items told something new.
+    /// A fragment that items made, to a node that is not guarded: it is joined. Returns the number of operations, and how many
+    /// of the items were new.
     fn join_gathered(&mut self, fragment: Fragment, items: &[Item]) -> Result<(u64, u64), Refusal>
         ensures legal { is_legal self.new ≡ true }
         ensures seen { IsPrefix self.old self.new }
@@ -178,10 +160,7 @@ impl<'a, J: NodeName, N: Wait + Drop, R: Threads + Wait + Sync> NodeHost<'a, J, 
     {
         match self.node.join_gathered(self.rt, fragment, items) {
             Ok((new, receipt)) => Ok((self.learn(receipt), new)),
-            Err(why) => {
-                self.tell_refused(&why);
-                Err(why)
-            }
+            Err(why) => Err(why),
         }
     }
 
@@ -194,14 +173,11 @@ impl<'a, J: NodeName, N: Wait + Drop, R: Threads + Wait + Sync> NodeHost<'a, J, 
     {
         match self.gather(items) {
             Ok(fragment) => self.join_gathered(fragment, items),
-            Err(why) => {
-                self.tell_refused(&why);
-                Err(why)
-            }
+            Err(why) => Err(why),
         }
     }
 
-    /// Items to a guarded node: they are taken where each agrees with what it holds, and with those before it.
+    /// Items to a guarded node: they are applied where each agrees with what it holds, and with those before it.
     fn take(&mut self, items: &[Item]) -> Result<(u64, u64), Refusal>
         ensures legal { is_legal self.new ≡ true }
         ensures seen { IsPrefix self.old self.new }
@@ -210,10 +186,7 @@ impl<'a, J: NodeName, N: Wait + Drop, R: Threads + Wait + Sync> NodeHost<'a, J, 
     {
         match self.node.take(self.rt, items) {
             Ok((new, receipt)) => Ok((self.learn(receipt), new)),
-            Err(why) => {
-                self.tell_refused(&why);
-                Err(why)
-            }
+            Err(why) => Err(why),
         }
     }
 
@@ -236,11 +209,14 @@ impl<'a, J: NodeName, N: Wait + Drop, R: Threads + Wait + Sync> NodeHost<'a, J, 
     {
         match self.take_items(items) {
             Ok((ops, _)) => Reply::Done { ops },
-            Err(why) => Reply::Refused(why),
+            Err(why) => {
+                tell_refused(self.rt, self.teller, &why);
+                Reply::Refused(why)
+            }
         }
     }
 
-    /// The same, where the feeder is told how many of the items told something new.
+    /// The same, where the reply has how many of the items were new.
     fn feed(&mut self, items: &[Item]) -> Reply
         ensures legal { is_legal self.new ≡ true }
         ensures seen { IsPrefix self.old self.new }
@@ -248,7 +224,10 @@ impl<'a, J: NodeName, N: Wait + Drop, R: Threads + Wait + Sync> NodeHost<'a, J, 
     {
         match self.take_items(items) {
             Ok((ops, new)) => Reply::Later(LaterReply::Fed { ops, new }),
-            Err(why) => Reply::Later(LaterReply::Refused(why)),
+            Err(why) => {
+                tell_refused(self.rt, self.teller, &why);
+                Reply::Later(LaterReply::Refused(why))
+            }
         }
     }
 
@@ -262,7 +241,7 @@ impl<'a, J: NodeName, N: Wait + Drop, R: Threads + Wait + Sync> NodeHost<'a, J, 
                 ops: self.learn(receipt),
             },
             Err(why) => {
-                self.tell_refused(&why);
+                tell_refused(self.rt, self.teller, &why);
                 Reply::Refused(why)
             }
         }
@@ -278,50 +257,19 @@ impl<'a, J: NodeName, N: Wait + Drop, R: Threads + Wait + Sync> NodeHost<'a, J, 
                 ops: self.learn(receipt),
             },
             Err(why) => {
-                self.tell_refused(&why);
+                tell_refused(self.rt, self.teller, &why);
                 Reply::Refused(why)
             }
         }
     }
 
-    fn front(&mut self) -> Reply
+    /// The seat's reply to a request that doesn't change the node.
+    fn read(&mut self, request: Request) -> Reply
         ensures legal { is_legal self.new ≡ true }
         ensures seen { IsPrefix self.old self.new }
-        ensures told { IsOrOutOfMemory (front_reply (node_front (replay self.new))) (reply_seen result) }
+        ensures told { IsReading self.old self.new request (reply_seen result) }
     {
-        self.reads.front()
-    }
-
-    fn delta(&mut self, base: Time) -> Reply
-        ensures legal { is_legal self.new ≡ true }
-        ensures seen { IsPrefix self.old self.new }
-        ensures told { IsOrOutOfMemory (fragment_reply (node_delta (replay self.new) base)) (reply_seen result) }
-    {
-        self.reads.delta(base)
-    }
-
-    fn whole(&mut self) -> Reply
-        ensures legal { is_legal self.new ≡ true }
-        ensures seen { IsPrefix self.old self.new }
-        ensures told { IsOrOutOfMemory (fragment_reply (node_whole (replay self.new))) (reply_seen result) }
-    {
-        self.reads.whole()
-    }
-
-    fn ask(&mut self, time: Time, query: &Query) -> Reply
-        ensures legal { is_legal self.new ≡ true }
-        ensures seen { IsPrefix self.old self.new }
-        ensures told { IsOrOutOfMemory (query_reply (node_reply (replay self.new) time query.now)) (reply_seen result) }
-    {
-        self.reads.ask(time, query)
-    }
-
-    /// The reply to a request that has no meaning here, which is let go.
-    pub(crate) fn no_kind<C: Drop>(&self, asked: C) -> Reply
-        ensures legal { is_legal self.now ≡ true }
-        ensures told { reply_seen result ≡ Refused (Form BadKind) }
-    {
-        self.reads.no_kind(asked)
+        self.reads.answer(request)
     }
 }
 
@@ -334,13 +282,9 @@ impl<'a, J: NodeName, N: Wait + Drop, R: Threads + Wait + Sync> Host for NodeHos
         match request {
             Request::Items(items) => self.items(&items),
             Request::Feed(items) => self.feed(&items),
-            Request::Front => self.front(),
-            Request::Delta { base } => self.delta(base),
-            Request::Full => self.whole(),
-            Request::Ask { t, query } => self.ask(t, &query),
             Request::JoinThis(fragment) | Request::MergeThis(fragment) => self.join(fragment),
             Request::Prune { horizon } => self.prune(horizon),
-            Request::Later(later) => self.no_kind(later),
+            other => self.read(other),
         }
     }
 }

@@ -21,10 +21,10 @@ pub trait NodeSide: Host {
     ghost use Rattle.hk_oplog.specs.Replies.{GivesOrMemory, GivesSeen, timed_seen, node_latest, node_page, node_streams};
     ghost use Rattle.hk_host.specs.NodeSides.{GoesOn, Sided, cut_of};
 
-    /// The list of operations that its seat has seen or was told of, and how holds and their releases may come out.
+    /// The list of operations that its seat has seen or got a receipt of, and which results pins and their releases may have.
     ghost side: { Sided Self };
 
-    /// What the node answers to a query at its readable mark, with that time. Refusals and cost: as `ReaderSeat::latest`.
+    /// What the node answers to a query at its resolved time, with that time. Refusals and cost: as `ReaderSeat::latest`.
     fn latest(&mut self, query: &Query) -> Result<(Time, Answer), Refusal>
         ensures legal { is_legal (side.list self.new) ≡ true }
         ensures seen { IsPrefix (side.list self.old) (side.list self.new) }
@@ -53,32 +53,32 @@ pub trait NodeSide: Host {
         ensures err { IfErr result (λ why. why ≡ Memory) }
         ensures ready { Self.ready self.old → Self.ready self.new };
 
-    /// All that the node holds, where the base is 0, else what a replica may lack that is readable up to the base.
+    /// The node's full snapshot, where the base is 0, else what a replica may lack whose resolved time is at least the base.
     ///
-    /// Refusals in order: `Damaged`; `TooOld` where the base is not 0 and below the horizon; `Memory`. Cost: that of
-    /// `ReaderSeat::whole` or `ReaderSeat::delta_since`.
+    /// Refusals in order: `Damaged`; `TooOld` where the base is not 0 and below the oldest readable time; `Memory`.
+    /// Cost: that of `ReaderSeat::whole` or `ReaderSeat::delta_since`.
     fn cut(&mut self, base: Time) -> Result<Fragment, Refusal>
         ensures legal { is_legal (side.list self.new) ≡ true }
         ensures seen { IsPrefix (side.list self.old) (side.list self.new) }
         ensures cut { GivesOrMemory (cut_of (replay (side.list self.new)) base) result }
         ensures ready { Self.ready self.old → Self.ready self.new };
 
-    /// Holds a time. Refusals and cost: as `Node::hold`; a host that only reads refuses `Form(BadKind)`.
+    /// Pins a time. Refusals and cost: as `Node::hold`; a host that only reads refuses `Form(BadKind)`.
     fn hold(&mut self, time: Time) -> Result<Hold, (Option<Hold>, Refusal)>
         ensures held { side.may_hold self.old time result self.new }
         ensures legal { is_legal (side.list self.new) ≡ true }
         ensures seen { IsPrefix (side.list self.old) (side.list self.new) }
         ensures ready { Self.ready self.old → Self.ready self.new };
 
-    /// Releases a hold, and gives the number of operations. Refusals and cost: as `Node::release`; a host that only reads
-    /// refuses `Form(BadKind)`, and hands the hold back.
+    /// Releases a pin, and returns the number of operations. Refusals and cost: as `Node::release`; a host that only
+    /// reads refuses `Form(BadKind)`, and hands the pin back.
     fn release(&mut self, hold: Hold) -> Result<u64, (Option<Hold>, Refusal)>
         ensures released { side.may_release self.old hold result self.new }
         ensures legal { is_legal (side.list self.new) ≡ true }
         ensures seen { IsPrefix (side.list self.old) (side.list self.new) }
         ensures ready { Self.ready self.old → Self.ready self.new };
 
-    /// Does nothing: whatever it replies to a request of version 1, the list of its seat goes on.
+    /// Does nothing: whatever it replies to a request of version 1, the list of its seat is a continuation of the one before.
     fn laws()
         ensures { GoesOn side Self.may };
 }

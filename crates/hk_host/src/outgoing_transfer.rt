@@ -1,4 +1,4 @@
-//! A fragment that a link gives part by part.
+//! A fragment that a connection sends chunk by chunk.
 
 ghost use Rattle.std.specs.Prelude.{◌≡◌, ℕ, IfOk, IfErr, IfSome};
 ghost use Rattle.hk_types.specs.declared.faults.Refusal.TheVariants.{Memory};
@@ -28,8 +28,8 @@ fn room_for<'a>(facts: &[(VersionKey, Version)], budget: &'a PartsBudget) -> Opt
     Some(room)
 }
 
-/// A fragment that a link gives part by part. It holds the fragment whole, with room for it, and stands at the part that
-/// is told next.
+/// A fragment that a connection sends chunk by chunk. It keeps the complete fragment, with room for it, and the position
+/// of the chunk that is sent next.
 #[derive(Drop)]
 pub(crate) struct OutgoingTransfer<'a> {
     split: Split,
@@ -50,7 +50,7 @@ impl<'a> Model for OutgoingTransfer<'a> {
 }
 
 impl<'a> OutgoingTransfer<'a> {
-    /// A fragment of which nothing was told yet, where there is room for it.
+    /// A fragment of which nothing was sent yet, where there is room for it.
     pub(crate) fn begin(
         fragment: Fragment,
         most_bytes: u64,
@@ -68,7 +68,7 @@ impl<'a> OutgoingTransfer<'a> {
         })
     }
 
-    /// The reply that tells the next part: its facts are copied, and with the last of them the head.
+    /// The reply with the next chunk: its facts are copied, and with the last chunk the head.
     pub(crate) fn told(&self, alloc: Global) -> Result<LaterReply, Refusal>
         ensures ok { IfOk result (λ reply. reply_seen reply ≡ part_told self.now) }
         ensures err { IfErr result (λ why. why ≡ Memory) }
@@ -85,7 +85,7 @@ impl<'a> OutgoingTransfer<'a> {
         })
     }
 
-    /// What is given once that part is told: nothing where it was the last one. Cost: O(n), n facts of the part after it.
+    /// What is sent after that chunk: nothing where it was the last one. Cost: O(n), n facts of the chunk after it.
     pub(crate) fn next(self) -> Option<OutgoingTransfer<'a>>
         ensures { result ≡ giving_after self.entry }
     {
@@ -99,9 +99,9 @@ impl<'a> OutgoingTransfer<'a> {
     }
 }
 
-/// What a link tells of a fragment that was cut, from `Whole` to the last part, makes that fragment, however long its parts
-/// are: one head comes with the last of them, and the fragment is put together of it and the facts of all, one part after
-/// the other. A law: it does nothing.
+/// What a connection sends of a fragment that was cut, from `Whole` to the last chunk, makes that fragment, however long
+/// its chunks are: one head comes with the last of them, and the fragment is put together from it and the facts of all, one
+/// chunk after the other. A law: it does nothing.
 pub fn given_law(fragment: &Fragment)
     ensures { (most : ℕ) → IsGivenWhole fragment.now most }
 {

@@ -1,16 +1,16 @@
-//! How many bytes the links of a node keep for messages of version 2, all together.
+//! How many bytes the connections of a node keep for messages of version 2, all together.
 
 ghost use Rattle.std.specs.Prelude.{◌≡◌, ◌+◌, ◌≤◌, true, false};
 
 use std::marker::Model;
 use std::sync::atomic::{AtomicU64, Ordering};
 
-/// How many bytes the links of a node may keep for messages of version 2, all together: for what they give in parts, and
-/// for the parts that came. A fact counts with its bytes in a message and 128 more, so that the limit is one on memory.
-/// Contracts see it as that limit.
+/// How many bytes the connections of a node may keep for messages of version 2, all together: for what they send in
+/// chunks, and for the chunks that came. A fact counts with its bytes in a message and 128 more, so that the limit is
+/// one on memory. Contracts see it as that limit.
 ///
-/// Each link takes what it keeps before it keeps it, and gives it back when it lets go of it. That the links together
-/// never have more than the limit is shown by tests.
+/// Each connection reserves what it keeps before it keeps it, and returns it when it drops that. That the connections
+/// together never have more than the limit is shown by tests.
 #[derive(Drop)]
 pub struct PartsBudget {
     most: u64,
@@ -26,7 +26,7 @@ impl Model for PartsBudget {
 }
 
 impl PartsBudget {
-    /// A budget of so many bytes, of which nothing is taken.
+    /// A budget of so many bytes, of which nothing is reserved.
     pub fn new(most: u64) -> PartsBudget
         ensures { result ≡ most }
     {
@@ -36,14 +36,14 @@ impl PartsBudget {
         }
     }
 
-    /// How many bytes all links may keep. Cost: O(1).
+    /// How many bytes all connections may keep. Cost: O(1).
     pub fn most(&self) -> u64
         ensures { result ≡ self.now }
     {
         self.most
     }
 
-    /// Takes so many bytes, where so many are left.
+    /// Reserves so many bytes, where so many are left.
     fn take(&self, bytes: u64) -> bool {
         self.left
             .fetch_update(Ordering::SeqCst, Ordering::SeqCst, |left| {
@@ -52,13 +52,13 @@ impl PartsBudget {
             .is_ok()
     }
 
-    /// Gives back so many bytes that were taken.
+    /// Returns so many bytes that were reserved.
     fn give_back(&self, bytes: u64) {
         let _before = self.left.fetch_add(bytes, Ordering::SeqCst);
     }
 }
 
-/// So many bytes that were taken of a budget. They are given back when it is dropped.
+/// So many bytes that are reserved of a budget. They are returned when it is dropped.
 pub(crate) struct Room<'a> {
     budget: &'a PartsBudget,
     bytes: u64,
@@ -80,7 +80,7 @@ impl<'a> Room<'a> {
         Room { budget, bytes: 0 }
     }
 
-    /// Takes so many bytes more, and says whether so many were left.
+    /// Reserves so many bytes more, and returns whether so many were left.
     pub(crate) fn grow(&mut self, bytes: u64) -> bool
         ensures more { result ≡ true → self.new ≡ self.old + bytes }
         ensures same { result ≡ false → self.new ≡ self.old }
@@ -95,7 +95,7 @@ impl<'a> Room<'a> {
         true
     }
 
-    /// Gives back so many of its bytes.
+    /// Returns so many of its bytes to the budget.
     pub(crate) fn shrink(&mut self, bytes: u64)
         requires { bytes ≤ self.old }
         ensures { self.new + bytes ≡ self.old }

@@ -20,16 +20,17 @@ use hk_values::FragmentHead;
 use hk_wire::{LaterReply, LaterRequest, Reply, Request};
 use std::marker::Model;
 
-/// How many holds a link has at most.
+/// How many pins a connection has at most.
 const MOST_HOLDS: usize = 1_024;
 
-/// A host for both versions over one for version 1, with what the link keeps: what it gives in parts, the parts that came, and its
-/// holds. Contracts see it as the state of a link.
+/// A host for both versions over one for version 1, with what the connection keeps: what it sends in chunks, the chunks that came,
+/// and its pins. Contracts see it as the state of a connection.
 ///
-/// A request of version 1 goes to the inner host, and changes nothing else of the link. A whole is cut once, when it is
-/// asked for, and its parts are told one after the other from what was cut then; a link keeps one. The parts that came
-/// are let go once a head is there, whether they make a fragment or not. For what it gives and for what came it takes
-/// room of the node's budget. Cost: that of the seat's and the node's calls, and a copy of each part that is told.
+/// A request of version 1 goes to the inner host, and changes nothing else of the connection. A fragment is cut once,
+/// when it is asked for, and its chunks are sent one after the other from what was cut then; a connection keeps one.
+/// The chunks that came are dropped once a head is there, whether they make a fragment or not. For what it sends and
+/// for what came it reserves room of the node's budget. Cost: that of the seat's and the node's calls, and a copy of
+/// each chunk that is sent.
 #[derive(Drop)]
 pub struct PartsHost<'a, H: NodeSide + Drop> {
     inner: H,
@@ -62,16 +63,17 @@ fn later_reply(answer: Reply) -> LaterReply
 }
 
 impl<'a, H: NodeSide + Drop> PartsHost<'a, H> {
-    /// A host for both versions over one for version 1, with what the link keeps. It takes no memory.
+    /// A host for both versions over one for version 1, with what the connection keeps. It takes no memory.
     pub fn new(inner: H, kept: LinkState<'a>) -> PartsHost<'a, H>
         ensures { result ≡ link_of inner kept.entry }
     {
         PartsHost { inner, kept }
     }
 
-    /// Ends the link: asks for the release of each of its holds, one after the other, and of no other. Gives the inner host
-    /// back, and just those of the holds that stand, since the node handed them back. What it gave and what came is let go,
-    /// with the room that was taken for it. It takes no memory beside that of the releases. Cost: that of the releases.
+    /// Ends the connection: asks for the release of each of its pins, one after the other, and of no other. Returns the
+    /// inner host, and just those of the pins that are still active, since the node handed them back. What it sent and what
+    /// came is dropped, with the room that was reserved for it. It takes no memory beside that of the releases. Cost: that
+    /// of the releases.
     pub fn end(self) -> (H, Vec<Hold>)
         ensures released { AreLetGo H.side.may_release self.entry.inner self.entry.holds
             result.0 result.1.items }
@@ -122,7 +124,7 @@ impl<'a, H: NodeSide + Drop> PartsHost<'a, H> {
         }
     }
 
-    /// Cuts what the node holds, and tells the first part of it.
+    /// Cuts what the node holds, and returns the first chunk of it.
     fn whole(&mut self, base: Time, most: u32) -> LaterReply
         ensures legal { is_legal (H.side.list self.new.inner) ≡ true }
         ensures seen { IsPrefix (H.side.list self.old.inner) (H.side.list self.new.inner) }
@@ -139,7 +141,7 @@ impl<'a, H: NodeSide + Drop> PartsHost<'a, H> {
         }
     }
 
-    /// Tells the next part of what is given.
+    /// Returns the next chunk of what is sent.
     fn more(&mut self) -> LaterReply
         ensures seen { IsPrefix (H.side.list self.old.inner) (H.side.list self.new.inner) }
         ensures told { TellsMore self.old.giving (reply_seen result) self.new.giving }
@@ -148,7 +150,7 @@ impl<'a, H: NodeSide + Drop> PartsHost<'a, H> {
         self.kept.more()
     }
 
-    /// Takes a part behind those that came before.
+    /// Adds a chunk behind those that came before.
     fn add(&mut self, facts: Vec<(VersionKey, Version)>) -> LaterReply
         ensures seen { IsPrefix (H.side.list self.old.inner) (H.side.list self.new.inner) }
         ensures told { TellsCome self.old.most self.old.came facts.items (reply_seen result) self.new.came }
@@ -157,7 +159,7 @@ impl<'a, H: NodeSide + Drop> PartsHost<'a, H> {
         self.kept.add(facts)
     }
 
-    /// Has the inner host join what the head and the parts that came make.
+    /// Has the inner host join what the head and the chunks that came make.
     fn join(&mut self, head: FragmentHead) -> LaterReply
         requires ready { H.ready self.old.inner }
         ensures seen { IsPrefix (H.side.list self.old.inner) (H.side.list self.new.inner) }
@@ -165,7 +167,7 @@ impl<'a, H: NodeSide + Drop> PartsHost<'a, H> {
         ensures same { LetsGo self.old self.new }
         ensures ready { H.ready self.new.inner }
     {
-        // The room is given back once they are joined.
+        // The room is returned once they are joined.
         let (came, _room) = self.kept.take_parts();
         match head.into_fragment(came) {
             Ok(fragment) => later_reply(self.answer_first(Request::JoinThis(fragment))),
@@ -173,7 +175,7 @@ impl<'a, H: NodeSide + Drop> PartsHost<'a, H> {
         }
     }
 
-    /// Holds a time, once there is room for the hold in the link's list.
+    /// Pins a time, once there is room for the pin in the connection's list.
     fn hold(&mut self, time: Time) -> LaterReply
         ensures seen { IsPrefix (H.side.list self.old.inner) (H.side.list self.new.inner) }
         ensures told { IsHeld H.side.may_hold self.old time (reply_seen result) self.new }
@@ -190,7 +192,7 @@ impl<'a, H: NodeSide + Drop> PartsHost<'a, H> {
         self.ask_hold(time)
     }
 
-    /// Holds a time. The last place in the link's list is free for the hold.
+    /// Pins a time. The last entry in the connection's list is free for the pin.
     fn ask_hold(&mut self, time: Time) -> LaterReply
         requires { 0 < length self.old.holds }
         ensures seen { IsPrefix (H.side.list self.old.inner) (H.side.list self.new.inner) }
@@ -217,7 +219,7 @@ impl<'a, H: NodeSide + Drop> PartsHost<'a, H> {
         }
     }
 
-    /// Releases a hold of this link.
+    /// Releases a pin of this connection.
     fn release(&mut self, number: u64) -> LaterReply
         ensures seen { IsPrefix (H.side.list self.old.inner) (H.side.list self.new.inner) }
         ensures told { IsReleased H.side.may_release self.old number (reply_seen result) self.new }

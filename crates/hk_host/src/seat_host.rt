@@ -20,7 +20,7 @@ use hk_wire::{Reply, Request};
 use std::marker::Model;
 
 /// A host over one seat of a node, with no way to the node itself. Contracts see it as the list of operations that
-/// the seat has seen or was told of.
+/// the seat has seen or got a receipt of.
 ///
 /// Front, Delta, Full and Ask are answered by the seat, and take no lock. Each other request is refused with 4, as a
 /// kind that has no meaning here, and nothing changed. Cost: that of the seat's calls.
@@ -54,7 +54,7 @@ impl<J: NodeName> SeatHost<J> {
         SeatHost { seat }
     }
 
-    /// Gives the seat back, with all that it has seen or was told of.
+    /// Returns the seat, with all that it has seen or got a receipt of.
     pub fn into_seat(self) -> ReaderSeat<J>
         ensures { result ≡ self }
     {
@@ -77,7 +77,7 @@ impl<J: NodeName> SeatHost<J> {
         self.seat.is_guarded()
     }
 
-    /// Takes in the receipt of a change.
+    /// Applies the receipt of a change.
     pub(crate) fn learn(&mut self, receipt: Receipt<J>)
         ensures legal { is_legal self.new ≡ true }
         ensures seen { IsPrefix self.old self.new }
@@ -87,7 +87,7 @@ impl<J: NodeName> SeatHost<J> {
         let _known = self.seat.seen();
     }
 
-    /// The reply to a request that has no meaning here, which is let go.
+    /// The reply to a request that has no meaning here, which is dropped.
     pub(crate) fn no_kind<C: Drop>(&self, _asked: C) -> Reply
         ensures legal { is_legal self.now ≡ true }
         ensures told { reply_seen result ≡ Refused (Form BadKind) }
@@ -150,10 +150,7 @@ impl<J: NodeName> Host for SeatHost<J> {
             Request::Delta { base } => self.delta(base),
             Request::Full => self.whole(),
             Request::Ask { t, query } => self.ask(t, &query),
-            Request::Items(items) | Request::Feed(items) => self.no_kind(items),
-            Request::JoinThis(fragment) | Request::MergeThis(fragment) => self.no_kind(fragment),
-            Request::Prune { horizon } => self.no_kind(horizon),
-            Request::Later(later) => self.no_kind(later),
+            other => self.no_kind(other),
         }
     }
 }

@@ -71,7 +71,7 @@ impl BirthIndex {
 
     /// The versions that were born up to a time.
     ///
-    /// The only refusal is `Memory`. Cost: O(log n + k), n versions in the set, k of them given.
+    /// The only refusal is `Memory`. Cost: O(log n + k), n versions in the set, k of them returned.
     pub fn until(&self, alloc: Global, time: Time) -> Result<Vec<VersionKey>, Refusal>
         ensures ok { IfOk result (λ found.
             set.from_list found.items ≡ versions_where self.now (λ t. nat_le t time)) }
@@ -85,7 +85,7 @@ impl BirthIndex {
 
     /// The versions that were born above a time.
     ///
-    /// The only refusal is `Memory`. Cost: O(log n + k), n versions in the set, k of them given.
+    /// The only refusal is `Memory`. Cost: O(log n + k), n versions in the set, k of them returned.
     pub fn above(&self, alloc: Global, time: Time) -> Result<Vec<VersionKey>, Refusal>
         ensures ok { IfOk result (λ found.
             set.from_list found.items ≡ versions_where self.now (λ t. nat_lt time t)) }

@@ -12,7 +12,7 @@ use std::cmp::Ordering;
 /// Merges a sorted run into the sorted entries from `start` on; those below its first entry are not touched.
 ///
 /// The only error is out of memory; then nothing is changed. Cost: O(log n + k + m), amortized, for the k entries that
-/// stand behind the first of the m that come.
+/// come after the first of the m that come.
 pub(crate) fn merge_into<T: Stamp>(
     alloc: Global,
     entries: &mut Vec<Packed<T>>,

@@ -49,7 +49,7 @@ impl Stamp for u64 {
     }
 }
 
-/// The time of the birth, which takes no room.
+/// The time of the birth, which needs no room.
 impl Stamp for () {
     ghost use Rattle.std.specs.Prelude.{refl};
 
@@ -68,7 +68,7 @@ impl Stamp for () {
     }
 }
 
-/// A member of a run, and whether it is still there: what [`TimedVersion`] says, in 32 bytes, or in 24 where the time is
+/// A member of a run, and whether it is still there: what [`TimedVersion`] has, in 32 bytes, or in 24 where the time is
 /// that of the birth.
 #[derive(Copy)]
 pub(crate) struct Packed<T: Stamp> {

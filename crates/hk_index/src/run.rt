@@ -20,7 +20,7 @@ pub(crate) struct Run<T: Stamp> {
     entries: Vec<Packed<T>>,
     start: usize,
     dead: usize,
-    /// Where the next member may stand that is removed, counted from `start`: a guess.
+    /// The position of the next member that is removed, counted from `start`: a guess.
     near: usize,
 }
 
@@ -58,7 +58,7 @@ impl<T: Stamp> Run<T> {
         self.entries[self.start..].len()
     }
 
-    /// How many entries stand from a member on; the count promises nothing. Cost: O(log n).
+    /// How many entries there are from a member on; the contract promises nothing of the count. Cost: O(log n).
     pub(crate) fn len_from(&self, member: TimedVersion) -> usize {
         let below = count_below(after(&self.entries, self.start), member);
         self.len().saturating_sub(below)
@@ -86,7 +86,7 @@ impl<T: Stamp> Run<T> {
         }
     }
 
-    /// Removes a member, where it is there. Cost: O(log n), amortized; O(1) for one that stands a few places behind the one
+    /// Removes a member, where it is there. Cost: O(log n), amortized; O(1) for one that is a few positions behind the one
     /// that was removed last.
     pub(crate) fn remove(&mut self, member: TimedVersion)
         ensures { self.new ≡ set.remove self.old member }
@@ -101,7 +101,7 @@ impl<T: Stamp> Run<T> {
         }
     }
 
-    /// Lets the marked entries go, where they are more than half. Cost: O(1), amortized.
+    /// Drops the marked entries, where they are more than half. Cost: O(1), amortized.
     pub(crate) fn tidy(&mut self)
         ensures { self.new ≡ self.old }
     {
@@ -155,10 +155,10 @@ impl<T: Stamp> Run<T> {
         Ok(found)
     }
 
-    /// Takes in a sorted run.
+    /// Merges a sorted run into this one.
     ///
     /// The only error is out of memory; then nothing is changed. Cost: O(log n + k + m), amortized, for the k entries
-    /// that stand behind the first of the m that come.
+    /// that come after the first of the m that come.
     pub(crate) fn absorb(&mut self, alloc: Global, newer: &[Packed<T>]) -> Result<(), AllocError>
         requires { IsStrictlySortedBy entry_cmp newer.now }
         ensures ok { OnOk result (self.new ≡ set.union self.old (shown newer.now)) }

@@ -6,10 +6,10 @@ ghost use Rattle.hk_index.specs.TagOrder.{tag_key_same};
 use hk_slots::Key as SlotKey;
 use hk_types::{Table, Tag};
 
-/// An odd number that parts the hashes of the tables.
+/// An odd number that separates the hashes of the tables.
 const TABLE_FACTOR: u64 = 0xD6E8_FEB8_6659_FD93;
 
-/// 2^64 over the golden ratio: rising tags get hashes that lie far apart.
+/// 2^64 over the golden ratio: rising tags get hashes that are far apart.
 const TAG_FACTOR: u64 = 0x9E37_79B9_7F4A_7C15;
 
 /// A table and a tag. These are ordered by the fields.

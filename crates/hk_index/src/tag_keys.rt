@@ -12,11 +12,11 @@ use hk_types::{Key, Refusal, Table, Tag};
 use std::alloc::Global;
 use std::marker::Model;
 
-/// So many may be listed in vain before it is told.
+/// How many useless entries beyond half of the lists are allowed before these count as worn.
 const FEW: usize = 64;
 
 /// For each table and tag a list of keys, in the order in which they came: each key that has a row with the tag, and others
-/// besides, which had one, or which stand there twice. Nothing is taken out of a list: who finds that it is worn lists anew.
+/// besides, which had one, or which are there twice. Nothing is removed from a list: who finds that it is worn makes a new one.
 #[derive(Drop)]
 pub struct TagKeys {
     alloc: Global,
@@ -49,7 +49,7 @@ impl TagKeys {
         }
     }
 
-    /// Lists a key of a table under a tag. What is listed stays, also where it is refused.
+    /// Lists a key of a table under a tag. What is listed is kept, also on a refusal.
     ///
     /// The only refusal is `Memory`. Cost: O(log t), amortized, t tables and tags; O(1) for most that are there.
     pub fn add(&mut self, table: Table, tag: Tag, key: Key) -> Result<(), Refusal>
@@ -91,14 +91,14 @@ impl TagKeys {
         Ok(keys)
     }
 
-    /// Notes that a row went for which its key was listed. It promises nothing.
+    /// Notes that a row is gone for which its key was listed. It promises nothing.
     pub fn note_gone(&mut self)
         ensures { self.new ≡ self.old }
     {
         self.gone = self.gone.saturating_add(1);
     }
 
-    /// Whether more went than half of what is listed. It promises nothing.
+    /// Whether more than half of what is listed is gone. It promises nothing.
     pub fn is_worn(&self) -> bool {
         self.gone > self.listed / 2 + FEW
     }

@@ -15,8 +15,19 @@ use std::marker::Model;
 /// After so many loose members a merge is thought of.
 const FEW: usize = 64;
 
-/// A set of members with times: those that came in order lie in one list, the others in a small ordered set. That is merged
-/// into the end of the list, from its least member on, once it has half as many as stand there.
+/// A set of members with times: those that came in order are in one list, the others in a small ordered set. That is merged
+/// into the end of the list, from its least member on, once it has half as many as are there.
+///
+/// An example, with the times of the members after each call:
+///
+///     add 10, 20, 30    run [10 20 30]       loose {}
+///     add 25            run [10 20 30]       loose {25}    it is not above the last of the list
+///     add 40            run [10 20 30 40]    loose {25}
+///     drop_until 20     run [30 40]          loose {25}
+///     remove 40         run [30]             loose {25}
+///
+/// `until(25)` before the drop is 10 and 20 of the list, and then 25. Each time that there are a multiple of 64 loose
+/// members, and the list has at most twice as many from the least of them on, all are merged into the list.
 #[derive(Drop)]
 pub struct TimeRuns<T: Stamp> {
     alloc: Global,
@@ -81,8 +92,8 @@ impl<T: Stamp> TimeRuns<T> {
         self.loose.remove(late);
     }
 
-    /// Removes the members with a time up to this one. Cost: O(log n) and O(log l) for each of the loose that goes, both
-    /// amortized. It takes no memory.
+    /// Removes the members with a time up to this one. Cost: O(log n) and O(log l) for each of the loose that is
+    /// dropped, both amortized. It takes no memory.
     pub fn drop_until(&mut self, time: u64)
         ensures { self.new ≡ set.retain self.old (λ m. nat_lt time m.time) }
     {
@@ -93,7 +104,7 @@ impl<T: Stamp> TimeRuns<T> {
 
     /// The members with a time up to this one.
     ///
-    /// The only error is out of memory. Cost: O(log n + k), n members in the set, k of them given.
+    /// The only error is out of memory. Cost: O(log n + k), n members in the set, k of them returned.
     pub fn until(&self, alloc: Global, time: u64) -> Result<Vec<TimedVersion>, AllocError>
         ensures { IfOk result (λ found. set.from_list found.items ≡ set.retain self.now (λ m. nat_le m.time time)) }
     {
@@ -104,7 +115,7 @@ impl<T: Stamp> TimeRuns<T> {
 
     /// The members with a time above this one.
     ///
-    /// The only error is out of memory. Cost: O(log n + k), n members in the set, k of them given.
+    /// The only error is out of memory. Cost: O(log n + k), n members in the set, k of them returned.
     pub fn above(&self, alloc: Global, time: u64) -> Result<Vec<TimedVersion>, AllocError>
         ensures { IfOk result (λ found. set.from_list found.items ≡ set.retain self.now (λ m. nat_lt time m.time)) }
     {
@@ -154,7 +165,7 @@ fn is_worth<T: Stamp>(run: &Run<T>, loose: &Loose) -> bool {
     }
 }
 
-/// Whether the loose members could be taken into the list.
+/// Whether the loose members could be merged into the list.
 fn absorb<T: Stamp>(alloc: Global, run: &mut Run<T>, loose: &Loose) -> bool
     ensures ok { OnTrue result (run.new ≡ set.union run.old loose.now) }
     ensures kept { OnFalse result (run.new ≡ run.old) }

@@ -1,4 +1,4 @@
-//! What one replica does and tells.
+//! What one replica does and returns.
 
 ghost use Rattle.std.specs.Prelude.{◌≡◌, Result, IfOk, IfErr, OnErr, false};
 ghost use Rattle.hk_types.specs.declared.faults.Refusal.TheVariants.{Memory};
@@ -16,7 +16,7 @@ use hk_state::{ReplicaState, front_of};
 use hk_types::{Config, Refusal, Time};
 use std::alloc::Global;
 
-/// What a refusal is told as. `Memory` is told by `World::step`.
+/// The outcome of an event that is refused. `World::step` returns `Memory`.
 pub(crate) fn refused(why: Refusal) -> Result<Told, Refusal>
     ensures { TellsRefusal why result }
 {
@@ -64,7 +64,7 @@ pub(crate) fn ask(
     }
 }
 
-/// A replica tells from where to where it can be read.
+/// A replica returns its range of readable times.
 pub(crate) fn front(state: &ReplicaState) -> Told
     ensures outcome { told_seen result ≡ Fronted state.now.horizon (readable state.now) }
     ensures heard { is_memory_outcome (told_seen result) ≡ false }

@@ -72,8 +72,8 @@ pub(crate) fn batch(
     joining::batch(alloc, config, &mut replicas[place], &items)
 }
 
-/// Why what another replica has learnt since a time is refused before it is cut, if it is: the time is below its
-/// horizon, or above the readable mark of the replica that is to join it.
+/// Why what another replica has applied since a time is refused before it is cut, if it is: the time is below its
+/// oldest readable time, or above the resolved time of the replica that is to join it.
 fn delta_refusal(target: &ReplicaState, source: &ReplicaState, base: Time) -> Option<Refusal>
     ensures { RefusesDelta target.now source.now base result }
 {
@@ -89,7 +89,7 @@ fn delta_refusal(target: &ReplicaState, source: &ReplicaState, base: Time) -> Op
     None
 }
 
-/// A replica joins what another has learnt since a time.
+/// A replica joins what another has applied since a time.
 pub(crate) fn delta(
     alloc: Global,
     replicas: &mut [ReplicaState],
@@ -129,7 +129,7 @@ fn merge_apart(replicas: &mut [ReplicaState], to: usize, from: usize) -> Result<
     joining::merge(&mut high[0], &low[from])
 }
 
-/// A replica is merged into another one. Merged into itself it stays as it is.
+/// A replica is merged into another one. Merged into itself it does not change.
 pub(crate) fn merge(replicas: &mut [ReplicaState], to: u16, from: u16) -> Result<Told, Refusal>
     ensures { MergesAt replicas.old replicas.new to from result }
 {
@@ -145,7 +145,7 @@ pub(crate) fn merge(replicas: &mut [ReplicaState], to: u16, from: u16) -> Result
     merge_apart(replicas, target, source)
 }
 
-/// What a merge of a replica with itself tells: it leaves the replica as it is.
+/// The outcome of a merge of a replica with itself, which leaves the replica as it is.
 fn same(state: &ReplicaState) -> Told
     ensures outcome { told_seen result ≡ Done }
     ensures whole { rules.merge_result state.now state.now ≡ Ok state.now }

@@ -56,7 +56,7 @@ fn is_written(writes: &[WriteOp], key: RowKey) -> bool
     writes.iter().any(|write| key == RowKey::of(write))
 }
 
-/// Why these writes make no transaction, if they make none. It takes no memory. Cost: O(w²), w writes, up to
+/// Why these writes are no transaction, if they are none. It takes no memory. Cost: O(w²), w writes, up to
 /// `MOST_WRITES`.
 pub(crate) fn misbuilt(writes: &[WriteOp]) -> Option<Refusal>
     ensures { MatchOption result (IsBuilt writes.now) (λ why. writes_result finmap.empty writes.now ≡ Err why) }

@@ -134,7 +134,7 @@ impl World {
         among::merge(&mut self.replicas, to, from)
     }
 
-    /// A replica joins what another has learnt since a time.
+    /// A replica joins what another has applied since a time.
     pub(crate) fn delta(&mut self, to: u16, from: u16, base: Time) -> Result<Told, Refusal>
         ensures { Happens self.old self.new (Delta to from base) result }
     {
@@ -154,7 +154,7 @@ impl World {
         }
     }
 
-    /// A replica tells from where to where it can be read.
+    /// A replica returns its range of readable times.
     pub(crate) fn front_of(&self, replica: u16) -> Told
         ensures outcome { told_seen result ≡ (step_outcome self.now (FrontOf replica)).0 }
         ensures heard { is_memory_outcome (told_seen result) ≡ false }

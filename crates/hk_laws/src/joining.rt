@@ -1,4 +1,4 @@
-//! What one replica takes of others, and of several items at once.
+//! What one replica joins of others, and of several items at once.
 
 ghost use Rattle.hk_model.specs.Replica.Rules as rules;
 ghost use Rattle.hk_model.specs.World.Worlds.{outcome_of_batch, outcome_by};
@@ -37,7 +37,7 @@ pub(crate) fn batch(
     }
 }
 
-/// A replica takes all that another one holds.
+/// A replica merges all that another one holds.
 pub(crate) fn merge(state: &mut ReplicaState, peer: &ReplicaState) -> Result<Told, Refusal>
     ensures { Gives (outcome_by state.old (rules.merge_result state.old peer.now)) state.old state.new result }
 {

@@ -1,5 +1,5 @@
-//! What holds over every history. These functions do nothing: their contracts are the laws, each of which
-//! gives, with the contracts of the calls, what a user of the calls may rely on.
+//! What is true of every history. These functions do nothing: their contracts are the laws. With the contracts of the
+//! calls they are what a user of the calls may rely on.
 
 ghost use Rattle.hk_model.specs.Laws.{
   DeliverLaw,
@@ -16,9 +16,9 @@ ghost use Rattle.hk_model.specs.Laws.{
   WorldLaw,
 };
 
-/// One replica, end to end: deliveries of a history's items and prunings, in any order and with repeats,
-/// leave the content of the items at the greatest accepted horizon, which represents them; and from that horizon
-/// to its readable mark it replies with the primary's rows.
+/// One replica, end to end: deliveries of a history's items and prunings, in any order and with repeats, leave the
+/// content of the items at the greatest accepted prune time, which represents them; and from that time, its oldest
+/// readable one, to its resolved time it replies with the primary's rows.
 pub fn deliver_law()
     ensures content_of { DeliverLaw }
     ensures represents { DeliverRepresents }
@@ -26,7 +26,7 @@ pub fn deliver_law()
     ensures rows { ReplyLaw }
 {}
 
-/// What joins of parts and merges of wholes give represents both item sets at the greater horizon. So merge is
+/// What joins of fragments and merges of states leave represents both item sets at the greater `horizon`. So merge is
 /// commutative, associative and idempotent there.
 pub fn merge_law()
     ensures join { JoinLaw }
@@ -36,9 +36,9 @@ pub fn merge_law()
     ensures repeats { MergeRepeats }
 {}
 
-/// Replicas of the same set of items, in whatever order and however often these came, are readable up to the
-/// same time and give the same replies from the greater horizon to there. At the same horizon they have the same
-/// content.
+/// Replicas of the same set of items, in whatever order and however often these came, have the same resolved time and
+/// return the same replies from the greater oldest readable time to there. With the same oldest readable time they
+/// have the same content.
 pub fn world_law()
     ensures content { SameContents }
     ensures readable { SameReadable }

@@ -1,4 +1,4 @@
-//! What stands under a number in a list, counted from 1.
+//! The elements of a list by their number, counted from 1.
 
 ghost use Rattle.std.specs.Prelude.{◌≡◌, ◌++◌, ◌∷◌, [], is_some, IfOk, OnOk};
 ghost use Rattle.std.specs.List.{filter_map, list_all};
@@ -10,7 +10,7 @@ use hk_log::Item;
 use hk_state::ReplicaState;
 use std::alloc::{AllocError, Global};
 
-/// What stands under a number in a list.
+/// The element with a number in a list.
 pub(crate) fn numbered<X>(list: &[X], number: u64) -> Option<&X>
     ensures { option_copied result ≡ at_number list.now number }
 {
@@ -20,7 +20,7 @@ pub(crate) fn numbered<X>(list: &[X], number: u64) -> Option<&X>
     list.get((number - 1) as usize)
 }
 
-/// The place of the replica under a number, counted from 0.
+/// The index of the replica with a number, counted from 0.
 pub(crate) fn place_of(replicas: &[ReplicaState], number: u16) -> Option<usize>
     ensures { IsPlace replicas.now number result }
 {
@@ -34,7 +34,7 @@ pub(crate) fn place_of(replicas: &[ReplicaState], number: u16) -> Option<usize>
     Some(number - 1)
 }
 
-/// Whether an item stands under each of these numbers.
+/// Whether there is an item with each of these numbers.
 pub(crate) fn all_there(items: &[Item], numbers: &[u64]) -> bool
     ensures { result ≡ list_all (λ n. is_some (at_number items.now n)) numbers.now }
 {
@@ -46,7 +46,7 @@ pub(crate) fn all_there(items: &[Item], numbers: &[u64]) -> bool
     true
 }
 
-/// Adds a copy of the item under a number, where one stands there.
+/// Adds a copy of the item with a number, where there is one.
 fn push_copy(
     alloc: Global,
     copies: &mut Vec<Item>,

@@ -21,11 +21,11 @@ fn push_outcome(list: &mut Vec<Told>, outcome: Told)
     prove!(pushed.is_ok());
 }
 
-/// What events tell, one after the other, in a new world with so many replicas, 1 to `MOST_REPLICAS`.
+/// The outcomes of events, one after the other, in a new world with so many replicas, 1 to `MOST_REPLICAS`.
 ///
-/// The only refusal is `Memory`, where the world or the list of answers could not be made. An event that is
-/// told `Memory` changes nothing, and the others tell what they would tell without it; an event is told so as
-/// `World::step` tells it: only where nothing else is refused, or a transaction for what it writes. Cost: that
+/// The only refusal is `Memory`, where the world or the list of answers could not be made. An event whose outcome is
+/// `Memory` changes nothing, and the others have the outcomes that they would have without it; an event has this
+/// outcome as in `World::step`: only where nothing else is refused, or a transaction for what it writes. Cost: that
 /// of the events.
 pub fn run(
     alloc: Global,

@@ -38,16 +38,16 @@ impl World {
         }
     }
 
-    /// Lets an event happen, and tells what came of it.
+    /// Runs an event, and returns its outcome.
     ///
-    /// A replica or an item that is not there is refused `NoSuch`, before any other test. Else what is refused
-    /// and why is said at the call that the event represents: of the transaction's `put`, `remove` and `commit`
-    /// for a commit, `Primary::mark` for a mark, `ReplicaState::absorb` and `prune`, `fragment_of` and `join`
-    /// for a batch, `merge`, `delta_since` and `join` for a delta, and `ask`. `Memory` comes where a growth was
-    /// refused, and last: where the replicas represent items, only where nothing else is refused, or a transaction
-    /// for what it writes. A refusal changes nothing. A merge of a replica with itself leaves it as it is.
-    /// Cost: that of those calls; the items of a batch are copied, and no replica is. Where a commit is refused
-    /// `NoStream` or `NotYet`: O(w²), w writes, up to 1,024.
+    /// A replica or an item that is not there is refused `NoSuch`, before any other test. Else the refusals and their
+    /// reasons are those of the call that the event represents: of the transaction's `put`, `remove` and `commit` for
+    /// a commit, `Primary::mark` for a mark, `ReplicaState::absorb` and `prune`, `fragment_of` and `join` for a
+    /// batch, `merge`, `delta_since` and `join` for a delta, and `ask`. `Memory` comes where a growth was refused,
+    /// and last: where the replicas represent items, only where nothing else is refused, or a transaction for what it
+    /// writes. A refusal changes nothing. A merge of a replica with itself changes nothing. Cost: that of those
+    /// calls; the items of a batch are copied, and no replica is. Where a commit is refused `NoStream` or `NotYet`:
+    /// O(w²), w writes, up to 1,024.
     pub fn step(&mut self, event: Event) -> Told
         ensures gives { Steps self.old self.new (event_seen event) (told_seen result) }
         ensures represents { StepsOf self.old self.new (event_seen event) (told_seen result) }

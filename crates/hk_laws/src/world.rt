@@ -39,7 +39,7 @@ impl Model for World {
     ghost invariant = { λ a. a.primary.after ≡ 0 };
 }
 
-/// So many replicas that took nothing.
+/// So many replicas that have applied nothing.
 fn new_replicas(alloc: Global, config: Config, count: u16) -> Result<Vec<ReplicaState>, Refusal>
     ensures ok { IfOk result (λ replicas. replicas.items ≡ replicate count (empty_content config)) }
     ensures err { IfErr result (λ why. why ≡ Memory) }
@@ -52,7 +52,7 @@ fn new_replicas(alloc: Global, config: Config, count: u16) -> Result<Vec<Replica
 }
 
 impl World {
-    /// A world with no commits and with replicas that took nothing and represent no items. All of it grows by
+    /// A world with no commits and with replicas that have applied nothing and represent no items. All of it grows by
     /// `alloc`. The only refusal is `Memory`. Cost: O(r · s), r replicas, s streams.
     pub fn new(alloc: Global, config: Config, replicas: u16) -> Result<World, Refusal>
         requires some { 1 ≤ replicas }

@@ -32,7 +32,7 @@ impl Model for Entry {
 }
 
 impl Entry {
-    /// The entry of these parts, or the first of these faults:
+    /// The entry of these fields, or the first of these faults:
     ///
     /// - `BadNumber`: the number is 0, or above the time;
     /// - `BadCount`: there are more than 1,024 ends, or more than 1,024 rows, or neither;
@@ -76,7 +76,7 @@ impl Entry {
         })
     }
 
-    /// The entry of parts that are known to make one, with no test.
+    /// The entry of fields that are known to make one, with no test.
     pub fn of_parts(
         log: u64,
         stream: StreamNo,

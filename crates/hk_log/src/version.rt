@@ -17,7 +17,7 @@ pub struct Version {
     known: Known,
 }
 
-/// A row, an end, or both. An optional row beside an optional end would take eight bytes more.
+/// A row, an end, or both. An optional row beside an optional end would need eight bytes more.
 #[derive(Debug, Drop)]
 enum Known {
     Row(Row),
@@ -112,7 +112,7 @@ impl Version {
         self.known = with_died(known, died);
     }
 
-    /// Forgets the row of a version whose end is known.
+    /// Removes the row of a version whose end is known.
     pub fn forget_row(&mut self)
         requires { IsSome self.old.died }
         ensures { self.new ≡ record { row = None; died = self.old.died } }
@@ -122,7 +122,7 @@ impl Version {
         }
     }
 
-    /// Forgets the end of a version whose row is known.
+    /// Removes the end of a version whose row is known.
     pub fn forget_died(&mut self)
         requires { IsSome self.old.row }
         ensures { self.new ≡ record { row = self.old.row; died = None } }

@@ -1,17 +1,15 @@
 -- What the readers of a stored stream give.
-use Rattle.std.proofs.Common.{◌≡◌, refl, sym, ap, ◌∙◌, ℕ, ◌<◌, ◌≤◌, ◌+◌, Bool, true, false, cond, not, T, Option, Some, None, is_some, List, [], ◌∷◌, map, ◌||◌, ◌&&◌, ltb, leb, nat_le, nat_cmp, is_le, is_lt, Ordering, Less, arith, unwrap_or, max}
+use Rattle.std.proofs.Common.{◌≡◌, refl, sym, ap, ◌∙◌, ℕ, ◌<◌, ◌≤◌, ◌+◌, Bool, true, false, cond, not, T, Option, Some, None, is_some, List, [], ◌∷◌, map, ◌||◌, ◌&&◌, ltb, leb, nat_le, nat_cmp, is_le, is_lt, Ordering, Less, arith, unwrap_or, max, true≢false}
 use Rattle.std.proofs.lemmas.Bool.Decides.{nat_tests}
 use Rattle.std.specs.List.{AllByRecursion}
 use Rattle.std.specs.List.Sorted.{IsStrictlySortedBy}
-use Rattle.std.specs.Map.{keys_of, update_all}
+use Rattle.std.specs.Map.{keys_of, lookup, update_all}
 use Rattle.std.proofs.lemmas.Map.Made.{update_all_none}
 use Rattle.std.proofs.lemmas.Map.Keys.{IsDistinct-from_sorted}
 use Rattle.std.specs.Ordering.{eq_by_cmp}
 use Rattle.std.specs.Cmp.{nat_cmp_total, eq_by_cmp_equiv}
-use Rattle.std.specs.BTreeMap.{BTreeMap}
+use Rattle.std.specs.BTreeMap.{BTreeMap, is_at}
 use Rattle.std.specs.BTreeMap as tree
-use Rattle.std.specs.BTreeSet.{BTreeSet}
-use Rattle.std.specs.BTreeSet as sorted
 use Rattle.std.specs.FinMap as finmap
 use Rattle.std.specs.FinMap.Entries.{below_all, is_sorted, same_entries}
 use Rattle.std.specs.FinSet as set
@@ -50,10 +48,9 @@ entries-waiting_seen w rise = entries-from_sorted w.entries rise
 
 -- ---- the extra numbers
 
-pub extra_numbers_seen : (p : ℕ) (extra : BTreeSet ℕ) (c : ℕ) (w : BTreeMap ℕ ℕ) → IsExtra p extra → set.from_list extra.keys ≡ extra_numbers (stream_seen p extra c w)
+pub extra_numbers_seen : (p : ℕ) (extra : set.FinSet nat_cmp) (c : ℕ) (w : BTreeMap ℕ ℕ) → IsExtra p extra → extra ≡ extra_numbers (stream_seen p extra c w)
 extra_numbers_seen p extra c w above = set.same_set nat_cmp_total finmap.nat_cmp-IsAntisymmetric _ _ (λ q.
-    set.contains-from_list nat_cmp_total extra.keys q
-    ∙ kept q (sorted.contains nat_cmp extra q) (λ e. (above q e).0)
+    kept q (set.contains extra q) (λ e. (above q e).0)
     ∙ (λ i. sym (contains-taken_seen p extra q) i && not (sym (covers_seen p extra above q) i))
     ∙ sym (set.contains-retain (taken_seen p extra) (λ n. not (covers (taken_seen p extra) n)) q (λ x t. ap (λ n. not (covers (taken_seen p extra) n)) (sym (finmap.nat_cmp-IsAntisymmetric q x t)))))
   where
@@ -63,12 +60,12 @@ extra_numbers_seen p extra c w above = set.same_set nat_cmp_total finmap.nat_cmp
 
 -- ---- nothing is known
 
-pub unknown_seen : (extra : BTreeSet ℕ) (c : ℕ) (w : BTreeMap ℕ ℕ) → extra.keys ≡ [] → c ≡ 0 → w.entries ≡ [] → stream_seen 0 extra c w ≡ unknown
+pub unknown_seen : (extra : set.FinSet nat_cmp) (c : ℕ) (w : BTreeMap ℕ ℕ) → extra ≡ set.empty → c ≡ 0 → w.entries ≡ [] → stream_seen 0 extra c w ≡ unknown
 unfolding taken_seen waiting_seen
 unknown_seen extra c w no_extra is none =
     let taken : taken_seen 0 extra ≡ set.empty = set.same_set nat_cmp_total finmap.nat_cmp-IsAntisymmetric _ _ (λ q.
-    set.contains-union nat_cmp_total set.empty (set.from_list extra.keys) q
-    ∙ (λ i. set.contains-empty nat_cmp q i || set.contains (set.from_list {R = nat_cmp} (no_extra i)) q)) in
+    set.contains-union nat_cmp_total set.empty extra q
+    ∙ (λ i. set.contains-empty nat_cmp q i || set.contains (no_extra i) q)) in
     let closed : c ≡ max 0 0 = is ∙ (omega arith) in
     let waits : waiting_seen w ≡ unknown.waiting = finmap.same_map nat_cmp_total finmap.nat_cmp-IsAntisymmetric _ _ (λ q.
     (λ i. finmap.get (finmap.from_entries {R = nat_cmp} (none i)) q)
@@ -82,9 +79,19 @@ unknown_seen extra c w no_extra is none =
     same_both true = refl
     same_both false = refl
 
+pub nothing_stored : (extra : set.FinSet nat_cmp) (w : BTreeMap ℕ ℕ) → extra ≡ set.empty → w.entries ≡ [] → IsStored 0 extra w
+nothing_stored extra w no_extra none = record {
+  prefix_most = omega arith;
+  extras = λ q e. absurd (true≢false (sym e ∙ ap (λ (s : set.FinSet nat_cmp). set.contains s q) no_extra ∙ set.contains-empty nat_cmp q));
+  waits = λ q m e. absurd (never (sym (ap (λ (es : List (ℕ × ℕ)). lookup (is_at (nat_cmp q)) es) none) ∙ e));
+}
+  where
+    never : {m : ℕ} → ◌≡◌ {A = Option ℕ} None (Some m) → ⊥
+    never e = cc
+
 -- ---- every stored stream is lawful
 
-pub lawful_seen : (p : ℕ) (extra : BTreeSet ℕ) (c : ℕ) (w : BTreeMap ℕ ℕ) → IsStored p extra w → IsLawfulStream (stream_seen p extra c w)
+pub lawful_seen : (p : ℕ) (extra : set.FinSet nat_cmp) (c : ℕ) (w : BTreeMap ℕ ℕ) → IsStored p extra w → IsLawfulStream (stream_seen p extra c w)
 lawful_seen p extra c w ok q x e =
     let above : p < q = ok.waits q x (sym (get-waiting_seen w q) ∙ e) in
     let f : leb q p ≡ false = grind (arith, nat_tests) in
@@ -95,27 +102,27 @@ lawful_seen p extra c w ok q x e =
 at_most : (m x : ℕ) → is_le (nat_cmp m x) ≡ nat_le m x
 at_most m x = grind (arith, nat_tests)
 
-pub told_closed : (p : ℕ) (extra : BTreeSet ℕ) (c : ℕ) (w : BTreeMap ℕ ℕ) (n m : ℕ) → IsExtra p extra → n ≤ p → is_le (nat_cmp m c) ≡ adds_nothing (stream_seen p extra c w) n m
+pub told_closed : (p : ℕ) (extra : set.FinSet nat_cmp) (c : ℕ) (w : BTreeMap ℕ ℕ) (n m : ℕ) → IsExtra p extra → n ≤ p → is_le (nat_cmp m c) ≡ adds_nothing (stream_seen p extra c w) n m
 told_closed p extra c w n m above within =
     let f : leb n p ≡ true = grind (arith, nat_tests) in
     at_most m c ∙ sym (ap (λ b. cond b (nat_le m c) (is_some (finmap.get (waiting_seen w) n) && nat_le m (unwrap_or (finmap.get (waiting_seen w) n) 0))) (covers_seen p extra above n ∙ f))
 
-pub told_waiting : (p : ℕ) (extra : BTreeSet ℕ) (c : ℕ) (w : BTreeMap ℕ ℕ) (n m : ℕ) (x : Option ℕ) → IsExtra p extra → p < n → tree.get nat_cmp w n ≡ x
+pub told_waiting : (p : ℕ) (extra : set.FinSet nat_cmp) (c : ℕ) (w : BTreeMap ℕ ℕ) (n m : ℕ) (x : Option ℕ) → IsExtra p extra → p < n → tree.get nat_cmp w n ≡ x
     → (is_some x && nat_le m (unwrap_or x 0)) ≡ adds_nothing (stream_seen p extra c w) n m
 told_waiting p extra c w n m x above beyond is =
     let f : leb n p ≡ false = grind (arith, nat_tests) in
     ap (λ y. is_some y && nat_le m (unwrap_or y 0)) (sym is ∙ sym (get-waiting_seen w n))
     ∙ sym (ap (λ b. cond b (nat_le m c) (is_some (finmap.get (waiting_seen w) n) && nat_le m (unwrap_or (finmap.get (waiting_seen w) n) 0))) (covers_seen p extra above n ∙ f))
 
-pub told_later : (p : ℕ) (extra : BTreeSet ℕ) (c : ℕ) (w : BTreeMap ℕ ℕ) (n m x : ℕ) → IsExtra p extra → p < n → tree.get nat_cmp w n ≡ Some x → is_le (nat_cmp m x) ≡ adds_nothing (stream_seen p extra c w) n m
+pub told_later : (p : ℕ) (extra : set.FinSet nat_cmp) (c : ℕ) (w : BTreeMap ℕ ℕ) (n m x : ℕ) → IsExtra p extra → p < n → tree.get nat_cmp w n ≡ Some x → is_le (nat_cmp m x) ≡ adds_nothing (stream_seen p extra c w) n m
 told_later p extra c w n m x above beyond is = at_most m x ∙ told_waiting p extra c w n m (Some x) above beyond is
 
-pub told_never : (p : ℕ) (extra : BTreeSet ℕ) (c : ℕ) (w : BTreeMap ℕ ℕ) (n m : ℕ) → IsExtra p extra → p < n → tree.get nat_cmp w n ≡ None → false ≡ adds_nothing (stream_seen p extra c w) n m
+pub told_never : (p : ℕ) (extra : set.FinSet nat_cmp) (c : ℕ) (w : BTreeMap ℕ ℕ) (n m : ℕ) → IsExtra p extra → p < n → tree.get nat_cmp w n ≡ None → false ≡ adds_nothing (stream_seen p extra c w) n m
 told_never p extra c w n m above beyond is = told_waiting p extra c w n m None above beyond is
 
 -- ---- two stored streams with the same parts are seen alike
 
-pub alike_seen : (p : ℕ) (extra other : BTreeSet ℕ) (c : ℕ) (w v : BTreeMap ℕ ℕ) → ((q : ℕ) → sorted.contains nat_cmp other q ≡ sorted.contains nat_cmp extra q) → ((q : ℕ) → tree.get nat_cmp v q ≡ tree.get nat_cmp w q)
+pub alike_seen : (p : ℕ) (extra other : set.FinSet nat_cmp) (c : ℕ) (w v : BTreeMap ℕ ℕ) → ((q : ℕ) → set.contains other q ≡ set.contains extra q) → ((q : ℕ) → tree.get nat_cmp v q ≡ tree.get nat_cmp w q)
     → stream_seen p other c v ≡ stream_seen p extra c w
 alike_seen p extra other c w v same_extra same_waiting =
     let taken = set.same_set nat_cmp_total finmap.nat_cmp-IsAntisymmetric (taken_seen p other) (taken_seen p extra) (λ q.
@@ -124,7 +131,7 @@ alike_seen p extra other c w v same_extra same_waiting =
     get-waiting_seen v q ∙ same_waiting q ∙ sym (get-waiting_seen w q)) in
     λ i. record { taken = taken i; closed = c; waiting = waits i }
 
-pub alike_stored : (p : ℕ) (extra other : BTreeSet ℕ) (w v : BTreeMap ℕ ℕ) → ((q : ℕ) → sorted.contains nat_cmp other q ≡ sorted.contains nat_cmp extra q) → ((q : ℕ) → tree.get nat_cmp v q ≡ tree.get nat_cmp w q)
+pub alike_stored : (p : ℕ) (extra other : set.FinSet nat_cmp) (w v : BTreeMap ℕ ℕ) → ((q : ℕ) → set.contains other q ≡ set.contains extra q) → ((q : ℕ) → tree.get nat_cmp v q ≡ tree.get nat_cmp w q)
     → IsStored p extra w → IsStored p other v
 alike_stored p extra other w v same_extra same_waiting ok = record {
   prefix_most = ok.prefix_most;

@@ -1,5 +1,4 @@
 pub mod Seen
 pub mod Steps
-pub mod Room
 pub mod Parts
 pub mod Told

@@ -1,20 +1,23 @@
 -- What calls do to the stored parts of a stream: its prefix, its extra numbers, its closed time and its waiting marks.
-use Rattle.std.specs.Prelude.{◌≡◌, ℕ, ◌+◌, ◌<◌, ◌≤◌, ◌++◌, ◌&&◌, true, false, not, cond, filter, is_some, nat_le, nat_lt, List, Some, None}
-use Rattle.std.specs.Ordering.{nat_cmp}
+use Rattle.std.specs.Prelude.{◌≡◌, ℕ, Bool, ◌<◌, ◌++◌, ◌&&◌, true, not, cond, filter, is_some, nat_le, nat_lt, List, Some, None}
+use Rattle.std.specs.List.{list_any}
+use Rattle.std.specs.Ordering.{nat_cmp, eq_by_cmp}
 use Rattle.std.specs.FinMap as finmap
 use Rattle.std.specs.FinSet as set
 use Rattle.std.specs.BTreeMap as tree
-use Rattle.std.specs.BTreeSet as sorted
 use Rattle.std.specs.BTreeMap.{BTreeMap}
-use Rattle.std.specs.BTreeSet.{BTreeSet}
 use Rattle.hk_model.specs.Replica.Streams.{covers, stream_with}
 use Rattle.hk_model.proofs.Replica.Streams.{later, told}
-use Rattle.hk_marks.specs.Seen.{waiting_seen}
-use Rattle.hk_marks.specs.Room.{has_number}
+use Rattle.hk_marks.specs.Seen.{taken_seen, waiting_seen}
+use Rattle.hk_numbers.specs.Runs.{numbers_seen}
 
 -- the numbers 1 to the prefix are all taken, and the next one is not
 abbrev pub HasPrefix : set.FinSet nat_cmp → ℕ → Type 0
 HasPrefix taken prefix = (n : ℕ) → covers taken n ≡ nat_le n prefix
+
+-- the numbers of two views of a stream: each has a prefix, and extra numbers in runs
+abbrev pub both_taken : ℕ → BTreeMap ℕ ℕ → ℕ → BTreeMap ℕ ℕ → set.FinSet nat_cmp
+both_taken prefix extra upto others = set.union (taken_seen prefix (numbers_seen extra)) (taken_seen upto (numbers_seen others))
 
 -- the marks that the prefix covers were forgotten, and it is closed at least up to their times
 abbrev pub Settles : ℕ → ℕ → ℕ → BTreeMap ℕ ℕ → BTreeMap ℕ ℕ → Type 0
@@ -32,17 +35,9 @@ RaisesMarks prefix before after old new marks =
 abbrev pub AddsMark : ℕ → ℕ → BTreeMap ℕ ℕ → BTreeMap ℕ ℕ → Type 0
 AddsMark count upto old new = (q : ℕ) → tree.get nat_cmp new q ≡ later (told (count, upto) q) (tree.get nat_cmp old q)
 
--- the two sets have the same numbers
-abbrev pub SameNumbers : BTreeSet ℕ → BTreeSet ℕ → Type 0
-SameNumbers some others = (q : ℕ) → sorted.contains nat_cmp some q ≡ sorted.contains nat_cmp others q
-
--- these numbers were added
-abbrev pub AddsNumbers : List ℕ → BTreeSet ℕ → BTreeSet ℕ → Type 0
-AddsNumbers numbers old new = (q : ℕ) → sorted.contains nat_cmp new q ≡ cond (has_number numbers q) true (sorted.contains nat_cmp old q)
-
--- these numbers were removed
-abbrev pub RemovesNumbers : List ℕ → BTreeSet ℕ → BTreeSet ℕ → Type 0
-RemovesNumbers numbers old new = (q : ℕ) → sorted.contains nat_cmp new q ≡ cond (has_number numbers q) false (sorted.contains nat_cmp old q)
+-- whether a list has a number
+abbrev pub has_number : List ℕ → ℕ → Bool
+has_number numbers q = list_any (eq_by_cmp nat_cmp q) numbers
 
 -- a mark of time 0 waits for each of these counts
 abbrev pub AddsCounts : List ℕ → BTreeMap ℕ ℕ → BTreeMap ℕ ℕ → Type 0
@@ -52,18 +47,9 @@ AddsCounts counts old new = (q : ℕ) → tree.get nat_cmp new q ≡ cond (has_n
 abbrev pub RemovesCounts : List ℕ → BTreeMap ℕ ℕ → BTreeMap ℕ ℕ → Type 0
 RemovesCounts counts old new = (q : ℕ) → tree.get nat_cmp new q ≡ cond (has_number counts q) None (tree.get nat_cmp old q)
 
--- of these numbers, those that neither follow the prefix nor are reached by it nor stand among the extra ones
-abbrev pub lacking_numbers : ℕ → BTreeSet ℕ → List ℕ → List ℕ
-lacking_numbers prefix extra numbers = filter (λ q. nat_lt (prefix + 1) q && not (sorted.contains nat_cmp extra q)) numbers
-
 -- of these counts, those that the prefix does not cover, and for which no mark waits
 abbrev pub lacking_counts : ℕ → BTreeMap ℕ ℕ → List ℕ → List ℕ
 lacking_counts prefix waiting counts = filter (λ q. nat_lt prefix q && not (is_some (tree.get nat_cmp waiting q))) counts
-
--- the others' numbers that neither follow the prefix nor are reached by it stand among the extra ones
-abbrev pub HasNumbers : ℕ → BTreeSet ℕ → BTreeSet ℕ → Type 0
-HasNumbers prefix extra others =
-    (q : ℕ) → sorted.contains nat_cmp others q ≡ true → (q ≤ prefix + 1 → ⊥) → sorted.contains nat_cmp extra q ≡ true
 
 -- a mark waits already for each count of these marks that the prefix does not cover
 abbrev pub HasCounts : ℕ → BTreeMap ℕ ℕ → BTreeMap ℕ ℕ → Type 0

@@ -1,5 +1,5 @@
 -- What one number, one mark or a prefix makes of a stream, and which numbers are extra.
-use Rattle.std.specs.Prelude.{◌≡◌, ℕ, List, [], ◌∷◌, ◌++◌, length, take, drop, max, not}
+use Rattle.std.specs.Prelude.{◌≡◌, ℕ, List, [], ◌∷◌, length, max, not}
 use Rattle.std.specs.Ordering.{nat_cmp}
 use Rattle.std.specs.FinMap as finmap
 use Rattle.std.specs.FinSet as set
@@ -37,7 +37,3 @@ TakesEntry old stream number new = (e : EntryValue) → e.stream ≡ stream → 
 abbrev pub TakesMark : List StreamContent → ℕ → ℕ → ℕ → List StreamContent → Type 0
 TakesMark old stream count upto new =
     (mark : MarkValue) → mark.stream ≡ stream → mark.count ≡ count → mark.upto ≡ upto → new ≡ with_told old (Closed mark)
-
--- the streams, those from this place on together with the others
-abbrev pub joined_from : ℕ → List StreamContent → List StreamContent → List StreamContent
-joined_from place streams others = take place streams ++ all_together (drop place streams) (drop place others)

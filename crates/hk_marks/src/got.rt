@@ -5,7 +5,7 @@ ghost use Rattle.std.specs.FinMap as finmap;
 ghost use Rattle.std.specs.FinSet as set;
 ghost use Rattle.std.specs.List.Sorted.{IsStrictlyIncreasing};
 ghost use Rattle.std.specs.Map.{keys_of};
-ghost use Rattle.std.specs.Map.Iter.{ShowsInOrder, deref, deref_pair};
+ghost use Rattle.std.specs.Map.Iter.{ShowsInOrder, deref_pair};
 ghost use Rattle.hk_types.specs.declared.faults.Refusal.TheVariants.{Memory};
 ghost use Rattle.hk_model.specs.Replica.Content.{least_closed};
 ghost use Rattle.hk_model.specs.Replica.Lawful.{IsLawfulStream};
@@ -17,19 +17,20 @@ ghost use Rattle.hk_marks.specs.Told.{prefix_of, stream_told};
 
 use crate::stream::{Stream, join_streams};
 use hk_model::StreamTold;
+use hk_numbers::Listed;
 use hk_types::{Config, LAST_TIME, Refusal, StreamNo, Time};
 use std::alloc::Global;
-use std::collections::{btree_map, btree_set};
+use std::collections::btree_map;
 use std::marker::Model;
 
-/// What is known of each stream of a log: the entry numbers taken, the time up to which it is
-/// closed, and the marks that wait for entries that are missing.
+/// What is known of each stream of a log: the entry numbers that were applied, the time up to which it is closed, and
+/// the marks that wait for entries that are missing.
 ///
-/// Numbers are kept as a prefix, 1 to some number, and the extra ones above it. So a log that
-/// comes in order costs no memory, and one that comes out of order a tree node an extra number.
+/// Numbers are kept as a prefix, 1 to some number, and the extra ones above it as runs of those that follow each other. So a
+/// log that comes in order costs no memory, and one that comes out of order a tree node a gap.
 /// A mark says that the first `n` entries of its stream are all those with time at most `m`. It
-/// closes the stream up to `m` as soon as 1 to `n` are taken; until then it waits, and of several
-/// for one `n` the one with the greatest `m`. Entries are numbered from 1 to 2^62, so number 0 is never taken;
+/// closes the stream up to `m` as soon as 1 to `n` are applied; until then it waits, and of several
+/// for one `n` the one with the greatest `m`. Entries are numbered from 1 to 2^62, so number 0 never comes;
 /// times are at most 2^62, and no mark waits whose `n` is above its `m`.
 #[derive(Drop)]
 pub struct Got {
@@ -66,7 +67,7 @@ fn earlier(a: Time, b: Time) -> Time
 }
 
 impl Got {
-    /// Nothing is taken, and each stream is closed at time 0.
+    /// Nothing is applied, and each stream is closed at time 0.
     ///
     /// The only refusal is `Memory`. Cost: O(s), s streams.
     pub fn new(alloc: Global, config: Config) -> Result<Got, Refusal>
@@ -81,10 +82,10 @@ impl Got {
         Ok(Got { streams })
     }
 
-    /// Takes an entry's number, 1 to 2^62. A number that is taken already changes nothing.
+    /// Adds an entry's number, 1 to 2^62. A number that is applied already changes nothing.
     ///
     /// The only refusal is `Memory`, where a number that doesn't follow the prefix finds no room;
-    /// then nothing is changed. Cost: O((1 + f) · log n), n extra numbers and waiting marks of the
+    /// then nothing is changed. Cost: O((1 + f) · log n), n runs of extra numbers and waiting marks of the
     /// stream, f of them those that join the prefix and the marks that are freed.
     pub fn add_number(&mut self, s: StreamNo, number: u64) -> Result<(), Refusal>
         requires known { s ≤ length self.old }
@@ -93,7 +94,7 @@ impl Got {
         ensures ok { OnOk result (self.new
             ≡ slice_set self.old (s - 1) (with_number (stream_at self.old s) number)) }
 
-        // It takes what an entry of this number tells.
+        // The new value is that of applying an entry of this number.
         ensures entry { OnOk result (TakesEntry self.old s number self.new) }
         ensures err { IfErr result (λ why. why ≡ Memory) }
         ensures kept { OnErr result (self.new ≡ self.old) }
@@ -105,7 +106,7 @@ impl Got {
         Ok(())
     }
 
-    /// Takes the mark that the first `n` entries of the stream are those with time at most `m`.
+    /// Adds the mark that the first `n` entries of the stream are those with time at most `m`.
     ///
     /// The only refusal is `Memory`, where a mark that has to wait finds no room; then nothing is
     /// changed. Cost: O(log n), n waiting marks of the stream.
@@ -115,7 +116,7 @@ impl Got {
         ensures ok { OnOk result (self.new
             ≡ slice_set self.old (s - 1) (with_mark (stream_at self.old s) n m)) }
 
-        // It takes what such a mark tells.
+        // The new value is that of applying such a mark.
         ensures mark { OnOk result (TakesMark self.old s n m self.new) }
         ensures err { IfErr result (λ why. why ≡ Memory) }
         ensures kept { OnErr result (self.new ≡ self.old) }
@@ -127,10 +128,9 @@ impl Got {
         Ok(())
     }
 
-    /// Takes the numbers 1 to `prefix`, which is at most 2^62, and closes the stream at least up
-    /// to `closed`.
+    /// Adds the numbers 1 to `prefix`, which is at most 2^62, and closes the stream at least up to `closed`.
     ///
-    /// It needs no memory and is never refused. Cost: O((1 + f) · log n), n extra numbers and waiting marks of
+    /// It needs no memory and is never refused. Cost: O((1 + f) · log n), n runs of extra numbers and waiting marks of
     /// the stream, f of them those that join the prefix and the marks that are freed.
     pub fn raise(&mut self, s: StreamNo, prefix: u64, closed: Time) -> Result<(), Refusal>
         requires known { s ≤ length self.old }
@@ -143,10 +143,10 @@ impl Got {
         Ok(())
     }
 
-    /// Takes all that another view of the same number of streams has.
+    /// Adds all that another view of the same number of streams has.
     ///
     /// The only refusal is `Memory`, where an extra number or a waiting mark finds no room; then
-    /// nothing is changed in any stream. Cost: O((s + c) · log n), s streams, n extra numbers and
+    /// nothing is changed in any stream. Cost: O((s + c) · log n), s streams, n runs of extra numbers and
     /// waiting marks of both views, c of them those of the other view and those here that are
     /// freed.
     pub fn join(&mut self, other: &Got) -> Result<(), Refusal>
@@ -173,7 +173,7 @@ impl Got {
         self.streams.len() as u16
     }
 
-    /// Whether an entry's number is taken. Cost: O(log n), n extra numbers of the stream.
+    /// Whether an entry's number is applied. Cost: O(log n), n runs of extra numbers of the stream.
     pub fn has(&self, s: StreamNo, number: u64) -> bool
         requires { s ≤ length self.now }
         ensures { result ≡ set.contains (stream_at self.now s).taken number }
@@ -181,7 +181,7 @@ impl Got {
         self.streams[place(s)].has(number)
     }
 
-    /// Whether the numbers 1 to `count` are all taken.
+    /// Whether the numbers 1 to `count` are all applied.
     pub fn covers(&self, s: StreamNo, count: u64) -> bool
         requires { s ≤ length self.now }
         ensures { result ≡ covers (stream_at self.now s).taken count }
@@ -189,7 +189,7 @@ impl Got {
         self.streams[place(s)].covers(count)
     }
 
-    /// The greatest number up to which all are taken, at most 2^62.
+    /// The greatest number up to which all are applied, at most 2^62.
     pub fn prefix(&self, s: StreamNo) -> u64
         requires { s ≤ length self.now }
         ensures value { HasPrefix (stream_at self.now s).taken result }
@@ -199,8 +199,7 @@ impl Got {
         self.streams[place(s)].prefix()
     }
 
-    /// Whether a mark tells nothing new, so that taking it would change nothing. Cost: O(log n), n waiting
-    /// marks of the stream.
+    /// Whether a mark has nothing new, so that adding it would change nothing. Cost: O(log n), n waiting marks of the stream.
     pub fn adds_nothing(&self, s: StreamNo, n: u64, m: Time) -> bool
         requires { s ≤ length self.now }
         ensures { result ≡ adds_nothing (stream_at self.now s) n m }
@@ -208,7 +207,7 @@ impl Got {
         self.streams[place(s)].adds_nothing(n, m)
     }
 
-    /// The time up to which the stream is closed: its entries with this time or less are all taken.
+    /// The time up to which the stream is closed: its entries with this time or less are all applied.
     pub fn closed(&self, s: StreamNo) -> Time
         requires { s ≤ length self.now }
         ensures { result ≡ (stream_at self.now s).closed }
@@ -216,8 +215,7 @@ impl Got {
         self.streams[place(s)].closed()
     }
 
-    /// Whether the stream is retired: it is closed up to the last time of all, so no entry of it can come that
-    /// is not taken.
+    /// Whether the stream is retired: it is closed up to the last time of all, so no entry of it can come that is not applied.
     pub fn retired(&self, s: StreamNo) -> bool
         requires { s ≤ length self.now }
         ensures { result ≡ ((stream_at self.now s).closed == 2 ^ 62) }
@@ -238,12 +236,12 @@ impl Got {
         least
     }
 
-    /// The taken numbers above the prefix, in rising order.
-    pub fn extra_numbers(&self, s: StreamNo) -> btree_set::Iter<'_, u64>
+    /// The applied numbers above the prefix, in rising order.
+    pub fn extra_numbers(&self, s: StreamNo) -> Listed<'_>
         requires { s ≤ length self.now }
         ensures value { set.from_list result ≡ extra_numbers (stream_at self.now s) }
         ensures rising { IsStrictlyIncreasing result }
-        ensures runs { ShowsInOrder (deref {X = ℕ}) }
+        ensures runs { ShowsInOrder {A = ℕ} {X = ℕ} (λ x. x) }
     {
         self.streams[place(s)].extra_numbers()
     }
@@ -258,7 +256,7 @@ impl Got {
         self.streams[place(s)].waiting_marks()
     }
 
-    /// How many numbers above the prefix are taken. Cost: O(1).
+    /// How many numbers above the prefix are applied. Cost: O(n), n runs of them.
     pub fn extra_count(&self, s: StreamNo) -> u64
         requires { s ≤ length self.now }
         ensures { result ≡ set.len (extra_numbers (stream_at self.now s)) }
@@ -274,7 +272,7 @@ impl Got {
         self.streams[place(s)].waiting_count()
     }
 
-    /// How much is known of each stream, by their numbers. The only refusal is `Memory`. Cost: O(s), s streams.
+    /// How much is known of each stream, by their numbers. The only refusal is `Memory`. Cost: O(s + n), s streams, n runs of extra numbers.
     pub fn told(&self, alloc: Global) -> Result<Vec<StreamTold>, Refusal>
         ensures ok { IfOk result (λ told. told.items ≡ map stream_told self.now) }
         ensures err { IfErr result (λ why. why ≡ Memory) }
@@ -286,8 +284,8 @@ impl Got {
         Ok(told)
     }
 
-    /// The same again. The only refusal is `Memory`. Cost: O(s + n · log n), s streams, n extra numbers and
-    /// waiting marks, all copied.
+    /// The same again. The only refusal is `Memory`. Cost: O(s + n · log n), s streams, n runs of extra numbers
+    /// and waiting marks, all copied.
     pub fn copy(&self, alloc: Global) -> Result<Got, Refusal>
         ensures ok { IfOk result (λ got. got ≡ self.now) }
         ensures err { IfErr result (λ why. why ≡ Memory) }

@@ -7,31 +7,42 @@ ghost use Rattle.std.specs.Map.{keys_of};
 ghost use Rattle.std.specs.Ordering.{nat_cmp};
 ghost use Rattle.std.specs.FinMap as finmap;
 ghost use Rattle.std.specs.BTreeMap as tree;
-ghost use Rattle.std.specs.BTreeSet as sorted;
 ghost use Rattle.std.specs.FinSet as set;
-ghost use Rattle.std.specs.Map.Iter.{ShowsInOrder, deref, deref_pair};
+ghost use Rattle.std.specs.Map.Iter.{ShowsInOrder, deref_pair};
+ghost use Rattle.hk_numbers.specs.Runs.{numbers_seen, AreKept};
 ghost use Rattle.hk_model.specs.Replica.Streams.{covers, unknown, adds_nothing};
 ghost use Rattle.hk_model.specs.Replica.Lawful.{IsLawfulStream};
 ghost use Rattle.hk_marks.specs.Seen.{up_to, taken_seen, IsExtra, WaitsAbove};
-ghost use Rattle.hk_marks.specs.Parts.{HasPrefix, Settles, AddsMark, SameNumbers};
+ghost use Rattle.hk_marks.specs.Parts.{HasPrefix, Settles, AddsMark};
 ghost use Rattle.hk_marks.specs.Steps.{with_number, with_mark, with_prefix, extra_numbers};
 ghost use Rattle.hk_marks.specs.Told.{prefix_of, stream_told};
 
 mod join;
 
 use hk_model::StreamTold;
+use hk_numbers::{Listed, copy, count, has, insert, numbers_of, take_from};
 use hk_types::Time;
 pub use join::join_streams;
 use std::alloc::{AllocError, Global};
-use std::collections::{BTreeMap, BTreeSet, btree_map, btree_set};
+use std::collections::{BTreeMap, btree_map};
 use std::marker::Model;
 
-/// The numbers 1 to the prefix are taken, and the extra ones, which lie above the next number.
-/// Each mark waits for more numbers than the prefix.
+/// The numbers 1 to the prefix are applied, and the extra ones, which are above the next number and are kept as runs: the first
+/// number of each, and its end, the number after its last. Each mark waits for more numbers than the prefix.
+///
+/// An example, with the fields after each call:
+///
+///     new                  prefix 0   extra {}       closed 0    waiting {}
+///     add_number(1)        prefix 1   extra {}       closed 0    waiting {}
+///     add_number(3)        prefix 1   extra {3: 4}   closed 0    waiting {}
+///     add_number(4)        prefix 1   extra {3: 5}   closed 0    waiting {}
+///     add_mark(4, 40)      prefix 1   extra {3: 5}   closed 0    waiting {4: 40}    entry 2 is missing
+///     add_mark(1, 10)      prefix 1   extra {3: 5}   closed 10   waiting {4: 40}
+///     add_number(2)        prefix 4   extra {}       closed 40   waiting {}
 #[derive(Drop)]
 pub struct Stream {
     prefix: u64,
-    extra: BTreeSet<u64>,
+    extra: BTreeMap<u64, u64>,
     closed: Time,
     waiting: BTreeMap<u64, Time>,
 }
@@ -39,55 +50,43 @@ pub struct Stream {
 impl Model for Stream {
     ghost use Rattle.hk_model.specs.Replica.Streams.{StreamContent};
     ghost use Rattle.hk_model.specs.Replica.Codes.{stream_code};
-    ghost use Rattle.hk_marks.specs.Seen.{stream_seen, IsStored};
+    ghost use Rattle.hk_numbers.specs.Runs.{numbers_seen};
+    ghost use Rattle.hk_marks.specs.Seen.{stream_seen, IsKept};
 
     ghost Value = { StreamContent };
 
     ghost coded = { stream_code };
 
-    ghost view = { λ a. stream_seen a.prefix a.extra a.closed a.waiting };
+    ghost view = { λ a. stream_seen a.prefix (numbers_seen a.extra) a.closed a.waiting };
 
-    ghost invariant = { λ a. IsStored a.prefix a.extra a.waiting };
+    ghost invariant = { λ a. IsKept a.prefix a.extra a.waiting };
 }
 
-/// The least of the extra numbers, where it is at most a bound.
-fn first_up_to(bound: u64, extra: &BTreeSet<u64>) -> Option<u64>
-    ensures bounded { IfSome result (λ number. number ≤ bound) }
-    ensures member { IfSome result (λ number. sorted.contains nat_cmp extra.now number ≡ true) }
-    ensures none { IfNone result ((q : ℕ) → sorted.contains nat_cmp extra.now q ≡ true → bound < q) }
-{
-    let number = extra.first()?;
-    if *number > bound {
-        return None;
-    }
-    Some(*number)
-}
-
-/// Takes the extra numbers that the prefix reaches into the prefix.
-fn grow(prefix: &mut u64, extra: &mut BTreeSet<u64>)
-    requires least { (q : ℕ) → sorted.contains nat_cmp extra.old q ≡ true → 0 < q }
-    requires most { (q : ℕ) → sorted.contains nat_cmp extra.old q ≡ true → q ≤ 2 ^ 62 }
+/// Moves the extra numbers that the prefix reaches into the prefix.
+fn grow(prefix: &mut u64, extra: &mut BTreeMap<u64, u64>)
+    requires kept { AreKept extra.old }
+    requires least { (q : ℕ) → set.contains (numbers_seen extra.old) q ≡ true → 0 < q }
+    requires most { (q : ℕ) → set.contains (numbers_seen extra.old) q ≡ true → q ≤ 2 ^ 62 }
     requires prefix_most { prefix.old ≤ 2 ^ 62 }
-    ensures same { taken_seen prefix.new extra.new ≡ taken_seen prefix.old extra.old }
-    ensures extras { IsExtra prefix.new extra.new }
+    ensures same { taken_seen prefix.new (numbers_seen extra.new) ≡ taken_seen prefix.old (numbers_seen extra.old) }
+    ensures extras { IsExtra prefix.new (numbers_seen extra.new) }
+    ensures kept { AreKept extra.new }
     ensures prefix_most { prefix.new ≤ 2 ^ 62 }
     ensures grows { prefix.old ≤ prefix.new }
 {
-    while let Some(number) = first_up_to(*prefix + 1, extra) {
-        extra.remove(&number);
-        if number > *prefix {
-            *prefix = number;
-        }
-    }
+    *prefix = take_from(extra, *prefix);
 }
 
-/// Takes the numbers 1 to `upto`.
-fn take_up_to(prefix: &mut u64, extra: &mut BTreeSet<u64>, upto: u64)
-    requires extras { IsExtra prefix.old extra.old }
+/// Adds the numbers 1 to `upto`.
+fn take_up_to(prefix: &mut u64, extra: &mut BTreeMap<u64, u64>, upto: u64)
+    requires kept { AreKept extra.old }
+    requires extras { IsExtra prefix.old (numbers_seen extra.old) }
     requires prefix_most { prefix.old ≤ 2 ^ 62 }
     requires most { upto ≤ 2 ^ 62 }
-    ensures taken { taken_seen prefix.new extra.new ≡ set.union (taken_seen prefix.old extra.old) (up_to upto) }
-    ensures extras { IsExtra prefix.new extra.new }
+    ensures taken { taken_seen prefix.new (numbers_seen extra.new)
+        ≡ set.union (taken_seen prefix.old (numbers_seen extra.old)) (up_to upto) }
+    ensures extras { IsExtra prefix.new (numbers_seen extra.new) }
+    ensures kept { AreKept extra.new }
     ensures prefix_most { prefix.new ≤ 2 ^ 62 }
     ensures grows { prefix.old ≤ prefix.new }
 {
@@ -118,7 +117,7 @@ fn close_up_to(closed: &mut Time, upto: Time)
     }
 }
 
-/// Forgets the marks that the prefix covers, and closes up to their times.
+/// Drops the marks that the prefix covers, and closes up to their times.
 fn settle(prefix: u64, closed: &mut Time, waiting: &mut BTreeMap<u64, Time>)
     ensures settles { Settles prefix closed.old closed.new waiting.old waiting.new }
     ensures waits { WaitsAbove prefix waiting.new }
@@ -130,7 +129,7 @@ fn settle(prefix: u64, closed: &mut Time, waiting: &mut BTreeMap<u64, Time>)
     }
 }
 
-/// Gives a mark that waits the greater time. Answers whether a mark of this count waits.
+/// Raises the time of a waiting mark. Returns whether a mark of this count waits.
 fn raise_waiting(waiting: &mut BTreeMap<u64, Time>, count: u64, upto: Time) -> bool
     ensures test { result ≡ is_some (tree.get nat_cmp waiting.old count) }
     ensures found { OnTrue result (AddsMark count upto waiting.old waiting.new) }
@@ -161,13 +160,13 @@ impl Stream {
     {
         Stream {
             prefix: 0,
-            extra: BTreeSet::new(alloc),
+            extra: BTreeMap::new(alloc),
             closed: Time::zero(),
             waiting: BTreeMap::new(alloc),
         }
     }
 
-    /// Takes an entry's number.
+    /// Adds an entry's number.
     pub fn add_number(&mut self, number: u64) -> Result<(), AllocError>
         requires least { 1 ≤ number }
         requires most { number ≤ 2 ^ 62 }
@@ -179,7 +178,7 @@ impl Stream {
             return Ok(());
         }
         if number > self.prefix + 1 {
-            self.extra.insert(number)?;
+            insert(&mut self.extra, number)?;
             return Ok(());
         }
         self.prefix = number;
@@ -188,7 +187,7 @@ impl Stream {
         Ok(())
     }
 
-    /// Takes a mark: the entries with time at most `upto` are the first `count`.
+    /// Adds a mark: the entries with time at most `upto` are the first `count`.
     pub fn add_mark(&mut self, count: u64, upto: Time) -> Result<(), AllocError>
         ensures ok { OnOk result (self.new ≡ with_mark self.old count upto) }
         ensures err { OnErr result (self.new ≡ self.old) }
@@ -201,7 +200,7 @@ impl Stream {
         wait(&mut self.waiting, count, upto)
     }
 
-    /// Takes the numbers 1 to `prefix`, and closes at least up to `closed`.
+    /// Adds the numbers 1 to `prefix`, and closes at least up to `closed`.
     pub fn raise(&mut self, prefix: u64, closed: Time)
         requires { prefix ≤ 2 ^ 62 }
         ensures { self.new ≡ with_prefix self.old prefix closed }
@@ -217,17 +216,17 @@ impl Stream {
         if number <= self.prefix {
             return number > 0;
         }
-        self.extra.contains(&number)
+        has(&self.extra, number)
     }
 
-    /// Whether the numbers 1 to `count` are all taken.
+    /// Whether the numbers 1 to `count` are all applied.
     pub fn covers(&self, count: u64) -> bool
         ensures { result ≡ covers self.now.taken count }
     {
         count <= self.prefix
     }
 
-    /// The greatest number up to which all are taken.
+    /// The greatest number up to which all are applied.
     pub fn prefix(&self) -> u64
         ensures value { HasPrefix self.now.taken result }
         ensures most { result ≤ 2 ^ 62 }
@@ -243,7 +242,7 @@ impl Stream {
         self.closed
     }
 
-    /// Whether a mark tells nothing new.
+    /// Whether a mark has nothing new.
     pub fn adds_nothing(&self, count: u64, upto: Time) -> bool
         ensures { result ≡ adds_nothing self.now count upto }
     {
@@ -256,13 +255,13 @@ impl Stream {
         }
     }
 
-    /// The taken numbers above the prefix, in rising order.
-    pub fn extra_numbers(&self) -> btree_set::Iter<'_, u64>
+    /// The applied numbers above the prefix, in rising order.
+    pub fn extra_numbers(&self) -> Listed<'_>
         ensures value { set.from_list result ≡ extra_numbers self.now }
         ensures rising { IsStrictlyIncreasing result }
-        ensures runs { ShowsInOrder (deref {X = ℕ}) }
+        ensures runs { ShowsInOrder {A = ℕ} {X = ℕ} (λ x. x) }
     {
-        self.extra.iter()
+        numbers_of(&self.extra)
     }
 
     /// The waiting marks, in rising order of their counts.
@@ -274,11 +273,11 @@ impl Stream {
         self.waiting.iter()
     }
 
-    /// How many taken numbers lie above the prefix.
+    /// How many applied numbers are above the prefix.
     pub fn extra_count(&self) -> u64
         ensures { result ≡ set.len (extra_numbers self.now) }
     {
-        self.extra.len() as u64
+        count(&self.extra)
     }
 
     /// How many marks wait.
@@ -306,17 +305,11 @@ impl Stream {
     {
         Ok(Stream {
             prefix: self.prefix,
-            extra: copy_numbers(&self.extra, alloc)?,
+            extra: copy(alloc, &self.extra)?,
             closed: self.closed,
             waiting: copy_marks(&self.waiting, alloc)?,
         })
     }
-}
-
-fn copy_numbers(numbers: &BTreeSet<u64>, alloc: Global) -> Result<BTreeSet<u64>, AllocError>
-    ensures { IfOk result (λ copied. SameNumbers copied numbers.now) }
-{
-    numbers.iter().copied().collect(alloc)
 }
 
 fn copy_marks(marks: &BTreeMap<u64, Time>, alloc: Global) -> Result<BTreeMap<u64, Time>, AllocError>

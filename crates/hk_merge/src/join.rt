@@ -24,14 +24,14 @@ pub(crate) fn later(a: Time, b: Time) -> Time
 
 /// Joins what is sent into the target's state.
 ///
-/// What is of another log is refused `ForeignLog`, with another number of streams `WrongStreams`. What leaves a
-/// gap, since its base is above the target's readable mark, is refused `Gap` with these two times. What gives a
-/// version another row or another end than the target has is refused `Conflict`, also where memory ran out before
-/// that was met. `Memory` comes last, where a growth was refused. A refusal changes nothing.
+/// What is of another log is refused `ForeignLog`, with another number of streams `WrongStreams`. What leaves a gap,
+/// since its base is above the target's resolved time, is refused `Gap` with these two times. What has another row or
+/// another end of a version than the target is refused `Conflict`, also where memory ran out before that was met.
+/// `Memory` comes last, where a growth was refused. A refusal changes nothing.
 ///
 /// Cost: O((s + c + d) · log n + b), s streams, c versions sent, numbers and marks sent that wait for others and
-/// those of the target's that they free, d versions of the target's own that go since the horizon rises, n all
-/// these and all that the target holds, b bytes of bodies compared or copied.
+/// those of the target's that they free, d versions of the target's own that are dropped since the oldest readable
+/// time rises, n all these and all that the target holds, b bytes of bodies compared or copied.
 pub fn join_sent(target: &mut ReplicaState, sent: &Sent) -> Result<(), Refusal>
     ensures { Joins target.old target.new (fragment_sent sent.now) result }
 {
@@ -46,15 +46,16 @@ pub fn join_sent(target: &mut ReplicaState, sent: &Sent) -> Result<(), Refusal>
     join_fitting(target, sent)
 }
 
-/// Merges what a peer holds into the target's state: the join of the whole of it.
+/// Merges what a peer holds into the target's state: the join of the peer's full snapshot.
 ///
 /// A peer of another log is refused `ForeignLog`, one with another number of streams `WrongStreams`. One that has
 /// another row or another end of a version is refused `Conflict`, also where memory ran out before that was met.
 /// `Memory` comes last, where a growth was refused. A refusal changes nothing.
 ///
 /// Cost: O((s + c + d) · log n + b), s streams, c versions of the peer, its numbers and marks that wait for others
-/// and those of the target's that they free, d versions of the target's own that go since the horizon rises, n all
-/// these and all that the target holds, b bytes of bodies compared or copied. The target is not copied.
+/// and those of the target's that they free, d versions of the target's own that are dropped since the oldest
+/// readable time rises, n all these and all that the target holds, b bytes of bodies compared or copied. The target
+/// is not copied.
 pub fn merge(target: &mut ReplicaState, peer: &ReplicaState) -> Result<(), Refusal>
     ensures gives { Merges target.old target.new peer.now result }
     ensures represents { MergesOf target.old target.new peer.now result }
@@ -87,8 +88,8 @@ fn join_fitting(target: &mut ReplicaState, sent: &Sent) -> Result<(), Refusal>
     join_level(target, sent)
 }
 
-/// Joins what is sent, where it is of the same log and the horizon stays: in one pass, in which each version is compared
-/// and learnt. Where that ends early, all is taken back, and what is sent is compared with all that was there.
+/// Joins what is sent, where it is of the same log and the oldest readable time does not change: in one pass, in which each
+/// version is compared and added. Where that ends early, all is undone, and what is sent is compared with all that was there.
 fn join_level(target: &mut ReplicaState, sent: &Sent) -> Result<(), Refusal>
     requires as_many { length (fragment_sent sent.now).content.streams ≡ length target.old.streams }
     requires level { rises target.old (fragment_sent sent.now) ≡ false }
@@ -105,7 +106,7 @@ fn join_level(target: &mut ReplicaState, sent: &Sent) -> Result<(), Refusal>
     }
 }
 
-/// Joins what is sent, where it is of the same log and the horizon rises.
+/// Joins what is sent, where it is of the same log and the oldest readable time rises.
 fn join_rising(target: &mut ReplicaState, sent: &Sent) -> Result<(), Refusal>
     requires as_many { length (fragment_sent sent.now).content.streams ≡ length target.old.streams }
     ensures ok { OnOk result (target.new ≡ content_after_join target.old (fragment_sent sent.now)) }
@@ -133,7 +134,7 @@ fn join_agreed(target: &mut ReplicaState, sent: &Sent) -> Result<(), Refusal>
     target.apply(change, sent.got())
 }
 
-/// Adds to a change what becomes of the target's own versions, where the horizon rises.
+/// Adds to a change what becomes of the target's own versions, where the oldest readable time rises.
 fn rise(change: &mut Change, target: &ReplicaState, sent: &Sent) -> Result<(), Refusal>
     ensures drops { OnOk result (AddsDrops change.old change.new (gone_at target.now (fragment_sent sent.now))) }
     ensures rows { OnOk result (AddsRows change.old change.new (row_back_at target.now (fragment_sent sent.now))) }
@@ -179,7 +180,7 @@ fn work_out(target: &ReplicaState, sent: &Sent) -> Result<Change, Refusal>
     Ok(change)
 }
 
-/// How what is sent fares at a horizon.
+/// What becomes of the versions that are sent, at an oldest readable time.
 pub(crate) fn coming(sent: &Sent, horizon: Time) -> Admission
     ensures old { result.old ≡ has_horizon (fragment_sent sent.now) horizon }
     ensures horizon { result.horizon ≡ horizon }

@@ -16,14 +16,16 @@ use hk_state::ReplicaState;
 use hk_store::Facts;
 use hk_types::{Time, VersionKey};
 
-/// Whether joining what is sent touches the target's past, where some time that can be asked now stays readable: it
-/// brings a row or an end that the target lacks, of a time up to its readable mark; or as a whole of a greater horizon it
-/// lacks a row that had not ended by then, or has one that had; or the rows that go with the horizon let an older one of
-/// their key show. Of parts of one log's items none does. It is tested of what is of the same log and conflicts with
-/// nothing; a late row or end counts though it would change no answer. It is never refused for want of memory.
+/// Whether joining what is sent touches the target's past, where some time that can be asked now stays readable. It does
+/// so where it brings a row or an end that the target lacks, of a time up to the target's resolved time; or where it is a
+/// full snapshot of a greater oldest readable time that lacks a row that had not ended by then, or has one that had; or
+/// where the rows that are dropped as that time rises let an older one of their key show. With the items of one log no
+/// join does. It is tested of what is of the same log and conflicts with nothing; a late row or end counts though it
+/// would change no answer. It is never refused for want of memory.
 ///
-/// Cost: O(s + c), s streams, c versions sent, and O(log n) for each of those that states a time up to the mark, n facts
-/// of both; where the horizon rises that of `ReplicaState::prune_touches_past`, and of a whole O(n · log n).
+/// Cost: O(s + c), s streams, c versions sent, and O(log n) for each of those with a row or an end of a time up to the
+/// resolved time, n facts of both; where the oldest readable time rises that of `ReplicaState::prune_touches_past`, and
+/// for a full snapshot O(n · log n).
 pub fn join_touches_past(target: &ReplicaState, sent: &Sent) -> bool
     ensures { result ≡ spec.join_touches_past target.now (fragment_sent sent.now) }
 {
@@ -34,7 +36,7 @@ pub fn join_touches_past(target: &ReplicaState, sent: &Sent) -> bool
             || target.prune_touches_past(horizon))
 }
 
-/// Whether a row or an end comes that the target lacks, of a time up to its readable mark.
+/// Whether a row or an end comes that the target lacks, of a time up to its resolved time.
 fn brings_late(target: &ReplicaState, sent: &Sent) -> bool
     ensures { result ≡ spec.brings_late target.now (fragment_sent sent.now) }
 {
@@ -112,7 +114,8 @@ fn is_end_late(
     ended_by(sent, readable) && own.end_at(version).is_none() && !ended_by(sent, coming.horizon)
 }
 
-/// Whether what is sent is a whole of a greater horizon that leaves a row of the target's own otherwise than a prune does.
+/// Whether what is sent is a full snapshot of a greater oldest readable time that leaves a row of the target's own
+/// otherwise than a prune does.
 fn leaves_strays(target: &ReplicaState, sent: &Sent) -> bool
     ensures { result ≡ spec.leaves_strays target.now (fragment_sent sent.now) }
 {
@@ -128,7 +131,7 @@ fn leaves_strays(target: &ReplicaState, sent: &Sent) -> bool
     some_stray(&leaving, target.facts())
 }
 
-/// Whether the whole is sent, of a greater horizon than the target's.
+/// Whether a full snapshot is sent, of a greater oldest readable time than the target's.
 fn is_raising_whole(target: &ReplicaState, sent: &Sent) -> bool
     ensures { result ≡ (nat_lt target.now.horizon (fragment_sent sent.now).content.horizon
         && ((fragment_sent sent.now).base == 0)) }
@@ -136,7 +139,7 @@ fn is_raising_whole(target: &ReplicaState, sent: &Sent) -> bool
     target.horizon() < sent.horizon() && sent.base() == Time::zero()
 }
 
-/// Whether a row of the target's own goes astray.
+/// Whether the join leaves some row of the target's own otherwise than a prune does.
 fn some_stray(leaving: &Retention, own: &Facts) -> bool
     ensures { AnyOf own.now (λ e. late.strays leaving.now e.0 e.1) result }
 {
@@ -148,7 +151,7 @@ fn some_stray(leaving: &Retention, own: &Facts) -> bool
     false
 }
 
-/// Whether this row of its own does.
+/// Whether the join leaves this row so.
 fn strays(leaving: &Retention, version: &VersionKey, own: &Version) -> bool
     ensures { result ≡ late.strays leaving.now version.now own.now }
 {

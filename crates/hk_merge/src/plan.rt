@@ -25,28 +25,28 @@ use hk_store::Facts;
 use hk_types::{Refusal, Row, Time, VersionKey};
 use std::alloc::{AllocError, Global};
 
-/// How the target's own facts fare where the horizon rises.
+/// What becomes of the target's own facts where the oldest readable time rises.
 #[derive(Clone, Copy)]
 pub(crate) struct Retention<'a> {
-    /// Whether the whole is sent.
+    /// Whether a full snapshot is sent.
     pub(crate) whole: bool,
-    /// The horizon to which it rises.
+    /// The oldest readable time after the rise.
     pub(crate) horizon: Time,
     /// What is sent.
     pub(crate) sent: &'a Sent<'a>,
 }
 
-/// How what is sent fares.
+/// What becomes of what is sent.
 #[derive(Clone, Copy)]
 pub(crate) struct Admission {
-    /// Whether rows born at the horizon or before come too.
+    /// Whether rows born at the `horizon` or before come too.
     pub(crate) old: bool,
-    /// The horizon after the join.
+    /// The oldest readable time after the join.
     pub(crate) horizon: Time,
 }
 
 impl Retention<'_> {
-    /// Whether a row of the target's own stays.
+    /// Whether a row of the target's own is kept.
     fn keeps_row(&self, version: &VersionKey, own: &Version) -> bool
         ensures { result ≡ stays_of self.now version.now own.now }
     {
@@ -60,7 +60,7 @@ impl Retention<'_> {
         }
     }
 
-    /// Whether a row or an end of the target's own goes.
+    /// Whether a row or an end of the target's own is dropped.
     fn goes(&self, version: &VersionKey, own: &Version) -> bool
         ensures { result ≡ goes_of self.now version.now own.now }
     {
@@ -141,7 +141,7 @@ pub(crate) fn leave(
     Ok(())
 }
 
-/// Adds to a change what comes of a version that is sent.
+/// Adds to a change what the join adds of a version that is sent.
 fn take_version(
     alloc: Global,
     change: &mut Change,
@@ -175,7 +175,7 @@ fn has_end(held: Option<&Version>) -> bool
     }
 }
 
-/// Adds to a change what comes of a fragment that is sent.
+/// Adds to a change what the join adds of a fragment that is sent.
 fn take_part(
     alloc: Global,
     change: &mut Change,
@@ -195,7 +195,7 @@ fn take_part(
     Ok(())
 }
 
-/// Adds to a change what comes of a state that is sent.
+/// Adds to a change what the join adds of a state that is sent.
 fn take_whole(
     alloc: Global,
     change: &mut Change,
@@ -214,7 +214,7 @@ fn take_whole(
     Ok(())
 }
 
-/// Adds to a change what comes of what is sent.
+/// Adds to a change what the join adds of what is sent.
 pub(crate) fn take(
     alloc: Global,
     change: &mut Change,
@@ -233,8 +233,8 @@ pub(crate) fn take(
     }
 }
 
-/// The versions of the target's own that may go where the horizon rises. The only refusal is `Memory`.
-/// Cost: O(log n + k · log k), n facts, k versions given.
+/// The versions of the target's own that may be dropped where the oldest readable time rises. The only refusal is
+/// `Memory`. Cost: O(log n + k · log k), n facts, k versions returned.
 pub(crate) fn may_go(
     alloc: Global,
     own: &Facts,

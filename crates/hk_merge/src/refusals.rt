@@ -1,4 +1,4 @@
-//! Why a state does not take what is sent.
+//! Why a state refuses what is sent.
 
 ghost use Rattle.std.specs.Prelude.{◌≡◌};
 ghost use Rattle.hk_merge.specs.Calls.{wrong_log_of};

@@ -21,9 +21,9 @@ use hk_types::{Config, Time, VersionKey};
 /// What is sent to a replica of a log.
 #[derive(Clone, Copy)]
 pub enum Sent<'a> {
-    /// The part of what another replica holds that one lacks which is readable up to the fragment's base.
+    /// What another replica holds and a replica may lack whose resolved time is at least the fragment's base.
     Part(&'a Fragment),
-    /// The whole of what another replica holds.
+    /// All that another replica holds.
     Whole(&'a ReplicaState),
 }
 
@@ -49,7 +49,7 @@ impl Sent<'_> {
         }
     }
 
-    /// The horizon of the sender.
+    /// The oldest readable time of the sender.
     pub(crate) fn horizon(&self) -> Time
         ensures value { result ≡ (fragment_sent self.now).content.horizon }
         ensures lawful { IsLawfulFragment (fragment_sent self.now) }
@@ -70,7 +70,7 @@ impl Sent<'_> {
         }
     }
 
-    /// What it tells.
+    /// The facts that are sent.
     pub(crate) fn told(&self) -> LearnSource<'_>
         ensures told { IsTold result }
         ensures facts { facts_told result ≡ facts_of_content (content_sent self.now) }

@@ -39,7 +39,7 @@ pub enum Event {
         to: u16,
         from: u16,
     },
-    /// A replica joins what another has learnt since a time.
+    /// A replica joins what another has applied since a time.
     Delta {
         to: u16,
         from: u16,
@@ -51,7 +51,7 @@ pub enum Event {
         t: Time,
         query: Query,
     },
-    /// A replica tells from where to where it can be read.
+    /// A replica returns its range of readable times.
     FrontOf {
         replica: u16,
     },

@@ -1,10 +1,10 @@
 use hk_types::Time;
 
-/// From where to where a replica can be read.
+/// The range of times at which a replica can be read.
 #[derive(Clone, Copy, Debug, PartialEq, Eq)]
 pub struct Front {
-    /// The horizon: the least time that can be read.
+    /// The horizon: the oldest readable time.
     pub horizon: Time,
-    /// The readable mark: the greatest time that can be read.
+    /// The resolved time: the greatest time that can be read.
     pub readable: Time,
 }

@@ -1,13 +1,13 @@
 use hk_types::Time;
 
-/// What is told of one stream: how much is known of it, and not which numbers and marks.
+/// The report of one stream: how much is known of it, and not which numbers and marks.
 #[derive(Clone, Copy, Debug, PartialEq, Eq)]
 pub struct StreamTold {
-    /// The greatest number up to which all entries are taken.
+    /// The greatest number up to which all entries are applied.
     pub prefix: u64,
     /// The time up to which the stream is closed.
     pub closed: Time,
-    /// How many numbers above the prefix are taken.
+    /// How many numbers above the prefix are applied.
     pub extra: u64,
     /// How many marks wait.
     pub waiting: u64,
@@ -18,15 +18,15 @@ pub struct StreamTold {
 pub struct StreamsTold {
     /// The id of the log.
     pub log: u64,
-    /// The horizon: the least time that can be read.
+    /// The horizon: the oldest readable time.
     pub horizon: Time,
-    /// The readable mark: the greatest time that can be read.
+    /// The resolved time: the greatest time that can be read.
     pub readable: Time,
     /// Whether the node met a conflict, so that it answers nothing else.
     pub damaged: bool,
     /// How many operations the node made.
     pub operations: u64,
-    /// The least time that is held, where a hold stands.
+    /// The least pinned time, where a pin is active.
     pub least_hold: Option<Time>,
     /// The streams, by their numbers.
     pub streams: Vec<StreamTold>,

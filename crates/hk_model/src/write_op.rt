@@ -9,7 +9,7 @@ use std::alloc::{AllocError, Global};
 /// A write of a transaction.
 #[derive(Debug, PartialEq, Eq, Drop)]
 pub enum WriteOp {
-    /// Puts a row in at a key, in place of the one that is there, if one is.
+    /// Puts a row at a key, in place of the one that is there, if one is.
     Put { table: Table, key: Key, row: Row },
     /// Removes the row at a key.
     Remove { table: Table, key: Key },

@@ -1,11 +1,11 @@
-//! Why links were not served.
+//! Why connections were not served.
 
 ghost use Rattle.std.specs.Prelude.{◌≡◌};
 ghost use Rattle.hk_net.specs.Faults.{net_fault_number};
 
 use std::alloc::AllocError;
 
-/// Why links were not served, or not all of them.
+/// Why connections were not served, or not all of them.
 #[derive(Clone, Copy, Debug, PartialEq, Eq)]
 pub enum NetFault {
     /// The list of ends could not be made.

@@ -1,4 +1,4 @@
-//! Where the bytes of a link stand in their frames, without a look at what the frames say.
+//! The position of a connection's bytes in their frames, without a look at what the frames contain.
 
 ghost use Rattle.std.specs.Prelude.{◌≡◌, ◌<◌, ◌≤◌, true, length};
 ghost use Rattle.hk_net.specs.Doors.{is_feeding, is_reading, lets_through, passes_all};
@@ -6,13 +6,13 @@ ghost use Rattle.hk_net.specs.Doors.{is_feeding, is_reading, lets_through, passe
 /// How many bytes the length field of a frame has.
 const LENGTH_BYTES: u64 = 4;
 
-/// Where the kind byte of a frame stands: behind the length and the version.
+/// The position of the kind byte of a frame: behind the length and the version.
 const KIND_PLACE: u64 = 5;
 
-/// How many bytes stand before the body of a frame.
+/// How many bytes come before the body of a frame.
 const HEAD_BYTES: u64 = 6;
 
-/// The kind bytes of the requests to take items: Items of version 1, and Feed of version 2.
+/// The kind bytes of the requests to apply items: Items of version 1, and Feed of version 2.
 const ITEMS: u8 = 16;
 
 const FEED: u8 = 58;
@@ -36,7 +36,7 @@ const FREE_READS: u64 = 64;
 /// For so many bytes of its length a frame may take one read more.
 const BYTES_A_READ: u64 = 64;
 
-/// Where a link stands in its frame: how many bytes of it came, which length it has, and how many reads it took.
+/// The position of a connection in its frame: how many bytes of it came, which length it has, and how many reads it took.
 #[derive(Drop)]
 pub(crate) struct FrameWatch {
     at: u64,
@@ -75,7 +75,7 @@ impl Passes {
     }
 }
 
-/// Whether this is the kind of a request to take items, in either version.
+/// Whether this is the kind of a request to apply items, in either version.
 fn is_feeding(kind: u8) -> bool
     ensures { result ≡ is_feeding kind }
 {
@@ -99,18 +99,18 @@ impl FrameWatch {
         }
     }
 
-    /// Whether the link stands inside a frame.
+    /// Whether the connection is inside a frame.
     pub(crate) fn is_within(&self) -> bool {
         self.at > 0
     }
 
-    /// Counts a read inside a frame, and says whether the frame took more of them than its length explains.
+    /// Counts a read inside a frame, and returns whether the frame took more of them than its length explains.
     pub(crate) fn is_one_too_many(&mut self) -> bool {
         self.reads = self.reads.saturating_add(1);
         self.reads > FREE_READS.saturating_add(self.length / BYTES_A_READ)
     }
 
-    /// Takes the next byte of a frame's head. Gives false where it is the kind of a request that doesn't pass.
+    /// Reads the next byte of a frame's head. Returns false where it is the kind of a request that doesn't pass.
     fn take_head(&mut self, byte: u8, passes: Passes) -> bool
         ensures { passes_all passes ≡ true → result ≡ true }
     {
@@ -131,8 +131,8 @@ impl FrameWatch {
         }
     }
 
-    /// Takes the next bytes, at least one of them and at most all, and gives how many. The kind of a request that doesn't pass
-    /// is turned into one that no message has.
+    /// Reads the next bytes, at least one of them and at most all, and returns how many. The kind of a request that doesn't
+    /// pass is turned into one that no message has.
     fn take_some(&mut self, bytes: &mut [u8], passes: Passes) -> usize
         requires { 0 < length bytes.old }
         ensures some { 0 < result }
@@ -160,8 +160,8 @@ impl FrameWatch {
         count
     }
 
-    /// Takes the bytes that a read gave. The kind of each request that doesn't pass is turned into one that no message has; where
-    /// all pass, the bytes stay as they came. Cost: O(f), f frames that these bytes touch.
+    /// Processes the bytes that a read returned. The kind of each request that doesn't pass is turned into one that no message
+    /// has; where all pass, the bytes are left as they came. Cost: O(f), f frames that these bytes touch.
     pub(crate) fn take(&mut self, bytes: &mut [u8], passes: Passes)
         ensures kept { length bytes.new ≡ length bytes.old }
         ensures same { passes_all passes ≡ true → bytes.new ≡ bytes.old }

@@ -1,7 +1,7 @@
-//! Links over TCP to one running node, each served in a thread of its own.
+//! Connections over TCP to one running node, each served in a thread of its own.
 //!
-//! A host of hk_host answers the requests of one link over the shared node and the link's own seat; `serve_links` accepts the
-//! links and runs a session of `hk_session` on each. What crosses threads and sockets is shown by tests.
+//! A host of hk_host answers the requests of one connection over the shared node and the connection's own seat; `serve_links`
+//! accepts the connections and runs a session of `hk_session` on each. What crosses threads and sockets is shown by tests.
 #![tactic(auto)]
 
 mod fault;

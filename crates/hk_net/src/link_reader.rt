@@ -1,4 +1,4 @@
-//! What is read from a link.
+//! What is read from a connection.
 
 use crate::frame_watch::{FrameWatch, Passes};
 use std::io;
@@ -6,11 +6,11 @@ use std::io::{ErrorKind, Read};
 use std::net::TcpStream;
 use std::time::Duration;
 
-/// What is read from a link, beside where it stands in its frames.
+/// What is read from a connection, with its position in its frames.
 ///
 /// Where a number of seconds is given, a read inside a frame fails that brings nothing for so long, and so does one
 /// where the frame took more reads than its length explains: 64, and one more for each 64 bytes of its length. A read
-/// between two frames has no limit. The kind of each request that the door doesn't let through is read as one that no
+/// between two frames has no limit. The kind of each request that the door doesn't allow is read as one that no
 /// message has, so that the session ends there.
 #[derive(Drop)]
 pub(crate) struct LinkReader<'a> {

@@ -1,4 +1,4 @@
-//! Links over TCP.
+//! Connections over TCP.
 
 ghost use Rattle.std.specs.Prelude.{◌≡◌, length, IfOk};
 
@@ -24,8 +24,8 @@ const FIRST_WAIT: u64 = 250;
 /// How many milliseconds each next one is waited for. The system may wait for a few more.
 const NEXT_WAIT: u64 = 10;
 
-/// Lets the peer read the last reply. A link that is closed over bytes that nobody read is cut off, and the peer could
-/// lose what was written; so what it still sends is read and dropped, for less than two seconds whatever it sends.
+/// Lets the peer read the last reply. A connection that is closed over bytes that nobody read is cut off, and the peer
+/// could lose what was written; so what it still sends is read and dropped, for less than two seconds whatever it sends.
 pub(crate) fn drain(stream: &TcpStream) {
     if stream.shutdown(Shutdown::Write).is_err() {
         return;
@@ -46,7 +46,7 @@ pub(crate) fn drain(stream: &TcpStream) {
     }
 }
 
-/// Runs the session of a link to its end.
+/// Runs the session of a connection to its end.
 fn serve_link<J: NodeName, N: Wait + Drop, R: Threads + Wait + Sync>(
     rt: &R,
     alloc: Global,
@@ -55,7 +55,7 @@ fn serve_link<J: NodeName, N: Wait + Drop, R: Threads + Wait + Sync>(
     seat: ReaderSeat<J>,
     stream: TcpStream,
 ) -> Ended {
-    // A reply is sent at once; where that can't be had, replies come later.
+    // A reply is sent at once; where the system doesn't allow that, replies come later.
     let _at_once = stream.set_nodelay(true);
     let mut reader = Counted::new(&stream);
     let mut writer = Counted::new(&stream);
@@ -72,17 +72,17 @@ fn serve_link<J: NodeName, N: Wait + Drop, R: Threads + Wait + Sync>(
     ended
 }
 
-/// Accepts as many links as there are seats, and runs the session of each, over a `NodeHost`, in a thread of its own, with
-/// one of the seats. Gives how each ended, in the order in which they were accepted, once all have ended.
+/// Accepts as many connections as there are seats, and runs the session of each, over a `NodeHost`, in a thread of its
+/// own, with one of the seats. Returns how each ended, in the order in which they were accepted, once all have ended.
 ///
-/// With a budget each link is answered in both versions (`PartsHost`), and each of its holds is asked to be released when it
-/// ends; one whose release is refused then (`Damaged`, `NodeFull` or `Memory`) stands. All links together keep at most as many
-/// bytes as the budget has. Without one it is answered in version 1, and a request of version 2
+/// With a budget each connection is answered in both versions (`PartsHost`), and the release of each of its pins is asked for
+/// when it ends; a pin whose release is refused then (`Damaged`, `NodeFull` or `Memory`) stays active. All connections
+/// together keep at most as many bytes as the budget has. Without one it is answered in version 1, and a request of version 2
 /// ends it with `BadVersion`.
 ///
-/// A link whose thread can't be started ends with `Memory`. `NetFault::Memory` comes where the list of ends can't be
-/// made, which is tested before the first accept; `NetFault::Socket` where an accept failed, after the links that
-/// were accepted so far have run to their end. Cost: that of the sessions.
+/// A connection whose thread can't be started ends with `Memory`. `NetFault::Memory` comes where the list of ends
+/// can't be made, which is tested before the first accept; `NetFault::Socket` where an accept failed, after the
+/// connections that were accepted so far have run to their end. Cost: that of the sessions.
 pub fn serve_links<
     J: NodeName + Send + Sync,
     N: Wait + Drop + Send + Sync,
@@ -135,7 +135,7 @@ pub fn serve_links<
             }
             match fault {
                 Some(fault) => Err(fault),
-                // Holds here: each seat gave a link, and each link an end.
+                // True here: each seat had a connection, and each connection an end.
                 None if ends.len() == count => Ok(ends),
                 None => Err(NetFault::Memory),
             }

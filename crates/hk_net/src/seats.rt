@@ -1,4 +1,4 @@
-//! One session on a seat, which is given back.
+//! One session on a seat, which is returned.
 
 ghost use Rattle.std.specs.Prelude.{◌≡◌};
 ghost use Rattle.std.specs.Thread.{IsSync};
@@ -14,8 +14,8 @@ use std::io::{Read, Write};
 use std::sync::Wait;
 use std::thread::Threads;
 
-/// Runs one session on a seat, as `serve` over a `NodeHost`, and gives how it ended with the seat, which knows then all
-/// that it knew before and what the session added. The next session on it begins there. Cost: that of the session.
+/// Runs one session on a seat, as `serve` over a `NodeHost`, and returns how it ended with the seat, which knows then
+/// all that it knew before and what the session added. The next session on it begins there. Cost: that of the session.
 pub fn serve_on_seat<
     J: NodeName,
     N: Wait + Drop,
@@ -42,8 +42,8 @@ pub fn serve_on_seat<
     (ended, host.into_seat())
 }
 
-/// Runs one session on a seat that only reads, as `serve` over a `SeatHost`: the node is not there to be changed. Gives
-/// how it ended with the seat, which knows then all that it knew before. Cost: that of the session.
+/// Runs one session on a seat that only reads, as `serve` over a `SeatHost`: it has no access to change the node.
+/// Returns how it ended with the seat, which knows then all that it knew before. Cost: that of the session.
 pub fn read_on_seat<J: NodeName, I: Read + Drop, O: Write + Drop>(
     alloc: Global,
     seat: ReaderSeat<J>,

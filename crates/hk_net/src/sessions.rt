@@ -10,7 +10,7 @@ use hk_session::{Counted, Ended, serve};
 use std::alloc::Global;
 use std::io::{Read, Write};
 
-/// Runs one session in version 1 over a host, as `serve`, and gives how it ended, with the host. Cost: that of the session.
+/// Runs one session in version 1 over a host, as `serve`, and returns how it ended, with the host. Cost: that of the session.
 pub fn serve_plain<H: NodeSide + Drop, I: Read + Drop, O: Write + Drop>(
     alloc: Global,
     host: H,
@@ -31,10 +31,10 @@ pub fn serve_plain<H: NodeSide + Drop, I: Read + Drop, O: Write + Drop>(
     (ended, served)
 }
 
-/// Runs the session of a link in both versions, as `serve` over a `PartsHost`. However it ends, each hold that the link has
-/// then is asked to be released, and no other, as `PartsHost::end` does. Gives how it ended, the host for version 1, and just
-/// those of the link's holds that the node handed back, with which the next link of the place begins. Cost: that of the session
-/// and of the releases.
+/// Runs the session of a connection in both versions, as `serve` over a `PartsHost`. However it ends, the release of each pin
+/// that the connection has then is asked for, and of no other, as `PartsHost::end` does. Returns how it ended, the host for
+/// version 1, and just those of the connection's pins that the node handed back, with which the next connection of the slot
+/// begins. Cost: that of the session and of the releases.
 pub fn serve_parts<H: NodeSide + Drop, I: Read + Drop, O: Write + Drop>(
     alloc: Global,
     link: PartsHost<'_, H>,
@@ -45,7 +45,7 @@ pub fn serve_parts<H: NodeSide + Drop, I: Read + Drop, O: Write + Drop>(
     requires writer { writer.old.faults ≡ 0 }
     requires ready { H.ready link.inner }
     ensures seen { IsPrefix (H.side.list link.entry.inner) (H.side.list result.1) }
-    // The bytes read, and what was done and written for them; then the link's holds were let go.
+    // The bytes read, and what was done and written for them; then the connection's pins were released.
     ensures transcript { Runs H.may H.side link.entry
         I.remaining reader.old reader.new O.contents writer.old writer.new result }
 {
@@ -55,8 +55,8 @@ pub fn serve_parts<H: NodeSide + Drop, I: Read + Drop, O: Write + Drop>(
     (ended, inner, left)
 }
 
-/// Runs the session of a link over a host: with a budget in both versions, with these holds, else in version 1. Gives how it ended, the
-/// host, and the holds that stand.
+/// Runs the session of a connection over a host: with a budget in both versions, with these pins, else in version 1. Returns how it
+/// ended, the host, and the pins that are still active.
 pub(crate) fn serve_host<H: NodeSide + Drop, I: Read + Drop, O: Write + Drop>(
     alloc: Global,
     budget: Option<&PartsBudget>,

@@ -1,4 +1,4 @@
-//! Links over TCP to a node that stays: each seat is given back for the next link.
+//! Connections over TCP to a long-running node: each seat is free for the next connection when one ends.
 
 ghost use Rattle.std.specs.Prelude.{◌≡◌};
 ghost use Rattle.std.specs.Thread.{IsSend, IsSync};
@@ -23,13 +23,13 @@ use std::thread;
 use std::thread::{Scope, Threads};
 use std::time::Duration;
 
-/// How many links a seat serves: nobody gets there.
+/// How many connections a seat serves: no seat ever gets there.
 const MOST_LINKS: u64 = 1 << 62;
 
 /// How many milliseconds pass before an accept that failed is tried again.
 const ACCEPT_PAUSE: u64 = 100;
 
-/// What links of a door may do.
+/// What connections of a door may do.
 #[derive(Drop)]
 enum Way<'a, J: NodeName, N: Wait + Drop> {
     /// Everything.
@@ -51,14 +51,14 @@ impl<J: NodeName, N: Wait + Drop> Way<'_, J, N> {
     }
 }
 
-/// Where links come in, and what they may do.
+/// Where connections come in, and what they may do.
 #[derive(Drop)]
 pub struct Door<'a, J: NodeName, N: Wait + Drop> {
     listener: &'a TcpListener,
     way: Way<'a, J, N>,
     tells_changes: bool,
     read_seconds: u64,
-    /// What all links keep, where they are answered in both versions.
+    /// What all connections keep, where they are answered in both versions.
     budget: Option<&'a PartsBudget>,
 }
 
@@ -73,9 +73,9 @@ impl<'a, J: NodeName, N: Wait + Drop> Door<'a, J, N> {
         }
     }
 
-    /// Links of this listener answer every request, whether the node is guarded or not (`Node` tells what a guarded one
-    /// refuses). A link ends where inside a frame a read brings nothing for so many seconds, or where the frame took more
-    /// reads than its length explains; 0 seconds are no limit.
+    /// Connections of this listener answer every request, whether the node is guarded or not (see `Node` for what a
+    /// guarded one refuses). A connection ends where inside a frame a read brings nothing for so many seconds, or where
+    /// the frame took more reads than its length explains; 0 seconds are no limit.
     pub fn open(
         listener: &'a TcpListener,
         node: &'a Node<J, N>,
@@ -84,8 +84,8 @@ impl<'a, J: NodeName, N: Wait + Drop> Door<'a, J, N> {
         Door::new(listener, Way::Open(node), read_seconds)
     }
 
-    /// Links of this listener answer Items, Feed, Front, Delta, Full and Ask (`FeedHost`); another request is refused with 4 as a kind
-    /// that has no meaning there, and ends the link.
+    /// Connections of this listener answer Items, Feed, Front, Delta, Full and Ask (`FeedHost`); another request is refused with 4 as
+    /// a kind that has no meaning there, and ends the connection.
     pub fn feeding(
         listener: &'a TcpListener,
         node: &'a Node<J, N>,
@@ -94,23 +94,23 @@ impl<'a, J: NodeName, N: Wait + Drop> Door<'a, J, N> {
         Door::new(listener, Way::Feeding(node), read_seconds)
     }
 
-    /// Links of this listener answer Front, Delta, Full and Ask; another request is refused with 4 as a kind that has no
-    /// meaning there, and ends the link.
+    /// Connections of this listener answer Front, Delta, Full and Ask; another request is refused with 4 as a kind that
+    /// has no meaning there, and ends the connection.
     pub fn reading(listener: &'a TcpListener, read_seconds: u64) -> Door<'a, J, N> {
         Door::new(listener, Way::Reading, read_seconds)
     }
 
-    /// The same door, whose links are answered in both versions: they keep at most as many bytes as this budget has, together
-    /// with those of other doors that have it. When a link ends, each of its holds is asked to be released. A hold whose
-    /// release is refused then (`Damaged`, `NodeFull` or `Memory`) stands, and is handed to the next link of the place. Of version 2,
-    /// a reading or feeding door answers Streams, AskLatest, Page, Whole and More.
+    /// The same door, whose connections are answered in both versions: they keep at most as many bytes as this budget has, together
+    /// with those of other doors that have it. When a connection ends, the release of each of its pins is asked for. A pin whose
+    /// release is refused then (`Damaged`, `NodeFull` or `Memory`) stays active, and is handed to the next connection of the slot. Of
+    /// version 2, a reading or feeding door answers Streams, AskLatest, Page, Whole and More.
     pub fn with_parts(self, budget: &'a PartsBudget) -> Door<'a, J, N> {
         let mut door = self;
         door.budget = Some(budget);
         door
     }
 
-    /// The same door, of whose links each change that takes effect is told too.
+    /// The same door, of whose connections each change that takes effect is reported too.
     pub fn with_changes(self) -> Door<'a, J, N> {
         let mut door = self;
         door.tells_changes = true;
@@ -118,14 +118,14 @@ impl<'a, J: NodeName, N: Wait + Drop> Door<'a, J, N> {
     }
 }
 
-/// What a place has between two links: its seat, and holds of its last link whose release was refused.
+/// What a slot has between two connections: its seat, and pins of its last connection whose release was refused.
 #[derive(Drop)]
 struct Place<J: NodeName> {
     seat: ReaderSeat<J>,
     holds: Vec<Hold>,
 }
 
-/// Runs the session of a link to its end, and gives the place back.
+/// Runs the session of a connection to its end, and returns the slot.
 fn serve_stream<J: NodeName, N: Wait + Drop, R: Threads + Wait + Sync>(
     rt: &R,
     alloc: Global,
@@ -136,7 +136,7 @@ fn serve_stream<J: NodeName, N: Wait + Drop, R: Threads + Wait + Sync>(
 ) -> (Ended, Place<J>)
     ensures { IsPrefix place.seat result.1.seat }
 {
-    // A reply is sent at once; where that can't be had, replies come later.
+    // A reply is sent at once; where the system doesn't allow that, replies come later.
     let _at_once = stream.set_nodelay(true);
     let mut reader = Counted::new(LinkReader::new(stream, door.read_seconds, door.way.passes()));
     let mut writer = Counted::new(stream);
@@ -184,7 +184,7 @@ fn serve_stream<J: NodeName, N: Wait + Drop, R: Threads + Wait + Sync>(
     }
 }
 
-/// Serves the next link of a place, and gives the place back.
+/// Serves the next connection of a slot, and returns the slot.
 fn serve_next<J: NodeName, N: Wait + Drop, R: Threads + Wait + Clock + Sync>(
     rt: &R,
     alloc: Global,
@@ -211,7 +211,7 @@ fn serve_next<J: NodeName, N: Wait + Drop, R: Threads + Wait + Clock + Sync>(
     }
 }
 
-/// Serves one link after the other on a seat.
+/// Serves one connection after the other on a seat.
 fn serve_place<J: NodeName, N: Wait + Drop, R: Threads + Wait + Clock + Sync>(
     rt: &R,
     alloc: Global,
@@ -229,7 +229,7 @@ fn serve_place<J: NodeName, N: Wait + Drop, R: Threads + Wait + Clock + Sync>(
     place.seat
 }
 
-/// Starts the thread of a place, which serves its links. Gives false where it can't be started.
+/// Starts the thread of a slot, which serves its connections. Returns false where it can't be started.
 fn start_place<
     's,
     E,
@@ -252,15 +252,15 @@ fn start_place<
     }
 }
 
-/// Serves links without an end, each place in a thread of its own: the thread accepts a link of the place's door, runs its
-/// session on the place's seat, and takes the seat back for the next link, so that at most as many links are served at
-/// once as there are places, and a further one waits to be accepted. No list grows with the links.
+/// Serves connections without an end, each slot in a thread of its own: the thread accepts a connection of the slot's door,
+/// runs its session on the slot's seat, and gets the seat back for the next connection, so that at most as many connections
+/// are served at once as there are slots, and a further one waits to be accepted. No list grows with the connections.
 ///
-/// `watch` is told of each link that opens and ends, of each change that is refused, and through a door that wants it of each
-/// that takes effect, with the number of its place in `places`, in the order in which that is seen; links wait where it is
-/// slow. A failed accept is told, and
-/// tried again after a tenth of a second; it ends nothing. `Memory` comes where the threads can't be prepared, or none
-/// of them could be started. It returns otherwise only after 2^62 links of each place. Cost: that of the sessions.
+/// `watch` gets an event for each connection that opens and ends, for each change that is refused, and through a door that
+/// wants it for each that takes effect, with the number of its slot in `places`, in the order in which that is seen;
+/// connections wait where it is slow. A failed accept is reported, and tried again after a tenth of a second; it ends
+/// nothing. `Memory` comes where the threads can't be prepared, or none of them could be started. It returns otherwise only
+/// after 2^62 connections of each slot. Cost: that of the sessions.
 pub fn serve_forever<
     'd,
     J: NodeName + Send + Sync,

@@ -227,7 +227,7 @@ impl Model for NewList {
 
 impl NewList {
     /// The list of a new node of this log, which is not guarded: a join or merge that conflicts with what it holds
-    /// damages it.
+    /// makes the node fail for good.
     pub fn new(config: Config) -> NewList
         ensures log { result.1.config ≡ config }
         ensures open { result.1.guarded ≡ false }
@@ -239,7 +239,7 @@ impl NewList {
     }
 
     /// The list of a new guarded node of this log: a join or merge that conflicts with what it holds is refused, and
-    /// nothing changes, so that the node is never damaged.
+    /// nothing changes, so that the node never fails.
     pub fn guarded(config: Config) -> NewList
         ensures log { result.1.config ≡ config }
         ensures guarded { result.1.guarded ≡ true }
@@ -261,7 +261,7 @@ impl NewList {
         }
     }
 
-    /// Its parts.
+    /// Its fields.
     pub(crate) fn into_parts(self) -> (NodeKind, Counter, Prefix)
         ensures kind { result.0 ≡ self.1 }
         ensures counter { result.1.word.book ≡ self.0 }

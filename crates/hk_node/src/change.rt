@@ -44,7 +44,7 @@ pub fn change<J: NodeName, R: Wait + Drop>(
 }
 
 /// The join of the fragment that items were gathered to, at what lies under the writer's lock: it runs as `change`, and
-/// tells how many of the items told something new. Cost: that of `change`, and of a look at each item.
+/// returns how many of the items were new. Cost: that of `change`, and of a look at each item.
 pub fn join_gathered<J: NodeName, R: Wait + Drop>(
     publisher: &mut Publisher<J, R>,
     fragment: Fragment,
@@ -74,7 +74,7 @@ pub fn join_gathered<J: NodeName, R: Wait + Drop>(
 
 /// Adds an operation that is not refused behind the published list, where nothing waits, and publishes it: `Memory` where
 /// it could not be added; `Unpublished` with its number where it could not be published, and then it waits, and the next
-/// publish shows it; `Conflict` where it met a conflict, which damages the node for good: a guarded node refuses such an
+/// publish shows it; `Conflict` where it met a conflict, by which the node fails for good: a guarded node refuses such an
 /// operation before. Cost: that of the operation.
 #[tactic(auto, using(hk_oplog::proofs::LegalLists::last_snoc))]
 pub(crate) fn add<J: NodeName, R: Wait + Drop>(
@@ -102,8 +102,8 @@ pub(crate) fn add<J: NodeName, R: Wait + Drop>(
     Ok(publisher.receipt())
 }
 
-/// A publish, at what lies under the writer's lock: what waits is published, and the receipt names the whole list. The
-/// only refusal is `Memory`, where something waits, and it changes nothing. Cost: that of what waits.
+/// A publish, at what lies under the writer's lock: what waits is published, and the receipt names the complete list.
+/// The only refusal is `Memory`, where something waits, and it changes nothing. Cost: that of what waits.
 pub fn publish_waiting<J: NodeName, R: Wait + Drop>(
     publisher: &mut Publisher<J, R>,
 ) -> Result<Receipt<J>, Refusal>
@@ -117,8 +117,8 @@ pub fn publish_waiting<J: NodeName, R: Wait + Drop>(
     }
 }
 
-/// A merge of a state, at what lies under the writer's lock, with the whole of the state or the refusal of memory for
-/// it: it runs as `change`, also where the whole could not be made. Cost: that of `change`.
+/// A merge of a state, at what lies under the writer's lock, with the full snapshot of the state or the refusal of
+/// memory for it: it runs as `change`, also where the snapshot could not be made. Cost: that of `change`.
 pub fn merge_whole<J: NodeName, R: Wait + Drop>(
     publisher: &mut Publisher<J, R>,
     state: &ReplicaState,
@@ -136,7 +136,7 @@ pub fn merge_whole<J: NodeName, R: Wait + Drop>(
     }
 }
 
-/// What a merge is refused of whose whole could not be made.
+/// The refusal of a merge whose full snapshot could not be made.
 fn refusal_of_merge<J: NodeName, R: Wait + Drop>(
     publisher: &mut Publisher<J, R>,
     state: &ReplicaState,
@@ -153,8 +153,8 @@ fn refusal_of_merge<J: NodeName, R: Wait + Drop>(
     }
 }
 
-/// A prune to a time, at what lies under the writer's lock: it runs as `change`, and gives the horizon after it. Cost:
-/// that of `change`.
+/// A prune to a time, at what lies under the writer's lock: it runs as `change`, and returns the oldest readable time
+/// after it. Cost: that of `change`.
 pub fn prune_to<J: NodeName, R: Wait + Drop>(
     publisher: &mut Publisher<J, R>,
     time: Time,
@@ -170,8 +170,8 @@ pub fn prune_to<J: NodeName, R: Wait + Drop>(
     Ok((horizon, receipt))
 }
 
-/// A hold at a time, at what lies under the writer's lock: it runs as `change`. Its number is that of the holds of the
-/// list, with it. Cost: that of `change`.
+/// A pin of a time, at what lies under the writer's lock: it runs as `change`. Its number is the count of the list's
+/// pins, this one included. Cost: that of `change`.
 pub fn hold_at<J: NodeName, R: Wait + Drop>(
     publisher: &mut Publisher<J, R>,
     time: Time,
@@ -199,7 +199,7 @@ pub fn hold_at<J: NodeName, R: Wait + Drop>(
     }
 }
 
-/// A release of a hold, at what lies under the writer's lock: it runs as `change`. It hands the hold back on every
+/// A release of a pin, at what lies under the writer's lock: it runs as `change`. It hands the pin back on every
 /// refusal but `Unpublished`. Cost: that of `change`.
 pub fn release_hold<J: NodeName, R: Wait + Drop>(
     publisher: &mut Publisher<J, R>,

@@ -1,4 +1,4 @@
-//! Items that are taken all or nothing, tested under the writer's lock before their join is added.
+//! Items that are applied all or nothing, tested under the writer's lock before their join is added.
 
 ghost use Rattle.std.specs.Prelude.{◌≡◌, ◌≤◌, true, length, IfOk};
 ghost use Rattle.hk_node.specs.Changes.{all_of, CountedAs};
@@ -16,9 +16,9 @@ use hk_types::Refusal;
 use std::alloc::Global;
 use std::sync::Wait;
 
-/// A taking of items at what lies under the writer's lock: they are absorbed in turn beside the published copy, once what
-/// waited is published, and the join of what is new is added; how many told something new is counted. What is new conflicts
-/// with nothing, so it is not tested once more. Cost: that of the join, of `agreed`, and of a look at each item.
+/// Applies items at what lies under the writer's lock: they are absorbed in turn beside the published copy, once what
+/// waited is published, and the join of what is new is added; how many were new is counted. What is new conflicts with
+/// nothing, so it is not tested once more. Cost: that of the join, of `agreed`, and of a look at each item.
 pub fn take_agreed<J: NodeName, R: Wait + Drop>(
     publisher: &mut Publisher<J, R>,
     alloc: Global,
@@ -46,7 +46,7 @@ pub fn take_agreed<J: NodeName, R: Wait + Drop>(
     }
 }
 
-/// Items of the history that a node's content represents are taken without a refusal, but for want of room for one
+/// Items of the history that a node's content represents are applied without a refusal, but for want of room for one
 /// operation more or of memory, and what the node then holds represents them too.
 pub fn take_law()
     ensures { TakeLaw }

@@ -1,4 +1,4 @@
-//! The node: one writer under a lock, and readers that take none.
+//! The node: one writer under a lock, and readers that take no lock.
 
 ghost use Rattle.std.specs.Prelude.{◌≡◌, ◌∷◌, [], ◌<◌, ◌≤◌, List, All, Some, true, length, IfOk, IfErr, vec_len};
 ghost use Rattle.hk_types.specs.declared.faults.Refusal.TheVariants.{Memory};
@@ -25,11 +25,11 @@ use hk_types::{Refusal, Time};
 use std::alloc::Global;
 use std::sync::{Mutex, Wait};
 
-/// Starts a node with so many places for readers, 1 to 64, and gives a seat for each. Its list has the start alone.
+/// Starts a node with so many reader slots, 1 to 64, and returns a seat for each. Its list has the start alone.
 ///
-/// The list is a new one, which names the node, and says of which log it is and whether it is guarded: `J` is this name
-/// with both, by which a receipt of another node is none of this one's. The only refusal is `Memory`. Cost: O(s + p²),
-/// s streams, p places.
+/// The list is a new one, which names the node, and fixes of which log it is and whether it is guarded: `J` is this
+/// name with both, by which a receipt of another node is none of this one's. The only refusal is `Memory`. Cost:
+/// O(s + p²), s streams, p slots.
 pub fn start<J: NodeName, R: Wait + Drop>(
     rt: R,
     alloc: Global,
@@ -57,20 +57,22 @@ pub fn start<J: NodeName, R: Wait + Drop>(
 /// lock. Each call waits for the lock, and a change waits for the readers that still read the older copy.
 ///
 /// Each change first publishes what waits; where that is refused it answers `Memory` before every other test, and
-/// nothing changed. Then its refusals come in the order in which the call lists them. `Unpublished` says that the
-/// change stands as the operation with that number and waits: readers see it once a later change or `publish` could
+/// nothing changed. Then its refusals come in the order in which the call lists them. `Unpublished` means that the
+/// change is made as the operation with that number and waits: readers see it once a later change or `publish` could
 /// publish it. At most one operation waits. After every other refusal the list of operations is as before, but after
-/// `Conflict` of a node that is not guarded.
+/// `Conflict` of a node that is not guarded: that node has failed. It refuses `Damaged` all but `publish` and a
+/// seat's `streams` from then on, and has to be rebuilt.
 ///
-/// A guarded node (`NewList::guarded`) is never damaged, and its past is final: it refuses `Conflict` each change that
-/// contradicts what it holds or could change an answer at a time that it can be asked, and nothing changed. Of items that
-/// is what an absorb would refuse so, an item that contradicts the state, an item before it, or the closed time of its
-/// stream; and an entry under a taken number, of a time above the horizon, that stands otherwise than it is told. Of a
-/// fragment or a state it is that two facts of one version differ, or that its join touches the past; of a prune, that this
-/// does. A horizon above the readable mark, and a mark or a number beyond what is true, are joined.
+/// A guarded node (`NewList::guarded`) never fails, and its past is final: it refuses `Conflict` each change that conflicts
+/// with what it holds or could change an answer at a time that it can be asked, and nothing changed. Of items that is what
+/// an absorb would refuse so, an item that conflicts with the state, an item before it, or the closed time of its stream;
+/// and an entry whose number is applied already, of a time above the oldest readable one, that differs from the rows and
+/// ends that are known. Of a fragment or a state it is that two facts of one version differ, or that its join touches the
+/// past; of a prune, that this does. A fragment whose `horizon` is above the resolved time, and a mark or a number beyond
+/// what is true, are joined.
 ///
-/// Cost: each call says its own, beside O(p), p places for readers. A change is made on one copy at once, and on the
-/// other one by the next change, which pays for both.
+/// Cost: each call has its own, beside O(p), p reader slots. A change is made on one copy at once, and on the other
+/// one by the next change, which pays for both.
 #[derive(Drop)]
 pub struct Node<J: NodeName, R: Wait + Drop> {
     publisher: Mutex<Publisher<J, R>>,
@@ -80,13 +82,13 @@ pub struct Node<J: NodeName, R: Wait + Drop> {
 impl<J: NodeName, R: Wait + Drop> Node<J, R> {
     /// Joins a fragment.
     ///
-    /// Refusals in order: `Damaged`; `ForeignLog`, `WrongStreams` and `Gap` as the join of a fragment into a state;
-    /// `Held` with the hold of the least time, and of the least number there, that the horizon would pass; in a guarded
+    /// Refusals in order: `Damaged`; `ForeignLog`, `WrongStreams` and `Gap` as the join of a fragment into a state; `Held`
+    /// with the pin of the least time, and of the least number there, that the oldest readable time would pass; in a guarded
     /// node `Conflict` where fragment and state conflict with each other, or the join touches the past, and nothing changed;
-    /// `NodeFull`; `Memory`; `Unpublished`; in another node `Conflict` where they conflict, which damages it for good. The
+    /// `NodeFull`; `Memory`; `Unpublished`; in another node `Conflict` where they conflict, by which it fails for good. The
     /// fragment is dropped with a refusal: who would try again keeps a copy. Cost: that of joining a fragment into a state,
-    /// and O(h), h holds that stand; in a guarded node also O(c · log n + b) for the test under the lock, c versions of the
-    /// fragment, n facts of the state, b bytes of bodies compared, and where the horizon rises that of
+    /// and O(h), h active pins; in a guarded node also O(c · log n + b) for the test under the lock, c versions of the
+    /// fragment, n facts of the state, b bytes of bodies compared, and where the oldest readable time rises that of
     /// `hk_merge::join_touches_past`.
     pub fn join<W: Wait>(&self, rt: &W, fragment: Fragment) -> Result<Receipt<J>, Refusal>
         ensures legal { IfOk result (λ list. is_legal list ≡ true) }
@@ -97,9 +99,9 @@ impl<J: NodeName, R: Wait + Drop> Node<J, R> {
         change(&mut *publisher, Op::Join(fragment))
     }
 
-    /// Joins the fragment that items were gathered to, with the refusals of `join`, and tells how many of the items told the
-    /// node something new: entries whose number it did not have, and marks that close more than it had closed, each
-    /// compared with what the node held before. Cost: that of `join`, and of a look at each item.
+    /// Joins the fragment that items were gathered to, with the refusals of `join`, and returns how many of the items were
+    /// new to the node: entries whose number it did not have, and marks that close more than it had closed, each compared
+    /// with what the node held before. Cost: that of `join`, and of a look at each item.
     pub fn join_gathered<W: Wait>(
         &self,
         rt: &W,
@@ -115,15 +117,16 @@ impl<J: NodeName, R: Wait + Drop> Node<J, R> {
         join_gathered(&mut *publisher, fragment, items)
     }
 
-    /// Takes items, all or nothing, and tells how many of them told something new, as `join_gathered` does: the node holds then
-    /// what absorbing them one after the other gives, by one join of those that tell something new. They are tested before that
-    /// join is added, in every node: it is damaged after the call only where it was before, and `Conflict` changed nothing.
+    /// Applies items, all or nothing, and returns how many of them were new, as `join_gathered` does: the node holds then what
+    /// absorbing them one after the other leaves, by one join of those that are new. They are tested before that join is added,
+    /// in every node: it is failed after the call only where it was before, and `Conflict` changed nothing.
     ///
     /// Refusals in order: `Damaged`; the refusal of the first item that an absorb would refuse, as `ForeignLog`,
     /// `WrongStreams`, or `Conflict` with the state, with an item before it, or with the closed time of its stream; in a
-    /// guarded node `Conflict` where an entry of a time above the horizon stands otherwise than it is told; `NodeFull`;
-    /// `Memory`, which comes before the refusal of an item where memory ran out while the items were tested; `Unpublished`.
-    /// Cost: that of `join` of what is new, and under the lock that of `hk_delta::agreed` and a look at each item.
+    /// guarded node `Conflict` where an entry whose number is applied already, of a time above the oldest readable one,
+    /// differs from the rows and ends that are known; `NodeFull`; `Memory`, which comes before the refusal of an item where
+    /// memory ran out while the items were tested; `Unpublished`. Cost: that of `join` of what is new, and under the lock
+    /// that of `hk_delta::agreed` and a look at each item.
     pub fn take<W: Wait>(&self, rt: &W, items: &[Item]) -> Result<(u64, Receipt<J>), Refusal>
         ensures legal { IfOk result (λ t. is_legal t.1 ≡ true) }
         ensures take { CountedAs (TakesSome J.kind items.now) result }
@@ -133,9 +136,9 @@ impl<J: NodeName, R: Wait + Drop> Node<J, R> {
         take_agreed(&mut *publisher, self.alloc, items)
     }
 
-    /// Merges a state, as the join of the whole of it, with the refusals of `join`. The whole is copied before the lock
-    /// is taken; where there is no memory for it, `Memory` comes after the tests all the same. Cost: that of the whole of
-    /// the state, and of `join`.
+    /// Merges a state, as the join of its full snapshot, with the refusals of `join`. The snapshot is made before the
+    /// lock is taken; where there is no memory for it, `Memory` comes after the tests all the same. Cost: that of the
+    /// full snapshot of the state, and of `join`.
     pub fn merge<W: Wait>(&self, rt: &W, state: &ReplicaState) -> Result<Receipt<J>, Refusal>
         ensures legal { IfOk result (λ list. is_legal list ≡ true) }
         ensures change { ChangesSome J.kind (MergeOf (cut state.now 0)) result }
@@ -146,13 +149,14 @@ impl<J: NodeName, R: Wait + Drop> Node<J, R> {
         merge_whole(&mut *publisher, state, whole)
     }
 
-    /// Prunes to a time, or to the least hold that stands where that is lower, and gives the horizon after it. Where the
-    /// lower of the two is at most the horizon, the horizon and what can be read stay as they are.
+    /// Prunes to a time, or to the least pinned time where that is lower, and returns the oldest readable time after it.
+    /// Where the lower of the two is at most the oldest readable time, that time and what can be read do not change.
     ///
-    /// Refusals in order: `Damaged`; `AheadOfMark` with the readable mark, where the time is above it; in a guarded node
-    /// `Conflict` where a row that goes lets an older one show, which no prune of one log's items does; `NodeFull`;
-    /// `Memory`; `Unpublished`, which tells the operation's number and no horizon: once `publish` gave a receipt, the
-    /// front of a seat that learnt it has the horizon. Cost: that of pruning a state, and O(h), h holds that stand.
+    /// Refusals in order: `Damaged`; `AheadOfMark` with the resolved time, where the time is above it; in a guarded node
+    /// `Conflict` where a row that is dropped lets an older one show, which no prune of one log's items does;
+    /// `NodeFull`; `Memory`; `Unpublished`, which has the operation's number and no time: once `publish` returned a
+    /// receipt, the front of a seat to which it was applied has the oldest readable time. Cost: that of pruning a state,
+    /// and O(h), h active pins.
     pub fn prune<W: Wait>(&self, rt: &W, time: Time) -> Result<(Time, Receipt<J>), Refusal>
         ensures legal { IfOk result (λ t. is_legal t.1 ≡ true) }
         ensures change { PrunesSome J.kind time result }
@@ -163,11 +167,11 @@ impl<J: NodeName, R: Wait + Drop> Node<J, R> {
         prune_to(&mut *publisher, time)
     }
 
-    /// Holds a time, so that no horizon passes it until the hold is released: a prune stops there, a join or merge of a
-    /// greater horizon is refused.
+    /// Pins a time: the oldest readable time does not pass it until the pin is released. A prune stops there, a join or
+    /// merge of a greater `horizon` is refused.
     ///
-    /// Refusals in order: `Damaged`; `TooOld` with the horizon, where the time is below it; `NodeFull`; `Memory`;
-    /// `Unpublished`, with the hold, which stands once its operation is published. Cost: O(1).
+    /// Refusals in order: `Damaged`; `TooOld` with the oldest readable time, where the time is below it; `NodeFull`;
+    /// `Memory`; `Unpublished`, with the pin, which is active once its operation is published. Cost: O(1).
     pub fn hold<W: Wait>(
         &self,
         rt: &W,
@@ -182,10 +186,10 @@ impl<J: NodeName, R: Wait + Drop> Node<J, R> {
         hold_at(&mut *publisher, time)
     }
 
-    /// Releases a hold.
+    /// Releases a pin.
     ///
-    /// Refusals in order: `Damaged`; `NoHold` where no hold of this number and time stands in this node; `NodeFull`;
-    /// `Memory`; `Unpublished`. Each but the last hands the hold back. Cost: O(h), h holds that stand.
+    /// Refusals in order: `Damaged`; `NoHold` where no pin of this number and time is active in this node;
+    /// `NodeFull`; `Memory`; `Unpublished`. Each but the last hands the pin back. Cost: O(h), h active pins.
     pub fn release<W: Wait>(
         &self,
         rt: &W,
@@ -200,8 +204,8 @@ impl<J: NodeName, R: Wait + Drop> Node<J, R> {
         release_hold(&mut *publisher, hold)
     }
 
-    /// Publishes what waits, and gives a receipt of the list. The only refusal is `Memory`, which comes only where
-    /// something waits, and then it still waits. It answers in a damaged node too. Cost: that of the operation that waits.
+    /// Publishes what waits, and returns a receipt of the list. The only refusal is `Memory`, which comes only where
+    /// something waits, and then it still waits. It answers in a failed node too. Cost: that of the operation that waits.
     pub fn publish<W: Wait>(&self, rt: &W) -> Result<Receipt<J>, Refusal>
         ensures legal { IfOk result (λ list. is_legal list ≡ true) }
         ensures publish { PublishesSome J.kind result }

@@ -36,7 +36,7 @@ impl Protocol<Replica, Prefix> for Published {
     ghost first = { no_view };
 }
 
-/// What entering and publishing tell.
+/// What entering and publishing show.
 pub struct Observes;
 
 impl Outcome<Replica, Prefix> for Observes {
@@ -141,7 +141,7 @@ pub(crate) fn copies_of<R: Wait + Drop>(
     Ok(copies)
 }
 
-/// What a change hands out. Contracts see it as the list of operations that ends with the change. It is of a published
+/// What a change returns. Contracts see it as the list of operations that ends with the change. It is of a published
 /// list: `Publisher::receipt` alone makes one.
 #[derive(Drop)]
 pub struct Receipt<J: NodeName> {
@@ -185,6 +185,18 @@ impl<J: NodeName> Receipt<J> {
 }
 
 /// What lies under the writer's lock. Contracts see it as the published list and what waits.
+///
+/// An example of how the copies A and B take turns. Readers read the shown copy. Each line has the operations in the
+/// copies after the change; the log has what the spare copy lacks, and what waits:
+///
+///     start        shown B: 1             spare A: 1             log: a blank operation, which changes nothing
+///     change 2     shown A: 1, 2          spare B: 1             log: 2
+///     change 3     shown B: 1, 2, 3       spare A: 1, 2          log: 3
+///     change 4     shown B: 1, 2, 3       spare A: 1, 2, 3       log: 4    no memory: `Unpublished`, 4 waits
+///     change 5     shown B: 1 to 5        spare A: 1 to 4        log: 5
+///
+/// Change 5 first publishes what waits: A gets 4 and is shown. Then 5 is tested on A, B gets 4 and 5, and B is shown.
+/// Before a copy is changed, the writer waits for the readers that still read it.
 #[derive(Drop)]
 pub struct Publisher<J: NodeName, R: Wait + Drop> {
     copies: Copies<R>,
@@ -239,7 +251,7 @@ impl<J: NodeName, R: Wait + Drop> Publisher<J, R> {
         publish_all(&mut self.copies.writer, &mut self.late, &self.copies.rt)
     }
 
-    /// What readers take now.
+    /// What readers read now.
     fn published(&self) -> &Replica
         ensures body { result.now.body ≡ replay self.now.0 }
         ensures prefix { result.now.prefix ≡ (J.book, self.now.0) }
@@ -260,7 +272,7 @@ impl<J: NodeName, R: Wait + Drop> Publisher<J, R> {
         }
     }
 
-    /// How many holds the published list has.
+    /// How many pins the published list has.
     pub fn hold_count(&self) -> u64
         ensures count { result ≡ (replay self.now.0).hold_count }
         ensures bound { result ≤ 2 ^ 62 }
@@ -269,7 +281,7 @@ impl<J: NodeName, R: Wait + Drop> Publisher<J, R> {
         self.published().body.hold_count()
     }
 
-    /// The horizon after the published list.
+    /// The oldest readable time after the published list.
     pub fn horizon(&self) -> Time
         ensures { result ≡ (replay self.now.0).content.horizon }
     {
@@ -283,15 +295,15 @@ impl<J: NodeName, R: Wait + Drop> Publisher<J, R> {
         self.published().body.is_damaged()
     }
 
-    /// Why an operation is refused after the published list, if it is. Cost: O(s + h), s streams, h holds that
-    /// stand, and in a guarded node that of the tests of a fragment, and of a prune, as `Body::refusal` has them.
+    /// Why an operation is refused after the published list, if it is. Cost: O(s + h), s streams, h active pins, and
+    /// in a guarded node that of the tests of a fragment, and of a prune, as `Body::refusal` has them.
     pub fn refusal(&self, op: &Op) -> Option<Refusal>
         ensures { result ≡ refusal_of (replay self.now.0) op.now }
     {
         self.published().body.refusal(op)
     }
 
-    /// Why the whole of a state is not joined after the published list, if it is not. Cost: as `refusal`.
+    /// Why the full snapshot of a state is not joined after the published list, if it is not. Cost: as `refusal`.
     pub fn merge_refusal(&self, state: &ReplicaState) -> Option<Refusal>
         ensures { result ≡ join_refused (replay self.now.0) (cut state.now 0) }
     {
@@ -305,15 +317,14 @@ impl<J: NodeName, R: Wait + Drop> Publisher<J, R> {
         self.published().body.full_refusal()
     }
 
-    /// The fragment of what items tell that is new after the published list, where they agree with it and with each
-    /// other.
+    /// The fragment of what is new in items after the published list, where they agree with it and with each other.
     pub fn agreed(&self, alloc: Global, items: &[Item]) -> Result<Fragment, Refusal>
         ensures { AgreesWith (replay self.now.0) items.now result }
     {
         self.published().body.agreed(alloc, items)
     }
 
-    /// How many of the items tell something new after the published list, each compared with it alone. It takes no memory.
+    /// How many of the items are new after the published list, each compared with it alone. It takes no memory.
     pub fn count_new(&self, items: &[Item]) -> u64
         ensures { result ≡ count_new (replay self.now.0).content items.now }
     {

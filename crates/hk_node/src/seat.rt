@@ -1,4 +1,4 @@
-//! The seats of readers, which take no lock and never wait.
+//! The seats of readers, which take no lock and never wait: a seat is a reader's session with monotonic reads.
 
 ghost use Rattle.std.specs.Prelude.{◌≡◌, ◌≢◌, ◌⊎◌, All, true, length, IfOk, IfErr, IsTrue, vec_len};
 ghost use Rattle.hk_types.specs.declared.faults.Refusal.TheVariants.{Damaged, Memory};
@@ -23,7 +23,7 @@ use hk_types::{Config, Key, Refusal, Table, Time};
 use std::alloc::{AllocError, Global};
 use std::marker::{Model, PhantomData};
 
-/// How the writer tells a new seat what was published.
+/// How the writer informs a new seat of what was published.
 pub struct Informs;
 
 impl Split<Prefix> for Informs {
@@ -77,11 +77,11 @@ pub(crate) fn seats_of<J: NodeName>(
     Ok(seats)
 }
 
-/// A reader's seat. Contracts see it as the list of operations that it has seen or was told of.
+/// A reader's seat: a session that never goes back in time. Contracts see it as the list of operations that it has
+/// seen or got a receipt of.
 ///
-/// A call that reads takes the copy that was published last, takes no lock of the node and waits for nobody, and holds
-/// no copy after it. `Memory` comes too where the seat could not enter, before every other test: so it is once the node
-/// is gone.
+/// A call that reads uses the copy that was published last, takes no lock of the node and waits for nobody, and keeps no copy
+/// after it. `Memory` comes too where the seat could not enter, before every other test: so it is once the node is gone.
 #[derive(Drop)]
 pub struct ReaderSeat<J: NodeName> {
     reader: Option<NodeReader>,
@@ -109,7 +109,7 @@ impl<J: NodeName> Model for ReaderSeat<J> {
     ghost invariant = { λ s. (s.prefix.0 ≡ J.book) × (kind_of s.prefix.1 ≡ J.kind) × MatchOption s.reader (Unit {0}) (λ r. IsOf J.book (known r.place)) };
 }
 
-/// Takes in what a copy has seen, where it is no older than what was seen.
+/// Notes what a copy has seen, where it is no older than what was seen.
 fn look(copy: &Replica, prefix: &mut Prefix) -> bool
     requires node { copy.now.prefix.0 ≡ prefix.old.0 }
     ensures node { prefix.new.0 ≡ prefix.old.0 }
@@ -140,7 +140,7 @@ impl<J: NodeName> ReaderSeat<J> {
         }
     }
 
-    /// Takes the copy that was published last, and takes in what it has seen.
+    /// Enters the copy that was published last, and notes what it has seen.
     fn enter(&mut self) -> Result<NodeReading, Refusal>
         ensures list { IsListOf J.kind self.new }
         ensures seen { IsPrefix self.old self.new }
@@ -167,7 +167,7 @@ impl<J: NodeName> ReaderSeat<J> {
         }
     }
 
-    /// Gives the copy back.
+    /// Leaves the copy.
     fn leave(&mut self, reading: NodeReading)
         requires { IsOf J.book (known reading.place) }
         ensures { self.new ≡ self.old }
@@ -254,25 +254,25 @@ impl<J: NodeName> ReaderSeat<J> {
 
     /// What the node answers to a query at a time, from a list of operations that begins with all that was seen.
     ///
-    /// Refusals in order: `Damaged` where the node met a conflict, which a guarded one never does; then as a state's: `TooOld`
-    /// below the horizon, `NotYet` above the readable mark, `Memory`. Cost: that of asking a state.
+    /// Refusals in order: `Damaged` where the node failed by a conflict, which a guarded one never does; then as a state's:
+    /// `TooOld` below the oldest readable time, `NotYet` above the resolved time, `Memory`. Cost: that of asking a state.
     pub fn ask(&mut self, time: Time, query: &Query) -> Result<Answer, Refusal>
         ensures legal { is_legal self.new ≡ true }
         ensures seen { IsPrefix self.old self.new }
         ensures answer { Answers (node_reply (replay self.new) time query.now) result }
         ensures sound { J.kind.guarded ≡ true → IfErr result (λ why. why ≢ Damaged) }
 
-        // In a guarded node the answer stays the answer, or its time comes below the horizon.
+        // In a guarded node the answer never changes, until its time is below the oldest readable one.
         ensures stays { J.kind.guarded ≡ true → IsFinal self.new time query.now result }
 
-        // A time that is held is too old only where the hold was released.
+        // A pinned time is too old only where the pin was released.
         ensures held { HoldsBack self.new time result }
         ensures primary { IsOfPrimary self.new time query.now result }
     {
         self.reply(time, query)
     }
 
-    /// What the node answers to a query at its readable mark, with that time: the newest answer that it has, and the
+    /// What the node answers to a query at its resolved time, with that time: the newest answer that it has, and the
     /// time that it was read at.
     ///
     /// Refusals in order: `Damaged`, `Memory`. Cost: that of asking a state, and O(s), s streams.
@@ -311,8 +311,8 @@ impl<J: NodeName> ReaderSeat<J> {
         self.first_page(time, table, low, high, most)
     }
 
-    /// How far the node is, and each of its streams: of a damaged node too, since it says whether it is damaged. The
-    /// only refusal is `Memory`. Cost: O(s + h), s streams, h holds that stand.
+    /// How far the node is, and each of its streams: of a failed node too, since the report says whether it failed.
+    /// The only refusal is `Memory`. Cost: O(s + h), s streams, h active pins.
     pub fn streams(&mut self) -> Result<StreamsTold, Refusal>
         ensures legal { is_legal self.new ≡ true }
         ensures seen { IsPrefix self.old self.new }
@@ -325,7 +325,7 @@ impl<J: NodeName> ReaderSeat<J> {
         streams
     }
 
-    /// From where to where the node can be read. Refusals in order: `Damaged`, `Memory`. Cost: O(s), s streams.
+    /// The node's range of readable times. Refusals in order: `Damaged`, `Memory`. Cost: O(s), s streams.
     pub fn front(&mut self) -> Result<Front, Refusal>
         ensures legal { is_legal self.new ≡ true }
         ensures seen { IsPrefix self.old self.new }
@@ -335,24 +335,24 @@ impl<J: NodeName> ReaderSeat<J> {
         self.marks()
     }
 
-    /// What the node holds that a replica may lack which is readable up to the base.
+    /// What the node holds and a replica may lack whose resolved time is at least the base.
     ///
-    /// Refusals in order: `Damaged`; `TooOld` where the base is below the horizon; `Memory`. Cost: that of the delta
-    /// of a state.
+    /// Refusals in order: `Damaged`; `TooOld` where the base is below the oldest readable time; `Memory`. Cost: that
+    /// of the delta of a state.
     pub fn delta_since(&mut self, base: Time) -> Result<Fragment, Refusal>
         ensures legal { is_legal self.new ≡ true }
         ensures seen { IsPrefix self.old self.new }
         ensures delta { GivesOrMemory (node_delta (replay self.new) base) result }
         ensures sound { J.kind.guarded ≡ true → IfErr result (λ why. why ≢ Damaged) }
 
-        // A base that is held is too old only where the hold was released.
+        // A pinned base is too old only where the pin was released.
         ensures held { HoldsBack self.new base result }
     {
         self.delta(base)
     }
 
-    /// All that the node holds, as a fragment of base 0. Refusals in order: `Damaged`, `Memory`. Cost: that of the
-    /// whole of a state, which is copied.
+    /// The node's full snapshot: all that it holds, as a fragment of base 0. Refusals in order: `Damaged`, `Memory`.
+    /// Cost: that of the full snapshot of a state, which is copied.
     pub fn whole(&mut self) -> Result<Fragment, Refusal>
         ensures legal { is_legal self.new ≡ true }
         ensures seen { IsPrefix self.old self.new }
@@ -362,8 +362,8 @@ impl<J: NodeName> ReaderSeat<J> {
         self.all()
     }
 
-    /// Takes in what a receipt of the same node tells: the longer of two lists of which one begins the other. It takes
-    /// no memory.
+    /// Applies a receipt of the same node: the seat has seen then the longer of the two lists, of which one is a
+    /// prefix of the other. It takes no memory.
     pub fn learn(&mut self, receipt: Receipt<J>)
         ensures one { (self.new ≡ self.old) ⊎ (self.new ≡ receipt) }
         ensures seen { IsPrefix self.old self.new }
@@ -383,7 +383,7 @@ impl<J: NodeName> ReaderSeat<J> {
         self.prefix.config()
     }
 
-    /// Whether the node is guarded, and so never damaged. It takes no memory.
+    /// Whether the node is guarded, and so never fails. It takes no memory.
     pub fn is_guarded(&self) -> bool
         ensures list { result ≡ guarded_of self.now }
         ensures node { result ≡ J.kind.guarded }
@@ -391,7 +391,7 @@ impl<J: NodeName> ReaderSeat<J> {
         self.prefix.is_guarded()
     }
 
-    /// How many operations it has seen or was told of. It takes no memory.
+    /// How many operations it has seen or got a receipt of. It takes no memory.
     pub fn seen(&self) -> u64
         ensures length { result ≡ length self.now }
         ensures legal { IsListOf J.kind self.now }

@@ -38,8 +38,8 @@ pub fn next_op(count: u64) -> Result<u64, Refusal>
     Ok(count + 1)
 }
 
-/// What a copy holds: the state of a replica, the holds that stand, whether it met a conflict, whether it is guarded, and
-/// the counts of holds and of operations.
+/// What a copy holds: the state of a replica, the active pins, whether it met a conflict, whether it is guarded, and the
+/// counts of pins and of operations.
 #[derive(Drop)]
 pub struct Body {
     state: ReplicaState,
@@ -63,7 +63,7 @@ impl Model for Body {
     ghost invariant = { λ b. (b.hold_count ≤ b.op_count) × (b.op_count ≤ 2 ^ 62) };
 }
 
-/// The first of two holds, by time and then by number.
+/// The first of two pins, by time and then by number.
 fn first_of_two(least: Option<Hold>, hold: &Hold) -> Option<Hold>
     ensures { result ≡ spec.first_of_two least hold.now }
 {
@@ -79,7 +79,7 @@ fn first_of_two(least: Option<Hold>, hold: &Hold) -> Option<Hold>
     })
 }
 
-/// The hold of the least time, and of the least number there. It takes no memory.
+/// The pin of the least time, and of the least number there. It takes no memory.
 fn least_hold(holds: &[Hold]) -> Option<Hold>
     ensures { result ≡ spec.least_hold holds.now }
 {
@@ -90,7 +90,7 @@ fn least_hold(holds: &[Hold]) -> Option<Hold>
     least
 }
 
-/// Whether a hold of this number and time is among these. It takes no memory.
+/// Whether a pin of this number and time is among these. It takes no memory.
 fn is_among(holds: &[Hold], reader: u64, at: Time) -> bool
     ensures { result ≡ list_any (is_hold reader at) holds.now }
 {
@@ -125,7 +125,7 @@ impl Body {
         }
     }
 
-    /// How far a prune to a time reaches: to the least hold that stands, where that is lower.
+    /// How far a prune to a time reaches: to the least pinned time, where that is lower.
     fn reach(&self, time: Time) -> Time
         ensures { result ≡ spec.prune_reach self.now time }
     {
@@ -135,7 +135,7 @@ impl Body {
         }
     }
 
-    /// The hold that the horizon of a join would pass, where it rises to this.
+    /// The pin that the oldest readable time would pass, where a join raises it to this.
     fn held_refusal(&self, horizon: Time) -> Option<Refusal>
         ensures { result ≡ held_refusal self.now horizon }
     {
@@ -213,7 +213,7 @@ impl Body {
         None
     }
 
-    /// The same of the whole of a state.
+    /// The same of the full snapshot of a state.
     fn past_refusal_of_state(&self, state: &ReplicaState) -> Option<Refusal>
         ensures { result ≡ spec.past_refusal self.now (join_touches_past self.now.content (cut state.now 0)) }
     {
@@ -240,7 +240,7 @@ impl Body {
         }
     }
 
-    /// Why the whole of a state is not joined. It is never refused for want of memory.
+    /// Why the full snapshot of a state is not joined. It is never refused for want of memory.
     pub fn merge_refusal(&self, state: &ReplicaState) -> Option<Refusal>
         ensures { result ≡ spec.join_refused self.now (cut state.now 0) }
     {
@@ -256,8 +256,8 @@ impl Body {
         }
     }
 
-    /// The fragment of what items tell that is new, where they agree with what is held and with each other; where this is
-    /// guarded, each entry that is told again is compared.
+    /// The fragment of what is new in items, where they agree with what is held and with each other; where this is
+    /// guarded, each entry whose number is applied already is compared.
     pub fn agreed(&self, alloc: Global, items: &[Item]) -> Result<Fragment, Refusal>
         ensures { AgreesWith self.now items.now result }
     {
@@ -267,7 +267,7 @@ impl Body {
         agreed_so(alloc, &self.state, items, self.guarded)
     }
 
-    /// How many of the items tell something new, each compared with what is held.
+    /// How many of the items are new, each compared with what is held.
     pub fn count_new(&self, items: &[Item]) -> u64
         ensures { result ≡ count_new self.now.content items.now }
     {
@@ -340,9 +340,9 @@ impl Body {
         self.full_refusal()
     }
 
-    /// Why an operation is refused, if it is. It is never refused for want of memory. Cost: O(s + h), s streams, h holds that
-    /// stand, which are looked at where the horizon of a join would rise, and for a release; where this is guarded, for a join
-    /// or merge also that of `conflicts_with` and of `hk_merge::join_touches_past`, for a prune that of
+    /// Why an operation is refused, if it is. It is never refused for want of memory. Cost: O(s + h), s streams, h active
+    /// pins, which are looked at where a join would raise the oldest readable time, and for a release; where this is guarded,
+    /// for a join or merge also that of `conflicts_with` and of `hk_merge::join_touches_past`, for a prune that of
     /// `ReplicaState::prune_touches_past`.
     pub fn refusal(&self, op: &Op) -> Option<Refusal>
         ensures { result ≡ refusal_of self.now op.now }
@@ -483,7 +483,7 @@ impl Body {
         self.damaged
     }
 
-    /// How many holds it gave.
+    /// How many pins it gave.
     pub fn hold_count(&self) -> u64
         ensures count { result ≡ self.now.hold_count }
         ensures bound { result ≤ 2 ^ 62 }
@@ -491,7 +491,7 @@ impl Body {
         self.hold_count
     }
 
-    /// The horizon of its state.
+    /// The oldest readable time of its state.
     pub fn horizon(&self) -> Time
         ensures { result ≡ self.now.content.horizon }
     {
@@ -508,7 +508,7 @@ impl Body {
         ask(alloc, &self.state, time, query)
     }
 
-    /// The answer to a query at the readable mark, with that time.
+    /// The answer to a query at the resolved time, with that time.
     pub fn latest(&self, alloc: Global, query: &Query) -> Result<(Time, Answer), Refusal>
         ensures latest { GivesSeen timed_seen (node_latest self.now query.now) result }
         ensures err { IfErr result (λ why. (why ≡ Memory) ⊎ (why ≡ Damaged)) }
@@ -537,7 +537,7 @@ impl Body {
         page(alloc, &self.state, time, table, low, high, most)
     }
 
-    /// The least time that is held, where a hold stands.
+    /// The least pinned time, where a pin is active.
     fn least_held(&self) -> Option<Time>
         ensures { result ≡ option_map (λ h. h.at) (spec.least_hold self.now.holds) }
     {
@@ -545,7 +545,7 @@ impl Body {
         Some(hold.at)
     }
 
-    /// How far it is, and each of its streams, though it be damaged. The only refusal is `Memory`.
+    /// How far it is, and each of its streams, even where it failed. The only refusal is `Memory`.
     pub fn streams(&self, alloc: Global) -> Result<StreamsTold, Refusal>
         ensures ok { IfOk result (λ told. streams_seen told ≡ node_streams self.now) }
         ensures err { IfErr result (λ why. why ≡ Memory) }
@@ -562,7 +562,7 @@ impl Body {
         })
     }
 
-    /// From where to where it can be read.
+    /// Its range of readable times.
     pub fn front(&self) -> Result<Front, Refusal>
         ensures { result ≡ node_front self.now }
     {
@@ -582,7 +582,7 @@ impl Body {
         delta_since(alloc, &self.state, base)
     }
 
-    /// All that it holds.
+    /// Its full snapshot: all that it holds.
     pub fn whole(&self, alloc: Global) -> Result<Fragment, Refusal>
         ensures { GivesOrMemory (node_whole self.now) result }
     {

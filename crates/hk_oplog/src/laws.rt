@@ -5,25 +5,25 @@ ghost use Rattle.hk_oplog.specs.Final.{FinalLaw};
 ghost use Rattle.hk_oplog.specs.Guarded.{GuardLaw};
 ghost use Rattle.hk_oplog.specs.Holds.{HoldLaw};
 
-/// No horizon passes a hold that stands.
+/// The oldest readable time never passes an active pin.
 pub fn hold_law()
     ensures { HoldLaw }
 {}
 
-/// No legal list of a guarded node is damaged.
+/// No legal list of a guarded node makes it fail.
 pub fn guard_law()
     ensures { GuardLaw }
 {}
 
 /// Where every join and merge of a list carries a part of one history, the content represents the union of their items
-/// at the greatest horizon joined, or reached by a prune, and the node is not damaged.
+/// at the greatest `horizon` joined, or reached by a prune, and the node has not failed.
 pub fn carry_law()
     ensures { CarryLaw }
 {}
 
 /// The past is final: after a legal list of a guarded node and after each legal list that it goes on with, a query has the
-/// same answer at each time from the horizon of the longer to the readable mark of the shorter. Nothing is premised of
-/// what came.
+/// same answer at each time from the oldest readable time of the longer to the resolved time of the shorter. The law
+/// assumes nothing of what came.
 pub fn final_law()
     ensures { FinalLaw }
 {}

@@ -1,4 +1,4 @@
-//! How many items tell a state something new.
+//! How many items are new to a state.
 
 ghost use Rattle.std.specs.Prelude.{◌≡◌};
 ghost use Rattle.hk_oplog.specs.NewItems as spec;
@@ -6,8 +6,8 @@ ghost use Rattle.hk_oplog.specs.NewItems as spec;
 use hk_log::Item;
 use hk_state::{ReplicaState, wrong_log};
 
-/// Whether an item of the state's log tells it something new: an entry whose number is not taken, or a mark that closes more
-/// than is closed. It takes no memory. Cost: O(log n), n extra numbers and waiting marks of the stream.
+/// Whether an item of the state's log is new to it: an entry whose number is not applied, or a mark that closes more than is
+/// closed. It takes no memory. Cost: O(log n), n extra numbers and waiting marks of the stream.
 fn is_new(state: &ReplicaState, item: &Item) -> bool
     ensures { result ≡ spec.is_new state.now item.now }
 {
@@ -20,7 +20,7 @@ fn is_new(state: &ReplicaState, item: &Item) -> bool
     }
 }
 
-/// How many of the items tell a state something new, each compared with the state alone. It takes no memory. Cost: that of
+/// How many of the items are new to a state, each compared with the state alone. It takes no memory. Cost: that of
 /// `is_new` for each.
 pub(crate) fn count_new(state: &ReplicaState, items: &[Item]) -> u64
     ensures { result ≡ spec.count_new state.now items.now }

@@ -5,13 +5,13 @@ ghost use Rattle.std.specs.Prelude.{◌≡◌};
 use hk_delta::Fragment;
 use hk_types::{Config, Time};
 
-/// A time that stays readable until the hold is released: while it stands, no horizon passes the time. Dropping
-/// it releases nothing.
+/// A pinned time: it stays readable until the pin is released. While the pin is active, the oldest readable time does
+/// not pass it. Dropping the value releases nothing.
 #[derive(Debug, PartialEq, Eq, Drop)]
 pub struct Hold {
-    /// The number of the hold. The holds of a node are numbered 1, 2, 3, and no number comes twice.
+    /// The number of the pin. The pins of a node are numbered 1, 2, 3, and no number comes twice.
     pub reader: u64,
-    /// The time that is held.
+    /// The pinned time.
     pub at: Time,
 }
 
@@ -20,8 +20,8 @@ pub struct Hold {
 pub struct NodeKind {
     /// The log.
     pub config: Config,
-    /// Whether a join or merge that conflicts with what the node holds is refused, instead of damaging the node, and so is
-    /// one, or a prune, that touches the past.
+    /// Whether a join or merge that conflicts with what the node holds is refused, instead of making the node fail, and so
+    /// is one, or a prune, that touches the past.
     pub guarded: bool,
 }
 
@@ -44,12 +44,12 @@ pub enum Op {
     Start(NodeKind),
     /// A join of a fragment.
     Join(Fragment),
-    /// A merge of a state, as the join of the whole of it.
+    /// A merge of a state, as the join of its full snapshot.
     Merge(Fragment),
-    /// A prune to a time, or to the least hold that stands where that is lower.
+    /// A prune to a time, or to the least pinned time where that is lower.
     Prune(Time),
-    /// A hold at a time.
+    /// A pin of a time.
     Hold(Time),
-    /// The release of a hold.
+    /// The release of a pin.
     Release { reader: u64, at: Time },
 }

@@ -29,7 +29,7 @@ impl Primary {
         // A count takes no memory.
         ensures count { (table : ℕ) → query.now ≡ Count table → time ≤ readable_on self.now → IsOk result }
 
-        // Nor does it to tell that there is no such row.
+        // Nor does the answer that there is no such row.
         ensures absent { time ≤ readable_on self.now
             → answer_on self.now time query.now ≡ One None → IsOk result }
         ensures lacks { time ≤ readable_on self.now

@@ -25,7 +25,7 @@ impl Primary {
         }
     }
 
-    /// What a commit of a transaction on a stream tells, where memory suffices.
+    /// What a commit of a transaction on a stream returns, where memory suffices.
     fn judge(&self, txn: &Txn, stream: StreamNo) -> Result<Option<Time>, Refusal>
         ensures verdict { result ≡ verdict_time (verdict_of self.now txn.now stream) }
         ensures lawful { AreWrites txn.now.writes }
@@ -64,7 +64,7 @@ impl Primary {
         }
     }
 
-    /// Emits an entry that may come next, and adds what it says to the tables.
+    /// Emits an entry that may come next, and adds its rows and ends to the tables.
     fn add(&mut self, entry: Entry) -> Result<(), Refusal>
         requires { IsNext self.old.config self.old.history entry }
         ensures ok { OnOk result (self.new ≡ with_entry self.old entry) }

@@ -51,8 +51,8 @@ impl Primary {
         }
     }
 
-    /// The time of the commit that put in the row that is there now, if one is there. It takes no memory.
-    /// Cost: O(log n), n versions.
+    /// The time of the commit that put the row that is there now, if one is there. It takes no memory. Cost:
+    /// O(log n), n versions.
     pub(crate) fn put_at(&self, key: RowKey) -> Option<Time>
         ensures { result ≡ put_time_of_row (commits self.now.history) key }
     {

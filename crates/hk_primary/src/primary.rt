@@ -16,9 +16,9 @@ use hk_types::{Config, LAST_TIME, Refusal, StreamNo, Time};
 use std::alloc::{AllocError, Global};
 use std::marker::Model;
 
-/// The primary of a log: the log, kept whole, and the tables that its commits left. Contracts see its
-/// configuration, the time that its clock starts after, the history that its log states, and the items of
-/// its log in the order in which they were emitted.
+/// The primary of a log: the complete log, and the tables that its commits left. Contracts see its configuration, the
+/// time that its clock starts after, the history that its log states, and the items of its log in the order in which
+/// they were emitted.
 #[derive(Drop)]
 pub struct Primary {
     pub(crate) alloc: Global,
@@ -132,8 +132,8 @@ impl Primary {
     /// Emits the mark of a stream at the time of the last commit: it counts the entries of the stream. Where that
     /// time is `LAST_TIME`, the mark retires the stream, as `retire` does.
     ///
-    /// A stream above the configured number is refused `NoStream`, a retired one `Retired`, and then `Memory`
-    /// comes where a growth was refused. A refusal changes nothing. It takes one place in the log.
+    /// A stream above the configured number is refused `NoStream`, a retired one `Retired`, and then `Memory` comes
+    /// where a growth was refused. A refusal changes nothing. It adds one item to the log.
     pub fn mark(&mut self, stream: StreamNo) -> Result<Mark, Refusal>
         ensures told { IfOk result (λ mark. mark ≡ mark_of self.old stream) }
         ensures done { IfOk result (λ mark. self.new ≡ with_mark self.old mark) }
@@ -147,11 +147,11 @@ impl Primary {
         self.close(stream, newest)
     }
 
-    /// Retires a stream: it takes no commit from then on, and its last mark, which is emitted, closes it up to
-    /// `LAST_TIME`. So it holds no replica's readable mark back any more.
+    /// Retires a stream: it accepts no commit from then on, and its last mark, which is emitted, closes it up to
+    /// `LAST_TIME`. So it holds no replica's resolved time back any more.
     ///
     /// A stream above the configured number is refused `NoStream`, one that is retired already `Retired`, and then
-    /// `Memory` comes where a growth was refused. A refusal changes nothing. It takes one place in the log.
+    /// `Memory` comes where a growth was refused. A refusal changes nothing. It adds one item to the log.
     pub fn retire(&mut self, stream: StreamNo) -> Result<Mark, Refusal>
         ensures told { IfOk result (λ mark. mark ≡ last_mark_of self.old stream) }
         ensures done { IfOk result (λ mark. self.new ≡ with_mark self.old mark) }
@@ -225,9 +225,9 @@ impl Primary {
         self.log.as_slice()
     }
 
-    /// Copies of the items from a position on, in the order in which they were emitted. Positions are counted
-    /// from 1, and 0 counts as 1; past the end there are none. The only refusal is `Memory`. Cost: O(n + b),
-    /// n items, ends and rows given, b bytes of bodies, all copied.
+    /// Copies of the items from a position on, in the order in which they were emitted. Positions are counted from 1,
+    /// and 0 counts as 1; past the end there are none. The only refusal is `Memory`. Cost: O(n + b), n items, ends
+    /// and rows returned, b bytes of bodies, all copied.
     pub fn items(&self, from: u64) -> Result<Vec<Item>, Refusal>
         ensures ok { IfOk result (λ items. items.items ≡ drop (from - 1) self.now.items) }
         ensures honest { IsHonest self.now }

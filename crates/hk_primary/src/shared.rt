@@ -17,9 +17,9 @@ use std::marker::Brand;
 use std::sync::ledger::{Blank, Book, Ledger, Share};
 use std::sync::{Mutex, Wait};
 
-/// Which shared primary it is: its configuration, the time that its clock starts after, and the ledger that its
-/// items are counted in. It is known in the proofs alone: a function over it is called with `Brand`, and the
-/// caller says there which values these are.
+/// Which shared primary it is: its configuration, the time that its clock starts after, and the ledger that its items
+/// are counted in. It is known in the proofs alone: a function over it is called with `Brand`, and the caller states
+/// there which values these are.
 pub trait Naming: Ledger {
     ghost use Rattle.std.specs.Prelude.{ℕ};
     ghost use Rattle.hk_types.specs.Values.{ConfigValue};
@@ -47,13 +47,12 @@ struct Held<K: Naming> {
     ghost counted: { emitted.total ≡ length primary.items },
 }
 
-/// A primary under a lock, for threads that share it. Each call waits for the lock, and then makes the call of
-/// the same name on the primary that it finds, which has the configuration and the clock that its name says. So
-/// whenever the lock is got, the log holds items of its own history alone and the tables are those that this
-/// history left: what every `Primary` keeps. Of two calls nothing is said of what came between them, but how many
-/// items were emitted.
+/// A primary under a lock, for threads that share it. Each call waits for the lock, and then makes the call of the
+/// same name on the primary that it finds, which has the configuration and the clock of its name. So whenever the lock
+/// is got, the log holds items of its own history alone and the tables are those that this history left: what every
+/// `Primary` keeps. The contracts of two calls say nothing of what came between them, but how many items were emitted.
 ///
-/// Items are counted in shares. Whoever makes a shared primary gets the whole, and splits a share off for each
+/// Items are counted in shares. Whoever makes a shared primary gets the share of all, and splits a share off for each
 /// thread that emits. A call that emits an item adds one to the share that it is handed; a share never counts more
 /// items than there are, and all shares merged count them all. Shares take no memory and no time.
 #[derive(Drop)]
@@ -131,7 +130,7 @@ impl<K: Naming> SharedPrimary<K> {
         self.held.lock(rt).primary.last()
     }
 
-    /// The greatest time that may be read, as `Primary::readable` tells it.
+    /// The greatest time that may be read, as `Primary::readable` returns it.
     pub fn readable<R: Wait>(&self, rt: &R) -> Time
         ensures { AtSome K.config K.after 0 (λ p. result ≡ readable_on p) }
     {
@@ -225,7 +224,7 @@ impl<K: Naming> SharedPrimary<K> {
         Ok(mark)
     }
 
-    /// How many items were emitted: no fewer than the share counts, and just as many where it is the whole.
+    /// How many items were emitted: no fewer than the share counts, and just as many where it is the share of all.
     pub fn item_count<R: Wait>(&self, rt: &R, share: &mut Share<K>) -> u64
         ensures told { AtSome K.config K.after share.old.amount (λ p. result ≡ length p.items) }
         ensures parts { share.new.parts ≡ share.old.parts }
@@ -238,7 +237,7 @@ impl<K: Naming> SharedPrimary<K> {
         held.primary.item_count()
     }
 
-    /// Copies of the items from a position on, as `Primary::items` gives them: what one call gives are items of
+    /// Copies of the items from a position on, as `Primary::items` returns them: what one call returns are items of
     /// one history. The only refusal is `Memory`. Cost: that of `Primary::items`.
     pub fn items<R: Wait>(&self, rt: &R, from: u64) -> Result<Vec<Item>, Refusal>
         ensures ok { IfOk result

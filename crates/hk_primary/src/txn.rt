@@ -91,7 +91,7 @@ impl Txn {
         None
     }
 
-    /// Puts a row in at a key, in place of the one that is there, if one is.
+    /// Puts a row at a key, in place of the one that is there, if one is.
     ///
     /// A key that the transaction wrote already is refused `TwiceWritten`, one more than `MOST_WRITES` writes
     /// `TooManyWrites`, and then comes `Memory` where a growth was refused. A refusal hands the row back and

@@ -57,7 +57,7 @@ fn by_tag(
     facts.rows_tagged(alloc, table, tag, time)
 }
 
-/// The answer to a query on the rows that facts show at a time.
+/// The answer to a query on the rows that are visible at a time by these facts.
 ///
 /// The only refusal is `Memory`. A `Count` and a row that is not there take no memory. Cost: `Get` O(log n + b), `Range`
 /// O(log n + k · log n + b), `ByTag` O(k · log n + b), `Count` O(log n + k · log n), n facts, k keys of the range, of the

@@ -8,13 +8,13 @@ use hk_state::ReplicaState;
 use hk_types::{Key, Refusal, Table, Time};
 use std::alloc::Global;
 
-/// The first page of the rows of a table with keys from `low` to `high`, both inside, that a state shows at a time: at
-/// most `most` of them, and no more than `PAGE_BYTES` has room for; and whether more follow. The page after it has
-/// `low` above its last key. Where `most` is 0 a page has no row.
+/// The first page of the rows of a table with keys from `low` to `high`, both inside, that are visible at a time in a
+/// state: at most `most` of them, and no more than `PAGE_BYTES` has room for; and whether more follow. The page after
+/// it has `low` above its last key. Where `most` is 0 a page has no row.
 ///
-/// Refusals in order, as those of `ask`: `TooOld` below the horizon, `NotYet` above the readable mark, `Memory`.
-/// Cost: O(log n + k · log n + b), n facts, k keys of which anything is known from low up to the first row that is left
-/// out, b bytes of the bodies that are copied.
+/// Refusals in order, as those of `ask`: `TooOld` below the oldest readable time, `NotYet` above the resolved time,
+/// `Memory`. Cost: O(log n + k · log n + b), n facts, k keys of which anything is known from low up to the first row
+/// that is left out, b bytes of the bodies that are copied.
 pub fn page(
     alloc: Global,
     state: &ReplicaState,

@@ -30,13 +30,13 @@ pub(crate) fn time_refusal(state: &ReplicaState, time: Time) -> Option<Refusal>
     None
 }
 
-/// What a state answers to a query at a time, with the primary's rows of that time where it took the items
-/// of a primary's log.
+/// What a state answers to a query at a time, with the primary's rows of that time where it applied the items of a
+/// primary's log.
 ///
-/// A time below the horizon is refused `TooOld` with the horizon, one above the readable mark `NotYet` with
-/// that, and then `Memory` comes where a growth was refused; a `Count` and a row that is not there take no
-/// memory. Cost: `Get` O(log n + b), `Range` and `ByTag` O(log n + k · log n + b), `Count` O(log n + k · log n), n facts,
-/// k keys of the range, of the table, or that have or had a row with the tag, b bytes of the bodies that are copied.
+/// A time below the oldest readable one is refused `TooOld` with that one, a time above the resolved time `NotYet` with
+/// that, and then `Memory` comes where a growth was refused; a `Count` and a row that is not there take no memory. Cost:
+/// `Get` O(log n + b), `Range` and `ByTag` O(log n + k · log n + b), `Count` O(log n + k · log n), n facts, k keys of the
+/// range, of the table, or that have or had a row with the tag, b bytes of the bodies that are copied.
 pub fn ask(
     alloc: Global,
     state: &ReplicaState,
@@ -49,7 +49,7 @@ pub fn ask(
     // A count takes no memory.
     ensures count { (table : ℕ) → query.now ≡ Count table → IfErr result (λ why. why ≢ Memory) }
 
-    // Nor does it to tell that there is no such row.
+    // Nor does the answer that there is no such row.
     ensures absent { reply state.now time query.now ≡ Ok (One None) → IsOk result }
     ensures memory { IfErr result (λ why. why ≡ Memory
         → asking_may_lack (reply state.now time query.now) ≡ true) }
@@ -60,7 +60,7 @@ pub fn ask(
     }
 }
 
-/// What a state answers to a query at its readable mark, with that time: the newest answer that it has.
+/// What a state answers to a query at its resolved time, with that time: the newest answer that it has.
 ///
 /// The only refusal is `Memory`; a `Count` takes none, nor does a row that is not there. Cost: that of `ask`, and O(s),
 /// s streams.
@@ -70,7 +70,7 @@ pub fn latest(alloc: Global, state: &ReplicaState, query: &Query) -> Result<(Tim
     ensures err { IfErr result (λ why. why ≡ Memory) }
     ensures primary { IsLatestOfPrimary state.now query.now result }
 
-    // A count takes no memory, nor does it to tell that there is no such row.
+    // A count takes no memory, nor does the answer that there is no such row.
     ensures count { (table : ℕ) → query.now ≡ Count table → IsOk result }
     ensures absent { reply state.now (readable state.now) query.now ≡ Ok (One None) → IsOk result }
 {

@@ -8,9 +8,9 @@ use std::io;
 use std::io::{Read, Write};
 use std::marker::Model;
 
-/// A reader or a writer, with the number of its calls and of those that failed. A call is a read, a write or a
-/// flush; a call fails that answers an error, and a write that takes 0 bytes. Each number stays at 2^64 - 1 once
-/// it is there. Cost: that of the device's call.
+/// A reader or a writer, with the number of its calls and of those that failed. A call is a read, a write or a flush;
+/// a call fails that returns an error, and a write that takes 0 bytes. Each number is 2^64 - 1 for good once it is
+/// there. Cost: that of the device's call.
 #[derive(Drop)]
 pub struct Counted<D> {
     device: D,
@@ -57,14 +57,14 @@ impl<D> Counted<D> {
         self.calls
     }
 
-    /// How many calls failed: those that answered an error, and the writes that took 0 bytes.
+    /// How many calls failed: those that returned an error, and the writes that took 0 bytes.
     pub fn faults(&self) -> u64
         ensures { result ≡ self.now.faults }
     {
         self.faults
     }
 
-    /// Gives the device back.
+    /// Returns the device.
     pub fn into_inner(self) -> D
         ensures { result ≡ self.device }
     {

@@ -8,9 +8,9 @@ use hk_types::FormFault;
 /// How a session ended.
 #[derive(Clone, Copy, Debug, PartialEq, Eq)]
 pub enum Ended {
-    /// All that was read is whole requests, and the reader is at its end.
+    /// All that was read is complete requests, and the reader is at its end.
     Clean,
-    /// What follows the whole requests has this fault. `Truncated` is that of an end inside a frame.
+    /// What follows the complete requests has this fault. `Truncated` is that of an end inside a frame.
     Fault(FormFault),
     /// A growth of the session's own buffers was refused.
     Memory,

@@ -10,10 +10,10 @@ pub trait Host {
     ghost use Rattle.hk_wire.specs.declared.request.Request.{Request};
     ghost use Rattle.hk_wire.specs.declared.reply.Reply.{Reply};
 
-    /// From the first state the host may give this reply to the request and be left in the second state.
+    /// From the first state the host may return this reply to the request and be left in the second state.
     ghost may: { Self → Request → Reply → Self → Type 0 };
 
-    /// Holds of a host that can be asked; of each one, where an `impl` does not say.
+    /// True of a host that can be asked; of each one, where an `impl` does not define it.
     ghost ready: { Self → Type 0 } = { λ _. ⊤ };
 
     /// Answers a request. A host that can be asked can be asked again.

@@ -1,8 +1,8 @@
 //! A session: requests are read from a reader, and their replies written to a writer.
 //!
-//! `serve` is the session. Who answers is a `Host`; its `may` says which replies it may give, and the session
-//! promises that what it writes is what the host may answer to what was read. Which versions of requests it reads is its
-//! const parameter: 1 for version 1 alone, 2 for both.
+//! `serve` is the session. Who answers is a `Host`; its `may` defines which replies it may return, and the session
+//! promises that what it writes is what the host may answer to what was read. Its const parameter fixes which versions
+//! of requests it reads: 1 for version 1 alone, 2 for both.
 #![tactic(auto)]
 
 mod counted;

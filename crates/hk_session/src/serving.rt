@@ -1,4 +1,4 @@
-//! A whole session.
+//! A complete session.
 
 ghost use Rattle.std.specs.Prelude.{◌≡◌, ◌≢◌, ◌<◌, ◌≤◌, ◌+◌, ◌^◌, ℕ, List, [], Ok, Some, IfSome, OnErr};
 ghost use Rattle.std.specs.Io.KnownBytes.{IsAtEnd};
@@ -16,10 +16,10 @@ use hk_wire::{Reply, Request, RequestFeeder};
 use std::alloc::{AllocError, Global};
 use std::io::{Read, Write};
 
-/// So many bytes of replies are held back at most.
+/// How many bytes of replies are held back at most.
 const MOST_HELD: usize = 65_536;
 
-/// Answers one request. Its reply is held, where all that are held have at most `most` bytes, or written with them.
+/// Answers one request. Its reply is kept, where all that are kept have at most `most` bytes, or written with them.
 fn answer_one<W: Write, H: Host>(
     asked: Request,
     most: usize,
@@ -39,7 +39,7 @@ fn answer_one<W: Write, H: Host>(
     send(&reply, most, held, writer)
 }
 
-/// Answers the requests in order, and writes the replies: in one piece, or as soon as so many bytes stand.
+/// Answers the requests in order, and writes the replies: in one piece, or as soon as there are so many bytes.
 fn answer_all<W: Write, H: Host>(
     alloc: Global,
     requests: Vec<Request>,
@@ -69,7 +69,7 @@ fn answer_all<W: Write, H: Host>(
     }
 }
 
-/// Says which fault the session ends with.
+/// Writes the fault that the session ends with.
 fn refuse<W: Write>(alloc: Global, fault: FormFault, writer: &mut Counted<W>) -> Ended
     requires { writer.old.faults ≡ 0 }
     ensures sends { RefusesBy W.contents writer.old writer.new fault result }
@@ -85,8 +85,8 @@ fn refuse<W: Write>(alloc: Global, fault: FormFault, writer: &mut Counted<W>) ->
     }
 }
 
-/// Takes the next piece of the stream into an empty list, and gives the fault that follows the requests, if one does.
-/// Where memory runs out the feeder and the list are as before.
+/// Reads the next piece of the stream into an empty list, and returns the fault that follows the requests, if one
+/// does. Where memory runs out the feeder and the list are as before.
 fn take_in<const LATEST: u8>(
     feeder: &mut RequestFeeder<LATEST>,
     piece: &[u8],
@@ -105,7 +105,7 @@ fn take_in<const LATEST: u8>(
     }
 }
 
-/// Takes the next piece of the stream, and answers the requests that are whole now. `None` goes on.
+/// Processes the next piece of the stream, and answers the requests that are complete now. `None` goes on.
 fn handle_piece<const LATEST: u8, W: Write, H: Host>(
     alloc: Global,
     piece: &[u8],
@@ -160,7 +160,7 @@ fn finish<const LATEST: u8, W: Write>(
 /// How often a session reads at most.
 const MOST_READS: u64 = 4_294_967_296;
 
-/// The session, by its parts.
+/// The session, by its fields.
 fn run<const LATEST: u8, R: Read, W: Write, H: Host>(
     alloc: Global,
     reader: &mut Counted<R>,
@@ -210,21 +210,21 @@ fn run<const LATEST: u8, R: Read, W: Write, H: Host>(
     Ended::ReadFault
 }
 
-/// Answers the requests that a reader gives, one after the other, and writes the replies.
+/// Answers the requests that a reader returns, one after the other, and writes the replies.
 ///
-/// `Clean` is an end of the input between requests. A form fault, an end inside a frame included, is told by `Refused`
-/// with its number, after the replies to the requests before it, and ends the session: so does a request of a version
-/// above `LATEST`, which is 1 or 2, with `BadVersion`. A reply is written as its encoding, and where it has none as `Refused`
-/// with 2, in its version; a fault of form is told in version 1, whatever was asked. The replies to the requests of
-/// one read are written together, or as soon as they have more than 65,536 bytes. Where memory for the session's own
-/// buffers runs out, what stands is written and nothing more, and the last requests may stay unanswered. A failed
-/// write, or one that takes 0 bytes, ends it, and so does a failed read, an interrupted one too; so does the read
-/// number 2^32, where it does not end otherwise. Of the requests that were executed the last may stay without a reply after
-/// a failed write, or where memory ran out, and before it others, whose replies have together at most 65,536 bytes: none
-/// beyond these is executed. The writer is never flushed: who hands in one that keeps bytes back flushes it after.
+/// `Clean` is an end of the input between requests. A malformed request, an end inside a frame included, is answered
+/// `Refused` with the number of its fault, after the replies to the requests before it, and ends the session: so does a
+/// request of a version above `LATEST`, which is 1 or 2, with `BadVersion`. A reply is written as its encoding, and where it
+/// has none as `Refused` with 2, in its version; a malformed request is answered in version 1, whatever was asked. The
+/// replies to the requests of one read are written together, or as soon as they have more than 65,536 bytes. Where memory for
+/// the session's own buffers runs out, what is ready is written and nothing more, and the last requests may stay unanswered.
+/// A failed write, or one that takes 0 bytes, ends it, and so does a failed read, an interrupted one too; so does the read
+/// number 2^32, where it does not end otherwise. Of the requests that were executed the last may be without a reply after a
+/// failed write, or where memory ran out, and before it others, whose replies have together at most 65,536 bytes: none beyond
+/// these is executed. The writer is never flushed: who hands in one that keeps bytes back flushes it after.
 ///
-/// The host has to be such as can be asked (`Host::ready`), and is left so, as the last request that it answered left
-/// it. Cost: that of the answers, a copy of each reply, and a pass over what is read; up to 65,536 bytes are read at a time.
+/// The host has to be ready (`Host::ready`), and is left ready, as the last request that it answered left it. Cost: that of
+/// the answers, a copy of each reply, and a pass over what is read; up to 65,536 bytes are read at a time.
 pub fn serve<const LATEST: u8, R: Read, W: Write, H: Host>(
     alloc: Global,
     reader: &mut Counted<R>,
@@ -237,8 +237,8 @@ pub fn serve<const LATEST: u8, R: Read, W: Write, H: Host>(
     // Where it ends clean or with a fault, what was written is the transcript of what was read.
     ensures whole { ServesAll LATEST H.may host.old host.new R.remaining reader.old reader.new
         W.contents writer.old writer.new result }
-    // Where memory ran out or a write failed, what was written is the transcript of a front of what was read, of whole
-    // requests or of all bytes: all of it, or cut off in its last replies. Nothing but that front was executed.
+    // Where memory ran out or a write failed, what was written is the transcript of a prefix of what was read, of
+    // complete requests or of all bytes: all of it, or cut off in its last replies. Nothing but that prefix was executed.
     ensures stopped { ServesPart LATEST H.may host.old host.new R.remaining reader.old reader.new
         W.contents writer.old writer.new result }
     // The bytes read, and what was done and written for them.
@@ -259,7 +259,7 @@ pub fn serve<const LATEST: u8, R: Read, W: Write, H: Host>(
     run::<LATEST, _, _, _>(alloc, reader, writer, host)
 }
 
-/// The session of bytes, by its parts.
+/// The session of bytes, by its fields.
 fn run_bytes<const LATEST: u8, W: Write, H: Host>(
     alloc: Global,
     bytes: &[u8],
@@ -295,15 +295,15 @@ pub fn serve_bytes<const LATEST: u8, W: Write, H: Host>(
     // Where it ends clean or with a fault, what was written is the transcript of the bytes.
     ensures whole { WritesAll LATEST H.may host.old host.new W.contents writer.old writer.new
         bytes.now result }
-    // Where memory ran out or a write failed, what was written is the transcript of a front of the bytes, of whole
-    // requests or of all of them: all of it, or cut off in its last replies. Nothing but that front was executed.
+    // Where memory ran out or a write failed, what was written is the transcript of a prefix of the bytes, of complete
+    // requests or of all of them: all of it, or cut off in its last replies. Nothing but that prefix was executed.
     ensures stopped { WritesPart LATEST H.may host.old host.new W.contents writer.old writer.new
         bytes.now result }
     // What was done and written for the bytes.
     ensures transcript { StepsBy H.may host.old host.new W.contents writer.old writer.new
         bytes.now (Ends LATEST result) }
     ensures ready { H.ready host.new }
-    // They stand in memory, so no read fails.
+    // They are in memory, so no read fails.
     ensures reads { result ≢ ends.ReadFault }
     ensures write_fault { result ≡ ends.WriteFault → 0 < writer.new.faults }
     ensures writes { result ≢ ends.WriteFault → writer.new.faults ≡ 0 }

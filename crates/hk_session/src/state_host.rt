@@ -21,11 +21,11 @@ use std::marker::Model;
 /// A host over the state of a replica, with the number of its operations. Making it is the first one, and each
 /// change that it accepts is another, also one that leaves the content as it was.
 ///
-/// It takes items all or nothing, as one fragment; joins fragments; prunes; and tells what the state holds. A
-/// change is refused `NodeFull` after operation 2^62, before any other test; else each request is refused as the
-/// call on the state is, and `Memory` comes last: only where the request is not refused otherwise, or, of items,
-/// where they make a fragment. A request of version 2 is refused `Form(BadKind)`. A front, a count and a row that is not
-/// there take no memory. A refused request changes nothing. Cost: that of the calls.
+/// It applies items all or nothing, as one fragment; joins fragments; prunes; and returns what the state holds. A change
+/// is refused `NodeFull` after operation 2^62, before any other test; else each request is refused as the call on the
+/// state is, and `Memory` comes last: only where the request is not refused otherwise, or, of items, where they make a
+/// fragment. A request of version 2 is refused `Form(BadKind)`. A front, a count and a row that is not there take no
+/// memory. A refused request changes nothing. Cost: that of the calls.
 #[derive(Drop)]
 pub struct StateHost {
     alloc: Global,
@@ -118,8 +118,8 @@ impl StateHost {
         self.settle(outcome)
     }
 
-    /// Joins all that a peer's state holds, as a MergeThis of the whole of it, without a copy of it: `NodeFull` comes first, then
-    /// the refusals of `merge`, of which `Memory` is the last. A refusal changes nothing. Cost: that of `merge`.
+    /// Joins all that a peer's state holds, as a MergeThis of its full snapshot, without a copy of it: `NodeFull` comes first,
+    /// then the refusals of `merge`, of which `Memory` is the last. A refusal changes nothing. Cost: that of `merge`.
     pub fn merge(&mut self, peer: &ReplicaState) -> Reply
         ensures { Takes self.old (join_result self.old.content (cut peer.now 0)) result self.new }
     {

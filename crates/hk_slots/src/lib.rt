@@ -1,4 +1,4 @@
-//! An ordered map whose values stay in numbered slots, with guesses at the slots before it.
+//! An ordered map whose values do not move: each is in a numbered slot. Guesses at the slots are tried before the map.
 #![tactic(auto)]
 
 mod hints;

@@ -1,11 +1,11 @@
-//! The places of values.
+//! The slots of values.
 
 ghost use Rattle.std.specs.Prelude.{◌≡◌, IfOk};
 
 use std::alloc::AllocError;
 use std::marker::Model;
 
-/// The place of a value in a `SlotMap`: a number of 32 bits.
+/// The slot of a value in a `SlotMap`: a number of 32 bits.
 #[derive(Copy)]
 pub struct Slot {
     number: u32,
@@ -48,7 +48,7 @@ impl Slot {
         self.number
     }
 
-    /// Where the slot lies among all of them.
+    /// The index of the slot among all of them.
     pub(crate) fn index(self) -> usize
         ensures { result ≡ self }
     {

@@ -23,6 +23,17 @@ use std::marker::Model;
 use std::ops::RangeBounds;
 
 /// A map in which each value keeps its slot until its key is removed.
+///
+/// An example, with `slots` and `entries` after each call:
+///
+///     new()                        slots {}            entries []
+///     insert(9, A) returns 0       slots {9: 0}        entries [(9, A)]
+///     insert(5, B) returns 1       slots {5: 1, 9: 0}  entries [(9, A), (5, B)]
+///     remove(9) returns A          slots {5: 1}        entries [free, (5, B)]
+///     insert(7, C) returns 0       slots {5: 1, 7: 0}  entries [(7, C), (5, B)]
+///
+/// `get(7)` first looks at the slot that `hints` has for the hash of 7. Where the key in it is 7, that is the value.
+/// Else the guess was wrong, and `slots` has the slot.
 #[derive(Drop)]
 pub struct SlotMap<K: Key, V> {
     slots: BTreeMap<K, Slot>,
@@ -79,9 +90,9 @@ impl<K: Key, V> SlotMap<K, V> {
         Some(value)
     }
 
-    /// Adds a key that is not there, and gives the slot of its value. It is a free slot, or one more.
+    /// Adds a key that is not there, and returns the slot of its value. It is a free slot, or one more.
     ///
-    /// The only error is out of memory, which comes too where all 2^32 slots are taken; then nothing is changed.
+    /// The only error is out of memory, which comes too where all 2^32 slots are in use; then nothing is changed.
     /// Cost: O(log n), n keys.
     pub fn insert(&mut self, key: K, value: V) -> Result<Slot, AllocError>
     where
@@ -102,8 +113,8 @@ impl<K: Key, V> SlotMap<K, V> {
         Ok(slot)
     }
 
-    /// Removes a key, and gives its value, where it is there. Its slot is free then. It takes no memory.
-    /// Cost: O(log n), n keys.
+    /// Removes a key, and returns its value, where it is there. Its slot is free then. It takes no memory. Cost:
+    /// O(log n), n keys.
     pub fn remove(&mut self, key: K) -> Option<V>
         ensures value { result ≡ finmap.get (map_of K.cmp self.old) key }
         ensures map { map_of K.cmp self.new ≡ finmap.remove (map_of K.cmp self.old) key }
@@ -187,10 +198,10 @@ impl<K: Key, V> SlotMap<K, V> {
         Some(&mut entry.1)
     }
 
-    /// The value of a key to write to. A key that is not there is put in first, with the value `fresh`.
+    /// The value of a key to write to. A key that is not there is inserted first, with the value `fresh`.
     ///
-    /// The only error is out of memory, for a key that is not there; it comes too where all 2^32 slots are taken. Then
-    /// nothing is changed. Cost: O(log n), n keys: one way down, or none where the key is known.
+    /// The only error is out of memory, for a key that is not there; it comes too where all 2^32 slots are in use.
+    /// Then nothing is changed. Cost: O(log n), n keys: one way down, or none where the key is known.
     #[inline(always)]
     pub fn get_or_insert(&mut self, key: K, fresh: V) -> Result<&mut V, AllocError>
     where
@@ -204,7 +215,7 @@ impl<K: Key, V> SlotMap<K, V> {
         Ok(&mut entry.1)
     }
 
-    /// The slot of a key. A key that is not there is put in, with the value `fresh`.
+    /// The slot of a key. A key that is not there is inserted, with the value `fresh`.
     #[inline(always)]
     fn slot_or_new(&mut self, key: K, fresh: V) -> Result<Slot, AllocError>
     where
@@ -220,7 +231,7 @@ impl<K: Key, V> SlotMap<K, V> {
         }
     }
 
-    /// The slot of a key that no hint tells. A key that is not there is put in, with the value `fresh`.
+    /// The slot of a key that no hint finds. A key that is not there is inserted, with the value `fresh`.
     fn found_or_new(&mut self, key: K, fresh: V) -> Result<Slot, AllocError>
     where
         V: Drop,
@@ -242,7 +253,7 @@ impl<K: Key, V> SlotMap<K, V> {
         Ok(slot)
     }
 
-    /// The slot of a key, which is noted where no hint told it.
+    /// The slot of a key, which is noted where no hint found it.
     #[inline(always)]
     fn slot_noted(&mut self, key: K) -> Option<Slot>
         ensures slot { result ≡ finmap.get (slots_of K.cmp self.old) key }
@@ -259,7 +270,7 @@ impl<K: Key, V> SlotMap<K, V> {
         }
     }
 
-    /// The slot of a key, where a hint tells it.
+    /// The slot of a key, where a hint finds it.
     #[inline(always)]
     fn hinted(&self, key: K) -> Option<Slot>
         ensures slot { IfSome result (λ slot. finmap.get (slots_of K.cmp self.now) key ≡ Some slot) }

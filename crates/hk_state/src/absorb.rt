@@ -87,7 +87,7 @@ fn take_entry(
     Ok(Took::Taken)
 }
 
-/// Takes a mark that tells something new, or nothing of it.
+/// Applies a mark that is new, or nothing of it.
 fn take_mark(got: &mut Got, mark: &Mark) -> Result<Took, Refusal>
     requires { mark.now.stream ≤ length got.old }
     ensures told { IfOk result (λ took. took ≡ Taken) }
@@ -100,7 +100,7 @@ fn take_mark(got: &mut Got, mark: &Mark) -> Result<Took, Refusal>
 }
 
 impl ReplicaState {
-    /// Whether the number of an entry is taken.
+    /// Whether the number of an entry is applied.
     fn has_taken(&self, entry: &Entry) -> bool
         requires { spec.wrong_log self.now.log (length self.now.streams) (Commit entry.now) ≡ None }
         ensures value { result ≡ set.contains (stream_at self.now.streams entry.now.stream).taken entry.now.number }
@@ -117,7 +117,7 @@ impl ReplicaState {
         entry.time() <= self.got.closed(entry.stream())
     }
 
-    /// What comes of an entry whose number is taken, or that is late. Such an entry changes nothing, and none of
+    /// The outcome of an entry whose number is applied, or that is late. Such an entry changes nothing, and none of
     /// its rows and ends is looked at.
     fn outcome_at_once(&self, entry: &Entry) -> Option<Result<Took, Refusal>>
         requires { spec.wrong_log self.now.log (length self.now.streams) (Commit entry.now) ≡ None }
@@ -135,7 +135,7 @@ impl ReplicaState {
         None
     }
 
-    /// Why an entry is not taken for which memory was refused.
+    /// Why an entry is not applied for which memory was refused.
     fn refusal_without_memory(&self, entry: &Entry) -> Refusal
         ensures { result ≡ (if conflicts_with_entry (facts_of_content self.now) entry.now then Conflict else Memory) }
     {
@@ -183,14 +183,13 @@ impl ReplicaState {
 
     /// Absorbs an item.
     ///
-    /// An item of another log is refused `ForeignLog`, one of a stream above the configured number
-    /// `WrongStreams`. An entry whose number is taken is `Repeated` and takes no memory. An entry that
-    /// gives a version another row or another end than is known, or whose time is at most the closed time
-    /// of its stream, is refused `Conflict`. `Memory` comes last, where a growth was refused. A refusal
-    /// changes nothing. `Repeated` is told exactly where nothing changed. Whatever the item says, each answer at a time from
-    /// the horizon to the readable mark before stays as it was.
-    /// Cost: O((1 + w + f) · log n + b), w writes of the entry, f extra numbers and marks that it frees,
-    /// n facts, extra numbers and waiting marks held, b bytes of bodies compared or copied.
+    /// An item of another log is refused `ForeignLog`, one of a stream above the configured number `WrongStreams`. An entry
+    /// whose number is applied is `Repeated` and takes no memory. An entry that has another row or another end of a version
+    /// than is known, or whose time is at most the closed time of its stream, is refused `Conflict`. `Memory` comes last,
+    /// where a growth was refused. A refusal changes nothing. `Repeated` is returned exactly where nothing changed. Whatever
+    /// the item is, each answer at a time from the oldest readable time to the resolved time before the call is as it was.
+    /// Cost: O((1 + w + f) · log n + b), w writes of the entry, f extra numbers and marks that it frees, n facts, extra
+    /// numbers and waiting marks held, b bytes of bodies compared or copied.
     pub fn absorb(&mut self, item: &Item) -> Result<Took, Refusal>
         ensures gives { Absorbs self.old self.new item.now result }
         ensures represents { AbsorbsOf self.old self.new item.now result }

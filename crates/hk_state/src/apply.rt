@@ -15,11 +15,11 @@ use hk_store::{Facts, meets};
 use hk_types::{Refusal, Row, Time, VersionKey};
 use std::alloc::Global;
 
-/// What becomes of a state's facts and its horizon: the versions of which all goes first, the rows and ends that
-/// come then where none are known, and the horizon that it has after.
+/// What becomes of a state's facts and its oldest readable time: the versions that are dropped first, the rows and
+/// ends that come then where none are known, and the oldest readable time after it.
 #[derive(Drop)]
 pub struct Change {
-    /// The new horizon.
+    /// The new oldest readable time.
     pub horizon: Time,
     /// The versions whose row and end go first.
     pub drops: Vec<VersionKey>,

@@ -1,4 +1,4 @@
-//! Learning what is told, at the horizon that stands.
+//! Adding what another replica sends, where the oldest readable time does not change.
 
 ghost use Rattle.std.specs.Prelude.{◌≡◌, length, false, IfErr, OnOk, OnErr};
 ghost use Rattle.hk_model.specs.Replica.Lawful.{IsLawful};
@@ -16,8 +16,7 @@ use hk_store::{Facts, LearnScope, LearnSource};
 use hk_types::{Refusal, VersionKey};
 use std::alloc::Global;
 
-/// Learns what comes of all that is told, each that is new named in the journal, and then joins the given numbers and
-/// marks.
+/// Adds what comes of all that is sent, each that is new named in the journal, and then joins the given numbers and marks.
 fn learn_noted(
     facts: &mut Facts,
     got: &mut Got,
@@ -39,7 +38,7 @@ fn learn_noted(
     got.join(given)
 }
 
-/// Learns what comes of all that is told, and joins the given numbers and marks: all of it or nothing.
+/// Adds what comes of all that is sent, and joins the given numbers and marks: all of it or nothing.
 fn learn_all(
     alloc: Global,
     facts: &mut Facts,
@@ -66,14 +65,14 @@ fn learn_all(
 }
 
 impl ReplicaState {
-    /// Learns what is told, and joins the numbers and marks that are given: all of it or nothing. The horizon stays, and
-    /// what is known stays. Of what is told come the rows born above the horizon, or all rows where `old`, and the ends
-    /// above it, each where none is known.
+    /// Adds what is sent, and joins the numbers and marks that are given: all of it or nothing. The oldest readable time
+    /// does not change, and what is known is kept. Of what is sent come the rows born above the oldest readable time, or
+    /// all rows where `old`, and the ends above it, each where none is known.
     ///
-    /// `Conflict` where it gives a version another row, or another end, than is known, also where that would not come;
-    /// `Memory` where a growth was refused, even if a version after it conflicts. A refusal changes nothing.
+    /// `Conflict` where it has another row, or another end, of a version than is known, also where that would not
+    /// come; `Memory` where a growth was refused, even if a version after it conflicts. A refusal changes nothing.
     ///
-    /// Cost: O((s + c + g) · log (n + c) + b), s streams, c versions that are told, g numbers and marks given and those
+    /// Cost: O((s + c + g) · log (n + c) + b), s streams, c versions that are sent, g numbers and marks given and those
     /// held that they free, n facts, extra numbers and waiting marks held, b bytes of bodies compared or copied.
     pub fn learn(&mut self, told: &LearnSource, old: bool, given: &Got) -> Result<(), Refusal>
         requires told { IsTold told.now }

@@ -24,8 +24,7 @@ fn latest_before(chain: &Chain, time: Time) -> Option<(Time, &Version)>
     }
 }
 
-/// Whether, of the versions of a chain that have a row and were born before a time, the one born last has no end by the
-/// horizon.
+/// Whether, of the versions of a chain that have a row and were born before a time, the one born last has no end by the `horizon`.
 fn open_before(chain: &Chain, time: Time, horizon: Time) -> bool
     ensures { result ≡ stays_found horizon (latest_at chain.now (time - 1)) }
 {
@@ -36,10 +35,10 @@ fn open_before(chain: &Chain, time: Time, horizon: Time) -> bool
 }
 
 impl ReplicaState {
-    /// Whether a prune to a time touches the past: a row that goes lets an older one of its key show, which had no end,
-    /// so that what was answered from that time on would change. Of one log's items none does. It is never refused for
-    /// want of memory. Cost: O((1 + d) · log n), n facts, d versions that go; where there is no memory to list those,
-    /// O(n · log n).
+    /// Whether a prune to a time touches the past: a row that is dropped lets an older one of its key show, which had
+    /// no end, so that what was answered from that time on would change. With the items of one log no prune does. It is
+    /// never refused for want of memory. Cost: O((1 + d) · log n), n facts, d versions that are dropped; where there is
+    /// no memory to list those, O(n · log n).
     pub fn prune_touches_past(&self, time: Time) -> bool
         ensures { result ≡ spec.prune_touches_past self.now time }
     {
@@ -84,7 +83,7 @@ impl ReplicaState {
                 .is_none()
     }
 
-    /// Whether the row that was born last before a version stays in a prune to a time.
+    /// Whether a prune to a time keeps the row that was born last before a version.
     fn next_older_stays(&self, version: &VersionKey, time: Time) -> bool
         ensures { result ≡ spec.next_older_stays self.now time version.now }
     {
@@ -95,7 +94,7 @@ impl ReplicaState {
         open_before(chain, version.born, time)
     }
 
-    /// Whether a version has a row, which goes in a prune to a time.
+    /// Whether a version has a row that a prune to a time drops.
     fn goes(&self, version: &VersionKey, time: Time) -> bool
         ensures { result ≡ (is_some (finmap.get self.now.rows version.now)
             && ended_by self.now.ends time version.now) }

@@ -10,21 +10,21 @@ use hk_model::Front;
 use hk_types::{Refusal, Time};
 
 impl ReplicaState {
-    /// Whether a time may become the horizon: it is at most the readable mark. It takes no memory.
-    /// Cost: O(s), s streams.
+    /// Whether a time may become the oldest readable one: it is at most the resolved time. It takes no memory. Cost:
+    /// O(s), s streams.
     pub fn can_prune(&self, time: Time) -> bool
         ensures { result ≡ nat_le time (readable self.now) }
     {
         time <= self.readable()
     }
 
-    /// Drops each version that ended at a time or before, and makes that time the horizon.
+    /// Drops each version that ended at a time or before, and makes that time the oldest readable one.
     ///
-    /// A time above the readable mark is refused `AheadOfMark` with that mark. One at most the horizon
-    /// is never refused, changes nothing and takes no memory. `Memory` comes where the list of what goes could not be
-    /// made. A refusal changes nothing. Where the prune does not touch the past, which `prune_touches_past` tells and no
-    /// prune of one log's items does, each answer at a time from there to the readable mark stays as it was. Cost:
-    /// O(s + (1 + d) · log n), s streams, n facts held, d versions that go.
+    /// A time above the resolved time is refused `AheadOfMark` with the resolved time. One at most the oldest readable
+    /// time is never refused, changes nothing and takes no memory. `Memory` comes where the list of what is dropped
+    /// could not be made. A refusal changes nothing. Where the prune does not touch the past, as `prune_touches_past`
+    /// tests it and as no prune of one log's items does, each answer at a time from there to the resolved time is as it
+    /// was. Cost: O(s + (1 + d) · log n), s streams, n facts held, d versions that are dropped.
     pub fn prune(&mut self, time: Time) -> Result<(), Refusal>
         ensures gives { Prunes self.old self.new time result }
         ensures represents { PrunesOf self.old self.new time result }
@@ -52,7 +52,7 @@ impl ReplicaState {
     }
 }
 
-/// From where to where a state can be read. It takes no memory. Cost: O(s), s streams.
+/// The range of times at which a state can be read. It takes no memory. Cost: O(s), s streams.
 pub fn front_of(state: &ReplicaState) -> Front
     ensures horizon { result.horizon ≡ state.now.horizon }
     ensures readable { result.readable ≡ readable state.now }

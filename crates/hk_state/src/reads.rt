@@ -46,8 +46,8 @@ impl ReplicaState {
         self.facts.keys()
     }
 
-    /// How many rows of a table show at a time. It takes no memory. Cost: O(log n + k · log n),
-    /// n facts, k keys of the table.
+    /// How many rows of a table are visible at a time. It takes no memory. Cost: O(log n + k · log n), n facts, k
+    /// keys of the table.
     pub fn count_at(&self, table: Table, time: Time) -> u64
         ensures { result ≡ length (rows_where (λ k row. k.table == table) (visible self.now time)) }
     {

@@ -16,7 +16,7 @@ use hk_types::{Config, Refusal, StreamNo, Time};
 use std::alloc::Global;
 use std::marker::Model;
 
-/// What a replica of one log holds: the rows and the ends of versions, its horizon, and what is known of
+/// What a replica of one log holds: the rows and the ends of versions, its oldest readable time, and what is known of
 /// each stream. Contracts see it as its content.
 #[derive(Drop)]
 pub struct ReplicaState {
@@ -42,7 +42,7 @@ impl Model for ReplicaState {
 }
 
 impl ReplicaState {
-    /// The state of a replica that took nothing. The only refusal is `Memory`. Cost: O(s), s streams.
+    /// The state of a replica that has applied nothing. The only refusal is `Memory`. Cost: O(s), s streams.
     pub fn new(alloc: Global, config: Config) -> Result<ReplicaState, Refusal>
         ensures ok { IfOk result (λ state. state ≡ empty_content config) }
         ensures err { IfErr result (λ why. why ≡ Memory) }
@@ -65,7 +65,7 @@ impl ReplicaState {
         self.config
     }
 
-    /// The least time that can be asked. It takes no memory.
+    /// The oldest readable time: the least time that can be asked. It takes no memory.
     pub fn horizon(&self) -> Time
         ensures value { result ≡ self.now.horizon }
         ensures lawful { IsLawful self.now }
@@ -73,8 +73,8 @@ impl ReplicaState {
         self.horizon
     }
 
-    /// The greatest time that can be asked: the least closed time over all streams. It takes no memory.
-    /// Cost: O(s), s streams.
+    /// The resolved time: the greatest time that can be asked, which is the least closed time over all streams. It
+    /// takes no memory. Cost: O(s), s streams.
     pub fn readable(&self) -> Time
         ensures value { result ≡ readable self.now }
         ensures lawful { IsLawful self.now }

@@ -11,9 +11,9 @@ const ROWS: usize = 16;
 /// So many versions of a row are touched.
 const VERSIONS: usize = 8;
 
-/// What a walk comes to next, touched before it comes there. In the order of keys each chain, its list and each body lies
+/// What a walk comes to next, touched before it comes there. In the order of keys each chain, its list and each body is
 /// somewhere else in memory, so that the walk would wait for one after the other: touched for many rows at once, these waits
-/// go on side by side. The sum of what is read says nothing; it keeps the reads from being left out.
+/// go on side by side. The sum of what is read has no meaning; it keeps the compiler from leaving the reads out.
 #[derive(Drop)]
 pub(crate) struct Ahead<'a> {
     passes: Option<Passes<'a>>,

@@ -47,7 +47,7 @@ impl Model for Chains {
     ghost invariant = { λ a. AreStored (map_of row_key_cmp a.chains) };
 }
 
-/// What goes with a part of a version, where it was known: the tag of the row, and the end.
+/// What is removed with a part of a version, where it was known: the tag of the row, and the end.
 #[derive(Drop)]
 pub(crate) struct Lost {
     pub(crate) tag: Option<Tag>,
@@ -107,8 +107,8 @@ impl Chains {
         }
     }
 
-    /// Adds a fact where nothing like it is known of the version, and says whether it did. The only refusal
-    /// is `Memory`, and it changes nothing. Cost: O(log n), n facts: a body is moved.
+    /// Adds a fact where nothing like it is known of the version, and returns whether it did. The only refusal is
+    /// `Memory`, and it changes nothing. Cost: O(log n), n facts: a body is moved.
     pub(crate) fn put_new(&mut self, version: &VersionKey, fact: Fact) -> Result<bool, Refusal>
         ensures ok { OnOk result (self.new ≡ with_fact_at self.old version.now fact) }
         ensures new { IfOk result (λ is. OnTrue is (IsNew self.old version.now fact)) }
@@ -127,9 +127,9 @@ impl Chains {
         }
     }
 
-    /// Adds a fact on a version, and says whether nothing like it was known. One that is known already changes nothing,
-    /// and one that differs from what is known is a conflict. `Memory` comes only where nothing is known of the version.
-    /// A refusal changes nothing. Cost: O(log n + b), n facts, b bytes of a body that is compared.
+    /// Adds a fact of a version, and returns whether nothing like it was known. One that is known already changes
+    /// nothing, and one that differs from what is known is a conflict. `Memory` comes only where nothing is known of the
+    /// version. A refusal changes nothing. Cost: O(log n + b), n facts, b bytes of a body that is compared.
     pub(crate) fn insert_fact(&mut self, version: &VersionKey, fact: Fact) -> Result<bool, Refusal>
         ensures ok { OnOk result (facts_put self.old version.now fact ≡ Ok self.new) }
         ensures new { IfOk result (λ is. OnTrue is (IsNew self.old version.now fact)) }
@@ -148,7 +148,8 @@ impl Chains {
         }
     }
 
-    /// Takes a part of a version back, where it is known, and says what went. Cost: O(log n), n facts.
+    /// Removes a part of a version, its row or its end or both, where it is known, and returns what was removed.
+    /// Cost: O(log n), n facts.
     pub(crate) fn forget(&mut self, version: &VersionKey, part: Part) -> Lost
         ensures left { self.new ≡ facts_without self.old version.now part }
         ensures tag { result.tag ≡ tag_lost self.old version.now part }
@@ -170,8 +171,8 @@ impl Chains {
         lost
     }
 
-    /// How many rows of a table show at a time. It takes no memory. Cost: O(log n + k · log n),
-    /// n facts, k keys of the table.
+    /// How many rows of a table are visible at a time. It takes no memory. Cost: O(log n + k · log n), n facts, k
+    /// keys of the table.
     pub fn count_at(&self, table: Table, time: Time) -> usize
         ensures { result ≡ length (rows_where
             (λ k row. k.table == table) (visible (with_facts self.now) time)) }
@@ -179,10 +180,10 @@ impl Chains {
         count_from(&self.chains, RowKey::new(table, Key::new(0)), time)
     }
 
-    /// Copies of the rows of a table with keys from `low` to `high`, both inside, that show at a time, by rising
-    /// key. Where `low` is above `high` there are none. The only error is out of memory.
-    /// Cost: O(log n + k · log n + b), n facts, k keys from low to high of which anything is known, b bytes of the
-    /// bodies that are copied.
+    /// Copies of the rows of a table with keys from `low` to `high`, both inside, that are visible at a time, by
+    /// rising key. Where `low` is above `high` there are none. The only error is out of memory. Cost:
+    /// O(log n + k · log n + b), n facts, k keys from low to high of which anything is known, b bytes of the bodies
+    /// that are copied.
     pub fn rows_between(
         &self,
         alloc: Global,
@@ -211,7 +212,7 @@ impl Chains {
     }
 }
 
-/// Takes away a row's chain where it is empty.
+/// Removes a row's chain where it is empty.
 fn remove_if_empty(chains: &mut SlotMap<RowKey, Chain>, row: RowKey)
     ensures kept { KeepsFilled (map_of row_key_cmp chains.old) row (map_of row_key_cmp chains.new) }
     ensures gone { LosesEmpty (map_of row_key_cmp chains.old) row (map_of row_key_cmp chains.new) }
@@ -224,7 +225,7 @@ fn remove_if_empty(chains: &mut SlotMap<RowKey, Chain>, row: RowKey)
     }
 }
 
-/// What goes with a part of the version that was born then.
+/// What is removed with a part of the version that was born then.
 fn lost_of(chain: &Chain, born: Time, part: Part) -> Lost
     ensures tag { result.tag ≡ tag_of_part (finmap.get chain.now born) part }
     ensures died { result.died ≡ end_of_part (finmap.get chain.now born) part }
@@ -236,7 +237,7 @@ fn lost_of(chain: &Chain, born: Time, part: Part) -> Lost
     }
 }
 
-/// The tag of the row that goes with a part of a version.
+/// The tag of the row that is removed with a part of a version.
 fn tag_in(version: &Version, part: Part) -> Option<Tag>
     ensures { result ≡ tag_of_part (Some version.now) part }
 {
@@ -247,7 +248,7 @@ fn tag_in(version: &Version, part: Part) -> Option<Tag>
     Some(row.tag())
 }
 
-/// The end that goes with a part of a version.
+/// The end that is removed with a part of a version.
 fn end_in(version: &Version, part: Part) -> Option<Time>
     ensures { result ≡ end_of_part (Some version.now) part }
 {
@@ -268,7 +269,7 @@ fn count_from(chains: &SlotMap<RowKey, Chain>, first: RowKey, time: Time) -> usi
         .count()
 }
 
-/// Adds a fact where nothing like it is known of the version that was born then, and says whether it did.
+/// Adds a fact where nothing like it is known of the version that was born then, and returns whether it did.
 #[inline(always)]
 fn put_where_new(chain: &mut Chain, born: Time, fact: Fact) -> Result<bool, Refusal>
     ensures told { IfOk result (λ is. is ≡ not (has_like (finmap.get chain.old born) fact)) }
@@ -284,7 +285,7 @@ fn put_where_new(chain: &mut Chain, born: Time, fact: Fact) -> Result<bool, Refu
     Ok(true)
 }
 
-/// Adds a fact on the version that was born then, and says whether nothing like it was known.
+/// Adds a fact of the version that was born then, and returns whether nothing like it was known.
 #[inline(always)]
 fn insert_in_chain(chain: &mut Chain, born: Time, fact: Fact) -> Result<bool, Refusal>
     ensures told { IfOk result (λ is. is ≡ not (has_like (finmap.get chain.old born) fact)) }

@@ -15,8 +15,8 @@ use hk_log::Entry;
 use hk_types::{Key, Row, Table, Time, VersionKey};
 
 impl Facts {
-    /// Whether an entry gives a version another row, or another end, than is known of it. It takes no
-    /// memory. Cost: O(w · log n + b), w writes, n facts, b bytes of bodies that are compared.
+    /// Whether an entry has another row, or another end, of a version than is known of it. It takes no memory. Cost:
+    /// O(w · log n + b), w writes, n facts, b bytes of bodies that are compared.
     pub fn conflicts_with_entry(&self, entry: &Entry) -> bool
         ensures { result ≡ conflicts_with_entry self.now entry.now }
     {
@@ -44,7 +44,7 @@ impl Facts {
             .any(|version| self.has_conflicting_end(version, time))
     }
 
-    /// Whether another row, or another end, than the fact says is known of a version. Cost: O(log n + b), n facts,
+    /// Whether another row, or another end, than that of the fact is known of a version. Cost: O(log n + b), n facts,
     /// b bytes of a body that is compared.
     pub(crate) fn has_conflicting(&self, version: &VersionKey, fact: &Fact) -> bool
         ensures { result ≡ conflicts_at self.now version.now fact.now }

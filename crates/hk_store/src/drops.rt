@@ -13,7 +13,7 @@ use hk_facts::Part;
 use hk_index::{BirthIndex, TagKeys};
 use hk_types::{Refusal, Time, VersionKey};
 
-/// The chains are gone over where more than one of so many versions that are held go.
+/// The chains are swept where more than one in so many of the versions that are held is dropped.
 const FEW: usize = 8;
 
 impl Facts {
@@ -27,9 +27,9 @@ impl Facts {
         }
     }
 
-    /// Drops each version whose end is known and at most `until`. The only refusal is `Memory`, and it
-    /// changes nothing. Cost: O((1 + d) · log n), n facts, d versions that go. Where they are many the chains are gone over
-    /// as they lie in memory, else each version is looked up, in the order of their births.
+    /// Drops each version whose end is known and at most `until`. The only refusal is `Memory`, and it changes nothing.
+    /// Cost: O((1 + d) · log n), n facts, d versions that go. Where they are many the chains are gone over as they are in
+    /// memory, else each version is looked up, in the order of their births.
     pub fn drop_until(&mut self, until: Time) -> Result<(), Refusal>
         ensures ok { OnOk result (self.new ≡ pruned_facts self.old until) }
         ensures err { IfErr result (λ why. why ≡ Memory) }
@@ -76,7 +76,7 @@ fn forget_all(chains: &mut Chains, versions: &[VersionKey])
     }
 }
 
-/// Takes these versions out of the index by birth, and notes that their rows went.
+/// Removes these versions from the index by birth, and notes that their rows are gone.
 fn forget_births(tags: &mut TagKeys, births: &mut BirthIndex, versions: &[VersionKey])
     ensures tags { tags.new ≡ tags.old }
     ensures births { BirthsLeft births.old versions.now births.new }

@@ -109,8 +109,8 @@ impl Facts {
         self.chains.knows(version)
     }
 
-    /// How many rows of a table show at a time. It takes no memory. Cost: O(log n + k · log n),
-    /// n facts, k keys of the table.
+    /// How many rows of a table are visible at a time. It takes no memory. Cost: O(log n + k · log n), n facts, k
+    /// keys of the table.
     pub fn count_at(&self, table: Table, time: Time) -> u64
         ensures { result ≡ length (rows_where
             (λ k row. k.table == table) (visible (with_facts self.now) time)) }
@@ -118,7 +118,7 @@ impl Facts {
         self.chains.count_at(table, time) as u64
     }
 
-    /// Adds a fact on a version, and says whether nothing like it was known. One that is known already changes
+    /// Adds a fact of a version, and returns whether nothing like it was known. One that is known already changes
     /// nothing, and one that differs from what is known is a conflict. `Memory` comes only where nothing like it is
     /// known of the version. A refusal changes nothing. Cost: O(log n + b), n facts, b bytes of a body that is compared.
     pub(crate) fn insert_fact(&mut self, version: &VersionKey, fact: Fact) -> Result<bool, Refusal>
@@ -170,8 +170,8 @@ impl Facts {
         Ok(true)
     }
 
-    /// Adds a row where none is known of the version, and says whether it did. The only refusal is
-    /// `Memory`, and it changes nothing. Cost: O(log n), n facts: the body is moved.
+    /// Adds a row where none is known of the version, and returns whether it did. The only refusal is `Memory`, and
+    /// it changes nothing. Cost: O(log n), n facts: the body is moved.
     pub(crate) fn put_new_row(&mut self, version: &VersionKey, row: Row) -> Result<bool, Refusal>
         ensures ok { OnOk result (self.new ≡ with_fact_at self.old version.now (RowFact row)) }
         ensures new { IfOk result (λ is. OnTrue is (IsNew self.old version.now (RowFact row))) }
@@ -190,8 +190,8 @@ impl Facts {
         Ok(true)
     }
 
-    /// Adds an end where none is known of the version, and says whether it did. The only refusal is
-    /// `Memory`, and it changes nothing. Cost: O(log n), n facts.
+    /// Adds an end where none is known of the version, and returns whether it did. The only refusal is `Memory`, and
+    /// it changes nothing. Cost: O(log n), n facts.
     pub(crate) fn put_new_end(&mut self, version: &VersionKey, died: Time) -> Result<bool, Refusal>
         ensures ok { OnOk result (self.new ≡ with_fact_at self.old version.now (EndFact died)) }
         ensures new { IfOk result (λ is. OnTrue is (IsNew self.old version.now (EndFact died))) }
@@ -209,7 +209,7 @@ impl Facts {
         Ok(true)
     }
 
-    /// Takes a part of a version back, where it is known. Cost: O(log n), amortized, n facts.
+    /// Removes a part of a version, its row or its end or both, where it is known. Cost: O(log n), amortized, n facts.
     pub fn forget(&mut self, version: &VersionKey, part: Part)
         ensures { self.new ≡ facts_without self.old version.now part }
     {
@@ -250,7 +250,7 @@ fn add_birth(
     births.add(*version)
 }
 
-/// Takes a version out of the index of those whose row is known, where a row goes that has this tag.
+/// Removes a version from the index of those whose row is known, where a row with this tag is removed.
 fn forget_birth(tags: &mut TagKeys, births: &mut BirthIndex, version: &VersionKey, tag: Option<Tag>)
     ensures tags { tags.new ≡ tags.old }
     ensures births { births.new ≡ times_without births.old version.now (option_map (λ t. version.now.born) tag) }
@@ -261,7 +261,7 @@ fn forget_birth(tags: &mut TagKeys, births: &mut BirthIndex, version: &VersionKe
     }
 }
 
-/// Takes a version out of the index of those whose end is known, where this end goes.
+/// Removes a version from the index of those whose end is known, where this end is removed.
 fn forget_death(deaths: &mut TimeIndex, version: &VersionKey, died: Option<Time>)
     ensures { deaths.new ≡ times_without deaths.old version.now died }
 {

@@ -113,10 +113,10 @@ impl Facts {
         Ok(())
     }
 
-    /// Adds the rows and ends of an entry, each that is new named in the journal. An entry that gives a version
-    /// another row, or another end, than is known is refused `Conflict`, and any other only for `Memory`; what
-    /// was added until then stays, and is named in the journal. Cost: O(w · log n + b), w writes, n facts,
-    /// b bytes of bodies that are compared: those that are new are moved.
+    /// Adds the rows and ends of an entry, each that is new named in the journal. An entry that has another row, or
+    /// another end, of a version than is known is refused `Conflict`, and any other only for `Memory`; what was added
+    /// until then is kept, and is named in the journal. Cost: O(w · log n + b), w writes, n facts, b bytes of bodies
+    /// that are compared: those that are new are moved.
     #[inline(always)]
     pub fn put_writes(
         &mut self,
@@ -140,7 +140,7 @@ impl Facts {
         Ok(())
     }
 
-    /// Adds rows while memory lasts, each that is new named in the journal, and says whether it lasted. The only
+    /// Adds rows while memory lasts, each that is new named in the journal, and returns whether it lasted. The only
     /// refusal is `Conflict`.
     fn put_rows(
         &mut self,
@@ -213,7 +213,7 @@ impl Facts {
         Ok(false)
     }
 
-    /// Adds a fact, and names it in the journal where it is new. Says whether memory lasted: where it did not,
+    /// Adds a fact, and names it in the journal where it is new. Returns whether memory lasted: where it did not,
     /// nothing changed. The only refusal is `Conflict`.
     fn put_noted(
         &mut self,
@@ -237,7 +237,7 @@ impl Facts {
         }
     }
 
-    /// Names a fact in the journal, or takes it back where memory for its name was refused. Says which.
+    /// Names a fact in the journal, or removes it where memory for its name was refused. Returns which.
     fn note_new(
         &mut self,
         journal: &mut Vec<(VersionKey, Part)>,
@@ -304,8 +304,7 @@ impl Facts {
         Ok(())
     }
 
-    /// Takes back what a journal names, the last first. It cannot fail. Cost: O(j · log n), j places of
-    /// the journal, n facts.
+    /// Undoes what a journal names, the last first. It cannot fail. Cost: O(j · log n), j entries of the journal, n facts.
     pub fn take_back(&mut self, mut journal: Vec<(VersionKey, Part)>)
         ensures { self.new ≡ without_journal journal.items self.old }
     {

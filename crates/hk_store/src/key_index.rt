@@ -48,7 +48,7 @@ impl<'a> KeyIndex<'a> {
     /// The versions of a table with keys from `low` to `high`, both inside, in rising order. Where
     /// `low` is above `high` there are none.
     ///
-    /// The only refusal is `Memory`. Cost: O(log n + k · log n), n versions in the set, k of them given.
+    /// The only refusal is `Memory`. Cost: O(log n + k · log n), n versions in the set, k of them returned.
     pub fn list(
         &self,
         alloc: Global,
@@ -64,7 +64,7 @@ impl<'a> KeyIndex<'a> {
 
     /// All versions, in rising order.
     ///
-    /// The only refusal is `Memory`. Cost: O(n · log n), n versions, all given.
+    /// The only refusal is `Memory`. Cost: O(n · log n), n versions, all returned.
     pub fn all(&self, alloc: Global) -> Result<Vec<VersionKey>, Refusal>
         ensures ok { IfOk result (λ versions. Lists versions.items self.now) }
         ensures err { IfErr result (λ why. why ≡ Memory) }

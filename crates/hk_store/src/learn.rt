@@ -1,4 +1,4 @@
-//! What others tell, learnt in one pass.
+//! What other replicas send, added in one pass.
 
 ghost use Rattle.std.specs.Prelude.{◌≡◌, false, is_some, IfErr, OnOk};
 ghost use Rattle.std.specs.Option.{option_copied};
@@ -16,21 +16,21 @@ use hk_facts::{Part, ended_by};
 use hk_log::Version;
 use hk_types::{Refusal, Row, Time, VersionKey};
 
-/// What is told to a replica.
+/// What is sent to a replica.
 #[derive(Clone, Copy)]
 pub enum LearnSource<'a> {
-    /// Versions by rising version key, each with what is told of it.
+    /// Versions by rising version key, each with its row or end or both.
     Listed(&'a [(VersionKey, Version)]),
     /// All that another replica holds.
     Held(&'a Facts),
 }
 
-/// What comes of all that is told.
+/// What comes of all that is sent.
 #[derive(Clone, Copy)]
 pub struct LearnScope {
-    /// Whether rows born at the horizon or before come too.
+    /// Whether rows born at the `horizon` or before come too.
     pub old: bool,
-    /// The horizon: ends up to it don't come.
+    /// The oldest readable time: ends up to it don't come.
     pub horizon: Time,
 }
 
@@ -59,11 +59,11 @@ impl LearnScope {
 }
 
 impl Facts {
-    /// Learns what comes of all that is told, where nothing like it is known, each that is new named in the journal.
-    /// What gives a version another row, or another end, than is known is refused `Conflict`, also where it would not
-    /// come, and `Memory` comes where a growth was refused. What was learnt until then stays, and is named in the journal.
+    /// Adds what comes of all that is sent, where nothing like it is known, each that is new named in the journal. What
+    /// has another row, or another end, of a version than is known is refused `Conflict`, also where it would not come,
+    /// and `Memory` comes where a growth was refused. What was added until then is kept, and is named in the journal.
     ///
-    /// Cost: O(c · log n + b), c versions that are told, n facts and these, b bytes of bodies compared or copied.
+    /// Cost: O(c · log n + b), c versions that are sent, n facts and these, b bytes of bodies compared or copied.
     pub fn learn(
         &mut self,
         journal: &mut Vec<(VersionKey, Part)>,
@@ -118,7 +118,7 @@ impl Facts {
         Ok(())
     }
 
-    /// Learns what comes of a version, where nothing like it is known.
+    /// Adds what comes of a version, where nothing like it is known.
     fn learn_version(
         &mut self,
         journal: &mut Vec<(VersionKey, Part)>,
@@ -146,7 +146,7 @@ impl Facts {
         Ok(())
     }
 
-    /// Learns the row of a version, where it comes and none is known.
+    /// Adds the row of a version, where it comes and none is known.
     fn learn_row(
         &mut self,
         journal: &mut Vec<(VersionKey, Part)>,
@@ -167,7 +167,7 @@ impl Facts {
         }
     }
 
-    /// Learns the end of a version, where it comes and none is known.
+    /// Adds the end of a version, where it comes and none is known.
     fn learn_end(
         &mut self,
         journal: &mut Vec<(VersionKey, Part)>,
@@ -186,7 +186,7 @@ impl Facts {
     }
 }
 
-/// Whether another row, or another end, is known of a version than is told.
+/// Whether another row, or another end, is known of a version than is sent.
 fn contradicts(held: Option<&Version>, told: &Version) -> bool
     ensures { result ≡ spec.contradicts (option_copied held.entry) told.now }
 {

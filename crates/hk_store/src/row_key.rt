@@ -10,10 +10,10 @@ use hk_slots::Key as SlotKey;
 use hk_types::{Key, Table, VersionKey};
 use std::marker::Model;
 
-/// An odd number that parts the hashes of the tables.
+/// An odd number that separates the hashes of the tables.
 const TABLE_FACTOR: u64 = 0xD6E8_FEB8_6659_FD93;
 
-/// 2^64 over the golden ratio: rising keys get hashes that lie far apart.
+/// 2^64 over the golden ratio: rising keys get hashes that are far apart.
 const KEY_FACTOR: u64 = 0x9E37_79B9_7F4A_7C15;
 
 /// A table and a key in it. Row keys are ordered by these fields.

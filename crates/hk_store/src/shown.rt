@@ -23,10 +23,10 @@ impl Facts {
         }
     }
 
-    /// Copies of the rows of a table with keys from `low` to `high`, both inside, that show at a time, by rising
-    /// key. Where `low` is above `high` there are none. The only refusal is `Memory`.
-    /// Cost: O(log n + k · log n + b), n facts, k keys from low to high of which anything is known, b bytes of the
-    /// bodies that are copied.
+    /// Copies of the rows of a table with keys from `low` to `high`, both inside, that are visible at a time, by
+    /// rising key. Where `low` is above `high` there are none. The only refusal is `Memory`. Cost:
+    /// O(log n + k · log n + b), n facts, k keys from low to high of which anything is known, b bytes of the bodies
+    /// that are copied.
     pub fn rows_between(
         &self,
         alloc: Global,

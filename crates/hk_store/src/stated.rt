@@ -14,8 +14,9 @@ use hk_types::{Refusal, Time, VersionKey};
 use std::alloc::Global;
 
 impl Facts {
-    /// The versions whose end is known and at most `until`, in the order of their births, by which they lie in the index by
-    /// birth, and their rows in memory. The only refusal is `Memory`. Cost: O(log n + k · log k), n facts, k versions given.
+    /// The versions whose end is known and at most `until`, in the order of their births, by which they are ordered in the
+    /// index by birth, and their rows in memory. The only refusal is `Memory`. Cost: O(log n + k · log k), n facts, k
+    /// versions returned.
     pub fn ended(&self, alloc: Global, until: Time) -> Result<Vec<VersionKey>, Refusal>
         ensures ok { IfOk result (λ versions. (q : VersionKey) → is_among versions.items q
             ≡ ended_by self.now.ends until q) }
@@ -26,8 +27,8 @@ impl Facts {
         Ok(versions)
     }
 
-    /// The versions that have a row born up to a time, or an end up to it. The only refusal is `Memory`.
-    /// Cost: O(log n + k · log k), n facts, k versions given.
+    /// The versions that have a row born up to a time, or an end up to it. The only refusal is `Memory`. Cost:
+    /// O(log n + k · log k), n facts, k versions returned.
     pub fn stated_until(&self, alloc: Global, until: Time) -> Result<VersionSet, Refusal>
         ensures ok { IfOk result (λ versions. (q : VersionKey) → set.contains versions q
             ≡ is_stated self.now (λ t. nat_le t until) q) }
@@ -38,8 +39,8 @@ impl Facts {
         either(alloc, born, &dead)
     }
 
-    /// The versions that have a row born above a time, or an end above it. The only refusal is `Memory`.
-    /// Cost: O(log n + k · log k), n facts, k versions given.
+    /// The versions that have a row born above a time, or an end above it. The only refusal is `Memory`. Cost:
+    /// O(log n + k · log k), n facts, k versions returned.
     pub fn stated_above(&self, alloc: Global, base: Time) -> Result<VersionSet, Refusal>
         ensures ok { IfOk result (λ versions. (q : VersionKey) → set.contains versions q
             ≡ is_stated self.now (λ t. nat_lt base t) q) }

@@ -14,7 +14,7 @@ use hk_slots::SlotMap;
 use hk_types::Time;
 
 impl Chains {
-    /// Drops each version whose end is known and at most `until`, chain by chain, as they lie in memory. It takes no memory.
+    /// Drops each version whose end is known and at most `until`, chain by chain, as they are in memory. It takes no memory.
     /// Cost: O(n + c · log n), n facts, c chains of which nothing is left.
     pub(crate) fn sweep(&mut self, until: Time)
         ensures { self.new ≡ pruned_facts self.old until }

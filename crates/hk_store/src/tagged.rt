@@ -28,7 +28,7 @@ pub(crate) fn keys_by_tag(alloc: Global, chains: &Chains) -> Result<TagKeys, Ref
 }
 
 impl Facts {
-    /// Copies of the rows of a table with a tag that show at a time, by rising key. The only refusal is `Memory`.
+    /// Copies of the rows of a table with a tag that are visible at a time, by rising key. The only refusal is `Memory`.
     /// Cost: O(k · log n + b), k keys that have or had a row with the tag, n facts, b bytes of the bodies that are copied.
     pub fn rows_tagged(
         &self,

@@ -15,7 +15,7 @@ use std::alloc::{AllocError, Global};
 use std::collections::BTreeMap;
 use std::marker::Model;
 
-/// The rows and the ends of versions, by version key, without chains and indexes: what is gathered once and given away.
+/// The rows and the ends of versions, by version key, without chains and indexes: what is gathered once and passed on.
 #[derive(Drop)]
 pub struct VersionMap {
     versions: BTreeMap<VersionKey, Version>,

@@ -16,14 +16,14 @@ use hk_types::{Key, Table, Time, VersionKey};
 use std::marker::Model;
 use std::ops::Bound;
 
-/// A walk over versions, in the order of table, key and born, which keeps its place: each comes once, with what is
+/// A walk over versions, in the order of table, key and born, which keeps its position: each comes once, with what is
 /// known of it. It takes no memory. Cost: O(n + m · log k), n versions, m of them not the first of their row, k versions
 /// of a row at most.
 #[derive(Drop)]
 pub struct Walk<'a> {
-    /// The row that it stands in.
+    /// The row that it is at.
     here: Option<(&'a RowKey, &'a Chain)>,
-    /// The birth of the version that the row gave last.
+    /// The birth of the version of that row that came last.
     after: Option<Time>,
     /// The rows to come.
     rows: Range<'a, RowKey, Chain>,

@@ -77,7 +77,7 @@ fn number_of(answer: &Answer) -> u16 {
     }
 }
 
-/// Horizon and readable mark.
+/// Oldest readable time and resolved time.
 fn front<J: NodeName>(seat: &mut ReaderSeat<J>) -> Result<(u64, u64), Refusal> {
     let front = seat.front()?;
     Ok((front.horizon.number(), front.readable.number()))

@@ -63,7 +63,7 @@ pub fn entry(
     Ok(Item::Commit(entry))
 }
 
-/// The mark of log 7 that says that the entries of a stream up to a time are its first `count`.
+/// The mark of log 7 by which the entries of a stream up to a time are its first `count`.
 pub fn mark(number_of_stream: u16, count: u64, upto: u64) -> Result<Item, Refusal> {
     let mark = Mark::new(7, stream(number_of_stream)?, count, time(upto)?)?;
     Ok(Item::Closed(mark))

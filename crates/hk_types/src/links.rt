@@ -1,11 +1,11 @@
-//! How many links a node serves.
+//! How many connections a node serves.
 
 ghost use Rattle.std.specs.Prelude.{◌≡◌, ◌≤◌, ◌<◌};
 ghost use Rattle.hk_types.specs.Numbers.{checked_links};
 
 use std::marker::Model;
 
-/// How many links a node serves: 1 to 64. It has a place for each.
+/// How many connections a node serves: 1 to 64. It has a slot for each.
 #[derive(Clone, Copy, Debug, PartialEq, Eq)]
 pub struct Links {
     count: u16,
@@ -24,7 +24,7 @@ impl Model for Links {
 }
 
 impl Links {
-    /// So many links, unless there are none or more than 64.
+    /// So many connections, unless there are none or more than 64.
     pub fn new(count: u16) -> Option<Links>
         ensures { result ≡ checked_links count }
     {

@@ -21,9 +21,9 @@ pub struct Row {
     form: RowForm,
 }
 
-/// How a row is kept. Where its body was not given as a list of its own, copies of the row share it: a body of up to 128 bytes stands behind
-/// a count of its owners in one piece of memory, of a size just above its own. The tag stands in each form, since beside them it would take
-/// eight bytes.
+/// How a row is kept. Where its body was not given as a list of its own, copies of the row share it: a body of up to 128 bytes is
+/// behind a count of its owners in one piece of memory, of a size just above its own. The tag is in each form, since beside them it
+/// would need eight bytes.
 #[derive(Drop)]
 enum RowForm {
     Own(Tag, Vec<u8>),

@@ -20,8 +20,8 @@ use Rattle.hk_marks.specs.Seen.{IsNumbered}
 use Rattle.hk_marks.specs.Steps.{extra_numbers}
 use Rattle.hk_fragment.specs.Parts.{known_of, versions_listed}
 use Rattle.hk_fragment.proofs.ListedVersions.{listed_of, pairs}
-use Rattle.hk_values.specs.Fragments.{WireFragment, WireStream, greatest_reached, rising_numbers, wire_stream_of, wire_fragment_of}
-use Rattle.hk_values.proofs.StreamRead.{reached_there, paired, find_paired}
+use Rattle.hk_values.specs.Fragments.{WireFragment, WireStream, greatest_reached, wire_stream_of, wire_fragment_of}
+use Rattle.hk_values.proofs.StreamRead.{reached_there, rising_has}
 
 -- ---- streams
 
@@ -69,16 +69,6 @@ reached_law t (suc n) = by (covers t (suc n)) refl (leb (suc n) (greatest_reache
         let lt = leb-false (suc n) (greatest_reached t (set.items t)) e in
         absurd (omega arith)
     by false c true e = absurd (true≢false (sym (covers_less t (greatest_reached t (set.items t)) (suc n) (leb-true _ _ e) (greatest_covered_too t (set.items t))) ∙ c))
-
-is_some-cond : (b : Bool) (q : ℕ) → is_some (cond b (Some q) None) ≡ b
-is_some-cond true q = refl
-is_some-cond false q = refl
-
-rising_has : (ks : List ℕ) (q : ℕ) → list_any (eq_by_cmp nat_cmp q) (rising_numbers ks) ≡ list_any (eq_by_cmp nat_cmp q) ks
-rising_has ks q =
-    sym (finmap.contains_key-keys (finmap.from_entries {R = nat_cmp} (paired ks)) q)
-    ∙ ap is_some (finmap.get-from_entries nat_cmp_total (paired ks) q ∙ find_paired q ks)
-    ∙ is_some-cond (list_any (eq_by_cmp nat_cmp q) ks) q
 
 -- the extra numbers are those that are taken and not covered
 pub extra_told : (s : StreamContent) (q : ℕ) → list_any (eq_by_cmp nat_cmp q) (wire_stream_of s).extra ≡ (set.contains s.taken q && not (covers s.taken q))

@@ -1,5 +1,5 @@
 -- What a stream has taken while its bytes are read, and what is told of it then.
-use Rattle.std.proofs.Common.{◌≡◌, refl, sym, ap, subst, ◌∙◌, ℕ, zero, suc, ◌+◌, ◌<◌, ◌≤◌, ◌^◌, Bool, true, false, cond, not, ◌||◌, ◌&&◌, ltb, leb, max, nat_cmp, true≢false, List, [], ◌∷◌, ◌++◌, map, Option, Some, None, arith}
+use Rattle.std.proofs.Common.{◌≡◌, refl, sym, ap, subst, ◌∙◌, ℕ, zero, suc, ◌+◌, ◌<◌, ◌≤◌, ◌^◌, Bool, true, false, cond, not, ◌||◌, ◌&&◌, ltb, leb, max, nat_cmp, true≢false, List, [], ◌∷◌, ◌++◌, map, length, Option, Some, None, is_some, T, is_lt, Ordering, Less, arith}
 use Rattle.std.specs.List.{list_any}
 use Rattle.std.specs.List.Sorted.{IsStrictlySortedBy, IsStrictlyIncreasing}
 use Rattle.std.proofs.lemmas.Map.Keys.{sorted_from_strictly_increasing}
@@ -8,8 +8,9 @@ use Rattle.std.specs.Cmp.{nat_cmp_total}
 use Rattle.std.specs.Ordering.{eq_by_cmp}
 use Rattle.std.specs.FinMap as finmap
 use Rattle.std.specs.FinMap.{find}
+use Rattle.std.specs.FinMap.Entries.{below_all, is_sorted}
+use Rattle.std.specs.List.{AllByRecursion}
 use Rattle.std.specs.FinSet as set
-use Rattle.std.specs.BTreeSet.{BTreeSet}
 use Rattle.std.proofs.lemmas.Bool.{lt-leb, le-leb, leb-true}
 use Rattle.std.proofs.lemmas.Bool.Decides.{nat_tests}
 use Rattle.hk_model.specs.Replica.Streams.{StreamContent, covers, unknown}
@@ -20,6 +21,7 @@ use Rattle.hk_marks.proofs.CoveredMarks.{settled-done, mark_waits}
 use Rattle.hk_marks.proofs.TakenItems.{later_comm}
 use Rattle.hk_marks.proofs.StoredStreams.{contains-up_to, covers_seen}
 use Rattle.hk_marks.proofs.Readers.{entries-from_sorted}
+use Rattle.hk_marks.proofs.Prefixes.{len-rising}
 use Rattle.hk_values.specs.Readers.{Chained}
 use Rattle.hk_values.specs.Fragments.{greatest_reached, rising_numbers, wire_stream_of, ExtraFits, WaitingFits}
 use Rattle.hk_values.specs.FragmentSteps.{stream_made, stream_without_marks}
@@ -31,8 +33,8 @@ use Rattle.hk_values.proofs.ListsInOrder.{places_rise, chained_more, last_of}
 abbrev pub taken_of : ℕ → List ℕ → set.FinSet nat_cmp
 taken_of prefix extra = set.union (up_to prefix) (set.from_list extra)
 
-abbrev keyed : List ℕ → BTreeSet ℕ
-keyed extra = record { keys = extra }
+abbrev keyed : List ℕ → set.FinSet nat_cmp
+keyed extra = set.from_list extra
 
 extra_above : (prefix : ℕ) (before : Option ℕ) (extra : List ℕ) → Chained (λ n. n) (ExtraFits prefix) before extra → (q : ℕ) → list_any (eq_by_cmp nat_cmp q) extra ≡ true → (prefix + 1 < q) × (q ≤ 2 ^ 62)
 extra_above prefix before [] h q e = absurd cc
@@ -43,7 +45,7 @@ extra_above prefix before (n ∷ extra) h q e = by (eq_by_cmp nat_cmp q n) refl 
     by false t f rest = rest f
 
 is_extra : (prefix : ℕ) (extra : List ℕ) → Chained (λ n. n) (ExtraFits prefix) None extra → IsExtra prefix (keyed extra)
-is_extra prefix extra h q e = extra_above prefix None extra h q e
+is_extra prefix extra h q e = extra_above prefix None extra h q (sym (set.contains-from_list nat_cmp_total extra q) ∙ e)
 
 -- the prefix is the greatest number up to which all are taken
 pub covers_taken : (prefix : ℕ) (extra : List ℕ) → Chained (λ n. n) (ExtraFits prefix) None extra → (n : ℕ) → covers (taken_of prefix extra) n ≡ leb n prefix
@@ -254,3 +256,39 @@ told_back s prefix extra waiting is_taken is_waiting h k =
 
 pub extras_listed : (xs : List ℕ) (s : StreamContent) → IsStrictlyIncreasing xs → set.from_list xs ≡ extra_numbers s → (wire_stream_of s).extra ≡ xs
 extras_listed xs s rise is = rising_items xs (extra_numbers s) (sorted_from_strictly_increasing xs rise) is
+
+-- ---- how many they are
+
+is_some-cond : (b : Bool) (q : ℕ) → is_some (cond b (Some q) None) ≡ b
+is_some-cond true q = refl
+is_some-cond false q = refl
+
+pub rising_has : (ks : List ℕ) (q : ℕ) → list_any (eq_by_cmp nat_cmp q) (rising_numbers ks) ≡ list_any (eq_by_cmp nat_cmp q) ks
+rising_has ks q =
+    sym (finmap.contains_key-keys (finmap.from_entries {R = nat_cmp} (paired ks)) q)
+    ∙ ap is_some (finmap.get-from_entries nat_cmp_total (paired ks) q ∙ find_paired q ks)
+    ∙ is_some-cond (list_any (eq_by_cmp nat_cmp q) ks) q
+
+less : {o : Ordering} → T (is_lt o) → o ≡ Less
+less h = grind (arith, nat_tests)
+
+both_T : (a b : Bool) → T (a && b) → T a × T b
+both_T true b h = (tt, h)
+both_T false b h = absurd h
+
+below_keys : (k : ℕ) (es : List (ℕ × ℕ)) → T (below_all nat_cmp k es) → AllByRecursion (λ y. nat_cmp k y ≡ Less) (keys_of es)
+below_keys k [] h = tt
+below_keys k (e ∷ es) h = let p = both_T (is_lt (nat_cmp k e.0)) (below_all nat_cmp k es) h in (less p.0, below_keys k es p.1)
+
+sorted_keys : (es : List (ℕ × ℕ)) → T (is_sorted nat_cmp es) → IsStrictlySortedBy nat_cmp (keys_of es)
+unfolding IsStrictlySortedBy
+sorted_keys [] h = tt
+sorted_keys (e ∷ es) h = let p = both_T (below_all nat_cmp e.0 es) (is_sorted nat_cmp es) h in (below_keys e.0 es p.0, sorted_keys es p.1)
+
+pub extras_counted : (s : StreamContent) → length (wire_stream_of s).extra ≡ set.len (extra_numbers s)
+extras_counted s =
+    let ks = rising_numbers (set.items (extra_numbers s)) in
+    let by_number = finmap.from_entries {R = nat_cmp} (paired (set.items (extra_numbers s))) in
+    let is : set.from_list ks ≡ extra_numbers s = set.same_set nat_cmp_total finmap.nat_cmp-IsAntisymmetric _ _ (λ q.
+    set.contains-from_list nat_cmp_total ks q ∙ rising_has (set.items (extra_numbers s)) q ∙ sym (set.contains-items (extra_numbers s) q)) in
+    sym (len-rising ks (sorted_keys (finmap.entries by_number) (finmap.entries_sorted by_number))) ∙ ap set.len is

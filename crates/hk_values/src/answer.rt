@@ -66,7 +66,7 @@ fn read_keyed(
     Ok((key, row))
 }
 
-/// Reads so many rows. No more is reserved for them than what is left can hold.
+/// Reads so many rows. No more is reserved for them than the bytes that are left can encode.
 fn read_many(alloc: Global, cursor: &mut Cursor, count: u32) -> Result<Vec<(Key, Row)>, ReadError>
     ensures { GivesOrRunsOut (λ x. (x.items, cursor.new)) result (spec.keyed_rows_at count None cursor.old) }
 {
@@ -90,7 +90,7 @@ pub(crate) fn read_rows(alloc: Global, cursor: &mut Cursor) -> Result<Vec<(Key, 
     read_many(alloc, cursor, count)
 }
 
-/// Reads what follows the byte that tells whether there is a row.
+/// Reads what follows the byte that shows whether there is a row.
 #[tactic(auto, unfolding(crate::specs::Answers::present_of))]
 fn read_present(alloc: Global, cursor: &mut Cursor, present: u8) -> Result<Option<Row>, ReadError>
     ensures { GivesOrRunsOut (λ x. (x, cursor.new)) result (spec.present_of present cursor.old) }

@@ -1,4 +1,4 @@
-//! Which facts are the next part of those that are left.
+//! Which facts are the next chunk of those that are left.
 
 ghost use Rattle.std.specs.Prelude.{◌≡◌, ◌≤◌, length};
 ghost use Rattle.hk_values.specs.Cutting as spec;
@@ -25,7 +25,7 @@ fn count_within(facts: &[(VersionKey, Version)], room: u64) -> usize
     count
 }
 
-/// How many facts the next part has: the longest front that is at most so many bytes, and one fact at least.
+/// How many facts the next chunk has: the longest prefix that is at most so many bytes, and one fact at least.
 pub(crate) fn next_count(facts: &[(VersionKey, Version)], most_bytes: u64) -> usize
     ensures value { result ≡ spec.next_count most_bytes facts.now }
     ensures bound { result ≤ length facts.now }

@@ -1,4 +1,4 @@
-//! How many bytes the fields of messages have, and what their types say of them.
+//! How many bytes the fields of messages have, and the bounds that their types state.
 
 ghost use Rattle.std.specs.Prelude.{◌≡◌, ◌<◌, ◌≤◌, ◌^◌};
 

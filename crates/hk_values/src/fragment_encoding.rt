@@ -15,12 +15,12 @@ use hk_marks::Got;
 use hk_types::{Config, StreamNo, Time, VersionKey};
 use std::alloc::AllocError;
 
-/// How many numbers above the prefix are taken.
+/// How many numbers above the prefix are applied.
 fn extra_count(got: &Got, s: StreamNo) -> usize
     requires { s ≤ length got.now }
     ensures { result ≡ length (spec.wire_stream_at got.now s).extra }
 {
-    got.extra_numbers(s).len()
+    got.extra_count(s) as usize
 }
 
 /// How many marks wait.
@@ -146,7 +146,7 @@ pub fn facts_len(facts: &[(VersionKey, Version)]) -> u64
     total
 }
 
-/// How many bytes stand before the streams. The number of streams is read for what its type says of it.
+/// How many bytes come before the streams. The number of streams is read for the bound that its type states.
 pub(crate) fn head_len(config: Config, base: Time, horizon: Time) -> u64
     ensures len { result ≡ 26 }
     ensures log { config.log < 2 ^ 64 }
@@ -170,7 +170,7 @@ pub fn fragment_len(fragment: &Fragment) -> u64
     head + 4 + streams_len(fragment.got()) + facts_len(fragment.facts())
 }
 
-/// Adds the numbers above the prefix that are taken, behind their count.
+/// Adds the numbers above the prefix that are applied, behind their count.
 #[tactic(auto, using(std::proofs::Common::append_assoc, hk_frames::proofs::Prefix::kept_all, hk_frames::proofs::Prefix::kept_before, hk_frames::proofs::Prefix::kept_both))]
 fn put_extras(out: &mut Vec<u8>, got: &Got, s: StreamNo) -> Result<(), AllocError>
     requires known { s ≤ length got.now }
@@ -180,7 +180,7 @@ fn put_extras(out: &mut Vec<u8>, got: &Got, s: StreamNo) -> Result<(), AllocErro
 {
     put_u32(out, extra_count(got, s) as u32)?;
     for number in got.extra_numbers(s) {
-        put_u64(out, *number)?;
+        put_u64(out, number)?;
     }
     Ok(())
 }
@@ -210,7 +210,7 @@ fn put_waits(out: &mut Vec<u8>, got: &Got, s: StreamNo) -> Result<(), AllocError
     Ok(())
 }
 
-/// The number up to which all are taken.
+/// The number up to which all are applied.
 fn prefix(got: &Got, s: StreamNo) -> u64
     requires { s ≤ length got.now }
     ensures { result ≡ (spec.wire_stream_at got.now s).prefix }
@@ -218,7 +218,7 @@ fn prefix(got: &Got, s: StreamNo) -> u64
     got.prefix(s)
 }
 
-/// Adds what is told of a stream.
+/// Adds the state of a stream.
 #[tactic(auto, using(std::proofs::Common::append_assoc, hk_frames::proofs::Prefix::kept_all, hk_frames::proofs::Prefix::kept_before, hk_frames::proofs::Prefix::kept_both), unfolding(crate::specs::Fragments::stream_text))]
 fn put_stream(out: &mut Vec<u8>, got: &Got, s: StreamNo) -> Result<(), AllocError>
     requires known { s ≤ length got.now }
@@ -232,7 +232,7 @@ fn put_stream(out: &mut Vec<u8>, got: &Got, s: StreamNo) -> Result<(), AllocErro
     put_waits(out, got, s)
 }
 
-/// Adds what is told of the streams.
+/// Adds the states of the streams.
 #[tactic(auto, using(std::proofs::Common::append_assoc, hk_frames::proofs::Prefix::kept_all, hk_frames::proofs::Prefix::kept_before, hk_frames::proofs::Prefix::kept_both))]
 pub(crate) fn put_streams(out: &mut Vec<u8>, got: &Got) -> Result<(), AllocError>
     requires { spec.streams_are_counted (map spec.wire_stream_of got.now) ≡ true }
@@ -248,7 +248,7 @@ pub(crate) fn put_streams(out: &mut Vec<u8>, got: &Got) -> Result<(), AllocError
     Ok(())
 }
 
-/// The byte that tells what is known of a version.
+/// The byte that shows what is known of a version.
 fn flags(known: &Version) -> u8
     ensures { result ≡ spec.known_flags known.now }
 {

@@ -20,7 +20,7 @@ use std::marker::Model;
 /// What a fragment is without its facts: the log, the base, the horizon, the numbers and marks of its streams, and how
 /// many facts it has.
 ///
-/// The base is 0 or at least the horizon, and the horizon is at most the least closed time of the streams.
+/// `base` is 0 or at least `horizon`, and `horizon` is at most the least closed time of the streams.
 #[derive(Drop)]
 pub struct FragmentHead {
     config: Config,
@@ -44,7 +44,7 @@ impl Model for FragmentHead {
 }
 
 impl FragmentHead {
-    /// The head of these parts.
+    /// The head of these fields.
     fn of_parts(config: Config, base: Time, horizon: Time, got: Got, count: u64) -> FragmentHead
         requires many { length got ≡ config.streams }
         requires above { spec.is_base base horizon ≡ true }
@@ -73,7 +73,7 @@ impl FragmentHead {
         Ok(FragmentHead::of_parts(fragment.config(), base, horizon, got, count))
     }
 
-    /// The time up to which a replica must be readable to join what the head is of. 0 is a whole. Cost: O(1).
+    /// The least resolved time that a replica must have to join the fragment of the head. 0 is a full snapshot. Cost: O(1).
     pub fn base(&self) -> Time
         ensures { result ≡ self.now.base }
     {
@@ -81,8 +81,8 @@ impl FragmentHead {
     }
 
     /// The fragment of this head and of all facts that were added, or its first fault, as `Assembly::into_fragment`
-    /// tells it: `BadCount` where other than so many facts were added as the head says. Both are moved, and dropped with
-    /// a fault. It takes no memory. Cost: O(s + n), s streams, n facts.
+    /// returns it: `BadCount` where the number of added facts isn't the one in the head. Both are moved, and dropped
+    /// with a fault. It takes no memory. Cost: O(s + n), s streams, n facts.
     pub fn into_fragment(self, came: Assembly) -> Result<Fragment, FormFault>
         ensures { result ≡ of_facts self came }
     {
@@ -148,7 +148,7 @@ pub fn read_head(alloc: Global, cursor: &mut Cursor) -> Result<FragmentHead, Rea
     Ok(FragmentHead::of_parts(start.config, start.base, start.horizon, got, count))
 }
 
-/// Reads the head of a whole, as `read_head` does. A base that is not 0 is `BadNumber`, after the faults of the head.
+/// Reads the head of a full snapshot, as `read_head` does. A base that is not 0 is `BadNumber`, after the faults of the head.
 #[tactic(auto, unfolding(crate::specs::Parts::whole_head_at))]
 pub fn read_whole_head(alloc: Global, cursor: &mut Cursor) -> Result<FragmentHead, ReadError>
     ensures { GivesOrRunsOut (λ x. (spec.wire_head_of x, cursor.new)) result (spec.whole_head_at cursor.old) }

@@ -77,7 +77,7 @@ fn number_follows(before: Option<u64>, number: u64) -> bool
     }
 }
 
-/// Reads a number that is taken above the prefix, after the one before it.
+/// Reads a number that is applied above the prefix, after the one before it.
 #[tactic(auto, unfolding(crate::specs::Fragments::extra_at))]
 fn read_extra(cursor: &mut Cursor, prefix: u64, before: Option<u64>) -> Result<u64, FormFault>
     requires { prefix ≤ 2 ^ 62 }
@@ -94,7 +94,7 @@ fn read_extra(cursor: &mut Cursor, prefix: u64, before: Option<u64>) -> Result<u
     Ok(number)
 }
 
-/// Reads so many taken numbers into a stream of which the prefix and the closed time are known.
+/// Reads so many applied numbers into a stream of which the prefix and the closed time are known.
 fn read_extras(
     cursor: &mut Cursor,
     got: &mut Got,
@@ -185,7 +185,7 @@ fn read_waits(
     Ok(())
 }
 
-/// Reads what is told of a stream of which nothing is known yet.
+/// Reads the state of a stream of which nothing is known yet.
 #[tactic(auto, unfolding(crate::specs::Fragments::stream_at))]
 fn read_stream(cursor: &mut Cursor, got: &mut Got, s: StreamNo) -> Result<(), ReadError>
     requires least { 1 ≤ s }
@@ -206,7 +206,7 @@ fn read_stream(cursor: &mut Cursor, got: &mut Got, s: StreamNo) -> Result<(), Re
     read_waits(cursor, got, s, prefix, count)
 }
 
-/// Reads what is told of so many streams of which nothing is known yet.
+/// Reads the states of so many streams of which nothing is known yet.
 fn read_streams(cursor: &mut Cursor, got: &mut Got, count: u16) -> Result<(), ReadError>
     requires all { count ≡ length got.old }
     requires most { count ≤ 64 }
@@ -345,8 +345,8 @@ fn read_fact(
     Ok((version, known))
 }
 
-/// Reads so many facts. No more is reserved for them than what is left can hold. Versions that don't rise are
-/// `BadOrder`, and what may not stand in a fragment with this base and this horizon `BadNumber`.
+/// Reads so many facts. No more is reserved for them than the bytes that are left can encode. Versions that don't
+/// rise are `BadOrder`, and what is not allowed in a fragment with this `base` and this `horizon` `BadNumber`.
 pub(crate) fn read_facts(
     alloc: Global,
     cursor: &mut Cursor,

@@ -1,7 +1,7 @@
-//! Values as bytes: fragments, their heads and parts, answers, queries, refusals, pages, and what is told of streams.
+//! Values as bytes: fragments, their heads and chunks, answers, queries, refusals, pages, and the reports of streams.
 //!
-//! They are the fields of messages. Each value has at most one encoding: `put_..` adds it at the end of bytes, `.._len` says
-//! how long it is, and `read_..` reads it from the front of bytes and tells the first fault of those that have none.
+//! They are the fields of messages. Each value has at most one encoding: `put_..` adds it at the end of bytes, `.._len`
+//! returns how long it is, and `read_..` reads it from the front of bytes and returns the first fault of those that have none.
 #![tactic(auto)]
 
 pub mod answer;

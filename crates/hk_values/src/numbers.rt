@@ -47,7 +47,7 @@ pub fn read_ops(cursor: &mut Cursor) -> Result<u64, FormFault>
     Ok(ops)
 }
 
-/// Reads a front. A horizon above the readable mark is `BadNumber`.
+/// Reads a front. A `horizon` above the resolved time is `BadNumber`.
 #[tactic(auto, unfolding(crate::specs::Readers::front_at))]
 pub fn read_front(cursor: &mut Cursor) -> Result<Front, FormFault>
     ensures { GivesValue (λ x. ((x.horizon, x.readable), cursor.new)) result (spec.front_at cursor.old) }

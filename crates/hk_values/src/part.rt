@@ -1,4 +1,4 @@
-//! Parts of fragments: facts behind their count.
+//! Chunks of fragments: facts behind their count.
 
 ghost use Rattle.std.specs.Prelude.{◌≡◌, ◌≤◌, ◌^◌, true, length};
 ghost use Rattle.hk_frames.specs.Fields.{GivesOrRunsOut};
@@ -13,7 +13,7 @@ use hk_log::Version;
 use hk_types::{Time, VersionKey};
 use std::alloc::Global;
 
-/// Reads the facts of a part behind their count.
+/// Reads the facts of a chunk behind their count.
 #[tactic(auto, unfolding(crate::specs::Parts::part_at))]
 pub fn read_part(
     alloc: Global,
@@ -25,14 +25,14 @@ pub fn read_part(
     read_facts(alloc, cursor, Time::zero(), Time::zero(), count)
 }
 
-/// Whether facts can be counted and keep the rules of a part.
+/// Whether facts can be counted and keep the rules of a chunk.
 pub fn keeps_part_rules(facts: &[(VersionKey, Version)]) -> bool
     ensures { result ≡ spec.part_keeps_rules facts.now }
 {
     facts.len() < 4_294_967_296 && !facts_fault(Time::zero(), Time::zero(), facts).is_some()
 }
 
-/// How many bytes a part that keeps its rules has.
+/// How many bytes a chunk that keeps its rules has.
 pub fn part_len(facts: &[(VersionKey, Version)]) -> u64
     requires { spec.part_keeps_rules facts.now ≡ true }
     ensures len { result ≡ length (facts_text facts.now) }

@@ -110,7 +110,7 @@ pub fn read_refusal(cursor: &mut Cursor) -> Result<Refusal, FormFault>
     read_of(cursor, number)
 }
 
-/// Reads what follows the number of a refusal of version 2: those of parts, and those of version 1.
+/// Reads what follows the number of a refusal of version 2: those of chunks, and those of version 1.
 #[tactic(auto, unfolding(crate::specs::Refusals::later_refusal_of))]
 fn read_later_of(cursor: &mut Cursor, number: u8) -> Result<Refusal, FormFault>
     ensures { GivesValue (λ x. (x, cursor.new)) result (spec.later_refusal_of number cursor.old) }
@@ -139,7 +139,7 @@ pub fn read_later_refusal(cursor: &mut Cursor) -> Result<Refusal, FormFault>
     read_later_of(cursor, number)
 }
 
-/// Whether a refusal is sent in version 1. Those of transactions and of parts are not.
+/// Whether a refusal is sent in version 1. Those of transactions and of chunks are not.
 pub fn is_sent(refusal: Refusal) -> bool
     ensures { result ≡ spec.is_sent refusal }
 {

@@ -1,4 +1,4 @@
-//! A fragment that is split into parts.
+//! A fragment that is split into chunks.
 
 ghost use Rattle.std.specs.Prelude.{◌≡◌, ◌<◌, ◌++◌, [], true, length};
 ghost use Rattle.hk_fragment.specs.Assemblies.{rises};
@@ -11,10 +11,10 @@ use hk_log::Version;
 use hk_types::VersionKey;
 use std::marker::Model;
 
-/// A fragment that is given part by part. It holds the fragment whole until it is dropped, and copies nothing.
+/// A fragment that is returned chunk by chunk. It keeps the complete fragment until it is dropped, and copies nothing.
 ///
-/// What was given so far, one part after the other, and then what is left are the fragment's facts. What a
-/// fragment is beside its facts, its log, base, horizon, numbers and marks, is read off `whole`.
+/// What was returned so far, one chunk after the other, and then what is left are the fragment's facts. What a
+/// fragment is beside its facts, its log, base, horizon, numbers and marks, is read with `whole`.
 #[derive(Drop)]
 pub struct Split {
     whole: Fragment,
@@ -37,7 +37,7 @@ impl Model for Split {
 }
 
 impl Split {
-    /// A split of the fragment, of which nothing is given so far. Cost: O(1).
+    /// A split of the fragment, of which nothing is returned so far. Cost: O(1).
     pub fn new(whole: Fragment) -> Split
         ensures whole { result.whole ≡ whole }
         ensures given { result.given ≡ [] }
@@ -51,7 +51,7 @@ impl Split {
         }
     }
 
-    /// The fragment, whole. Cost: O(1).
+    /// The complete fragment. Cost: O(1).
     pub fn whole(&self) -> &Fragment
         ensures value { result.now ≡ self.now.whole }
         ensures facts { self.now.given ++ self.now.left ≡ facts_of self.now.whole }
@@ -61,10 +61,10 @@ impl Split {
         &self.whole
     }
 
-    /// Goes on to the next part: the longest front of what is left that is at most so many bytes long, and one fact
+    /// Goes on to the next chunk: the longest prefix of what is left that is at most so many bytes long, and one fact
     /// at least, however long it is; none where nothing is left. The bytes are those that the facts have in a
-    /// message, without their count: a part of one fact has 4,129 at most. Each part may have another limit.
-    /// It takes no memory. Cost: O(n), n facts of the part.
+    /// message, without their count: a chunk of one fact has 4,129 at most. Each chunk may have another limit. It
+    /// takes no memory. Cost: O(n), n facts of the chunk.
     pub fn advance(&mut self, most_bytes: u64)
         ensures whole { self.new.whole ≡ self.old.whole }
         ensures part { self.new.part ≡ first_part most_bytes self.old.left }
@@ -81,15 +81,15 @@ impl Split {
         self.to += count;
     }
 
-    /// The facts of the part at which it stands, by rising version key: none before the first `advance`, and none
-    /// after one for which nothing was left. They stay that part until the next `advance`. Cost: O(1).
+    /// The facts of the current chunk, by rising version key: none before the first `advance`, and none after one for
+    /// which nothing was left. They are the same until the next `advance`. Cost: O(1).
     pub fn part(&self) -> &[(VersionKey, Version)]
         ensures { result.now ≡ self.now.part }
     {
         &self.whole.facts()[self.from..self.to]
     }
 
-    /// How many facts come after that part. Cost: O(1).
+    /// How many facts come after that chunk. Cost: O(1).
     pub fn left(&self) -> usize
         ensures { result ≡ length self.now.left }
     {

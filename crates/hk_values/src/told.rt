@@ -1,4 +1,4 @@
-//! Pages of rows, and what is told of streams.
+//! Pages of rows, and the reports of streams.
 
 ghost use Rattle.std.specs.Prelude.{◌≡◌, ◌≤◌, ◌*◌, ◌^◌, ◌<◌, ◌++◌, None, true, All, length, take, OnOk, OnErr};
 ghost use Rattle.std.specs.List.{flat_map};
@@ -16,7 +16,7 @@ use hk_model::{Page, StreamTold, StreamsTold};
 use hk_types::{FormFault, Time};
 use std::alloc::{AllocError, Global};
 
-/// The bytes of what is told of a stream.
+/// The bytes of the report of a stream.
 const TOLD_BYTES: usize = 32;
 
 // ---- reading
@@ -43,7 +43,7 @@ pub fn read_page(alloc: Global, cursor: &mut Cursor) -> Result<Page, ReadError>
     Ok(Page { rows, more })
 }
 
-/// Reads what is told of a stream.
+/// Reads the report of a stream.
 #[tactic(auto, unfolding(crate::specs::Told::told_at))]
 fn read_told(cursor: &mut Cursor) -> Result<StreamTold, ReadError>
     ensures { GivesOrRunsOut (λ x. (x, cursor.new)) result (spec.told_at cursor.old) }
@@ -72,7 +72,7 @@ fn read_count(cursor: &mut Cursor) -> Result<u16, FormFault>
     Ok(count)
 }
 
-/// Reads what is told of so many streams. No more is reserved for them than what is left can hold.
+/// Reads the reports of so many streams. No more is reserved for them than the bytes that are left can encode.
 fn read_many(alloc: Global, cursor: &mut Cursor, count: u16) -> Result<Vec<StreamTold>, ReadError>
     ensures { GivesOrRunsOut (λ x. (x.items, cursor.new)) result (spec.told_list_at count None cursor.old) }
 {
@@ -94,7 +94,7 @@ fn read_told_streams(alloc: Global, cursor: &mut Cursor) -> Result<Vec<StreamTol
     read_many(alloc, cursor, count)
 }
 
-/// Reads the time of a hold that stands, or that none does.
+/// Reads the time of an active pin, or that there is none.
 #[tactic(auto, unfolding(crate::specs::Told::hold_at, crate::specs::Told::hold_of))]
 fn read_hold(cursor: &mut Cursor) -> Result<Option<Time>, FormFault>
     ensures { GivesValue (λ x. (x, cursor.new)) result (spec.hold_at cursor.old) }
@@ -109,7 +109,7 @@ fn read_hold(cursor: &mut Cursor) -> Result<Option<Time>, FormFault>
     }
 }
 
-/// Reads what is told of streams.
+/// Reads the report of streams.
 #[tactic(auto, unfolding(crate::specs::Told::streams_at))]
 pub fn read_streams_told(alloc: Global, cursor: &mut Cursor) -> Result<StreamsTold, ReadError>
     ensures { GivesOrRunsOut (λ x. (streams_seen x, cursor.new)) result (spec.streams_at cursor.old) }
@@ -140,7 +140,7 @@ pub fn keeps_page_rules(page: &Page) -> bool
     page.rows.len() < 4_294_967_296 && keys_rise(&page.rows)
 }
 
-/// Whether what is told of streams keeps its rules.
+/// Whether the report of streams keeps its rules.
 pub fn keeps_streams_rules(told: &StreamsTold) -> bool
     ensures { result ≡ spec.streams_keep_rules (streams_seen told.now) }
 {
@@ -162,7 +162,7 @@ pub fn page_len(page: &Page) -> u64
     5 + rows_len(&page.rows)
 }
 
-/// How many bytes the time of a hold has, where one stands.
+/// How many bytes the time of a pin has, where one is active.
 #[tactic(auto, using(hk_codec::proofs::Lengths::len64))]
 fn hold_len(hold: Option<Time>) -> u64
     ensures len { result ≡ length (spec.hold_fields hold) }
@@ -175,7 +175,7 @@ fn hold_len(hold: Option<Time>) -> u64
     }
 }
 
-/// How many bytes what is told of a stream has.
+/// How many bytes the report of a stream has.
 #[tactic(auto, using(crate::proofs::ToldLengths::told_text_len))]
 fn told_len(told: &StreamTold) -> u64
     ensures len { result ≡ length (spec.told_text told.now) }
@@ -188,7 +188,7 @@ fn told_len(told: &StreamTold) -> u64
         + number_len(told.waiting)
 }
 
-/// How many bytes what is told of the streams has, without their number.
+/// How many bytes the reports of the streams have, without their number.
 fn told_streams_len(streams: &[StreamTold]) -> u64
     requires { length streams.now ≤ 64 }
     ensures len { result ≡ length (flat_map spec.told_text streams.now) }
@@ -202,7 +202,7 @@ fn told_streams_len(streams: &[StreamTold]) -> u64
     total
 }
 
-/// How many bytes what is told of streams has, where it keeps its rules.
+/// How many bytes the report of streams has, where it keeps its rules.
 #[tactic(auto, using(crate::proofs::ToldLengths::streams_text_len))]
 pub fn streams_told_len(told: &StreamsTold) -> u64
     requires { spec.streams_keep_rules (streams_seen told.now) ≡ true }
@@ -238,7 +238,7 @@ pub fn put_page(out: &mut Vec<u8>, page: &Page) -> Result<(), AllocError>
     put_rows(out, &page.rows)
 }
 
-/// Adds what is told of a stream.
+/// Adds the report of a stream.
 #[tactic(auto, using(std::proofs::Common::append_assoc, hk_frames::proofs::Prefix::kept_all, hk_frames::proofs::Prefix::kept_before, hk_frames::proofs::Prefix::kept_both), unfolding(crate::specs::Told::told_text))]
 fn put_told(out: &mut Vec<u8>, told: StreamTold) -> Result<(), AllocError>
     ensures ok { OnOk result (out.new.items ≡ out.old.items ++ spec.told_text told) }
@@ -250,7 +250,7 @@ fn put_told(out: &mut Vec<u8>, told: StreamTold) -> Result<(), AllocError>
     put_u64(out, told.waiting)
 }
 
-/// Adds what is told of the streams behind their number.
+/// Adds the reports of the streams behind their number.
 #[tactic(auto, using(std::proofs::Common::append_assoc, hk_frames::proofs::Prefix::kept_all, hk_frames::proofs::Prefix::kept_before, hk_frames::proofs::Prefix::kept_both))]
 fn put_told_streams(out: &mut Vec<u8>, streams: &[StreamTold]) -> Result<(), AllocError>
     requires { length streams.now ≤ 64 }
@@ -264,7 +264,7 @@ fn put_told_streams(out: &mut Vec<u8>, streams: &[StreamTold]) -> Result<(), All
     Ok(())
 }
 
-/// Adds the time of a hold that stands, or that none does.
+/// Adds the time of an active pin, or that there is none.
 #[tactic(auto, using(std::proofs::Common::append_assoc, hk_frames::proofs::Prefix::kept_all, hk_frames::proofs::Prefix::kept_before, hk_frames::proofs::Prefix::kept_both))]
 fn put_hold(out: &mut Vec<u8>, hold: Option<Time>) -> Result<(), AllocError>
     ensures ok { OnOk result (out.new.items ≡ out.old.items ++ spec.hold_text hold) }
@@ -282,7 +282,7 @@ fn put_hold(out: &mut Vec<u8>, hold: Option<Time>) -> Result<(), AllocError>
     }
 }
 
-/// Adds what is told of streams.
+/// Adds the report of streams.
 #[tactic(auto, using(std::proofs::Common::append_assoc, hk_frames::proofs::Prefix::kept_all, hk_frames::proofs::Prefix::kept_before, hk_frames::proofs::Prefix::kept_both), unfolding(crate::specs::Told::streams_text))]
 pub fn put_streams_told(out: &mut Vec<u8>, told: &StreamsTold) -> Result<(), AllocError>
     requires { spec.streams_keep_rules (streams_seen told.now) ≡ true }

@@ -26,8 +26,8 @@ fn version_of(kind: u8) -> u8
     if kind < FIRST_LATER_KIND { 1 } else { 2 }
 }
 
-/// Reads a version up to the latest that is read, and the kind, which it gives. Another version is `BadVersion`, a kind of
-/// another version `BadKind`.
+/// Reads a version up to the latest that is read, and the kind, which it returns. Another version is `BadVersion`, a kind
+/// of another version `BadKind`.
 #[tactic(auto, unfolding(crate::specs::Messages::head_at))]
 pub(crate) fn read_head(cursor: &mut Cursor, latest: u8) -> Result<u8, FormFault>
     ensures { GivesValue (λ x. (x, cursor.new)) result (head_at latest cursor.old) }

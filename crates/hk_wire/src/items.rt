@@ -46,7 +46,7 @@ fn read_item_count(cursor: &mut Cursor) -> Result<u32, FormFault>
     Ok(count)
 }
 
-/// Reads so many item frames. No more is reserved for them than what is left can hold.
+/// Reads so many item frames. No more is reserved for them than the bytes that are left can encode.
 fn read_many(alloc: Global, cursor: &mut Cursor, count: u32) -> Result<Vec<Item>, ReadError>
     ensures { GivesOrRunsOut (λ x. (x.items, cursor.new)) result (spec.plain_frames_at count None cursor.old) }
 {

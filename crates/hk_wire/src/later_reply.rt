@@ -25,19 +25,19 @@ pub enum LaterReply {
     },
     /// How far the node is, and each of its streams.
     Streams(StreamsTold),
-    /// The answer to a query at the readable mark, and the mark.
+    /// The answer to a query at the resolved time, and that time.
     Latest {
         t: Time,
         answer: Answer,
     },
     /// A page of rows.
     Page(Page),
-    /// A part of what is given, and how many facts come after it, 1 at least.
+    /// A chunk of what is sent, and how many facts come after it, 1 at least.
     Part {
         left: u64,
         facts: Vec<(VersionKey, Version)>,
     },
-    /// The last part of it, and the head of all parts, which says how many facts they have.
+    /// The last chunk of it, and the head of all chunks, which has the number of their facts.
     LastPart {
         facts: Vec<(VersionKey, Version)>,
         head: FragmentHead,
@@ -46,7 +46,7 @@ pub enum LaterReply {
     Added {
         count: u64,
     },
-    /// The number of a hold, which is not 0, and the time that it keeps readable.
+    /// The number of a pin, which is not 0, and the time that it keeps readable.
     Held {
         number: u64,
         t: Time,
@@ -81,7 +81,7 @@ pub(crate) const REFUSED: u8 = 72;
 
 pub(crate) const FED: u8 = 73;
 
-/// Reads the body of a kind of parts, of holds, of refusals, or of what was fed.
+/// Reads the body of a kind of chunks, of pins, of refusals, or of what was fed.
 #[tactic(auto, unfolding(crate::specs::LaterReplies::part_reply_of))]
 fn read_part_reply(alloc: Global, cursor: &mut Cursor, kind: u8) -> Result<LaterReply, ReadError>
     ensures { GivesOrRunsOut (λ x. (spec.reply_seen x, cursor.new)) result (spec.part_reply_of kind cursor.old) }

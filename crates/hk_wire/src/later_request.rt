@@ -19,7 +19,7 @@ use std::alloc::Global;
 pub enum LaterRequest {
     /// How far it is, and each of its streams.
     Streams,
-    /// The readable mark, and the answer to a query at it.
+    /// The resolved time, and the answer to a query at it.
     AskLatest {
         query: Query,
     },
@@ -31,25 +31,25 @@ pub enum LaterRequest {
         high: Key,
         most: u32,
     },
-    /// What it has learnt since a time, or all that it holds since 0, in parts whose facts have at most so many bytes,
-    /// and one fact at least: the first of them.
+    /// What it has applied since a time, or its full snapshot since 0, in chunks whose facts have at most so many
+    /// bytes, and one fact at least: the first of them.
     Whole {
         base: Time,
         most_bytes: u32,
     },
-    /// The next part of that.
+    /// The next chunk of that.
     More,
-    /// To keep these facts until the other parts and the head are there.
+    /// To keep these facts until the other chunks and the head are there.
     AddPart(Vec<(VersionKey, Version)>),
-    /// To take the fragment of this head and of all parts that were added, which have as many facts as the head says.
+    /// To join the fragment of this head and of all chunks that were added, which have as many facts as the head has it.
     JoinParts(FragmentHead),
-    /// To take the whole of them: the base of the head is 0.
+    /// To join the full snapshot that they make: the base of the head is 0.
     MergeParts(FragmentHead),
     /// To keep a time readable.
     Hold {
         t: Time,
     },
-    /// To let go the hold of this number, which is not 0.
+    /// To release the pin of this number, which is not 0.
     Release {
         number: u64,
     },
@@ -107,7 +107,7 @@ fn read_page(cursor: &mut Cursor) -> Result<LaterRequest, FormFault>
     })
 }
 
-/// Reads the body of a kind that puts parts together or is about holds.
+/// Reads the body of a kind that puts chunks together or is about pins.
 #[tactic(auto, unfolding(crate::specs::LaterRequests::change_of))]
 fn read_change(alloc: Global, cursor: &mut Cursor, kind: u8) -> Result<LaterRequest, ReadError>
     ensures { GivesOrRunsOut (λ x. (spec.request_seen x, cursor.new)) result (spec.change_of kind cursor.old) }

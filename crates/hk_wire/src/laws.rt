@@ -17,12 +17,12 @@ pub fn one_reply_encoding()
     ensures { OneEncoding IsReply reply_text }
 {}
 
-/// Pieces of requests that are read one after the other are read as the whole is.
+/// Pieces of requests that are read one after the other are read as all of them together are.
 pub fn request_pieces_join()
     ensures { (latest : ℕ) → PiecesJoin (ReadsRequests latest) }
 {}
 
-/// Pieces of replies that are read one after the other are read as the whole is.
+/// Pieces of replies that are read one after the other are read as all of them together are.
 pub fn reply_pieces_join()
     ensures { PiecesJoin ReadsReplies }
 {}

@@ -20,9 +20,9 @@ use std::alloc::Global;
 pub enum Reply {
     /// The change took effect; the replica has had so many operations, 1 to 2^62.
     Done { ops: u64 },
-    /// From where to where the replica can be read.
+    /// The replica's range of readable times.
     Front(Front),
-    /// A part of what the replica holds, or all of it.
+    /// A delta of what the replica holds, or a full snapshot.
     Fragment(Fragment),
     /// The answer to a query.
     Answer(Answer),
@@ -119,8 +119,8 @@ impl Format for ReplyFormat {
     fn laws() {}
 }
 
-/// Reads replies of both versions from a stream that comes in pieces. It holds less than a frame, or the fault that it met; a
-/// request's kind is `BadKind`.
-/// Cost of `feed`: O(n · log n), n bytes of the piece and of the frames that are whole now: one pass over those frames,
-/// where the numbers and marks of a fragment or a head take the logarithm, and one copy of the bytes that are left.
+/// Reads replies of both versions from a stream that comes in pieces. It keeps less than a frame, or the fault that it met; a
+/// request's kind is `BadKind`. Cost of `feed`: O(n · log n), n bytes of the piece and of the frames that are complete now:
+/// one pass over those frames, where the numbers and marks of a fragment or a head take the logarithm, and one copy of the
+/// bytes that are left.
 pub type ReplyFeeder = FrameFeeder<ReplyFormat>;

@@ -109,15 +109,15 @@ fn put_reply(out: &mut Vec<u8>, reply: &Reply, rest: u32) -> Result<(), AllocErr
     put_body(out, reply)
 }
 
-/// Adds a reply's one encoding at the end. A reply without an encoding is refused `Form(TooLong)`: a number of
-/// operations that is 0 or above 2^62, a horizon above the readable mark, more than 2^32 - 1 of a counted thing, rows whose
-/// keys do not rise strictly, a number of streams outside 1 to 64, facts that don't keep the rules of a part, a part after
-/// which 0 facts come, a hold of number 0, a refusal of a transaction, one of parts in version 1, and a rest of more than
-/// 2^28 bytes. After that comes `Memory`. On a refusal the output is as before. Cost: O(n), n bytes of the
-/// encoding: the whole frame is reserved at once, so the output grows once at most; one pass over the reply
-/// tests it, one counts its bytes and one writes them.
+/// Adds a reply's one encoding at the end. A reply without an encoding is refused `Form(TooLong)`: a number of operations
+/// that is 0 or above 2^62, a `horizon` above the resolved time, more than 2^32 - 1 of a counted thing, rows whose keys do
+/// not rise strictly, a number of streams outside 1 to 64, facts that don't keep the rules of a chunk, a chunk after which
+/// 0 facts come, a pin of number 0, a refusal of a transaction, one of chunks in version 1, and a rest of more than
+/// 2^28 bytes. After that comes `Memory`. On a refusal the output is as before. Cost: O(n), n bytes of the encoding: the
+/// whole frame is reserved at once, so the output grows once at most; one pass over the reply tests it, one counts its
+/// bytes and one writes them.
 ///
-/// A `ReplyFeeder` that is given the encoding alone gives a reply of that value, and holds nothing.
+/// A `ReplyFeeder` that is given the encoding alone returns a reply of that value, and keeps nothing.
 pub fn encode_reply(reply: &Reply, out: &mut Vec<u8>) -> Result<(), Refusal>
     ensures ok { OnOk result (replies.Encodes reply.now out.old.items out.new.items) }
     ensures reply { OnOk result (replies.IsReply (replies.reply_seen reply.now)) }

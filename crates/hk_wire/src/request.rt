@@ -19,23 +19,23 @@ use std::alloc::Global;
 /// What a replica is asked.
 #[derive(Drop)]
 pub enum Request {
-    /// To take items, at most 65,536.
+    /// To apply items, at most 65,536.
     Items(Vec<Item>),
-    /// From where to where it can be read.
+    /// Its range of readable times.
     Front,
-    /// What it has learnt since a time.
+    /// What it has applied since a time.
     Delta { base: Time },
-    /// All that it holds.
+    /// Its full snapshot: all that it holds.
     Full,
     /// The answer to a query at a time.
     Ask { t: Time, query: Query },
-    /// To take a fragment.
+    /// To join a fragment.
     JoinThis(Fragment),
-    /// To take a whole: a fragment of base 0.
+    /// To join a full snapshot: a fragment of base 0.
     MergeThis(Fragment),
-    /// To forget what no one reads from a horizon on.
+    /// To drop the versions that no read at this time or later needs, so that it becomes the oldest readable time.
     Prune { horizon: Time },
-    /// To take items, at most 65,536, and to tell how many of them were not known: of version 2.
+    /// To apply items, at most 65,536, and to return how many of them were not known: of version 2.
     Feed(Vec<Item>),
     /// What else is asked in version 2.
     Later(LaterRequest),
@@ -144,8 +144,8 @@ impl<const LATEST: u8> Format for RequestFormat<LATEST> {
     fn laws() {}
 }
 
-/// Reads requests up to the latest version that is read from a stream that comes in pieces. It holds less than a frame, or
-/// the fault that it met; a request of a later version is `BadVersion`, and a reply's kind `BadKind`.
-/// Cost of `feed`: O(n · log n), n bytes of the piece and of the frames that are whole now: one pass over those frames,
-/// where the numbers and marks of a fragment or a head take the logarithm, and one copy of the bytes that are left.
+/// Reads requests up to the latest version that is read from a stream that comes in pieces. It keeps less than a frame, or
+/// the fault that it met; a request of a later version is `BadVersion`, and a reply's kind `BadKind`. Cost of `feed`:
+/// O(n · log n), n bytes of the piece and of the frames that are complete now: one pass over those frames, where the
+/// numbers and marks of a fragment or a head take the logarithm, and one copy of the bytes that are left.
 pub type RequestFeeder<const LATEST: u8> = FrameFeeder<RequestFormat<LATEST>>;

@@ -20,10 +20,10 @@ use std::sync::Wait;
 use std::thread::Threads;
 use std::{fs, io};
 
-/// What is told where the help can't be written.
+/// The line where the help can't be written.
 const NO_OUTPUT: &[u8] = b"stopped: the output can't be written; see where standard output goes\n";
 
-/// What is told where a file can't be made and there is no memory to say which.
+/// The line where a file can't be made and there is no memory to say which.
 const NO_FILE: &[u8] = b"stopped: the file can't be made, and there is no memory to say why\n";
 
 /// The words that the process was started with.
@@ -61,7 +61,7 @@ fn run_alone<I: Read, W: Write, E: Write>(
     }
 }
 
-/// Tells that a file can't be made, in the system's words.
+/// Prints that a file can't be made, in the system's words.
 fn tell_no_file<E: Write>(alloc: Global, name: &str, error: &io::Error, errors: &mut E) {
     let line = format!(in alloc; "stopped: can't make the file {name}: {error}\n");
     let _told = match line {
@@ -70,7 +70,7 @@ fn tell_no_file<E: Write>(alloc: Global, name: &str, error: &io::Error, errors: 
     };
 }
 
-/// A new file of this name, where one is given.
+/// A new file of this name, if there is one.
 fn made<R: Files>(rt: &R, name: Option<&str>) -> io::Result<Option<R::File>> {
     match name {
         Some(name) => Ok(Some(fs::create(rt, name)?)),
@@ -78,7 +78,7 @@ fn made<R: Files>(rt: &R, name: Option<&str>) -> io::Result<Option<R::File>> {
     }
 }
 
-/// The status of a script whose items are written to a file of this name, where one is given.
+/// The status of a script whose items are written to a file of this name, if there is one.
 fn run_script<R: Files + Alloc<A = Global>, I: Read, W: Write, E: Write>(
     rt: &R,
     input: &mut I,

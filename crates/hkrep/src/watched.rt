@@ -1,4 +1,4 @@
-//! Standard input, with a line on a terminal that tells how much of it was read.
+//! Standard input, with a line on a terminal that shows how much of it was read.
 
 use std::io;
 use std::io::{IsTerminal, Read, Write};
@@ -7,16 +7,16 @@ use std::time::Instant;
 /// A megabyte.
 const MEGABYTE: u64 = 1_000_000;
 
-/// A reader that tells each second how much was read, where standard error is a terminal. The line is overwritten by what
-/// is written next, and cleared at the end of the input.
+/// A reader that prints each second how much was read, where standard error is a terminal. The line is overwritten by
+/// what is written next, and cleared at the end of the input.
 #[derive(Drop)]
 pub(crate) struct Watched<'a, I: Drop> {
     rt: &'a HostRuntime,
     input: I,
-    /// When the reading began, where it is told.
+    /// When the reading began, where the line is printed.
     start: Option<Instant>,
     bytes: u64,
-    /// How many whole seconds had gone by when it was told last.
+    /// How many whole seconds had passed when the line was printed last.
     seconds: u64,
 }
 
@@ -36,7 +36,7 @@ impl<'a, I: Drop> Watched<'a, I> {
         }
     }
 
-    /// How many whole seconds have gone by since the start, where they are more than were told.
+    /// How many whole seconds have passed since the start, where they are more than the last line showed.
     fn next_seconds(&self) -> Option<u64> {
         let seconds = self.start?.elapsed(self.rt).ok()?.as_secs();
         if seconds > self.seconds {
@@ -46,7 +46,7 @@ impl<'a, I: Drop> Watched<'a, I> {
         }
     }
 
-    /// Tells how much was read; where that fails there is nobody to tell.
+    /// Prints how much was read; a failure of that write is ignored.
     fn tell(&mut self, seconds: u64) {
         self.seconds = seconds;
         let megabytes = self.bytes / MEGABYTE;
@@ -54,7 +54,7 @@ impl<'a, I: Drop> Watched<'a, I> {
         let _ = write!(errors, "\x1b[Kread {megabytes} MB in {seconds} s\r");
     }
 
-    /// Clears what was told.
+    /// Clears the line.
     fn clear(&mut self) {
         if self.seconds > 0 {
             let mut errors = self.rt.stderr();

@@ -21,7 +21,7 @@ fn told(alloc: Global, reply: Result<Answer, Refusal>) -> Result<String, AllocEr
     }
 }
 
-/// What merging two replicas, each of one half of the items of these bytes, tells.
+/// What merging two replicas, each of one half of the items of these bytes, returns.
 fn counted<R: Threads + Sync>(rt: &R, alloc: Global, bytes: &[u8]) -> Result<Answer, Refusal> {
     let items = decode_all(rt, alloc, bytes)?;
     merge::count(alloc, &items)

@@ -8,7 +8,7 @@ use hk_state::ReplicaState;
 use hk_types::{Refusal, Table, Time};
 use std::alloc::Global;
 
-/// Merges a replica that took these items into another one.
+/// Merges a replica that applied these items into another one.
 fn merge_of(alloc: Global, replica: &mut ReplicaState, items: &[Item]) -> Result<(), Refusal> {
     let other = replica_of(alloc, items)?;
     merge(replica, &other)

@@ -18,7 +18,7 @@ fn items_of(alloc: Global, pieces: &[&[u8]]) -> Result<Vec<Item>, Refusal> {
     Ok(items)
 }
 
-/// A replica of log 7, which has one stream, that took these items.
+/// A replica of log 7, which has one stream, that applied these items.
 pub(crate) fn replica_of(alloc: Global, items: &[Item]) -> Result<ReplicaState, Refusal> {
     let mut replica = ReplicaState::new(alloc, Config::new(7, 1)?)?;
     for item in items {
@@ -27,7 +27,7 @@ pub(crate) fn replica_of(alloc: Global, items: &[Item]) -> Result<ReplicaState, 
     Ok(replica)
 }
 
-/// A replica that took the items of these pieces.
+/// A replica that applied the items of these pieces.
 fn fed(alloc: Global, pieces: &[&[u8]]) -> Result<ReplicaState, Refusal> {
     let items = items_of(alloc, pieces)?;
     replica_of(alloc, &items)

@@ -15,7 +15,7 @@ use std::marker::Brand;
 use std::sync::Wait;
 use std::thread::Threads;
 
-/// What a reader is told of table 1 at key 5 at time 1.
+/// What a reader gets from table 1 at key 5 at time 1.
 fn row<J: NodeName>(alloc: Global, seat: &mut ReaderSeat<J>) -> Result<String, Refusal> {
     let (table, key) = (Table::new(1), Key::new(5));
     let line = match seat.ask(Time::new(1)?, &Query::Get { table, key }) {
@@ -69,7 +69,7 @@ fn fragment<R: Threads + Sync>(
     fragment_of(alloc, config, &items)
 }
 
-/// What the readers of a node are told of log 7, which has one stream, whose items it is pushed.
+/// What the readers of a node of log 7 get, which has one stream and is pushed the stream's items.
 fn filled<R: Threads + Wait + Sync>(
     rt: &R,
     alloc: Global,

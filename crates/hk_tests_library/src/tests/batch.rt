@@ -54,7 +54,7 @@ fn line((version, known): &(VersionKey, Version)) -> (u64, u64, u8, u64) {
     (version.key.number(), version.born.number(), byte, died)
 }
 
-/// What the items 1 to 6 say of versions.
+/// The versions of the items 1 to 6.
 const KNOWN: [(u64, u64, u8, u64); 3] = [(5, 1, 0x41, 3), (5, 3, 0x43, 0), (6, 2, 0x42, 4)];
 
 /// Whether a fragment is that of the items 1 to 6.
@@ -73,7 +73,7 @@ fn is_whole(fragment: &Fragment) -> bool {
     known && times == (0, 0, 4)
 }
 
-/// 0 where so many workers give the fragment of the items 1 to 6, or the number of the refusal; 1 for another fragment.
+/// 0 where so many workers return the fragment of the items 1 to 6, or the number of the refusal; 1 for another fragment.
 fn told<R: Threads + Sync>(
     rt: &R,
     alloc: Global,
@@ -90,7 +90,7 @@ fn told<R: Threads + Sync>(
     }
 }
 
-/// Lists of items by their names, and what they are told: the items 1 to 6, one of another log, and a conflict.
+/// Lists of items by their names, and the refusals of each: the items 1 to 6, one of another log, and a conflict.
 const LISTS: [(&[u8], u8); 3] = [(&[6, 5, 4, 3, 2, 1, 1], 0), (&[1, 7, 8], 20), (&[1, 7], 23)];
 
 #[test]

@@ -1,5 +1,5 @@
-//! A primary of log 7 with two streams, and a run of a world. What transactions, primaries and worlds tell is shown by
-//! scripts (examples/world, tests/scripts); here stand the calls that no script makes.
+//! A primary of log 7 with two streams, and a run of a world. What transactions, primaries and worlds return is shown
+//! by scripts (examples/world, tests/scripts); here are the calls that no script makes.
 
 mod committing;
 mod sharing;

@@ -1,4 +1,4 @@
-//! Changes, holds, refusals and damage, and what a change leaves that finds no memory: steps, each with what it tells.
+//! Changes, pins, refusals and failed nodes, and what a change leaves that finds no memory: steps, each with what it returns.
 
 ghost use Rattle.std.specs.Prelude.{◌≡◌};
 
@@ -12,13 +12,13 @@ enum Does<'a> {
     Take(&'a [u64]),
     /// A state with all items, pruned to a time.
     Merge(u64),
-    /// The whole of such a state.
+    /// The full snapshot of such a state.
     JoinPruned(u64),
     Prune(u64),
     Hold(u64),
     /// Its number.
     Release(u64),
-    /// A hold that was not given: its number and time.
+    /// A pin that the node never made: its number and time.
     Forged(u64, u64),
     Publish,
     Front,
@@ -58,7 +58,7 @@ fn fill(alloc: Global, state: &mut ReplicaState) -> Result<(), Fail> {
     Ok(join(state, &items)?)
 }
 
-/// A state that took them.
+/// A state that applied them.
 fn filled(alloc: Global) -> Result<ReplicaState, Fail> {
     let mut state = ReplicaState::new(alloc, config()?)?;
     fill(alloc, &mut state)?;
@@ -72,13 +72,13 @@ fn state_of(alloc: Global, to: Time) -> Result<ReplicaState, Fail> {
     Ok(state)
 }
 
-/// The whole of it.
+/// The full snapshot of it.
 fn pruned(alloc: Global, to: Time) -> Result<Fragment, Fail> {
     let state = state_of(alloc, to)?;
     Ok(whole_of(alloc, &state)?)
 }
 
-/// A node with a seat, and the holds that it gave. Of the requests for memory of each call of the node the one
+/// A node with a seat, and the pins that it returned. Of the requests for memory of each call of the node the one
 /// with this number is refused, none where it is 0.
 #[derive(Drop)]
 struct Game<J: NodeName, S: Wait + Drop> {
@@ -98,7 +98,7 @@ fn refuse(alloc: Global, number: usize) {
 }
 
 impl<J: NodeName, S: Wait + Drop> Game<J, S> {
-    /// The number of operations and the number of the hold, which is kept with 42 too.
+    /// The number of operations and the number of the pin, which is kept with 42 too.
     fn hold<R: Wait>(&mut self, rt: &R, at: Time) -> Result<Tells, Fail> {
         refuse(self.alloc, self.number);
         let held = self.node.hold(rt, at);
@@ -143,7 +143,7 @@ impl<J: NodeName, S: Wait + Drop> Game<J, S> {
         }
     }
 
-    /// Publishes, and lets the seat learn it.
+    /// Publishes, and applies the receipt to the seat.
     fn publish<R: Wait>(&mut self, rt: &R) -> Tells {
         refuse(self.alloc, self.number);
         let published = self.node.publish(rt);
@@ -172,7 +172,7 @@ impl<J: NodeName, S: Wait + Drop> Game<J, S> {
         }
     }
 
-    /// The body at the readable mark, and that time.
+    /// The body at the resolved time, and that time.
     fn latest(&mut self, key: u64) -> Tells {
         match self.seat.latest(&get(key)) {
             Ok((at, answer)) => (0, u64::from(number_of(&answer)), at.number()),
@@ -225,7 +225,7 @@ impl<J: NodeName, S: Wait + Drop> Game<J, S> {
         told(merged)
     }
 
-    /// The number of operations and the horizon.
+    /// The number of operations and the oldest readable time.
     fn prune<R: Wait>(&mut self, rt: &R, to: Time) -> Tells {
         refuse(self.alloc, self.number);
         let pruned = self.node.prune(rt, to);
@@ -288,7 +288,7 @@ fn forged(reader: u64, at: u64) -> Result<Hold, Fail> {
     Ok(Hold { reader, at })
 }
 
-/// A node of log 7 with one stream and two places.
+/// A node of log 7 with one stream and two reader slots.
 fn new_game<J: NodeName, R: Wait>(rt: &R, alloc: Global, list: NewList) -> Result<Game<J, &R>, Fail>
     requires { list ≡ (J.book, J.kind) }
 {
@@ -303,7 +303,7 @@ fn new_game<J: NodeName, R: Wait>(rt: &R, alloc: Global, list: NewList) -> Resul
     })
 }
 
-/// Each step tells what it is to tell.
+/// Each step returns what it should.
 fn plays<J: NodeName, R: Wait + Abort, S: Wait + Drop>(
     rt: &R,
     game: &mut Game<J, S>,
@@ -330,7 +330,7 @@ fn steps<J: NodeName, R: Wait + Abort>(
 
 const ALL: [u64; 4] = [1, 2, 3, 4];
 
-/// A prune stops at the least hold, and goes on once it is released; a merge that would pass one is refused.
+/// A prune stops at the least pinned time, and goes on once the pin is released; a merge that would pass one is refused.
 const HOLDS: [(Does, Tells); 25] = [
     (Does::Join(&ALL), (0, 2, 0)),
     (Does::Hold(2), (0, 3, 1)),
@@ -359,7 +359,7 @@ const HOLDS: [(Does, Tells); 25] = [
     (Does::Publish, (0, 13, 13)),
 ];
 
-/// A prune stops at a hold, and goes on once the hold is released.
+/// A prune stops at a pinned time, and goes on once the pin is released.
 const A_HOLD: [(Does, Tells); 9] = [
     (Does::Join(&ALL), (0, 2, 0)),
     (Does::Get(5, 3), (0, 0x42, 0)),
@@ -372,7 +372,7 @@ const A_HOLD: [(Does, Tells); 9] = [
     (Does::Publish, (0, 6, 6)),
 ];
 
-/// A change made again is another operation. Joins that do not fit are shown by tests/client.py, over links.
+/// A change made again is another operation. Joins that do not fit are shown by tests/checks/client.py, over connections.
 const AGAIN: [(Does, Tells); 4] = [
     (Does::Merge(0), (0, 2, 0)),
     (Does::Front, (0, 0, 3)),
@@ -394,8 +394,8 @@ const DAMAGE: [(Does, Tells); 11] = [
     (Does::Publish, (0, 4, 4)),
 ];
 
-/// What contradicts a guarded node is refused and damages nothing, and of a list that is refused nothing is kept: 7 ends a
-/// version at another time than 2, and 9 has the number of 1 and another row.
+/// What conflicts with a guarded node is refused and the node doesn't fail, and of a list that is refused nothing is kept:
+/// 7 ends a version at another time than 2, and 9 has the number of 1 and another row.
 const GUARDED: [(Does, Tells); 14] = [
     (Does::Take(&[1, 9]), (23, 0, 0)),
     (Does::Take(&[1, 2]), (0, 2, 2)),
@@ -413,7 +413,7 @@ const GUARDED: [(Does, Tells); 14] = [
     (Does::Publish, (0, 7, 7)),
 ];
 
-/// A guarded node refuses a state that contradicts it, and holds what it held.
+/// A guarded node refuses a state that conflicts with it, and keeps what it had.
 const MERGED: [(Does, Tells); 5] = [
     (Does::Take(&[9]), (0, 2, 1)),
     (Does::Merge(0), (23, 0, 0)),
@@ -433,7 +433,7 @@ const CLOSED: [(Does, Tells); 7] = [
     (Does::Get(5, 3), (0, 0x41, 0)),
 ];
 
-/// Key 5 is put and replaced, key 6 put. A damaged node tells of its streams, and nothing else.
+/// Key 5 is put and replaced, key 6 put. A failed node reports its streams, and nothing else.
 const NEWEST: [(Does, Tells); 14] = [
     (Does::Streams, (0, 1, 0)),
     (Does::Latest(5), (0, 0, 0)),
@@ -493,7 +493,7 @@ fn each_request_refused(rt: HostRuntime) -> Result<(), Fail> {
 /// More than any change of `waits` makes.
 const MOST_REQUESTS: usize = 80;
 
-/// What a change that waits told is its operation, and readers see what they saw before, until it is published.
+/// A change that waits returned its operation, and readers see what they saw before, until it is published.
 fn publishes<J: NodeName, R: Wait + Abort, S: Wait + Drop>(
     rt: &R,
     game: &mut Game<J, S>,
@@ -530,8 +530,8 @@ fn at_last<J: NodeName, R: Wait + Abort, S: Wait + Drop>(
     Ok(())
 }
 
-/// Changes, of each of which one request for memory is refused: they are the operations from 2 on. The numbers of
-/// the holds go on, also where one was handed out with 42.
+/// Changes, of each of which one request for memory is refused: they are the operations from 2 on. The numbers of the
+/// pins go on, also where one was returned with 42.
 const CHANGES: [Does; 6] = [
     Does::Join(&ALL),
     Does::Merge(0),
@@ -541,7 +541,7 @@ const CHANGES: [Does; 6] = [
     Does::Prune(3),
 ];
 
-/// What is told after them.
+/// What is returned after them.
 const AFTER: [(Does, Tells); 3] = [
     (Does::Release(2), (0, 8, 0)),
     (Does::Front, (0, 3, 3)),

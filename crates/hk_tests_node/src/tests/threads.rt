@@ -118,7 +118,7 @@ fn joins_each<J: NodeName, R: Wait, S: Wait + Drop>(
     Ok(())
 }
 
-/// The list that was seen says how far the node is readable, and the body at each time.
+/// The list that was seen determines the node's resolved time, and the body at each time.
 fn reads_keys<J: NodeName>(mut seat: ReaderSeat<J>) -> bool {
     for _ in 0..100_000u64 {
         let Ok((0, readable)) = front(&mut seat) else {

@@ -35,7 +35,7 @@ fn frames(alloc: Global) -> Result<Vec<u8>, Fail> {
     Ok(bytes)
 }
 
-/// Whether these bytes, with another one at a place that they have, are read as a feeder reads them.
+/// Whether these bytes, with one of them changed, are read as a feeder reads them.
 fn is_read_alike(
     rt: &(impl Threads + Sync),
     alloc: Global,

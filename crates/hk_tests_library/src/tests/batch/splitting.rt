@@ -1,4 +1,4 @@
-//! The fragment of the items 1 to 6 in parts: of 34, 26 and 34 bytes are its facts.
+//! The fragment of the items 1 to 6 in chunks: its facts have 34, 26 and 34 bytes.
 
 use super::{is_whole, items, refuse};
 use hk_delta::fragment_of;
@@ -9,10 +9,10 @@ use hk_values::{Split, copy_by_parts};
 use std::alloc::Global;
 use std::test::Fail;
 
-/// More than a fragment of three facts in parts asks for.
+/// More than a fragment of three facts in chunks asks for.
 const MOST_REQUESTS: usize = 40;
 
-/// How many bytes a part has at most, and then of each part how many facts it has, and how many come after it.
+/// How many bytes a chunk has at most, and then of each chunk how many facts it has, and how many come after it.
 const CUTS: [(u64, &[(usize, usize)]); 6] = [
     (0, &[(1, 2), (1, 1), (1, 0), (0, 0)]),
     (34, &[(1, 2), (1, 1), (1, 0), (0, 0)]),
@@ -27,7 +27,7 @@ fn whole(alloc: Global) -> Result<Fragment, Fail> {
     Ok(fragment_of(alloc, Config::new(7, 2)?, &items)?)
 }
 
-/// Whether the fragment is cut into these parts.
+/// Whether the fragment is cut into these chunks.
 fn is_cut(split: &mut Split, most_bytes: u64, parts: &[(usize, usize)]) -> bool {
     let mut is_cut = true;
     for (len, left) in parts {
@@ -56,7 +56,7 @@ fn part(
     Ok(part)
 }
 
-/// The fragment of the head of this one and of the parts that came.
+/// The fragment of the head of this one and of the chunks that came.
 fn made(alloc: Global, came: Assembly, whole: &Fragment) -> Result<Fragment, Refusal> {
     let got = whole.got().copy(alloc)?;
     let count = whole.facts().len() as u64;
@@ -64,7 +64,7 @@ fn made(alloc: Global, came: Assembly, whole: &Fragment) -> Result<Fragment, Ref
     Ok(made)
 }
 
-/// A part of one fact comes, and comes again: whether it is refused then.
+/// A chunk of one fact comes, and comes again: whether it is refused then.
 fn comes_once(
     alloc: Global,
     came: &mut Assembly,
@@ -75,7 +75,7 @@ fn comes_once(
     Ok(matches!(told, Err(Refusal::Form(FormFault::BadOrder))))
 }
 
-/// Whether each part comes once, and the parts that came.
+/// Whether each chunk comes once, and the chunks that came.
 fn each_once(alloc: Global, whole: &Fragment) -> Result<(bool, Assembly), Refusal> {
     let mut came = Assembly::new(alloc);
     let mut is_once = true;
@@ -94,7 +94,7 @@ fn a_refused_part_leaves_those_before_it(rt: HostRuntime) -> Result<(), Fail> {
     Ok(())
 }
 
-/// The parts of one fact each, without one of them.
+/// The chunks of one fact each, without one of them.
 fn without(alloc: Global, whole: &Fragment, missing: usize) -> Result<Assembly, Refusal> {
     let mut came = Assembly::new(alloc);
     for (index, fact) in whole.facts().iter().enumerate() {
@@ -105,7 +105,7 @@ fn without(alloc: Global, whole: &Fragment, missing: usize) -> Result<Assembly, 
     Ok(came)
 }
 
-/// Whether that is told.
+/// Whether that is reported.
 fn is_missed(alloc: Global, whole: &Fragment, missing: usize) -> Result<bool, Refusal> {
     let came = without(alloc, whole, missing)?;
     let told = made(alloc, came, whole);
@@ -121,7 +121,7 @@ fn a_part_that_is_missing_is_told(rt: HostRuntime) -> Result<(), Fail> {
     Ok(())
 }
 
-/// Whether the fragment comes through in parts, or is refused 90 where that request for memory is refused.
+/// Whether the fragment comes through in chunks, or is refused 90 where that request for memory is refused.
 fn comes_through(alloc: Global, most_bytes: u64, number: usize) -> Result<bool, Fail> {
     let whole = whole(alloc)?;
     refuse(alloc, number);

@@ -9,7 +9,7 @@ use std::test::Fail;
 /// More than a union makes over three versions.
 const MOST_REQUESTS: usize = 40;
 
-/// What the items 1, 4 and 5 say of versions.
+/// The versions of the items 1, 4 and 5.
 const HALF: [(u64, u64, u8, u64); 2] = [(5, 1, 0x41, 0), (6, 2, 0, 4)];
 
 fn is_half(fragment: &Fragment) -> bool {
@@ -21,8 +21,8 @@ fn is_half(fragment: &Fragment) -> bool {
             .all(|(fact, known)| line(fact) == *known)
 }
 
-/// A union of both halves where that request for memory is refused, and again where it was: whether each gave what it
-/// should.
+/// A union of both halves where that request for memory is refused, and again where it was: whether each returned
+/// what it should.
 fn is_united(alloc: Global, number: usize) -> Result<bool, Fail> {
     let config = Config::new(7, 2)?;
     let mut fragment = fragment_of(alloc, config, &items(alloc, &[1, 4, 5])?)?;

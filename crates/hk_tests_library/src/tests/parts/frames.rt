@@ -1,4 +1,4 @@
-//! The worked frames, in version 1. What frames of version 2 are, and the faults of both, tests/program.py shows.
+//! The worked frames, in version 1. What frames of version 2 are, and the faults of both, tests/checks/program.py shows.
 
 use hk_codec::encode_old;
 use hk_decode::decode_all;
@@ -36,7 +36,7 @@ fn item(alloc: Global, number: u8) -> Result<Item, Fail> {
     Ok(item?)
 }
 
-/// The items whose frames `stream` gives.
+/// The items whose frames `stream` returns.
 fn worked(alloc: Global) -> Result<Vec<Item>, Fail> {
     let mut items = Vec::new(alloc);
     for number in [2, 1, 3] {

@@ -17,7 +17,7 @@ fn prints_numbers(rt: HostRuntime) -> Result<(), Fail> {
     Ok(())
 }
 
-/// A refusal tells its number, and is printed as this text.
+/// A refusal has this number, and is printed as this text.
 fn prints(
     rt: &impl Abort,
     alloc: Global,
@@ -95,14 +95,14 @@ const REFUSALS: [(Refusal, u8, &str); 15] = [
         43,
         "the node has all operations that it can have",
     ),
-    (Refusal::NoHold, 44, "no such hold"),
+    (Refusal::NoHold, 44, "no such pin"),
     (Refusal::NoSuch, 45, "no such replica or item"),
     (
         Refusal::LinkFull { most: 9 },
         46,
-        "links would hold more than 9 bytes in parts",
+        "connections would keep more than 9 bytes in chunks",
     ),
-    (Refusal::NoPart, 47, "nothing is being given"),
+    (Refusal::NoPart, 47, "nothing is being sent in chunks"),
     (Refusal::Memory, 90, "out of memory"),
 ];
 
@@ -126,15 +126,19 @@ fn prints_each_refusal_at_a_time(rt: HostRuntime) -> Result<(), Fail> {
         (
             Refusal::AheadOfMark { readable },
             24,
-            "above the readable mark 6",
+            "above the resolved time 6",
         ),
-        (Refusal::TooOld { horizon: at }, 25, "below the horizon 2"),
+        (
+            Refusal::TooOld { horizon: at },
+            25,
+            "below the oldest readable time 2",
+        ),
         (
             Refusal::NotYet { readable },
             26,
-            "above the readable mark 6",
+            "above the resolved time 6",
         ),
-        (Refusal::Held { reader: 3, at }, 40, "reader 3 holds 2"),
+        (Refusal::Held { reader: 3, at }, 40, "reader 3 has pinned 2"),
     ] {
         prints(&rt, rt.alloc(), refusal, number, text)?;
     }

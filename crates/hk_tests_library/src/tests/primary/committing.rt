@@ -8,7 +8,7 @@ use std::alloc::Global;
 use std::process::Abort;
 use std::test::Fail;
 
-/// The number of the refusal of a commit that puts a key, or 0, and the time that it tells.
+/// The number of the refusal of a commit that puts a key, or 0, and the time that it returns.
 fn told(alloc: Global, primary: &mut Primary, key: u64, number: u16) -> Result<(u8, u64), Fail> {
     let stream = stream(number)?;
     let txn = transaction(alloc, key, 0x41)?;
@@ -19,7 +19,7 @@ fn told(alloc: Global, primary: &mut Primary, key: u64, number: u16) -> Result<(
     }
 }
 
-/// The key and the stream of a commit, and what it tells.
+/// The key and the stream of a commit, and what it returns.
 const COMMITS: [(u64, u16, u8, u64); 3] = [(5, 1, 0, LAST_TIME), (6, 1, 35, 0), (5, 2, 30, 0)];
 
 fn commits(rt: &impl Abort, alloc: Global, primary: &mut Primary) -> Result<(), Fail> {

@@ -148,7 +148,7 @@ fn retired<K: Naming, R: Wait>(
     Ok((mark.m().number(), again))
 }
 
-/// What a shared primary tells whose clock started after 4, once a key is put on stream 2 at 5.
+/// What a shared primary returns whose clock started after 4, once a key is put on stream 2 at 5.
 fn told<K: Naming, R: Wait>(
     rt: &R,
     alloc: Global,

@@ -1,4 +1,4 @@
-//! A run of a world; what worlds tell step by step is shown by scripts (examples/world, tests/scripts).
+//! A run of a world; what worlds return step by step is shown by scripts (examples/world, tests/scripts).
 
 use hk_laws::run;
 use hk_model::{Event, Told, Took};

@@ -1,4 +1,4 @@
-//! Requests and their bytes, which are written out; replies and the reading of both are shown by tests/client.py.
+//! Requests and their bytes, which are written out; replies and the reading of both are shown by tests/checks/client.py.
 
 use hk_delta::{Fragment, fragment_of};
 use hk_log::Item;
@@ -96,7 +96,7 @@ fn encodes_each_request(rt: HostRuntime) -> Result<(), Fail> {
     Ok(())
 }
 
-/// A join of what was learnt since time 4.
+/// A join of what was applied since time 4.
 const DELTA: &str =
     "0000006d 01 15 0000000000000007 0001 0000000000000004 0000000000000000 0000000000000003 0000000000000006 00000000 00000000 00000002 0001 0000000000000005 0000000000000002 02 0000000000000006 0001 0000000000000005 0000000000000006 01 00000009 0001 44";
 

@@ -1,4 +1,4 @@
-use Rattle.std.proofs.Common.{◌≡◌, ◌∙◌, ◌+◌, true, cond, sym, ap, length, map, List, Option, Some, None, arith}
+use Rattle.std.proofs.Common.{◌≡◌, ◌∙◌, ◌+◌, true, cond, sym, ap, length, map, List, Some, None, arith}
 use Rattle.hk_model.specs.Replica.Streams.{StreamContent}
 use Rattle.hk_fragment.specs.Heads.{head_of}
 use Rattle.hk_values.specs.Fragments.{wire_stream_of, streams_are_counted, streams_text}

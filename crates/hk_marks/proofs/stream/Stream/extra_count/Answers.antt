@@ -1,8 +1,7 @@
-use Rattle.std.proofs.Common.{◌∙◌, ap, sym}
+use Rattle.std.proofs.Common.{◌∙◌, ap}
 use Rattle.std.specs.FinSet as set
-use Rattle.hk_marks.proofs.Prefixes.{len-rising}
 use Rattle.hk_marks.proofs.Readers.{extra_numbers_seen}
 use Rattle.hk_marks.proofs.stream.Stream.extra_count.Goals as goal
 
 pub returns : goal.returns
-returns c = c.len.ensures.len ∙ sym (len-rising _ c.len.ensures.ordered) ∙ ap set.len (rw (← c.self.view_is) (extra_numbers_seen _ _ c.self.inside.closed c.self.inside.waiting c.self.invariant.extras))
+returns c = c.count.ensures ∙ ap set.len (rw (← c.self.view_is) (extra_numbers_seen _ _ c.self.inside.closed c.self.inside.waiting c.self.invariant.stored.extras))

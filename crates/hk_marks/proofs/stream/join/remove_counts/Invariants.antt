@@ -1,7 +1,7 @@
 use Rattle.std.proofs.Common.{◌≡◌, ℕ, cond, None, take}
 use Rattle.std.specs.Ordering.{nat_cmp}
 use Rattle.std.specs.BTreeMap as tree
-use Rattle.hk_marks.specs.Room.{has_number}
+use Rattle.hk_marks.specs.Parts.{has_number}
 use Rattle.hk_marks.proofs.stream.join.remove_counts.Given as goal
 
 abbrev pub invariant-loop-count : goal.invariant-loop-count

@@ -1,12 +1,12 @@
-use Rattle.std.proofs.Common.{◌∙◌, sym}
-use Rattle.hk_marks.proofs.JoinedStreams.{joined_here, joined_next}
+use Rattle.std.proofs.Common.{◌∙◌}
+use Rattle.hk_marks.proofs.JoinedStreams.{numbers_joined, both_within}
 use Rattle.hk_marks.proofs.stream.join.take_numbers.Goals as goal
 
-pub returns-then-contains-clause-taken : goal.returns-then-contains-clause-taken
-returns-then-contains-clause-taken c =
-    c.take_up_to-then-contains.ensures.taken
-    ∙ joined_next _ _ _ _ c.requires.others c.requires.near _ _ c.take_up_to.ensures.grows c.take_up_to.ensures.taken (sym c.contains.ensures ∙ c.if-contains.true)
+pub grow-requires-clause-least : goal.grow-requires-clause-least
+grow-requires-clause-least c = λ q e. (both_within _ _ _ _ _ c.requires.extras c.requires.others c.settle_all.ensures.unites q e).0
 
-pub returns-else-contains-clause-taken : goal.returns-else-contains-clause-taken
-returns-else-contains-clause-taken c =
-    joined_here _ _ _ _ c.requires.others c.requires.near _ _ c.take_up_to.ensures.grows c.take_up_to.ensures.taken (sym c.contains.ensures ∙ c.if-contains.false)
+pub grow-requires-clause-most : goal.grow-requires-clause-most
+grow-requires-clause-most c = λ q e. (both_within _ _ _ _ _ c.requires.extras c.requires.others c.settle_all.ensures.unites q e).1
+
+pub returns-clause-taken : goal.returns-clause-taken
+returns-clause-taken c = c.grow.ensures.same ∙ numbers_joined _ _ _ _ _ _ c.greater.ensures c.settle_all.ensures.unites
