@@ -18,8 +18,10 @@ from .reading import Bytes
 from .values import LAST_KEY, Number, One, Rows
 
 PLACES = {
-    "get": (("table", "key"), "the row of a key"), "range": (("table", "low", "high"), "the rows of the keys from LOW to HIGH"),
-    "tag": (("table", "tag"), "the rows with a tag"), "count": (("table",), "how many rows a table has"),
+    "get": (("table", "key"), "the row of a key"),
+    "range": (("table", "low", "high"), "the rows of the keys from LOW to HIGH"),
+    "tag": (("table", "tag"), "the rows with a tag"),
+    "count": (("table",), "how many rows a table has"),
 }
 
 
@@ -27,18 +29,28 @@ def parser() -> argparse.ArgumentParser:
     it = argparse.ArgumentParser(prog="vadungsil", description="Asks nodes of Vadungsil, and prints as hkrep does.")
     it.add_argument("--version", action="version", version=f"vadungsil {__version__}")
     it.add_argument("--port", type=int, help="the port of a node on this machine")
-    it.add_argument("--node", action="append", default=[], metavar="HOST:PORT", help="a node; several are asked as one; tls://HOST:PORT for TLS")
+    it.add_argument(
+        "--node",
+        action="append",
+        default=[],
+        metavar="HOST:PORT",
+        help="a node; several are asked as one; tls://HOST:PORT for TLS",
+    )
     add_certificates(it)
-    it.add_argument("--limit", type=float, default=20.0, metavar="SECONDS", help="the most that a reply is waited for (20)")
+    it.add_argument(
+        "--limit", type=float, default=20.0, metavar="SECONDS", help="the most that a reply is waited for (20)"
+    )
     commands = it.add_subparsers(dest="command", required=True, metavar="COMMAND")
     for name, (places, told) in PLACES.items():
         of = commands.add_parser(name, help=told)
         for place in places:
             of.add_argument(place, type=int)
-        of.add_argument("--at", type=int, metavar="T", help="the time; without it the readable mark")
-    commands.add_parser("front", help="from where to where can be read")
+        of.add_argument("--at", type=int, metavar="T", help="the time; without it the resolved time")
+    commands.add_parser("front", help="the range of readable times")
     of = commands.add_parser("push", help="send the item frames of standard input, at most 65,536")
-    of.add_argument("--messages", type=int, choices=(1, 2), default=1, help="the latest version of messages that the node reads")
+    of.add_argument(
+        "--messages", type=int, choices=(1, 2), default=1, help="the latest version of messages that the node reads"
+    )
     commands.add_parser("whole", help="what the node holds, in a line")
     of = commands.add_parser("delta", help="what happened since a time, in a line")
     of.add_argument("base", type=int)
@@ -47,9 +59,14 @@ def parser() -> argparse.ArgumentParser:
     of = commands.add_parser("explain", help="what a refusal means, and what to do")
     of.add_argument("number", type=int, nargs="?")
     of = commands.add_parser("export", help="write all rows of one moment")
-    of.add_argument("--at", type=int, metavar="T", help="the time; without it the readable mark")
+    of.add_argument("--at", type=int, metavar="T", help="the time; without it the resolved time")
     of.add_argument("--form", choices=FORMS, help="sqlite unless the file's ending says csv or jsonl")
-    of.add_argument("--out", default="-", metavar="FILE", help="where to; - is standard output; into a device or a pipe go csv and jsonl")
+    of.add_argument(
+        "--out",
+        default="-",
+        metavar="FILE",
+        help="where to; - is standard output; into a device or a pipe go csv and jsonl",
+    )
     of.add_argument("--force", action="store_true", help="also over a file that stands")
     of.add_argument("--tables", metavar="T,T", help="these tables alone")
     return it
@@ -65,7 +82,13 @@ def asked(node: Any, words: argparse.Namespace) -> str:
         return Rows(tuple(node.by_tag(words.table, words.tag, at=words.at))).line()
     if words.command == "count":
         return Number(node.count(words.table, at=words.at)).line()
-    ending = words.out.rsplit(".", 1)[-1] if words.out.endswith((".csv", ".jsonl")) else "jsonl" if words.out == "-" else "sqlite"
+    ending = (
+        words.out.rsplit(".", 1)[-1]
+        if words.out.endswith((".csv", ".jsonl"))
+        else "jsonl"
+        if words.out == "-"
+        else "sqlite"
+    )
     tables = [int(word) for word in words.tables.split(",")] if words.tables else None
     rows = export(node, words.out, words.form or ending, words.at, tables, words.force)
     return "" if is_standard_output(words.out) else f"rows {rows}"
@@ -125,7 +148,11 @@ def main(arguments: Optional[List[str]] = None) -> int:
         return 1
     except TimeLimit as late:
         print("refused 91")
-        print(f"refused 91: {late}; see whether the node runs, and whether all its links are taken, or give --limit more", file=sys.stderr)
+        print(
+            f"refused 91: {late}; see whether the node runs, and whether all its connection slots are taken, or give "
+            "--limit more",
+            file=sys.stderr,
+        )
         return 1
     except LinkBroken as broken:
         print("refused 93")
@@ -140,7 +167,8 @@ def main(arguments: Optional[List[str]] = None) -> int:
 
 
 def _failed(error: OSError) -> int:
-    """Says what the system refused. What standard output still keeps goes nowhere, or Python would try again at its end."""
+    """Says what the system refused. What standard output still keeps goes nowhere, or Python would try again at its
+    end."""
     print(f"vadungsil: {error.filename or 'standard output'}: {error.strerror or error}", file=sys.stderr)
     os.dup2(os.open(os.devnull, os.O_WRONLY), 1)
     return 1

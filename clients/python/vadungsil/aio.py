@@ -1,4 +1,4 @@
-"""A node for asyncio. Tasks may share it: their requests are pipelined over one link."""
+"""A node for asyncio. Tasks may share it: their requests are pipelined over one connection."""
 from __future__ import annotations
 
 import asyncio
@@ -15,7 +15,20 @@ from .link import PAUSE, Address, Certificates, address_of, is_joined_with_itsel
 from .messages import MOST_MESSAGE
 from .node import _ends_link
 from .requests import Moment, Read, Requests, ask_frame, feeding, version_seen
-from .values import LAST_TIME, Fragment, Front, KeyRow, Operations, Page, Query, Row, Stream, Streams, number_in, time_of
+from .values import (
+    LAST_TIME,
+    Fragment,
+    Front,
+    KeyRow,
+    Operations,
+    Page,
+    Query,
+    Row,
+    Stream,
+    Streams,
+    number_in,
+    time_of,
+)
 
 
 class _AsyncLink:
@@ -28,9 +41,11 @@ class _AsyncLink:
         self.task = asyncio.ensure_future(self._take())
 
     async def _take(self) -> None:
-        error: Exception = LinkBroken(f"{self.name}: the node ended the link")
-        if self.writer.get_extra_info("sslcontext") is not None:      # why isn't always told: a write that fails may come first
-            error = LinkBroken(f"{self.name}: the link ended, and our certificate may not be taken there")
+        error: Exception = LinkBroken(f"{self.name}: the node ended the connection")
+        if (
+            self.writer.get_extra_info("sslcontext") is not None
+        ):  # why isn't always known: a write that fails may come first
+            error = LinkBroken(f"{self.name}: the connection ended, and our certificate may not be taken there")
         try:
             while True:
                 size = int.from_bytes(await self.reader.readexactly(4), "big")
@@ -48,7 +63,7 @@ class _AsyncLink:
             error = fault
         except ssl.SSLError as refused:
             error = LinkBroken(f"{self.name}: {refused}")
-            with contextlib.suppress(OSError):      # the stream keeps it too, and says so at its end where nobody asked
+            with contextlib.suppress(OSError):  # the stream keeps it too, and says so at its end where nobody asked
                 await self.writer.wait_closed()
         except (OSError, asyncio.IncompleteReadError, asyncio.CancelledError):
             pass
@@ -61,17 +76,40 @@ class _AsyncLink:
         while self.waiting:
             future = self.waiting.popleft()
             if not future.done():
-                future.set_exception(error or LinkBroken(f"{self.name}: the link was closed"))
+                future.set_exception(error or LinkBroken(f"{self.name}: the connection was closed"))
 
 
-class AsyncNode(Requests[Awaitable[Optional[Row]], Awaitable[List[KeyRow]], Awaitable[int], Awaitable[Front], Awaitable[Fragment],
-                         Awaitable[Streams], Awaitable[Page], Awaitable[Tuple[int, Optional[Row]]], Awaitable[Tuple[int, List[KeyRow]]],
-                         Awaitable[Tuple[int, int]], Awaitable[Operations]]):
-    """As `Node`, with awaitable answers: `async with AsyncNode(47000) as node:`, `await node.get(1, 5)`. `asyncio.gather` of many
-    questions is a pipeline. `limit` is the most seconds from a request to its reply; past it the link is closed."""
+class AsyncNode(
+    Requests[
+        Awaitable[Optional[Row]],
+        Awaitable[List[KeyRow]],
+        Awaitable[int],
+        Awaitable[Front],
+        Awaitable[Fragment],
+        Awaitable[Streams],
+        Awaitable[Page],
+        Awaitable[Tuple[int, Optional[Row]]],
+        Awaitable[Tuple[int, List[KeyRow]]],
+        Awaitable[Tuple[int, int]],
+        Awaitable[Operations],
+    ]
+):
+    """As `Node`, with awaitable answers: `async with AsyncNode(47000) as node:`, `await node.get(1, 5)`.
+    `asyncio.gather` of many questions is a pipeline. `limit` is the most seconds from a request to its reply; past it
+    the connection is closed."""
 
-    def __init__(self, address: Address, limit: Optional[float] = 20.0, tries: int = 2, wait: float = 3.0, *, ca: Optional[str] = None,
-                 cert: Optional[str] = None, key: Optional[str] = None, messages: Optional[int] = None) -> None:
+    def __init__(
+        self,
+        address: Address,
+        limit: Optional[float] = 20.0,
+        tries: int = 2,
+        wait: float = 3.0,
+        *,
+        ca: Optional[str] = None,
+        cert: Optional[str] = None,
+        key: Optional[str] = None,
+        messages: Optional[int] = None,
+    ) -> None:
         certificates = Certificates(ca, cert, key)
         certificates.see([address])
         self._told = self._version = None if messages is None else number_in(messages, 1, 2, "messages")
@@ -101,7 +139,7 @@ class AsyncNode(Requests[Awaitable[Optional[Row]], Awaitable[List[KeyRow]], Awai
         try:
             return await self._call(*feeding(body, version))
         except Fault as fault:
-            if (fault.number, version) == (3, 2):      # it may have been started anew, and reads version 1 alone
+            if (fault.number, version) == (3, 2):  # it may have been started anew, and reads version 1 alone
                 self._version = self._told
             raise
 
@@ -128,7 +166,7 @@ class AsyncNode(Requests[Awaitable[Optional[Row]], Awaitable[List[KeyRow]], Awai
 
     @staticmethod
     async def _sent(link: _AsyncLink, future: "asyncio.Future[bytes]") -> bytes:
-        with contextlib.suppress(OSError):      # why the link ended is told by what reads from it
+        with contextlib.suppress(OSError):  # why the connection ended is reported by what reads from it
             await link.writer.drain()
         return await future
 
@@ -137,7 +175,7 @@ class AsyncNode(Requests[Awaitable[Optional[Row]], Awaitable[List[KeyRow]], Awai
         until, self.wait = asyncio.get_running_loop().time() + self.wait, 0.0
         while True:
             try:
-                reader, writer = await asyncio.open_connection(*self.address, limit=2 ** 20, ssl=self._security)
+                reader, writer = await asyncio.open_connection(*self.address, limit=2**20, ssl=self._security)
                 if self._security is not None or not is_joined_with_itself(writer.get_extra_info("socket")):
                     return reader, writer
                 writer.close()
@@ -162,7 +200,8 @@ class AsyncNode(Requests[Awaitable[Optional[Row]], Awaitable[List[KeyRow]], Awai
         return (await self.delta(LAST_TIME)).streams
 
     def at(self, time: Optional[int] = None) -> "AsyncMoment":
-        """`async with node.at() as moment:` reads one moment: this time, or the readable mark of when the block was entered."""
+        """`async with node.at() as moment:` reads one moment: this time, or the resolved time when the block is
+        entered."""
         return AsyncMoment(self, time)
 
     async def close(self) -> None:

@@ -1,4 +1,4 @@
-"""A replica in this process, by ctypes over libhekaton.so: no node, no link, no compiler. docs/EMBEDDING.md."""
+"""A replica in this process, by ctypes over libhekaton.so: no node, no connection, no compiler. docs/EMBEDDING.md."""
 from __future__ import annotations
 
 import ctypes
@@ -24,12 +24,24 @@ class _Found(ctypes.Structure):
 
 
 def _signatures(library: Any) -> Any:
-    handle, buffer, size, u64, u16 = ctypes.POINTER(_Handle), ctypes.c_void_p, ctypes.c_size_t, ctypes.c_uint64, ctypes.c_uint16
+    handle, buffer, size, u64, u16 = (
+        ctypes.POINTER(_Handle),
+        ctypes.c_void_p,
+        ctypes.c_size_t,
+        ctypes.c_uint64,
+        ctypes.c_uint16,
+    )
     told = ctypes.POINTER(size)
-    for name, kinds, gives in (("open", [handle, u64, u16], ctypes.c_uint8), ("close", [handle], None), ("merge", [handle, handle], ctypes.c_uint8),
-                               ("call", [handle, ctypes.c_char_p, size, buffer, size, told], ctypes.c_uint8), ("finish", [handle], ctypes.c_uint8),
-                               ("reply", [handle, size, buffer, size], size), ("absorb", [handle, ctypes.c_char_p, size], ctypes.c_uint8),
-                               ("get", [handle, u64, u16, u64, ctypes.POINTER(_Found), buffer, size], ctypes.c_uint8)):
+    for name, kinds, gives in (
+        ("open", [handle, u64, u16], ctypes.c_uint8),
+        ("close", [handle], None),
+        ("merge", [handle, handle], ctypes.c_uint8),
+        ("call", [handle, ctypes.c_char_p, size, buffer, size, told], ctypes.c_uint8),
+        ("finish", [handle], ctypes.c_uint8),
+        ("reply", [handle, size, buffer, size], size),
+        ("absorb", [handle, ctypes.c_char_p, size], ctypes.c_uint8),
+        ("get", [handle, u64, u16, u64, ctypes.POINTER(_Found), buffer, size], ctypes.c_uint8),
+    ):
         function = getattr(library, f"hk_{name}")
         function.argtypes, function.restype = kinds, gives
     return library
@@ -43,23 +55,32 @@ def _library(path: Optional[str]) -> Any:
     global _loaded
     if path is None and _loaded is not None:
         return _loaded
-    library = _signatures(ctypes.CDLL(path or os.environ.get("HEKATON_LIBRARY") or ctypes.util.find_library("hekaton") or "libhekaton.so"))
+    library = _signatures(
+        ctypes.CDLL(path or os.environ.get("HEKATON_LIBRARY") or ctypes.util.find_library("hekaton") or "libhekaton.so")
+    )
     if path is None:
         _loaded = library
     return library
 
 
 class Replica(Node):
-    """A replica of a log of 1 to 64 streams (5), with all that a `Node` can be asked: `Replica(7, 1)`. A conflict (23) changes nothing.
+    """A replica of a log of 1 to 64 streams (5), with all that a `Node` can be asked: `Replica(7, 1)`. A conflict (23)
+    changes nothing.
 
-    Threads may share it; their calls go one after the other. It is let go by `close`, by the end of a `with`, or with the object. It can't
-    be copied or pickled, and is of no use in a forked child."""
+    Threads may share it; their calls go one after the other. It is freed by `close`, at the end of a `with`, or with
+    the object. It can't be copied or pickled, and is of no use in a forked child."""
 
     def __init__(self, log: int, streams: int, library: Optional[str] = None) -> None:
-        self._handle, self._buffer, self._size = _Handle(None, False), ctypes.create_string_buffer(ROOM), ctypes.c_size_t()
+        self._handle, self._buffer, self._size = (
+            _Handle(None, False),
+            ctypes.create_string_buffer(ROOM),
+            ctypes.c_size_t(),
+        )
         self._library = _library(library)
         super().__init__(1, messages=1)
-        self.log, self.count_of_streams = number_in(log, 0, 2 ** 64 - 1, "log"), number_in(streams, 0, 2 ** 16 - 1, "streams")
+        self.log, self.count_of_streams = number_in(log, 0, 2**64 - 1, "log"), number_in(
+            streams, 0, 2**16 - 1, "streams"
+        )
         self._found = _Found()
         self._done(self._library.hk_open(self._handle, log, streams))
 
@@ -86,10 +107,10 @@ class Replica(Node):
         found: List[bytes] = []
         at = 0
         while at + 4 <= len(told) and len(found) < len(requests):
-            end = at + 4 + int.from_bytes(told[at:at + 4], "big")
+            end = at + 4 + int.from_bytes(told[at : at + 4], "big")
             if end > len(told):
                 break
-            found.append(told[at + 4:end])
+            found.append(told[at + 4 : end])
             at = end
         if len(found) < len(requests):
             self._done(number or 90)
@@ -102,7 +123,10 @@ class Replica(Node):
         """The bytes of the replies to the bytes of whole request frames, with that of a fault in the last of them."""
         asked = bytes(requests)
         with self._lock:
-            if self._library.hk_call(self._handle, asked, len(asked), self._buffer, len(self._buffer), self._size) == 255:
+            if (
+                self._library.hk_call(self._handle, asked, len(asked), self._buffer, len(self._buffer), self._size)
+                == 255
+            ):
                 self._done(255)
             size = self._size.value
             if size > len(self._buffer):
@@ -121,7 +145,8 @@ class Replica(Node):
         with self._lock:
             self._done(self._library.hk_finish(self._handle))
 
-    def merge(self, peer: "Replica") -> None:      # type: ignore[override]  # what nodes send to one another, a replica takes as it is
+    # what nodes send to one another, a replica takes as it is
+    def merge(self, peer: "Replica") -> None:  # type: ignore[override]
         """Joins all that another replica in this process holds."""
         if peer is self:
             return

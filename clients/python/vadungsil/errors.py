@@ -11,10 +11,11 @@ class VadungsilError(Exception):
 
 
 class Refused(VadungsilError):
-    """A refusal, of a node or of a value here. A node that refuses changes nothing, but for 23 and 42 (docs/PROTOCOL.md).
+    """A refusal, of a node or of a value here. A node that refuses changes nothing, but for 23 and 42
+    (docs/PROTOCOL.md).
 
-    `number` is that of docs/FORMATS.md, `values` its fields in order (`error.readable` of 26 and so on is one of them by name),
-    `place` where it was met; `before`, where a feeder met it, the values before it."""
+    `number` is that of docs/FORMATS.md, `values` its fields in order (`error.readable` of 26 and so on is one of them
+    by name), `place` where it was met; `before`, where a feeder met it, the values before it."""
 
     before: List[Any]
 
@@ -76,19 +77,20 @@ def _again(kind: "Type[Refused]", number: int, values: Tuple[int, ...], place: s
 
 
 class Fault(Refused):
-    """A fault of form, 1 to 10: bytes that are no frame, or a value that has none."""
+    """Malformed input, 1 to 10: bytes that are no frame, or a value that has none."""
 
 
 class LinkBroken(VadungsilError):
-    """A link could not be opened, or ended where a reply was awaited; whether the request was made isn't known."""
+    """A connection could not be opened, or ended where a reply was awaited; whether the request was made isn't
+    known."""
 
 
 class TimeLimit(LinkBroken):
-    """No reply within the time limit; the link was closed, and whether the request was made isn't known."""
+    """No reply within the time limit; the connection was closed, and whether the request was made isn't known."""
 
 
 class NotResumable(VadungsilError):
-    """A whole from which a log can't be gone on with, and why."""
+    """A full snapshot from which a log can't be continued, and why."""
 
 
 def refusal(number: int, *values: int, place: str = "") -> Refused:

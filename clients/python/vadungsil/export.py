@@ -17,7 +17,7 @@ from .values import LAST_KEY, KeyRow
 
 # So many rows a question are aimed at, and so many keys is the first that is asked for.
 FEW, MANY, FIRST_KEYS = 5_000, 50_000, 20_000
-LAST_TABLE = 2 ** 16 - 1
+LAST_TABLE = 2**16 - 1
 
 
 def tables_at(moment: Any, tables: Optional[Iterable[int]] = None) -> Dict[int, int]:
@@ -27,8 +27,8 @@ def tables_at(moment: Any, tables: Optional[Iterable[int]] = None) -> Dict[int, 
 
 
 def rows_of(moment: Any, table: int) -> Iterator[List[KeyRow]]:
-    """The rows of a table by rising key, in parts. A part takes more keys where the last had few rows, and less where it had many, or
-    where the node says that it is too long."""
+    """The rows of a table by rising key, one range of keys at a time. A range has more keys where the last had few
+    rows, and fewer where it had many, or where the node answers that the reply is too long (2)."""
     low, keys = 0, FIRST_KEYS
     while low <= LAST_KEY:
         try:
@@ -68,8 +68,9 @@ class Progress:
 
 
 def _sqlite_key(key: int) -> Any:
-    """SQLite's whole numbers end below 2^63; keys from there on are text of 20 digits, which stands behind all numbers."""
-    return key if key < 2 ** 63 else f"{key:020}"
+    """SQLite's whole numbers end below 2^63; keys from there on are text of 20 digits, which stands behind all
+    numbers."""
+    return key if key < 2**63 else f"{key:020}"
 
 
 class _Sqlite:
@@ -84,7 +85,9 @@ class _Sqlite:
             self.base.execute(f"CREATE TABLE table_{table} (key PRIMARY KEY, tag INTEGER, body BLOB) WITHOUT ROWID")
 
     def write(self, table: int, rows: List[KeyRow]) -> None:
-        self.base.executemany(f"INSERT INTO table_{table} VALUES (?, ?, ?)", ((_sqlite_key(key), row.tag, row.body) for key, row in rows))
+        self.base.executemany(
+            f"INSERT INTO table_{table} VALUES (?, ?, ?)", ((_sqlite_key(key), row.tag, row.body) for key, row in rows)
+        )
 
     def end(self) -> None:
         self.base.commit()
@@ -132,7 +135,8 @@ def is_standard_output(path: str) -> bool:
 
 
 def _is_new(path: str, force: bool) -> bool:
-    """Whether a file is to be made there. Else there is something that is no file, and is written into; a file that stands is refused."""
+    """Whether a file is to be made there. Else there is something that is no file, and is written into; a file that
+    stands is refused."""
     try:
         found = os.stat(path).st_mode
     except FileNotFoundError:
@@ -144,14 +148,21 @@ def _is_new(path: str, force: bool) -> bool:
     return stat.S_ISREG(found)
 
 
-def export(node: Any, path: str, form: str = "sqlite", at: Optional[int] = None, tables: Optional[Iterable[int]] = None,
-           force: bool = False) -> int:
+def export(
+    node: Any,
+    path: str,
+    form: str = "sqlite",
+    at: Optional[int] = None,
+    tables: Optional[Iterable[int]] = None,
+    force: bool = False,
+) -> int:
     """Writes all rows of one moment, and gives how many. `node` is a `Node` or `Nodes`.
 
-    A file is written beside its place, as `PATH.part`, and gets its name when it is whole; where the export fails it is taken away. A
-    file that stands is refused (`FileExistsError`), and so is a `PATH.part`, but with `force`. What stands and is no file, as a device or
-    a pipe, is never replaced: CSV and JSON lines are written into it, and what was written before a failure stays there; `-` is standard
-    output. SQLite needs a file (`ValueError`). What the system refuses is an `OSError` with the path and the reason."""
+    A file is written beside its place, as `PATH.part`, and gets its name when it is whole; where the export fails it is
+    taken away. A file that stands is refused (`FileExistsError`), and so is a `PATH.part`, but with `force`. What
+    stands and is no file, as a device or a pipe, is never replaced: CSV and JSON lines are written into it, and what
+    was written before a failure stays there; `-` is standard output. SQLite needs a file (`ValueError`). What the
+    system refuses is an `OSError` with the path and the reason."""
     if form not in FORMS:
         raise ValueError(f"no form: {form}")
     is_standard = is_standard_output(path)
@@ -185,7 +196,9 @@ def _beside(path: str, force: bool) -> Iterator[Tuple[str, TextIO]]:
     try:
         place = os.open(part, os.O_WRONLY | os.O_CREAT | os.O_EXCL, rights)
     except FileExistsError:
-        raise FileExistsError(errno.EEXIST, f"{part} stands: another export is writing it, or was killed; --force takes it away") from None
+        raise FileExistsError(
+            errno.EEXIST, f"{part} stands: another export is writing it, or was killed; --force takes it away"
+        ) from None
     try:
         with open(place, "w", encoding="utf-8", newline="") as text:
             yield part, text

@@ -19,6 +19,7 @@ _U16, _GROUP = struct.Struct(">H"), struct.Struct(">HH")
 
 # ---------------------------------------------------------------- writing
 
+
 def encode(item: Item, version: int = 2) -> bytes:
     """The frame of an item, in version 2 or 1."""
     if version not in (1, 2):
@@ -47,7 +48,9 @@ def _listed(entry: Entry) -> bytes:
 
 def _groups(elements: List[Tuple[int, bytes]]) -> bytes:
     groups = [(table, [text for _, text in group]) for table, group in groupby(elements, key=lambda it: it[0])]
-    return _U16.pack(len(groups)) + b"".join(_GROUP.pack(table, len(group)) + b"".join(group) for table, group in groups)
+    return _U16.pack(len(groups)) + b"".join(
+        _GROUP.pack(table, len(group)) + b"".join(group) for table, group in groups
+    )
 
 
 def _grouped(entry: Entry) -> bytes:
@@ -56,6 +59,7 @@ def _grouped(entry: Entry) -> bytes:
 
 
 # ---------------------------------------------------------------- reading
+
 
 class Head(NamedTuple):
     """What a frame begins with. An entry's `first` and `second` are number and time, a mark's n and m."""
@@ -145,7 +149,14 @@ class _Lists:
 def _trusted_entry(head: Head, lists: _Lists) -> Entry:
     """An entry whose rules were all looked at while it was read."""
     entry = object.__new__(Entry)
-    entry.__dict__.update(log=head.log, stream=head.stream, number=head.first, time=head.second, ends=tuple(lists.ends), rows=tuple(lists.rows))
+    entry.__dict__.update(
+        log=head.log,
+        stream=head.stream,
+        number=head.first,
+        time=head.second,
+        ends=tuple(lists.ends),
+        rows=tuple(lists.rows),
+    )
     return entry
 
 

@@ -1,19 +1,82 @@
-"""The messages of version 2 by the names of docs/FORMATS.md, "Messages of version 2": a node reads them where it was started with
-`--messages 2`. A part of a fragment is some of its facts; its head is what it is without them, and how many they are. What stands here
-stands in `messages` and `values`; here it reads and writes version 2 without being told."""
+"""The messages of version 2 by the names of docs/FORMATS.md, "Messages of version 2": a node reads them where it was
+started with `--messages 2`. A chunk is some facts of a fragment; its head is what the fragment is without its facts,
+and how many they are. What stands here stands in `messages` and `values`; here it reads and writes version 2 without
+being asked."""
 from __future__ import annotations
 
 from . import messages as _messages
 from .errors import Refused
 from .reading import Bytes
-from .values import (MOST_ROWS, PART_BYTES, AddPart, Added, AskHold, AskLatest, AskPage, AskStreams, Fed, Feed, FragmentHead as Head, Held,
-                     JoinParts, LastPart, LaterDone as Done, LaterReply, LaterRequest, Latest, MergeParts, More, Page, Part, Release, Reply, Request,
-                     Streams, StreamTold, Whole)
+from .values import (
+    MOST_ROWS,
+    PART_BYTES,
+    AddPart,
+    Added,
+    AskHold,
+    AskLatest,
+    AskPage,
+    AskStreams,
+    Fed,
+    Feed,
+    FragmentHead as Head,
+    Held,
+    JoinParts,
+    LastPart,
+    LaterDone as Done,
+    LaterReply,
+    LaterRequest,
+    Latest,
+    MergeParts,
+    More,
+    Page,
+    Part,
+    Release,
+    Reply,
+    Request,
+    Streams,
+    StreamTold,
+    Whole,
+)
 
-__all__ = ["MOST_ROWS", "PART_BYTES", "AddPart", "Added", "AskHold", "AskLatest", "AskPage", "AskStreams", "Done", "Fed", "Feed",
-           "Head", "Held", "JoinParts", "LastPart", "LaterReply", "LaterRequest", "Latest", "MergeParts", "More", "Page", "Part", "Refused", "Release",
-           "Reply", "ReplyFeeder", "Request", "RequestFeeder", "StreamTold", "Streams", "Whole", "decode_reply", "decode_request",
-           "encode_reply", "encode_request", "reply_of", "request_of"]
+__all__ = [
+    "MOST_ROWS",
+    "PART_BYTES",
+    "AddPart",
+    "Added",
+    "AskHold",
+    "AskLatest",
+    "AskPage",
+    "AskStreams",
+    "Done",
+    "Fed",
+    "Feed",
+    "Head",
+    "Held",
+    "JoinParts",
+    "LastPart",
+    "LaterReply",
+    "LaterRequest",
+    "Latest",
+    "MergeParts",
+    "More",
+    "Page",
+    "Part",
+    "Refused",
+    "Release",
+    "Reply",
+    "ReplyFeeder",
+    "Request",
+    "RequestFeeder",
+    "StreamTold",
+    "Streams",
+    "Whole",
+    "decode_reply",
+    "decode_request",
+    "encode_reply",
+    "encode_request",
+    "reply_of",
+    "request_of",
+]
 
 encode_request = _messages.encode_request
 

@@ -1,4 +1,4 @@
-"""A link to a node: requests go out, replies come back in their order, within a time limit."""
+"""A connection to a node: requests go out, replies come back in their order, within a time limit."""
 from __future__ import annotations
 
 import argparse
@@ -18,8 +18,8 @@ TLS = "tls://"
 
 
 class Certificates(NamedTuple):
-    """The files of links over TLS: `ca` has the certificates that may sign a node's, else those of the system do; `cert` is ours, and
-    `key` its key, where that isn't in the same file."""
+    """The files of connections over TLS: `ca` has the certificates that may sign a node's, else those of the system do;
+    `cert` is ours, and `key` its key, where that isn't in the same file."""
 
     ca: Optional[str] = None
     cert: Optional[str] = None
@@ -46,9 +46,12 @@ class Certificates(NamedTuple):
 
 
 def add_certificates(words: argparse.ArgumentParser, prefix: str = "") -> None:
-    """The options of a command that links to nodes over TLS."""
-    told = {"cacert": f"the certificates that may sign those of nodes at {TLS}HOST:PORT; else the system's do",
-            "cert": "our certificate for them", "key": "its key, where that isn't in the same file"}
+    """The options of a command that connects to nodes over TLS."""
+    told = {
+        "cacert": f"the certificates that may sign those of nodes at {TLS}HOST:PORT; else the system's do",
+        "cert": "our certificate for them",
+        "key": "its key, where that isn't in the same file",
+    }
     for name, text in told.items():
         words.add_argument(f"--{prefix}{name}", dest=f"node_{name}", metavar="FILE", help=text)
 
@@ -59,12 +62,12 @@ def certificates_of(words: argparse.Namespace) -> Certificates:
 
 
 def is_secured(address: Address) -> bool:
-    """Whether a link to it is one over TLS."""
+    """Whether a connection to it is one over TLS."""
     return isinstance(address, str) and address.startswith(TLS)
 
 
 def security_of(address: Address, certificates: Certificates) -> Optional[ssl.SSLContext]:
-    """What a link to an address goes through: nothing, but for "tls://HOST:PORT"."""
+    """What a connection to an address goes through: nothing, but for "tls://HOST:PORT"."""
     return certificates.context() if is_secured(address) else None
 
 
@@ -75,7 +78,7 @@ def address_of(address: Address) -> Tuple[str, int]:
     elif isinstance(address, int):
         host, port = "127.0.0.1", address
     else:
-        host, _, word = address[len(TLS) if is_secured(address) else 0:].rpartition(":")
+        host, _, word = address[len(TLS) if is_secured(address) else 0 :].rpartition(":")
         host, port = host or "127.0.0.1", int(word) if word.isascii() and word.isdigit() else 0
     if not 1 <= port <= 65_535:
         raise ValueError(f"no address: {address!r}")
@@ -87,7 +90,8 @@ PAUSE = 0.02
 
 
 def is_joined_with_itself(own: socket.socket) -> bool:
-    """Whether a socket is its own peer, as may come where nobody listens on a port that the system also hands out to clients."""
+    """Whether a socket is its own peer, as may come where nobody listens on a port that the system also hands out to
+    clients."""
     return bool(own.getsockname() == own.getpeername())
 
 
@@ -108,7 +112,8 @@ def connected(address: Tuple[str, int], limit: Optional[float], wait: float) -> 
 
 
 def wrapped(plain: socket.socket, security: ssl.SSLContext, host: str) -> socket.socket:
-    """The same connection, encrypted. What the other side's certificate lacks is raised; what it says of ours comes with the first reply."""
+    """The same connection, encrypted. What the other side's certificate lacks is raised; what it says of ours comes
+    with the first reply."""
     try:
         return security.wrap_socket(plain, server_hostname=host)
     except BaseException:
@@ -117,10 +122,16 @@ def wrapped(plain: socket.socket, security: ssl.SSLContext, host: str) -> socket
 
 
 class Link:
-    """One connection, over TLS where a context is given: then the node's side has to have a certificate for the host. After any error it
-    is closed; it isn't opened again."""
+    """One connection, over TLS where a context is given: then the node's side has to have a certificate for the host.
+    After any error it is closed; it isn't opened again."""
 
-    def __init__(self, address: Tuple[str, int], limit: Optional[float], wait: float = 0.0, security: Optional[ssl.SSLContext] = None) -> None:
+    def __init__(
+        self,
+        address: Tuple[str, int],
+        limit: Optional[float],
+        wait: float = 0.0,
+        security: Optional[ssl.SSLContext] = None,
+    ) -> None:
         self.name, self.limit = f"{address[0]}:{address[1]}", limit
         try:
             self.socket = connected(address, limit, wait)
@@ -172,7 +183,7 @@ class Link:
             if readable:
                 self._cut(self._received(), count, found)
             if writable:
-                rest = rest[self.socket.send(rest[:65_536]):]
+                rest = rest[self.socket.send(rest[:65_536]) :]
 
     def _send_secured(self, rest: memoryview, count: int, found: List[bytes]) -> None:
         """The same over TLS, where there may be something to read that is no reply."""
@@ -185,14 +196,14 @@ class Link:
             except ssl.SSLWantReadError:
                 pass
             try:
-                rest = rest[self.socket.send(rest[:16_384]):]
+                rest = rest[self.socket.send(rest[:16_384]) :]
             except (ssl.SSLWantReadError, ssl.SSLWantWriteError):
                 if not has_moved and not any(select.select([self.socket], [self.socket], [], self.limit)):
                     raise socket.timeout from None
         self.socket.settimeout(self.limit)
 
     def _refused_by_tls(self) -> Optional[ssl.SSLError]:
-        """What the other side of TLS said before it ended the link, where that can still be read."""
+        """What the other side of TLS said before it ended the connection, where that can still be read."""
         try:
             if isinstance(self.socket, ssl.SSLSocket):
                 self.socket.settimeout(1.0)
@@ -207,7 +218,7 @@ class Link:
     def _received(self) -> bytes:
         piece = self.socket.recv(262_144)
         if not piece:
-            raise LinkBroken(f"{self.name}: the node ended the link" + (" inside a reply" if self.kept else ""))
+            raise LinkBroken(f"{self.name}: the node ended the connection" + (" inside a reply" if self.kept else ""))
         return piece
 
     def _cut(self, piece: bytes, count: int, found: List[bytes]) -> None:
@@ -218,12 +229,12 @@ class Link:
             data = self.kept
         at, length = 0, len(data)
         while length - at >= 4 and len(found) < count:
-            size = int.from_bytes(data[at:at + 4], "big")
+            size = int.from_bytes(data[at : at + 4], "big")
             if not 2 <= size <= MOST_MESSAGE:
                 raise Fault(2 if size > MOST_MESSAGE else 10, place=f"{self.name}, length {size} of a reply")
             if length - at < 4 + size:
                 break
-            found.append(bytes(data[at + 4:at + 4 + size]))
+            found.append(bytes(data[at + 4 : at + 4 + size]))
             at += 4 + size
         if data is self.kept:
             del self.kept[:at]

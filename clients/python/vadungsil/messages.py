@@ -9,15 +9,65 @@ from .errors import Fault, Refused, refusal
 from .items import LEAST_REST, MOST_REST, encode
 from .reading import Bytes, FrameFeeder, Reader, Value, whole_frame
 from .reasons import REASONS
-from .values import (LAST_TIME, MOST_STREAMS, AddPart, Added, Answer, Ask, AskFront, AskHold, AskLatest, AskPage, AskStreams, ByTag, Count,
-                     Delta, Done, Fact, Fed, Feed, Fragment, FragmentHead, Front, Full, Get, Held, Item, Items, JoinParts, JoinThis, KeyRow,
-                     LastPart, LaterDone, Latest, MergeParts, MergeThis, More, Number, One, Page, Part, Prune, Query, Range, Release, Reply, Request,
-                     Row, Rows, Stream, Streams, StreamTold, VersionKey, Whole)
+from .values import (
+    LAST_TIME,
+    MOST_STREAMS,
+    AddPart,
+    Added,
+    Answer,
+    Ask,
+    AskFront,
+    AskHold,
+    AskLatest,
+    AskPage,
+    AskStreams,
+    ByTag,
+    Count,
+    Delta,
+    Done,
+    Fact,
+    Fed,
+    Feed,
+    Fragment,
+    FragmentHead,
+    Front,
+    Full,
+    Get,
+    Held,
+    Item,
+    Items,
+    JoinParts,
+    JoinThis,
+    KeyRow,
+    LastPart,
+    LaterDone,
+    Latest,
+    MergeParts,
+    MergeThis,
+    More,
+    Number,
+    One,
+    Page,
+    Part,
+    Prune,
+    Query,
+    Range,
+    Release,
+    Reply,
+    Request,
+    Row,
+    Rows,
+    Stream,
+    Streams,
+    StreamTold,
+    VersionKey,
+    Whole,
+)
 
-MOST_MESSAGE = 2 ** 28
+MOST_MESSAGE = 2**28
 MOST_ITEMS = 65_536
-LEAST_LATER = 48      # the least kind of version 2
-REFUSED = {1: 36, 2: 72}      # the kind of a refusal, by version
+LEAST_LATER = 48  # the least kind of version 2
+REFUSED = {1: 36, 2: 72}  # the kind of a refusal, by version
 
 _U64 = struct.Struct(">Q").pack
 
@@ -35,6 +85,7 @@ def framed(kind: int, body: bytes) -> bytes:
 
 
 # ---------------------------------------------------------------- writing
+
 
 def query_bytes(query: Query) -> bytes:
     if isinstance(query, Get):
@@ -105,7 +156,7 @@ def answer_bytes(answer: Answer) -> bytes:
 
 
 def _refused_bytes(why: Refused, version: int) -> bytes:
-    """A refusal's number and its two fields; 2 where it isn't told in a reply."""
+    """A refusal's number and its two fields; 2 where no reply has it."""
     if not is_told(why.number, version):
         raise Fault(2, place=f"refusal {why.number} has no encoding")
     first, second = (*why.values, 0, 0)[:2]
@@ -113,8 +164,8 @@ def _refused_bytes(why: Refused, version: int) -> bytes:
 
 
 def items_frame(frames: Iterable[Union[Item, Bytes, None]], version: int = 2) -> bytes:
-    """The request Items of items, or of the bytes of their frames, which are taken as they stand. None, which is what a commit that writes
-    nothing gives, is passed over."""
+    """The request Items of items, or of the bytes of their frames, which are taken as they stand. None, which is what a
+    commit that writes nothing gives, is passed over."""
     return framed(16, items_bytes(frames, version))
 
 
@@ -130,11 +181,12 @@ def items_bytes(frames: Iterable[Union[Item, Bytes, None]], version: int = 2) ->
 
 
 def is_told(number: int, version: int = 1) -> bool:
-    """Whether a reply of this version may refuse with this number."""
+    """Whether a reply of this version may have this number."""
     return number in REASONS and not 30 <= number <= 36 and number <= 90 and (version == 2 or not 46 <= number <= 47)
 
 
 # ---------------------------------------------------------------- reading
+
 
 def _made(kind: type, **fields: Any) -> Any:
     """A value whose rules were looked at where it was read."""
@@ -217,21 +269,21 @@ def _fact_at(reader: Reader, base: int, horizon: int, before: Optional[VersionKe
 
 
 def head_at(reader: Reader) -> Tuple[int, int, int, Tuple[Stream, ...]]:
-    """The log, the base, the horizon and the streams of a fragment."""
+    """The log, the base, the oldest readable time and the streams of a fragment."""
     log, count = reader.u64("log"), reader.u16("number of streams")
     if not 1 <= count <= MOST_STREAMS:
         raise reader.fault(5, "number of streams", 2)
     base, horizon = reader.time("base"), reader.time("horizon")
     if base != 0 and base < horizon:
-        raise reader.fault(6, "base and horizon", 16)
+        raise reader.fault(6, "base and oldest readable time", 16)
     streams = [_stream_at(reader) for _ in range(count)]
     if horizon > min(it.closed for it in streams):
-        raise reader.fault(6, "horizon, which is above the least closed time")
+        raise reader.fault(6, "oldest readable time, which is above the least closed time")
     return log, base, horizon, tuple(streams)
 
 
 def facts_at(reader: Reader, base: int = 0, horizon: int = 0) -> Tuple[Fact, ...]:
-    """Facts behind their count, as a fragment of this base and horizon has them."""
+    """Facts behind their count, as a fragment of this base and oldest readable time has them."""
     count = reader.u32("count of facts")
     facts: List[Fact] = []
     for _ in range(count):
@@ -241,13 +293,17 @@ def facts_at(reader: Reader, base: int = 0, horizon: int = 0) -> Tuple[Fact, ...
 
 def _fragment_at(reader: Reader) -> Fragment:
     log, base, horizon, streams = head_at(reader)
-    fragment: Fragment = _made(Fragment, log=log, base=base, horizon=horizon, streams=streams, facts=facts_at(reader, base, horizon))
+    fragment: Fragment = _made(
+        Fragment, log=log, base=base, horizon=horizon, streams=streams, facts=facts_at(reader, base, horizon)
+    )
     return fragment
 
 
 def _counted_head_at(reader: Reader) -> FragmentHead:
     log, base, horizon, streams = head_at(reader)
-    head: FragmentHead = _made(FragmentHead, log=log, base=base, horizon=horizon, streams=streams, count=reader.u64("facts of the whole"))
+    head: FragmentHead = _made(
+        FragmentHead, log=log, base=base, horizon=horizon, streams=streams, count=reader.u64("facts of the fragment")
+    )
     return head
 
 
@@ -259,7 +315,7 @@ def _of_all(it: Any, reader: Reader) -> Any:
 
 
 def _refused_at(reader: Reader, version: int) -> Refused:
-    """A refusal, of those that are told."""
+    """A refusal, of those that a reply may have."""
     number = reader.u8("number of a refusal")
     if not is_told(number, version):
         raise reader.fault(6, "number of a refusal", 1)
@@ -269,7 +325,7 @@ def _refused_at(reader: Reader, version: int) -> Refused:
         is_time = place < len(names) and names[place] in ("base", "readable", "horizon", "at")
         if value > (0 if place >= len(names) else LAST_TIME if is_time else value):
             raise reader.fault(6, "field of a refusal", 8)
-    return refusal(number, *values[:len(names)])
+    return refusal(number, *values[: len(names)])
 
 
 def _rows_at(reader: Reader) -> Tuple[KeyRow, ...]:
@@ -303,7 +359,7 @@ def _answer_at(reader: Reader) -> Answer:
 def _front_at(reader: Reader) -> Front:
     horizon, readable = reader.u64("horizon"), reader.u64("readable")
     if not horizon <= readable <= LAST_TIME:
-        raise reader.fault(6, "horizon and readable", 16)
+        raise reader.fault(6, "oldest readable time and resolved time", 16)
     return Front(horizon, readable)
 
 
@@ -342,9 +398,9 @@ def _stream_told_at(reader: Reader) -> StreamTold:
 
 
 def _streams_at(reader: Reader) -> Streams:
-    log, front, damaged = reader.u64("log"), _front_at(reader), _flag_at(reader, "whether damaged")
+    log, front, damaged = reader.u64("log"), _front_at(reader), _flag_at(reader, "whether failed")
     operations = _operations_at(reader)
-    held = reader.time("least hold") if _flag_at(reader, "whether a hold stands") else None
+    held = reader.time("least pinned time") if _flag_at(reader, "whether a time is pinned") else None
     count = reader.u16("number of streams")
     if not 1 <= count <= MOST_STREAMS:
         raise reader.fault(5, "number of streams", 2)
@@ -372,6 +428,7 @@ def _last_part_at(reader: Reader) -> LastPart:
 
 # ---------------------------------------------------------------- the kinds
 
+
 class Kind(NamedTuple):
     """The values of a kind of messages, how one becomes a body, and how a body is read."""
 
@@ -391,14 +448,22 @@ REQUESTS: Dict[int, Kind] = {
     23: Kind((Prune,), lambda it: _U64(it.horizon), lambda it: Prune(it.time("horizon"))),
     48: Kind((AskStreams,), lambda it: b"", lambda _: AskStreams()),
     49: Kind((AskLatest,), lambda it: query_bytes(it.query), lambda it: AskLatest(_query_at(it))),
-    50: Kind((AskPage,), lambda it: struct.pack(">QHQQI", it.time, it.table, it.low, it.high, it.most), _page_request_at),
-    51: Kind((Whole,), lambda it: struct.pack(">QI", it.base, it.part_bytes), lambda it: Whole(it.time("base"), it.u32("bytes of a part"))),
+    50: Kind(
+        (AskPage,), lambda it: struct.pack(">QHQQI", it.time, it.table, it.low, it.high, it.most), _page_request_at
+    ),
+    51: Kind(
+        (Whole,),
+        lambda it: struct.pack(">QI", it.base, it.part_bytes),
+        lambda it: Whole(it.time("base"), it.u32("bytes of a chunk")),
+    ),
     52: Kind((More,), lambda it: b"", lambda _: More()),
     53: Kind((AddPart,), lambda it: facts_bytes(it.facts), lambda it: _made(AddPart, facts=facts_at(it))),
     54: Kind((JoinParts,), lambda it: _counted_head_bytes(it.head), lambda it: JoinParts(_counted_head_at(it))),
-    55: Kind((MergeParts,), lambda it: _counted_head_bytes(it.head), lambda it: MergeParts(_of_all(_counted_head_at(it), it))),
+    55: Kind(
+        (MergeParts,), lambda it: _counted_head_bytes(it.head), lambda it: MergeParts(_of_all(_counted_head_at(it), it))
+    ),
     56: Kind((AskHold,), lambda it: _U64(it.time), lambda it: AskHold(it.time("time"))),
-    57: Kind((Release,), lambda it: _U64(it.number), lambda it: Release(_positive_at(it, "number of a hold"))),
+    57: Kind((Release,), lambda it: _U64(it.number), lambda it: Release(_positive_at(it, "number of a pin"))),
     58: Kind((Feed,), lambda it: items_bytes(it.items), lambda it: Feed(_items_at(it).items)),
 }
 
@@ -410,15 +475,26 @@ REPLIES: Dict[int, Kind] = {
     36: Kind((), lambda it: _refused_bytes(it, 1), lambda it: _refused_at(it, 1)),
     64: Kind((LaterDone,), lambda it: _U64(it.operations), lambda it: LaterDone(_operations_at(it))),
     65: Kind((Streams,), _streams_bytes, _streams_at),
-    66: Kind((Latest,), lambda it: _U64(it.time) + answer_bytes(it.answer), lambda it: Latest(it.time("time"), _answer_at(it))),
+    66: Kind(
+        (Latest,),
+        lambda it: _U64(it.time) + answer_bytes(it.answer),
+        lambda it: Latest(it.time("time"), _answer_at(it)),
+    ),
     67: Kind((Page,), lambda it: bytes([it.more]) + rows_bytes(it.rows), _page_at),
     68: Kind((Part,), lambda it: _U64(it.left) + facts_bytes(it.facts), _part_at),
     69: Kind((LastPart,), lambda it: facts_bytes(it.facts) + _counted_head_bytes(it.head), _last_part_at),
     70: Kind((Added,), lambda it: _U64(it.count), lambda it: Added(it.u64("facts added"))),
-    71: Kind((Held,), lambda it: struct.pack(">QQ", it.number, it.time),
-             lambda it: Held(_positive_at(it, "number of a hold"), it.time("time"))),
+    71: Kind(
+        (Held,),
+        lambda it: struct.pack(">QQ", it.number, it.time),
+        lambda it: Held(_positive_at(it, "number of a pin"), it.time("time")),
+    ),
     72: Kind((), lambda it: _refused_bytes(it, 2), lambda it: _refused_at(it, 2)),
-    73: Kind((Fed,), lambda it: struct.pack(">QQ", it.operations, it.new), lambda it: Fed(_operations_at(it), it.u64("new items"))),
+    73: Kind(
+        (Fed,),
+        lambda it: struct.pack(">QQ", it.operations, it.new),
+        lambda it: Fed(_operations_at(it), it.u64("new items")),
+    ),
 }
 
 
@@ -434,12 +510,14 @@ def encode_request(request: Request, version: int = 2) -> bytes:
     kind = _REQUEST_KINDS.get(type(request))
     if kind is None:
         raise TypeError(f"no request: {type(request).__name__}")
-    return framed(kind, items_bytes(request.items, version) if isinstance(request, Items) else REQUESTS[kind].write(request))
+    return framed(
+        kind, items_bytes(request.items, version) if isinstance(request, Items) else REQUESTS[kind].write(request)
+    )
 
 
 def encode_reply(reply: Reply, version: int = 1) -> bytes:
-    """The frame of a reply; `version` is that of a refusal, which each version has. Refusals 30 to 36 and 91 to 93 have no frame, 46 and 47
-    none in version 1 (2)."""
+    """The frame of a reply; `version` is that of a refusal, which each version has. Refusals 30 to 36 and 91 to 93 have
+    no frame, 46 and 47 none in version 1 (2)."""
     kind = REFUSED[version] if isinstance(reply, Refused) else _REPLY_KINDS.get(type(reply))
     if kind is None:
         raise TypeError(f"no reply: {type(reply).__name__}")

@@ -1,4 +1,4 @@
-"""A node of one log, over a link."""
+"""A node of one log, over a connection."""
 from __future__ import annotations
 
 import threading
@@ -9,8 +9,25 @@ from .errors import Fault, LinkBroken, TimeLimit
 from .link import Address, Certificates, Link, address_of, security_of
 from .requests import FRONT, Moment, Read, Requests, ask_frame, feeding, read_front, version_seen
 from .transfer import AnyPart, Hold, parts_from, parts_to
-from .values import (LAST_KEY, LAST_TIME, PART_BYTES, Fact, Fragment, FragmentHead, Front, KeyRow, LastPart, Operations, Page, Query, Row,
-                     Stream, Streams, number_in, time_of)
+from .values import (
+    LAST_KEY,
+    LAST_TIME,
+    PART_BYTES,
+    Fact,
+    Fragment,
+    FragmentHead,
+    Front,
+    KeyRow,
+    LastPart,
+    Operations,
+    Page,
+    Query,
+    Row,
+    Stream,
+    Streams,
+    number_in,
+    time_of,
+)
 
 Result = TypeVar("Result", covariant=True)
 Own = TypeVar("Own", bound="Node")
@@ -38,24 +55,51 @@ class Later(Generic[Result]):
         return value
 
 
-class Node(Requests[Optional[Row], Rows_, int, Front, Fragment,
-                    Streams, Page, Tuple[int, Optional[Row]], Tuple[int, Rows_], Tuple[int, int], Operations]):
-    """A node: `Node(47000)`, `Node("127.0.0.1:47000")`. The link is opened with the first request, kept, and opened anew where it broke;
-    a request whose reply did not come is then made once more, which is safe for all of them: a change made twice is as made once (the
-    number that it tells is another). A time limit is not tried again: `TimeLimit` is raised.
+class Node(
+    Requests[
+        Optional[Row],
+        Rows_,
+        int,
+        Front,
+        Fragment,
+        Streams,
+        Page,
+        Tuple[int, Optional[Row]],
+        Tuple[int, Rows_],
+        Tuple[int, int],
+        Operations,
+    ]
+):
+    """A node: `Node(47000)`, `Node("127.0.0.1:47000")`. The connection is opened with the first request, kept, and
+    opened anew where it broke; a request whose reply did not come is then made once more, which is safe for all of
+    them: a change made twice is as made once (the number that it returns is another). A time limit is not tried again:
+    `TimeLimit` is raised.
 
-    Threads may share a node; their requests go one after the other. `limit` is the most seconds of each wait, None without one. While
-    nobody listens the first link is tried again for `wait` seconds, so that a node may be asked that was started just before.
+    Threads may share a node; their requests go one after the other. `limit` is the most seconds of each wait, None
+    without one. While nobody listens the first connection is tried again for `wait` seconds, so that a node may be
+    asked that was started just before.
 
-    `messages` is the latest version of messages that the node reads, 1 or 2, where the caller knows. Else items are sent in version 1, until the
-    node has answered a request of version 2 (`latest`, `page`, `status`).
+    `messages` is the latest version of messages that the node reads, 1 or 2, where the caller knows. Else items are
+    sent in version 1, until the node has answered a request of version 2 (`latest`, `page`, `status`).
 
-    `Node("tls://HOST:PORT", ca=.., cert=.., key=..)` asks over TLS, through what stands before the node there: its certificate is for that
-    host, signed by one of the file `ca`, or of the system; ours is in the file `cert`, with its key there or in `key`. What either side
-    finds wrong is a `LinkBroken` that says so; `ValueError`: a file can't be read, or the address isn't one over TLS."""
+    `Node("tls://HOST:PORT", ca=.., cert=.., key=..)` asks over TLS, through what stands before the node there: its
+    certificate is for that host, signed by one of the file `ca`, or of the system; ours is in the file `cert`, with its
+    key there or in `key`. What either side finds wrong is a `LinkBroken` that says so; `ValueError`: a file can't be
+    read, or the address isn't one over TLS.
+    """
 
-    def __init__(self, address: Address, limit: Optional[float] = 20.0, tries: int = 2, wait: float = 3.0, *, ca: Optional[str] = None,
-                 cert: Optional[str] = None, key: Optional[str] = None, messages: Optional[int] = None) -> None:
+    def __init__(
+        self,
+        address: Address,
+        limit: Optional[float] = 20.0,
+        tries: int = 2,
+        wait: float = 3.0,
+        *,
+        ca: Optional[str] = None,
+        cert: Optional[str] = None,
+        key: Optional[str] = None,
+        messages: Optional[int] = None,
+    ) -> None:
         certificates = Certificates(ca, cert, key)
         certificates.see([address])
         self._told = self._version = None if messages is None else number_in(messages, 1, 2, "messages")
@@ -83,16 +127,20 @@ class Node(Requests[Optional[Row], Rows_, int, Front, Fragment,
         try:
             return self._call(*feeding(body, version))
         except Fault as fault:
-            if (fault.number, version) == (3, 2):      # it may have been started anew, and reads version 1 alone
+            if (fault.number, version) == (3, 2):  # it may have been started anew, and reads version 1 alone
                 self._version = self._told
             raise
 
     def streams(self) -> Tuple[Stream, ...]:
-        """How far each stream is: for feeders, which go on behind each `prefix`. A delta since the last time of all has no facts."""
+        """How far each stream is: for feeders, which go on behind each `prefix`. A delta since the last time of all has
+        no facts."""
         return self.delta(LAST_TIME).streams
 
-    def rows(self, table: int, low: int = 0, high: int = LAST_KEY, at: Optional[int] = None, most: int = 1_000) -> Iterator[KeyRow]:
-        """Each row of the keys from low to high at one time, asked for page by page (`page`), so there is no limit on their number."""
+    def rows(
+        self, table: int, low: int = 0, high: int = LAST_KEY, at: Optional[int] = None, most: int = 1_000
+    ) -> Iterator[KeyRow]:
+        """Each row of the keys from low to high at one time, asked for page by page (`page`), so there is no limit on
+        their number."""
         time = self.front().readable if at is None else at
         while True:
             page = self.page(table, low, high, at=time, most=most)
@@ -102,11 +150,13 @@ class Node(Requests[Optional[Row], Rows_, int, Front, Fragment,
             low = page.rows[-1].key + 1
 
     def hold(self, time: int) -> Hold:
-        """Keeps a time readable, over a link of its own: `with node.hold(5):`. 25: it is below the horizon."""
+        """Pins a time, so that it stays readable, over a connection of its own: `with node.hold(5):`. 25: it is below
+        the oldest readable time."""
         return Hold(self._own_link(), time_of(time))
 
     def whole(self, part_bytes: Optional[int] = None) -> Fragment:
-        """All that the node holds. More than 2^28 bytes of it are refused 2, but where it comes in parts of so many bytes (version 2)."""
+        """All that the node holds. More than 2^28 bytes of it are refused 2, but where it comes in chunks of so many
+        bytes (version 2)."""
         if part_bytes is None:
             return super().whole()
         facts: List[Fact] = []
@@ -114,30 +164,32 @@ class Node(Requests[Optional[Row], Rows_, int, Front, Fragment,
         for part in self.parts(0, part_bytes):
             facts += part.facts
             head = part.head if isinstance(part, LastPart) else None
-        assert head is not None      # the parts end with the last one, or with an error
+        assert head is not None  # the parts end with the last one, or with an error
         return head.with_facts(facts)
 
     def parts(self, base: int = 0, part_bytes: int = PART_BYTES) -> Iterator[AnyPart]:
-        """What happened since a base, or all that is held since 0, in parts of one moment, over a link of its own: `later.Part`, and at last
-        `later.LastPart` with the head. 46: the node gives no more bytes for parts."""
+        """What happened since a base, or all that is held since 0, in chunks of one moment, over a connection of its
+        own: `later.Part`, and at last `later.LastPart` with the head. 46: the node gives no more bytes for chunks."""
         return parts_from(self._own_link, base, part_bytes)
 
     def take_parts(self, parts: Iterable[AnyPart]) -> int:
-        """Takes what another node gives: `node.take_parts(other.parts())`. Nothing is taken before all parts are there."""
+        """Takes what another node gives: `node.take_parts(other.parts())`. Nothing is taken before all chunks are
+        there."""
         return parts_to(self._own_link, parts)
 
     def at(self, time: Optional[int] = None) -> "NodeMoment":
-        """One moment: all questions at this time, or at the readable mark of now."""
+        """One moment: all questions at this time, or at the current resolved time."""
         return NodeMoment(self, self.front().readable if time is None else time_of(time))
 
     def pipeline(self) -> "Pipeline":
-        """Requests that are sent together: `with node.pipeline() as pipe:`, and `pipe.get(..).result()` behind the block."""
+        """Requests that are sent together: `with node.pipeline() as pipe:`, and `pipe.get(..).result()` behind the
+        block."""
         return Pipeline(self)
 
     # ------------------------------------------------------------ the link
 
     def _exchange(self, requests: List[bytes]) -> List[bytes]:
-        """The rests of the replies. Where the link breaks, what was not replied is made again over a new one."""
+        """The rests of the replies. Where the connection breaks, what was not replied is made again over a new one."""
         found: List[bytes] = []
         with self._lock:
             for left in range(self.tries - 1, -1, -1):
@@ -160,7 +212,7 @@ class Node(Requests[Optional[Row], Rows_, int, Front, Fragment,
         if self._link is None:
             self._link = self._own_link()
         while len(found) < len(requests):
-            part = requests[len(found):len(found) + WINDOW]
+            part = requests[len(found) : len(found) + WINDOW]
             come: List[bytes] = []
             try:
                 self._link.exchange(part[0] if len(part) == 1 else b"".join(part), len(part), come)
@@ -169,10 +221,10 @@ class Node(Requests[Optional[Row], Rows_, int, Front, Fragment,
             if come and _ends_link(come[-1]):
                 self._drop()
                 if len(found) < len(requests):
-                    raise LinkBroken(f"{self.name}: the node ended the link")
+                    raise LinkBroken(f"{self.name}: the node ended the connection")
 
     def _own_link(self) -> Link:
-        """Another link, for what the node keeps for a link."""
+        """Another connection, for what the node keeps for one."""
         wait, self.wait = self.wait, 0.0
         return Link(self.address, self.limit, wait, self._security)
 
@@ -182,14 +234,16 @@ class Node(Requests[Optional[Row], Rows_, int, Front, Fragment,
             self._link = None
 
     def close(self) -> None:
-        """Closes the link, where one is open. The next request opens another."""
+        """Closes the connection, where one is open. The next request opens another."""
         with self._lock:
             self._drop()
 
     def __enter__(self: Own) -> Own:
         return self
 
-    def __exit__(self, kind: Optional[Type[BaseException]], error: Optional[BaseException], trace: Optional[TracebackType]) -> None:
+    def __exit__(
+        self, kind: Optional[Type[BaseException]], error: Optional[BaseException], trace: Optional[TracebackType]
+    ) -> None:
         self.close()
 
     def __repr__(self) -> str:
@@ -197,7 +251,8 @@ class Node(Requests[Optional[Row], Rows_, int, Front, Fragment,
 
 
 def _ends_link(rest: bytes) -> bool:
-    """Whether a reply is a refusal of form, behind which the node ends the link (2 may be that of a long reply, and then it goes on)."""
+    """Whether a reply refuses malformed input (1 to 10), behind which the node ends the connection (2 may be that of a
+    long reply, and then it goes on)."""
     return rest[1] == 36 and len(rest) > 2 and 1 <= rest[2] <= 10 and rest[2] != 2
 
 
@@ -227,11 +282,24 @@ class NodeMoment(Moment[Optional[Row], Rows_, int]):
         pass
 
 
-class Pipeline(Requests["Later[Optional[Row]]", "Later[Rows_]", "Later[int]", "Later[Front]", "Later[Fragment]",
-                        "Later[Streams]", "Later[Page]", "Later[Tuple[int, Optional[Row]]]", "Later[Tuple[int, Rows_]]",
-                        "Later[Tuple[int, int]]", "Later[Operations]"]):
-    """Requests that are sent together when the block is left, or by `run`. Each gives a `Later`; what a node refuses is raised by its
-    `result`. Questions without a time are asked at the readable mark of when the first of them was written."""
+class Pipeline(
+    Requests[
+        "Later[Optional[Row]]",
+        "Later[Rows_]",
+        "Later[int]",
+        "Later[Front]",
+        "Later[Fragment]",
+        "Later[Streams]",
+        "Later[Page]",
+        "Later[Tuple[int, Optional[Row]]]",
+        "Later[Tuple[int, Rows_]]",
+        "Later[Tuple[int, int]]",
+        "Later[Operations]",
+    ]
+):
+    """Requests that are sent together when the block is left, or by `run`. Each gives a `Later`; what a node refuses is
+    raised by its `result`. Questions without a time are asked at the resolved time when the first of them is
+    written."""
 
     def __init__(self, node: Node, time: Optional[int] = None) -> None:
         self.node, self.time = node, time
@@ -271,6 +339,8 @@ class Pipeline(Requests["Later[Optional[Row]]", "Later[Rows_]", "Later[int]", "L
     def __enter__(self) -> "Pipeline":
         return self
 
-    def __exit__(self, kind: Optional[Type[BaseException]], error: Optional[BaseException], trace: Optional[TracebackType]) -> None:
+    def __exit__(
+        self, kind: Optional[Type[BaseException]], error: Optional[BaseException], trace: Optional[TracebackType]
+    ) -> None:
         if kind is None:
             self.run()

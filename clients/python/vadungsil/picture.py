@@ -1,5 +1,5 @@
-"""A picture of a log or of a node as SVG: python3 -m vadungsil.picture. Streams with their entries and marks, the versions of some keys as
-bars on the axis of time, and what a question at each time is answered."""
+"""A picture of a log or of a node as SVG: python3 -m vadungsil.picture. Streams with their entries and marks, the
+versions of some keys as bars on the axis of time, and what a question at each time is answered."""
 from __future__ import annotations
 
 import argparse
@@ -16,10 +16,21 @@ from .values import LAST_TIME, Item, Row, key_of, table_of
 
 MANY_MARKS = 4
 WIDTH, LEFT, RIGHT, TOP, HIGH, LOW = 720, 120, 24, 16, 78, 34
-INK, SOFT, HERE, LATE, GOOD, OLD, EARLY, SURE, UNSURE = ("#222", "#888", "#2b6cb0", "#c05621", "#c6f6d5", "#e2e8f0", "#fed7d7", "#bee3f8", "#edf2f7")
+INK, SOFT, HERE, LATE, GOOD, OLD, EARLY, SURE, UNSURE = (
+    "#222",
+    "#888",
+    "#2b6cb0",
+    "#c05621",
+    "#c6f6d5",
+    "#e2e8f0",
+    "#fed7d7",
+    "#bee3f8",
+    "#edf2f7",
+)
 
 
 # ---------------------------------------------------------------- drawing
+
 
 class Drawing:
     """The parts of a scene as SVG."""
@@ -35,13 +46,26 @@ class Drawing:
         return round(LEFT + self.step * (inside - self.scene.first) + self.step / 2, 1)
 
     @staticmethod
-    def text(at: float, y: float, words: object, size: int = 14, color: str = INK, anchor: str = "middle", weight: str = "normal") -> str:
-        return f'<text x="{at:g}" y="{y:g}" font-size="{size}" fill="{color}" text-anchor="{anchor}" font-weight="{weight}">{escape(str(words))}</text>'
+    def text(
+        at: float,
+        y: float,
+        words: object,
+        size: int = 14,
+        color: str = INK,
+        anchor: str = "middle",
+        weight: str = "normal",
+    ) -> str:
+        return (
+            f'<text x="{at:g}" y="{y:g}" font-size="{size}" fill="{color}" text-anchor="{anchor}"'
+            f' font-weight="{weight}">{escape(str(words))}</text>'
+        )
 
     @staticmethod
     def line(x1: float, y1: float, x2: float, y2: float, color: str = INK, width: float = 1, dash: str = "") -> str:
         dashed = f' stroke-dasharray="{dash}"' if dash else ""
-        return f'<line x1="{x1:g}" y1="{y1:g}" x2="{x2:g}" y2="{y2:g}" stroke="{color}" stroke-width="{width:g}"{dashed}/>'
+        return (
+            f'<line x1="{x1:g}" y1="{y1:g}" x2="{x2:g}" y2="{y2:g}" stroke="{color}" stroke-width="{width:g}"{dashed}/>'
+        )
 
     @staticmethod
     def box(at: float, y: float, width: float, height: float, color: str, stroke: str = "none") -> str:
@@ -60,7 +84,14 @@ class Drawing:
         yield from self.entries(line, y)
         yield from self.marks(line, y)
         closed = "retired" if line.closed == LAST_TIME else f"closed {line.closed}"
-        yield self.text(until, y + 28, closed if line.entries else f"prefix {line.prefix}, {closed}", 12, HERE, "middle" if until < WIDTH - 120 else "end")
+        yield self.text(
+            until,
+            y + 28,
+            closed if line.entries else f"prefix {line.prefix}, {closed}",
+            12,
+            HERE,
+            "middle" if until < WIDTH - 120 else "end",
+        )
 
     def entries(self, line: Line, y: float) -> Iterator[str]:
         """A circle for each entry, with its number where there is room; of those that would stand at one place, one."""
@@ -71,7 +102,10 @@ class Drawing:
                 continue
             seen.add(place)
             color = HERE if here else LATE
-            yield f'<circle cx="{self.x(time):g}" cy="{y:g}" r="{radius:g}" fill="{HERE if here else "#fff"}" stroke="{color}" stroke-width="2"/>'
+            yield (
+                f'<circle cx="{self.x(time):g}" cy="{y:g}" r="{radius:g}" fill="{HERE if here else "#fff"}"'
+                f' stroke="{color}" stroke-width="2"/>'
+            )
             if radius >= 9:
                 yield self.text(self.x(time), y + 5, number, 13, "#fff" if here else LATE)
 
@@ -80,14 +114,16 @@ class Drawing:
         for n, m, holds in told:
             color = HERE if holds else LATE
             if len(told) <= MANY_MARKS and line.entries:
-                yield self.text(self.x(m), y - 18, f"mark: {n} up to {m}" if holds else f"mark waits: {n} up to {m}", 12, color)
+                yield self.text(
+                    self.x(m), y - 18, f"mark: {n} up to {m}" if holds else f"mark waits: {n} up to {m}", 12, color
+                )
             else:
                 yield self.line(self.x(m), y - 12, self.x(m), y + 12, color, 2)
 
     # ------------------------------------------------------------ versions
 
     def key(self, place: Place, bars: List[Bar], y: float) -> Iterator[str]:
-        """A bar for each version; what is above the readable mark may still change, and is drawn pale."""
+        """A bar for each version; what is above the resolved time may still change, and is drawn pale."""
         yield self.text(12, y + 17, f"{place[0]}:{place[1]}", 13, anchor="start")
         edge = self.x(self.scene.readable) + self.step / 2
         follows = [self.x(bar.born) - self.step / 2 for bar in bars[1:]] + [float(WIDTH)]
@@ -109,9 +145,11 @@ class Drawing:
     def answers(self, y: float) -> Iterator[str]:
         scene = self.scene
         yield self.text(12, y + 22, "a query at", anchor="start", weight="bold")
-        spans = [(scene.first, scene.horizon - 1, OLD, "too old:", f"refused 25 horizon {scene.horizon}"),
-                 (scene.horizon, scene.readable, GOOD, "exactly the", "primary's rows"),
-                 (scene.readable + 1, scene.last, EARLY, "not yet:", f"refused 26 readable {scene.readable}")]
+        spans = [
+            (scene.first, scene.horizon - 1, OLD, "too old:", f"refused 25 horizon {scene.horizon}"),
+            (scene.horizon, scene.readable, GOOD, "exactly the", "primary's rows"),
+            (scene.readable + 1, scene.last, EARLY, "not yet:", f"refused 26 readable {scene.readable}"),
+        ]
         for low, high, color, above, below in spans:
             if low > high:
                 continue
@@ -127,11 +165,19 @@ class Drawing:
                 yield from (self.text(middle, y + 54, above, 13), self.text(middle, y + 71, below, 13))
 
     def edges(self, y: float) -> Iterator[str]:
-        both = [(self.scene.horizon, "horizon"), (self.scene.readable, "readable mark")]
-        close = self.x(both[1][0]) - self.x(both[0][0]) < 120
+        both = [(self.scene.horizon, "oldest readable"), (self.scene.readable, "resolved time")]
+        close = self.x(both[1][0]) - self.x(both[0][0]) < 150
         for place, (time, name) in enumerate(both):
             yield self.line(self.x(time), TOP + 30, self.x(time), y, INK, 1, "2 4")
-            yield self.text(self.x(time) + (2 * place - 1) * 6 * close, TOP + 22, f"{name} {time}", 13, INK, ("end", "start")[place] if close else "middle", "bold")
+            yield self.text(
+                self.x(time) + (2 * place - 1) * 6 * close,
+                TOP + 22,
+                f"{name} {time}",
+                13,
+                INK,
+                ("end", "start")[place] if close else "middle",
+                "bold",
+            )
 
     def parts(self, captions: Sequence[str]) -> Tuple[List[str], float]:
         """All parts, and the height."""
@@ -164,20 +210,35 @@ def shown(row: Optional[Row]) -> str:
 def svg_of(scene: Scene, captions: Sequence[str] = ()) -> str:
     """The picture, with lines of words below it."""
     parts, height = Drawing(scene).parts(captions)
-    head = f'<svg xmlns="http://www.w3.org/2000/svg" width="{WIDTH}" height="{height:g}" viewBox="0 0 {WIDTH} {height:g}" font-family="sans-serif">'
+    head = (
+        f'<svg xmlns="http://www.w3.org/2000/svg" width="{WIDTH}" height="{height:g}" viewBox="0 0 {WIDTH} {height:g}"'
+        ' font-family="sans-serif">'
+    )
     return "\n".join([head, Drawing.box(0, 0, WIDTH, height, "#fff"), *parts, "</svg>", ""])
 
 
 # ---------------------------------------------------------------- the command
 
+
 def parser() -> argparse.ArgumentParser:
-    it = argparse.ArgumentParser(prog="python3 -m vadungsil.picture", description="Draws the item frames of standard input, or what a node holds, as SVG.")
-    it.add_argument("--node", metavar="HOST:PORT", help="a node in place of standard input: it is asked for all that it holds")
-    it.add_argument("--keys", metavar="TABLE:KEY,..", help=f"the keys whose versions are drawn; without it the first {MOST_KEYS}")
-    it.add_argument("--streams", type=int, metavar="N", help="the log's number of streams; without it the greatest that an item names")
+    it = argparse.ArgumentParser(
+        prog="python3 -m vadungsil.picture", description="Draws the item frames of standard input, or a node, as SVG."
+    )
+    it.add_argument("--node", metavar="HOST:PORT", help="a node in place of standard input: it sends a full snapshot")
+    it.add_argument(
+        "--keys", metavar="TABLE:KEY,..", help=f"the keys whose versions are drawn; without it the first {MOST_KEYS}"
+    )
+    it.add_argument(
+        "--streams",
+        type=int,
+        metavar="N",
+        help="the log's number of streams; without it the greatest that an item names",
+    )
     it.add_argument("--horizon", type=int, default=0, metavar="T", help="as if the replica were pruned to this time")
     it.add_argument("--missing", metavar="FILE", help="item frames that are drawn as not there")
-    it.add_argument("--caption", action="append", default=[], metavar="WORDS", help="a line below the picture; may be given again")
+    it.add_argument(
+        "--caption", action="append", default=[], metavar="WORDS", help="a line below the picture; may be given again"
+    )
     it.add_argument("--out", metavar="FILE", help="where to; without it standard output")
     return it
 
@@ -204,7 +265,9 @@ def drawn(words: argparse.Namespace) -> str:
         with Node(words.node) as node:
             return svg_of(scene_of_whole(node.whole(), keys), words.caption)
     missing = read_items(pathlib.Path(words.missing).read_bytes()) if words.missing else []
-    return svg_of(scene_of_items(read_items(sys.stdin.buffer.read()), missing, words.streams, words.horizon, keys), words.caption)
+    return svg_of(
+        scene_of_items(read_items(sys.stdin.buffer.read()), missing, words.streams, words.horizon, keys), words.caption
+    )
 
 
 def main(arguments: Optional[List[str]] = None) -> int:

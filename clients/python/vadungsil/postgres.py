@@ -18,11 +18,11 @@ from .node import Node
 from .values import LAST_KEY, KeyRow, Row
 
 # A transaction has so many times, of which its last entry has the last.
-TIMES = 2 ** 20
+TIMES = 2**20
 
 # The table of the capture itself, and its keys: the last commit, what is captured, and from there on, by its number,
 # each table.
-OWN, COMMIT, HEAD, TABLES = 0, 0, 1, 2 ** 16
+OWN, COMMIT, HEAD, TABLES = 0, 0, 1, 2**16
 
 Key = Union[int, str, uuid.UUID]
 Columns = Dict[str, Any]
@@ -35,6 +35,7 @@ class NotCaptured(VadungsilError):
 
 
 # ---------------------------------------------------------------- times, keys and tags
+
 
 def last_time(transaction: int) -> int:
     """The moment of a transaction: from then on it shows as a whole."""
@@ -50,12 +51,12 @@ def key_of(value: Key) -> int:
     """The key of a row: a whole number as it is, from 2^63 on where it is below 0 (2^64 is added); of a text or a UUID
     64 bits of its hash (BLAKE2b), so that who asks compares the column too, as `Database.get` does."""
     if isinstance(value, int):
-        return value % 2 ** 64
+        return value % 2**64
     return int.from_bytes(digest_of(str(value))[:8], "big")
 
 
 def digest_of(text: str) -> bytes:
-    """16 bytes of a text's hash: 8 for the key, 8 that tell two texts of one key apart."""
+    """16 bytes of a text's hash: 8 for the key, 8 that distinguish two texts of one key."""
     return hashlib.blake2b(text.encode(), digest_size=16).digest()
 
 
@@ -64,7 +65,7 @@ def tag_of(value: Union[Key, bool, None]) -> int:
     if value is None:
         return 0
     if isinstance(value, int):
-        return int(value) % 2 ** 32
+        return int(value) % 2**32
     return int.from_bytes(hashlib.blake2b(str(value).encode(), digest_size=4).digest(), "big")
 
 
@@ -82,6 +83,7 @@ def place_of(lsn: int) -> str:
 
 
 # ---------------------------------------------------------------- bodies
+
 
 class Long(NamedTuple):
     """What stands in place of a body above 4,096 bytes: where its parts are in the table of parts, and, where the key
@@ -110,8 +112,10 @@ def decode(body: bytes, parts: Iterable[KeyRow] = ()) -> Columns:
         rows = list(parts)
         body = b"".join(row.body for _, row in rows)
         if [key for key, _ in rows] != list(range(long.first, long.first + long.pieces)) or len(body) != long.size:
-            raise NotCaptured(f"a body of {long.size} bytes in {long.pieces} parts: {len(rows)} parts with {len(body)} "
-                              "bytes are there")
+            raise NotCaptured(
+                f"a body of {long.size} bytes in {long.pieces} parts: {len(rows)} parts with {len(body)} "
+                "bytes are there"
+            )
     columns: Columns = json.loads(body)
     return columns
 
@@ -151,9 +155,10 @@ def table_of(number: int, body: bytes) -> Table:
 
 # ---------------------------------------------------------------- a node's tables
 
+
 class Database:
     """The tables of a capture in a node that reads messages of version 2 (`serve --messages 2`):
-    `Database(Node(47000))`. Without a time all is asked at the readable mark, which is a moment; a time that is handed
+    `Database(Node(47000))`. Without a time all is asked at the resolved time, which is a moment; a time that is handed
     in is rounded down to one."""
 
     def __init__(self, node: Node) -> None:
@@ -162,7 +167,7 @@ class Database:
         self._parts = 0
 
     def moment(self, at: Optional[int] = None) -> int:
-        """The last moment up to a time, or up to the readable mark of now."""
+        """The last moment up to a time, or up to the current resolved time."""
         return moment(self.node.front().readable if at is None else at)
 
     # ------------------------------------------------------------ rows
@@ -196,8 +201,9 @@ class Database:
 
     def _columns(self, row: Row, at: int) -> Columns:
         long = long_of(row.body)
-        return decode(row.body, self.node.range(self._parts, long.first, long.first + long.pieces - 1, at=at) if long
-                      else ())
+        return decode(
+            row.body, self.node.range(self._parts, long.first, long.first + long.pieces - 1, at=at) if long else ()
+        )
 
     # ------------------------------------------------------------ what is captured
 

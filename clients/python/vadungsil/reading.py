@@ -68,7 +68,7 @@ class Reader:
         if self.at + size > len(self.data):
             raise self.fault(10, what)
         self.at += size
-        return bytes(self.data[self.at - size:self.at])
+        return bytes(self.data[self.at - size : self.at])
 
     def row(self) -> Row:
         tag, size = self.u32("tag"), self.u16("body length")
@@ -82,13 +82,14 @@ class Reader:
 
 
 class FrameFeeder(Generic[Value]):
-    """Takes bytes in pieces and gives the values of whole frames. A fault is permanent: it is raised, and again at each later call; the
-    values before it are given by the call that met it, as `error.before`, and by nothing else."""
+    """Takes bytes in pieces and gives the values of whole frames. A fault is permanent: it is raised, and again at each
+    later call; the values before it are given by the call that met it, as `error.before`, and by nothing else."""
 
-    least, most, noun = 2, 2 ** 28, "frame"
+    least, most, noun = 2, 2**28, "frame"
 
     def __init__(self) -> None:
-        # what came of the next frame, and how many bytes it has to be before it is looked at: till then a piece costs its own bytes alone
+        # what came of the next frame, and how many bytes it has to be before it is looked at: till then a piece costs
+        # its own bytes alone
         self._kept, self._wanted = bytearray(), 4
         self._fault: Optional[Refused] = None
         self.count = 0
@@ -112,13 +113,13 @@ class FrameFeeder(Generic[Value]):
         data, at, self._wanted = bytes(self._kept), 0, 4
         try:
             while len(data) - at >= 4:
-                size = int.from_bytes(data[at:at + 4], "big")
+                size = int.from_bytes(data[at : at + 4], "big")
                 if size > self.most or size < self.least:
                     raise Fault(2 if size > self.most else 10, place=f"byte 0, length {size}")
                 if len(data) - at < 4 + size:
                     self._wanted = 4 + size
                     break
-                found.append((self.decode(data[at + 4:at + 4 + size]), data[at:at + 4 + size]))
+                found.append((self.decode(data[at + 4 : at + 4 + size]), data[at : at + 4 + size]))
                 at += 4 + size
                 self.count += 1
         except Refused as fault:
@@ -156,7 +157,7 @@ def whole_frame(data: Bytes, decode: Callable[[bytes], Value], least: int, most:
         raise Fault(2 if size > most else 10, place=f"byte 0, length {size}")
     if len(data) < 4 + size:
         raise Fault(1, place=f"byte {len(data)}")
-    value = decode(data[4:4 + size])
+    value = decode(data[4 : 4 + size])
     if len(data) > 4 + size:
         raise Fault(10, place=f"byte {4 + size}, {len(data) - 4 - size} bytes behind the frame")
     return value

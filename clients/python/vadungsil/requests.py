@@ -7,8 +7,36 @@ from typing import Any, Callable, Dict, Generic, Iterable, List, Optional, Tuple
 from .errors import Fault, Refused
 from .messages import encode_request, framed, items_bytes, query_bytes, reply_of
 from .reading import Bytes
-from .values import (LAST_KEY, Answer, AskLatest, AskPage, ByTag, Count, Delta, Done, Fed, Fragment, Front, Get, Item, JoinThis,
-                     KeyRow, Latest, MergeThis, Number, One, Operations, Page, Prune, Query, Range, Row, Rows, Streams, time_of)
+from .values import (
+    LAST_KEY,
+    Answer,
+    AskLatest,
+    AskPage,
+    ByTag,
+    Count,
+    Delta,
+    Done,
+    Fed,
+    Fragment,
+    Front,
+    Get,
+    Item,
+    JoinThis,
+    KeyRow,
+    Latest,
+    MergeThis,
+    Number,
+    One,
+    Operations,
+    Page,
+    Prune,
+    Query,
+    Range,
+    Row,
+    Rows,
+    Streams,
+    time_of,
+)
 
 RowT = TypeVar("RowT")
 RowsT = TypeVar("RowsT")
@@ -36,8 +64,8 @@ def ask_frame(time: int, query: Query) -> bytes:
 
 
 def value_of(rest: bytes, *kinds: type, latest: int = 1, unread: str = NOT_READ) -> Any:
-    """The reply, which is of one of these kinds; a refusal is raised, and a reply of another kind is 4. A node that doesn't read version 2
-    refuses what it was asked in it in version 1, with 3."""
+    """The reply, which is of one of these kinds; a refusal is raised, and a reply of another kind is 4. A node that
+    doesn't read version 2 refuses what it was asked in it in version 1, with 3."""
     value = reply_of(rest, latest)
     if isinstance(value, Refused):
         raise value.at(unread) if rest[0] < latest and value.number == 3 else value
@@ -88,7 +116,7 @@ def read_items(rest: bytes) -> Operations:
 
 
 def read_fed(rest: bytes, count: int) -> Operations:
-    """What is told of so many items; more of them can't be new (8)."""
+    """What a node reports of so many items; more of them can't be new (8)."""
     fed: Fed = value_of(rest, Fed, latest=2, unread=NOT_FED)
     if fed.new > count:
         raise Fault(8, place=f"{fed.new} new items of {count}")
@@ -104,7 +132,7 @@ def feeding(body: bytes, version: int) -> Tuple[bytes, Read]:
 
 
 def version_seen(known: Optional[int], rest: bytes) -> Optional[int]:
-    """The latest version that a node reads, as far as is known: a reply of version 2 tells it."""
+    """The latest version that a node reads, as far as is known: a reply of version 2 shows it."""
     return 2 if known is None and rest[:1] == b"\2" else known
 
 
@@ -132,12 +160,14 @@ def read_latest(rest: bytes, query: Query) -> Tuple[int, Any]:
 
 
 def read_page(rest: bytes, asked: AskPage) -> Page:
-    """The page, of the keys that were asked for (6) and of so many rows at most (8). Where more follow, it has rows, and keys are left
-    behind them (8): so who asks for page after page comes to an end."""
+    """The page, of the keys that were asked for (6) and of so many rows at most (8). Where more follow, it has rows,
+    and keys are left behind them (8): so who asks for page after page comes to an end."""
     page: Page = value_of(rest, Page, latest=2)
     keys = [row.key for row in page.rows]
     if keys and not asked.low <= keys[0] <= keys[-1] <= asked.high:
-        raise Fault(6, place=f"a page of the keys {keys[0]} to {keys[-1]}, where {asked.low} to {asked.high} were asked for")
+        raise Fault(
+            6, place=f"a page of the keys {keys[0]} to {keys[-1]}, where {asked.low} to {asked.high} were asked for"
+        )
     if len(keys) > asked.most or (page.more and (not keys or keys[-1] == asked.high)):
         raise Fault(8, place=f"a page of {len(keys)} rows{', behind which more follow' if page.more else ''}")
     return page
@@ -169,9 +199,9 @@ class Moment(Generic[RowT, RowsT, NumberT]):
 
 
 class Reads(Generic[RowT, RowsT, NumberT]):
-    """Questions, each at a time of its own; without one, at the readable mark, for which the front is asked first.
+    """Questions, each at a time of its own; without one, at the resolved time, for which the front is asked first.
 
-    Raised: 25 below the horizon (`error.horizon`), 26 above the readable mark (`error.readable`)."""
+    Raised: 25 below the oldest readable time (`error.horizon`), 26 above the resolved time (`error.readable`)."""
 
     def _read(self, at: Optional[int], query: Query, read: Read) -> Any:
         raise NotImplementedError
@@ -181,7 +211,8 @@ class Reads(Generic[RowT, RowsT, NumberT]):
         return self._read(at, Get(table, key), read_row)
 
     def range(self, table: int, low: int = 0, high: int = LAST_KEY, at: Optional[int] = None) -> RowsT:
-        """The rows of the keys from low to high, both with, by rising key. More than 2^28 bytes of them are refused 2."""
+        """The rows of the keys from low to high, both with, by rising key. More than 2^28 bytes of them are refused
+        2."""
         return self._read(at, Range(table, low, high), read_rows)
 
     def by_tag(self, table: int, tag: int, at: Optional[int] = None) -> RowsT:
@@ -193,8 +224,12 @@ class Reads(Generic[RowT, RowsT, NumberT]):
         return self._read(at, Count(table), read_number)
 
 
-class Requests(Reads[RowT, RowsT, NumberT],
-               Generic[RowT, RowsT, NumberT, FrontT, FragmentT, StreamsT, PageT, LatestRowT, LatestRowsT, LatestNumberT, OperationsT]):
+class Requests(
+    Reads[RowT, RowsT, NumberT],
+    Generic[
+        RowT, RowsT, NumberT, FrontT, FragmentT, StreamsT, PageT, LatestRowT, LatestRowsT, LatestNumberT, OperationsT
+    ],
+):
     """All requests of docs/PROTOCOL.md. A change gives the number of the node's operations that ends with it."""
 
     def _call(self, request: bytes, read: Read) -> Any:
@@ -205,18 +240,19 @@ class Requests(Reads[RowT, RowsT, NumberT],
         raise NotImplementedError
 
     def front(self) -> FrontT:
-        """From where to where can be read."""
+        """The range of readable times."""
         return self._call(FRONT, read_front)
 
     def items(self, items: Iterable[Union[Item, Bytes, None]]) -> OperationsT:
-        """Takes items, or the bytes of their frames, all or none; at most 65,536, and None is passed over. Sent twice is as once: `new` of the
-        number has how many the node did not know before, where it is known to read messages of version 2, and else None.
-        20 and 21: not of this log; 23: they conflict with one another, or with what the node holds, which damages it (41 from then on), but
-        for one with a guard: that refuses also what touches the past, and a repeat that differs, and nothing is changed."""
+        """Takes items, or the bytes of their frames, all or none; at most 65,536, and None is passed over. Sent twice
+        is as once: `new` of the number has how many the node did not know before, where it is known to read messages of
+        version 2, and else None. 20 and 21: not of this log; 23: they conflict with one another, or with what the node
+        holds, which fails it (41 from then on), but for one with a guard: that refuses also what touches the past, and
+        a repeat that differs, and nothing is changed."""
         return self._feed(items_bytes(items))
 
     def delta(self, base: int) -> FragmentT:
-        """What happened since a time from the horizon to the readable mark."""
+        """What happened since a time in the range of readable times."""
         return self._call(encode_request(Delta(base)), read_fragment)
 
     def whole(self) -> FragmentT:
@@ -224,37 +260,44 @@ class Requests(Reads[RowT, RowsT, NumberT],
         return self._call(FULL, read_fragment)
 
     def join(self, fragment: Fragment) -> NumberT:
-        """Takes a delta or a whole of another node. 22: it begins above this node's readable mark (`error.readable`)."""
+        """Takes a delta or a full snapshot of another node. 22: it begins above this node's resolved time
+        (`error.readable`)."""
         return self._call(encode_request(JoinThis(fragment)), read_done)
 
     def merge(self, fragment: Fragment) -> NumberT:
-        """Takes the whole of another node; its base is 0."""
+        """Takes the full snapshot of another node; its base is 0."""
         return self._call(encode_request(MergeThis(fragment)), read_done)
 
     def prune(self, horizon: int) -> NumberT:
-        """Drops the versions that ended up to a time, which becomes the horizon. 24: it is above the readable mark."""
+        """Drops the versions that ended up to a time, which becomes the oldest readable time. 24: it is above the
+        resolved time."""
         return self._call(encode_request(Prune(horizon)), read_done)
 
-    # ------------------------------------------------------------ messages of version 2, which a node reads with `--messages 2`; else 3
+    # ------------------------------------------------------------ messages of version 2, which a node reads with
+    # `--messages 2`; else 3
 
     def status(self) -> StreamsT:
-        """How far the node is, and each of its streams (`later.Streams`): also of a damaged node."""
+        """How far the node is, and each of its streams (`later.Streams`): also of a failed node."""
         return self._call(STREAMS, read_streams)
 
     @overload
-    def latest(self, query: Get) -> LatestRowT: ...
+    def latest(self, query: Get) -> LatestRowT:
+        ...
 
     @overload
-    def latest(self, query: Union[Range, ByTag]) -> LatestRowsT: ...
+    def latest(self, query: Union[Range, ByTag]) -> LatestRowsT:
+        ...
 
     @overload
-    def latest(self, query: Count) -> LatestNumberT: ...
+    def latest(self, query: Count) -> LatestNumberT:
+        ...
 
     def latest(self, query: Query) -> Any:
-        """The readable mark, and the answer to a question at it: `node.latest(Get(1, 5))`, in one exchange."""
+        """The resolved time, and the answer to a question at it: `node.latest(Get(1, 5))`, in one exchange."""
         return self._call(encode_request(AskLatest(query)), lambda rest: read_latest(rest, query))
 
     def page(self, table: int, low: int = 0, high: int = LAST_KEY, *, at: int, most: int = 1_000) -> PageT:
-        """The rows of the keys from low to high at a time, and as many as `most` of them, and whether more follow (`later.Page`)."""
+        """The rows of the keys from low to high at a time, and as many as `most` of them, and whether more follow
+        (`later.Page`)."""
         asked = AskPage(time_of(at), table, low, high, most)
         return self._call(encode_request(asked), lambda rest: read_page(rest, asked))

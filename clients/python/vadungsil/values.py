@@ -1,5 +1,5 @@
-"""The values of a log and of a node's replies. Each is checked where it is made, and raises a `Fault` with the number of the first rule
-that it breaks, in the order of the library."""
+"""The values of a log and of a node's replies. Each is checked where it is made, and raises a `Fault` with the number
+of the first rule that it breaks, in the order of the library."""
 from __future__ import annotations
 
 from dataclasses import dataclass
@@ -7,13 +7,13 @@ from typing import Any, Iterable, List, NamedTuple, Optional, Tuple, Union
 
 from .errors import Fault, Refused
 
-LAST_TIME = 2 ** 62
+LAST_TIME = 2**62
 MOST_BODY = 4_096
 MOST_WRITES = 1_024
 MOST_STREAMS = 64
-LAST_KEY = 2 ** 64 - 1
-MOST_ROWS = 2 ** 32 - 1
-PART_BYTES = 8 * 2 ** 20
+LAST_KEY = 2**64 - 1
+MOST_ROWS = 2**32 - 1
+PART_BYTES = 8 * 2**20
 
 
 def number_in(value: Any, least: int, most: int, what: str, number: int = 6) -> int:
@@ -33,7 +33,7 @@ def rising(places: List[Any], what: str) -> None:
 
 
 def table_of(value: int) -> int:
-    return number_in(value, 0, 2 ** 16 - 1, "table")
+    return number_in(value, 0, 2**16 - 1, "table")
 
 
 def key_of(value: int) -> int:
@@ -56,7 +56,7 @@ class Row:
     body: bytes
 
     def __post_init__(self) -> None:
-        number_in(self.tag, 0, 2 ** 32 - 1, "tag")
+        number_in(self.tag, 0, 2**32 - 1, "tag")
         if not isinstance(self.body, bytes):
             if not isinstance(self.body, (bytearray, memoryview)):
                 raise TypeError(f"body must be bytes, and is {type(self.body).__name__}")
@@ -113,8 +113,8 @@ def put_of(written: Written) -> Put:
 
 
 class Operations(int):
-    """The number of a node's operations that ends with the items that it was sent. `new` is how many of them it did not know before, each
-    compared with what it held before the first; None where it reads messages of version 1 alone."""
+    """The number of a node's operations that ends with the items that it was sent. `new` is how many of them it did not
+    know before, each compared with what it held before the first; None where it reads messages of version 1 alone."""
 
     new: Optional[int]
 
@@ -133,9 +133,10 @@ class KeyRow(NamedTuple):
 
 @dataclass(frozen=True)
 class Entry:
-    """What one transaction did: its place in the log, the versions that it ended, the rows that it put. Numbers and times are 1 to 2^62,
-    the number at most the time (6); at most 1,024 ends and 1,024 rows and not neither (8); both rise strictly by table and key (7); each
-    ended version was born before the time (6). `Entry.of` sorts its lists; this takes them as they stand."""
+    """What one transaction did: its place in the log, the versions that it ended, the rows that it put. Numbers and
+    times are 1 to 2^62, the number at most the time (6); at most 1,024 ends and 1,024 rows and not neither (8); both
+    rise strictly by table and key (7); each ended version was born before the time (6). `Entry.of` sorts its lists;
+    this takes them as they stand."""
 
     log: int
     stream: int
@@ -168,16 +169,21 @@ class Entry:
                 raise TypeError(f"row must be a Row, and is {type(put.row).__name__}")
 
     @classmethod
-    def of(cls, log: int, stream: int, number: int, time: int, ends: Iterable[Ended] = (), rows: Iterable[Written] = ()) -> "Entry":
-        """An entry whose lists are put in order first: ends (table, key, born), rows (table, key, tag, body) or (table, key, Row)."""
+    def of(
+        cls, log: int, stream: int, number: int, time: int, ends: Iterable[Ended] = (), rows: Iterable[Written] = ()
+    ) -> "Entry":
+        """An entry whose lists are put in order first: ends (table, key, born), rows (table, key, tag, body) or (table,
+        key, Row)."""
         puts = [put_of(it) for it in rows]
         ended = [it if isinstance(it, VersionKey) else VersionKey(*it) for it in ends]
         return cls(log, stream, number, time, tuple(sorted(ended)), tuple(sorted(puts, key=lambda it: it[:2])))
 
     def line(self) -> str:
         """As `hkrep items` prints it."""
-        return (f"commit log {self.log} stream {self.stream} number {self.number} time {self.time} "
-                f"ends {len(self.ends)} rows {len(self.rows)}")
+        return (
+            f"commit log {self.log} stream {self.stream} number {self.number} time {self.time} "
+            f"ends {len(self.ends)} rows {len(self.rows)}"
+        )
 
 
 @dataclass(frozen=True)
@@ -205,7 +211,7 @@ Item = Union[Entry, Mark]
 
 @dataclass(frozen=True)
 class Front:
-    """From where to where can be read: the horizon, at most the readable mark (6)."""
+    """The range of readable times: `horizon`, the oldest, is at most `readable`, the resolved time (6)."""
 
     horizon: int
     readable: int
@@ -220,8 +226,9 @@ class Front:
 
 @dataclass(frozen=True)
 class Stream:
-    """What is known of one stream: `prefix`, the number up to which all entries are taken; `closed`, the time up to which marks close it;
-    `extra`, numbers taken above the prefix; `waiting`, marks (n, m) whose entries have not all come."""
+    """What is known of one stream: `prefix`, the number up to which all entries are taken; `closed`, the time up to
+    which marks close it; `extra`, numbers taken above the prefix; `waiting`, marks (n, m) whose entries have not all
+    come."""
 
     prefix: int = 0
     closed: int = 0
@@ -260,8 +267,8 @@ class Fact:
 
 @dataclass(frozen=True)
 class Fragment:
-    """A part of a log, as nodes send it to one another: what happened above `base` (0: the whole), with the horizon, each stream and the
-    facts, which rise by version (7). docs/FORMATS.md has the other rules (6)."""
+    """A part of a log, as nodes send it to one another: what happened above `base` (0: all of it), with the oldest
+    readable time, each stream and the facts, which rise by version (7). docs/FORMATS.md has the other rules (6)."""
 
     log: int
     base: int
@@ -277,9 +284,9 @@ class Fragment:
         time_of(self.base, "base")
         time_of(self.horizon, "horizon")
         if self.base != 0 and self.base < self.horizon:
-            raise Fault(6, place=f"base {self.base} is below the horizon {self.horizon}")
+            raise Fault(6, place=f"base {self.base} is below the oldest readable time {self.horizon}")
         if self.horizon > self.readable:
-            raise Fault(6, place=f"horizon {self.horizon} is above the closed time {self.readable}")
+            raise Fault(6, place=f"oldest readable time {self.horizon} is above the closed time {self.readable}")
         rising([it.version for it in self.facts], "fact of")
         for fact in self.facts:
             self._check(fact)
@@ -288,7 +295,11 @@ class Fragment:
         if fact.row is not None and fact.version.born <= self.base:
             raise Fault(6, place=f"{fact.version} has a row and is not born above the base {self.base}")
         if fact.died is not None and fact.died <= max(self.base, self.horizon):
-            raise Fault(6, place=f"died {fact.died} of {fact.version} is not above base {self.base} and horizon {self.horizon}")
+            raise Fault(
+                6,
+                place=f"died {fact.died} of {fact.version} is not above base {self.base} and oldest readable time "
+                f"{self.horizon}",
+            )
 
     @property
     def readable(self) -> int:
@@ -310,7 +321,7 @@ class FragmentHead:
     count: int
 
     def __post_init__(self) -> None:
-        number_in(self.count, 0, LAST_KEY, "facts of the whole")
+        number_in(self.count, 0, LAST_KEY, "facts of the fragment")
         bare = Fragment(self.log, self.base, self.horizon, self.streams)
         object.__setattr__(self, "streams", bare.streams)
 
@@ -327,6 +338,7 @@ class FragmentHead:
 
 
 # ---------------------------------------------------------------- questions and requests
+
 
 @dataclass(frozen=True)
 class Get:
@@ -363,7 +375,7 @@ class ByTag:
 
     def __post_init__(self) -> None:
         table_of(self.table)
-        number_in(self.tag, 0, 2 ** 32 - 1, "tag")
+        number_in(self.tag, 0, 2**32 - 1, "tag")
 
 
 @dataclass(frozen=True)
@@ -392,7 +404,7 @@ class Items:
 
 @dataclass(frozen=True)
 class AskFront:
-    """From where to where can be read?"""
+    """What is the range of readable times?"""
 
 
 @dataclass(frozen=True)
@@ -423,14 +435,14 @@ class Ask:
 
 @dataclass(frozen=True)
 class JoinThis:
-    """Take what a delta or a whole tells."""
+    """Take what a delta or a full snapshot has."""
 
     fragment: Fragment
 
 
 @dataclass(frozen=True)
 class MergeThis:
-    """Take what a whole tells, as the merge of two replicas; its base is 0 (6)."""
+    """Take what a full snapshot has, as the merge of two replicas; its base is 0 (6)."""
 
     fragment: Fragment
 
@@ -451,6 +463,7 @@ class Prune:
 
 # ---------------------------------------------------------------- requests of version 2
 
+
 def _facts_of(facts: Iterable[Fact]) -> Tuple[Fact, ...]:
     found = tuple(facts)
     rising([it.version for it in found], "fact of")
@@ -464,14 +477,15 @@ class AskStreams:
 
 @dataclass(frozen=True)
 class AskLatest:
-    """A question at the readable mark."""
+    """A question at the resolved time."""
 
     query: Query
 
 
 @dataclass(frozen=True)
 class AskPage:
-    """The rows of the keys from `low` to `high` at a time, by rising key, and so many of them at most (0 is refused 8)."""
+    """The rows of the keys from `low` to `high` at a time, by rising key, and so many of them at most (0 is refused
+    8)."""
 
     time: int
     table: int
@@ -489,24 +503,25 @@ class AskPage:
 
 @dataclass(frozen=True)
 class Whole:
-    """What happened since a base, or all that is held since 0, in parts of at most so many bytes of facts, or of one fact."""
+    """What happened since a base, or all that is held since 0, in chunks of at most so many bytes of facts, or of one
+    fact."""
 
     base: int = 0
     part_bytes: int = PART_BYTES
 
     def __post_init__(self) -> None:
         time_of(self.base, "base")
-        number_in(self.part_bytes, 0, MOST_ROWS, "bytes of a part")
+        number_in(self.part_bytes, 0, MOST_ROWS, "bytes of a chunk")
 
 
 @dataclass(frozen=True)
 class More:
-    """The next part."""
+    """The next chunk."""
 
 
 @dataclass(frozen=True)
 class AddPart:
-    """Keep these facts until the other parts and the head are there."""
+    """Keep these facts until the other chunks and the head are there."""
 
     facts: Tuple[Fact, ...]
 
@@ -516,15 +531,15 @@ class AddPart:
 
 @dataclass(frozen=True)
 class JoinParts:
-    """Take the fragment of this head and of all parts that were added. A node refuses it (8) where these have not as many facts as the head
-    tells."""
+    """Take the fragment of this head and of all chunks that were added. A node refuses it (8) where these have not as
+    many facts as the head says."""
 
     head: FragmentHead
 
 
 @dataclass(frozen=True)
 class MergeParts:
-    """Take the whole of them; the base of the head is 0 (6)."""
+    """Take the full snapshot of this head and of all chunks that were added; the base of the head is 0 (6)."""
 
     head: FragmentHead
 
@@ -535,7 +550,7 @@ class MergeParts:
 
 @dataclass(frozen=True)
 class AskHold:
-    """Keep a time readable."""
+    """Pin a time, so that it stays readable."""
 
     time: int
 
@@ -545,24 +560,27 @@ class AskHold:
 
 @dataclass(frozen=True)
 class Release:
-    """Let go the hold of this number."""
+    """Release the pinned time of this number."""
 
     number: int
 
     def __post_init__(self) -> None:
-        number_in(self.number, 1, LAST_KEY, "number of a hold")
+        number_in(self.number, 1, LAST_KEY, "number of a pin")
 
 
 @dataclass(frozen=True)
 class Feed(Items):
-    """Take these items, all or none, and tell how many of them were new."""
+    """Take these items, all or none, and report how many of them were new."""
 
 
-LaterRequest = Union[AskStreams, AskLatest, AskPage, Whole, More, AddPart, JoinParts, MergeParts, AskHold, Release, Feed]
+LaterRequest = Union[
+    AskStreams, AskLatest, AskPage, Whole, More, AddPart, JoinParts, MergeParts, AskHold, Release, Feed
+]
 Request = Union[Items, AskFront, Delta, Full, Ask, JoinThis, MergeThis, Prune, LaterRequest]
 
 
 # ---------------------------------------------------------------- replies
+
 
 @dataclass(frozen=True)
 class Done:
@@ -619,14 +637,16 @@ Answer = Union[One, Rows, Number]
 
 # ---------------------------------------------------------------- replies of version 2
 
+
 @dataclass(frozen=True)
 class LaterDone(Done):
-    """The same, told in version 2."""
+    """The same, in version 2."""
 
 
 @dataclass(frozen=True)
 class StreamTold:
-    """How far one stream is: its prefix, its closed time, and how many numbers above the prefix are taken and how many marks wait."""
+    """How far one stream is: its prefix, its closed time, and how many numbers above the prefix are taken and how many
+    marks wait."""
 
     prefix: int
     closed: int
@@ -641,7 +661,7 @@ class StreamTold:
 
 @dataclass(frozen=True)
 class Streams:
-    """How far a node is. `least_hold` is the least time that is held, None where no hold stands."""
+    """How far a node is. `least_hold` is the least pinned time, None where no time is pinned."""
 
     log: int
     horizon: int
@@ -657,19 +677,29 @@ class Streams:
         Front(self.horizon, self.readable)
         number_in(self.operations, 1, LAST_TIME, "operations")
         if self.least_hold is not None:
-            time_of(self.least_hold, "least hold")
+            time_of(self.least_hold, "least pinned time")
         number_in(len(self.streams), 1, MOST_STREAMS, "number of streams", 5)
 
     def line(self) -> str:
         held = "" if self.least_hold is None else f" held {self.least_hold}"
-        first = f"streams log {self.log} horizon {self.horizon} readable {self.readable} operations {self.operations}{held}{' damaged' * self.damaged}"
-        return "\n".join([first, *(f"stream {number} prefix {it.prefix} extra {it.extra} closed {it.closed} waiting {it.waiting}"
-                                   for number, it in enumerate(self.streams, 1))])
+        first = (
+            f"streams log {self.log} horizon {self.horizon} readable {self.readable} operations"
+            f" {self.operations}{held}{' damaged' * self.damaged}"
+        )
+        return "\n".join(
+            [
+                first,
+                *(
+                    f"stream {number} prefix {it.prefix} extra {it.extra} closed {it.closed} waiting {it.waiting}"
+                    for number, it in enumerate(self.streams, 1)
+                ),
+            ]
+        )
 
 
 @dataclass(frozen=True)
 class Latest:
-    """The readable mark, and the answer to a question at it."""
+    """The resolved time, and the answer to a question at it."""
 
     time: int
     answer: Answer
@@ -692,7 +722,12 @@ class Page:
         object.__setattr__(self, "rows", Rows(self.rows).rows)
 
     def line(self) -> str:
-        return "\n".join([*(f"{key} {row.line()}" for key, row in self.rows), f"page {len(self.rows)} {'more' if self.more else 'all'}"])
+        return "\n".join(
+            [
+                *(f"{key} {row.line()}" for key, row in self.rows),
+                f"page {len(self.rows)} {'more' if self.more else 'all'}",
+            ]
+        )
 
 
 @dataclass(frozen=True)
@@ -739,13 +774,13 @@ class Added:
 
 @dataclass(frozen=True)
 class Held:
-    """A hold's number, and the time that it keeps readable."""
+    """A pin's number, and the time that it keeps readable."""
 
     number: int
     time: int
 
     def __post_init__(self) -> None:
-        number_in(self.number, 1, LAST_KEY, "number of a hold")
+        number_in(self.number, 1, LAST_KEY, "number of a pin")
         time_of(self.time)
 
     def line(self) -> str:
@@ -754,7 +789,8 @@ class Held:
 
 @dataclass(frozen=True)
 class Fed:
-    """The number of the node's operations that ends with these items, 1 to 2^62, and how many of them told something new."""
+    """The number of the node's operations that ends with these items, 1 to 2^62, and how many of them had something
+    new."""
 
     operations: int
     new: int

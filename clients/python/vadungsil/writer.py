@@ -1,41 +1,82 @@
 """A writer of a log, for who has a primary of his own.
 
-Nothing of it is proved. A replica answers with the primary's rows where its items are those of one history (docs/DEFINITIONS.md); that the
-items that are written here are, is shown by tests alone. And whether what is handed in here is what the primary did, nobody sees but its
-owner."""
+Nothing of it is proved. A replica answers with the primary's rows where its items are those of one history
+(docs/DEFINITIONS.md); that the items that are written here are, is shown by tests alone. And whether what is handed in
+here is what the primary did, nobody sees but its owner."""
 from __future__ import annotations
 
-from typing import Any, Dict, Iterable, List, MutableMapping, Optional, Sequence, Tuple, Union
+from time import time_ns
+from typing import Any, Callable, Dict, Iterable, List, MutableMapping, Optional, Sequence, Tuple, Union
 
 from .errors import Fault, NotResumable, Refused
-from .values import (LAST_TIME, MOST_STREAMS, MOST_WRITES, Entry, Fragment, Mark, Put, Row, VersionKey, Written, key_of, number_in,
-                     put_of, table_of)
+from .values import (
+    LAST_TIME,
+    MOST_STREAMS,
+    MOST_WRITES,
+    Entry,
+    Fragment,
+    Item,
+    Mark,
+    Put,
+    Row,
+    VersionKey,
+    Written,
+    key_of,
+    number_in,
+    put_of,
+    table_of,
+)
 
 Place = Tuple[int, int]
+# whether times are those of a clock, or what gives the clock's microseconds
+Clock = Union[bool, Callable[[], int]]
+
+
+def clock_of(clock: Clock) -> Optional[Callable[[], int]]:
+    """What gives microseconds since 1970, or None where times are no clock's."""
+    if isinstance(clock, bool):
+        return _microseconds if clock else None
+    if not callable(clock):
+        raise TypeError(f"clock must be True, False or callable, and is {type(clock).__name__}")
+    return clock
+
+
+def _microseconds() -> int:
+    return time_ns() // 1_000
 
 
 class LogWriter:
     """Hands out numbers, births and, if wanted, times, and gives the entries and marks to send. One thread at a time.
 
-    It keeps for each row that is there the time of its birth: about 150 bytes a row. A transaction that is refused changes nothing."""
+    It keeps for each row that is there the time of its birth: about 150 bytes a row. A transaction that is refused
+    changes nothing.
 
-    def __init__(self, log: int, streams: int) -> None:
-        self.log = number_in(log, 0, 2 ** 64 - 1, "log")
+    With `clock=True` a commit without a time takes the clock's, in microseconds since 1970, or one above the last where
+    the clock stands still or fell: so where it was ahead, times go on from there till it has caught up. `clock` may be
+    what gives the microseconds: a whole number (`TypeError`) from 0 to 2^62 (6), asked at each such commit. Nodes know
+    nothing of a clock: they refuse 26 what is above the resolved time, which commits and `beat` move with their marks.
+    `TypeError`: `clock` is neither a bool nor callable.
+    """
+
+    def __init__(self, log: int, streams: int, *, clock: Clock = False) -> None:
+        self.log = number_in(log, 0, 2**64 - 1, "log")
         self.streams = number_in(streams, 1, MOST_STREAMS, "number of streams", 5)
         self.time = 0
+        self._clock = clock_of(clock)
         self._born: MutableMapping[Place, int] = {}
         self._numbers = [0] * streams
         self._retired = [False] * streams
 
     # ------------------------------------------------------------ writing
 
-    def commit(self, puts: Iterable[Written] = (), removes: Iterable[Place] = (), stream: int = 1,
-               time: Optional[int] = None) -> Optional[Entry]:
-        """The entry of a transaction: `puts` are (table, key, tag, body) or (table, key, Row), `removes` (table, key). Without a time it
-        is one above the last. None where nothing is written.
+    def commit(
+        self, puts: Iterable[Written] = (), removes: Iterable[Place] = (), stream: int = 1, time: Optional[int] = None
+    ) -> Optional[Entry]:
+        """The entry of a transaction: `puts` are (table, key, tag, body) or (table, key, Row), `removes` (table, key).
+        Without a time it is one above the last, or the clock's (`clock`). None where nothing is written.
 
-        Refused, in this order: 32 a key that is written twice, 33 a write after 1,024, 34 no such stream, 36 a retired one, 31 a removed
-        row that is not there, 35 no time is left, 6 a time that is not above the last."""
+        Refused, in this order: 32 a key that is written twice, 33 a write after 1,024, 34 no such stream, 36 a retired
+        one, 31 a removed row that is not there, 35 no time is left, 6 a time that is not above the last."""
         writes = self._writes(puts, removes)
         at = self._open(stream)
         for (table, key), row in sorted(writes.items(), key=lambda it: it[0]):
@@ -55,6 +96,21 @@ class LogWriter:
     def transaction(self, stream: int = 1, time: Optional[int] = None) -> "Transaction":
         """`with writer.transaction() as it:`, and `it.entry` behind the block."""
         return Transaction(self, stream, time)
+
+    def beat(self, table: int, key: int, tag: int = 0, stream: Optional[int] = None) -> List[Item]:
+        """Commits a row whose body is the time in decimal digits, and gives the entry and the marks of all streams that
+        are not retired: `node.items(log.beat(2, 1))`. So the resolved time moves while nothing else is written, and
+        an idle primary and a dead one differ. No mark is above this commit. Without a stream it is the first that is
+        not retired. Each call writes an entry, of which a node keeps the version till it is pruned.
+
+        Refused, with nothing changed: 34 no such stream, 36 a retired one, or all are, 35 no time is left, 6 a table, a
+        key, a tag or a clock outside its range."""
+        if stream is None:
+            stream = self._retired.index(False) + 1 if False in self._retired else 1
+        self._open(stream)
+        time = self._next(None)
+        entry = self.commit([(table, key, tag, str(time).encode())], stream=stream, time=time)
+        return [it for it in (entry, *self.marks()) if it is not None]
 
     def mark(self, stream: int) -> Mark:
         """The mark that closes a stream up to the last commit. 34 and 36 as above."""
@@ -111,7 +167,9 @@ class LogWriter:
         if self.time == LAST_TIME:
             raise Refused(35, place=f"time {self.time}")
         if time is None:
-            return self.time + 1
+            if self._clock is None:
+                return self.time + 1
+            return max(self.time + 1, number_in(self._clock(), 0, LAST_TIME, "microseconds of the clock"))
         if not self.time < time <= LAST_TIME:
             raise Fault(6, place=f"time {time} is not above the last, {self.time}, and at most 2^62")
         return time
@@ -124,26 +182,37 @@ class LogWriter:
     # ------------------------------------------------------------ going on
 
     @classmethod
-    def behind(cls, log: int, numbers: Sequence[int], time: int, born: MutableMapping[Place, int]) -> "LogWriter":
-        """A writer that goes on behind so many entries of each stream and behind a time, for who knows all of it: `born` has the time of
-        birth of each row that stands, is changed with each commit, and may be a map of the caller's own that takes less memory."""
+    def behind(
+        cls, log: int, numbers: Sequence[int], time: int, born: MutableMapping[Place, int], *, clock: Clock = False
+    ) -> "LogWriter":
+        """A writer that goes on behind so many entries of each stream and behind a time, for who knows all of it:
+        `born` has the time of birth of each row that stands, is changed with each commit, and may be a map of the
+        caller's own that takes less memory. `clock` as above.
+        """
         writer = cls(log, len(numbers))
+        writer._clock = clock_of(clock)
         writer._numbers = [number_in(it, 0, LAST_TIME, "entries of a stream") for it in numbers]
         writer.time = number_in(time, max(writer._numbers), LAST_TIME, "time")
         writer._born = born
         return writer
 
     @classmethod
-    def resume(cls, whole: Fragment) -> "LogWriter":
-        """A writer that goes on where a node's whole ends. The node must have taken **everything** that was written: what it lacks at the
-        end of a stream can't be seen here, and would be written a second time, with other rows (23 at every node that has the first).
-        `NotResumable` where something is seen to be missing: a part of the log, a gap, a mark that waits, an end without its row."""
+    def resume(cls, whole: Fragment, *, clock: Clock = False) -> "LogWriter":
+        """A writer that goes on where a node's whole ends. The node must have taken **everything** that was written:
+        what it lacks at the end of a stream can't be seen here, and would be written a second time, with other rows (23
+        at every node that has the first). `NotResumable` where something is seen to be missing: a part of the log, a
+        gap, a mark that waits, an end without its row. `clock` as above.
+        """
         if whole.base != 0:
-            raise NotResumable(f"a delta since {whole.base} is no whole")
+            raise NotResumable(f"a delta since {whole.base} is no full snapshot")
         writer = cls(whole.log, len(whole.streams))
+        writer._clock = clock_of(clock)
         for number, stream in enumerate(whole.streams, 1):
             if stream.extra or stream.waiting:
-                raise NotResumable(f"stream {number} has gaps: {len(stream.extra)} numbers above {stream.prefix}, {len(stream.waiting)} marks that wait")
+                raise NotResumable(
+                    f"stream {number} has gaps: {len(stream.extra)} numbers above {stream.prefix},"
+                    f" {len(stream.waiting)} marks that wait"
+                )
             writer._numbers[number - 1] = stream.prefix
             writer._retired[number - 1] = stream.closed == LAST_TIME
             if stream.closed < LAST_TIME:

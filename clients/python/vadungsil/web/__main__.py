@@ -12,13 +12,37 @@ from .server import Server
 
 
 def parser() -> argparse.ArgumentParser:
-    it = argparse.ArgumentParser(prog="python3 -m vadungsil.web", description="A page to look at nodes of Vadungsil, with /metrics and /api/. It only reads.")
-    it.add_argument("--node", action="append", default=[], metavar="ADDRESS", help="a node: HOST:PORT, tls://HOST:PORT, or a port of this machine; may be given again")
+    it = argparse.ArgumentParser(
+        prog="python3 -m vadungsil.web",
+        description="A page to look at nodes of Vadungsil, with /metrics and /api/. It only reads.",
+    )
+    it.add_argument(
+        "--node",
+        action="append",
+        default=[],
+        metavar="ADDRESS",
+        help="a node: HOST:PORT, tls://HOST:PORT, or a port of this machine; may be given again",
+    )
     add_certificates(it)
-    it.add_argument("--http", default="127.0.0.1:8080", metavar="HOST:PORT", help="where to listen (127.0.0.1:8080); port 0 takes a free one")
-    it.add_argument("--allow-host", action="append", default=[], metavar="NAME", help="a further Host that a request may name; may be given again")
-    it.add_argument("--limit", type=float, default=10.0, metavar="SECONDS", help="the most that a node's reply is waited for (10)")
-    it.add_argument("--every", type=float, default=1.0, metavar="SECONDS", help="from one look at the nodes to the next (1)")
+    it.add_argument(
+        "--http",
+        default="127.0.0.1:8080",
+        metavar="HOST:PORT",
+        help="where to listen (127.0.0.1:8080); port 0 takes a free one",
+    )
+    it.add_argument(
+        "--allow-host",
+        action="append",
+        default=[],
+        metavar="NAME",
+        help="a further Host that a request may name; may be given again",
+    )
+    it.add_argument(
+        "--limit", type=float, default=10.0, metavar="SECONDS", help="the most that a node's reply is waited for (10)"
+    )
+    it.add_argument(
+        "--every", type=float, default=1.0, metavar="SECONDS", help="from one look at the nodes to the next (1)"
+    )
     return it
 
 
@@ -37,7 +61,14 @@ def main(arguments: Optional[List[str]] = None) -> int:
     if not words.limit > 0 or not words.every >= 0.1:
         words_of.error("--limit is above 0, --every at least 0.1")
     try:
-        server = Server(words.node, listened(words.http), words.limit, words.every, words.allow_host, certificates=certificates_of(words))
+        server = Server(
+            words.node,
+            listened(words.http),
+            words.limit,
+            words.every,
+            words.allow_host,
+            certificates=certificates_of(words),
+        )
     except ValueError as error:
         words_of.error(str(error))
     except OSError as error:
@@ -48,6 +79,7 @@ def main(arguments: Optional[List[str]] = None) -> int:
 
 def run(server: Server) -> int:
     """Serves until Ctrl-C or SIGTERM."""
+
     def end(*_: Any) -> None:
         threading.Thread(target=server.shutdown, daemon=True).start()
 

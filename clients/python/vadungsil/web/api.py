@@ -1,4 +1,5 @@
-"""The answers of /api/: what nodes told, as JSON. Keys, times and all other numbers of 64 bits are texts of decimal digits."""
+"""The answers of /api/: what nodes reported, as JSON. Keys, times and all other 64-bit numbers are JSON strings of
+decimal digits."""
 from __future__ import annotations
 
 from concurrent.futures import ThreadPoolExecutor
@@ -19,30 +20,59 @@ class Unknown(KeyError):
 
 # ---------------------------------------------------------------- values
 
+
 def json_of_row(key: int, row: Row) -> Json:
     return {"key": str(key), "tag": row.tag, "body": row.body.hex()}
 
 
 def json_of_refusal(refused: Refused) -> Json:
-    return {"number": refused.number, "name": refused.name, "fields": {name: str(value) for name, value in refused.fields.items()},
-            "line": refused.line, "meaning": refused.meaning, "advice": refused.advice}
+    return {
+        "number": refused.number,
+        "name": refused.name,
+        "fields": {name: str(value) for name, value in refused.fields.items()},
+        "line": refused.line,
+        "meaning": refused.meaning,
+        "advice": refused.advice,
+    }
 
 
 def json_of_stream(stream: StreamState) -> Json:
-    return {"stream": stream.number, "prefix": str(stream.prefix), "closed": str(stream.closed), "extra": stream.extra, "waiting": stream.waiting,
-            "first_extra": [str(number) for number in stream.first_extra],
-            "first_waiting": [{"n": str(n), "m": str(m)} for n, m in stream.first_waiting],
-            "lag": str(stream.lag), "holds": stream.holds, "lacks": stream.lacks, "retired": stream.is_retired}
+    return {
+        "stream": stream.number,
+        "prefix": str(stream.prefix),
+        "closed": str(stream.closed),
+        "extra": stream.extra,
+        "waiting": stream.waiting,
+        "first_extra": [str(number) for number in stream.first_extra],
+        "first_waiting": [{"n": str(n), "m": str(m)} for n, m in stream.first_waiting],
+        "lag": str(stream.lag),
+        "holds": stream.holds,
+        "lacks": stream.lacks,
+        "retired": stream.is_retired,
+    }
 
 
 def json_of_node(watched: Watched) -> Json:
-    """How a node stands; horizon, readable mark and streams only where they are those of now."""
+    """How a node stands; oldest readable time, resolved time and streams only where they are those of now."""
     state, age = watched.state, watched.age
-    found: Json = {"node": watched.name, "up": state.up, "age": None if age is None else round(age, 1), "error": state.error,
-                   "damaged": state.damaged, "log": None if state.log is None else str(state.log),
-                   "refused": None if state.refused is None else json_of_refusal(state.refused), "horizon": None, "readable": None, "streams": []}
+    found: Json = {
+        "node": watched.name,
+        "up": state.up,
+        "age": None if age is None else round(age, 1),
+        "error": state.error,
+        "damaged": state.damaged,
+        "log": None if state.log is None else str(state.log),
+        "refused": None if state.refused is None else json_of_refusal(state.refused),
+        "horizon": None,
+        "readable": None,
+        "streams": [],
+    }
     if state.is_known:
-        found.update(horizon=str(state.horizon), readable=str(state.readable), streams=[json_of_stream(it) for it in state.streams])
+        found.update(
+            horizon=str(state.horizon),
+            readable=str(state.readable),
+            streams=[json_of_stream(it) for it in state.streams],
+        )
     return found
 
 
@@ -54,7 +84,11 @@ def window_of(states: List[State]) -> Optional[Json]:
 
 
 def json_of_found(found: Found) -> Json:
-    return {"count": str(found.count)} if found.count is not None else {"rows": [json_of_row(*it) for it in found.rows], "more": found.more}
+    return (
+        {"count": str(found.count)}
+        if found.count is not None
+        else {"rows": [json_of_row(*it) for it in found.rows], "more": found.more}
+    )
 
 
 def json_of_changes(before: Found, after: Found) -> Json:
@@ -62,11 +96,16 @@ def json_of_changes(before: Found, after: Found) -> Json:
 
     def row(key: int, it: Optional[Row]) -> Optional[Json]:
         return None if it is None else json_of_row(key, it)
-    told = [{"key": str(it.key), "what": it.what, "before": row(it.key, it.before), "after": row(it.key, it.after)} for it in changes]
+
+    told = [
+        {"key": str(it.key), "what": it.what, "before": row(it.key, it.before), "after": row(it.key, it.after)}
+        for it in changes
+    ]
     return {"changes": told, "until": None if until is None else str(until)}
 
 
 # ---------------------------------------------------------------- the calls
+
 
 class Api:
     """The calls of /api/ on these nodes."""
@@ -92,7 +131,10 @@ class Api:
 
     def stand(self) -> Json:
         """How all nodes stand, and the window that all can read."""
-        return {"nodes": [json_of_node(it) for it in self.nodes.values()], "window": window_of([it.state for it in self.nodes.values()])}
+        return {
+            "nodes": [json_of_node(it) for it in self.nodes.values()],
+            "window": window_of([it.state for it in self.nodes.values()]),
+        }
 
     def _chosen(self, words: Mapping[str, str]) -> List[Watched]:
         name = words.get("node", "")
@@ -119,11 +161,13 @@ class Api:
 
         def changed(it: Watched) -> Json:
             return json_of_changes(found_by(it, question, before), found_by(it, question, after))
+
         return self._all(chosen, question, {"from": str(before), "to": str(after)}, changed)
 
     def _latest(self, chosen: List[Watched]) -> int:
-        """The least readable mark of the nodes that tell theirs now."""
+        """The least resolved time of the nodes that report theirs now."""
         marks, told = [], []  # type: List[int], List[Exception]
+
         def front(it: Watched) -> Front:
             return it.ask("front", lambda node: node.front())
 
@@ -139,7 +183,11 @@ class Api:
     def _all(self, chosen: List[Watched], question: Question, times: Json, call: Callable[[Watched], Json]) -> Answer:
         """What each node says, and whether those that answered say the same (None where fewer than two did)."""
         answers = list(self._pool.map(lambda it: {"node": it.name, **_told(it, call)}, chosen))
-        contents = [{name: value for name, value in it.items() if name != "node"} for it in answers if "refused" not in it and "away" not in it]
+        contents = [
+            {name: value for name, value in it.items() if name != "node"}
+            for it in answers
+            if "refused" not in it and "away" not in it
+        ]
         equal = all(it == contents[0] for it in contents) if len(contents) > 1 else None
         status = 200 if contents else 422 if any("refused" in it for it in answers) else 503
         return status, {"question": question.as_json(), **times, "answers": answers, "equal": equal}

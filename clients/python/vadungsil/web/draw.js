@@ -14,7 +14,7 @@ function greatest(values, otherwise) {
   return values.reduce((one, other) => (one > other ? one : other), otherwise);
 }
 
-// The times that all pictures show: from the least horizon to the last mark of any stream that isn't retired, and a little beyond.
+// The times that all pictures show: from the least time that can be read to the last mark of any stream that isn't retired, and a little beyond.
 export function axisOf(nodes) {
   const known = nodes.filter((node) => node.horizon !== null);
   if (known.length === 0) return { from: 0n, to: 1n };
@@ -71,8 +71,8 @@ function drawWindow(axis, node, bottom) {
   const together = to - from < 150;
   return [part("rect", { x: from, y: TOP - 6, width: Math.max(to - from, 2), height: bottom - TOP + 6, class: "window" }),
     ...[from, to].map((x) => part("line", { x1: x, y1: TOP - 6, x2: x, y2: bottom, class: "edge" })),
-    part("text", { x: from, y: 14, class: "head" }, together ? `horizon ${node.horizon}, readable ${node.readable}` : `horizon ${node.horizon}`),
-    ...(together ? [] : [part("text", { x: to, y: 14, class: "head", "text-anchor": "end" }, `readable mark ${node.readable}`)])];
+    part("text", { x: from, y: 14, class: "head" }, together ? `readable from ${node.horizon} to ${node.readable}` : `oldest readable ${node.horizon}`),
+    ...(together ? [] : [part("text", { x: to, y: 14, class: "head", "text-anchor": "end" }, `resolved time ${node.readable}`)])];
 }
 
 // The picture of a node that is known, with the time that is looked at.
@@ -80,7 +80,7 @@ export function picture(node, axis, time) {
   const height = Math.max(8, Math.min(40, 360 / node.streams.length));
   const bottom = TOP + height * node.streams.length + 4;
   const svg = part("svg", { viewBox: `0 0 ${WIDTH} ${bottom + 22}`, role: "img",
-    "aria-label": `${node.node}: horizon ${node.horizon}, readable mark ${node.readable}; ${node.streams.map((it) => `stream ${it.stream} ${words(it)}`).join("; ")}` });
+    "aria-label": `${node.node}: oldest readable time ${node.horizon}, resolved time ${node.readable}; ${node.streams.map((it) => `stream ${it.stream} ${words(it)}`).join("; ")}` });
   svg.append(...drawWindow(axis, node, bottom));
   svg.append(part("line", { x1: LEFT, y1: bottom, x2: WIDTH - RIGHT, y2: bottom, class: "axis" }));
   for (const tick of ticks(axis)) svg.append(part("text", { x: placeOf(axis, tick), y: bottom + 16, class: "small", "text-anchor": "middle" }, String(tick)));

@@ -19,11 +19,20 @@ from .watch import Away
 MOST_LINE, MOST_HEAD, MOST_PARAMETERS = 2_048, 16_384, 16
 PIECE = 65_536
 JSON, TEXT = "application/json; charset=utf-8", "text/plain; charset=utf-8"
-POLICY = ("default-src 'none'; script-src 'self'; style-src 'self'; connect-src 'self'; img-src 'self'; base-uri 'none'; "
-          "form-action 'none'; frame-ancestors 'none'")
-HEADS = {"Content-Security-Policy": POLICY, "X-Content-Type-Options": "nosniff", "Referrer-Policy": "no-referrer", "X-Frame-Options": "DENY",
-         "Cross-Origin-Resource-Policy": "same-origin", "Cross-Origin-Opener-Policy": "same-origin", "Cache-Control": "no-store",
-         "Connection": "close"}
+POLICY = (
+    "default-src 'none'; script-src 'self'; style-src 'self'; connect-src 'self'; img-src 'self'; base-uri 'none'; "
+    "form-action 'none'; frame-ancestors 'none'"
+)
+HEADS = {
+    "Content-Security-Policy": POLICY,
+    "X-Content-Type-Options": "nosniff",
+    "Referrer-Policy": "no-referrer",
+    "X-Frame-Options": "DENY",
+    "Cross-Origin-Resource-Policy": "same-origin",
+    "Cross-Origin-Opener-Policy": "same-origin",
+    "Cache-Control": "no-store",
+    "Connection": "close",
+}
 
 
 class TooMuch(OSError):
@@ -46,7 +55,7 @@ class _Within(io.RawIOBase):
         if self._rest <= 0:
             raise TooMuch("the request is too long")
         self._connection.settimeout(left)
-        count = self._connection.recv_into(memoryview(buffer)[:self._rest])
+        count = self._connection.recv_into(memoryview(buffer)[: self._rest])
         self._rest -= count
         return count
 
@@ -65,7 +74,8 @@ class Handler(BaseHTTPRequestHandler):
         self.status = 0
 
     def finish(self) -> None:
-        """Closes; behind an error what the client still sends is dropped for a moment, so that it can read the answer."""
+        """Closes; behind an error what the client still sends is dropped for a moment, so that it can read the
+        answer."""
         super().finish()
         if self.status < 400:
             return
@@ -109,7 +119,10 @@ class Handler(BaseHTTPRequestHandler):
             self.say(400, "a request names its Host")
         elif self.headers["Host"].lower() not in self.server.hosts:
             self.say(421, "another Host than this server's: name it with --allow-host, if it is one")
-        elif self.headers.get("Sec-Fetch-Site") in ("cross-site", "same-site") and self.headers.get("Sec-Fetch-Mode") != "navigate":
+        elif (
+            self.headers.get("Sec-Fetch-Site") in ("cross-site", "same-site")
+            and self.headers.get("Sec-Fetch-Mode") != "navigate"
+        ):
             self.say(403, "asked by another site's page")
         else:
             self.routed()
@@ -128,14 +141,20 @@ class Handler(BaseHTTPRequestHandler):
         elif self.path == "/api/events":
             self.stream()
         elif self.path.startswith("/api/"):
-            self.called(parts.path[len("/api/"):], parts.query)
+            self.called(parts.path[len("/api/") :], parts.query)
         else:
             self.say(404, "there is nothing here")
 
     def called(self, name: str, query: str) -> None:
         """A call of /api/."""
         try:
-            pairs = parse_qsl(query, keep_blank_values=True, strict_parsing=bool(query), max_num_fields=MOST_PARAMETERS, errors="strict")
+            pairs = parse_qsl(
+                query,
+                keep_blank_values=True,
+                strict_parsing=bool(query),
+                max_num_fields=MOST_PARAMETERS,
+                errors="strict",
+            )
         except ValueError:
             self.say(400, "the parameters can't be read")
             return
@@ -189,7 +208,7 @@ class Handler(BaseHTTPRequestHandler):
         self.head(status, kind, len(data), more)
         if self.command != "HEAD":
             for at in range(0, len(data), PIECE):
-                self.wfile.write(data[at:at + PIECE])
+                self.wfile.write(data[at : at + PIECE])
 
     def send_json(self, status: int, value: Any) -> None:
         self.send(status, json.dumps(value, separators=(",", ":")).encode() + b"\n", JSON)

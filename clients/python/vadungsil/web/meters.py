@@ -1,4 +1,4 @@
-"""What the web server counts of one node: answers by kind with their times, refusals by number, links."""
+"""What the web server counts of one node: answers by kind with their times, refusals by number, connections."""
 from __future__ import annotations
 
 import threading
@@ -15,7 +15,7 @@ class Times(NamedTuple):
 
     within: Tuple[int, ...]
     total: float
-    count: int      # type: ignore[assignment]  # the tuple has a method of this name, which nobody calls
+    count: int  # type: ignore[assignment]  # the tuple has a method of this name, which nobody calls
 
 
 class Meters:
@@ -56,6 +56,6 @@ class Meters:
             return dict(sorted(self._refused.items()))
 
     def links(self) -> Tuple[int, int]:
-        """How many links were opened and answered, and how many tries or links failed."""
+        """How many connections were opened and answered, and how many tries or connections failed."""
         with self._lock:
             return self._opened, self._broken

@@ -57,7 +57,7 @@ function showMoment() {
     slider.value = String(isWide() ? ((inside - from) * STEPS) / span : inside - from);
     slider.setAttribute("aria-valuetext", `time ${at}`);
   }
-  $("window").textContent = state.window ? `window ${state.window.from} to ${state.window.to}` : "no time that all nodes can read";
+  $("window").textContent = state.window ? `all nodes can read ${state.window.from} to ${state.window.to}` : "no time that all nodes can read";
   $("follow").checked = state.at === "";
   if (document.activeElement !== $("at")) $("at").value = at === null ? "" : String(at);
   $("link").href = addressOf(at === null ? "" : String(at));
@@ -81,11 +81,11 @@ function nodeWords(node) {
 
 function nodeCard(node, axis) {
   const silent = node.up && node.age !== null && node.age > 3;
-  const said = !node.up ? "away" : node.damaged ? "damaged" : silent ? `silent for ${Math.round(node.age)} s` : "up";
+  const said = !node.up ? "away" : node.damaged ? "failed" : silent ? `silent for ${Math.round(node.age)} s` : "up";
   const card = make("article", { class: node.up ? "card" : "card away" }, make("div", { class: "title" }, make("h3", {}, node.node),
     make("span", { class: said === "up" ? "pill" : "pill no" }, said), make("span", { class: "soft" }, node.log === null ? "" : `log ${node.log}`)));
   card.dataset.node = node.node;
-  if (!node.up) card.append(make("p", { class: "trouble" }, `${node.error}; tried again until it is back`));
+  if (!node.up) card.append(make("p", { class: "trouble" }, `${node.error}; trying again until it is back`));
   else if (node.refused) card.append(refusal(node.refused));
   else card.append(picture(node, axis, time()), make("p", { class: "words" }, nodeWords(node)));
   return card;
@@ -115,7 +115,7 @@ function listen() {
   state.source = new EventSource("/api/events");
   state.source.onmessage = heard;
   state.source.onerror = () => {
-    live("the web server doesn't answer; it is tried again", true);
+    live("the web server doesn't answer; trying again", true);
     hush();
     state.retry = setTimeout(listen, 1000);
   };

@@ -9,15 +9,20 @@ from ..node import Node
 from ..values import LAST_KEY, LAST_TIME, KeyRow, Row
 from .watch import Watched
 
-LAST_TABLE, LAST_TAG = 2 ** 16 - 1, 2 ** 32 - 1
+LAST_TABLE, LAST_TAG = 2**16 - 1, 2**32 - 1
 FEW_ROWS, MOST_ROWS = 1_000, 10_000
 
 # The most bytes of bodies in an answer of one node.
-MOST_BYTES = 2 ** 22
+MOST_BYTES = 2**22
 
 # Of each question: the parameters with their greatest values, and what one that isn't there is.
 NUMBERS: Dict[str, Tuple[int, Optional[int]]] = {
-    "table": (LAST_TABLE, None), "key": (LAST_KEY, None), "low": (LAST_KEY, 0), "high": (LAST_KEY, LAST_KEY), "tag": (LAST_TAG, None)}
+    "table": (LAST_TABLE, None),
+    "key": (LAST_KEY, None),
+    "low": (LAST_KEY, 0),
+    "high": (LAST_KEY, LAST_KEY),
+    "tag": (LAST_TAG, None),
+}
 PARAMETERS = {"get": ("table", "key"), "range": ("table", "low", "high"), "tag": ("table", "tag"), "count": ("table",)}
 TIMES = ("at", "from", "to")
 
@@ -46,7 +51,7 @@ class Found(NamedTuple):
 
     rows: List[KeyRow]
     more: bool = False
-    count: Optional[int] = None      # type: ignore[assignment]  # as above all tuples have it
+    count: Optional[int] = None  # type: ignore[assignment]  # as above all tuples have it
 
 
 class Change(NamedTuple):
@@ -62,6 +67,7 @@ class Change(NamedTuple):
 
 
 # ---------------------------------------------------------------- reading an address
+
 
 def number_of(words: Mapping[str, str], name: str, most: int, otherwise: Optional[int] = None, least: int = 0) -> int:
     """The number of a parameter: decimal digits, in its range."""
@@ -91,6 +97,7 @@ def question_of(kind: str, words: Mapping[str, str], more: Tuple[str, ...] = ())
 
 
 # ---------------------------------------------------------------- asking
+
 
 def found_by(watched: Watched, question: Question, at: int) -> Found:
     """What a node answers."""
@@ -122,8 +129,9 @@ def _part(table: int, low: int, last: int, at: int, node: Node) -> List[KeyRow]:
 
 
 def _range(watched: Watched, question: Question, at: int) -> Found:
-    """The rows of a range. Where the table has more than are wanted it is asked in parts, from the lowest key on, so that no more is
-    fetched than about what is shown: a part is as wide as so many rows at first, and wider where the part before had few."""
+    """The rows of a range. Where the table has more than are wanted it is asked one range of keys at a time, from the
+    lowest key on, so that no more is fetched than about what is shown: a range is as wide as so many rows at first, and
+    wider where the one before had few."""
     table, low, high = question.table, question.numbers["low"], question.numbers["high"]
     most, width = question.most, min(question.most, FEW_ROWS)
     if high - low >= most and watched.ask("count", lambda node: node.count(table, at=at)) <= most:
@@ -148,8 +156,10 @@ def _range(watched: Watched, question: Question, at: int) -> Found:
 
 # ---------------------------------------------------------------- comparing
 
+
 def changes_between(before: Found, after: Found) -> Tuple[List[Change], Optional[int]]:
-    """What changed, by rising key, and up to which key that is known: None where all rows of both moments were looked at."""
+    """What changed, by rising key, and up to which key that is known: None where all rows of both moments were looked
+    at."""
     until = min((found.rows[-1].key for found in (before, after) if found.more and found.rows), default=None)
     old, new = ({key: row for key, row in found.rows if until is None or key <= until} for found in (before, after))
     keys = sorted(key for key in old.keys() | new.keys() if old.get(key) != new.get(key))

@@ -1,4 +1,5 @@
-"""The server: the page, /metrics, /api/ and the event stream over HTTP, within bounds. It answers GET and HEAD alone."""
+"""The server: the page, /metrics, /api/ and the event stream over HTTP, within bounds. It answers GET and HEAD
+alone."""
 from __future__ import annotations
 
 import json
@@ -17,16 +18,21 @@ from .watch import watched_by_name
 # Requests that are answered at once, and event streams among them.
 MOST_REQUESTS, MOST_STREAMS = 64, 16
 HERE = pathlib.Path(__file__).resolve().parent
-ASSETS = {"/": ("page.html", "text/html; charset=utf-8"), "/page.css": ("page.css", "text/css; charset=utf-8"),
-          "/page.js": ("page.js", "text/javascript; charset=utf-8"), "/draw.js": ("draw.js", "text/javascript; charset=utf-8"),
-          "/rows.js": ("rows.js", "text/javascript; charset=utf-8"), "/icon.svg": ("icon.svg", "image/svg+xml"),
-          "/api/openapi.json": ("openapi.json", "application/json; charset=utf-8")}
+ASSETS = {
+    "/": ("page.html", "text/html; charset=utf-8"),
+    "/page.css": ("page.css", "text/css; charset=utf-8"),
+    "/page.js": ("page.js", "text/javascript; charset=utf-8"),
+    "/draw.js": ("draw.js", "text/javascript; charset=utf-8"),
+    "/rows.js": ("rows.js", "text/javascript; charset=utf-8"),
+    "/icon.svg": ("icon.svg", "image/svg+xml"),
+    "/api/openapi.json": ("openapi.json", "application/json; charset=utf-8"),
+}
 
 
 def hosts_of(host: str, port: int, allowed: Iterable[str]) -> List[str]:
-    """What a request may say as its Host: the address that is listened on, the names of this machine where that is its loopback, and
-    what was allowed, which may be a proxy's and so goes without a port too. A page of another name that resolves to this address is
-    thereby kept out."""
+    """What a request may say as its Host: the address that is listened on, the names of this machine where that is its
+    loopback, and what was allowed, which may be a proxy's and so goes without a port too. A page of another name that
+    resolves to this address is thereby kept out."""
     names = {host}
     if host.startswith("127.") or host == "localhost":
         names |= {"127.0.0.1", "localhost"}
@@ -40,19 +46,35 @@ class Server(ThreadingHTTPServer):
 
     daemon_threads, allow_reuse_address, request_queue_size = True, True, 256
 
-    def __init__(self, nodes: List[Address], http: Tuple[str, int] = ("127.0.0.1", 8080), limit: float = 10.0, every: float = 1.0,
-                 allowed: Iterable[str] = (), patience: float = 10.0, certificates: Certificates = Certificates()) -> None:
-        """`limit`: seconds that a node's reply is waited for; `every`: seconds from one look at the nodes to the next; `patience`: seconds
-        in which a request has to come, and each piece of an answer has to go; `certificates` are for nodes at tls://HOST:PORT."""
+    def __init__(
+        self,
+        nodes: List[Address],
+        http: Tuple[str, int] = ("127.0.0.1", 8080),
+        limit: float = 10.0,
+        every: float = 1.0,
+        allowed: Iterable[str] = (),
+        patience: float = 10.0,
+        certificates: Certificates = Certificates(),
+    ) -> None:
+        """`limit`: seconds that a node's reply is waited for; `every`: seconds from one look at the nodes to the next;
+        `patience`: seconds in which a request has to come, and each piece of an answer has to go; `certificates` are
+        for nodes at tls://HOST:PORT.
+        """
         if not nodes:
             raise ValueError("no nodes")
         certificates.see(nodes)
         self._change = threading.Condition()
         self._changes = 0
-        self.nodes = watched_by_name(list(nodes), limit=limit, every=every, changed=self._note_change, certificates=certificates)
+        self.nodes = watched_by_name(
+            list(nodes), limit=limit, every=every, changed=self._note_change, certificates=certificates
+        )
         self.patience, self.every, self.ended = patience, every, threading.Event()
         self._free, self._streams = threading.BoundedSemaphore(MOST_REQUESTS), threading.BoundedSemaphore(MOST_STREAMS)
-        self._counts_lock, self._statuses, self.streams_open = threading.Lock(), {}, 0  # type: threading.Lock, Dict[int, int], int
+        self._counts_lock, self._statuses, self.streams_open = (
+            threading.Lock(),
+            {},
+            0,
+        )  # type: threading.Lock, Dict[int, int], int
         self.assets = {path: ((HERE / name).read_bytes(), kind) for path, (name, kind) in ASSETS.items()}
         super().__init__(http, Handler)
         self.api = Api(self.nodes)
@@ -111,14 +133,18 @@ class Server(ThreadingHTTPServer):
     def _turn_away(self, request: Any) -> None:
         try:
             request.settimeout(0.1)
-            request.sendall(b"HTTP/1.1 503 Service Unavailable\r\nContent-Length: 0\r\nRetry-After: 1\r\nConnection: close\r\n\r\n")
+            request.sendall(
+                b"HTTP/1.1 503 Service Unavailable\r\nContent-Length: 0\r\nRetry-After: 1\r\nConnection: close\r\n\r\n"
+            )
         except OSError:
             pass
         self.shutdown_request(request)
 
     def handle_error(self, request: Any, client_address: Any) -> None:
-        """A client that went away is no news; anything else is a fault of this program, and told as the library does."""
+        """A client that went away is passed over; anything else is a fault of this program, and is reported as the
+        library does."""
         import sys
+
         if not isinstance(sys.exc_info()[1], (OSError, ValueError)):
             super().handle_error(request, client_address)
 
@@ -155,7 +181,8 @@ class Server(ThreadingHTTPServer):
             self._change.notify_all()
 
     def events(self) -> Iterable[bytes]:
-        """What an event stream says: how the nodes stand, once a second, and at once where one goes away or comes back."""
+        """What an event stream says: how the nodes stand, once a second, and at once where one goes away or comes
+        back."""
         while not self.ended.is_set():
             with self._change:
                 seen = self._changes

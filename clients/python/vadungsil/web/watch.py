@@ -1,6 +1,7 @@
-"""One node as the web server sees it: one link, shared by all who ask, and what the node told last.
+"""One node as the web server sees it: one connection, shared by all who ask, and what the node reported last.
 
-A node without --stay gives out each of its links once, so the link is kept; where it breaks it is opened anew after a pause."""
+A node without --stay gives out each of its connection slots once, so the connection is kept; where it breaks it is
+opened anew after a pause."""
 from __future__ import annotations
 
 import threading
@@ -15,7 +16,8 @@ from .meters import Meters
 
 Result = TypeVar("Result")
 
-# Seconds from a broken link to the next try; after each further time limit it is twice as long, up to the second number.
+# Seconds from a broken link to the next try; after each further time limit it is twice as long, up to the second
+# number.
 PAUSE, LONGEST_PAUSE = 1.0, 30.0
 
 # Of the numbers above a gap, and of the marks that wait, so many are told; the counts are of all.
@@ -32,7 +34,8 @@ class Busy(Away):
 
 
 class StreamState(NamedTuple):
-    """How far one stream is. `lag` is how far it is behind the greatest closed time of the streams that aren't retired."""
+    """How far one stream is. `lag` is how far it is behind the greatest closed time of the streams that aren't
+    retired."""
 
     number: int
     prefix: int
@@ -50,12 +53,13 @@ class StreamState(NamedTuple):
 
     @property
     def lacks(self) -> str:
-        """What a stream that holds the node back lacks: entries where some came above a gap or marks wait, else marks."""
+        """What a stream that holds the node back lacks: entries where some came above a gap or marks wait, else
+        marks."""
         return ("entries" if self.extra or self.waiting else "marks") if self.holds else ""
 
 
 class State(NamedTuple):
-    """What a node told last. `damaged` is None until a node told."""
+    """What a node reported last. `damaged` is None until a node has replied."""
 
     up: bool = False
     error: str = "not asked yet"
@@ -68,12 +72,12 @@ class State(NamedTuple):
 
     @property
     def is_known(self) -> bool:
-        """Whether horizon, readable mark and streams are those of now."""
+        """Whether oldest readable time, resolved time and streams are those of now."""
         return self.up and self.refused is None
 
     @property
     def holders(self) -> List[StreamState]:
-        """The streams that hold the node back: closed only up to the readable mark, where another is closed further."""
+        """The streams holding the node back: closed only up to the resolved time, where another is closed further."""
         return [stream for stream in self.streams if stream.holds]
 
 
@@ -81,21 +85,39 @@ def stream_states(streams: Tuple[Stream, ...]) -> Tuple[StreamState, ...]:
     """The streams of a fragment, with what each is behind."""
     open_ones = [it.closed for it in streams if it.closed < LAST_TIME]
     greatest, least = max(open_ones, default=LAST_TIME), min(it.closed for it in streams)
-    return tuple(StreamState(number, it.prefix, it.closed, len(it.extra), len(it.waiting), it.extra[:SHOWN], it.waiting[:SHOWN],
-                             max(greatest - it.closed, 0), it.closed == least < greatest)
-                 for number, it in enumerate(streams, 1))
+    return tuple(
+        StreamState(
+            number,
+            it.prefix,
+            it.closed,
+            len(it.extra),
+            len(it.waiting),
+            it.extra[:SHOWN],
+            it.waiting[:SHOWN],
+            max(greatest - it.closed, 0),
+            it.closed == least < greatest,
+        )
+        for number, it in enumerate(streams, 1)
+    )
 
 
 def state_of(head: Fragment) -> State:
-    """The state that a delta without facts tells."""
+    """The state that a delta without facts reports."""
     return State(True, "", None, False, head.log, head.horizon, head.readable, stream_states(head.streams))
 
 
 class Watched:
-    """A node that is asked how it stands every so many seconds, by a thread of its own, and questions between. Threads may share it."""
+    """A node that is asked how it stands every so many seconds, by a thread of its own, and questions between. Threads
+    may share it."""
 
-    def __init__(self, address: Address, limit: float = 10.0, every: float = 1.0, changed: Optional[Callable[[], None]] = None,
-                 certificates: Certificates = Certificates()) -> None:
+    def __init__(
+        self,
+        address: Address,
+        limit: float = 10.0,
+        every: float = 1.0,
+        changed: Optional[Callable[[], None]] = None,
+        certificates: Certificates = Certificates(),
+    ) -> None:
         self.node = Node(address, limit, tries=1, wait=0.0, **certificates.of(address)._asdict())
         self.name, self.limit, self.every = self.node.name, limit, every
         self.meters = Meters()
@@ -115,7 +137,7 @@ class Watched:
         self._thread.start()
 
     def stop(self) -> None:
-        """Ends the watch, and closes the link unless a reply is still waited for on it."""
+        """Ends the watch, and closes the connection unless a reply is still waited for on it."""
         self._stop.set()
         if self._thread.is_alive():
             self._thread.join(1.0)
@@ -128,7 +150,8 @@ class Watched:
     # ------------------------------------------------------------ asking
 
     def ask(self, kind: str, call: Callable[[Node], Result]) -> Result:
-        """What the node replies, with its time in the meters. `Refused` is the node's; `Away` says that it can't be asked."""
+        """What the node replies, with its time in the meters. `Refused` is the node's; `Away` says that it can't be
+        asked."""
         if not self._lock.acquire(timeout=self.limit):
             raise Busy(f"{self.name}: busy with other questions for {self.limit:g} s")
         try:
