@@ -1,8 +1,9 @@
-"""Blocks: what one message of an engine has. A block is one or more whole item frames of one stream, one behind the other, with nothing
-between them; so a message of one frame is a block too. A block is told by two numbers: `last` is the number of its last entry (of the
-entry before it, where it has marks alone), `first` the number behind the last entry before it. Blocks of a stream follow one another
-where `first` is at most one above the `last` of before, and entry n stands in the first block whose `last` is n or more. Repeats are
-free. Standard library, and the package `vadungsil` of this checkout."""
+"""Blocks: what one message of an engine has. A block is one or more whole item frames of one stream, one behind the
+other, with nothing between them; so a message of one frame is a block too. A block is known by two numbers: `last` is
+the number of its last entry (of the entry before it, where it has marks alone), `first` the number behind the last
+entry before it. Blocks of a stream follow one another where `first` is at most one above the `last` of before, and
+entry n stands in the first block whose `last` is n or more. Repeats are free. Standard library, and the package
+`vadungsil` of this checkout."""
 from __future__ import annotations
 
 import struct
@@ -28,18 +29,23 @@ class Missing(Broken):
     """Entries that an engine no longer has: {stream: (from, to)}."""
 
     def __init__(self, engine: str, lacking: Dict[int, Tuple[int, int]]) -> None:
-        super().__init__(3, "; ".join(f"stream {stream}: entries {low} to {high} are no longer in {engine}"
-                                      for stream, (low, high) in sorted(lacking.items())))
+        super().__init__(
+            3,
+            "; ".join(
+                f"stream {stream}: entries {low} to {high} are no longer in {engine}"
+                for stream, (low, high) in sorted(lacking.items())
+            ),
+        )
         self.lacking = lacking
 
 
 class Block(NamedTuple):
     data: bytes
-    frames: int      # how many
+    frames: int  # how many
     first: int
     last: int
-    latest: int      # the greatest time that its entries and marks speak of
-    marked: int      # the greatest m of its marks, or 0
+    latest: int  # the greatest time that its entries and marks speak of
+    marked: int  # the greatest m of its marks, or 0
 
 
 class Framed(NamedTuple):
@@ -54,12 +60,18 @@ class Framed(NamedTuple):
 
 
 def walked(data: bytes, last: int, log: int, stream: int, name: str) -> Block:
-    """The block of a message of which the engine says that its last entry is `last`. Looks at the heads alone; 3 where it is no block of
-    this stream, or another one than the engine says."""
+    """The block of a message of which the engine says that its last entry is `last`. Looks at the heads alone; 3 where
+    it is no block of this stream, or another one than the engine says."""
     at, count, first, number, latest, marked, counted, size = 0, 0, 0, 0, 0, 0, 0, len(data)
     while at + 32 <= size:
         length, version, kind, its_log, its_stream, its_first, time = _HEAD(data, at)
-        if its_log != log or its_stream != stream or not LEAST_REST <= length <= MOST_REST or not 1 <= version <= 2 or not 1 <= kind <= 2:
+        if (
+            its_log != log
+            or its_stream != stream
+            or not LEAST_REST <= length <= MOST_REST
+            or not 1 <= version <= 2
+            or not 1 <= kind <= 2
+        ):
             break
         if kind == 1:
             if first and its_first != number + 1:
@@ -71,7 +83,9 @@ def walked(data: bytes, last: int, log: int, stream: int, name: str) -> Block:
             latest = time
         at, count = at + 4 + length, count + 1
     if at != size or not count:
-        raise Broken(3, f"{name} is no block of this stream: {reason(data[at:]) if at <= size else 'its last frame is cut off'}")
+        raise Broken(
+            3, f"{name} is no block of this stream: {reason(data[at:]) if at <= size else 'its last frame is cut off'}"
+        )
     if first and number != last:
         raise Broken(3, f"{name} is no block of this stream: its last entry is {number}, and it says {last}")
     first = first or last + 1
@@ -94,7 +108,7 @@ def frames_of(data: bytes) -> List[bytes]:
     """The frames of a block that was walked."""
     at, frames = 0, []
     while at < len(data):
-        end = at + 4 + int.from_bytes(data[at:at + 4], "big")
+        end = at + 4 + int.from_bytes(data[at : at + 4], "big")
         frames.append(data[at:end])
         at = end
     return frames
@@ -111,21 +125,22 @@ def time_of(frame: bytes) -> int:
 
 
 class Cutter:
-    """Cuts an input into frames, in pieces that come anyhow. Heads are held to the limits of docs/FORMATS.md, lists aren't looked at."""
+    """Cuts an input into frames, in pieces that come anyhow. Heads are held to the limits of docs/FORMATS.md, lists
+    aren't looked at."""
 
     def __init__(self) -> None:
         self.left, self.passed = b"", 0
 
     def cut(self, piece: bytes) -> List[Framed]:
         data, at, found = self.left + piece, 0, []
-        size, new = len(data), tuple.__new__      # in half the time of Framed(..)
+        size, new = len(data), tuple.__new__  # in half the time of Framed(..)
         while at + 32 <= size:
             length, version, kind, log, stream, first, second = _HEAD(data, at)
             end = at + 4 + length
             is_entry = kind == 1
             is_framed = LEAST_REST <= length <= MOST_REST and 1 <= version <= 2 and 1 <= kind <= 2
             if not is_framed or not is_entry <= first <= second <= LAST_TIME or not 1 <= stream <= 64:
-                self.fault(data[at:at + 32], length)
+                self.fault(data[at : at + 32], length)
             if end > size:
                 break
             found.append(new(Framed, (is_entry, log, stream, first, second, data[at:end])))
@@ -149,8 +164,8 @@ class Cutter:
 
 
 class Line:
-    """The frames of one stream on their way: in any order, late and twice; an entry waits for those before it, a mark for those that it
-    counts."""
+    """The frames of one stream on their way: in any order, late and twice; an entry waits for those before it, a mark
+    for those that it counts."""
 
     def __init__(self, number: int, marked: int) -> None:
         self.next, self.marked = number + 1, marked
@@ -166,7 +181,7 @@ class Line:
         elif number > self.next:
             self.put_early(one)
         else:
-            self.ready.append(one)            # one below the next is there already: it is compared
+            self.ready.append(one)  # one below the next is there already: it is compared
             self.size += len(frame)
             if number == self.next:
                 self.next = number + 1

@@ -1,5 +1,5 @@
-"""What the demonstrations of all connectors share: a primary's log with the rows that it has at some times, nodes, and the table at the
-end."""
+"""What the demonstrations of all connectors share: a primary's log with the rows that it has at some times, nodes, and
+the table at the end."""
 from __future__ import annotations
 
 import pathlib
@@ -35,7 +35,8 @@ class Demonstration:
         self.begin, self.said = time.monotonic(), tempfile.TemporaryFile()
 
     def start(self, *words: Any, **more: Any) -> "subprocess.Popen[bytes]":
-        child = subprocess.Popen([str(word) for word in words], **{"stdout": subprocess.DEVNULL, "stderr": self.said, **more})
+        options: Dict[str, Any] = {"stdout": subprocess.DEVNULL, "stderr": self.said, **more}
+        child: "subprocess.Popen[bytes]" = subprocess.Popen([str(word) for word in words], **options)
         self.children.append(child)
         return child
 
@@ -44,7 +45,11 @@ class Demonstration:
         codes = [child.wait(300) for child in children]
         if any(codes):
             self.said.seek(0)
-            print(f"a connector failed, statuses {codes}; what was said:", self.said.read().decode(errors="replace")[-2000:], sep="\n")
+            print(
+                f"a connector failed, statuses {codes}; what was said:",
+                self.said.read().decode(errors="replace")[-2000:],
+                sep="\n",
+            )
         return not any(codes)
 
     def end(self) -> None:
@@ -77,15 +82,16 @@ class Demonstration:
 
 
 def log_of(count: int, wanted: Dict[int, Rows]) -> Iterator[Tuple[int, bytes]]:
-    """A primary's log, a transaction of two writes at a time, with marks after each twentieth; fills `wanted` with the rows at its
-    times."""
+    """A primary's log, a transaction of two writes at a time, with marks after each twentieth; fills `wanted` with the
+    rows at its times."""
     rand, writer = random.Random(7), LogWriter(7, STREAMS)
     rows: Rows = {}
     for at in range(1, count + 1):
         account, other = rand.sample(range(ACCOUNTS), 2)
         put = {account: b"%d" % rand.randrange(1000), other: b"%d" % rand.randrange(1000)}
         rows.update(put)
-        piece = encode(writer.commit([(1, key, 0, body) for key, body in put.items()], stream=rand.randint(1, STREAMS)))
+        entry = writer.commit([(1, key, 0, body) for key, body in put.items()], stream=rand.randint(1, STREAMS))
+        piece = encode(entry) if entry else b""
         if at in wanted:
             wanted[at] = dict(rows)
         if at % 20 == 0 or at == count:

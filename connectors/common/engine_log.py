@@ -1,5 +1,5 @@
-"""What a connector asks of an engine, and what is so on each of them: how far a stream of the log is there, and whether an entry that is
-published again is the one that stands there."""
+"""What a connector asks of an engine, and what is so on each of them: how far a stream of the log is there, and whether
+an entry that is published again is the one that stands there."""
 from __future__ import annotations
 
 import abc
@@ -16,12 +16,13 @@ class Moved(Exception):
 
 
 class Behind(Exception):
-    """The engine has less than it had. A server that was cut off answers so, and doesn't know it: a later try may find all."""
+    """The engine has less than it had. A server that was cut off answers so, and doesn't know it: a later try may find
+    all."""
 
 
 class Tail(NamedTuple):
-    """How far a stream is: the place behind which the next block stands, the last entry, the greatest time that is closed or taken, and the
-    greatest m of its last marks, or 0."""
+    """How far a stream is: the place behind which the next block stands, the last entry, the greatest time that is
+    closed or taken, and the greatest m of its last marks, or 0."""
 
     place: Any
     number: int
@@ -30,17 +31,17 @@ class Tail(NamedTuple):
 
 
 class EngineLog(abc.ABC):
-    """The streams 1 to `streams` of a log in an engine. A place is what the engine knows a message by; places of a stream rise. Calls
-    raise one of `errors`; `is_passing` says whether to try again, after `drop`."""
+    """The streams 1 to `streams` of a log in an engine. A place is what the engine knows a message by; places of a
+    stream rise. Calls raise one of `errors`; `is_passing` says whether to try again, after `drop`."""
 
     engine = ""
     errors: Tuple[Type[Exception], ...] = ()
-    block_bytes = BLOCK_BYTES      # how much a message has, where nothing else is asked for
-    at_once = 16 * BLOCK_BYTES     # how many bytes a publisher appends in one go while more input waits
+    block_bytes = BLOCK_BYTES  # how much a message has, where nothing else is asked for
+    at_once = 16 * BLOCK_BYTES  # how many bytes a publisher appends in one go while more input waits
 
     def __init__(self, log: int, streams: int) -> None:
         self.log, self.streams = log, streams
-        self.seen: Dict[int, Dict[int, bytes]] = {}      # the entries of the block of each stream that was looked at last
+        self.seen: Dict[int, Dict[int, bytes]] = {}  # the entries of the block of each stream that was looked at last
 
     @abc.abstractmethod
     def is_passing(self, error: BaseException) -> bool:
@@ -48,7 +49,7 @@ class EngineLog(abc.ABC):
 
     @abc.abstractmethod
     def drop(self) -> None:
-        """Gives up the link to the engine; the next call opens another."""
+        """Gives up the connection to the engine; the next call opens another."""
 
     @abc.abstractmethod
     def key(self, stream: int) -> str:
@@ -61,7 +62,8 @@ class EngineLog(abc.ABC):
 
     @abc.abstractmethod
     def end(self, stream: int) -> Tuple[Any, int, Iterator[Block]]:
-        """The place of the last message, the number of the last entry, and some of the last blocks, from the last one on."""
+        """The place of the last message, the number of the last entry, and some of the last blocks, from the last one
+        on."""
 
     @abc.abstractmethod
     def last(self, stream: int) -> int:
@@ -83,15 +85,16 @@ class EngineLog(abc.ABC):
     def append(self, stream: int, behind: Any, blocks: List[Block], kept: Callable[[int], None]) -> Any:
         """Adds blocks behind the last message, which stands at `behind`, else `Moved`; says the last entry of each
         block, in their order, once that is kept as was asked for, and gives the place of the last one. May return while
-        blocks are on their way: what becomes of them is told by later calls for any stream, up to `settle`; after an
-        error or `Moved`, never."""
+        blocks are on their way: what becomes of them is reported by later calls for any stream, up to `settle`; after
+        an error or `Moved`, never."""
 
     def settle(self) -> None:
         """Waits for what is on its way."""
 
     @abc.abstractmethod
     def reading(self, prefixes: Dict[int, int], batch: int) -> "Reading":
-        """Reads these streams from the blocks on that have these entries, at most so many blocks of a stream at once."""
+        """Reads these streams from the blocks on that have these entries, at most so many blocks of a stream at
+        once."""
 
     def tail(self, stream: int) -> Tail:
         place, number, blocks = self.end(stream)
@@ -102,7 +105,7 @@ class EngineLog(abc.ABC):
             has_entry = has_entry or block.last >= block.first
             if marked:
                 break
-        if number and not has_entry:      # marks alone, which needn't count the last entry
+        if number and not has_entry:  # marks alone, which needn't count the last entry
             found = self.holding(stream, number)
             frame = entries_of(found.data).get(number) if found else None
             latest = max(latest, time_of(frame)) if frame else latest
@@ -111,8 +114,8 @@ class EngineLog(abc.ABC):
     # ------------------------------------------------------------ comparing
 
     def entry(self, stream: int, number: int) -> Optional[bytes]:
-        """An entry up to the last one; None where it was trimmed: it is below the first that is there, and so many messages are gone as
-        would hold what lacks. 3 where it isn't there otherwise."""
+        """An entry up to the last one; None where it was trimmed: it is below the first that is there, and so many
+        messages are gone as would hold what lacks. 3 where it isn't there otherwise."""
         if number not in self.seen.get(stream, {}):
             block = self.holding(stream, number)
             self.seen[stream] = entries_of(block.data) if block else {}
@@ -121,14 +124,18 @@ class EngineLog(abc.ABC):
                 if number < first and (gone is None or first - 1 <= gone * BLOCK_FRAMES):
                     return None
                 upto = block.first - 1 if block else self.last(stream)
-                raise Broken(3, f"stream {stream}: entries {number} to {upto} are not in {self.key(stream)} and were not trimmed, "
-                                "and there are higher ones: they were deleted, or something else writes to this stream")
+                raise Broken(
+                    3,
+                    f"stream {stream}: entries {number} to {upto} are not in {self.key(stream)} and were not trimmed, "
+                    "and there are higher ones: they were deleted, or something else writes to this stream",
+                )
         return self.seen[stream][number]
 
     def checked(self, frames: List[Framed], tail: Tail, added: Dict[int, bytes]) -> Tuple[List[Framed], Tail, int, int]:
-        """What of these frames is new behind the tail, the tail behind that, how many were there, and how many were there once. Raises
-        where the log forks (2) or entries lack (3). Frames of one stream, each entry at most one above those before it.
-        `added` has the entries up to the tail that are on their way to the engine, and gets the new ones."""
+        """What of these frames is new behind the tail, the tail behind that, how many were there, and how many were
+        there once. Raises where the log forks (2) or entries lack (3). Frames of one stream, each entry at most one
+        above those before it. `added` has the entries up to the tail that are on their way to the engine, and gets the
+        new ones."""
         place, number, latest, marked = tail
         new: List[Framed] = []
         gone = 0
@@ -136,12 +143,18 @@ class EngineLog(abc.ABC):
             is_entry, _, stream, first, time, frame = one
             if is_entry and first == number + 1:
                 if time <= latest:
-                    raise Broken(2, f"stream {stream}: entry {first} is of a time that the entries or marks before it have closed")
+                    raise Broken(
+                        2,
+                        f"stream {stream}: entry {first} is of a time that the entries or marks before it have closed",
+                    )
                 number, latest, added[first] = first, time, frame
                 new.append(one)
             elif first > number:
-                raise Broken(3, f"stream {stream}: {self.engine} has entries to {number} only, and had more: it lost its tail. "
-                                f"Start again with the log from entry {number + 1} at the latest")
+                raise Broken(
+                    3,
+                    f"stream {stream}: {self.engine} has entries to {number} only, and had more: it lost its tail. "
+                    f"Start again with the log from entry {number + 1} at the latest",
+                )
             elif is_entry:
                 gone += self.compare(one, added)
             elif time > marked:
@@ -154,13 +167,16 @@ class EngineLog(abc.ABC):
         """2 where an entry is another than the one that is there, or is about to be; whether it is there no more."""
         there = added.get(one.first) or self.entry(one.stream, one.first)
         if there is not None and there != one.frame:
-            raise Broken(2, f"stream {one.stream}: entry {one.first} in {self.engine} is another: this log is not the one that was "
-                            "published before")
+            raise Broken(
+                2,
+                f"stream {one.stream}: entry {one.first} in {self.engine} is another: this log is not the one that was "
+                "published before",
+            )
         return there is None
 
     def try_mark(self, one: Framed, added: Dict[int, bytes], number: int) -> None:
-        """2 where a mark isn't true of the entries beside it: the entries up to m are the first n, so entry n is not later, and the next
-        one is."""
+        """2 where a mark isn't true of the entries beside it: the entries up to m are the first n, so entry n is not
+        later, and the next one is."""
         own = behind = None
         if 0 < one.first <= number:
             own = added.get(one.first) or self.entry(one.stream, one.first)
@@ -183,14 +199,16 @@ class Reading(abc.ABC):
 
 
 def add_log_words(words: argparse.ArgumentParser) -> None:
-    words.error = lambda text: words.exit(USAGE, f"{words.format_usage()}{words.prog}: {text}\n")  # type: ignore[method-assign]
+    setattr(words, "error", lambda text: words.exit(USAGE, f"{words.format_usage()}{words.prog}: {text}\n"))
     words.add_argument("--log", type=int, required=True, help="the id of the log")
     words.add_argument("--streams", type=int, required=True, help="how many streams the log has, 1 to 64")
-    words.add_argument("--cacert", metavar="FILE", help="the certificates that may sign a server's, where TLS is spoken")
+    words.add_argument(
+        "--cacert", metavar="FILE", help="the certificates that may sign a server's, where TLS is spoken"
+    )
     words.add_argument("--cert", metavar="FILE", help="our certificate, where the server asks for one")
     words.add_argument("--key", metavar="FILE", help="the key of our certificate")
 
 
 def see_log(said: argparse.Namespace, words: argparse.ArgumentParser) -> None:
-    if not 1 <= said.streams <= 64 or not 0 <= said.log < 2 ** 64:
+    if not 1 <= said.streams <= 64 or not 0 <= said.log < 2**64:
         words.error("a log has an id below 2^64 and 1 to 64 streams")

@@ -1,5 +1,5 @@
-"""The node's side of any connector: a link that is fed ahead of its replies, and what one that waits says. Standard library, and the
-package `vadungsil` of this checkout."""
+"""The node's side of any connector: a connection that is fed ahead of its replies, and what one that waits says.
+Standard library, and the package `vadungsil` of this checkout."""
 from __future__ import annotations
 
 import argparse
@@ -14,15 +14,41 @@ _PACKAGE = pathlib.Path(__file__).resolve().parents[2] / "clients" / "python"
 if _PACKAGE.is_dir():
     sys.path.insert(0, str(_PACKAGE))
 
-from vadungsil.errors import Fault, LinkBroken, Refused, TimeLimit       # noqa: E402, F401
-from vadungsil.items import LEAST_REST, MOST_REST, decode, head_of       # noqa: E402, F401
-from vadungsil.link import Address, Certificates, Link, add_certificates, address_of, certificates_of, security_of      # noqa: E402
-from vadungsil.messages import MOST_ITEMS, MOST_MESSAGE, encode_request, framed      # noqa: E402
-from vadungsil.requests import FRONT, FULL, read_done, read_fragment, read_front      # noqa: E402
-from vadungsil.values import LAST_TIME, Delta, Front, Stream      # noqa: E402
+from vadungsil.errors import Fault, LinkBroken, Refused, TimeLimit  # noqa: E402, F401
+from vadungsil.items import LEAST_REST, MOST_REST, decode, head_of  # noqa: E402, F401
+from vadungsil.link import (
+    Address,
+    Certificates,
+    Link,
+    add_certificates,
+    address_of,
+    certificates_of,
+    security_of,
+)  # noqa: E402
+from vadungsil.messages import MOST_ITEMS, MOST_MESSAGE, encode_request, framed  # noqa: E402
+from vadungsil.requests import FRONT, FULL, read_done, read_fragment, read_front  # noqa: E402
+from vadungsil.values import LAST_TIME, Delta, Front, Stream  # noqa: E402
 
 if TYPE_CHECKING:
     from blocks import Block
+
+# what the package has that connectors take from here, beside what stands below
+__all__ = [
+    "LAST_TIME",
+    "LEAST_REST",
+    "MOST_REST",
+    "Address",
+    "Certificates",
+    "Fault",
+    "Feed",
+    "LinkBroken",
+    "Patience",
+    "Refused",
+    "Stream",
+    "TimeLimit",
+    "decode",
+    "head_of",
+]
 
 # How many bytes of items go into one request: a node takes these in less of its time than longer ones.
 MOST_BYTES = 100_000
@@ -31,10 +57,17 @@ _ITEMS = struct.Struct(">IBBI").pack
 
 
 class Feed(Link):
-    """One link to a node, over which items are sent a few requests ahead of their replies. After `LinkBroken` it is of no more use: who
-    comes again opens another, and asks the node anew how far it is (it may be another node by then)."""
+    """One connection to a node, over which items are sent a few requests ahead of their replies. After `LinkBroken` it
+    is of no more use: who comes again opens another, and asks the node anew how far it is (it may be another node by
+    then)."""
 
-    def __init__(self, address: Address, limit: Optional[float] = 60.0, ahead: int = 4, certificates: Certificates = Certificates()) -> None:
+    def __init__(
+        self,
+        address: Address,
+        limit: Optional[float] = 60.0,
+        ahead: int = 4,
+        certificates: Certificates = Certificates(),
+    ) -> None:
         super().__init__(address_of(address), limit, 0.0, security_of(address, certificates))
         self.replies = self.socket.makefile("rb")
         self.ahead, self.waiting = ahead, []  # type: int, List[str]
@@ -47,12 +80,15 @@ class Feed(Link):
     # ------------------------------------------------------------ items
 
     def send_blocks(self, blocks: Sequence[Block], name: str = "items") -> None:
-        """Sends blocks as they are, some to a request; waits for replies only while `ahead` requests have none. What the node refuses is
-        raised with the name of the request, by this call or a later one. 42 isn't raised: the change stands."""
+        """Sends blocks as they are, some to a request; waits for replies only while `ahead` requests have none. What
+        the node refuses is raised with the name of the request, by this call or a later one. 42 isn't raised: the
+        change stands."""
         parts: List[bytes] = []
         count = size = 0
         for block in blocks:
-            for data, frames in [(block.data, block.frames)] if len(block.data) <= MOST_BYTES else pieces_of(block.data):
+            for data, frames in (
+                [(block.data, block.frames)] if len(block.data) <= MOST_BYTES else pieces_of(block.data)
+            ):
                 if parts and (count + frames > MOST_ITEMS or size + len(data) > MOST_BYTES):
                     self._send_items(parts, count, size, name)
                     parts, count, size = [], 0, 0
@@ -86,13 +122,14 @@ class Feed(Link):
         return read_front(self._ask(FRONT))
 
     def streams(self) -> Tuple[Stream, ...]:
-        """How far each stream is, by a delta, which each node answers: Streams wants one that reads messages of version 2. It tells that at
-        its head, and where its base is the last time of all it has no facts behind: 36 bytes and 24 a stream, 8 for each extra number and
-        16 for each waiting mark."""
+        """How far each stream is, by a delta, which each node answers: Streams wants one that reads messages of version
+        2. It has that at its head, and where its base is the last time of all it has no facts behind: 36 bytes and 24 a
+        stream, 8 for each extra number and 16 for each waiting mark."""
         return read_fragment(self._ask(encode_request(Delta(LAST_TIME)))).streams
 
     def facts_since(self, base: int) -> bytes:
-        """The body of the fragment since a base, for another node's `join_facts`; of the whole, where the node can't say it since then."""
+        """The body of the fragment since a base, for another node's `join_facts`; of the full snapshot, where the node
+        can't say it since then."""
         rest = self._ask(encode_request(Delta(base)))
         if rest[1] == 36:
             rest = self._ask(FULL)
@@ -135,7 +172,7 @@ class Feed(Link):
         except OSError as error:
             raise LinkBroken(f"{self.name}: {error}") from error
         if len(data) < size:
-            raise LinkBroken(f"{self.name}: the node ended the link")
+            raise LinkBroken(f"{self.name}: the node ended the connection")
         return data
 
     def _over_time(self) -> TimeLimit:
@@ -146,7 +183,7 @@ def pieces_of(data: bytes) -> Iterator[Tuple[bytes, int]]:
     """The frames of a long block, as many at once as go into a request, and how many these are."""
     start = at = count = 0
     while at < len(data):
-        end = at + 4 + int.from_bytes(data[at:at + 4], "big")
+        end = at + 4 + int.from_bytes(data[at : at + 4], "big")
         if count and end - start > MOST_BYTES:
             yield data[start:at], count
             start, count = at, 0
@@ -161,7 +198,9 @@ def short(text: str) -> str:
 
 def add_node_words(words: argparse.ArgumentParser, more: str, **options: Any) -> None:
     """Nodes, and the certificates for those at tls://HOST:PORT: those of the engine are others."""
-    words.add_argument("--node", action="append", metavar="ADDRESS", help=f"PORT, HOST:PORT or tls://HOST:PORT of {more}", **options)
+    words.add_argument(
+        "--node", action="append", metavar="ADDRESS", help=f"PORT, HOST:PORT or tls://HOST:PORT of {more}", **options
+    )
     add_certificates(words, "node-")
 
 
@@ -173,7 +212,8 @@ def node_certificates(said: argparse.Namespace) -> Certificates:
 
 
 class Patience:
-    """Waits after failures, each time twice as long, from 50 ms to 5 s; and says on standard error why, once for each reason in a row."""
+    """Waits after failures, each time twice as long, from 50 ms to 5 s; and says on standard error why, once for each
+    reason in a row."""
 
     def __init__(self, name: str) -> None:
         self.name, self.pause, self.said = name, 0.05, ""

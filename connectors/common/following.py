@@ -1,19 +1,19 @@
-"""The follower, over any engine: what `follow` does of each connector. It keeps no cursor: at its start, and after each link that broke,
-it asks the nodes how far each stream is, and reads from there."""
+"""The follower, over any engine: what `follow` does of each connector. It keeps no cursor: at its start, and after each
+connection that broke, it asks the nodes how far each stream is, and reads from there."""
 from __future__ import annotations
 
 import argparse
 import time
-from typing import Any, Dict, List, Optional, Tuple
+from typing import Any, Dict, List, Optional, Tuple, Type
 
 from blocks import Block, Broken, Missing, entries_of
 from engine_log import Behind, EngineLog, Reading
 from feeding import Certificates, Fault, Feed, LinkBroken, Patience, Refused, add_node_words, node_certificates
 from vadungsil.node import Node
 
-STATUSES = """status: 0 as far as was asked for; 1 a failure, with --once, or ENGINE refuses; 2 the log forks: ENGINE has another
-entry than a node was fed; 3 entries lack that ENGINE had, or its messages are no blocks of the log; 4 a node refuses the items; 64 the
-words of the command line."""
+STATUSES = """status: 0 as far as was asked for; 1 a failure, with --once, or ENGINE refuses; 2 the log forks:
+ENGINE has another entry than a node was fed; 3 entries lack that ENGINE had, or its messages are no blocks of the
+log; 4 a node refuses the items; 64 the words of the command line."""
 
 
 MOST_A_STREAM = 256
@@ -24,13 +24,13 @@ class SourceAway(Exception):
 
 
 class Fed:
-    """A node that is fed, over one link while it and this program live."""
+    """A node that is fed, over one connection while it and this program live."""
 
     def __init__(self, address: str, ahead: int, certificates: Certificates = Certificates()) -> None:
         self.address, self.ahead, self.certificates = address, ahead, certificates
         self.feed: Optional[Feed] = None
-        self.prefixes: Dict[int, int] = {}       # what it had when it was last asked
-        self.sent: Dict[int, Any] = {}           # the last place of each stream that went over this link
+        self.prefixes: Dict[int, int] = {}  # what it had when it was last asked
+        self.sent: Dict[int, Any] = {}  # the last place of each stream that went over this link
 
     def link(self) -> Feed:
         if self.feed is None:
@@ -49,18 +49,19 @@ class Fed:
         self.prefixes = {stream: it.prefix for stream, it in enumerate(told, 1)}
 
     def send(self, found: List[Tuple[int, Any, Block]], name: str) -> None:
-        """Sends of these blocks what it lacks: the one that has its last entry comes again, for the marks behind that."""
+        """Sends of these blocks what it lacks: the one that has its last entry comes again, for the marks behind
+        that."""
         blocks = []
         for stream, place, block in found:
             if block.last >= self.prefixes[stream] and (stream not in self.sent or place > self.sent[stream]):
                 blocks.append(block)
                 self.sent[stream] = place
-        blocks.sort(key=lambda it: it.latest)      # those of one time together: what is fed can be read the sooner
+        blocks.sort(key=lambda it: it.latest)  # those of one time together: what is fed can be read the sooner
         self.link().send_blocks(blocks, name)
 
     def fill(self, source: str) -> str:
-        """Has it take what another node knows since what this one can read, else all of it: in parts, where both nodes read messages of
-        version 2, else in one message, which has at most 2^28 bytes."""
+        """Has it take what another node knows since what this one can read, else all of it: in chunks, where both nodes
+        read messages of version 2, else in one message, which has at most 2^28 bytes."""
         feed = self.link()
         readable = feed.front().readable
         try:
@@ -71,7 +72,7 @@ class Fed:
                     if refused.number == 3:
                         return self.join(source, readable)
                     own.take_parts(other.parts(0))
-            return f"joined the parts of the node at {source}; {feed.front().line()}"
+            return f"joined the chunks of the node at {source}; {feed.front().line()}"
         except LinkBroken as error:
             raise SourceAway(str(error)) from error
         except Refused as refused:
@@ -93,13 +94,16 @@ class Fed:
 class Follower:
     def __init__(self, store: EngineLog, said: argparse.Namespace) -> None:
         self.store, self.said, self.patience = store, said, Patience("follow")
+        self.passing: Tuple[Type[Exception], ...] = (SourceAway, LinkBroken, Refused, *store.errors)
         self.streams: List[int] = said.only or list(range(1, store.streams + 1))
         self.nodes = [Fed(address, said.ahead, node_certificates(said)) for address in said.node]
-        self.reading: Optional[Reading] = None        # None: ask the nodes
-        self.numbers: Dict[int, int] = {}             # the last entry of each stream that was read
-        self.fed: Dict[int, Block] = {}               # the last block with entries of each stream that was sent
-        self.behind: Dict[int, float] = {}            # since when the engine seems to have less than a node
-        self.lacked: Dict[int, Tuple[int, int]] = {}  # what was missing in the middle of a stream, and is asked of --from
+        self.reading: Optional[Reading] = None  # None: ask the nodes
+        self.numbers: Dict[int, int] = {}  # the last entry of each stream that was read
+        self.fed: Dict[int, Block] = {}  # the last block with entries of each stream that was sent
+        self.behind: Dict[int, float] = {}  # since when the engine seems to have less than a node
+        self.lacked: Dict[
+            int, Tuple[int, int]
+        ] = {}  # what was missing in the middle of a stream, and is asked of --from
         self.heard = self.tried = time.monotonic()
         self.frames = self.size = self.blocks = 0
 
@@ -109,8 +113,8 @@ class Follower:
     # ------------------------------------------------------------ where to begin
 
     def begin(self) -> None:
-        """Reads from the least that a node has that can be linked to; where the engine lacks what comes next, after that node has joined
-        what another one knows."""
+        """Reads from the least that a node has that can be reached; where the engine lacks what comes next, after that
+        node has joined what another one knows."""
         self.link_all()
         for it in self.linked():
             it.learn(self.store.streams)
@@ -130,7 +134,7 @@ class Follower:
         self.reading = self.store.reading(self.numbers, self.said.batch)
 
     def link_all(self) -> None:
-        """Links to each node; raises where none can be linked to."""
+        """Connects to each node; raises where none can be reached."""
         self.tried = time.monotonic()
         failed: Optional[LinkBroken] = None
         for it in self.nodes:
@@ -157,13 +161,19 @@ class Follower:
         return lacking
 
     def see_no_fork(self) -> None:
-        """After each new look at the engine: the last entry that was sent is still the one. Its block may be another, where a lost tail was
-        published again."""
+        """After each new look at the engine: the last entry that was sent is still the one. Its block may be another,
+        where a lost tail was published again."""
         for stream, fed in self.fed.items():
             block = self.store.holding(stream, fed.last)
             there = entries_of(block.data).get(fed.last) if block is not None else None
             if there is not None and there != entries_of(fed.data)[fed.last]:
-                raise Broken(2, f"stream {stream}: the log forks: entry {fed.last} in {self.store.engine} is another than the one that was fed")
+                raise Broken(
+                    2,
+                    (
+                        f"stream {stream}: the log forks: entry {fed.last} in {self.store.engine} is another than the"
+                        " one that was fed"
+                    ),
+                )
 
     def see_no_loss(self, it: Fed) -> None:
         """The engine has all that the node has. Where it doesn't for so long as --patience says, it lost its tail."""
@@ -172,9 +182,18 @@ class Follower:
             if last >= it.prefixes[stream]:
                 self.behind.pop(stream, None)
                 continue
-            text = f"stream {stream}: the node at {it.address} has entries to {it.prefixes[stream]}, and {self.store.engine} to {last} only"
+            text = (
+                f"stream {stream}: the node at {it.address} has entries to {it.prefixes[stream]}, and"
+                f" {self.store.engine} to {last} only"
+            )
             if time.monotonic() - self.behind.setdefault(stream, time.monotonic()) > self.said.patience:
-                raise Broken(3, f"{text}: it lost its tail after the node was fed, and what comes under these numbers may be other entries")
+                raise Broken(
+                    3,
+                    (
+                        f"{text}: it lost its tail after the node was fed, and what comes under these numbers may be"
+                        " other entries"
+                    ),
+                )
             raise Behind(text)
 
     # ------------------------------------------------------------ going on
@@ -198,7 +217,7 @@ class Follower:
         return bool(found)
 
     def send(self, it: Fed, found: List[Tuple[int, Any, Block]], name: str) -> None:
-        """Sends blocks to a node; where its link breaks and there are others, those are fed on."""
+        """Sends blocks to a node; where its connection breaks and there are others, those are fed on."""
         try:
             if found:
                 it.send(found, name)
@@ -211,7 +230,8 @@ class Follower:
             self.patience.say(f"{error}; the other nodes are fed on")
 
     def is_done(self, moved: bool) -> bool:
-        """Whether that was all that was asked for. A silent link is looked at once a second, for a node that is gone says nothing."""
+        """Whether that was all that was asked for. A silent connection is looked at once a second, for a node that is
+        gone says nothing."""
         if moved:
             return False
         if self.said.until or time.monotonic() - self.heard > 1:
@@ -237,7 +257,7 @@ class Follower:
             except Behind as error:
                 self.look_anew()
                 self.patience.wait(error)
-            except (SourceAway, LinkBroken, Refused, *self.store.errors) as error:
+            except self.passing as error:
                 self.again(error)
 
     def again(self, error: BaseException) -> None:
@@ -255,7 +275,8 @@ class Follower:
         self.patience.wait(error)
 
     def look_anew(self) -> None:
-        """Gives up the link to the engine, and what was thought of it: what comes at the places of before may be other blocks."""
+        """Gives up the connection to the engine, and what was thought of it: what comes at the places of before may be
+        other blocks."""
         self.store.drop()
         self.reading = None
         for it in self.nodes:
@@ -270,18 +291,38 @@ def streams_of(text: str) -> List[int]:
 
 
 def add_follow_words(words: argparse.ArgumentParser, engine: str) -> None:
-    add_node_words(words, "a node's first port; as often as wanted: each block is then read once for all of them, and the slowest holds "
-                   "the others back", required=True)
-    words.add_argument("--from", dest="source", metavar="ADDRESS", help=f"another node, for what {engine} no longer has")
+    add_node_words(
+        words,
+        (
+            "a node's first port; as often as wanted: each block is then read once for all of them, and the slowest"
+            " holds the others back"
+        ),
+        required=True,
+    )
+    words.add_argument(
+        "--from", dest="source", metavar="ADDRESS", help=f"another node, for what {engine} no longer has"
+    )
     words.add_argument("--only", type=streams_of, metavar="STREAMS", help="of these streams alone, as 1,2")
-    words.add_argument("--until", type=int, default=0, metavar="TIME", help="end when the node can be read at this time")
+    words.add_argument(
+        "--until", type=int, default=0, metavar="TIME", help="end when the node can be read at this time"
+    )
     words.add_argument("--once", action="store_true", help="end when nothing more is there, and at the first failure")
-    words.add_argument("--batch", type=int, default=MOST_A_STREAM, metavar="N",
-                       help=f"blocks of a stream that are read at once ({MOST_A_STREAM})")
+    words.add_argument(
+        "--batch",
+        type=int,
+        default=MOST_A_STREAM,
+        metavar="N",
+        help=f"blocks of a stream that are read at once ({MOST_A_STREAM})",
+    )
     words.add_argument("--ahead", type=int, default=32, metavar="N", help="requests ahead of their replies")
     words.add_argument("--block", type=int, default=200, metavar="MS", help="how long a read waits for something new")
-    words.add_argument("--patience", type=float, default=60, metavar="SECONDS",
-                       help=f"how long {engine} may have less than the node before that is told as lost (60)")
+    words.add_argument(
+        "--patience",
+        type=float,
+        default=60,
+        metavar="SECONDS",
+        help=f"how long {engine} may have less than the node before that is reported as lost (60)",
+    )
 
 
 def see_follow_words(said: argparse.Namespace, words: argparse.ArgumentParser) -> None:
@@ -294,6 +335,7 @@ def see_follow_words(said: argparse.Namespace, words: argparse.ArgumentParser) -
 def follow(store: EngineLog, said: argparse.Namespace) -> int:
     """All of it: the status."""
     follower = Follower(store, said)
+    may_fail: Tuple[Type[Exception], ...] = (*store.errors, LinkBroken, SourceAway, OSError)
     try:
         follower.run()
     except Broken as broken:
@@ -302,7 +344,7 @@ def follow(store: EngineLog, said: argparse.Namespace) -> int:
     except (Refused, Fault) as refused:
         follower.patience.say(f"the node refuses: {refused}")
         return 4
-    except (*store.errors, LinkBroken, SourceAway, OSError) as error:
+    except may_fail as error:
         follower.patience.say(f"{type(error).__name__}: {error}")
         return 1
     finally:

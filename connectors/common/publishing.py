@@ -7,18 +7,18 @@ import gc
 import os
 import select
 import time
-from typing import Any, BinaryIO, Callable, Deque, Dict, Iterable, Iterator, List, Optional, Type
+from typing import Any, BinaryIO, Callable, Deque, Dict, Iterable, Iterator, List, Optional, Tuple, Type
 
 from blocks import Block, Broken, Cutter, Framed, Line, in_blocks
 from engine_log import Behind, EngineLog, Moved, Tail
 from feeding import Fault, Patience, decode
 
-MOST_EARLY = 2 ** 28     # bytes of entries that wait for those before them
+MOST_EARLY = 2**28  # bytes of entries that wait for those before them
 
-STATUSES = """status: 0 all frames are in ENGINE; 1 ENGINE refuses, or is set otherwise than was asked for; 2 the log forks: ENGINE has
-another entry, or one that contradicts this one; 3 entries lack, in the input, because ENGINE lost its tail, or because they were deleted
-or never there, or messages in ENGINE are no blocks of the log; 4 the input is no log of this id and these streams; 64 the words of the
-command line."""
+STATUSES = """status: 0 all frames are in ENGINE; 1 ENGINE refuses, or is set otherwise than was asked for; 2 the
+log forks: ENGINE has another entry, or one that conflicts with this one; 3 entries lack, in the input, because ENGINE
+lost its tail, or because they were deleted or never there, or messages in ENGINE are no blocks of the log; 4 the
+input is no log of this id and these streams; 64 the words of the command line."""
 
 
 class Batch:
@@ -26,7 +26,7 @@ class Batch:
 
     def __init__(self, frames: List[Framed], blocks: List[Block], new: int, there: int, gone: int) -> None:
         self.frames = frames
-        self.left = len(blocks) + 1      # blocks that aren't kept, and one until all are given to the engine
+        self.left = len(blocks) + 1  # blocks that aren't kept, and one until all are given to the engine
         self.counts = (new, len(blocks), there, gone)
         self.entries = range(blocks[0].first, blocks[-1].last + 1) if blocks else range(0)
 
@@ -39,12 +39,12 @@ class Sending:
     """One stream on its way."""
 
     def __init__(self, tail: Tail) -> None:
-        self.tail: Optional[Tail] = tail         # how far it will be, once all that is on its way is kept; None: look
+        self.tail: Optional[Tail] = tail  # how far it will be, once all that is on its way is kept; None: look
         self.line = Line(tail.number, tail.marked)
         self.batches: Deque[Batch] = collections.deque()
-        self.entries: Dict[int, bytes] = {}      # of these batches
-        self.kept = 0                            # the last entry that the engine acknowledged to this very publisher
-        self.behind: Optional[float] = None      # since when the engine seems to have less
+        self.entries: Dict[int, bytes] = {}  # of these batches
+        self.kept = 0  # the last entry that the engine acknowledged to this very publisher
+        self.behind: Optional[float] = None  # since when the engine seems to have less
 
     def acknowledged(self, number: int) -> None:
         """One block more is kept, and `number` is its last entry."""
@@ -60,8 +60,8 @@ class Sending:
             yield batch
 
     def take_back(self) -> None:
-        """What becomes of all that was on its way isn't told any more: it is compared with what is there, as if it came
-        only now."""
+        """What becomes of all that was on its way isn't reported any more: it is compared with what is there, as if it
+        came only now."""
         self.tail = None
         frames = [one for batch in self.batches for one in batch.frames]
         self.line.put_back(frames)
@@ -72,6 +72,7 @@ class Sending:
 class Publisher:
     def __init__(self, store: EngineLog, said: argparse.Namespace) -> None:
         self.store, self.said, self.patience = store, said, Patience("publish")
+        self.passing: Tuple[Type[Exception], ...] = (Behind, *store.errors)
         self.sending: Dict[int, Sending] = {}
         self.added = self.there = self.gone = self.blocks = 0
 
@@ -82,7 +83,7 @@ class Publisher:
                 told = call(*words)
                 self.patience.forget()
                 return told
-            except (Behind, *self.store.errors) as error:
+            except self.passing as error:
                 if not isinstance(error, Behind) and not self.store.is_passing(error):
                     raise
                 self.store.drop()
@@ -155,23 +156,29 @@ class Publisher:
         self.tell_kept()
 
     def learn(self, stream: int, it: Sending) -> Tail:
-        """How far the stream is. Less than was acknowledged may come from a server that was cut off and doesn't know it yet: it is waited
-        for."""
+        """How far the stream is. Less than was acknowledged may come from a server that was cut off and doesn't know it
+        yet: it is waited for."""
         tail = self.store.tail(stream)
         if tail.number < it.kept:
             it.behind = it.behind or time.monotonic()
-            text = f"stream {stream}: {it.kept} was acknowledged, and {self.store.engine} has entries to {tail.number} only"
+            text = (
+                f"stream {stream}: {it.kept} was acknowledged, and {self.store.engine} has entries to"
+                f" {tail.number} only"
+            )
             if time.monotonic() - it.behind > self.said.patience:
-                raise Broken(3, f"{text}: it lost its tail. Start again with the log from entry {tail.number + 1} at the latest")
+                raise Broken(
+                    3, f"{text}: it lost its tail. Start again with the log from entry {tail.number + 1} at the latest"
+                )
             raise Behind(text)
         it.behind = None
         return tail
 
     def leave(self) -> None:
-        """Before an end that nothing mends: tells what is kept by now."""
+        """Before an end that nothing can fix: reports what is kept by now."""
+        may_fail: Tuple[Type[Exception], ...] = (Moved, *self.store.errors)
         try:
             self.store.settle()
-        except (Moved, *self.store.errors):
+        except may_fail:
             pass
         self.tell_kept()
 
@@ -221,13 +228,31 @@ def has_more(source: BinaryIO) -> bool:
 
 
 def add_publish_words(words: argparse.ArgumentParser, store: Type[EngineLog]) -> None:
-    words.add_argument("--confirm", action="store_true", help="say on standard output what is kept, as `kept STREAM NUMBER`")
-    words.add_argument("--heads", action="store_true", help="look at the heads of the frames alone, and not at their lists: quicker, for a "
-                       "primary that is trusted to write frames")
-    words.add_argument("--block", type=int, default=store.block_bytes, metavar="BYTES",
-                       help=f"how much one message has at most, but for a frame that is larger ({store.block_bytes})")
-    words.add_argument("--patience", type=float, default=60, metavar="SECONDS",
-                       help="how long less than was acknowledged is waited for (60)")
+    words.add_argument(
+        "--confirm", action="store_true", help="say on standard output what is kept, as `kept STREAM NUMBER`"
+    )
+    words.add_argument(
+        "--heads",
+        action="store_true",
+        help=(
+            "look at the heads of the frames alone, and not at their lists: quicker, for a "
+            "primary that is trusted to write frames"
+        ),
+    )
+    words.add_argument(
+        "--block",
+        type=int,
+        default=store.block_bytes,
+        metavar="BYTES",
+        help=f"how much one message has at most, but for a frame that is larger ({store.block_bytes})",
+    )
+    words.add_argument(
+        "--patience",
+        type=float,
+        default=60,
+        metavar="SECONDS",
+        help="how long less than was acknowledged is waited for (60)",
+    )
     words.add_argument("files", nargs="*", metavar="FILE", help="item frames; without one, standard input")
 
 
@@ -236,7 +261,8 @@ def publish(store: EngineLog, said: argparse.Namespace, words: argparse.Argument
     if said.block < 1:
         words.error("--block is at least 1")
     publisher = Publisher(store, said)
-    gc.set_threshold(50_000)      # it looks at all frames on their way again and again, and these are never in a cycle
+    gc.set_threshold(50_000)  # it looks at all frames on their way again and again, and these are never in a cycle
+    may_fail: Tuple[Type[Exception], ...] = (*store.errors, OSError)
     try:
         publisher.kept_up(store.prepare)
         for file in said.files or [""]:
@@ -247,7 +273,7 @@ def publish(store: EngineLog, said: argparse.Namespace, words: argparse.Argument
         publisher.leave()
         publisher.patience.say(str(broken))
         return broken.status if isinstance(broken, Broken) else 4
-    except (*store.errors, OSError) as error:
+    except may_fail as error:
         publisher.patience.say(f"{type(error).__name__}: {error}")
         return 1
     publisher.patience.say(publisher.told())

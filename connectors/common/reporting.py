@@ -11,7 +11,7 @@ from feeding import Certificates, Feed, LinkBroken, Refused, Stream, add_node_wo
 
 
 class Asked:
-    """A node, over one link that is kept while it holds."""
+    """A node, over one connection that is kept while it holds."""
 
     def __init__(self, address: str, certificates: Certificates) -> None:
         self.address, self.certificates = address, certificates
@@ -31,8 +31,8 @@ class Asked:
 
 
 def row_of_engine(store: EngineLog, stream: int, lines: List[str]) -> List[Any]:
-    """The row of a stream: its first entry, its last, and the time that its last mark closes. Where a message is no block of the log, a
-    line is added that names it, and what can't be told without it is 0."""
+    """The row of a stream: its first entry, its last, and the time that its last mark closes. Where a message is no
+    block of the log, a line is added that names it, and what can't be known without it is 0."""
     row = [stream, 0, 0, 0]
     try:
         row[2] = store.last(stream)
@@ -77,8 +77,14 @@ def lines_of(store: EngineLog, nodes: List[Asked]) -> Tuple[List[str], int]:
 
 def add_status_words(words: argparse.ArgumentParser) -> None:
     add_node_words(words, "a node; as often as wanted", default=[])
-    words.add_argument("--watch", nargs="?", type=float, const=1.0, metavar="SECONDS",
-                       help="again and again, every second without a number")
+    words.add_argument(
+        "--watch",
+        nargs="?",
+        type=float,
+        const=1.0,
+        metavar="SECONDS",
+        help="again and again, every second without a number",
+    )
 
 
 def status(store: EngineLog, said: argparse.Namespace, beside: Callable[[], List[str]]) -> int:

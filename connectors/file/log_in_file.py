@@ -16,9 +16,9 @@ from typing import Any, Callable, Dict, Iterator, List, Optional, Tuple
 sys.dont_write_bytecode = True
 sys.path.append(str(pathlib.Path(__file__).resolve().parent.parent / "common"))
 
-from blocks import BLOCK_BYTES, Block, Broken, walked      # noqa: E402
-from engine_log import EngineLog, Moved, Reading, add_log_words, see_log      # noqa: E402
-from feeding import LEAST_REST, MOST_REST      # noqa: E402
+from blocks import BLOCK_BYTES, Block, Broken, walked  # noqa: E402
+from engine_log import EngineLog, Moved, Reading, add_log_words, see_log  # noqa: E402
+from feeding import LEAST_REST, MOST_REST  # noqa: E402
 
 _HEAD = struct.Struct(">IBBQHQQ").unpack_from
 # how much is looked at and how many blocks are read at once, and how long a reader sleeps in between, in seconds
@@ -119,7 +119,7 @@ class LogInFile(EngineLog):
             if not self.places.add(piece):
                 if len(piece) < size:
                     break
-                size *= 2      # a frame that is larger
+                size *= 2  # a frame that is larger
         return self.places
 
     def block(self, begin: int, end: int) -> Block:
@@ -166,7 +166,7 @@ class LogInFile(EngineLog):
         data = b"".join(block.data for block in blocks)
         left = memoryview(data)
         while left:
-            left = left[os.write(self.file, left):]
+            left = left[os.write(self.file, left) :]
         self.places.add(data)
         if self.fsync:
             os.fsync(self.file)
@@ -195,7 +195,7 @@ class ReadingFile(Reading):
             time.sleep(PAUSE)
         self.is_over = False
         places = self.store.places
-        more = places.ends[bisect_right(places.ends, self.at):][:BLOCKS] or [places.size]
+        more = places.ends[bisect_right(places.ends, self.at) :][:BLOCKS] or [places.size]
         found = []
         for end in more:
             found.append((1, end, self.store.block(self.at, end)))
@@ -207,6 +207,7 @@ class ReadingFile(Reading):
 
 
 # ---------------------------------------------------------------- the command line
+
 
 def add_words(words: argparse.ArgumentParser) -> None:
     words.add_argument("--file", required=True, metavar="FILE", help="the file of the log")

@@ -1,6 +1,6 @@
-"""Several hosts on one machine: network namespaces on a bridge that stands in a namespace of its own, so that nothing touches the
-machine's network. Programs are started inside a host, hosts are cut off from each other without a word to either, and joined again. Needs
-root and iproute2. What was made is removed at the end.
+"""Several hosts on one machine: network namespaces on a bridge that stands in a namespace of its own, so that nothing
+touches the machine's network. Programs are started inside a host, hosts are cut off from each other without a word to
+either, and joined again. Needs root and iproute2. What was made is removed at the end.
 
     with Lab("hk", 6) as lab:
         lab.words(1, ["nats-server", ..])      # what starts a program inside host 1
@@ -21,7 +21,12 @@ libc = ctypes.CDLL(None, use_errno=True)
 
 def ip(*words: Any, netns: str = "", check: bool = True) -> None:
     head = ["ip", "netns", "exec", netns] if netns else []
-    subprocess.run([*head, "ip", *map(str, words)], check=check, stdout=subprocess.DEVNULL, stderr=None if check else subprocess.DEVNULL)
+    subprocess.run(
+        [*head, "ip", *map(str, words)],
+        check=check,
+        stdout=subprocess.DEVNULL,
+        stderr=None if check else subprocess.DEVNULL,
+    )
 
 
 class Lab:
@@ -49,7 +54,22 @@ class Lab:
         own = self.name(host)
         ip("netns", "add", own)
         address = f"02:00:00:77:00:{host:02x}"
-        ip("link", "add", "eth0", "netns", own, "address", address, "type", "veth", "peer", "name", f"p{host}", "netns", hub)
+        ip(
+            "link",
+            "add",
+            "eth0",
+            "netns",
+            own,
+            "address",
+            address,
+            "type",
+            "veth",
+            "peer",
+            "name",
+            f"p{host}",
+            "netns",
+            hub,
+        )
         ip("link", "set", f"p{host}", "master", "bridge0", "up", netns=hub)
         ip("address", "add", f"{self.address(host)}/24", "dev", "eth0", netns=own)
         ip("link", "set", "eth0", "up", netns=own)
@@ -73,7 +93,18 @@ class Lab:
         for one in some:
             for other in others:
                 for here, there in ((one, other), (other, one)):
-                    ip("neigh", "replace", self.address(there), "lladdr", NOBODY, "dev", "eth0", "nud", "permanent", netns=self.name(here))
+                    ip(
+                        "neigh",
+                        "replace",
+                        self.address(there),
+                        "lladdr",
+                        NOBODY,
+                        "dev",
+                        "eth0",
+                        "nud",
+                        "permanent",
+                        netns=self.name(here),
+                    )
 
     def join(self) -> None:
         for here in self.hosts:

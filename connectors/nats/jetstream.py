@@ -1,6 +1,6 @@
-"""NATS by its protocol of text lines over one socket, and of JetStream what a log needs: make a stream, append behind a sequence that is
-named, get a message by its sequence, have many handed out by a consumer. Standard library only; TLS, and a user's password, where they
-are asked for."""
+"""NATS by its protocol of text lines over one socket, and of JetStream what a log needs: make a stream, append behind a
+sequence that is named, get a message by its sequence, have many handed out by a consumer. Standard library only; TLS,
+and a user's password, where they are asked for."""
 from __future__ import annotations
 
 import collections
@@ -15,13 +15,14 @@ import time
 from typing import Any, Collection, Deque, Dict, List, NamedTuple, Optional, Sequence, Set, Tuple
 from urllib.parse import urlsplit
 
-# in seconds: how long a link, a reply, and each try of a question that may be asked again are waited for
+# in seconds: how long a connection, a reply, and each try of a question that may be asked again are waited for
 LINK, REPLY, TRIES = 2.0, 5.0, (0.2, 0.2, 0.4, 0.8, 1.6, 3.2)
 
-# Below this one a server loses acknowledged messages after a partition: a replica that was cut off stays behind, and may lead.
+# Below this one a server loses acknowledged messages after a partition: a replica that was cut off stays behind, and
+# may lead.
 LEAST = (2, 10, 27)
 
-# No leader, not enough servers, too many requests at once: of JetStream's errors those that a later try may mend
+# No leader, not enough servers, too many requests at once: of JetStream's errors those that a later try may fix
 PASSING_CODES, PASSING_ERRORS = (408, 503, 504), (10005, 10008, 10014, 10039, 10074, 10077, 10118)
 
 
@@ -34,7 +35,7 @@ class Late(Away):
 
 
 class Denied(OSError):
-    """What no later try mends: a user, a right, a certificate, a server that is too old."""
+    """What no later try fixes: a user, a right, a certificate, a server that is too old."""
 
 
 class ApiError(Exception):
@@ -50,8 +51,8 @@ class ApiError(Exception):
 
 class Message(NamedTuple):
     subject: bytes
-    to: bytes          # which of our subscriptions it is for
-    status: bytes      # of a reply without data, else empty
+    to: bytes  # which of our subscriptions it is for
+    status: bytes  # of a reply without data, else empty
     head: bytes
     data: bytes
     reply: bytes
@@ -59,7 +60,7 @@ class Message(NamedTuple):
     def header(self, name: bytes) -> bytes:
         """A header's value; empty where it isn't there."""
         at = self.head.find(b"\r\n" + name + b":")
-        return self.head[at + len(name) + 3:self.head.index(b"\r\n", at + 2)].strip() if at >= 0 else b""
+        return self.head[at + len(name) + 3 : self.head.index(b"\r\n", at + 2)].strip() if at >= 0 else b""
 
 
 class Security(NamedTuple):
@@ -87,20 +88,24 @@ def version_of(text: str) -> Tuple[int, ...]:
 def see_version(name: str, version: str) -> None:
     if version_of(version) < LEAST:
         least = ".".join(map(str, LEAST))
-        raise Denied(f"{name} is nats-server {version}, which loses acknowledged messages after a partition: {least} or later is needed "
-                     "on each server")
+        raise Denied(
+            f"{name} is nats-server {version}, which loses acknowledged messages after a partition: {least} or later is"
+            " needed on each server"
+        )
 
 
 class Nats:
-    """One link to one of some servers, each HOST:PORT, nats://USER@HOST:PORT or tls://USER@HOST:PORT; opened at once. Any server hands a
-    request on to the one that it is for."""
+    """One connection to one of some servers, each HOST:PORT, nats://USER@HOST:PORT or tls://USER@HOST:PORT; opened at
+    once. Any server hands a request on to the one that it is for."""
 
     def __init__(self, urls: Sequence[str], security: Security = Security(), limit: float = REPLY) -> None:
         self.limit, self.security = limit, security
         self.counter = itertools.count(1)
         self.asked: Set[bytes] = set()
-        self.got: Dict[bytes, Message] = {}                            # replies, by their tokens
-        self.flows: Dict[bytes, Deque[Message]] = {}      # replies of which there are many, by the subscription that they are for
+        self.got: Dict[bytes, Message] = {}  # replies, by their tokens
+        self.flows: Dict[
+            bytes, Deque[Message]
+        ] = {}  # replies of which there are many, by the subscription that they are for
         reasons = []
         for url in random.sample(list(urls), len(urls)):
             try:
@@ -129,7 +134,7 @@ class Nats:
             try:
                 self.socket.sendall(b"CONNECT %s\r\nSUB %s.* 1\r\nPING\r\n" % (self.hello(split.username), self.inbox))
             except OSError:
-                pass      # the server says why, in what can still be read
+                pass  # the server says why, in what can still be read
             while self.line(until) != b"PONG":
                 pass
         except (ValueError, IndexError) as error:
@@ -141,8 +146,16 @@ class Nats:
 
     @staticmethod
     def hello(user: Optional[str]) -> bytes:
-        said = {"verbose": False, "pedantic": False, "headers": True, "no_responders": True, "lang": "python", "version": "0",
-                "protocol": 1, "name": "hekaton"}
+        said = {
+            "verbose": False,
+            "pedantic": False,
+            "headers": True,
+            "no_responders": True,
+            "lang": "python",
+            "version": "0",
+            "protocol": 1,
+            "name": "hekaton",
+        }
         if user:
             said.update(user=user, **{"pass": os.environ.get("NATS_PASSWORD", "")})
         return json.dumps(said).encode()
@@ -166,14 +179,14 @@ class Nats:
         except OSError as error:
             raise Away(f"{self.name}: {error}") from None
         if not piece:
-            raise Away(f"{self.name}: the server ended the link")
-        self.buffer, self.at = self.buffer[self.at:] + piece if self.at < len(self.buffer) else piece, 0
+            raise Away(f"{self.name}: the server ended the connection")
+        self.buffer, self.at = self.buffer[self.at :] + piece if self.at < len(self.buffer) else piece, 0
 
     def line(self, until: float) -> bytes:
-        """The next line; raises where it tells an error."""
+        """The next line; raises where it reports an error."""
         while (end := self.buffer.find(b"\r\n", self.at)) < 0:
             self.more(until)
-        line = self.buffer[self.at:end]
+        line = self.buffer[self.at : end]
         self.at = end + 2
         if line.startswith(b"-ERR"):
             text = f"{self.name}: {line[5:].decode(errors='replace')}"
@@ -182,7 +195,7 @@ class Nats:
 
     def exactly(self, size: int, until: float) -> bytes:
         if len(self.buffer) - self.at < size:
-            parts, have = [self.buffer[self.at:]], len(self.buffer) - self.at
+            parts, have = [self.buffer[self.at :]], len(self.buffer) - self.at
             try:
                 while have < size:
                     self.buffer, self.at = b"", 0
@@ -192,7 +205,7 @@ class Nats:
             except Away as away:
                 raise Away(f"cut off inside a message: {away}") from None
             self.buffer, self.at = b"".join(parts), 0
-        data = self.buffer[self.at:self.at + size]
+        data = self.buffer[self.at : self.at + size]
         self.at += size
         return data
 
@@ -205,7 +218,9 @@ class Nats:
             size, split = int(words[-1]), int(words[-2]) if has_head else 0
             data = self.exactly(size + 2, max(until, time.monotonic() + self.limit))[:size]
             status = data[9:12] if has_head and data[8:9] == b" " else b""
-            return Message(words[1], words[2], status, data[:split], data[split:], words[3] if len(words) == 5 + has_head else b"")
+            return Message(
+                words[1], words[2], status, data[:split], data[split:], words[3] if len(words) == 5 + has_head else b""
+            )
         if line == b"PING":
             self.send(b"PONG\r\n")
         return None
@@ -226,7 +241,14 @@ class Nats:
         reply = self.inbox + b"." + token
         if head:
             head = b"NATS/1.0\r\n" + head + b"\r\n"
-            return token, b"HPUB %s %s %d %d\r\n%s%s\r\n" % (subject, reply, len(head), len(head) + len(data), head, data)
+            return token, b"HPUB %s %s %d %d\r\n%s%s\r\n" % (
+                subject,
+                reply,
+                len(head),
+                len(head) + len(data),
+                head,
+                data,
+            )
         return token, b"PUB %s %s %d\r\n%s\r\n" % (subject, reply, len(data), data)
 
     def take(self, token: bytes, limit: Optional[float] = None) -> Message:
@@ -247,7 +269,8 @@ class Nats:
             self.got.pop(token, None)
 
     def sort(self, message: Optional[Message]) -> None:
-        """Puts a message where it is waited for; consumers' come under subjects of their own, so it goes by the subscription."""
+        """Puts a message where it is waited for; consumers' come under subjects of their own, so it goes by the
+        subscription."""
         if message is None:
             return
         if message.to == b"1":
@@ -279,8 +302,8 @@ class Nats:
         return there
 
     def ask_again(self, subject: bytes, data: bytes) -> Message:
-        """A question that may be asked as often as wanted. Servers share such questions among them, also with one that was cut off and
-        isn't known to be away yet: what it was handed is lost, so little patience at first."""
+        """A question that may be asked as often as wanted. Servers share such questions among them, also with one that
+        was cut off and isn't known to be away yet: what it was handed is lost, so little patience at first."""
         for limit in TRIES:
             token, text = self.put(subject, data)
             self.send(text)
@@ -291,7 +314,7 @@ class Nats:
         raise Late(f"{self.name}: no reply in {len(TRIES)} tries")
 
     def ask(self, subject: str, said: Any = None, limit: Optional[float] = None) -> Dict[str, Any]:
-        """A request of JetStream's own, and what is told."""
+        """A request of JetStream's own, and what it returns."""
         token, text = self.put(subject.encode(), b"" if said is None else json.dumps(said).encode())
         self.send(text)
         return self.told_of(self.take(token, limit))

@@ -1,10 +1,12 @@
-"""A log in NATS JetStream: stream S of log L is the JetStream stream `hekaton_L_S`, of the subject `hekaton.L.S`, with three replicas; a
-message is a block (connectors/common/blocks.py), whose header Hk-Last tells the number of its last entry.
+"""A log in NATS JetStream: stream S of log L is the JetStream stream `hekaton_L_S`, of the subject `hekaton.L.S`, with
+three replicas; a message is a block (connectors/common/blocks.py), whose header Hk-Last has the number of its last
+entry.
 
-Each append names the sequence of the message that it stands behind (Nats-Expected-Last-Sequence), so two writers can't come between each
-other, nothing is there twice, and no block stands behind one that lacks: the server refuses it, whoever leads by then. A message is there
-for readers once a majority of the servers has it, so no node is fed what a failover may lose. Nothing but the blocks is kept: entry n is
-found by halving, in about twice the logarithm of the number of blocks behind it. Needs nats-server 2.10.27 or later on each server."""
+Each append names the sequence of the message that it stands behind (Nats-Expected-Last-Sequence), so two writers can't
+come between each other, nothing is there twice, and no block stands behind one that lacks: the server refuses it,
+whoever leads by then. A message is there for readers once a majority of the servers has it, so no node is fed what a
+failover may lose. Nothing but the blocks is kept: entry n is found by halving, in about twice the logarithm of the
+number of blocks behind it. Needs nats-server 2.10.27 or later on each server."""
 from __future__ import annotations
 
 import argparse
@@ -20,9 +22,9 @@ sys.dont_write_bytecode = True
 HERE = pathlib.Path(__file__).resolve().parent
 sys.path[:0] = [str(HERE), str(HERE.parent / "common")]
 
-from blocks import BLOCK_BYTES, Block, walked      # noqa: E402
-from engine_log import EngineLog, Moved, Reading, add_log_words, see_log      # noqa: E402
-from jetstream import ApiError, Away, Denied, Message, Nats, Security, see_version, versions      # noqa: E402
+from blocks import BLOCK_BYTES, Block, walked  # noqa: E402
+from engine_log import EngineLog, Moved, Reading, add_log_words, see_log  # noqa: E402
+from jetstream import ApiError, Away, Denied, Message, Nats, Security, see_version, versions  # noqa: E402
 
 WRONG_LAST, IN_USE, NO_STREAM = 10_071, 10_058, 10_059
 
@@ -36,7 +38,7 @@ HEADERS = 512
 
 
 class Queued(NamedTuple):
-    """A block that waits to be acknowledged, the sequence that it is to have, and who is told."""
+    """A block that waits to be acknowledged, the sequence that it is to have, and what is called then."""
 
     sequence: int
     block: Block
@@ -44,39 +46,47 @@ class Queued(NamedTuple):
 
 
 class Info(NamedTuple):
-    first: int       # sequences
+    first: int  # sequences
     last: int
     leader: str
-    replicas: int    # servers that keep it
-    current: int     # of these, those that the leader takes for up to date
+    replicas: int  # servers that keep it
+    current: int  # of these, those that the leader takes for up to date
 
     def has_messages(self) -> bool:
         return self.first <= self.last
 
 
 class LogInNats(EngineLog):
-    """Places are sequences. Nothing is asked of NATS before the first call. One link is kept until `drop`."""
+    """Places are sequences. Nothing is asked of NATS before the first call. One connection is kept until `drop`."""
 
     engine, errors = "NATS", (Away, Denied, ApiError)
-    # more than in Redis: of a stream one block is on its way at a time, and servers that sync their files do so for each
+    # more than in Redis: of a stream one block is on its way at a time, and servers that sync their files do so for
+    # each
     block_bytes = at_once = 4 * BLOCK_BYTES
 
-    def __init__(self, urls: List[str], log: int, streams: int, replicas: int = 3, security: Security = Security(),
-                 by: str = "pull") -> None:
+    def __init__(
+        self,
+        urls: List[str],
+        log: int,
+        streams: int,
+        replicas: int = 3,
+        security: Security = Security(),
+        by: str = "pull",
+    ) -> None:
         super().__init__(log, streams)
         self.urls, self.replicas, self.security, self.by = urls, replicas, security, by
         self.nats: Optional[Nats] = None
         self.is_seen = False
-        self.queues: Dict[int, Deque[Queued]] = {}      # by stream: the first of each is on its way
-        self.on_way: Dict[bytes, int] = {}              # of those that are, their tokens and streams
-        self.queued = 0                                 # bytes
-        self.near: Dict[int, Tuple[int, int]] = {}      # of the block that was found last: its last entry and sequence
+        self.queues: Dict[int, Deque[Queued]] = {}  # by stream: the first of each is on its way
+        self.on_way: Dict[bytes, int] = {}  # of those that are, their tokens and streams
+        self.queued = 0  # bytes
+        self.near: Dict[int, Tuple[int, int]] = {}  # of the block that was found last: its last entry and sequence
 
     def is_passing(self, error: BaseException) -> bool:
         return isinstance(error, Away) or isinstance(error, ApiError) and error.is_passing()
 
     def link(self) -> Nats:
-        if not self.is_seen:      # each server that can be reached; later on the one that is linked to
+        if not self.is_seen:  # each server that can be reached; later on the one that is linked to
             for name, version in versions(self.urls):
                 if version and not version.startswith("?"):
                     see_version(name, version)
@@ -103,7 +113,8 @@ class LogInNats(EngineLog):
     # ------------------------------------------------------------ streams
 
     def prepare(self) -> None:
-        """Makes the streams that aren't there; one that is there has as many replicas as was asked for, else `Denied`."""
+        """Makes the streams that aren't there; one that is there has as many replicas as was asked for, else
+        `Denied`."""
         for stream in range(1, self.streams + 1):
             try:
                 told = self.link().ask(f"$JS.API.STREAM.CREATE.{self.key(stream)}", self.config(stream), 10)
@@ -113,19 +124,35 @@ class LogInNats(EngineLog):
                 told = self.link().ask(f"$JS.API.STREAM.INFO.{self.key(stream)}")
             replicas = told["config"]["num_replicas"]
             if replicas < self.replicas:
-                raise Denied(f"{self.key(stream)} is kept by {replicas} servers, and not by {self.replicas}: --replicas says how many are "
-                             "to keep it")
+                raise Denied(
+                    f"{self.key(stream)} is kept by {replicas} servers, and not by {self.replicas}: --replicas says how"
+                    " many are to keep it"
+                )
 
     def config(self, stream: int) -> Dict[str, Any]:
         """It refuses what would be too much, and drops nothing by itself."""
-        return {"name": self.key(stream), "subjects": [self.subject(stream)], "storage": "file", "retention": "limits", "discard": "new",
-                "max_msgs": -1, "max_bytes": -1, "max_age": 0, "num_replicas": self.replicas, "allow_direct": True, "deny_delete": True,
-                "duplicate_window": 1_000_000_000}
+        return {
+            "name": self.key(stream),
+            "subjects": [self.subject(stream)],
+            "storage": "file",
+            "retention": "limits",
+            "discard": "new",
+            "max_msgs": -1,
+            "max_bytes": -1,
+            "max_age": 0,
+            "num_replicas": self.replicas,
+            "allow_direct": True,
+            "deny_delete": True,
+            "duplicate_window": 1_000_000_000,
+        }
 
     def info(self, stream: int) -> Info:
-        """How far the stream is, as its leader says; where it is read one by one, as any server that keeps it says, which may be behind."""
+        """How far the stream is, as its leader says; where it is read one by one, as any server that keeps it says,
+        which may be behind."""
         if self.by == "get":
-            first, last = (self.asked_of_any(stream, said) for said in (b'{"seq":1,"next_by_subj":"%s"}', b'{"last_by_subj":"%s"}'))
+            first, last = (
+                self.asked_of_any(stream, said) for said in (b'{"seq":1,"next_by_subj":"%s"}', b'{"last_by_subj":"%s"}')
+            )
             return Info(max(1, first), last, "", 1, 1)
         try:
             told = self.link().ask(f"$JS.API.STREAM.INFO.{self.key(stream)}")
@@ -135,8 +162,13 @@ class LogInNats(EngineLog):
             raise
         cluster = told.get("cluster", {})
         replicas = cluster.get("replicas") or []
-        return Info(max(1, told["state"]["first_seq"]), told["state"]["last_seq"], cluster.get("leader", ""), 1 + len(replicas),
-                    1 + sum(1 for it in replicas if it.get("current") and not it.get("lag")))
+        return Info(
+            max(1, told["state"]["first_seq"]),
+            told["state"]["last_seq"],
+            cluster.get("leader", ""),
+            1 + len(replicas),
+            1 + sum(1 for it in replicas if it.get("current") and not it.get("lag")),
+        )
 
     def asked_of_any(self, stream: int, said: bytes) -> int:
         """The sequence of the message that is asked for; 0 where there is none."""
@@ -172,7 +204,11 @@ class LogInNats(EngineLog):
         """The sequence of the first block whose last entry is `number` or more; one above the last, where none is."""
         told = self.info(stream)
         near, sequence = self.near.get(stream, (-1, 0))
-        if number == near + 1 and told.first <= sequence < told.last and self.there(stream, sequence + 1).last >= number:
+        if (
+            number == near + 1
+            and told.first <= sequence < told.last
+            and self.there(stream, sequence + 1).last >= number
+        ):
             low = sequence + 1
         else:
             low = self.halved(stream, number, told)
@@ -182,7 +218,7 @@ class LogInNats(EngineLog):
 
     def halved(self, stream: int, number: int, told: Info) -> int:
         """From the end backwards by twice as much each time, and then by halves."""
-        low, high, step = told.first, told.last + 1, 1        # what is looked for is from low to high
+        low, high, step = told.first, told.last + 1, 1  # what is looked for is from low to high
         while low < high:
             probe = max(low, told.last + 1 - step)
             if self.there(stream, probe).last < number:
@@ -240,8 +276,10 @@ class LogInNats(EngineLog):
         most = self.link().info.get("max_payload", 1 << 20)
         for block in blocks:
             if len(block.data) + HEADERS > most:
-                raise Denied(f"a block of {len(block.data)} bytes is more than {self.link().name} takes ({most}): "
-                             "set max_payload to 8388608")
+                raise Denied(
+                    f"a block of {len(block.data)} bytes is more than {self.link().name} takes ({most}): "
+                    "set max_payload to 8388608"
+                )
         queue = self.queues.setdefault(stream, collections.deque())
         is_first = not queue
         queue.extend(Queued(sequence, block, kept) for sequence, block in enumerate(blocks, behind + 1))
@@ -276,14 +314,17 @@ class LogInNats(EngineLog):
                 self.send_first(stream)
 
     def message(self, stream: int, behind: int, block: Block) -> Tuple[bytes, bytes]:
-        head = (b"Nats-Expected-Stream: %s\r\nNats-Expected-Last-Sequence: %d\r\nHk-Last: %d\r\n"
-                % (self.key(stream).encode(), behind, block.last))
+        head = b"Nats-Expected-Stream: %s\r\nNats-Expected-Last-Sequence: %d\r\nHk-Last: %d\r\n" % (
+            self.key(stream).encode(),
+            behind,
+            block.last,
+        )
         return self.link().put(self.subject(stream).encode(), block.data, head)
 
     def acknowledged(self, message: Message, sequence: int) -> None:
         told = json.loads(message.data)
         if "error" in told:
-            self.drop()      # of other streams blocks may be on their way: they are looked at anew
+            self.drop()  # of other streams blocks may be on their way: they are looked at anew
             if told["error"].get("err_code") == WRONG_LAST:
                 raise Moved
             raise ApiError(told["error"])
@@ -293,17 +334,24 @@ class LogInNats(EngineLog):
 
     def reading(self, prefixes: Dict[int, int], batch: int) -> Reading:
         from reading_nats import Getting, Pulling
+
         return Getting(self, prefixes) if self.by == "get" else Pulling(self, prefixes, batch)
 
 
 # ---------------------------------------------------------------- the command line
 
+
 def add_words(words: argparse.ArgumentParser) -> None:
     """The words of all programs."""
-    words.add_argument("--nats", metavar="URLS",
-                       help="HOST:PORT,HOST:PORT,.. of the cluster's servers, tls://USER@HOST:PORT for TLS; without it "
-                       "the environment's NATS_URL, else 127.0.0.1:4222. A password comes from NATS_PASSWORD, and never from the "
-                       "command line")
+    words.add_argument(
+        "--nats",
+        metavar="URLS",
+        help=(
+            "HOST:PORT,HOST:PORT,.. of the cluster's servers, tls://USER@HOST:PORT for TLS; without it "
+            "the environment's NATS_URL, else 127.0.0.1:4222. A password comes from NATS_PASSWORD, and never from the "
+            "command line"
+        ),
+    )
     add_log_words(words)
 
 

@@ -10,8 +10,9 @@ from engine_log import Reading
 from jetstream import Away, Late, Message, Nats
 from log_in_nats import LogInNats
 
-# how many bytes are taken in one go, so that the node isn't waited with; and how many are asked for ahead at most, of all streams: a server gives up
-# a link to which it can't write for some seconds, so they should have room in the buffers of both machines
+# how many bytes are taken in one go, so that the node isn't waited with; and how many are asked for ahead at most, of
+# all streams: a server gives up a link to which it can't write for some seconds, so they should have room in the
+# buffers of both machines
 BYTES_A_READ, BYTES_AHEAD = 500_000, 4_000_000
 # in seconds: after how long a consumer that says nothing is given up, and how often it has to say that it lives
 SILENT, HEARTBEAT = 7, 2
@@ -37,15 +38,17 @@ def places_of(store: LogInNats, prefixes: Dict[int, int]) -> Dict[int, Place]:
 
 
 class Pulling(Reading):
-    """By a consumer a stream: one request for many blocks, which come as they are kept. The consumer is for this link alone, in the
-    memory of one server, and acknowledges nothing: where it is lost, another one is made where this one was."""
+    """By a consumer a stream: one request for many blocks, which come as they are kept. The consumer is for this
+    connection alone, in the memory of one server, and acknowledges nothing: where it is lost, another one is made where
+    this one was."""
 
-    # In seconds. The servers choose one of those that keep a stream, also one that is gone, which then says nothing: another is asked for.
+    # In seconds. The servers choose one of those that keep a stream, also one that is gone, which then says nothing:
+    # another is asked for.
     TRIES = (1, 1, 1, 2, 2, 4)
 
     def __init__(self, store: LogInNats, prefixes: Dict[int, int], batch: int) -> None:
         self.store, self.batch, self.is_over = store, batch, False
-        self.mean = float(store.block_bytes)      # how many bytes a block has that came of late
+        self.mean = float(store.block_bytes)  # how many bytes a block has that came of late
         self.places = places_of(store, prefixes)
         self.consumers = {stream: Consumer(store, stream, place.sequence) for stream, place in self.places.items()}
         self.make(store.link())
@@ -118,9 +121,19 @@ class Consumer:
 
     def creation(self, nats: Nats) -> Tuple[bytes, bytes]:
         """The token and the bytes of the request to make it."""
-        said = {"stream_name": self.key, "config": {
-            "deliver_policy": "by_start_sequence", "opt_start_seq": self.sequence, "ack_policy": "none", "replay_policy": "instant",
-            "inactive_threshold": 60_000_000_000, "num_replicas": 1, "mem_storage": True, "max_waiting": 8}}
+        said = {
+            "stream_name": self.key,
+            "config": {
+                "deliver_policy": "by_start_sequence",
+                "opt_start_seq": self.sequence,
+                "ack_policy": "none",
+                "replay_policy": "instant",
+                "inactive_threshold": 60_000_000_000,
+                "num_replicas": 1,
+                "mem_storage": True,
+                "max_waiting": 8,
+            },
+        }
         return nats.put(f"$JS.API.CONSUMER.CREATE.{self.key}".encode(), json.dumps(said).encode())
 
     def request(self, count: int) -> bytes:
@@ -140,14 +153,16 @@ class Consumer:
         if message.status:
             raise Away(f"{self.key}: {message.head[9:60].decode(errors='replace').strip()}")
         self.left -= 1
-        words = message.reply.split(b".")      # $JS.ACK.STREAM.CONSUMER.DELIVERED.SEQUENCE.., or with a domain and an account before the stream
+        words = message.reply.split(
+            b"."
+        )  # $JS.ACK.STREAM.CONSUMER.DELIVERED.SEQUENCE.., or with a domain and an account before the stream
         return int(words[5 if len(words) == 9 else 7])
 
 
 class Getting(Reading):
     """One by one, of whichever server has them: needs no leader, so it goes on where no majority is."""
 
-    AHEAD = 8      # blocks of a stream that are asked for at once
+    AHEAD = 8  # blocks of a stream that are asked for at once
 
     def __init__(self, store: LogInNats, prefixes: Dict[int, int]) -> None:
         self.store, self.is_over = store, False
@@ -182,7 +197,7 @@ class Getting(Reading):
                         return found
                     found.append((place.sequence, block))
                     place.sequence += 1
-            except Late:      # handed to a server that is cut off: asked again by the next read
+            except Late:  # handed to a server that is cut off: asked again by the next read
                 return found
             finally:
                 nats.forget([token for token, _ in asked])

@@ -1,11 +1,12 @@
 """A capture: from PostgreSQL's changes to a log. Needs python3-psycopg2, and what is common to all connectors."""
 from __future__ import annotations
 
+import itertools
 import json
 import time
 from typing import Any, Dict, List, Optional
 
-from configuration import BAD, Broken, Configuration      # finds what is common
+from configuration import BAD, Broken, Configuration  # finds what is common
 from feeding import Patience, short
 import psycopg2
 
@@ -22,7 +23,7 @@ from vadungsil.values import MOST_BODY
 # can drop them.
 QUIET_BYTES = 1 << 24
 MOST_WAITING = 1 << 20
-AGAIN = 5.0      # seconds between two tries to open a link that PostgreSQL ended
+AGAIN = 5.0  # seconds between two tries to open a connection that PostgreSQL ended
 LOAD_ROWS = 1_024
 
 
@@ -35,7 +36,7 @@ class Capture:
         self.catalog.see_settings(self.shapes)
         hashed = tuple(it.table.number for it in self.shapes.values() if it.is_hashed)
         self.log = Log(said.log, said.parts, hashed, self.put, self.source.live)
-        self.now: Dict[int, Optional[Shape]] = {}      # the shapes of relations, by what messages say
+        self.now: Dict[int, Optional[Shape]] = {}  # the shapes of relations, by what messages say
         self.changes, self.xid, self.is_there = Changes(), 0, False
         self.waiting = self.beaten = 0
         self.tried = 0.0
@@ -50,21 +51,29 @@ class Capture:
     def own_rows(self) -> Dict[int, bytes]:
         """The rows of table 0 that say what is captured."""
         system, database = self.catalog.name()
-        rows: Dict[int, Dict[str, Any]] = {HEAD: {"system": system, "database": database, "slot": self.said.slot,
-                                                  "parts": self.said.parts}}
+        rows: Dict[int, Dict[str, Any]] = {
+            HEAD: {"system": system, "database": database, "slot": self.said.slot, "parts": self.said.parts}
+        }
         for shape in self.shapes.values():
             it = shape.table
-            rows[TABLES + it.number] = {"name": it.name, "oid": shape.number, "key": it.key, "hashed": shape.is_hashed,
-                                        "tag": it.tag, "columns": it.columns and list(it.columns)}
+            rows[TABLES + it.number] = {
+                "name": it.name,
+                "oid": shape.number,
+                "key": it.key,
+                "hashed": shape.is_hashed,
+                "tag": it.tag,
+                "columns": it.columns and list(it.columns),
+            }
         bodies = {key: json.dumps(row, separators=(",", ":")).encode() for key, row in rows.items()}
         for key, body in bodies.items():
             if len(body) > MOST_BODY:
-                raise Broken(BAD, f"what is said of {rows[key].get('name')} takes {len(body)} bytes, and has "
-                                  f"{MOST_BODY}")
+                raise Broken(
+                    BAD, f"what is said of {rows[key].get('name')} takes {len(body)} bytes, and has " f"{MOST_BODY}"
+                )
         return bodies
 
     def begin(self) -> None:
-        """Learns the log that stands, and goes on with it; loads what stands in PostgreSQL where no load ended."""
+        """Reads the log that stands, and goes on with it; loads what stands in PostgreSQL where no load ended."""
         for frame in self.kept.frames():
             self.log.take(frame)
         self.log.begin(self.kept.number, self.kept.time)
@@ -75,18 +84,24 @@ class Capture:
         for key in sorted({*wanted, *self.log.own} - {COMMIT}):
             begun, now = (rows.get(key, b"nothing of that").decode() for rows in (self.log.own, wanted))
             if begun != now:
-                raise Broken(BAD, f"the log was begun with {begun}, and the configuration says {now}: begin a log "
-                                  "with a "
-                                  "new id")
+                raise Broken(
+                    BAD,
+                    f"the log was begun with {begun}, and the configuration says {now}: begin a log "
+                    "with a "
+                    "new id",
+                )
         see_slot(self.said, self.catalog, self.log.standing.lsn, self.kept.name)
 
     def load(self) -> None:
         """The rows that stand are the first transaction. What an earlier load left is written over."""
         if self.catalog.slot() is not None:
             if not self.log.number:
-                raise Broken(3, f"slot {self.said.slot} is there and {self.kept.name} is empty: it is another log's, "
-                                f"or this log was lost. `select pg_drop_replication_slot('{self.said.slot}')` gives "
-                                "it up")
+                raise Broken(
+                    3,
+                    f"slot {self.said.slot} is there and {self.kept.name} is empty: it is another log's, "
+                    f"or this log was lost. `select pg_drop_replication_slot('{self.said.slot}')` gives "
+                    "it up",
+                )
             self.catalog.drop_slot()
         self.log.load_begin(self.own_rows())
         self.kept.flush()
@@ -109,11 +124,14 @@ class Capture:
     # ------------------------------------------------------------ changes
 
     def place(self, changes: Changes, shape: Shape, row: Written) -> None:
-        """Puts a row; two texts whose hashes are one key are told, and stop."""
+        """Puts a row; two texts whose hashes are one key are reported, and stop it."""
         if shape.is_hashed and self.collides(changes, shape.table.number, row):
-            raise Broken(BAD, f"{shape.table.name}: {shape.table.key} {row.key_text} has the hash {row.key}, which "
-                              "another "
-                              f"{shape.table.key} has too; such a table can't be captured")
+            raise Broken(
+                BAD,
+                f"{shape.table.name}: {shape.table.key} {row.key_text} has the hash {row.key}, which "
+                "another "
+                f"{shape.table.key} has too; such a table can't be captured",
+            )
         changes.put(shape.table.number, row)
 
     def collides(self, changes: Changes, number: int, row: Written) -> bool:
@@ -147,9 +165,8 @@ class Capture:
     def truncate(self, number: int) -> None:
         """All rows of a table go: those that stand, and those that this transaction put."""
         came = [key for (table, key), row in self.changes.rows.ordered() if table == number and row is not None]
-        for keys in (self.log.births.table(number), came):
-            for key in keys:
-                self.changes.remove(number, key)
+        for key in itertools.chain(self.log.births.table(number), came):
+            self.changes.remove(number, key)
 
     def whole(self, shape: Shape, it: Change) -> Values:
         """The values of a row that comes, with those that weren't sent from the row of before: as it was sent, or as
@@ -163,10 +180,13 @@ class Capture:
         key = shape.key(it.old if it.old is not None else values)[0]
         body = self.before(shape, key)
         if body is None:
-            raise Broken(3, f"{shape.table.name}: column {shape.lacks(values)[0]} of a row did not change and isn't "
-                            f"sent, and {self.kept.name} no "
-                            f"longer has the row of before: `alter table {shape.table.name} replica identity full` "
-                            "spares that")
+            raise Broken(
+                3,
+                f"{shape.table.name}: column {shape.lacks(values)[0]} of a row did not change and isn't "
+                f"sent, and {self.kept.name} no "
+                f"longer has the row of before: `alter table {shape.table.name} replica identity full` "
+                "spares that",
+            )
         return shape.filled(values, body)
 
     def before(self, shape: Shape, key: int) -> Optional[bytes]:
@@ -187,20 +207,28 @@ class Capture:
         return None if born is None else self.kept.body(table, key, born)
 
     def relation(self, it: Relation) -> None:
-        """Learns a table as it is from here on; under its name stands the table that was loaded, and under no other."""
-        known = next((shape for shape in self.shapes.values() if it.number == shape.number
-                      or it.name == shape.table.name), None)
+        """Takes note of a table as it is from here on; under its name stands the table that was loaded, and under no
+        other."""
+        known = next(
+            (shape for shape in self.shapes.values() if it.number == shape.number or it.name == shape.table.name), None
+        )
         if known is not None and (it.number, it.name) != (known.number, known.table.name):
-            raise Broken(BAD, f"{known.table.place}: {known.table.name} is another table from here on, or has another "
-                              "name: "
-                              f"{it.name} is number {it.number}, and {known.number} was loaded; begin a log with a "
-                              "new id")
+            raise Broken(
+                BAD,
+                f"{known.table.place}: {known.table.name} is another table from here on, or has another "
+                "name: "
+                f"{it.name} is number {it.number}, and {known.number} was loaded; begin a log with a "
+                "new id",
+            )
         self.now[it.number] = None
         if known is not None:
             shape = self.catalog.relation(known.table, it)
             if shape.is_hashed != known.is_hashed:
-                raise Broken(BAD, f"{known.table.place}: the key {known.table.key} of {it.name} has the type "
-                                  f"{shape.types[known.table.key].shown()} from here on: begin a log with a new id")
+                raise Broken(
+                    BAD,
+                    f"{known.table.place}: the key {known.table.key} of {it.name} has the type "
+                    f"{shape.types[known.table.key].shown()} from here on: begin a log with a new id",
+                )
             self.now[it.number] = shape
 
     # ------------------------------------------------------------ going on
@@ -210,7 +238,7 @@ class Capture:
             if not self.is_there:
                 self.change(it)
         elif isinstance(it, Begin):
-            # PostgreSQL sends again what wasn't confirmed before its link broke
+            # PostgreSQL sends again what wasn't confirmed before its connection broke
             self.changes, self.xid, self.is_there = Changes(), it.xid, it.lsn < self.log.standing.lsn
         elif isinstance(it, Relation):
             self.relation(it)
@@ -224,7 +252,7 @@ class Capture:
                 self.settle()
 
     def settle(self) -> None:
-        """All that was written is kept, and PostgreSQL told so."""
+        """All that was written is kept, and confirmed to PostgreSQL."""
         self.kept.flush()
         self.waiting = 0
         self.source.confirm(self.log.standing.lsn)
@@ -241,7 +269,7 @@ class Capture:
         return bool(self.until) and self.log.standing.lsn >= self.until
 
     def end(self, seen: int) -> None:
-        """PostgreSQL ends, or ended but the plain link, which is then opened again."""
+        """PostgreSQL ends, or ended nothing but the plain connection, which is then opened again."""
         if seen > self.log.standing.lsn:
             self.log.commit(seen, 0, self.log.standing.latest, Changes())
             self.settle()
@@ -290,6 +318,6 @@ PASSING = ("55006", "57P01", "57P02", "57P03")
 
 
 def is_passing(error: psycopg2.Error) -> bool:
-    """Whether PostgreSQL is away, starts, or still has the link of a capture that was killed."""
+    """Whether PostgreSQL is away, starts, or still has the connection of a capture that was killed."""
     is_link = isinstance(error, (psycopg2.OperationalError, psycopg2.InterfaceError))
     return is_link or error.pgcode in PASSING or (error.pgcode is None and isinstance(error, psycopg2.DatabaseError))

@@ -1,4 +1,4 @@
-"""What PostgreSQL says of the tables, the publication and the slot of a capture; what doesn't fit is told by name
+"""What PostgreSQL says of the tables, the publication and the slot of a capture; what doesn't fit is reported by name
 before anything is written. Needs python3-psycopg2."""
 from __future__ import annotations
 
@@ -14,10 +14,19 @@ from pgoutput import Relation
 from shapes import Shape, Type
 
 # The texts of values have to be the same in each session: of the load, of the changes, and after each start.
-SETTINGS = " ".join(f"-c {name}={value}" for name, value in {
-    "TimeZone": "UTC", "DateStyle": "ISO", "IntervalStyle": "iso_8601", "bytea_output": "hex",
-    "extra_float_digits": "1",
-    "client_encoding": "UTF8", "xmloption": "content", "search_path": "pg_catalog"}.items())
+SETTINGS = " ".join(
+    f"-c {name}={value}"
+    for name, value in {
+        "TimeZone": "UTC",
+        "DateStyle": "ISO",
+        "IntervalStyle": "iso_8601",
+        "bytea_output": "hex",
+        "extra_float_digits": "1",
+        "client_encoding": "UTF8",
+        "xmloption": "content",
+        "search_path": "pg_catalog",
+    }.items()
+)
 
 _TYPE = """select t.oid, b.typname, case when b.typelem <> 0 and b.typlen = -1 then 'a' else b.typtype end, e.typname
 from pg_type t join pg_type b on b.oid = case when t.typtype = 'd' then t.typbasetype else t.oid end
@@ -37,16 +46,16 @@ def connected(dsn: str, **more: Any) -> Any:
 
 
 def is_ready(link: Any, seconds: float) -> bool:
-    """Whether something has come over a link, or it has ended, within so long. Where libpq gave up its socket, that is
-    an InterfaceError."""
+    """Whether something has come over a connection, or it has ended, within so long. Where libpq gave up its socket,
+    that is an InterfaceError."""
     try:
         return bool(select.select([link], [], [], seconds)[0])
     except (ValueError, OSError):
-        raise psycopg2.InterfaceError("the link has no socket any more") from None
+        raise psycopg2.InterfaceError("the connection has no socket any more") from None
 
 
 class Catalog:
-    """Asks over a link of its own, which is opened anew where it broke."""
+    """Asks over a connection of its own, which is opened anew where it broke."""
 
     def __init__(self, said: Configuration) -> None:
         self.said, self.types = said, {}  # type: Configuration, Dict[int, Type]
@@ -72,7 +81,7 @@ class Catalog:
             raise
 
     def is_ended(self) -> bool:
-        """Whether PostgreSQL ended the link, which it does first where it is shut down, and no other was opened
+        """Whether PostgreSQL ended the connection, which it does first where it is shut down, and no other was opened
         since."""
         if self.link is not None and is_ready(self.link, 0):
             try:
@@ -97,17 +106,27 @@ class Catalog:
 
     def shape(self, table: Table) -> Shape:
         schema, _, name = table.name.partition(".")
-        found = self.ask("select c.oid, relkind, relreplident, row_security_active(c.oid), "
-                         "has_table_privilege(c.oid, 'select') or has_any_column_privilege(c.oid, 'select') from "
-                         "pg_class c "
-                         "join pg_namespace n on n.oid = relnamespace where nspname = %s and relname = %s", schema,
-                         name)
+        found = self.ask(
+            (
+                "select c.oid, relkind, relreplident, row_security_active(c.oid), "
+                "has_table_privilege(c.oid, 'select') or has_any_column_privilege(c.oid, 'select') from "
+                "pg_class c "
+                "join pg_namespace n on n.oid = relnamespace where nspname = %s and relname = %s"
+            ),
+            schema,
+            name,
+        )
         if not found:
             raise Broken(BAD, f"{table.place}: there is no table {table.name}")
         number, kind, identity, is_hidden, may_read = found[0]
         if kind != "r":
-            raise Broken(BAD, f"{table.place}: {table.name} is no plain table: partitions are named one by one, views "
-                              "aren't captured")
+            raise Broken(
+                BAD,
+                (
+                    f"{table.place}: {table.name} is no plain table: partitions are named one by one, views "
+                    "aren't captured"
+                ),
+            )
         if not may_read:
             raise Broken(BAD, f"{table.place}: this user may not read {table.name}: grant select on {table.name}")
         if is_hidden:
@@ -115,11 +134,17 @@ class Catalog:
         columns = self.ask(_COLUMNS, number)
         for column, _, is_generated, _ in columns:
             if is_generated and (table.columns is None or column in table.columns):
-                raise Broken(BAD, f"{table.place}: column {column} of {table.name} is generated, which PostgreSQL "
-                                  "doesn't send; leave it out by "
-                                  "`columns`")
-        shape = Shape(table, number, [it[0] for it in columns if not it[2]],
-                      self.types_of([it[1] for it in columns if not it[2]]))
+                raise Broken(
+                    BAD,
+                    (
+                        f"{table.place}: column {column} of {table.name} is generated, which PostgreSQL "
+                        "doesn't send; leave it out by "
+                        "`columns`"
+                    ),
+                )
+        shape = Shape(
+            table, number, [it[0] for it in columns if not it[2]], self.types_of([it[1] for it in columns if not it[2]])
+        )
         self.see_identity(table, identity, self.ask(_INDEXES, number), [it[0] for it in columns if it[3]])
         return shape
 
@@ -128,23 +153,39 @@ class Catalog:
         """The key has to be unique and never NULL, and PostgreSQL has to send it of a row that goes."""
         unique = [it for it in indexes if it[2] == table.key and table.key in not_null]
         if not unique:
-            raise Broken(BAD, f"{table.place}: the key {table.key} of {table.name} needs to be not null and unique by "
-                              "itself")
-        is_sent = identity == "f" or any((identity == "d" and primary) or (identity == "i" and chosen) for primary,
-                                         chosen, _ in unique)
+            raise Broken(
+                BAD, f"{table.place}: the key {table.key} of {table.name} needs to be not null and unique by itself"
+            )
+        is_sent = identity == "f" or any(
+            (identity == "d" and primary) or (identity == "i" and chosen) for primary, chosen, _ in unique
+        )
         if not is_sent:
-            raise Broken(BAD, f"{table.place}: of a row of {table.name} that goes, PostgreSQL doesn't send "
-                              f"{table.key} alone: it has to be the "
-                              f"primary key, or `alter table {table.name} replica identity full`")
+            raise Broken(
+                BAD,
+                (
+                    f"{table.place}: of a row of {table.name} that goes, PostgreSQL doesn't send "
+                    f"{table.key} alone: it has to be the "
+                    f"primary key, or `alter table {table.name} replica identity full`"
+                ),
+            )
 
     def relation(self, table: Table, relation: Relation) -> Shape:
         """The shape of a table as a message says it is from here on."""
-        shape = Shape(table, relation.number, [it.name for it in relation.columns],
-                      self.types_of([it.type for it in relation.columns]))
+        shape = Shape(
+            table,
+            relation.number,
+            [it.name for it in relation.columns],
+            self.types_of([it.type for it in relation.columns]),
+        )
         keys = [it.name for it in relation.columns if it.is_key]
         if relation.identity == "n" or (relation.identity != "f" and keys != [table.key]):
-            raise Broken(BAD, f"{table.place}: of a row of {table.name} that goes, PostgreSQL doesn't send "
-                              f"{table.key} alone any more")
+            raise Broken(
+                BAD,
+                (
+                    f"{table.place}: of a row of {table.name} that goes, PostgreSQL doesn't send "
+                    f"{table.key} alone any more"
+                ),
+            )
         return shape
 
     # ------------------------------------------------------------ what is set
@@ -154,40 +195,63 @@ class Catalog:
         said = self.said
         level = self.ask("show wal_level")[0][0]
         if level != "logical":
-            raise Broken(BAD, f"wal_level is {level} in this PostgreSQL, and has to be logical (postgresql.conf, and "
-                              "a restart)")
+            raise Broken(
+                BAD,
+                f"wal_level is {level} in this PostgreSQL, and has to be logical (postgresql.conf, and a restart)",
+            )
         if not self.ask("select rolreplication or rolsuper from pg_roles where rolname = current_user")[0][0]:
             raise Broken(BAD, "this user may not replicate: alter role .. replication")
         if self.ask("show server_encoding")[0][0] == "SQL_ASCII":
             raise Broken(BAD, "server_encoding is SQL_ASCII: what its texts are, PostgreSQL doesn't know")
-        found = self.ask("select pubinsert and pubupdate and pubdelete and pubtruncate from pg_publication where "
-                         "pubname = %s", said.publication)
+        found = self.ask(
+            "select pubinsert and pubupdate and pubdelete and pubtruncate from pg_publication where pubname = %s",
+            said.publication,
+        )
         names = ", ".join(table.name for table in said.tables)
         if not found:
-            raise Broken(BAD, f"there is no publication {said.publication}: create publication {said.publication} for "
-                              f"table {names}")
+            raise Broken(
+                BAD,
+                f"there is no publication {said.publication}: create publication {said.publication} for table {names}",
+            )
         if not found[0][0]:
             raise Broken(BAD, f"publication {said.publication} leaves out inserts, updates, deletes or truncates")
-        has = {f"{schema}.{name}": (columns, rows) for schema, name, columns, rows in self.ask(
-            "select schemaname, tablename, attnames::text[], rowfilter from pg_publication_tables where pubname = %s",
-            said.publication)}
+        has = {
+            f"{schema}.{name}": (columns, rows)
+            for schema, name, columns, rows in self.ask(
+                (
+                    "select schemaname, tablename, attnames::text[], rowfilter from pg_publication_tables where pubname"
+                    " = %s"
+                ),
+                said.publication,
+            )
+        }
         for table in said.tables:
             if table.name not in has:
-                raise Broken(BAD, f"{table.place}: publication {said.publication} has no {table.name}: "
-                                  f"alter publication {said.publication} add table {table.name}")
+                raise Broken(
+                    BAD,
+                    (
+                        f"{table.place}: publication {said.publication} has no {table.name}: "
+                        f"alter publication {said.publication} add table {table.name}"
+                    ),
+                )
             if has[table.name][1] is not None:
                 raise Broken(BAD, f"{table.place}: publication {said.publication} leaves out rows of {table.name}")
             lacking = [it for it in table.columns or shapes[table.name].names if it not in has[table.name][0]]
             if lacking:
-                raise Broken(BAD, f"{table.place}: publication {said.publication} leaves out column {lacking[0]} of "
-                                  f"{table.name}")
+                raise Broken(
+                    BAD,
+                    f"{table.place}: publication {said.publication} leaves out column {lacking[0]} of {table.name}",
+                )
 
     def slot(self) -> Optional[Tuple[str, int]]:
-        """The database of the slot, and up to where PostgreSQL was told that all is kept; None where there is no
-        slot."""
-        found = self.ask("select database, plugin, confirmed_flush_lsn - '0/0'::pg_lsn from pg_replication_slots "
-                         "where slot_name = %s",
-                         self.said.slot)
+        """The database of the slot, and up to where all was confirmed to PostgreSQL; None where there is no slot."""
+        found = self.ask(
+            (
+                "select database, plugin, confirmed_flush_lsn - '0/0'::pg_lsn from pg_replication_slots "
+                "where slot_name = %s"
+            ),
+            self.said.slot,
+        )
         if not found:
             return None
         if found[0][1] != "pgoutput":

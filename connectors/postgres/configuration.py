@@ -10,9 +10,11 @@ from typing import Any, Dict, List, NamedTuple, NoReturn, Optional, Tuple
 sys.dont_write_bytecode = True
 sys.path.append(str(pathlib.Path(__file__).resolve().parent.parent / "common"))
 
-from blocks import Broken      # noqa: E402
+from blocks import Broken  # noqa: E402
 
-MOST_TABLE = 2 ** 16 - 1
+__all__ = ["Broken", "Configuration", "Table", "read"]
+
+MOST_TABLE = 2**16 - 1
 BAD = 4
 
 _TOP = {"log": int, "dsn": str, "publication": str, "slot": str, "parts": int, "table": list}
@@ -28,7 +30,7 @@ class Table(NamedTuple):
     key: str
     tag: Optional[str]
     columns: Optional[Tuple[str, ...]]
-    place: str      # where it stands in the file, for what is said of it
+    place: str  # where it stands in the file, for what is said of it
 
 
 class Configuration(NamedTuple):
@@ -94,7 +96,7 @@ def read(path: str) -> Configuration:
     """The configuration of a file; Broken (4) says the file, the line and what is wrong."""
     it = Reader(path)
     it.take(it.said, 0, _TOP)
-    log = it.number(it.said, 0, "log", 2 ** 64 - 1)
+    log = it.number(it.said, 0, "log", 2**64 - 1)
     parts = it.number(it.said, 0, "parts", MOST_TABLE, MOST_TABLE)
     slot = it.said.get("slot", f"vadungsil_{log}")
     if not re.fullmatch(r"[a-z0-9_]{1,63}", slot):
@@ -115,12 +117,21 @@ def table_of(it: Reader, number: int, said: Any) -> Table:
     if columns is not None:
         for column in [key, *([tag] if tag else [])]:
             if column not in columns:
-                it.fail(number, "columns", f"columns of {name} lacks {column}, which is its "
-                                           f"{'key' if column == key else 'tag'}")
+                it.fail(
+                    number,
+                    "columns",
+                    f"columns of {name} lacks {column}, which is its " f"{'key' if column == key else 'tag'}",
+                )
         if any(not isinstance(column, str) for column in columns) or len(set(columns)) < len(columns):
             it.fail(number, "columns", f"columns of {name} are names, each once")
-    return Table(it.number(said, number, "number", MOST_TABLE), name if "." in name else f"public.{name}", key, tag,
-                 None if columns is None else tuple(columns), it.place(number, "name"))
+    return Table(
+        it.number(said, number, "number", MOST_TABLE),
+        name if "." in name else f"public.{name}",
+        key,
+        tag,
+        None if columns is None else tuple(columns),
+        it.place(number, "name"),
+    )
 
 
 def see_numbers(it: Reader, tables: Tuple[Table, ...], parts: int) -> None:

@@ -7,7 +7,7 @@ import argparse
 import hashlib
 from typing import Any, Dict, Iterator, List, Optional, Tuple
 
-from configuration import Broken      # finds what is common
+from configuration import Broken  # finds what is common
 from blocks import BLOCK_BYTES, Block, Framed, frames_of
 from engine_log import EngineLog, Reading
 from feeding import Feed, LinkBroken, Patience, Refused
@@ -52,13 +52,15 @@ def is_last(frame: bytes) -> bool:
 
 # ---------------------------------------------------------------- an engine
 
+
 class KeptByEngine(Kept):
     """Over what `publish` has for all engines: it compares what stands, and waits where the engine is away."""
 
     def __init__(self, store: EngineLog, patience: float) -> None:
         self.store, self.name = store, store.engine
-        self.publisher = Publisher(store, argparse.Namespace(block=BLOCK_BYTES, patience=patience, confirm=False,
-                                                             heads=True))
+        self.publisher = Publisher(
+            store, argparse.Namespace(block=BLOCK_BYTES, patience=patience, confirm=False, heads=True)
+        )
         self.publisher.patience = Patience("capture")
         self.publisher.kept_up(store.prepare)
 
@@ -85,9 +87,12 @@ class KeptByEngine(Kept):
     def entries(self, block: Block, end: int) -> Iterator[bytes]:
         """The entries of a block behind those that were read, up to the end."""
         if self.number < end and block.first > self.number + 1:
-            raise Broken(LOST, f"entries {self.number + 1} to {block.first - 1} are no longer in {self.name}, and a "
-                               "capture "
-                               "goes on from the whole log: begin a log with a new id")
+            raise Broken(
+                LOST,
+                f"entries {self.number + 1} to {block.first - 1} are no longer in {self.name}, and a "
+                "capture "
+                "goes on from the whole log: begin a log with a new id",
+            )
         for frame in frames_of(block.data):
             if frame[5] == 1 and self.number < number_of(frame) <= end:
                 self.number, self.time = number_of(frame), time_of(frame)
@@ -143,6 +148,7 @@ def body_in(entries: List[bytes], table: int, key: int, born: int) -> Optional[b
 
 # ---------------------------------------------------------------- a node
 
+
 class KeptByNode(Kept):
     """A node that reads messages of version 2, and is the only place where the log is: whoever needs a log that is kept
     takes an engine. Entries of a transaction that isn't whole are put together from the node's rows, so that they are
@@ -151,15 +157,18 @@ class KeptByNode(Kept):
     def __init__(self, address: str, log: int) -> None:
         self.name, self.log = f"the node at {address}", log
         self.address, self.feed = address, Feed(address)
-        self.there: Dict[int, bytes] = {}      # what stands of a transaction that isn't whole, by number, as hashes
+        self.there: Dict[int, bytes] = {}  # what stands of a transaction that isn't whole, by number, as hashes
         self.waiting: List[bytes] = []
         self.size = 0
 
     def frames(self) -> Iterator[bytes]:
         streams = self.feed.streams()
         if len(streams) != 1 or streams[0].extra or streams[0].waiting:
-            raise Broken(BAD_NODE, f"{self.name} has {len(streams)} streams, or items that wait for others: a capture "
-                                   "has one, and all of it")
+            raise Broken(
+                BAD_NODE,
+                f"{self.name} has {len(streams)} streams, or items that wait for others: a capture "
+                "has one, and all of it",
+            )
         self.number = streams[0].prefix
         if not self.number:
             return
@@ -173,7 +182,7 @@ class KeptByNode(Kept):
         self.partial(by_time)
 
     def moment(self) -> int:
-        """The last whole transaction's moment, 0 where there is none: the birth of the row that tells it."""
+        """The last whole transaction's moment, 0 where there is none: the birth of the row that names it."""
         with Node(self.address, limit=600) as node:
             for part in node.parts(0):
                 for fact in part.facts:
@@ -184,7 +193,7 @@ class KeptByNode(Kept):
         return 0
 
     def fact(self, fact: Fact, moment: int, by_time: Dict[int, Tuple[List[Any], List[Any]]]) -> Iterator[bytes]:
-        """An entry with the one row that a fact tells, where it stood at the moment; what came later is kept by its
+        """An entry with the one row that a fact has, where it stood at the moment; what came later is kept by its
         time."""
         version, row, died = fact.version, fact.row, fact.died
         if moment and died is not None and died > moment:
@@ -205,8 +214,11 @@ class KeptByNode(Kept):
         if frame[5] == 1 and self.there:
             there = self.there.pop(number_of(frame), None)
             if there is not None and there != digest(frame):
-                raise Broken(FORKED, f"entry {number_of(frame)} in {self.name} is another: this log is not the one "
-                                     "that was fed before")
+                raise Broken(
+                    FORKED,
+                    f"entry {number_of(frame)} in {self.name} is another: this log is not the one "
+                    "that was fed before",
+                )
         self.waiting.append(frame)
         self.size += len(frame)
         if self.size > 1 << 20:

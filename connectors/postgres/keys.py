@@ -9,8 +9,8 @@ Place = Tuple[int, int]
 
 # Keys stand multiplied by an odd number, which can be taken back: so no two records look alike, also where keys follow
 # one another.
-_ODD, _ALL = 0x9E3779B97F4A7C15, 2 ** 64 - 1
-_BACK = pow(_ODD, -1, 2 ** 64)
+_ODD, _ALL = 0x9E3779B97F4A7C15, 2**64 - 1
+_BACK = pow(_ODD, -1, 2**64)
 
 # records a bucket has on average before the next is split
 _RECORDS = 24
@@ -24,8 +24,8 @@ def _spread(stored: int) -> int:
 
 
 class Keys:
-    """The keys of one table, each with a time, and where `is_hashed` with a second number that tells two texts of one
-    hash apart. 16 or 24 bytes a key and some of the buckets', which are split one after the other as keys come (linear
+    """The keys of one table, each with a time, and where `is_hashed` with a second number that distinguishes two texts
+    of one hash. 16 or 24 bytes a key and some of the buckets', which are split one after the other as keys come (linear
     hashing), so that no change takes long."""
 
     def __init__(self, is_hashed: bool = False) -> None:
@@ -65,8 +65,8 @@ class Keys:
         bucket, at, _ = self._found(key)
         if at < 0:
             return
-        bucket[at:at + self.size] = bucket[-self.size:]
-        del bucket[-self.size:]
+        bucket[at : at + self.size] = bucket[-self.size :]
+        del bucket[-self.size :]
         self.count -= 1
 
     # ------------------------------------------------------------ texts of one hash
@@ -74,7 +74,8 @@ class Keys:
     def check(self, key: int) -> int:
         """The second number of a key, 0 where none was set or the key isn't there."""
         bucket, at, _ = self._found(key)
-        return 0 if at < 0 else _KEY.unpack_from(bucket, at + 16)[0]
+        check: int = 0 if at < 0 else _KEY.unpack_from(bucket, at + 16)[0]
+        return check
 
     def set_check(self, key: int, check: int) -> None:
         """Sets the second number of a key that is there."""
@@ -87,7 +88,7 @@ class Keys:
         """The bucket of a key, where its record begins or -1, and the key as it stands there. What looks like it inside
         a record is passed over."""
         stored = key * _ODD & _ALL
-        at = ((stored ^ stored >> 32) * _ODD & _ALL) >> 32 & 2 * self.round - 1      # by _spread, written out
+        at = ((stored ^ stored >> 32) * _ODD & _ALL) >> 32 & 2 * self.round - 1  # by _spread, written out
         bucket = self.buckets[at if at < len(self.buckets) else at & self.round - 1]
         text = _KEY.pack(stored)
         at = bucket.find(text)
@@ -99,7 +100,7 @@ class Keys:
         """Adds a bucket, and moves to it what belongs there of the one it is split from: by one bit more of the key."""
         old, size, records = self.buckets[len(self.buckets) - self.round], self.size, []
         for at in range(0, len(old), size):
-            records.append(bytes(old[at:at + size]))
+            records.append(bytes(old[at : at + size]))
         old.clear()
         new = bytearray()
         for record in records:

@@ -6,7 +6,7 @@ import json
 import struct
 from typing import Any, Callable, Dict, Iterable, Iterator, NamedTuple, Optional, Tuple
 
-from json.decoder import scanstring      # type: ignore[attr-defined]
+from json.decoder import scanstring  # type: ignore[attr-defined]
 
 from configuration import BAD, Broken
 from keys import Births, Place
@@ -20,7 +20,7 @@ from vadungsil.values import MOST_BODY, MOST_WRITES
 LONG = ord("[")
 
 # the parts of one transaction are numbered within so many keys
-PARTS = 2 ** 22
+PARTS = 2**22
 
 _U16, _HEAD, _END, _ROW = (struct.Struct(form).unpack_from for form in (">H", ">HH", ">QQ", ">QIH"))
 Writes = Dict[Place, Optional[Tuple[int, bytes]]]
@@ -45,7 +45,7 @@ def lists_of(frame: bytes) -> Iterator[Tuple[int, int, Optional[memoryview]]]:
             for _ in range(count):
                 if is_row:
                     key, _, size = _ROW(frame, at)
-                    yield table, key, view[at + 14:at + 14 + size]
+                    yield table, key, view[at + 14 : at + 14 + size]
                     at += 14 + size
                 else:
                     yield table, _END(frame, at)[0], None
@@ -58,7 +58,7 @@ class Changes:
     def __init__(self) -> None:
         self.rows = Spilling(Written)
         self.has_long = False
-        self.count = 0      # changes that came
+        self.count = 0  # changes that came
 
     def put(self, table: int, row: Written) -> None:
         self.rows.put((table, row.key), row)
@@ -82,12 +82,18 @@ class Log:
     `commit` writes those of a transaction, `load_*` those of the first one; `out` takes the frames, and `alive` is
     called where that takes long."""
 
-    def __init__(self, log: int, parts: int, hashed: Tuple[int, ...], out: Callable[[bytes], None],
-                 alive: Callable[[], None] = lambda: None) -> None:
+    def __init__(
+        self,
+        log: int,
+        parts: int,
+        hashed: Tuple[int, ...],
+        out: Callable[[bytes], None],
+        alive: Callable[[], None] = lambda: None,
+    ) -> None:
         self.log, self.parts, self.out, self.alive = log, parts, out, alive
         self.births, self.has_hashes = Births(hashed), bool(hashed)
-        self.own: Dict[int, bytes] = {}           # the rows of table 0
-        self.longs: Dict[Place, Long] = {}        # the rows that have parts
+        self.own: Dict[int, bytes] = {}  # the rows of table 0
+        self.longs: Dict[Place, Long] = {}  # the rows that have parts
         self.standing = Standing(0, 0, 0)
         self.writer = LogWriter.behind(log, [0], 0, self.births)
         self.number = self.index = self.next_part = 0
@@ -95,7 +101,8 @@ class Log:
     # ------------------------------------------------------------ a log that stands
 
     def take(self, frame: bytes) -> None:
-        """Learns an entry that stands: of a transaction that is whole, or of the first one, whose load was cut off."""
+        """Takes in an entry that stands: of a transaction that is whole, or of the first one, whose load was cut
+        off."""
         time, at = time_of(frame), 34
         for _ in range(_U16(frame, 32)[0]):
             table, count = _HEAD(frame, at)
@@ -111,7 +118,7 @@ class Log:
             self.stand(time)
 
     def take_rows(self, frame: bytes, at: int, time: int) -> int:
-        """Learns the rows of one table, and says where they end. A body is looked at where it says more than a row of
+        """Takes in the rows of one table, and says where they end. A body is looked at where it says more than a row of
         columns does."""
         table, count = _HEAD(frame, at)
         keys, at = self.births.table(table), at + 4
@@ -151,8 +158,9 @@ class Log:
         """The log is whole up to a moment."""
         said = json.loads(self.own[COMMIT])
         if last_time(said["transaction"]) != time:
-            raise Broken(BAD, f"entry {self.number} is none of a capture: time {time}, transaction "
-                              f"{said['transaction']}")
+            raise Broken(
+                BAD, f"entry {self.number} is none of a capture: time {time}, transaction " f"{said['transaction']}"
+            )
         self.standing = Standing(said["transaction"], said["lsn"], said["latest"])
 
     def begin(self, number: int, time: int) -> None:
@@ -163,7 +171,7 @@ class Log:
     # ------------------------------------------------------------ writing
 
     def commit(self, lsn: int, xid: int, clock: int, changes: Changes) -> None:
-        """Writes a transaction: its rows, and at last the row that tells it."""
+        """Writes a transaction: its rows, and at last the row that names it."""
         transaction = self.standing.transaction + 1
         self.index, self.next_part = 0, transaction * PARTS
         writes, longs = self.writes_of(changes)
@@ -185,7 +193,7 @@ class Log:
                 self.alive()
             before = self.longs.get(place)
             for part in range(before.pieces if before is not None else 0):
-                writes.put((self.parts, before.first + part), None)      # type: ignore[union-attr]
+                writes.put((self.parts, before.first + part), None)  # type: ignore[union-attr]
             if row is not None:
                 self.put_row(writes, longs, place, row)
             elif place in self.births:
@@ -205,13 +213,16 @@ class Log:
         if len(row.body) <= MOST_BODY:
             writes.put(place, (row.tag, row.body))
             return
-        pieces = [row.body[at:at + MOST_BODY] for at in range(0, len(row.body), MOST_BODY)]
+        pieces = [row.body[at : at + MOST_BODY] for at in range(0, len(row.body), MOST_BODY)]
         first, self.next_part = self.next_part, self.next_part + len(pieces)
         key = f",{row.key_text}" if self.is_hashed(place[0]) else ""
         head = f"[{first},{len(pieces)},{len(row.body)}{key}]".encode()
         if len(head) > MOST_BODY or self.next_part > (first // PARTS + 1) * PARTS:
-            raise Broken(BAD, f"a row of table {place[0]} is too long: {len(row.body)} bytes, of which the key takes "
-                              f"{len(row.key_text)}")
+            raise Broken(
+                BAD,
+                f"a row of table {place[0]} is too long: {len(row.body)} bytes, of which the key takes "
+                f"{len(row.key_text)}",
+            )
         writes.put(place, (row.tag, head))
         for at, piece in enumerate(pieces):
             writes.put((self.parts, first + at), (0 if at else len(pieces), piece))

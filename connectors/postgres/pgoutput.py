@@ -27,8 +27,8 @@ class Broken(Exception):
 
 class Column(NamedTuple):
     name: str
-    type: int       # its number in pg_type
-    is_key: bool    # it is sent of a row that goes
+    type: int  # its number in pg_type
+    is_key: bool  # it is sent of a row that goes
 
 
 class Relation(NamedTuple):
@@ -88,14 +88,14 @@ def values_at(data: bytes, at: int) -> Tuple[List[Value], int]:
     for _ in range(count):
         kind = data[at]
         at += 1
-        if kind == 0x74:      # t
+        if kind == 0x74:  # t
             size = _U32(data, at)[0]
             at += 4
-            values.append(data[at:at + size].decode())
+            values.append(data[at : at + size].decode())
             at += size
-        elif kind == 0x6e:    # n
+        elif kind == 0x6E:  # n
             values.append(None)
-        elif kind == 0x75:    # u
+        elif kind == 0x75:  # u
             values.append(UNCHANGED)
         else:
             raise Broken(f"a value of kind {kind}")
@@ -140,12 +140,13 @@ class Decoder:
             return [relation]
         if kind == b"T":
             count, _ = _TRUNCATE.unpack_from(data, 1)
-            return [Change(self.relations[number], "t", None, None)
-                    for number in struct.unpack_from(f">{count}I", data, 6)]
+            return [
+                Change(self.relations[number], "t", None, None) for number in struct.unpack_from(f">{count}I", data, 6)
+            ]
         if kind == b"M":
             prefix, at = text_at(data, 10)
-            return [Word(prefix, data[at + 4:at + 4 + _U32(data, at)[0]])]
-        if kind in (b"O", b"Y"):      # an origin, a type
+            return [Word(prefix, data[at + 4 : at + 4 + _U32(data, at)[0]])]
+        if kind in (b"O", b"Y"):  # an origin, a type
             return []
         raise Broken(f"a message of kind {kind!r}")
 

@@ -3,7 +3,7 @@ from __future__ import annotations
 
 import json
 import math
-from json.encoder import encode_basestring as quoted      # type: ignore[attr-defined]
+from json.encoder import encode_basestring as quoted  # type: ignore[attr-defined]
 from typing import Dict, List, NamedTuple, Optional, Sequence, Tuple
 
 from configuration import BAD, Broken, Table
@@ -13,9 +13,30 @@ from vadungsil.postgres import digest_of, key_of, tag_of
 # how a value of a type stands in a body: as PostgreSQL prints it where that is JSON, else as a text
 NUMBERS = {"int2", "int4", "int8", "oid"}
 FLOATS = {"float4", "float8"}
-TEXTS = {"numeric", "text", "varchar", "bpchar", "char", "name", "uuid", "json", "jsonb", "bytea", "date", "time",
-         "timetz", "timestamp",
-         "timestamptz", "interval", "inet", "cidr", "macaddr", "macaddr8", "bit", "varbit"}
+TEXTS = {
+    "numeric",
+    "text",
+    "varchar",
+    "bpchar",
+    "char",
+    "name",
+    "uuid",
+    "json",
+    "jsonb",
+    "bytea",
+    "date",
+    "time",
+    "timetz",
+    "timestamp",
+    "timestamptz",
+    "interval",
+    "inet",
+    "cidr",
+    "macaddr",
+    "macaddr8",
+    "bit",
+    "varbit",
+}
 WHOLE_KEYS, HASHED_KEYS = {"int2", "int4", "int8"}, {"text", "varchar", "bpchar", "uuid"}
 
 
@@ -27,22 +48,25 @@ class Type(NamedTuple):
     kind: str
 
     def is_known(self) -> bool:
-        return self.kind == "e" or self.name in TEXTS or (self.kind == "b"
-                                                          and (self.name == "bool" or self.name in NUMBERS | FLOATS)) \
+        return (
+            self.kind == "e"
+            or self.name in TEXTS
+            or (self.kind == "b" and (self.name == "bool" or self.name in NUMBERS | FLOATS))
             or (self.kind == "a" and self.name in NUMBERS | FLOATS | {"bool"})
+        )
 
     def shown(self) -> str:
         return f"{self.name}[]" if self.kind == "a" else self.name
 
 
 class Written(NamedTuple):
-    """A row as it is written. `check` tells two texts of one hash apart, and is 0 of whole numbers."""
+    """A row as it is written. `check` distinguishes two texts of one hash, and is 0 of whole numbers."""
 
     key: int
     check: int
     tag: int
     body: bytes
-    key_text: str      # the key's column as JSON
+    key_text: str  # the key's column as JSON
 
 
 def as_number(value: str) -> str:
@@ -50,7 +74,7 @@ def as_number(value: str) -> str:
 
 
 def as_float(value: str) -> str:
-    return value if math.isfinite(float(value)) else quoted(value)      # type: ignore[no-any-return]
+    return value if math.isfinite(float(value)) else quoted(value)  # type: ignore[no-any-return]
 
 
 def as_bool(value: str) -> str:
@@ -70,30 +94,41 @@ class Shape:
         self.types = dict(zip(self.names, types))
         for name in wanted:
             if not self.types[name].is_known():
-                raise Broken(BAD, f"{table.place}: column {name} of {table.name} has the type "
-                                  f"{self.types[name].shown()}, which isn't known "
-                                  "here; leave it out by `columns`")
+                raise Broken(
+                    BAD,
+                    f"{table.place}: column {name} of {table.name} has the type "
+                    f"{self.types[name].shown()}, which isn't known "
+                    "here; leave it out by `columns`",
+                )
         self.see_key_and_tag()
         ordered = [table.key, *(name for name in wanted if name != table.key)]
-        self.fields = [(self.names.index(name), ("{" if name == table.key else ",") + quoted(name) + ":",
-                        self.writer(name)) for name in ordered]
+        self.fields = [
+            (self.names.index(name), ("{" if name == table.key else ",") + quoted(name) + ":", self.writer(name))
+            for name in ordered
+        ]
         self.key_at, self.key_writer = self.fields[0][0], self.fields[0][2]
         self.tag_at = self.names.index(table.tag) if table.tag else -1
 
     def see_key_and_tag(self) -> None:
         table, key = self.table, self.types[self.table.key]
         if key.kind != "b" or key.name not in WHOLE_KEYS | HASHED_KEYS:
-            raise Broken(BAD, f"{table.place}: the key {table.key} of {table.name} has the type {key.shown()}: a key "
-                              "is a whole number "
-                              "(smallint, integer, bigint), a text or a uuid")
+            raise Broken(
+                BAD,
+                f"{table.place}: the key {table.key} of {table.name} has the type {key.shown()}: a key "
+                "is a whole number "
+                "(smallint, integer, bigint), a text or a uuid",
+            )
         self.is_hashed = key.name in HASHED_KEYS
         tag = self.types[table.tag] if table.tag else None
         if tag is not None and (tag.kind == "a" or tag.name in FLOATS | {"numeric"}):
-            raise Broken(BAD, f"{table.place}: the tag {table.tag} of {table.name} has the type {tag.shown()}: a tag "
-                              "is a whole number, a text, "
-                              "or another value that is printed in one way alone")
+            raise Broken(
+                BAD,
+                f"{table.place}: the tag {table.tag} of {table.name} has the type {tag.shown()}: a tag "
+                "is a whole number, a text, "
+                "or another value that is printed in one way alone",
+            )
 
-    def writer(self, name: str):      # type: ignore[no-untyped-def]
+    def writer(self, name: str):  # type: ignore[no-untyped-def]
         """What writes a value of a column as JSON."""
         type_ = self.types[name]
         if type_.kind == "b" and type_.name in NUMBERS:
@@ -144,7 +179,9 @@ class Shape:
         whole = list(values)
         for name in self.lacks(values):
             if name not in before:
-                raise Broken(BAD, f"column {name} of {self.table.name} did not change, and the row of before has no "
-                                  "such column")
+                raise Broken(
+                    BAD,
+                    f"column {name} of {self.table.name} did not change, and the row of before has no " "such column",
+                )
             whole[self.names.index(name)] = before[name]
         return whole

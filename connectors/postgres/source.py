@@ -1,6 +1,7 @@
 """The database of a capture: its rows at the start, and the transactions since. Needs python3-psycopg2."""
 from __future__ import annotations
 
+import functools
 import time
 from typing import Any, Callable, Dict, Iterator, List, Optional, Tuple
 
@@ -21,12 +22,12 @@ _ESCAPES = {"b": "\b", "f": "\f", "n": "\n", "r": "\r", "t": "\t", "v": "\v"}
 
 
 class Source:
-    """The replication link, opened anew where it broke.
+    """The replication connection, opened anew where it broke.
 
-    PostgreSQL is to be told of no place that the log doesn't have, for by that a lost tail is known. psycopg2 by itself
-    tells of each place up to which nothing came, where the last message is confirmed. So the last one never is: of a
-    commit all is confirmed but its last byte, which means the same, and so that a message is there a `beat` stands in
-    the write-ahead log before the first is read."""
+    No place is to be confirmed to PostgreSQL that the log doesn't have, for by that a lost tail is known. psycopg2 by
+    itself confirms each place up to which nothing came, where the last message is confirmed. So the last one never is:
+    of a commit all is confirmed but its last byte, which means the same, and so that a message is there a `beat` stands
+    in the write-ahead log before the first is read."""
 
     def __init__(self, said: Configuration, catalog: Catalog) -> None:
         self.said, self.catalog = said, catalog
@@ -55,7 +56,7 @@ class Source:
 
     def make_slot(self) -> Tuple[int, str]:
         """Makes the slot: from where it sends transactions, and the name of a snapshot that has all from before. The
-        snapshot is there until the next command over this link."""
+        snapshot is there until the next command over this connection."""
         cursor = self.open()
         cursor.execute(f"CREATE_REPLICATION_SLOT {self.said.slot} LOGICAL pgoutput EXPORT_SNAPSHOT")
         _, point, snapshot, _ = cursor.fetchone()
@@ -71,14 +72,14 @@ class Source:
                 for shape in shapes.values():
                     columns = sql.SQL(", ").join(sql.Identifier(name) for name in shape.names)
                     text = sql.SQL("COPY (SELECT {} FROM ONLY {}) TO STDOUT").format(columns, names_of(shape.table))
-                    cursor.copy_expert(text, Lines(lambda values, shape=shape: take(shape, values)))
+                    cursor.copy_expert(text, Lines(functools.partial(take, shape)))
         finally:
             link.close()
 
     # ------------------------------------------------------------ the transactions since
 
     def start(self) -> None:
-        """Begins to read behind what PostgreSQL was told is kept."""
+        """Begins to read behind what was confirmed to PostgreSQL."""
         self.decoder = Decoder()
         self.beat()
         quoted = self.said.publication.replace('"', '""')
@@ -95,19 +96,19 @@ class Source:
         return None if message is None else self.decoder.decode(message.payload)
 
     def confirm(self, lsn: int) -> None:
-        """Tells PostgreSQL that all up to behind a commit is kept."""
+        """Confirms to PostgreSQL that all up to behind a commit is kept."""
         if lsn - 1 > self.confirmed:
             self.confirmed = lsn - 1
             self.tell()
 
     def confirm_all(self, lsn: int) -> None:
-        """Tells PostgreSQL that all is kept that it sent: it ends then."""
+        """Confirms to PostgreSQL that all is kept that it sent: it ends then."""
         if lsn > self.confirmed:
             self.confirmed = lsn
             self.tell()
 
     def live(self) -> None:
-        """Tells that we are there, where that is due."""
+        """Reports that we are there, where that is due."""
         if self.cursor is not None and self.confirmed and time.monotonic() - self.told > ALIVE:
             self.tell()
 
@@ -154,12 +155,16 @@ def see_slot(said: Configuration, catalog: Catalog, lsn: int, name: str) -> None
     """The slot is there, and goes on where the log ends (3)."""
     slot = catalog.slot()
     if slot is None:
-        raise Broken(3, f"slot {said.slot} is gone, and what happened since {name} ends is lost: begin a log with a "
-                        "new id")
+        raise Broken(
+            3, f"slot {said.slot} is gone, and what happened since {name} ends is lost: begin a log with a " "new id"
+        )
     database = catalog.name()[1]
     if slot[0] != database:
         raise Broken(BAD, f"slot {said.slot} is of the database {slot[0]}, and dsn names {database}")
     if slot[1] > lsn:
-        raise Broken(3, f"PostgreSQL was told that more is kept than {name} has, up to {place_of(slot[1])} and not "
-                        f"{place_of(lsn)}: {name} lost its tail, "
-                        "and those transactions can't be had again. Begin a log with a new id")
+        raise Broken(
+            3,
+            f"more was confirmed to PostgreSQL than {name} has, up to {place_of(slot[1])} and not "
+            f"{place_of(lsn)}: {name} lost its tail, "
+            "and those transactions can't be had again. Begin a log with a new id",
+        )

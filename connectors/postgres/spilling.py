@@ -51,8 +51,9 @@ class Spilling:
                 yield place, self.rows[place]
             return
         self.spill()
-        for place, value in self.base.execute("select place, value from rows order by place"):
-            yield _PLACE.unpack(place), self.value(value)
+        for packed, value in self.base.execute("select place, value from rows order by place"):
+            number, key = _PLACE.unpack(packed)
+            yield (number, key), self.value(value)
 
     def clear(self) -> None:
         self.rows.clear()
@@ -69,9 +70,13 @@ class Spilling:
             self.base.execute("pragma journal_mode = off")
             self.base.execute("create table rows(place blob primary key, value blob) without rowid")
         self.base.execute("begin")
-        self.base.executemany("insert or replace into rows values (?, ?)", (
-            (_PLACE.pack(*place), marshal.dumps(None if row is None else tuple(row))) for place,
-            row in self.rows.items()))
+        self.base.executemany(
+            "insert or replace into rows values (?, ?)",
+            (
+                (_PLACE.pack(*place), marshal.dumps(None if row is None else tuple(row)))
+                for place, row in self.rows.items()
+            ),
+        )
         self.base.execute("commit")
         self.rows.clear()
 

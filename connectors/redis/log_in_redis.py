@@ -1,9 +1,11 @@
-"""A log in Redis: stream S of log L is the Redis stream `hekaton:L:S`, one message a block (connectors/common/blocks.py), in the field
-`b`. A message of before blocks were, with one item frame in the field `f`, is a block too, and has the id that a block would have.
+"""A log in Redis: stream S of log L is the Redis stream `hekaton:L:S`, one message a block
+(connectors/common/blocks.py), in the field `b`. A message of before blocks were, with one item frame in the field `f`,
+is a block too, and has the id that a block would have.
 
-The id of a message says how far it goes: n is the last entry in it, k counts the messages with marks alone behind it, and the id is n-k.
-So the place of an entry is known without a cursor, an entry can't stand there twice, and none can stand where a lower one lacks: ids only
-rise, and append.lua adds a block only behind the one before. Needs Redis 6.2 or later, and python3-redis."""
+The id of a message says how far it goes: n is the last entry in it, k counts the messages with marks alone behind it,
+and the id is n-k. So the place of an entry is known without a cursor, an entry can't stand there twice, and none can
+stand where a lower one lacks: ids only rise, and append.lua adds a block only behind the one before. Needs Redis 6.2 or
+later, and python3-redis."""
 from __future__ import annotations
 
 import argparse
@@ -16,19 +18,30 @@ from urllib.parse import urlsplit
 sys.dont_write_bytecode = True
 sys.path.append(str(pathlib.Path(__file__).resolve().parent.parent / "common"))
 
-import redis      # noqa: E402
+import redis  # noqa: E402
 
-from blocks import Block, Broken, walked      # noqa: E402
-from engine_log import EngineLog, Moved, Reading, add_log_words, see_log      # noqa: E402
-from finding import OwnersConnection, through_cluster, through_sentinels      # noqa: E402
+from blocks import Block, Broken, walked  # noqa: E402
+from engine_log import EngineLog, Moved, Reading, add_log_words, see_log  # noqa: E402
+from finding import OwnersConnection, through_cluster, through_sentinels  # noqa: E402
 
 APPEND = (pathlib.Path(__file__).resolve().parent / "append.lua").read_text()
 
 # What a later try may mend: the broker is away, starts, changes places with a replica, or is full.
-PASSING_WORDS = ("LOADING", "READONLY", "MASTERDOWN", "CLUSTERDOWN", "TRYAGAIN", "OOM", "MISCONF", "NOREPLICAS", "BUSY", "UNKILLABLE")
+PASSING_WORDS = (
+    "LOADING",
+    "READONLY",
+    "MASTERDOWN",
+    "CLUSTERDOWN",
+    "TRYAGAIN",
+    "OOM",
+    "MISCONF",
+    "NOREPLICAS",
+    "BUSY",
+    "UNKILLABLE",
+)
 
 Id = Tuple[int, int]
-LAST = 2 ** 64 - 1
+LAST = 2**64 - 1
 
 # how many messages are looked through for the last mark, and how many bytes are read at once
 BACK, BYTES_A_READ = 10_000, 1_000_000
@@ -48,7 +61,9 @@ class LogInRedis(EngineLog):
 
     engine, errors = "Redis", (redis.RedisError,)
 
-    def __init__(self, client: "redis.Redis[bytes]", log: int, streams: int, replicas: int = 0, fsync: bool = False) -> None:
+    def __init__(
+        self, client: "redis.Redis[bytes]", log: int, streams: int, replicas: int = 0, fsync: bool = False
+    ) -> None:
         super().__init__(log, streams)
         self.client, self.replicas, self.fsync, self.is_checked = client, replicas, fsync, False
         # in a cluster what stands in braces says which server has a key
@@ -57,7 +72,12 @@ class LogInRedis(EngineLog):
     def is_passing(self, error: BaseException) -> bool:
         if isinstance(error, (redis.AuthenticationError, redis.exceptions.AuthorizationError)):
             return False
-        gone = (redis.ConnectionError, redis.TimeoutError, redis.exceptions.BusyLoadingError, redis.exceptions.ReadOnlyError)
+        gone = (
+            redis.ConnectionError,
+            redis.TimeoutError,
+            redis.exceptions.BusyLoadingError,
+            redis.exceptions.ReadOnlyError,
+        )
         if isinstance(error, gone):
             return True
         return isinstance(error, redis.ResponseError) and any(word in str(error) for word in PASSING_WORDS)
@@ -72,7 +92,8 @@ class LogInRedis(EngineLog):
     # ------------------------------------------------------------ how far it is
 
     def info(self, stream: int) -> Optional[Dict[str, Any]]:
-        """What XINFO tells, all of one moment: two commands would have a publisher between them. None where there is no such stream."""
+        """What XINFO returns, all of one moment: two commands would have a publisher between them. None where there is
+        no such stream."""
         try:
             told: Dict[str, Any] = self.client.xinfo_stream(self.key(stream))
             return told
@@ -87,7 +108,8 @@ class LogInRedis(EngineLog):
         return place, place[0], self.backwards(stream, place)
 
     def backwards(self, stream: int, place: Id) -> Iterator[Block]:
-        """The blocks up to a place, from there back: by one, by two and so on at once, as most often the last one has a mark."""
+        """The blocks up to a place, from there back: by one, by two and so on at once, as most often the last one has a
+        mark."""
         end, count, looked = text_of(place), 1, 0
         while looked < BACK:
             page = self.client.xrevrange(self.key(stream), max=end, count=count)
@@ -120,9 +142,11 @@ class LogInRedis(EngineLog):
         """The block of a message; 3 where it is none of this stream, or another one than its id says."""
         last, beside = number_of(message)
         name = f"stream {stream}: message {message.decode()} of {self.key(stream)}"
-        block = walked(fields.get(b"b") or fields.get(b"f", b""), last, self.log, stream, name)
+        block = walked(fields.get(b"b") or fields.get(b"f") or b"", last, self.log, stream, name)
         if (block.last >= block.first) != (beside == 0):
-            raise Broken(3, f"{name} is no block of this stream: its id is one of {'entries' if beside == 0 else 'marks alone'}")
+            raise Broken(
+                3, f"{name} is no block of this stream: its id is one of {'entries' if beside == 0 else 'marks alone'}"
+            )
         return block
 
     # ------------------------------------------------------------ appending
@@ -153,8 +177,8 @@ class LogInRedis(EngineLog):
 
     @staticmethod
     def replies(line: Any) -> List[Any]:
-        """What the commands of a pipeline are replied. An error has Redis's words alone: `execute` would put all that was sent before
-        them."""
+        """What the commands of a pipeline are replied. An error has Redis's words alone: `execute` would put all that
+        was sent before them."""
         found: List[Any] = line.execute(raise_on_error=False)
         for it in found:
             if isinstance(it, Exception):
@@ -166,7 +190,13 @@ class LogInRedis(EngineLog):
         if self.fsync and not self.is_checked:
             said = [self.client.config_get(name).get(name) for name in ("appendonly", "appendfsync")]
             if said != ["yes", "always"]:
-                raise Broken(1, f"--fsync needs `appendonly yes` and `appendfsync always` in Redis, which has {said[0]} and {said[1]}")
+                raise Broken(
+                    1,
+                    (
+                        f"--fsync needs `appendonly yes` and `appendfsync always` in Redis, which has {said[0]} and"
+                        f" {said[1]}"
+                    ),
+                )
             self.is_checked = True
 
     def reading(self, prefixes: Dict[int, int], batch: int) -> "ReadingRedis":
@@ -178,7 +208,9 @@ class ReadingRedis(Reading):
 
     def __init__(self, store: LogInRedis, prefixes: Dict[int, int], batch: int) -> None:
         self.store, self.batch, self.count, self.is_over = store, batch, 1, False
-        self.at: Dict[int, Id] = {stream: (prefix - 1, LAST) if prefix else (0, 0) for stream, prefix in prefixes.items()}
+        self.at: Dict[int, Id] = {
+            stream: (prefix - 1, LAST) if prefix else (0, 0) for stream, prefix in prefixes.items()
+        }
 
     def read(self, seconds: float) -> List[Tuple[int, Id, Block]]:
         asked = {self.store.key(stream): text_of(place) for stream, place in self.at.items()}
@@ -195,7 +227,9 @@ class ReadingRedis(Reading):
     def learn_size(self, size: int, count: int) -> None:
         """How many messages of a stream to read at once, by what the last had in bytes."""
         if count:
-            self.count = max(1, min(2 * self.count, int(BYTES_A_READ / max(size / count, 32) / len(self.at)), self.batch))
+            self.count = max(
+                1, min(2 * self.count, int(BYTES_A_READ / max(size / count, 32) / len(self.at)), self.batch)
+            )
 
     def has_all(self) -> bool:
         return self.is_over
@@ -203,11 +237,19 @@ class ReadingRedis(Reading):
 
 # ---------------------------------------------------------------- the command line
 
+
 def add_words(words: argparse.ArgumentParser) -> None:
     """The words of all three programs."""
-    words.add_argument("--redis", metavar="URL", help="redis://HOST:PORT/DB, rediss://USER@HOST:PORT for TLS, unix:///SOCKET, "
-                       "sentinel://HOST:PORT,HOST:PORT/NAME, cluster://HOST:PORT,HOST:PORT; without it the environment's REDIS_URL, else "
-                       "redis://127.0.0.1:6379. A password comes from REDISCLI_AUTH or REDIS_URL, and never from the command line")
+    words.add_argument(
+        "--redis",
+        metavar="URL",
+        help=(
+            "redis://HOST:PORT/DB, rediss://USER@HOST:PORT for TLS, unix:///SOCKET,"
+            " sentinel://HOST:PORT,HOST:PORT/NAME, cluster://HOST:PORT,HOST:PORT; without it the environment's"
+            " REDIS_URL, else redis://127.0.0.1:6379. A password comes from REDISCLI_AUTH or REDIS_URL, and never from"
+            " the command line"
+        ),
+    )
     add_log_words(words)
 
 
@@ -215,7 +257,7 @@ def opened(said: argparse.Namespace, words: argparse.ArgumentParser, **more: Any
     """The log that the words name. Nothing is asked of Redis yet."""
     see_log(said, words)
     if said.redis and urlsplit(said.redis).password is not None:
-        words.error("no password on the command line: set REDISCLI_AUTH, or REDIS_URL to the whole")
+        words.error("no password on the command line: set REDISCLI_AUTH, or REDIS_URL to the complete address")
     url = said.redis or os.environ.get("REDIS_URL", "redis://127.0.0.1:6379")
     options: Dict[str, Any] = {"socket_timeout": 30, "socket_connect_timeout": 10, "max_connections": 1}
     if not url.startswith("unix:"):
@@ -223,8 +265,13 @@ def opened(said: argparse.Namespace, words: argparse.ArgumentParser, **more: Any
     if os.environ.get("REDISCLI_AUTH") and urlsplit(url).password is None:
         options["password"] = os.environ["REDISCLI_AUTH"]
     if url.startswith("rediss:"):
-        options.update(ssl_cert_reqs="required", ssl_check_hostname=True, ssl_ca_certs=said.cacert, ssl_certfile=said.cert,
-                       ssl_keyfile=said.key)
+        options.update(
+            ssl_cert_reqs="required",
+            ssl_check_hostname=True,
+            ssl_ca_certs=said.cacert,
+            ssl_certfile=said.cert,
+            ssl_keyfile=said.key,
+        )
     try:
         return LogInRedis(client_of(url, options, said.log), said.log, said.streams, **more)
     except ValueError as error:
