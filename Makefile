@@ -9,15 +9,19 @@
 # make engine-lab   the same, and faults of three nats-servers in network namespaces, cut off from each other; as root, with iproute2, for minutes
 # make look   the same, and a node that two feeders fill, one of them late, with the page to look at it; until Ctrl-C
 # make test   the one test command: every proof from nothing, the must-fail edits, the tests, then the end-to-end checks
-# make compare CASES=100000 SEED=7   that many random cases beside tests/reference.py, once bin/hkrep is built
+# make compare CASES=100000 SEED=7   that many random cases beside tests/lib/reference.py, once bin/hkrep is built
 # make lib    proves and builds the library for programs in C and other languages: lib/libhekaton.a and .so (docs/EMBEDDING.md)
 # make install PREFIX=/usr/local DESTDIR=   puts the program, the library, the Python client, manual pages, completions and examples there
 # make package   makes a Debian package, a plain tar and a wheel in dist/ (docs/RELEASE.md); for both, make and make lib, or make test, go before
+# make crate NAME=hk_store   the verdict on one crate in about a minute: layout, words, that its edits fit, its proof; EDITS=1 tries the edits too
+# make lint   the Python of clients/python and connectors: layout, style, types (apt-get install black pycodestyle mypy)
+# make hooks  puts a check of some seconds before each commit of this checkout (tests/tools/pre-commit)
+# make measures   draws the pictures of docs/measures anew from their figures (python3-matplotlib)
 # make bench  times the built program (by hand; never part of the gate's verdict)
 
 PREFIX = /usr/local
 
-.PHONY: all quick try test lib install package demo serve-demo redis-demo nats-demo shop-demo engine-lab look compare bench clean
+.PHONY: all quick try test lib install package crate lint hooks measures demo serve-demo redis-demo nats-demo shop-demo engine-lab look compare bench clean
 
 CASES = 10000
 SEED = 1
@@ -27,17 +31,17 @@ all: bin/hkrep
 SOURCES := $(shell find crates -name out -prune -o -name must-fail -prune -o -name 'hk_tests_*' -prune -o -type f -print) crates.txt HANDLES
 
 # made anew where a source changed
-bin/hkrep: $(SOURCES) tests/build
-	tests/build
+bin/hkrep: $(SOURCES) tests/tools/build
+	tests/tools/build
 	touch bin/hkrep
 
-bin/hkrep-unproved: $(SOURCES) VERSION tests/quick tests/plain_module.py
-	tests/quick
+bin/hkrep-unproved: $(SOURCES) VERSION tests/tools/quick tests/tools/plain_module.py
+	tests/tools/quick
 
 quick: bin/hkrep-unproved
 
 lib:
-	tests/library
+	tests/tools/library
 
 install:
 	deploy/install --prefix "$(PREFIX)" --destdir "$(DESTDIR)"
@@ -73,7 +77,19 @@ look: bin/hkrep
 	examples/links/look.py $(LOOK)
 
 compare:
-	tests/compare random $(CASES) $(SEED)
+	tests/checks/compare random $(CASES) $(SEED)
+
+crate:
+	tests/tools/crate $(NAME) $(if $(EDITS),--edits)
+
+lint:
+	tests/checks/lint.py
+
+hooks:
+	ln -sf ../../tests/tools/pre-commit "$$(git rev-parse --git-common-dir)/hooks/pre-commit"
+
+measures:
+	tests/tools/draw
 
 bench: bin/hkrep
 	bench/run

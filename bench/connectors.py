@@ -2,7 +2,7 @@
 """Times a log over Redis, and over three nats-servers where a new enough one is here (NATS_SERVER or PATH), beside
 `hkrep feed` of the same frames, by turns: bench/connectors.py [ENTRIES] [TURNS] [ENGINE ..]. Of each way frames a second,
 the middle of all turns, and the middle of what they are of the `hkrep feed` just before, so that a load that comes and
-goes weighs on both; of each follow the time from publish to resolved. By hand; needs what tests/connectors.py needs. It
+goes weighs on both; of each follow the time from publish to resolved. By hand; needs what tests/checks/connectors.py needs. It
 ends only what it started."""
 import os
 import pathlib
@@ -15,7 +15,7 @@ import time
 
 sys.dont_write_bytecode = True
 ROOT = pathlib.Path(__file__).resolve().parent.parent
-sys.path[:0] = [str(ROOT / "tests"), str(ROOT / "connectors" / "nats")]
+sys.path[:0] = [str(ROOT / "tests" / "lib"), str(ROOT / "tests" / "checks"), str(ROOT / "tests" / "checks"), str(ROOT / "connectors" / "nats")]
 import connectors
 import engine
 import journeys

@@ -15,7 +15,7 @@ import urllib.request
 
 sys.dont_write_bytecode = True
 ROOT = pathlib.Path(__file__).resolve().parent.parent
-sys.path[:0] = [str(ROOT / "tests"), str(ROOT / "connectors" / "nats")]
+sys.path[:0] = [str(ROOT / "tests" / "lib"), str(ROOT / "tests" / "checks"), str(ROOT / "tests" / "checks"), str(ROOT / "connectors" / "nats")]
 import engine
 from checks import free_port
 from feeding import Feed

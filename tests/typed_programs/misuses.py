@@ -1,4 +1,4 @@
-"""Uses that a strict look at types has to refuse, one in each line that says so, and in no other (tests/typed.py)."""
+"""Uses that a strict look at types has to refuse, one in each line that says so, and in no other (tests/checks/typed.py)."""
 from vadungsil import AsyncNode, Get, LogWriter, Mark, Node, Row, later
 
 

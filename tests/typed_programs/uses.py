@@ -1,12 +1,12 @@
-"""A program as a user writes it, whose types are looked at and which is never run (tests/typed.py)."""
+"""A program as a user writes it, whose types are looked at and which is never run (tests/checks/typed.py)."""
 from __future__ import annotations
 
 import asyncio
 from typing import Iterator, List, Optional, Tuple, Union
 
 import vadungsil
-from vadungsil import (AsyncNode, Count, Entry, Feeder, Fragment, Front, Get, Hold, KeyRow, LinkBroken, Later, LogWriter, Mark, Node, Nodes,
-                       Operations, Range, Refused, Row, Stream, export, later)
+from vadungsil import (AsyncNode, Count, Entry, Feeder, Fragment, Front, Get, Hold, Item, KeyRow, LinkBroken, Later, LogWriter, Mark, Member, NameCollision,
+                       Names, Node, Nodes, NotAName, Operations, Range, Refused, Row, Stream, export, later)
 from vadungsil.embedded import Replica
 from vadungsil.web import Server
 
@@ -23,6 +23,29 @@ def written(log: LogWriter, node: Node) -> int:
     told: Operations = node.items(marks)
     new: Optional[int] = told.new
     return operations + (new or 0)
+
+
+def clocked(node: Node) -> List[Item]:
+    log = LogWriter(7, 2, clock=True)
+    other = LogWriter.resume(node.whole(), clock=lambda: 1_795_698_000_000_000)
+    beat: List[Item] = log.beat(2, 1)
+    node.items([*beat, *other.beat(2, 1, tag=9, stream=2)])
+    return LogWriter.behind(7, [3], 9, {}, clock=False).beat(2, 1)
+
+
+def named(log: LogWriter, node: Node, nodes: Nodes) -> Optional[str]:
+    names, key = Names(3), Names.key("ada")
+    count: int = names.load(node) + names.load(nodes, at=1) + names.load(node.at(1)) + names.learn(node.rows(names.table))
+    try:
+        log.commit([*names.puts(["ada", "bob"], log), (1, key + count, 9, b"A")])
+        with log.transaction() as it:
+            it.puts += names.puts({"cyd"}, it)
+    except NameCollision as collision:
+        return collision.texts[0] + str(collision.key)
+    except NotAName as error:
+        return error.why + str(error.table + error.key)
+    found: Optional[str] = names.text(node, key) or names.text(nodes, key, at=1) or names.text(nodes.at(1), key)
+    return found or names.text(Replica(7, 1), key) or names.text_of(key, node.get(3, key))
 
 
 def read(node: Node) -> Tuple[Optional[Row], List[KeyRow], int]:
@@ -67,7 +90,9 @@ def many(node: Node) -> List[Optional[Row]]:
         asked = [pipe.get(1, key) for key in range(5, 8)]
         counts: List[Later[int]] = [pipe.count(1), pipe.items([])]
     print(counts[0].result() + 1)
-    nodes = Nodes([47001, "other:47001"])
+    nodes = Nodes([47001, "other:47001"], agree=2, log=7, streams=1)
+    members: List[Member] = nodes.members()
+    print([it.address for it in members if it.state == "bad"], (members[0].readable or 0) + 1)
     print(nodes.latest() + nodes.at().count(1), export(nodes, "rows.csv", "csv", 1, [1]) + 1)
     return [it.result() for it in asked]
 

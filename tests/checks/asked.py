@@ -1,0 +1,305 @@
+#!/usr/bin/env python3
+"""Checks of what a person asks: items as JSON and back, JSON of answers, and the commands with --port, of nodes on 127.0.0.1.
+The lines of JSON are made here, from items that this script makes up. Each node that is started is ended.
+
+Prints a line for each check and ends with 'N passed, M failed'. Standard library only."""
+import json
+import os
+import pathlib
+import random
+import socket
+import subprocess
+import sys
+import tempfile
+import time
+
+sys.path.append(str(pathlib.Path(__file__).resolve().parents[1] / "lib"))
+import messages as say
+from checks import differ, ended, is_built, report
+from client import Node, free_port, guarded
+
+ROOT = pathlib.Path(__file__).resolve().parents[2]
+PROGRAM = ROOT / "bin" / "hkrep"
+LIMIT = 60
+FIRST = (ROOT / "examples" / "first.bin").read_bytes()
+
+
+def run(*words, data=b"", **more):
+    """What a command printed, its status, and what it told."""
+    more.setdefault("stdout", subprocess.PIPE)
+    it = subprocess.run([PROGRAM, *map(str, words)], input=data, stderr=subprocess.PIPE, timeout=LIMIT, check=False, **more)
+    return it.stdout, it.returncode, it.stderr.decode()
+
+
+def line_of(it):
+    """A line of JSON as docs/FORMATS.md has it."""
+    return json.dumps(it, separators=(",", ":")) + "\n"
+
+
+def entry_line(number, stamp, rows=(), ends=(), stream=1, log=7):
+    return line_of({"commit": {
+        "log": str(log), "stream": stream, "number": str(number), "time": str(stamp),
+        "ends": [{"table": table, "key": str(key), "born": str(born)} for table, key, born in ends],
+        "rows": [{"table": table, "key": str(key), "tag": tag, "body": body.hex()} for table, key, tag, body in rows]}})
+
+
+def mark_line(stream, n, m, log=7):
+    return line_of({"mark": {"log": str(log), "stream": stream, "n": str(n), "m": str(m)}})
+
+
+def made_up(source):
+    """The frame of an item in version 2, and its line."""
+    stream, log, number = source.randint(1, 64), source.choice([0, 7, 2 ** 53 + 1, 2 ** 64 - 1]), source.randint(1, 9)
+    stamp = source.choice([9, 2 ** 53 + 1, 2 ** 62])
+    if source.random() < 0.3:
+        return say.mark(stream, number, stamp, log=log, version=2), mark_line(stream, number, stamp, log)
+    places = sorted({(source.randint(0, 3), source.choice([0, 1, 5, 2 ** 53 + 1, 2 ** 64 - 1])) for _ in range(source.randint(1, 6))})
+    rows = [(table, key, source.choice([0, 9, 2 ** 32 - 1]), source.randbytes(source.choice([0, 1, 40, 4096]))) for table, key in places]
+    ends = [(table, key, source.randint(1, 8)) for table, key in places if source.random() < 0.5]
+    return say.new_entry(number, stamp, rows, ends, stream=stream, log=log), entry_line(number, stamp, rows, ends, stream, log)
+
+
+def there_and_back():
+    source = random.Random(40)
+    made = [made_up(source) for _ in range(300)]
+    frames, lines = b"".join(frame for frame, _ in made), "".join(line for _, line in made).encode()
+    pairs = [("items --json", run("items", "--json", data=frames), (lines, 0, "")), ("frames", run("frames", data=lines), (frames, 0, "")),
+             ("version 1", run("items", "--json", data=FIRST)[0].decode(), entry_line(1, 1, [(1, 5, 9, b"A")]) + mark_line(1, 1, 1)),
+             ("no items", run("items", "--json"), (b"", 0, "")), ("no lines", run("frames"), (b"", 0, "")),
+             ("empty lines, and a last one without its end", run("frames", data=b"\n\n" + lines[:-1]), (frames, 0, "")),
+             ("spaces, and keys in another order", run("frames", data=b' { "mark" : {"m":"1", "n":"1", "stream":1, "log":"\\u0037"} } ')[0],
+              say.mark(1, 1, 1, version=2))]
+    cut = run("items", "--json", data=FIRST[:60])
+    pairs += [("a cut frame", (cut[0].decode(), cut[1], "refused 1: " in cut[2]), (entry_line(1, 1, [(1, 5, 9, b"A")]) + '{"refused":1}\n', 1, True))]
+    report("items in JSON and back, byte for byte", differ(pairs))
+
+
+GOOD = mark_line(1, 1, 1).rstrip()
+GOOD_ENTRY = entry_line(1, 1, [(1, 5, 9, b"A")]).rstrip()
+
+# A line, and what is told of it; a column where it is certain.
+BAD_LINES = (
+    ("nothing of an object", "7", ""), ("no JSON", "{mark}", ""), ("cut", GOOD[:-1], ""), ("more behind it", GOOD + "7", ""), ("another kind", '{"marks":{}}', "unknown variant"),
+    ("a field is missing", GOOD.replace('"n":"1",', ""), "missing field `n`"), ("a field more", GOOD.replace('"n"', '"x":1,"n"'), "unknown field"),
+    ("a field twice", GOOD.replace('"n":"1"', '"n":"1","n":"1"'), "duplicate field `n`"),
+    ("a number for a string", GOOD.replace('"n":"1"', '"n":1'), "invalid type"), ("a string for a number", GOOD.replace('"stream":1', '"stream":"1"'), "invalid type"),
+    ("no digits", GOOD.replace('"n":"1"', '"n":"1x"'), "no string of a 64-bit number"), ("a sign", GOOD.replace('"n":"1"', '"n":"-1"'), "no string of a 64-bit number"),
+    ("no number", GOOD.replace('"n":"1"', '"n":""'), "no string of a 64-bit number"), ("65 bits", GOOD.replace('"n":"1"', f'"n":"{2 ** 64}"'), "no string of a 64-bit number"),
+    ("a time above the last", GOOD.replace('"m":"1"', f'"m":"{2 ** 62 + 1}"'), "a time is at most 2^62"), ("stream 0", GOOD.replace('"stream":1', '"stream":0'), "a stream is 1 to 64"),
+    ("stream 65", GOOD.replace('"stream":1', '"stream":65'), "a stream is 1 to 64"), ("a broken rule", GOOD.replace('"n":"1"', '"n":"2"'), "no item: "),
+    ("a table above the last", GOOD_ENTRY.replace('"table":1', '"table":65536'), ""), ("an odd body", GOOD_ENTRY.replace('"41"', '"4"'), "no pairs of 0 to 9 and a to f"),
+    ("a capital digit", GOOD_ENTRY.replace('"41"', '"4A"'), "no pairs of 0 to 9 and a to f"), ("a long body", GOOD_ENTRY.replace('"41"', '"' + "41" * 4097 + '"'), "no pairs"),
+    ("an entry of nothing", entry_line(1, 1).rstrip(), "no item: "), ("rows that don't rise", entry_line(1, 1, [(1, 6, 9, b""), (1, 5, 9, b"")]).rstrip(), "no item: "),
+    ("deep lists", "[" * 300, ""), ("no text", "\udcff", "its bytes are no text"))
+
+
+def bad_lines():
+    """A bad line is told with its number and column; the frames before it stand, nothing is written for it or behind it."""
+    problems = []
+    before = say.mark(1, 1, 1, version=2)
+    for name, line, what in BAD_LINES:
+        out, status, told = run("frames", data=f"{GOOD}\n\n{line}\n{GOOD}\n".encode("utf-8", "surrogateescape"))
+        is_told = told.startswith("line 3, column ") and what in told and "; expected: {\"commit\":" in told and told.count("\n") == 1
+        problems += differ([(name, (out, status, is_told or told), (before, 1, True))])
+    report("a bad line of JSON is told with its number, column and what was expected", problems)
+    column = run("frames", data=GOOD.replace('"n":"1"', '"n":"1x"').encode())[2]
+    stands = GOOD.index('"n":"1"') + len('"n":') + 1
+    report("the column is that of the value that is wrong", [] if f"line 1, column {stands}: " in column else [column])
+
+
+def json_answers():
+    words = ["--log", 7, "--streams", 1, "--json"]
+    front = line_of({"front": {"horizon": "0", "readable": "1"}}).encode()
+    stream = {"stream": 1, "prefix": "1", "extra": "0", "closed": "1", "waiting": "0", "standing": "open"}
+    pairs = [
+        ("get", run("ask", *words, 1, "get", 1, 5, data=FIRST), (line_of({"row": {"tag": 9, "body": "41"}}).encode(), 0, "")),
+        ("none", run("ask", *words, 1, "get", 1, 6, data=FIRST), (b'{"row":null}\n', 0, "")),
+        ("at", run("at", *words, 1, 1, 5, data=FIRST), (line_of({"row": {"tag": 9, "body": "41"}}).encode(), 0, "")),
+        ("none at", run("at", *words, 1, 1, 6, data=FIRST), (b'{"row":null}\n', 0, "")),
+        ("at too late", run("at", *words, 2, 1, 5, data=FIRST)[:2], (b'{"refused":26,"readable":"1"}\n', 1)),
+        ("range", run("ask", *words, 1, "range", 1, 0, 9, data=FIRST), (line_of({"rows": [{"key": "5", "tag": 9, "body": "41"}]}).encode(), 0, "")),
+        ("tag", run("ask", *words, 1, "tag", 1, 8, data=FIRST), (b'{"rows":[]}\n', 0, "")),
+        ("count", run("ask", *words, 1, "count", 1, data=FIRST), (b'{"count":"1"}\n', 0, "")),
+        ("front", run("front", *words, data=FIRST), (front, 0, "")),
+        ("status", run("status", *words, data=FIRST)[:2], (line_of({"stream": 1, **stream}).encode() + front, 0))]
+    refused = run("ask", *words, 2, "count", 1, data=FIRST)
+    pairs += [("not yet", (refused[:2], "refused 26: time 2 is" in refused[2]), ((b'{"refused":26,"readable":"1"}\n', 1), True))]
+    report("answers, fronts, streams and refusals in JSON", differ(pairs))
+
+
+def over_a_link():
+    """Each command over a link prints what it prints of the same items on standard input."""
+    pairs = []
+    rows = [(1, key, 9, bytes([key])) for key in range(9)]
+    frames = say.new_entry(1, 1, rows, stream=1) + say.new_entry(1, 2, [(1, 3, 8, b"")], [(1, 3, 1)], stream=2) + say.mark(1, 1, 5, version=2) + say.mark(2, 1, 4, version=2)
+    words = ["--log", 7, "--streams", 2]
+    with Node(60, streams=2) as node, Node(60, streams=2) as other:
+        to = ["--port", node.port]
+        fed = run("feed", *to, "--batch", 2, data=frames)
+        pairs += [("feed", fed[:2], (b"done 3\n", 0)), ("the rate is told", fed[2].startswith("fed 4 items in ") and fed[2].endswith(" a second\n"), True)]
+        for query in (["get", 1, 5], ["range", 1, 0, 9], ["tag", 1, 8], ["count", 1]):
+            for more in ([], ["--json"]):
+                pairs += [(f"ask {query} {more}", run("ask", *to, *more, 4, *query), run("ask", *words, *more, 4, *query, data=frames)),
+                          (f"at the readable mark {query}", run("ask", *to, *more, *query), run("ask", *words, *more, 4, *query, data=frames))]
+        for more in ([], ["--json"]):
+            pairs += [(f"{it} {more}", run(it, *to, *more), run(it, *words, *more, data=frames)) for it in ("front", "status")]
+        pairs += [("not yet", run("ask", *to, 5, "count", 1)[:2], (b"refused 26 readable 4\n", 1)), ("prune", run("prune", *to, 2), (b"done 4\n", 0, "")),
+                  ("too old", run("ask", *to, "--json", 1, "count", 1)[:2], (b'{"refused":25,"horizon":"2"}\n', 1)),
+                  ("prune above the mark", run("prune", *to, 9)[:2], (b"refused 24 readable 4\n", 1))]
+        whole = run("save", *to)
+        pairs += [("save", whole[1:], (0, "")), ("load", run("load", "--port", other.port, data=whole[0]), (b"done 2\n", 0, "")),
+                  ("the other node has it", run("status", "--port", other.port), run("status", *to)),
+                  ("and saves the same", run("save", "--port", other.port), whole)]
+        lines = [json.loads(line) for line in run("save", *to, "--json")[0].splitlines()]
+        pairs += [("save --json", [next(iter(it)) for it in lines], ["fragment"] + ["fact"] * 9),
+                  ("its head", lines[0]["fragment"]["streams"], [{"prefix": "1", "extra": [], "closed": "5", "waiting": []}, {"prefix": "1", "extra": [], "closed": "4", "waiting": []}]),
+                  ("a version", lines[4], {"fact": {"table": 1, "key": "3", "born": "2", "row": {"tag": 8, "body": ""}, "died": None}}),
+                  ("load of what is no fragment", run("load", "--port", other.port, data=say.front())[:2], (b"refused 4\n", 1))]
+        more = say.new_entry(2, 6, [(2, 1, 1, b"x")], stream=1) + say.mark(1, 2, 7, version=2) + say.mark(2, 1, 7, version=2)
+        pairs += [("feed on", run("feed", *to, data=more)[0], b"done 5\n"), ("pull", run("pull", "--port", other.port, "--from", node.port), (b"done 3\n", 0, "")),
+                  ("what was pulled", run("ask", "--port", other.port, "get", 2, 1), (b"1 78\n", 0, "")),
+                  ("a fault of the input", (lambda it: (it[0], it[1], "frame 2: refused 1: " in it[2]))(run("feed", *to, data=more[:70])), (b"refused 1\n", 1, True))]
+        with Node(4, streams=2) as third:
+            pairs += [("pull of the whole", run("pull", "--port", third.port, "--from", node.port), (b"done 2\n", 0, "")),
+                      ("which tells the same", run("status", "--port", third.port), run("status", *to))]
+    report("the commands over a link", differ(pairs))
+
+
+def shell():
+    """Lines of a person, of a node with rows of three keys: what is printed, and what is told."""
+    frames = say.new_entry(1, 1, [(1, 5, 9, b"A"), (1, 70, 123456, b""), (2, 2 ** 64 - 1, 0, b"BC")]) + say.mark(1, 1, 4, version=2)
+    table = "key     tag  body\n  5       9  41\n 70  123456  -\nrows 2\n"
+    steps = (
+        ("get 1 5", "9 41\n", ""), ("at 1 get 1 6", "none\n", ""), ("  range  1 0 99 ", table, ""), ("at 4 range 1 0 99", table, ""),
+        ("range 2 0 18446744073709551615", "                 key  tag  body\n18446744073709551615    0  4243\nrows 1\n".replace("                 key", " " * 17 + "key"), ""),
+        ("tag 1 8", "key  tag  body\nrows 0\n", ""), ("count 1", "count 2\n", ""), ("front", "front horizon 0 readable 4\n", ""), ("", "", ""),
+        ("status", "stream 1 prefix 1 extra 0 closed 4 waiting 0 open\nfront horizon 0 readable 4\n", ""), ("at 5 count 1", "refused 26 readable 4\n", "refused 26: time 5 is"),
+        ("at 0 count 1", "count 0\n", ""), ("bogus", "", "line 1: expected: "), ("get 1", "", "expected: "), ("get 1 5 6", "", "expected: "), ("at get 1 5", "", "expected: "),
+        ("get 65536 5", "", "expected: "), ("get 1 -5", "", "expected: "), ("at 9999999999999999999 count 1", "", "expected: "), ("x" * 5000, "", "expected: "))
+    pairs = []
+    with Node(40) as node:
+        run("feed", "--port", node.port, data=frames)
+        for line, out, told in steps:
+            got = run("shell", "--port", node.port, data=line.encode())
+            pairs += [(line[:60], (got[0].decode(), got[1], told in got[2] and bool(told) == bool(got[2])), (out, 1 if told else 0, True))]
+        many = [step for step in steps if step[0] != "bogus"]
+        got = run("shell", "--port", node.port, data="".join(f"{line}\n" for line, _, _ in many).encode())
+        pairs += [("all of them", (got[0].decode(), got[1]), ("".join(out for _, out, _ in many), 1))]
+        pairs += [("help", run("shell", "--port", node.port, data=b"help\n")[0].count(b"\n"), 5)]
+    report("lines that a person asks", differ(pairs))
+
+
+def begun(*words):
+    """A command that was begun, with nothing on its input."""
+    return subprocess.Popen([PROGRAM, *map(str, words)], stdin=subprocess.DEVNULL, stdout=subprocess.PIPE, stderr=subprocess.PIPE, text=True)
+
+
+def connected_later():
+    """A command that was begun before its node waits for it, for as long as it is told to; 3 seconds where it isn't told."""
+    port = free_port()
+    early = [begun("feed", "--port", port, "--connect-seconds", LIMIT), begun("front", "--port", port, "--connect-seconds", LIMIT)]
+    time.sleep(0.5)
+    pairs = [("they wait", [it.poll() for it in early], [None, None])]
+    node = begun("serve", "--log", 7, "--streams", 1, "--port", port, "--links", 2)
+    pairs += [("a node that came later", [it.communicate(timeout=LIMIT)[0] for it in (*early, node)],
+               ["done 2\n", "front horizon 0 readable 0\n", f"listening {port}\nended 0\nended 0\n"])]
+    start = time.monotonic()
+    out, status, _ = run("front", "--port", free_port())
+    pairs += [("nobody comes", (out, status, time.monotonic() - start > 2.9), (b"refused 93\n", 1, True))]
+    report("a command waits for its node", differ(pairs))
+
+
+def silent_nodes():
+    """A node that takes a link and says nothing: a command ends after as many seconds as it is told."""
+    pairs = []
+    with socket.create_server(("127.0.0.1", 0)) as silent:
+        port = silent.getsockname()[1]
+        for words, sent in ((["front"], b""), (["status"], b""), (["ask", "get", 1, 5], b""), (["save"], b""), (["prune", 1], b""), (["shell"], b"front\n"),
+                            (["feed"], b""), (["push"], say.front()), (["load"], say.merge_this()), (["pull", "--from", port], b"")):
+            out, status, told = run(words[0], "--port", port, "--reply-seconds", 1, *words[1:], data=sent)
+            wanted = b"" if words == ["save"] else b"refused 91\n"
+            pairs += [(f"a silent node and {words[0]}", (out, status, told.startswith("request 1: refused 91: no reply for 1 s; see whether the node runs")), (wanted, 1, True))]
+    helped = {command: run("help", command)[0].decode() for command in ("front", "status", "ask", "push", "load", "feed", "pull", "save", "prune", "shell")}
+    pairs += [(f"how long {command} waits", "30 where it isn't given" in text, command in ("front", "status", "ask")) for command, text in helped.items()]
+    report("a node that replies nothing", differ(pairs))
+
+
+def told_apart():
+    """A link that can't be opened, one that is cut, and input that is cut are told apart."""
+    pairs, nobody = [], free_port()
+    for words in (["front"], ["status"], ["ask", "get", 1, 5], ["save"], ["load"], ["feed"], ["push"], ["shell"]):
+        out, status, told = run(words[0], "--port", nobody, "--connect-seconds", 0, *words[1:])
+        wanted = b"" if words == ["save"] else b"refused 93\n"
+        pairs += [(f"nobody listens to {words}", (out, status, f"can't connect to port {nobody}: " in told, "; see that a node listens there\n" in told), (wanted, 1, True, True))]
+    with socket.create_server(("127.0.0.1", 0)) as taken:
+        told = run("serve", *["--log", 7, "--streams", 1, "--links", 1, "--port", taken.getsockname()[1]])[2]
+        pairs += [("a port in use", (f"refused 93: can't listen on port {taken.getsockname()[1]}: " in told, "; see that no other program has the port\n" in told), (True, True))]
+    with Node(1) as node:
+        out, status, told = run("push", "--port", node.port, data=say.front() + say.front()[:3])
+        pairs += [("the input is cut", (out, status, told.startswith("request 2: refused 1: the input ends")), (b"front horizon 0 readable 0\nrefused 1\n", 1, True))]
+    with socket.create_server(("127.0.0.1", 0)) as peer:
+        child = subprocess.Popen([PROGRAM, "push", "--port", str(peer.getsockname()[1])], stdin=subprocess.PIPE, stdout=subprocess.PIPE, stderr=subprocess.PIPE)
+        child.stdin.write(say.front())
+        child.stdin.close()
+        link, _ = peer.accept()
+        with link:
+            link.recv(100)
+            link.shutdown(socket.SHUT_WR)
+            told = child.stderr.read().decode()
+        pairs += [("the link is cut", (child.stdout.read(), child.wait(LIMIT), told.startswith("request 1: refused 1: the connection was cut")), (b"refused 1\n", 1, True))]
+        child.stdout.close()
+        child.stderr.close()
+    report("a link that can't be opened, one that is cut, and cut input", differ(pairs))
+
+
+def words_that_mislead():
+    pairs = []
+    for script in ("world 7 1\n", "world 7 1 x\n", "world 7 1 1 1\n", "begin 1\n"):
+        told = run("world", data=script.encode())[2]
+        pairs += [(script, "; expected: world LOG STREAMS REPLICAS" in told, True)]
+    pairs += [("a second opening", "; expected: begin, put, " in run("world", data=b"world 7 1 1\nworld 7 1 1\n")[2], True)]
+    out, status, told = run("rewrite", data=FIRST[:60])
+    pairs += [("a fault of rewrite", (out, status, told.startswith("refused 1: ")), (b"", 1, True))]
+    if os.path.exists("/dev/full"):
+        with open("/dev/full", "wb") as full:
+            for words in (["--help"], ["help", "ask"], ["explain"]):
+                _, status, told = run(*words, stdout=full)
+                pairs += [(f"{words} on a full device", (status, told.startswith("stopped: the output can't be written")), (1, True))]
+    many = b"".join(say.new_entry(n, n, [(1, n, 9, b"x")]) for n in range(1, 20_001))
+    with tempfile.TemporaryFile() as data:
+        data.write(many)
+        data.seek(0)
+        child = subprocess.Popen([PROGRAM, "items"], stdin=data, stdout=subprocess.PIPE, stderr=subprocess.PIPE)
+        child.stdout.readline()
+        child.stdout.close()
+        pairs += [("a reader that goes away", (child.stderr.read(), child.wait(LIMIT)), (b"", 1))]
+        child.stderr.close()
+    report("messages that tell what is so", differ(pairs))
+
+
+def how_many_were_new():
+    """`feed --messages 2` prints what `feed` prints, and tells how many items the node didn't know; a node that reads version 1 alone refuses it 3."""
+    with Node(60, words=("--messages", "2")) as node, Node(60) as plain:
+        told = [run("feed", "--port", node.port, "--messages", 2, *more, data=data) for more, data in (([], FIRST), ([], FIRST), (["--batch", 1], FIRST), ([], b""))]
+        pairs = [(f"feed {n}", (out, status, why.splitlines()[-1]), wanted) for n, ((out, status, why), wanted) in enumerate(zip(told, (
+            (b"done 2\n", 0, "new 2 of 2"), (b"done 3\n", 0, "new 0 of 2"), (b"done 5\n", 0, "new 0 of 2"), (b"done 6\n", 0, "new 0 of 0"))))]
+        once = run("feed", "--port", node.port, data=FIRST)
+        refused = run("feed", "--port", plain.port, "--messages", 2, data=FIRST)
+        pairs += [("version 1 tells none", (once[:2], "new" in once[2]), ((b"done 7\n", 0), False)),
+                  ("a node of version 1", (refused[:2], refused[2].startswith("request 1: refused 3: ")), ((b"refused 3\n", 1), True))]
+    report("how many items were new", differ(pairs))
+
+
+def main():
+    if not is_built(PROGRAM):
+        return ended()
+    start = time.monotonic()
+    for check in (there_and_back, bad_lines, json_answers, over_a_link, shell, connected_later, silent_nodes, told_apart, words_that_mislead, how_many_were_new):
+        if not sys.argv[1:] or check.__name__ in sys.argv[1:]:
+            guarded(check)
+    print(f"asked: {time.monotonic() - start:.1f} s")
+    return ended()
+
+
+if __name__ == "__main__":
+    sys.exit(main())

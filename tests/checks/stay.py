@@ -1,0 +1,354 @@
+#!/usr/bin/env python3
+"""Checks of `bin/hkrep serve --stay`: places that are given back, links that only read, limits of time, and peers that mean ill.
+
+Prints a line for each check and ends with 'N passed, M failed'. Standard library only."""
+import pathlib
+import signal
+import socket
+import struct
+import subprocess
+import sys
+import threading
+import time
+
+sys.path.append(str(pathlib.Path(__file__).resolve().parents[1] / "lib"))
+import messages as say
+from checks import differ, ended, guarded, is_built, report
+from messages import E1, TOO_LONG
+from staying import PROGRAM, Staying
+
+PUSHED = say.items(E1, say.mark(1, 1, 1))
+GET = say.ask(1, say.get(1, 5))
+ROW = ("row", (9, b"\x41"))
+# How many connects of each kind.
+BAD_PEERS = 2_500
+# The last of them, beside which memory is looked at.
+MEASURED = 500
+# How much it may grow beside these: nothing of note; the program of `make quick`, whose checks of memory keep what was freed for a while, more.
+MOST_GROWN = {False: 1 << 20, True: 4 << 20}
+
+
+def is_silent(link, seconds=0.3):
+    """Whether nothing comes for a while."""
+    link.socket.settimeout(seconds)
+    try:
+        return link.socket.recv(1) is None
+    except TimeoutError:
+        return True
+    finally:
+        link.socket.settimeout(30)
+
+
+def places_are_given_back():
+    """Of two places, a hundred links; a third waits until one of two ends; what was pushed stays."""
+    with Staying(2) as node:
+        pairs = []
+        for at in range(100):
+            with node.link() as link:
+                pairs.append((f"link {at}", link.ask(say.front()), ("front", 0, 0)))
+            pairs.append((f"its end {at}", node.line(), "ended 0"))
+        with node.link() as first:
+            pairs.append(("a push", first.ask(PUSHED), ("done", 2)))
+            with node.link() as second:
+                pairs.append(("the second link", second.ask(GET), ROW))
+                with node.link() as third:
+                    third.send(GET)
+                    pairs.append(("a link beyond the places waits", is_silent(third), True))
+                    second.close()
+                    pairs += [("the end of the second", node.line(), "ended 0"), ("the third", third.reply(), ROW)]
+        pairs += [("two ends", [node.line(), node.line()], ["ended 0"] * 2), ("it runs on", node.child.poll(), None)]
+        with node.link() as link:
+            pairs.append(("a link after all", link.ask(GET), ROW))
+        report("places are given back", differ(pairs))
+
+
+def quiet(node, stop, problems):
+    """Asks over one link until it is told to stop."""
+    with node.link() as link:
+        while not stop.is_set():
+            told = link.ask(GET)
+            if told != ROW:
+                problems.append(told)
+                return
+
+
+def hurt(port, kind):
+    """Opens a link and leaves it in a bad way."""
+    with socket.create_connection(("127.0.0.1", port), timeout=30) as it:
+        if kind == "half a frame":
+            it.sendall(b"\0\0\0\x10\x01")
+        if kind == "another protocol":
+            it.sendall(b"GET / HTTP/1.1\r\nHost: node\r\n\r\n")
+        if kind == "a reset":
+            it.setsockopt(socket.SOL_SOCKET, socket.SO_LINGER, struct.pack("ii", 1, 0))
+
+
+ENDS = {"nothing": {"ended 0"}, "half a frame": {"ended 1", "ended 92"}, "another protocol": {"ended 2", "ended 91", "ended 92"},
+        "a reset": {"ended 0", "ended 91"}}
+
+
+def hurt_often(node, count):
+    """So many bad peers of each kind, one after the other; what is wrong with how they ended."""
+    problems = []
+    for kind, ends in ENDS.items():
+        for _ in range(count):
+            hurt(node.port, kind)
+        told = {node.line() for _ in range(count)}
+        if not told <= ends:
+            problems.append(f"{kind}: {sorted(told)}")
+    return problems
+
+
+def is_unproved():
+    return "unproved" in subprocess.run([str(PROGRAM), "--version"], capture_output=True, text=True, check=False).stdout
+
+
+def bad_peers():
+    """Ten thousand connects that say nothing, half a frame, another protocol's bytes, or reset: another link is answered beside most
+    of them, and after them memory doesn't grow any more."""
+    with Staying(5) as node:
+        problems, stop = [], threading.Event()
+        with node.link() as link:
+            problems += differ([("a push", link.ask(PUSHED), ("done", 2))])
+        problems += differ([("its end", node.line(), "ended 0")])
+        asking = threading.Thread(target=quiet, args=(node, stop, problems))
+        asking.start()
+        problems += hurt_often(node, BAD_PEERS - MEASURED)
+        stop.set()
+        asking.join(30)
+        problems += differ([("the end of the link beside them", node.line(), "ended 0")])
+        before = node.memory()
+        problems += hurt_often(node, MEASURED)
+        grown = node.memory() - before
+        if grown > MOST_GROWN[is_unproved()]:
+            problems.append(f"memory grew by {grown} bytes")
+        with node.link() as link:
+            problems += differ([("a link after all", link.ask(GET), ROW)])
+        report("ten thousand connects of bad peers", problems)
+
+
+def ends_soon_after_a_fault():
+    """A peer that goes on sending after its fault, a byte at a time or as much as it can, has two seconds."""
+    problems = []
+    with Staying(1) as node:
+        for name, piece, pause in (("a byte at a time", b"\0", 0.004), ("as much as it can", bytes(65_536), 0)):
+            with node.link() as link:
+                link.send(TOO_LONG)
+                problems += differ([(name, link.reply()[:2], ("refused", 2))])
+                start = time.monotonic()
+                while time.monotonic() < start + 10 and node.lines.empty():
+                    try:
+                        link.send(piece)
+                    except OSError:
+                        break
+                    time.sleep(pause)
+                problems += differ([(f"the end of {name}", node.line(), "ended 2")])
+                took = time.monotonic() - start
+                # two seconds on an idle machine; the gate's is none
+                if took > 4:
+                    problems.append(f"{name}: {took:.1f} s")
+    report("a link ends soon after its fault", problems)
+
+
+def limits_of_time():
+    """With a limit of a second, a link ends that is silent inside a frame or trickles; one that is silent between frames stays."""
+    with Staying(3, "--read-seconds", "1") as node:
+        with node.link() as silent, node.link() as half, node.link() as trickling:
+            pairs = [("a link", silent.ask(say.front()), ("front", 0, 0))]
+            half.send(say.front()[:5])
+            pairs += [("a silent half of a frame", node.line(), "ended 91"), ("its last", half.reply(), None)]
+            trickling.send(struct.pack(">I", 1_000) + b"\1\x10")
+            start = time.monotonic()
+            while time.monotonic() < start + 20 and node.lines.empty():
+                try:
+                    trickling.send(b"\0")
+                except OSError:
+                    break
+                time.sleep(0.02)
+            pairs += [("a trickle", node.line(), "ended 91")]
+            time.sleep(max(0, 2.5 - (time.monotonic() - start)))
+            pairs += [("a link that was silent", silent.ask(say.front()), ("front", 0, 0))]
+            silent.socket.sendall(say.front()[:3])
+            time.sleep(0.2)
+            silent.socket.sendall(say.front()[3:])
+            pairs += [("a frame in two pieces", silent.reply(), ("front", 0, 0))]
+        report("limits of time", differ(pairs))
+
+
+CHANGES = {"items": PUSHED, "a join": say.join_this(), "a merge": say.merge_this(), "a prune": say.prune(0)}
+
+
+def links_that_only_read():
+    """Links to the second port ask and do not change: a change is refused with 4 and ends the link."""
+    with Staying(1, reading=1) as node, node.link() as link:
+        pairs = [("a push", link.ask(PUSHED), ("done", 2))]
+        for name, change in CHANGES.items():
+            for cut in (len(GET + change + GET), 1):
+                with node.link(node.read_port) as reading:
+                    text = GET + change + GET
+                    for at in range(0, len(text), cut):
+                        try:
+                            reading.send(text[at:at + cut])
+                        except OSError:
+                            break
+                    pairs += [(f"{name}: an ask before it", reading.reply(), ROW), (name, reading.reply()[:2], ("refused", 4)), (f"{name}: the end", reading.reply(), None)]
+                pairs.append((f"{name}: its line", node.line(), "ended 4"))
+        with node.link(node.read_port) as reading:
+            pairs += [("front", reading.ask(say.front()), ("front", 0, 1)), ("delta", reading.ask(say.delta(1))[0], "fragment"),
+                      ("whole", reading.ask(say.full()), link.ask(say.full())), ("no kind", reading.ask(b"\0\0\0\2\1\xff")[:2], ("refused", 4))]
+        pairs += [("an unknown kind", node.line(), "ended 4"), ("nothing changed", link.ask(say.items()), ("done", 3))]
+        report("links that only read", differ(pairs))
+
+
+def links_that_feed():
+    """Links to the port for feeders send items and ask, in both versions: each other change is refused with 4, ends the link, and is not made."""
+    later = ("--messages", "2")
+    with Staying(1, *later, reading=1, feeding=1) as node, node.link() as link:
+        with node.link(node.feed_port) as feeder:
+            pairs = [("items", feeder.ask(PUSHED), ("done", 2)), ("an ask", feeder.ask(GET), ROW), ("its front", feeder.ask(say.front()), ("front", 0, 1)),
+                     ("the status", feeder.ask(say.status())[0], "streams"), ("a whole", feeder.ask(say.whole(0, 0))[0], "last part"), ("known items", feeder.ask(say.feed(E1, say.mark(1, 1, 1))), ("fed", 3, 0))]
+        pairs.append(("its end", node.line(), "ended 0"))
+        changes = {name: change for name, change in CHANGES.items() if name != "items"}
+        for name, change in (changes | {"a part": say.add([]), "a hold": say.hold(1), "a release": say.release(1)}).items():
+            with node.link(node.feed_port) as feeder:
+                feeder.send(GET + change + GET)
+                pairs += [(f"{name}: an ask before it", feeder.reply(), ROW), (name, feeder.reply()[:2], ("refused", 4)), (f"{name}: the end", feeder.reply(), None)]
+            pairs.append((f"{name}: its line", node.line(), "ended 4"))
+        pairs.append(("nothing else changed", link.ask(say.items()), ("done", 4)))
+        report("links that feed", differ(pairs))
+
+
+def no_more_files():
+    """Where no file is left an accept is told as failed and tried again, without much work, and links go on."""
+    with Staying(4, RLIMIT_NOFILE=6) as node:
+        with node.link() as first, node.link() as second:
+            pairs = [("the first", first.ask(say.front()), ("front", 0, 0)), ("the second", second.ask(say.front()), ("front", 0, 0))]
+            with node.link() as third:
+                third.send(say.front())
+                before = node.processor()
+                pairs.append(("a third waits", is_silent(third, 1), True))
+                pairs.append(("it does not spin", node.processor() - before < 50, True))
+                second.close()
+                pairs += [("the end of the second", node.line(), "ended 0"), ("the third after it", third.reply(), ("front", 0, 0))]
+    told = [line for line in node.words if "not accepted 93" in line]
+    report("a node that stays and can open no further file", differ(pairs + [("it is told", bool(told), True)]))
+
+
+def signals():
+    """A signal ends the process at once: the client sees its link end, and nothing more is printed."""
+    problems = []
+    for signal_of in (signal.SIGTERM, signal.SIGINT):
+        with Staying(1) as node, node.link() as link:
+            pairs = [("a push", link.ask(PUSHED), ("done", 2))]
+            node.child.send_signal(signal_of)
+            try:
+                told = link.socket.recv(1)
+            except ConnectionResetError:
+                told = b""
+            pairs += [("the link", told, b""), ("the status", node.child.wait(30), -signal_of), ("nothing more", node.line(), None)]
+            problems += [f"{signal_of.name}: {problem}" for problem in differ(pairs)]
+    report("a node that a signal ends", problems)
+
+
+def what_is_told():
+    """Links that open and end, faults and refused changes are told on standard error; with -q only what is above 0."""
+    all_told = {"": ["link 1: opened", "link 1: refused 20: ", "link 1: ended 0", "link 2: opened", "link 2: ended 2: "], "-q": ["link 1: refused 20: ", "link 2: ended 2: "]}
+    problems = []
+    for option, told in all_told.items():
+        with Staying(1, *option.split()) as node:
+            with node.link() as link:
+                pairs = [("another log's item", link.ask(say.items(say.mark(1, 0, 0, log=8)))[:2], ("refused", 20))]
+            pairs.append(("its end", node.line(), "ended 0"))
+            with node.link() as link:
+                link.send(TOO_LONG)
+                link.read_all()
+            pairs.append(("a fault's end", node.line(), "ended 2"))
+            until = time.monotonic() + 10
+            while len(node.words) < len(told) and time.monotonic() < until:
+                time.sleep(0.01)
+        words = [line.removesuffix("\n") for line in node.words]
+        pairs += [("how many lines", len(words), len(told))]
+        pairs += [("a line", word[:len(start)], start) for word, start in zip(words, told)]
+        problems += differ(pairs)
+    report("what a node that stays tells on standard error", problems)
+
+
+def changes_are_told():
+    """With -v each change that takes effect is told, with --report-changes the front after so many; a refused one counts for neither."""
+    first, later = ["link 1: refused 24: ", "after 2 changes: front 0 5"], ["after 4 changes: front 1 5", "link 1: ended 0"]
+    wanted = {"-v": ["link 1: opened", "link 1: done 2", first[0], *(f"link 1: done {at}" for at in (3, 4, 5)), later[1]],
+              "-q --report-changes 2": first + later[:1],
+              "--report-changes 2 --guard -v": ["link 1: opened", "link 1: done 2", first[0], "link 1: done 3", first[1], "link 1: done 4", "link 1: done 5", *later]}
+    problems = []
+    for options, told in wanted.items():
+        with Staying(1, *options.split()) as node:
+            with node.link() as link:
+                pairs = [("a push", link.ask(PUSHED), ("done", 2)), ("a prune that is refused", link.ask(say.prune(9))[:2], ("refused", 24)), ("a row", link.ask(GET), ROW)]
+                for at, change in enumerate((say.items(say.mark(1, 1, 5)), say.prune(1), PUSHED), 3):
+                    pairs.append((f"change {at}", link.ask(change), ("done", at)))
+            pairs.append(("its end", node.line(), "ended 0"))
+            until = time.monotonic() + 10
+            while len(node.words) < len(told) and time.monotonic() < until:
+                time.sleep(0.01)
+        words = [line.removesuffix("\n") for line in node.words]
+        pairs += [("how many lines", len(words), len(told))] + [("a line", word[:len(start)], start) for word, start in zip(words, told)]
+        problems += [f"{options}: {problem}" for problem in differ(pairs)]
+    report("what is told of changes, and of the front after so many", problems)
+
+
+def changes_are_guarded():
+    """With --guard what contradicts is refused 23 and nothing changed, on each link; without it the node is damaged."""
+    conflicts = say.items(say.entry(2, 2, [(1, 6, 9, b"\x42")]), say.entry(3, 3, ends=[(1, 5, 1)]), say.entry(4, 4, ends=[(1, 5, 1)]))
+    other = say.join_this(facts=[(1, 5, 1, (9, b"\x43"), None)])
+    with Staying(2, "--guard") as node, node.link() as link, node.link() as second:
+        pairs = [("a push", link.ask(PUSHED), ("done", 2))]
+        for name, change in ("items that contradict each other", conflicts), ("a fragment that contradicts", other):
+            pairs += [(name, second.ask(change)[:2], ("refused", 23)), (f"after {name}", link.ask(say.front()), ("front", 0, 1))]
+        pairs += [("the same items again", second.ask(PUSHED), ("done", 3)), ("a row", link.ask(GET), ROW),
+                  ("a mark", link.ask(say.items(say.mark(1, 1, 9))), ("done", 4)), ("an entry for a closed time", second.ask(say.items(say.entry(2, 2, [(1, 6, 9, b"\x42")])))[:2], ("refused", 23)),
+                  ("a later entry", second.ask(say.items(say.entry(2, 10, [(1, 6, 9, b"\x42")]))), ("done", 5))]
+    with Staying(1) as node, node.link() as link:
+        pairs += [("a push without it", link.ask(PUSHED), ("done", 2)), ("a conflict without it", link.ask(other)[:2], ("refused", 23)), ("the damage", link.ask(GET)[:2], ("refused", 41))]
+    report("changes are tested first with --guard", differ(pairs))
+
+
+def addresses_and_bad_lines():
+    """An address of its own; options that want others, and numbers out of their ranges."""
+    with Staying(1, "--address", "127.0.0.2", address="127.0.0.2") as node, node.link() as link:
+        pairs = [("another address", link.ask(say.front()), ("front", 0, 0))]
+        try:
+            say.Link(node.port).close()
+            pairs.append(("127.0.0.1", "listens", "does not listen"))
+        except ConnectionRefusedError:
+            pass
+    plain = ["--log", "7", "--streams", "1", "--port", "47999", "--links"]
+    for words in (["1", "--address", "127.0.0.1"], ["1", "--read-seconds", "3"], ["1", "--read-port", "47998", "--read-links", "1"],
+                  ["1", "--stay", "--read-port", "47998"], ["1", "--stay", "--read-links", "1"], ["64", "--stay", "--read-port", "47998", "--read-links", "1"],
+                  ["1", "--stay", "--address", "node"], ["1", "--stay", "--read-seconds", "86401"], ["1", "--stay", "--read-seconds", "+1"], ["1", "-q"], ["1", "-v"], ["1", "--stay", "-q", "-v"],
+                  ["1", "--report-changes", "2"], ["1", "--stay", "--report-changes", "0"], ["64", "--stay", "--report-changes", "2"],
+                  ["63", "--stay", "--report-changes", "2", "--read-port", "47998", "--read-links", "1"], ["1", "--feed-port", "47998", "--feed-links", "1"],
+                  ["1", "--stay", "--feed-port", "47998"], ["1", "--stay", "--feed-links", "1"], ["63", "--stay", "--feed-port", "47997", "--feed-links", "1", "--read-port", "47998", "--read-links", "1"]):
+        done = subprocess.run([str(PROGRAM), "serve", *plain, *words], capture_output=True, text=True, timeout=30, check=False)
+        pairs.append((" ".join(words), (done.returncode, done.stdout), (2, "")))
+    with socket.create_server(("127.0.0.1", 0)) as taken:
+        port = str(taken.getsockname()[1])
+        done = subprocess.run([str(PROGRAM), "serve", "--log", "7", "--streams", "1", "--port", port, "--links", "1", "--stay"],
+                              capture_output=True, text=True, timeout=30, check=False)
+        pairs.append(("a port in use", (done.returncode, done.stdout), (1, "refused 93\n")))
+    report("addresses, and bad command lines", differ(pairs))
+
+
+def main():
+    if not is_built(PROGRAM):
+        return ended()
+    start = time.monotonic()
+    for check in (places_are_given_back, ends_soon_after_a_fault, limits_of_time, links_that_only_read, links_that_feed, no_more_files, signals, what_is_told, changes_are_told, changes_are_guarded, addresses_and_bad_lines, bad_peers):
+        if sys.argv[1:] and check.__name__ not in sys.argv[1:]:
+            continue
+        guarded(check)
+    print(f"links that come and go: {time.monotonic() - start:.1f} s")
+    return ended()
+
+
+if __name__ == "__main__":
+    sys.exit(main())

@@ -1,0 +1,71 @@
+"""A node of `hkrep serve --stay` for the tests, with what it prints as it comes. Standard library only."""
+import pathlib
+import queue
+import resource
+import subprocess
+import threading
+
+import messages as say
+from checks import free_port
+
+PROGRAM = pathlib.Path(__file__).resolve().parents[2] / "bin" / "hkrep"
+LIMIT = 30
+
+
+class Staying:
+    """A node that stays, which is ended when the block is left; limits are of `resource`."""
+
+    def __init__(self, links, *options, streams=1, reading=0, feeding=0, address="127.0.0.1", **limits):
+        def restrict():
+            for name, limit in limits.items():
+                resource.setrlimit(getattr(resource, name), (limit, limit))
+
+        self.address, self.port, self.read_port, self.feed_port = address, free_port(), free_port(), free_port()
+        words = ["serve", "--log", "7", "--streams", str(streams), "--port", str(self.port), "--links", str(links), "--stay", *options]
+        if feeding:
+            words += ["--feed-port", str(self.feed_port), "--feed-links", str(feeding)]
+        if reading:
+            words += ["--read-port", str(self.read_port), "--read-links", str(reading)]
+        self.child = subprocess.Popen([str(PROGRAM), *words], stdout=subprocess.PIPE, stderr=subprocess.PIPE, text=True, preexec_fn=restrict)
+        self.lines, self.words = queue.Queue(), []
+        threading.Thread(target=self._read, daemon=True).start()
+        self.words_thread = threading.Thread(target=lambda: self.words.extend(self.child.stderr), daemon=True)
+        self.words_thread.start()
+        wanted = [f"listening {self.port}"] + ([f"feeding {self.feed_port}"] if feeding else []) + ([f"reading {self.read_port}"] if reading else [])
+        said = []
+        while len(said) < len(wanted) and None not in said:
+            said.append(self.line())
+        if said != wanted:
+            self.child.kill()
+            self.child.wait()
+            raise RuntimeError(f"the node said {said}")
+
+    def _read(self):
+        for line in self.child.stdout:
+            self.lines.put(line.removesuffix("\n"))
+        self.lines.put(None)
+
+    def line(self, limit=LIMIT):
+        """The next line that it prints, or None where it ended."""
+        return self.lines.get(timeout=limit)
+
+    def link(self, port=None):
+        return say.Link(port or self.port, LIMIT, self.address)
+
+    def memory(self):
+        """How many bytes of it stand in memory."""
+        text = pathlib.Path(f"/proc/{self.child.pid}/status").read_text()
+        return int(next(line for line in text.splitlines() if line.startswith("VmRSS")).split()[1]) * 1024
+
+    def processor(self):
+        """How many hundredths of a second it worked."""
+        fields = pathlib.Path(f"/proc/{self.child.pid}/stat").read_text().rsplit(") ", 1)[1].split()
+        return int(fields[11]) + int(fields[12])
+
+    def __enter__(self):
+        return self
+
+    def __exit__(self, *_):
+        self.child.kill()
+        self.child.wait()
+        self.words_thread.join(LIMIT)
