@@ -1,5 +1,5 @@
 """A PostgreSQL, a Redis and nodes of one's own in a folder, started and ended by their own numbers: for the shop, and
-for tests/postgres.py. PostgreSQL doesn't run as root: there it runs as the user `postgres`."""
+for tests/checks/postgres.py. PostgreSQL doesn't run as root: there it runs as the user `postgres`."""
 from __future__ import annotations
 
 import os

@@ -1,5 +1,5 @@
 """Snapshots of a PostgreSQL beside the moments of its capture: which moment a snapshot is, if it is one, and whether
-the rows are the same. Used by the shop and by tests/postgres.py."""
+the rows are the same. Used by the shop and by tests/checks/postgres.py."""
 from __future__ import annotations
 
 import decimal
