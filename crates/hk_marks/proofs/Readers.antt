@@ -1,5 +1,5 @@
 -- What the readers of a stored stream give.
-use Rattle.std.proofs.Common.{◌≡◌, refl, sym, ap, ◌∙◌, ℕ, ◌<◌, ◌≤◌, ◌+◌, Bool, true, false, cond, not, T, Option, Some, None, is_some, List, [], ◌∷◌, map, ◌||◌, ◌&&◌, ltb, leb, nat_le, nat_cmp, is_le, is_lt, Ordering, Less, arith, unwrap_or, max, true≢false}
+use Rattle.std.proofs.Common.{◌≡◌, refl, sym, ap, ◌∙◌, ℕ, ◌<◌, ◌≤◌, ◌+◌, Bool, true, false, cond, not, T, Option, Some, None, is_some, List, [], ◌∷◌, length, map, ◌||◌, ◌&&◌, ltb, leb, nat_le, nat_cmp, is_le, is_lt, Ordering, Less, arith, unwrap_or, max, true≢false}
 use Rattle.std.proofs.lemmas.Bool.Decides.{nat_tests}
 use Rattle.std.specs.List.{AllByRecursion}
 use Rattle.std.specs.List.Sorted.{IsStrictlySortedBy}
@@ -17,7 +17,7 @@ use Rattle.hk_model.specs.Replica.Streams.{covers, unknown, adds_nothing}
 use Rattle.hk_model.specs.Replica.Lawful.{IsLawfulStream}
 use Rattle.hk_marks.proofs.StoredStreams.{contains-taken_seen, covers_seen, get-waiting_seen}
 use Rattle.hk_marks.specs.Seen.{taken_seen, waiting_seen, IsExtra, IsStored, stream_seen}
-use Rattle.hk_marks.specs.Steps.{extra_numbers}
+use Rattle.hk_marks.specs.Steps.{extra_numbers, IsInOrder}
 
 -- ---- the entries of a map that is seen are those of its tree
 
@@ -46,6 +46,9 @@ pub entries-waiting_seen : (w : BTreeMap ℕ ℕ) → tree.IsOrdered nat_cmp w �
 unfolding waiting_seen
 entries-waiting_seen w rise = entries-from_sorted w.entries rise
 
+pub length_seen : (w : BTreeMap ℕ ℕ) → tree.IsOrdered nat_cmp w → finmap.len (waiting_seen w) ≡ length w.entries
+length_seen w rise = finmap.len-entries _ ∙ ap length (entries-waiting_seen w rise)
+
 -- ---- the extra numbers
 
 pub extra_numbers_seen : (p : ℕ) (extra : set.FinSet nat_cmp) (c : ℕ) (w : BTreeMap ℕ ℕ) → IsExtra p extra → extra ≡ extra_numbers (stream_seen p extra c w)
@@ -57,6 +60,9 @@ extra_numbers_seen p extra c w above = set.same_set nat_cmp_total finmap.nat_cmp
     kept : (q : ℕ) (x : Bool) → (x ≡ true → p + 1 < q) → x ≡ (((ltb 0 q && leb q p) || x) && not (leb q p))
     kept q true h = let l = h refl in grind (arith, nat_tests)
     kept q false h = grind (arith, nat_tests)
+
+pub no_extras : (p : ℕ) (extra : set.FinSet nat_cmp) (c : ℕ) (w : BTreeMap ℕ ℕ) → IsExtra p extra → IsInOrder (stream_seen p extra c w) → extra ≡ set.empty
+no_extras p extra c w above order = extra_numbers_seen p extra c w above ∙ set.empty_of_len _ order.0
 
 -- ---- nothing is known
 

@@ -1,5 +1,5 @@
 -- What is inserted for another view, and taken back again.
-use Rattle.std.proofs.Common.{◌≡◌, refl, sym, ap, ◌∙◌, ℕ, zero, suc, ◌<◌, ◌+◌, Bool, true, false, cond, not, Option, Some, None, is_some, List, [], ◌∷◌, map, filter, length, take, get_or, ◌||◌, ◌&&◌, ltb, nat_cmp, arith, true≢false, Result, Ok, Err, OnErr, is_err}
+use Rattle.std.proofs.Common.{◌≡◌, refl, sym, ap, ◌∙◌, ℕ, zero, suc, ◌<◌, ◌+◌, Bool, true, false, cond, not, Option, Some, None, is_some, List, [], ◌∷◌, map, filter, length, take, get_or, ◌||◌, ◌&&◌, ltb, nat_cmp, arith, true≢false, Result, Ok, Err, OnOk, OnErr, is_err}
 use Rattle.std.proofs.lemmas.Bool.Decides.{nat_tests}
 use Rattle.std.proofs.lemmas.Bool.{and_parts}
 use Rattle.std.proofs.lemmas.List.{take_more}
@@ -61,6 +61,11 @@ taken_back xs i q gone there after now before back so_far apart =
 pub on_error : {A E P : Type 0} (r : Result A E) → P → OnErr r P
 on_error (Ok a) p = tt
 on_error (Err e) p = p
+
+-- what holds where nothing was refused
+pub of_ok : {A E P : Type 0} (r : Result A E) → false ≡ is_err r → OnOk r P → P
+of_ok (Ok a) f p = p
+of_ok (Err e) f p = absurd (true≢false (sym f))
 
 -- an error's fact
 pub of_error : {A E P : Type 0} (r : Result A E) → true ≡ is_err r → OnErr r P → P

@@ -25,6 +25,10 @@ with_prefix s prefix closed = stream_with (set.union s.taken (up_to prefix)) (ma
 abbrev pub extra_numbers : StreamContent → set.FinSet nat_cmp
 extra_numbers s = set.retain s.taken (λ number. not (covers s.taken number))
 
+-- no number above the prefix is taken, and no mark waits
+abbrev pub IsInOrder : StreamContent → Type 0
+IsInOrder s = (set.len (extra_numbers s) ≡ 0) × (finmap.len s.waiting ≡ 0)
+
 -- the streams with what this item tells
 abbrev pub with_told : List StreamContent → Item → List StreamContent
 with_told streams item = all_together streams (streams_of (length streams) (item ∷ []))

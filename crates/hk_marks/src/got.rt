@@ -12,7 +12,7 @@ ghost use Rattle.hk_model.specs.Replica.Lawful.{IsLawfulStream};
 ghost use Rattle.hk_model.specs.Replica.Streams.{all_together, covers, adds_nothing, stream_at, unknown};
 ghost use Rattle.hk_marks.specs.Seen.{IsNumbered};
 ghost use Rattle.hk_marks.specs.Parts.{HasPrefix};
-ghost use Rattle.hk_marks.specs.Steps.{with_number, with_mark, with_prefix, extra_numbers, TakesEntry, TakesMark};
+ghost use Rattle.hk_marks.specs.Steps.{with_number, with_mark, with_prefix, extra_numbers, IsInOrder, TakesEntry, TakesMark};
 ghost use Rattle.hk_marks.specs.Told.{prefix_of, stream_told};
 
 use crate::stream::{Stream, join_streams};
@@ -145,15 +145,18 @@ impl Got {
 
     /// Adds all that another view of the same number of streams has.
     ///
-    /// The only refusal is `Memory`, where an extra number or a waiting mark finds no room; then
-    /// nothing is changed in any stream. Cost: O((s + c) · log n), s streams, n runs of extra numbers and
-    /// waiting marks of both views, c of them those of the other view and those here that are
+    /// The only refusal is `Memory`, where an extra number or a waiting mark finds no room; then nothing is changed in
+    /// any stream. Where the other has none of either there is no refusal. Cost: O((s + c) · log n), s streams, n runs
+    /// of extra numbers and waiting marks of both views, c of them those of the other view and those here that are
     /// freed.
     pub fn join(&mut self, other: &Got) -> Result<(), Refusal>
         requires { length self.old ≡ length other.now }
         ensures ok { OnOk result (self.new ≡ all_together self.old other.now) }
         ensures err { IfErr result (λ why. why ≡ Memory) }
         ensures kept { OnErr result (self.new ≡ self.old) }
+
+        // A view in order, without extra numbers and waiting marks, takes no memory.
+        ensures in_order { All IsInOrder other.now → IsOk result }
     {
         let alloc = *self.streams.allocator();
         join_streams(alloc, &mut self.streams, &other.streams)?;

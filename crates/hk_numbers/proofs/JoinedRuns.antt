@@ -1,12 +1,12 @@
 -- Runs that are joined one by one.
-use Rattle.std.proofs.Common.{◌≡◌, refl, sym, ap, ◌∙◌, subst, ℕ, ◌<◌, ◌≤◌, Bool, true, false, true≢false, cond, nat_cmp, Some, List, [], ◌∷◌, ◌⊎◌, inl, inr, ◌||◌}
+use Rattle.std.proofs.Common.{◌≡◌, refl, sym, ap, ◌∙◌, subst, ℕ, ◌<◌, ◌≤◌, Bool, true, false, true≢false, cond, nat_cmp, Some, arith, List, [], ◌∷◌, ◌⊎◌, inl, inr, ◌||◌, Result, Ok, Err, OnErr, IsOk}
 use Rattle.std.specs.Ordering.{is_eq}
 use Rattle.std.specs.Cmp.{nat_cmp_total}
 use Rattle.std.specs.FinMap as finmap
 use Rattle.std.specs.FinSet as set
 use Rattle.std.specs.BTreeMap as tree
 use Rattle.std.specs.BTreeMap.{BTreeMap}
-use Rattle.hk_numbers.specs.Runs.{end_of, AreKept, AreRuns, Holds, HasRoomAt, HasRoomFor, KeepsRoom, SameNumbers, AddsSpan, Unites, numbers_in, numbers_seen, span}
+use Rattle.hk_numbers.specs.Runs.{end_of, AreKept, AreRuns, Holds, HasRoomAt, HasRoomFor, HasSome, KeepsRoom, SameNumbers, AddsSpan, Unites, numbers_in, numbers_seen, span}
 use Rattle.hk_numbers.proofs.SeenRuns.{Decides-seen, Decides-or, Decides-same, Decides-span, or_is, none_some, end_in, tied}
 
 abbrev pub Listed : List (ℕ × ℕ) → ℕ → Type 0
@@ -75,18 +75,39 @@ pub one_begins : (first end : ℕ) (es rest : List (ℕ × ℕ)) → es ≡ (fir
 one_begins first end es rest is a b =
     or_is _ _ _ (sym (ap (λ (l : List (ℕ × ℕ)). begins l a) is) ∙ b) (λ here. inl (tied a first here)) (λ later. inr later)
 
-pub room_more : (others m n : BTreeMap ℕ ℕ) (first end : ℕ) (es rest : List (ℕ × ℕ)) → es ≡ (first, end) ∷ rest → HasRoomAt n first → KeepsRoom m n
-    → ((a e : ℕ) → end_of others a ≡ Some e → HasRoomAt m a ⊎ (begins es a ≡ true))
-    → (a e : ℕ) → end_of others a ≡ Some e → HasRoomAt n a ⊎ (begins rest a ≡ true)
-room_more others m n first end es rest is here keeps room a e there =
-    elim (room a e there) [
+same_end : (e f : ℕ) → Some e ≡ Some f → e ≡ f
+same_end e f is = cc
+
+pub room_more : (others m n : BTreeMap ℕ ℕ) (first end : ℕ) (es rest : List (ℕ × ℕ)) → es ≡ (first, end) ∷ rest → end_of others first ≡ Some end → (first < end → HasRoomAt n first) → KeepsRoom m n
+    → ((a e : ℕ) → end_of others a ≡ Some e → a < e → HasRoomAt m a ⊎ (begins es a ≡ true))
+    → (a e : ℕ) → end_of others a ≡ Some e → a < e → HasRoomAt n a ⊎ (begins rest a ≡ true)
+room_more others m n first end es rest is ends here keeps room a e there some =
+    elim (room a e there some) [
       | inl before ↦ inl (keeps a before)
-      | inr b ↦ elim (one_begins first end es rest is a b) [ inl s ↦ inl (let P : ℕ → Type 0 = λ q. HasRoomAt n q in subst P (sym s) here) | inr later ↦ inr later ]
+      | inr b ↦ elim (one_begins first end es rest is a b) [
+        | inl s ↦ inl (let P : ℕ → Type 0 = λ q. HasRoomAt n q in
+            subst P (sym s) (here (let same : e ≡ end = same_end e end (sym there ∙ ap (end_of others) s ∙ ends) in omega (arith, some))))
+        | inr later ↦ inr later
+      ]
     ]
 
 pub room_all : (others now : BTreeMap ℕ ℕ) (es : List (ℕ × ℕ)) → es ≡ []
-    → ((a e : ℕ) → end_of others a ≡ Some e → HasRoomAt now a ⊎ (begins es a ≡ true)) → HasRoomFor others now
-room_all others now es none room a e there = elim (room a e there) [ inl h ↦ h | inr b ↦ absurd (none_begins es none a b) ]
+    → ((a e : ℕ) → end_of others a ≡ Some e → a < e → HasRoomAt now a ⊎ (begins es a ≡ true)) → HasRoomFor others now
+room_all others now es none room a e there some = elim (room a e there some) [ inl h ↦ h | inr b ↦ absurd (none_begins es none a b) ]
+
+-- ---- where nothing is refused
+
+pub on_error : {A E P : Type 0} (r : Result A E) → P → OnErr r P
+on_error (Ok a) p = tt
+on_error (Err e) p = p
+
+pub some_there : (others : BTreeMap ℕ ℕ) (first end : ℕ) → end_of others first ≡ Some end → first < end → HasSome others
+some_there others first end there more = record { number = first; held = record { first = first; end = end; there = there; from = omega arith; below = more } }
+
+pub none_refused : {A E : Type 0} (others : BTreeMap ℕ ℕ) → AreRuns others → (r : Result A E) → OnErr r (HasSome others) → numbers_seen others ≡ set.empty → IsOk r
+none_refused others runs (Ok a) some none = refl
+none_refused others runs (Err e) some none =
+    absurd (true≢false (sym ((Decides-seen others runs.ordered some.number).1 some.held) ∙ ap (λ (s : set.FinSet nat_cmp). set.contains s some.number) none ∙ set.contains-empty nat_cmp some.number))
 
 pub seen_same : (old new : BTreeMap ℕ ℕ) → AreRuns old → AreRuns new → SameNumbers old new → numbers_seen new ≡ numbers_seen old
 seen_same old new r t same = set.same_set nat_cmp_total finmap.nat_cmp-IsAntisymmetric _ _ (λ q.

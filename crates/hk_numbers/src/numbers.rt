@@ -1,6 +1,6 @@
 //! The calls on runs, with contracts that speak of the set of their numbers.
 
-ghost use Rattle.std.specs.Prelude.{◌≡◌, ◌≤◌, ◌<◌, ◌^◌, ◌+◌, ℕ, true, false, nat_lt, OnOk, OnErr, IfOk};
+ghost use Rattle.std.specs.Prelude.{◌≡◌, ◌≤◌, ◌<◌, ◌^◌, ◌+◌, ℕ, true, false, nat_lt, OnOk, OnErr, IfOk, IsOk};
 ghost use Rattle.std.specs.FinSet as set;
 ghost use Rattle.std.specs.BTreeMap as tree;
 ghost use Rattle.hk_numbers.specs.Runs.{numbers_seen, AreKept, HasRoomFor};
@@ -46,8 +46,8 @@ pub fn insert(runs: &mut BTreeMap<u64, u64>, number: u64) -> Result<(), AllocErr
     add(runs, number, number + 1)
 }
 
-/// Makes room for the runs of others, which changes no number, refused or not. The only refusal is want of memory. Cost:
-/// O(s · log (r + s)), r and s runs.
+/// Makes room for the runs of others, which changes no number, refused or not. The only refusal is want of memory, and
+/// where the others have no number there is none. Cost: O(s · log (r + s)), r and s runs.
 pub fn make_room_for(
     runs: &mut BTreeMap<u64, u64>,
     others: &BTreeMap<u64, u64>,
@@ -55,6 +55,7 @@ pub fn make_room_for(
     requires kept { AreKept runs.old }
     requires others { AreKept others.now }
     ensures ok { OnOk result (HasRoomFor others.now runs.new) }
+    ensures none { numbers_seen others.now ≡ set.empty → IsOk result }
     ensures same { numbers_seen runs.new ≡ numbers_seen runs.old }
     ensures kept { AreKept runs.new }
 {

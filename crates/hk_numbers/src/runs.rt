@@ -3,7 +3,7 @@
 ghost use Rattle.std.specs.Prelude.{◌≡◌, ◌≤◌, ◌<◌, ◌^◌, ◌+◌, OnOk, OnErr, IsSome};
 ghost use Rattle.std.specs.Ordering.{nat_cmp};
 ghost use Rattle.std.specs.BTreeMap as tree;
-ghost use Rattle.hk_numbers.specs.Runs.{AreRuns, DontTouch, TouchOnlyAt, EndsUpTo, IsRunBefore, IsNextUpTo, IsFirstUpTo, SetsEnd, AddsSpan, TakesFrom, Unites, HasRoomAt, HasRoomFor, KeepsRoom, SameNumbers, end_of};
+ghost use Rattle.hk_numbers.specs.Runs.{AreRuns, DontTouch, TouchOnlyAt, EndsUpTo, IsRunBefore, IsNextUpTo, IsFirstUpTo, SetsEnd, AddsSpan, TakesFrom, Unites, HasRoomAt, HasRoomFor, HasSome, KeepsRoom, SameNumbers, end_of};
 
 use std::alloc::AllocError;
 use std::collections::BTreeMap;
@@ -122,17 +122,21 @@ pub(crate) fn add(runs: &mut BTreeMap<u64, u64>, first: u64, end: u64) -> Result
     Ok(())
 }
 
-/// Makes room for a run that begins with a number: an empty one, unless a run has the number or ends there.
-fn make_room_at(runs: &mut BTreeMap<u64, u64>, first: u64) -> Result<(), AllocError>
+/// Makes room for a run: an empty one where it begins, unless a run has that number or ends there. A run of no number needs none.
+fn make_room_at(runs: &mut BTreeMap<u64, u64>, first: u64, end: u64) -> Result<(), AllocError>
     requires runs { AreRuns runs.old }
     requires apart { DontTouch runs.old }
     requires most { first ≤ 2 ^ 62 + 1 }
-    ensures ok { OnOk result (HasRoomAt runs.new first) }
+    ensures ok { OnOk result (first < end → HasRoomAt runs.new first) }
+    ensures none { OnErr result (first < end) }
     ensures same { SameNumbers runs.old runs.new }
     ensures room { KeepsRoom runs.old runs.new }
     ensures runs { AreRuns runs.new }
     ensures apart { DontTouch runs.new }
 {
+    if end <= first {
+        return Ok(());
+    }
     if let Some((_start, its_end)) = run_before(runs, first) {
         if first <= its_end {
             return Ok(());
@@ -146,13 +150,16 @@ fn make_room_at(runs: &mut BTreeMap<u64, u64>, first: u64) -> Result<(), AllocEr
 fn settle_run(runs: &mut BTreeMap<u64, u64>, first: u64, end: u64)
     requires runs { AreRuns runs.old }
     requires apart { DontTouch runs.old }
-    requires room { HasRoomAt runs.old first }
+    requires room { first < end → HasRoomAt runs.old first }
     requires most { end ≤ 2 ^ 62 + 1 }
     ensures adds { AddsSpan runs.old runs.new first end }
     ensures room { KeepsRoom runs.old runs.new }
     ensures runs { AreRuns runs.new }
     ensures apart { DontTouch runs.new }
 {
+    if end <= first {
+        return;
+    }
     if let Some((start, its_end)) = run_before(runs, first) {
         if end > its_end {
             extend(runs, start, end);
@@ -169,12 +176,13 @@ pub(crate) fn make_room(
     requires apart { DontTouch runs.old }
     requires others { AreRuns others.now }
     ensures ok { OnOk result (HasRoomFor others.now runs.new) }
+    ensures none { OnErr result (HasSome others.now) }
     ensures same { SameNumbers runs.old runs.new }
     ensures runs { AreRuns runs.new }
     ensures apart { DontTouch runs.new }
 {
-    for (first, _end) in others {
-        make_room_at(runs, *first)?;
+    for (first, end) in others {
+        make_room_at(runs, *first, *end)?;
     }
     Ok(())
 }

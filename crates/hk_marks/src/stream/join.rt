@@ -4,12 +4,14 @@
 //! be taken back, and a mark of time 0 for each count that has to wait. What can't fail comes after it, on the way out. Where a growth
 //! is refused, the way out takes the marks back.
 
-ghost use Rattle.std.specs.Prelude.{◌≡◌, ◌≤◌, ◌^◌, ℕ, true, length, max, None, IfOk, OnOk, OnErr};
+ghost use Rattle.std.specs.Prelude.{◌≡◌, ◌≤◌, ◌^◌, ℕ, ◌≢◌, [], ◌∷◌, true, length, max, None, All, IfOk, IsOk, IsOkAnd, OnOk, OnErr};
 ghost use Rattle.std.specs.Ordering.{nat_cmp};
 ghost use Rattle.std.specs.BTreeMap as tree;
+ghost use Rattle.std.specs.FinMap as finmap;
 ghost use Rattle.hk_numbers.specs.Runs.{numbers_seen, AreKept, HasRoomFor};
 ghost use Rattle.hk_model.specs.Replica.Streams.{all_together, together};
-ghost use Rattle.hk_marks.specs.Seen.{taken_seen, IsExtra};
+ghost use Rattle.hk_marks.specs.Seen.{taken_seen, waiting_seen, IsExtra};
+ghost use Rattle.hk_marks.specs.Steps.{IsInOrder};
 ghost use Rattle.hk_marks.specs.Parts.{AddsCounts, HasCounts, RaisesMarks, RemovesCounts, both_taken, has_number, lacking_counts};
 
 use super::{Stream, close_up_to, grow, raise_waiting, settle};
@@ -25,8 +27,12 @@ fn missing_counts(
     waiting: &BTreeMap<u64, Time>,
     others: &BTreeMap<u64, Time>,
 ) -> Result<Vec<u64>, AllocError>
-    ensures { IfOk result (λ counts. counts.items ≡ lacking_counts prefix waiting.now (tree.keys others.now)) }
+    ensures lacking { IfOk result (λ counts. counts.items ≡ lacking_counts prefix waiting.now (tree.keys others.now)) }
+    ensures none { finmap.len (waiting_seen others.now) ≡ 0 → IsOkAnd result (λ counts. counts.items ≡ []) }
 {
+    if others.is_empty() {
+        return Ok(Vec::new(alloc));
+    }
     others
         .keys()
         .copied()
@@ -47,7 +53,11 @@ fn insert_counts(waiting: &mut BTreeMap<u64, Time>, counts: &[u64]) -> Result<()
     requires { (q : ℕ) → has_number counts.now q ≡ true → tree.get nat_cmp waiting.old q ≡ None }
     ensures ok { OnOk result (AddsCounts counts.now waiting.old waiting.new) }
     ensures err { OnErr result ((q : ℕ) → tree.get nat_cmp waiting.new q ≡ tree.get nat_cmp waiting.old q) }
+    ensures none { OnErr result (counts.now ≢ []) }
 {
+    if counts.is_empty() {
+        return Ok(());
+    }
     for count in counts {
         if waiting.insert(*count, Time::zero()).is_err() {
             remove_counts(waiting, counts);
@@ -123,6 +133,7 @@ impl Stream {
         ensures later_ok { OnOk result (later.new ≡ all_together later.old others.now) }
         ensures err { OnErr result (self.new ≡ self.old) }
         ensures later_err { OnErr result (later.new ≡ later.old) }
+        ensures in_order { All IsInOrder (other.now ∷ others.now) → IsOk result }
     {
         make_room_for(&mut self.extra, &other.extra)?;
         let counts = missing_counts(alloc, self.prefix, &self.waiting, &other.waiting)?;
@@ -161,6 +172,7 @@ pub fn join_streams(
     requires { length streams.old ≡ length others.now }
     ensures ok { OnOk result (streams.new ≡ all_together streams.old others.now) }
     ensures err { OnErr result (streams.new ≡ streams.old) }
+    ensures in_order { All IsInOrder others.now → IsOk result }
 {
     if streams.len() == 0 {
         return Ok(());

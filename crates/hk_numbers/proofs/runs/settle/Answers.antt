@@ -18,7 +18,7 @@ loop-first-init c = record {
 pub settle_run-requires-clause-room : goal.settle_run-requires-clause-room
 settle_run-requires-clause-room c =
     let turn = btree_map_turn deref_pair c.loop-first.yielded _ _ _ c.next.result (c.in-Some.first, c.in-Some.end) c.loop-first.yielded_by c.in-Some.is c.next.ensures.steps nat_cmp_total c.args.others.now c.into_iter-first-iterator.ensures.into_iter_gives.0 c.into_iter-first-iterator.ensures.into_iter_gives.5 in
-    c.loop-first.invariant.room _ _ turn.1
+    λ some. c.loop-first.invariant.room _ _ turn.1 some
 
 pub settle_run-requires-clause-most : goal.settle_run-requires-clause-most
 settle_run-requires-clause-most c =
@@ -30,7 +30,7 @@ loop-first-preserved c =
     let turn = btree_map_turn deref_pair c.loop-first.yielded _ _ _ c.next.result (c.in-Some.first, c.in-Some.end) c.loop-first.yielded_by c.in-Some.is c.next.ensures.steps nat_cmp_total c.args.others.now c.into_iter-first-iterator.ensures.into_iter_gives.0 c.into_iter-first-iterator.ensures.into_iter_gives.5 in
     let i = c.loop-first.invariant in
     let x = joins_more c.args.runs.now c.args.others.now _ _ _ _ _ _ c.in-Some.ensures.steps turn.1 c.settle_run.ensures.adds i.only i.kept i.added in
-    record { runs = c.settle_run.ensures.runs; apart = c.settle_run.ensures.apart; room = λ a e there. c.settle_run.ensures.room a (i.room a e there); only = x.only; kept = x.kept; added = x.added }
+    record { runs = c.settle_run.ensures.runs; apart = c.settle_run.ensures.apart; room = λ a e there some. c.settle_run.ensures.room a (i.room a e there some); only = x.only; kept = x.kept; added = x.added }
 
 pub returns-clause-unites : goal.returns-clause-unites
 returns-clause-unites c =
