@@ -52,7 +52,8 @@ def made():
 
 
 def play_lines():
-    """The sessions of the vectors as lines, and what is to be answered; the requests of the vectors behind them, each in one call."""
+    """The sessions of the vectors as lines, and what is to be answered: step by step, and the worked ones each in one call; behind them
+    the malformed requests, each in one call."""
     lines, wanted = [], []
     for it in json.loads((ROOT / "tests" / "vectors" / "sessions.json").read_text(encoding="utf-8")):
         lines.append(f"open {it['log']} {it['streams']}")
@@ -62,6 +63,9 @@ def play_lines():
                 break  # a node that met a conflict answers nothing more; a replica alone has it refused, and nothing is changed
             lines.append(f"call {sent}")
             wanted.append(f"{it['ends'] if number == len(it['steps']) - 1 else 0} {told}")
+    for it in json.loads((ROOT / "tests" / "vectors" / "worked_sessions.json").read_text(encoding="utf-8")):
+        lines += [f"open {it['log']} {it['streams']}", f"call {it['asked']}"]
+        wanted += ["0 ", f"{it['number']} {it['told']}"]
     faults = json.loads((ROOT / "tests" / "vectors" / "request_faults.json").read_text(encoding="utf-8"))
     lines.append("open 7 1")
     wanted.append("0 ")
