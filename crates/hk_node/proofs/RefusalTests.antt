@@ -1,5 +1,5 @@
 -- Why a change is refused by its tests.
-use Rattle.std.proofs.Common.{◌≡◌, ℕ, ◌^◌, ◌==◌, Bool, true, false, not, ◌&&◌, if◌then◌else◌, length, Option, Some, None, refl, sym, ap, ◌∙◌, subst}
+use Rattle.std.proofs.Common.{◌≡◌, ◌≢◌, ℕ, true≢false, ◌^◌, ◌==◌, Bool, true, false, not, ◌&&◌, if◌then◌else◌, length, Option, Some, None, refl, sym, ap, ◌∙◌, subst}
 use Rattle.std.specs.Prelude.{nat_lt, IfSome}
 use Rattle.std.specs.List.{list_any}
 use Rattle.hk_types.specs.declared.faults.Refusal.{Refusal}
@@ -111,3 +111,9 @@ pub test_refuses : (old new : Lists) (op : Op) (why : Refusal) → IsCaughtUp ol
 test_refuses old new op why up e =
     let r : refusal_of (replay (all_of old)) op ≡ Some why = ap (λ (l : Lists). refusal_of (replay l.0) op) (sym up) ∙ sym e in
     by_test old op why new (subst (AreTested (replay (all_of old)).guarded) r (refused_tested (replay (all_of old)) op)) r up
+
+-- what a test refuses was not made
+pub test_not_made : (lists : Lists) (op : Op) (why : Refusal) → Some why ≡ refusal_of (replay lists.0) op → (n : ℕ) → why ≢ Unpublished n
+test_not_made lists op why e n made =
+    let t : is_tested (replay lists.0).guarded why ≡ true = subst (AreTested (replay lists.0).guarded) (sym e) (refused_tested (replay lists.0) op) in
+    true≢false (sym t ∙ ap (is_tested (replay lists.0).guarded) made)

@@ -199,6 +199,25 @@ pub fn hold_at<J: NodeName, R: Wait + Drop>(
     }
 }
 
+/// Why a pin of a time is refused where its caller has no room to keep it, at what lies under the writer's lock: the test that
+/// refuses it, once what waits is published, else `Memory`. No operation is added. Cost: that of the tests, and of what waits.
+pub fn hold_refusal<J: NodeName, R: Wait + Drop>(
+    publisher: &mut Publisher<J, R>,
+    time: Time,
+) -> Refusal
+    ensures refuses { Refuses publisher.old (HoldAt time) result publisher.new }
+    ensures none { IsHandedOut (all_of publisher.new) time None result }
+    ensures before { IsListOf J.kind (all_of publisher.old) }
+{
+    let Ok(()) = publisher.publish() else {
+        return Refusal::Memory;
+    };
+    match publisher.refusal(&Op::Hold(time)) {
+        Some(why) => why,
+        None => Refusal::Memory,
+    }
+}
+
 /// A release of a pin, at what lies under the writer's lock: it runs as `change`. It hands the pin back on every
 /// refusal but `Unpublished`. Cost: that of `change`.
 pub fn release_hold<J: NodeName, R: Wait + Drop>(

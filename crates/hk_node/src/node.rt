@@ -1,8 +1,8 @@
 //! The node: one writer under a lock, and readers that take no lock.
 
-ghost use Rattle.std.specs.Prelude.{◌≡◌, ◌∷◌, [], ◌<◌, ◌≤◌, List, All, Some, true, length, IfOk, IfErr, vec_len};
+ghost use Rattle.std.specs.Prelude.{◌≡◌, ◌∷◌, [], ◌<◌, ◌≤◌, List, All, None, Some, true, length, IfOk, IfErr, vec_len};
 ghost use Rattle.hk_types.specs.declared.faults.Refusal.TheVariants.{Memory};
-ghost use Rattle.hk_node.specs.Changes.{ChangesSome, CountedAs, HoldsSome, IsGiven, IsHandedBack, PrunesSome, PublishesSome, ReleasesSome};
+ghost use Rattle.hk_node.specs.Changes.{ChangesSome, CountedAs, HoldsSome, IsGiven, IsHandedBack, IsRefusedHold, PrunesSome, PublishesSome, ReleasesSome};
 ghost use Rattle.hk_node.specs.Guarded.{TakesSome};
 ghost use Rattle.hk_model.specs.Replica.Fragments.{cut};
 ghost use Rattle.hk_oplog.specs.declared.op.Op.TheVariants.{Start as StartOf, Join as JoinOf, Merge as MergeOf, Prune as PruneTo, Hold as HoldAt, Release};
@@ -12,7 +12,8 @@ ghost use Rattle.hk_oplog.specs.Replay.{is_legal, replay};
 
 use crate::book::{NewList, NodeName};
 use crate::change::{
-    change, hold_at, join_gathered, merge_whole, prune_to, publish_waiting, release_hold,
+    change, hold_at, hold_refusal, join_gathered, merge_whole, prune_to, publish_waiting,
+    release_hold,
 };
 use crate::guarding::take_agreed;
 use crate::publisher::{Publisher, Receipt, copies_of};
@@ -184,6 +185,15 @@ impl<J: NodeName, R: Wait + Drop> Node<J, R> {
     {
         let mut publisher = self.publisher.lock(rt);
         hold_at(&mut *publisher, time)
+    }
+
+    /// Why a time is not pinned for a caller that has no room to keep a pin: the refusals of `hold` in their order, else
+    /// `Memory`. Nothing changes but that what waits is published. Cost: O(1).
+    pub fn hold_refusal<W: Wait>(&self, rt: &W, time: Time) -> Refusal
+        ensures { IsRefusedHold J.kind time None result }
+    {
+        let mut publisher = self.publisher.lock(rt);
+        hold_refusal(&mut *publisher, time)
     }
 
     /// Releases a pin.
