@@ -4,4 +4,5 @@ mod LinkHolds
 mod JoinRequests
 pub mod Seen
 mod ChangeReplies
+mod WaitingChanges
 pub mod BothSeen

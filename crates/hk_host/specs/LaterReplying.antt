@@ -155,7 +155,7 @@ hold_told holds (Ok hold) = (Held hold.reader hold.at, holds ++ hold ∷ [])
 hold_told holds (Err (Some hold, why)) = (Refused why, holds ++ hold ∷ [])
 hold_told holds (Err (None, why)) = (Refused why, holds)
 
--- a hold is asked for of the node, once there is room for it in the link's list
+-- a hold is asked for of the node, which gives none where memory has run out for it in the link's list
 abbrev pub AsksHold : {S : Type 0} → (S → ℕ → Result Hold (Option Hold × Refusal) → S → Type 0) → LinkValue S → ℕ → ReplyValue → LinkValue S → Type 0
 AsksHold may_hold old time reply new =
     (result : Result Hold (Option Hold × Refusal)) × may_hold old.inner time result new.inner × ((reply, new.holds) ≡ hold_told old.holds result)
@@ -165,11 +165,21 @@ AsksHold may_hold old time reply new =
 abbrev pub AsksHoldInPlace : {S : Type 0} → (S → ℕ → Result Hold (Option Hold × Refusal) → S → Type 0) → LinkValue S → ℕ → ReplyValue → LinkValue S → Type 0
 AsksHoldInPlace may_hold old time reply new = AsksHold may_hold (record old { holds = take (length old.holds - 1) old.holds }) time reply new
 
--- a link has so many holds at most: the node is not asked for one more
+-- memory is not what a link lacks whose list of holds is full
+abbrev pub full_or : Refusal → Refusal
+full_or refusals.Memory = refusals.LinkFull most_holds
+full_or why = why
+
+-- a hold is refused so where the link has no room for one more: as the node refuses it, or else since the link is full
+abbrev pub IsFull : {S : Type 0} → (S → ℕ → Result Hold (Option Hold × Refusal) → S → Type 0) → LinkValue S → ℕ → ReplyValue → LinkValue S → Type 0
+IsFull may_hold old time reply new =
+    (why : Refusal) × may_hold old.inner time (Err (None, why)) new.inner × (reply ≡ Refused (full_or why)) × (new ≡ record old { inner = new.inner })
+
+-- a link has so many holds at most: one more is not made
 abbrev pub IsHeld : {S : Type 0} → (S → ℕ → Result Hold (Option Hold × Refusal) → S → Type 0) → LinkValue S → ℕ → ReplyValue → LinkValue S → Type 0
 IsHeld may_hold old time reply new =
-    ((nat_lt (length old.holds) most_holds ≡ false) × (reply ≡ Refused (refusals.LinkFull most_holds)) × (new ≡ old))
-    ⊎ ((nat_lt (length old.holds) most_holds ≡ true) × (((reply ≡ Refused refusals.Memory) × (new ≡ old)) ⊎ AsksHold may_hold old time reply new))
+    ((nat_lt (length old.holds) most_holds ≡ false) × IsFull may_hold old time reply new)
+    ⊎ ((nat_lt (length old.holds) most_holds ≡ true) × AsksHold may_hold old time reply new)
 
 -- the reply to a release that came out so, and the holds of the link then: one whose release waits is gone too
 abbrev pub release_told : List Hold → ℕ → Result ℕ (Option Hold × Refusal) → ReplyValue × List Hold

@@ -1,5 +1,5 @@
 -- What a host of a node offers beside version 1: what it cuts, and what comes of its holds.
-use Rattle.std.specs.Prelude.{◌≡◌, ℕ, ◌==◌, if◌then◌else◌, List, Option, Some, None, Result, Err, MatchResult}
+use Rattle.std.specs.Prelude.{◌≡◌, ℕ, ◌<◌, ◌==◌, if◌then◌else◌, List, length, Option, Some, None, Result, Err, MatchResult}
 use mathlib.Core.List.{IsPrefix}
 use Rattle.hk_types.specs.declared.faults.FormFault.TheVariants.{BadKind}
 use Rattle.hk_types.specs.declared.faults.Refusal.{Refusal}
@@ -33,14 +33,14 @@ pub record Sided (S : Type 0) : Type 1 where
 abbrev pub GoesOn : {S : Type 0} → Sided S → (S → Request → Reply → S → Type 0) → Type 0
 GoesOn {S} side may = (old : S) (request : Request) (reply : Reply) (new : S) → may old request reply new → IsPrefix (side.list old) (side.list new)
 
--- a hold at this time was given as the last operation of a list that the seat knows now
-abbrev pub KnowsHold : List Op → ℕ → Hold → Type 0
-KnowsHold list time hold = (ops : List Op) × IsPrefix ops list × (last_of ops ≡ Some (HoldAt time)) × IsGiven hold time ops
+-- a hold at this time was given as the last operation of a list that the seat knows now, and did not know before
+abbrev pub KnowsHold : List Op → List Op → ℕ → Hold → Type 0
+KnowsHold old new time hold = (ops : List Op) × (length old < length ops) × IsPrefix ops new × (last_of ops ≡ Some (HoldAt time)) × IsGiven hold time ops
 
 -- a hold at this time, in such a node: it was given, or refused as the node refuses it, and then the seat's list is
 -- as before
 abbrev pub TakesHold : NodeKind → List Op → ℕ → Result Hold (Option Hold × Refusal) → List Op → Type 0
-TakesHold kind old time result new = MatchResult result (KnowsHold new time) (λ e. IsRefusedHold kind time e.0 e.1 × (new ≡ old))
+TakesHold kind old time result new = MatchResult result (KnowsHold old new time) (λ e. IsRefusedHold kind time e.0 e.1 × (new ≡ old))
 
 -- the release of this hold, in such a node: the seat's list has so many operations, and it ends them; or it was refused
 -- as the node refuses it, and the hold was handed back but where the release waits

@@ -1,5 +1,5 @@
 -- What a host over a node and a seat of it may reply.
-use Rattle.std.specs.Prelude.{ℕ, ◌≡◌, ◌⊎◌, ◌≤◌, true, List, length, take, Some, Result, Ok, Err, MatchBool}
+use Rattle.std.specs.Prelude.{ℕ, ◌≡◌, ◌⊎◌, ◌<◌, ◌≤◌, true, List, length, take, Some, Result, Ok, Err, MatchBool}
 use mathlib.Core.List.{IsPrefix}
 use Rattle.hk_types.specs.declared.faults.Refusal.{Refusal}
 use Rattle.hk_types.specs.declared.faults.Refusal.TheVariants as refusals
@@ -33,10 +33,10 @@ front_reply (Err why) = Refused why
 abbrev pub IsOrOutOfMemory : ReplyValue → ReplyValue → Type 0
 IsOrOutOfMemory wanted reply = (reply ≡ wanted) ⊎ (reply ≡ Refused refusals.Memory)
 
--- the reply to a change, in such a node: the seat's list has so many operations, and this one ends them; or it was
--- refused as such a node refuses it, and the seat's list is as before
+-- the reply to a change, in such a node: the seat's list has so many operations, more than before, and this one ends them; or
+-- it was refused as such a node refuses it, and the seat's list is as before
 abbrev pub IsChangeReply : NodeKind → List Op → List Op → Op → ReplyValue → Type 0
-IsChangeReply kind old new op (Done count) = (count ≤ length new) × (last_of (take count new) ≡ Some op)
+IsChangeReply kind old new op (Done count) = (length old < count) × (count ≤ length new) × (last_of (take count new) ≡ Some op)
 IsChangeReply kind old new op (Refused why) = ChangesSome kind op (Err why) × (new ≡ old)
 IsChangeReply kind old new op reply = ⊥
 
@@ -51,9 +51,10 @@ abbrev pub IsNoChange : List Op → List Op → ReplyValue → Type 0
 IsNoChange old new reply = (reply ≡ Refused (refusals.Form BadKind)) × (new ≡ old)
 
 -- the reply to a change that the node answers so: the seat's list up to the operation with the number told is the list that
--- the node's receipt names; or it was refused as the node refused it, and the seat's list is as before
+-- the node's receipt names, and longer than the one before; or it was refused as the node refused it, and the seat's list is as
+-- before
 abbrev pub IsTold : (Result (List Op) Refusal → Type 0) → List Op → List Op → ReplyValue → Type 0
-IsTold Answers old new (Done count) = (count ≤ length new) × Answers (Ok (take count new))
+IsTold Answers old new (Done count) = (length old < count) × (count ≤ length new) × Answers (Ok (take count new))
 IsTold Answers old new (Refused why) = Answers (Err why) × (new ≡ old)
 IsTold Answers old new reply = ⊥
 

@@ -117,6 +117,10 @@ impl<'a, J: NodeName, N: Wait + Drop, R: Threads + Wait + Sync> NodeSide for Fee
         self.inner.reads.hold(time)
     }
 
+    fn hold_refusal(&mut self, time: Time) -> Refusal {
+        self.inner.reads.hold_refusal(time)
+    }
+
     fn release(&mut self, hold: Hold) -> Result<u64, (Option<Hold>, Refusal)> {
         self.inner.reads.release(hold)
     }

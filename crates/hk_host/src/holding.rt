@@ -38,11 +38,16 @@ pub(crate) fn hold_on<J: NodeName, N: Wait + Drop, R: Wait>(
     ensures seen { IsPrefix reads.old reads.new }
 {
     match node.hold(rt, time) {
-        Ok((hold, receipt)) => {
-            tell_changed(rt, teller, receipt.ops());
-            reads.learn(receipt);
-            Ok(hold)
-        }
+        Ok((hold, receipt)) => match reads.learn(receipt) {
+            Ok(ops) => {
+                tell_changed(rt, teller, ops);
+                Ok(hold)
+            }
+            Err(why) => {
+                tell_refused(rt, teller, &why);
+                Err((Some(hold), why))
+            }
+        },
         Err((hold, why)) => {
             let _known = reads.config();
             tell_refused(rt, teller, &why);
@@ -64,12 +69,16 @@ pub(crate) fn release_on<J: NodeName, N: Wait + Drop, R: Wait>(
     ensures seen { IsPrefix reads.old reads.new }
 {
     match node.release(rt, hold) {
-        Ok(receipt) => {
-            let ops = receipt.ops();
-            tell_changed(rt, teller, ops);
-            reads.learn(receipt);
-            Ok(ops)
-        }
+        Ok(receipt) => match reads.learn(receipt) {
+            Ok(ops) => {
+                tell_changed(rt, teller, ops);
+                Ok(ops)
+            }
+            Err(why) => {
+                tell_refused(rt, teller, &why);
+                Err((None, why))
+            }
+        },
         Err((back, why)) => {
             let _known = reads.config();
             tell_refused(rt, teller, &why);

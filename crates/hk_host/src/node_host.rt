@@ -1,18 +1,19 @@
 //! A host over a running node and one seat of it.
 
-ghost use Rattle.std.specs.Prelude.{◌≡◌, true, length, take, IfOk, Some};
+ghost use Rattle.std.specs.Prelude.{◌≡◌, ◌<◌, true, length, take, IfOk, IfErr, OnOk, OnErr};
 ghost use Rattle.std.specs.Thread.{IsSync};
 ghost use mathlib.Core.List.{IsPrefix};
 ghost use Rattle.hk_model.specs.Replica.Rules.{gather_result};
 ghost use Rattle.hk_delta.specs.Gathers.{Gathers};
-ghost use Rattle.hk_wire.specs.Replies.{Done, reply_seen};
+ghost use Rattle.hk_types.specs.declared.faults.Refusal.TheVariants.{Unpublished};
+ghost use Rattle.hk_wire.specs.Replies.{reply_seen};
 ghost use Rattle.hk_oplog.specs.declared.op.Op.{Op};
-ghost use Rattle.hk_oplog.specs.declared.op.Op.TheVariants.{Join, Prune as PruneTo};
+ghost use Rattle.hk_oplog.specs.declared.op.Op.TheVariants.{Join};
+ghost use Rattle.hk_node.specs.Changes.{ChangesSome};
 ghost use Rattle.hk_node.specs.Guarded.{TakesSome};
-ghost use Rattle.hk_oplog.specs.Lists.{last_of};
 ghost use Rattle.hk_oplog.specs.NewItems.{new_to};
 ghost use Rattle.hk_oplog.specs.Replay.{is_legal};
-ghost use Rattle.hk_host.specs.Replying.{IsChangeReply, IsFedReply, IsItemsReply, IsReading, IsReplyToItems, IsTold, MayReply, items_reply};
+ghost use Rattle.hk_host.specs.Replying.{IsChangeReply, IsFedReply, IsItemsReply, IsReplyToItems, IsTold, MayReply, items_reply};
 
 use crate::holding::{hold_on, release_on, tell_changed, tell_refused};
 use crate::link_events::Teller;
@@ -125,17 +126,39 @@ impl<'a, J: NodeName, N: Wait + Drop, R: Threads + Wait + Sync> NodeHost<'a, J, 
     }
 
     /// Applies the receipt of a change, and returns the number of its operations.
-    fn learn(&mut self, receipt: Receipt<J>) -> u64
+    fn learn(&mut self, receipt: Receipt<J>) -> Result<u64, Refusal>
         ensures legal { is_legal self.new ≡ true }
         ensures seen { IsPrefix self.old self.new }
-        ensures prefix { IsPrefix receipt self.new }
-        ensures done { result ≡ length receipt }
-        ensures told { (o : Op) → last_of receipt ≡ Some o → IsChangeReply J.kind self.old self.new o (Done result) }
+        ensures done { IfOk result (λ ops. ops ≡ length receipt) }
+        ensures told { OnOk result (IsPrefix receipt self.new) }
+        ensures later { OnOk result (length self.old < length receipt) }
+        ensures waits { IfErr result (λ why. why ≡ Unpublished (length receipt)) }
+        ensures kept { OnErr result (self.new ≡ self.old) }
     {
-        let ops = receipt.ops();
-        self.reads.learn(receipt);
+        let ops = self.reads.learn(receipt)?;
         tell_changed(self.rt, self.teller, ops);
-        ops
+        Ok(ops)
+    }
+
+    /// The reply to a change that the node answered so.
+    fn reply(&mut self, answered: Result<Receipt<J>, Refusal>) -> Reply
+        ensures legal { is_legal self.new ≡ true }
+        ensures seen { IsPrefix self.old self.new }
+        ensures told { (o : Op) → ChangesSome J.kind o answered → IsChangeReply J.kind self.old self.new o (reply_seen result) }
+    {
+        match answered {
+            Ok(receipt) => match self.learn(receipt) {
+                Ok(ops) => Reply::Done { ops },
+                Err(why) => {
+                    tell_refused(self.rt, self.teller, &why);
+                    Reply::Refused(why)
+                }
+            },
+            Err(why) => {
+                tell_refused(self.rt, self.teller, &why);
+                Reply::Refused(why)
+            }
+        }
     }
 
     /// The one fragment that items make. A long list is gathered by several workers, which are waited for.
@@ -159,7 +182,10 @@ impl<'a, J: NodeName, N: Wait + Drop, R: Threads + Wait + Sync> NodeHost<'a, J, 
         ensures new { IfOk result (λ t. t.1 ≡ new_to (take t.0 self.new) items.now) }
     {
         match self.node.join_gathered(self.rt, fragment, items) {
-            Ok((new, receipt)) => Ok((self.learn(receipt), new)),
+            Ok((new, receipt)) => match self.learn(receipt) {
+                Ok(ops) => Ok((ops, new)),
+                Err(why) => Err(why),
+            },
             Err(why) => Err(why),
         }
     }
@@ -185,7 +211,10 @@ impl<'a, J: NodeName, N: Wait + Drop, R: Threads + Wait + Sync> NodeHost<'a, J, 
         ensures new { IfOk result (λ t. t.1 ≡ new_to (take t.0 self.new) items.now) }
     {
         match self.node.take(self.rt, items) {
-            Ok((new, receipt)) => Ok((self.learn(receipt), new)),
+            Ok((new, receipt)) => match self.learn(receipt) {
+                Ok(ops) => Ok((ops, new)),
+                Err(why) => Err(why),
+            },
             Err(why) => Err(why),
         }
     }
@@ -230,47 +259,6 @@ impl<'a, J: NodeName, N: Wait + Drop, R: Threads + Wait + Sync> NodeHost<'a, J, 
             }
         }
     }
-
-    fn join(&mut self, fragment: Fragment) -> Reply
-        ensures legal { is_legal self.new ≡ true }
-        ensures seen { IsPrefix self.old self.new }
-        ensures told { IsChangeReply J.kind self.old self.new (Join fragment) (reply_seen result) }
-    {
-        match self.node.join(self.rt, fragment) {
-            Ok(receipt) => Reply::Done {
-                ops: self.learn(receipt),
-            },
-            Err(why) => {
-                tell_refused(self.rt, self.teller, &why);
-                Reply::Refused(why)
-            }
-        }
-    }
-
-    fn prune(&mut self, horizon: Time) -> Reply
-        ensures legal { is_legal self.new ≡ true }
-        ensures seen { IsPrefix self.old self.new }
-        ensures told { IsChangeReply J.kind self.old self.new (PruneTo horizon) (reply_seen result) }
-    {
-        match self.node.prune(self.rt, horizon) {
-            Ok((_, receipt)) => Reply::Done {
-                ops: self.learn(receipt),
-            },
-            Err(why) => {
-                tell_refused(self.rt, self.teller, &why);
-                Reply::Refused(why)
-            }
-        }
-    }
-
-    /// The seat's reply to a request that doesn't change the node.
-    fn read(&mut self, request: Request) -> Reply
-        ensures legal { is_legal self.new ≡ true }
-        ensures seen { IsPrefix self.old self.new }
-        ensures told { IsReading self.old self.new request (reply_seen result) }
-    {
-        self.reads.answer(request)
-    }
 }
 
 impl<'a, J: NodeName, N: Wait + Drop, R: Threads + Wait + Sync> Host for NodeHost<'a, J, N, R> {
@@ -282,9 +270,15 @@ impl<'a, J: NodeName, N: Wait + Drop, R: Threads + Wait + Sync> Host for NodeHos
         match request {
             Request::Items(items) => self.items(&items),
             Request::Feed(items) => self.feed(&items),
-            Request::JoinThis(fragment) | Request::MergeThis(fragment) => self.join(fragment),
-            Request::Prune { horizon } => self.prune(horizon),
-            other => self.read(other),
+            Request::JoinThis(fragment) | Request::MergeThis(fragment) => {
+                let answered = self.node.join(self.rt, fragment);
+                self.reply(answered)
+            }
+            Request::Prune { horizon } => match self.node.prune(self.rt, horizon) {
+                Ok((_, receipt)) => self.reply(Ok(receipt)),
+                Err(why) => self.reply(Err(why)),
+            },
+            other => self.reads.answer(other),
         }
     }
 }
@@ -319,6 +313,11 @@ impl<'a, J: NodeName, N: Wait + Drop, R: Threads + Wait + Sync> NodeSide for Nod
 
     fn hold(&mut self, time: Time) -> Result<Hold, (Option<Hold>, Refusal)> {
         hold_on(self.rt, self.node, &mut self.reads, self.teller, time)
+    }
+
+    fn hold_refusal(&mut self, time: Time) -> Refusal {
+        let _known = self.reads.config();
+        self.node.hold_refusal(self.rt, time)
     }
 
     fn release(&mut self, hold: Hold) -> Result<u64, (Option<Hold>, Refusal)> {

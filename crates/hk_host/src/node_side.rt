@@ -9,7 +9,7 @@ use hk_types::{Key, Refusal, Table, Time};
 /// What a host over a seat of a node offers beside the requests of version 1. Each call that reads is answered by the
 /// seat, and takes no lock.
 pub trait NodeSide: Host {
-    ghost use Rattle.std.specs.Prelude.{◌≡◌, ℕ, true, List, Option, Result, IfOk, IfErr};
+    ghost use Rattle.std.specs.Prelude.{◌≡◌, ℕ, true, List, Option, None, Result, Err, IfOk, IfErr};
     ghost use mathlib.Core.List.{IsPrefix};
     ghost use Rattle.hk_types.specs.declared.faults.Refusal.{Refusal};
     ghost use Rattle.hk_types.specs.declared.faults.Refusal.TheVariants.{Memory};
@@ -66,6 +66,14 @@ pub trait NodeSide: Host {
     /// Pins a time. Refusals and cost: as `Node::hold`; a host that only reads refuses `Form(BadKind)`.
     fn hold(&mut self, time: Time) -> Result<Hold, (Option<Hold>, Refusal)>
         ensures held { side.may_hold self.old time result self.new }
+        ensures legal { is_legal (side.list self.new) ≡ true }
+        ensures seen { IsPrefix (side.list self.old) (side.list self.new) }
+        ensures ready { Self.ready self.old → Self.ready self.new };
+
+    /// Why a time is not pinned for a connection that has no room to keep a pin. Refusals and cost: as `Node::hold_refusal`;
+    /// a host that only reads refuses `Form(BadKind)`.
+    fn hold_refusal(&mut self, time: Time) -> Refusal
+        ensures held { side.may_hold self.old time (Err (None, result)) self.new }
         ensures legal { is_legal (side.list self.new) ≡ true }
         ensures seen { IsPrefix (side.list self.old) (side.list self.new) }
         ensures ready { Self.ready self.old → Self.ready self.new };

@@ -5,7 +5,7 @@ ghost use mathlib.Core.List.{IsPrefix};
 ghost use Rattle.hk_fragment.specs.Heads.{of_facts};
 ghost use Rattle.hk_wire.specs.LaterReplies.{reply_seen};
 ghost use Rattle.hk_oplog.specs.Replay.{is_legal};
-ghost use Rattle.hk_host.specs.LaterReplying.{AreLetGo, AsksHoldInPlace, IsFirstReply, IsHeld, IsLaterReply, IsOrMemory, IsReleased, JoinsMade, KeepsButCame, KeepsButGiving, KeepsCameAndHolds, KeepsOther, LetsGo, TellsCome, TellsMore, TellsWhole, change_seen, content_of, latest_reply, page_reply, streams_reply};
+ghost use Rattle.hk_host.specs.LaterReplying.{AreLetGo, AsksHoldInPlace, IsFirstReply, IsHeld, IsLaterReply, IsOrMemory, IsReleased, JoinsMade, KeepsButCame, KeepsButGiving, KeepsCameAndHolds, KeepsOther, LetsGo, TellsCome, TellsMore, TellsWhole, change_seen, content_of, full_or, latest_reply, page_reply, streams_reply};
 ghost use Rattle.hk_host.specs.LinkStates.{link_of};
 
 use crate::link_holds::release_each;
@@ -141,24 +141,6 @@ impl<'a, H: NodeSide + Drop> PartsHost<'a, H> {
         }
     }
 
-    /// Returns the next chunk of what is sent.
-    fn more(&mut self) -> LaterReply
-        ensures seen { IsPrefix (H.side.list self.old.inner) (H.side.list self.new.inner) }
-        ensures told { TellsMore self.old.giving (reply_seen result) self.new.giving }
-        ensures same { KeepsButGiving self.old self.new }
-    {
-        self.kept.more()
-    }
-
-    /// Adds a chunk behind those that came before.
-    fn add(&mut self, facts: Vec<(VersionKey, Version)>) -> LaterReply
-        ensures seen { IsPrefix (H.side.list self.old.inner) (H.side.list self.new.inner) }
-        ensures told { TellsCome self.old.most self.old.came facts.items (reply_seen result) self.new.came }
-        ensures same { KeepsButCame self.old self.new }
-    {
-        self.kept.add(facts)
-    }
-
     /// Has the inner host join what the head and the chunks that came make.
     fn join(&mut self, head: FragmentHead) -> LaterReply
         requires ready { H.ready self.old.inner }
@@ -175,21 +157,24 @@ impl<'a, H: NodeSide + Drop> PartsHost<'a, H> {
         }
     }
 
-    /// Pins a time, once there is room for the pin in the connection's list.
+    /// Pins a time, once there is room for the pin in the connection's list. Where there is none the node's own refusal comes first.
     fn hold(&mut self, time: Time) -> LaterReply
         ensures seen { IsPrefix (H.side.list self.old.inner) (H.side.list self.new.inner) }
         ensures told { IsHeld H.side.may_hold self.old time (reply_seen result) self.new }
         ensures ready { H.ready self.old.inner → H.ready self.new.inner }
     {
         if self.kept.hold_count() >= MOST_HOLDS {
-            return LaterReply::Refused(Refusal::LinkFull {
-                most: MOST_HOLDS as u64,
+            return LaterReply::Refused(match self.inner.hold_refusal(time) {
+                Refusal::Memory => Refusal::LinkFull {
+                    most: MOST_HOLDS as u64,
+                },
+                why => why,
             });
         }
-        if self.kept.make_place(time).is_err() {
-            return LaterReply::Refused(Refusal::Memory);
+        match self.kept.make_place(time) {
+            Ok(()) => self.ask_hold(time),
+            Err(_) => LaterReply::Refused(self.inner.hold_refusal(time)),
         }
-        self.ask_hold(time)
     }
 
     /// Pins a time. The last entry in the connection's list is free for the pin.
@@ -270,8 +255,8 @@ impl<'a, H: NodeSide + Drop> PartsHost<'a, H> {
                 most,
             } => self.page(t, table, low, high, most),
             LaterRequest::Whole { base, most_bytes } => self.whole(base, most_bytes),
-            LaterRequest::More => self.more(),
-            LaterRequest::AddPart(facts) => self.add(facts),
+            LaterRequest::More => self.kept.more(),
+            LaterRequest::AddPart(facts) => self.kept.add(facts),
             LaterRequest::JoinParts(head) | LaterRequest::MergeParts(head) => self.join(head),
             LaterRequest::Hold { t } => self.hold(t),
             LaterRequest::Release { number } => self.release(number),

@@ -1,9 +1,9 @@
 //! A host over one seat of a node, which can't change the node.
 
-ghost use Rattle.std.specs.Prelude.{◌≡◌, true};
+ghost use Rattle.std.specs.Prelude.{◌≡◌, ◌<◌, true, length, IfOk, IfErr, OnOk, OnErr};
 ghost use mathlib.Core.List.{IsPrefix};
 ghost use Rattle.hk_types.specs.declared.faults.FormFault.TheVariants.{BadKind};
-ghost use Rattle.hk_types.specs.declared.faults.Refusal.TheVariants.{Form};
+ghost use Rattle.hk_types.specs.declared.faults.Refusal.TheVariants.{Form, Unpublished};
 ghost use Rattle.hk_wire.specs.Replies.{Refused, reply_seen};
 ghost use Rattle.hk_session.specs.Steps.{query_reply, fragment_reply};
 ghost use Rattle.hk_oplog.specs.Replay.{is_legal, replay};
@@ -77,14 +77,24 @@ impl<J: NodeName> SeatHost<J> {
         self.seat.is_guarded()
     }
 
-    /// Applies the receipt of a change.
-    pub(crate) fn learn(&mut self, receipt: Receipt<J>)
+    /// Applies the receipt of a change that was just made, and returns the number of its operations, more than the seat had
+    /// seen. A receipt of no more than that doesn't come; the change is told then as one that waits to be shown.
+    pub(crate) fn learn(&mut self, receipt: Receipt<J>) -> Result<u64, Refusal>
         ensures legal { is_legal self.new ≡ true }
         ensures seen { IsPrefix self.old self.new }
-        ensures told { IsPrefix receipt self.new }
+        ensures done { IfOk result (λ ops. ops ≡ length receipt) }
+        ensures told { OnOk result (IsPrefix receipt self.new) }
+        ensures later { OnOk result (length self.old < length receipt) }
+        ensures waits { IfErr result (λ why. why ≡ Unpublished (length receipt)) }
+        ensures kept { OnErr result (self.new ≡ self.old) }
     {
+        let ops = receipt.ops();
+        if ops <= self.seat.seen() {
+            return Err(Refusal::Unpublished { ops });
+        }
         self.seat.learn(receipt);
         let _known = self.seat.seen();
+        Ok(ops)
     }
 
     /// The reply to a request that has no meaning here, which is dropped.
@@ -190,6 +200,11 @@ impl<J: NodeName> NodeSide for SeatHost<J> {
     fn hold(&mut self, _time: Time) -> Result<Hold, (Option<Hold>, Refusal)> {
         let _known = self.seat.seen();
         Err((None, Refusal::Form(FormFault::BadKind)))
+    }
+
+    fn hold_refusal(&mut self, _time: Time) -> Refusal {
+        let _known = self.seat.seen();
+        Refusal::Form(FormFault::BadKind)
     }
 
     fn release(&mut self, hold: Hold) -> Result<u64, (Option<Hold>, Refusal)> {

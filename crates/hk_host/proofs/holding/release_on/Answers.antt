@@ -1,7 +1,13 @@
-use Rattle.std.proofs.Common.{ap}
-use Rattle.hk_wire.specs.Replies.{Done}
-use Rattle.hk_host.proofs.ChangeReplies.{change_is}
+use Rattle.hk_oplog.specs.declared.op.Op.TheVariants.{Release}
+use Rattle.hk_host.proofs.WaitingChanges.{handed_reply, waiting_reply}
 use Rattle.hk_host.proofs.holding.release_on.Goals as goal
 
-pub returns-in-Ok-clause-released : goal.returns-in-Ok-clause-released
-returns-in-Ok-clause-released g c = change_is g.J.NodeName.kind c.args.reads.now _ c.in-Ok.receipt _ _ c.learn.ensures.told (ap Done c.ops-ops.ensures.length) c.in-Ok.ensures.last
+pub returns-in-Ok-learn-clause-released : goal.returns-in-Ok-learn-clause-released
+returns-in-Ok-learn-clause-released g c =
+    let e = c.in-Ok-learn.ensures in
+    handed_reply g.J.NodeName.kind c.args.reads.now _ c.in-Ok.receipt (Release c.args.hold.reader c.args.hold.at) _ c.in-Ok.ensures.change e.told e.later e.done
+
+pub returns-in-Err-learn-clause-released : goal.returns-in-Err-learn-clause-released
+returns-in-Err-learn-clause-released g c =
+    let e = c.in-Err-learn.ensures in
+    (waiting_reply g.J.NodeName.kind c.args.reads.now _ c.in-Ok.receipt (Release c.args.hold.reader c.args.hold.at) c.in-Err-learn.why c.in-Ok.ensures.change e.waits e.kept, (_, e.waits))
