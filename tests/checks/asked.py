@@ -1,5 +1,6 @@
 #!/usr/bin/env python3
-"""Checks of what a person asks: items as JSON and back, JSON of answers, and the commands with --port, of nodes on 127.0.0.1.
+"""Checks of what a person asks: items as JSON and back, JSON of answers, and the commands with --port and --node, of nodes on 127.0.0.1
+and 127.0.0.2.
 The lines of JSON are made here, from items that this script makes up. Each node that is started is ended.
 
 Prints a line for each check and ends with 'N passed, M failed'. Standard library only."""
@@ -17,6 +18,7 @@ sys.path.append(str(pathlib.Path(__file__).resolve().parents[1] / "lib"))
 import messages as say
 from checks import differ, ended, is_built, report
 from client import Node, free_port, guarded
+from staying import Staying
 
 ROOT = pathlib.Path(__file__).resolve().parents[2]
 PROGRAM = ROOT / "bin" / "hkrep"
@@ -252,6 +254,30 @@ def told_apart():
     report("a link that can't be opened, one that is cut, and cut input", differ(pairs))
 
 
+def addressed():
+    """A node that is named by an address, and names and words that are none."""
+    pairs, nobody = [], free_port()
+    with Staying(4, "--address", "127.0.0.2", address="127.0.0.2") as node:
+        there = f"127.0.0.2:{node.port}"
+        pairs += [("feed", run("feed", "--node", there, data=FIRST)[:2], (b"done 2\n", 0))]
+        for words, wanted in ((["front"], b"front horizon 0 readable 1\n"), (["ask", "get", 1, 5], b"9 41\n"), (["ask", 1, "get", 1, 5], b"9 41\n")):
+            pairs += [(f"{words}", run(words[0], "--node", there, "--reply-seconds", 5, *words[1:])[:2], (wanted, 0))]
+        pairs += [("another address", run("front", "--port", node.port, "--connect-seconds", 0)[:2], (b"refused 93\n", 1))]
+    with Staying(4) as node:
+        pairs += [("a name", run("front", "--node", f"localhost:{node.port}")[:2], (b"front horizon 0 readable 0\n", 0))]
+    out, status, told = run("front", "--node", f"127.0.0.1:{nobody}", "--connect-seconds", 0)
+    pairs += [("nobody there", (out, status, f"can't connect to 127.0.0.1:{nobody}: " in told), (b"refused 93\n", 1, True))]
+    out, status, told = run("front", "--node", f"nobody.invalid:{nobody}", "--connect-seconds", 0)
+    pairs += [("a name of nothing", (out, status, f"can't connect to nobody.invalid:{nobody}: " in told), (b"refused 93\n", 1, True))]
+    for word in ("far", "far:", "far:0", "far:65536", "far:x", ":47110", "47110"):
+        out, status, told = run("front", "--node", word)
+        pairs += [(word, (out, status, f"invalid value '{word}' for '--node <ADDRESS>': an address is HOST:PORT" in told), (b"", 2, True))]
+    for words in (["front", "--node", "far:1", "--port", 1], ["front", "--node", "far:1", "--log", 7, "--streams", 1], ["push"], ["front"],
+                  ["front", "--log", 7, "--streams", 1, "--connect-seconds", 1], ["at", "--node", "far:1", "--log", 7, "--streams", 1, 1, 1, 5]):
+        pairs += [(f"{words}", run(*words)[1], 2)]
+    report("a node that is named by an address", differ(pairs))
+
+
 def words_that_mislead():
     pairs = []
     for script in ("world 7 1\n", "world 7 1 x\n", "world 7 1 1 1\n", "begin 1\n"):
@@ -294,7 +320,7 @@ def main():
     if not is_built(PROGRAM):
         return ended()
     start = time.monotonic()
-    for check in (there_and_back, bad_lines, json_answers, over_a_link, shell, connected_later, silent_nodes, told_apart, words_that_mislead, how_many_were_new):
+    for check in (there_and_back, bad_lines, json_answers, over_a_link, shell, connected_later, silent_nodes, told_apart, addressed, words_that_mislead, how_many_were_new):
         if not sys.argv[1:] or check.__name__ in sys.argv[1:]:
             guarded(check)
     print(f"asked: {time.monotonic() - start:.1f} s")

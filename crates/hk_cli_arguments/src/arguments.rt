@@ -248,6 +248,35 @@ fn first_bad<'a>(form: CommandForm, matches: &ArgMatches<'a>) -> Option<&'a str>
     first_signed(matches, numbers_of(form))
 }
 
+/// Whether a word is a name or an IP address, a colon, and a port.
+fn is_address(word: &str) -> bool {
+    match word.rsplit_once(':') {
+        Some((host, port)) => !host.is_empty() && port.parse::<u16>().is_ok_and(|port| port > 0),
+        None => false,
+    }
+}
+
+/// The address of a node, where it is given and is none.
+fn bad_address<'a>(matches: &ArgMatches<'a>) -> Option<&'a str> {
+    let word = matches.get_str("node")?;
+    if is_address(word) { None } else { Some(word) }
+}
+
+/// The call of a form, where it could be made and a node's address is one.
+fn addressed_form<'a>(
+    alloc: Global,
+    form: CommandForm,
+    matches: &ArgMatches<'a>,
+) -> Result<Call<'a>, Error> {
+    let Some(word) = bad_address(matches) else {
+        return made_form(alloc, form, matches);
+    };
+    let message = format!(in alloc;
+        "invalid value '{word}' for '--node <ADDRESS>': an address is HOST:PORT, as far:47110 or [::1]:47110"
+    )?;
+    no_call(alloc, message.as_str())
+}
+
 /// The call of a form, where the words of its numbers are made of decimal digits alone and it could be made.
 fn checked_form<'a>(
     alloc: Global,
@@ -256,7 +285,7 @@ fn checked_form<'a>(
 ) -> Result<Call<'a>, Error> {
     match first_bad(form, matches) {
         Some(word) => bad_word(alloc, word),
-        None => made_form(alloc, form, matches),
+        None => addressed_form(alloc, form, matches),
     }
 }
 

@@ -3,7 +3,7 @@
 use crate::arguments::config_of;
 use crate::forms::CommandForm;
 use clap::ArgMatches;
-use hk_cli_calls::{Alone, Call, Limits, NodeCall, Order, OutputForm};
+use hk_cli_calls::{Alone, Call, Limits, NodeCall, NodePlace, Order, OutputForm};
 use hk_model::Query;
 use hk_types::{Key, Table, Tag, Time};
 
@@ -79,11 +79,29 @@ fn limits_of(matches: &ArgMatches<'_>, reply: u64) -> Limits {
     }
 }
 
-/// The call of an order to the node on a port.
-fn node_of<'a>(matches: &ArgMatches<'a>, port: u16, reply: u64, order: Order) -> Call<'a> {
+/// Where the node is that is named by an address.
+fn address_of<'a>(matches: &ArgMatches<'a>) -> Option<NodePlace<'a>> {
+    Some(NodePlace::Address(matches.get_str("node")?))
+}
+
+/// Where the node is that is named, if one is.
+fn place_of<'a>(matches: &ArgMatches<'a>) -> Option<NodePlace<'a>> {
+    match port_of(matches) {
+        Some(port) => Some(NodePlace::Port(port)),
+        None => address_of(matches),
+    }
+}
+
+/// The call of an order to the node at a place.
+fn node_of<'a>(
+    matches: &ArgMatches<'a>,
+    place: NodePlace<'a>,
+    reply: u64,
+    order: Order,
+) -> Call<'a> {
     let limits = limits_of(matches, reply);
     Call::Node(NodeCall {
-        port,
+        place,
         limits,
         order,
     })
@@ -139,10 +157,10 @@ fn at_call<'a>(matches: &ArgMatches<'a>) -> Option<Call<'a>> {
     }
 }
 
-/// The call of an order that only asks, to a node where a port is given, else of what is done alone.
+/// The call of an order that only asks, to a node where one is named, else of what is done alone.
 fn either<'a>(matches: &ArgMatches<'a>, order: Order, alone: Option<Alone>) -> Option<Call<'a>> {
-    match port_of(matches) {
-        Some(port) => Some(node_of(matches, port, REPLY_SECONDS, order)),
+    match place_of(matches) {
+        Some(place) => Some(node_of(matches, place, REPLY_SECONDS, order)),
         None => Some(Call::Alone(alone?)),
     }
 }
@@ -153,9 +171,9 @@ fn ask_call<'a>(matches: &ArgMatches<'a>) -> Option<Call<'a>> {
     let query = query_of(name, words)?;
     let time = time_of(matches);
     let form = form_of(matches);
-    if let Some(port) = port_of(matches) {
+    if let Some(place) = place_of(matches) {
         let order = Order::Ask { time, query, form };
-        return Some(node_of(matches, port, REPLY_SECONDS, order));
+        return Some(node_of(matches, place, REPLY_SECONDS, order));
     }
     Some(Call::Alone(Alone::Ask {
         config: config_of(matches)?,
@@ -233,8 +251,8 @@ fn order_of(form: CommandForm, matches: &ArgMatches<'_>) -> Option<Order> {
 
 fn node_call<'a>(form: CommandForm, matches: &ArgMatches<'a>) -> Option<Call<'a>> {
     let order = order_of(form, matches)?;
-    let port = port_of(matches)?;
-    Some(node_of(matches, port, 0, order))
+    let place = place_of(matches)?;
+    Some(node_of(matches, place, 0, order))
 }
 
 fn items_call<'a>(matches: &ArgMatches<'a>) -> Option<Call<'a>> {

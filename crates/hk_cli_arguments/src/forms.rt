@@ -1,7 +1,7 @@
 //! The commands but `serve`, and the queries.
 
 use crate::arguments::{named, plain};
-use crate::numbers::{Number, add_numbers, keep, valued};
+use crate::numbers::{NODE, Number, add_numbers, keep, valued};
 use crate::texts;
 use clap::{Arg, ArgAction, Command};
 use std::alloc::{AllocError, Global};
@@ -287,6 +287,44 @@ fn items_arg<'a>(alloc: Global) -> Arg<'a> {
     valued(alloc, "items", "FILE", ITEMS_HELP).long("items")
 }
 
+const NODE_HELP: &str =
+    "The node's address, in place of --port: HOST:PORT, a name or an IP address";
+
+/// The address of a node.
+fn node_arg<'a>(alloc: Global) -> Result<Arg<'a>, AllocError> {
+    let arg = valued(alloc, "node", "ADDRESS", NODE_HELP).long("node");
+    arg.conflicts_with("port")?.group(NODE)
+}
+
+/// Whether it asks a node, alone or where one is named.
+fn asks_node(form: CommandForm) -> bool {
+    !matches!(
+        form,
+        CommandForm::At
+            | CommandForm::Items
+            | CommandForm::Frames
+            | CommandForm::Rewrite
+            | CommandForm::World
+            | CommandForm::Explain
+            | CommandForm::Get
+            | CommandForm::Range
+            | CommandForm::ByTag
+            | CommandForm::Count
+    )
+}
+
+/// Adds the address of a node, where the command asks one.
+fn add_node<'a>(
+    alloc: Global,
+    form: CommandForm,
+    args: &mut Vec<Arg<'a>>,
+) -> Result<(), AllocError> {
+    if asks_node(form) {
+        return keep(node_arg(alloc)?, args);
+    }
+    Ok(())
+}
+
 /// Adds what a command accepts beside numbers.
 fn add_extra<'a>(
     alloc: Global,
@@ -306,6 +344,7 @@ fn add_extra<'a>(
 fn args_of<'a>(alloc: Global, form: CommandForm) -> Result<Vec<Arg<'a>>, AllocError> {
     let mut args = Vec::new(alloc);
     add_numbers(alloc, numbers_of(form), &mut args)?;
+    add_node(alloc, form, &mut args)?;
     add_extra(alloc, form, &mut args)?;
     Ok(args)
 }

@@ -5,7 +5,7 @@ use clap::builder::ValueParser;
 use clap::{Arg, ArgAction, value_parser};
 use std::alloc::{AllocError, Global};
 
-/// An argument that is a number. Those of a name that begins with `Or` are of a command that asks a node where a port is given,
+/// An argument that is a number. Those of a name that begins with `Or` are of a command that asks a node where one is named,
 /// and those with `Serve` report a negative number as one that is not in the range.
 #[derive(Clone, Copy)]
 pub(crate) enum Number {
@@ -44,14 +44,19 @@ pub(crate) enum Number {
     ReadLinks,
 }
 
+/// The group of the two options that name a node.
+pub(crate) const NODE: &str = "a node";
+
 /// When an argument has to be given.
 #[derive(Clone, Copy)]
 enum Need {
     Always,
-    /// Where no port is given.
-    NoPort,
-    /// The same, and with a port it may not be.
-    NotWithPort,
+    /// Where no address of a node is given.
+    NoAddress,
+    /// Where no node is named, by a port or an address.
+    NoNode,
+    /// The same, and with one it may not be.
+    NotWithNode,
     /// It need not, and with it this has to be.
     With(&'static str),
     /// It need not, and with it this and `stay` have to be.
@@ -237,9 +242,10 @@ fn range_of(number: Number) -> Range {
 
 fn need_of(number: Number) -> Need {
     match number {
-        Number::OrLog | Number::OrStreams => Need::NotWithPort,
-        Number::OrTime => Need::NoPort,
-        Number::OrConnectSeconds | Number::OrReplySeconds => Need::With("port"),
+        Number::Port => Need::NoAddress,
+        Number::OrLog | Number::OrStreams => Need::NotWithNode,
+        Number::OrTime => Need::NoNode,
+        Number::OrConnectSeconds | Number::OrReplySeconds => Need::With(NODE),
         Number::PartsBytes => Need::With("messages"),
         Number::ReadSeconds | Number::ReportChanges => Need::With("stay"),
         Number::FeedPort => Need::WithStayAnd("feed-links"),
@@ -277,8 +283,9 @@ fn parser_of<'a>(range: Range) -> ValueParser<'a> {
     }
 }
 
-fn not_with_port<'a>(arg: Arg<'a>) -> Result<Arg<'a>, AllocError> {
-    arg.required_unless_present("port")?.conflicts_with("port")
+fn not_with_node<'a>(arg: Arg<'a>) -> Result<Arg<'a>, AllocError> {
+    arg.required_unless_present_any(&["port", "node"])?
+        .conflicts_with_all(&["port", "node"])
 }
 
 fn with_stay_and<'a>(arg: Arg<'a>, name: &'static str) -> Result<Arg<'a>, AllocError> {
@@ -288,8 +295,9 @@ fn with_stay_and<'a>(arg: Arg<'a>, name: &'static str) -> Result<Arg<'a>, AllocE
 fn with_need<'a>(arg: Arg<'a>, need: Need) -> Result<Arg<'a>, AllocError> {
     match need {
         Need::Always => Ok(arg.required(true)),
-        Need::NoPort => arg.required_unless_present("port"),
-        Need::NotWithPort => not_with_port(arg),
+        Need::NoAddress => arg.required_unless_present("node"),
+        Need::NoNode => arg.required_unless_present_any(&["port", "node"]),
+        Need::NotWithNode => not_with_node(arg),
         Need::With(name) => arg.requires_arg(name),
         Need::WithStayAnd(name) => with_stay_and(arg, name),
         Need::Never => Ok(arg),
@@ -319,9 +327,18 @@ fn named_arg<'a>(alloc: Global, number: Number) -> Arg<'a> {
     arg
 }
 
+/// The same in the group of what names a node, where it does.
+fn grouped_arg<'a>(alloc: Global, number: Number) -> Result<Arg<'a>, AllocError> {
+    let arg = named_arg(alloc, number);
+    if matches!(number, Number::Port | Number::OrPort) {
+        return arg.group(NODE);
+    }
+    Ok(arg)
+}
+
 /// The argument of a number.
 fn number_arg<'a>(alloc: Global, number: Number) -> Result<Arg<'a>, AllocError> {
-    with_need(named_arg(alloc, number), need_of(number))
+    with_need(grouped_arg(alloc, number)?, need_of(number))
 }
 
 /// Adds a value to a list.

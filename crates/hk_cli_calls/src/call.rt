@@ -79,5 +79,5 @@ pub enum Call<'a> {
     /// Start a node of a log, and serve connections to it without an end.
     Stay(Config, Stay),
     /// Have a node that runs do something.
-    Node(NodeCall),
+    Node(NodeCall<'a>),
 }

@@ -4,6 +4,15 @@ use crate::call::OutputForm;
 use hk_model::Query;
 use hk_types::Time;
 
+/// Where a node is.
+#[derive(Clone, Copy)]
+pub enum NodePlace<'a> {
+    /// On a port of 127.0.0.1.
+    Port(u16),
+    /// At an address: a name or an IP address, a colon, and a port.
+    Address(&'a str),
+}
+
 /// What a node is asked to do.
 #[derive(Clone, Copy)]
 pub enum Order {
@@ -72,10 +81,10 @@ pub struct Limits {
     pub reply_seconds: u64,
 }
 
-/// What the node on a port of 127.0.0.1 is asked to do.
+/// What the node at a place is asked to do.
 #[derive(Clone, Copy)]
-pub struct NodeCall {
-    pub port: u16,
+pub struct NodeCall<'a> {
+    pub place: NodePlace<'a>,
     pub limits: Limits,
     pub order: Order,
 }

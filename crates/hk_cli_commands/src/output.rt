@@ -5,7 +5,7 @@ ghost use Rattle.std.specs.Prelude.{◌≡◌};
 use crate::flaw::{Flaw, put_bad_line};
 use crate::json::{LineFault, put_bad_item};
 use crate::stop::Stop;
-use hk_cli_calls::OutputForm;
+use hk_cli_calls::{NodePlace, OutputForm};
 use hk_cli_json::InJson;
 use hk_cli_lines::Printed;
 use hk_cli_reasons::{Origin, Place, RequestContext, put_known, put_reason};
@@ -188,14 +188,20 @@ impl<'a, W: Write, E: Write> Output<'a, W, E> {
         self.keep_reason(made);
     }
 
-    /// Prints that a connection to a port of 127.0.0.1 can't be opened, in the system's words, and returns what stops the
-    /// command. Cost: O(1).
-    pub fn connect_fault(&mut self, port: u16, error: &io::Error) -> Stop {
+    /// Prints that a connection to a place can't be opened, in the system's words, and returns what stops the command.
+    /// Cost: O(n), n bytes of an address.
+    pub fn connect_fault(&mut self, place: NodePlace<'_>, error: &io::Error) -> Stop {
         self.next.clear();
-        let made = writeln!(
-            self.next,
-            "refused 93: can't connect to port {port}: {error}; see that a node listens there"
-        );
+        let made = match place {
+            NodePlace::Port(port) => writeln!(
+                self.next,
+                "refused 93: can't connect to port {port}: {error}; see that a node listens there"
+            ),
+            NodePlace::Address(address) => writeln!(
+                self.next,
+                "refused 93: can't connect to {address}: {error}; see that a node listens there"
+            ),
+        };
         self.keep_reason(made);
         Stop::NetTold
     }

@@ -3,6 +3,7 @@
 use crate::link::{Link, opened, unasked};
 use crate::parts::{Parts, TOO_LONG, hand_parts, is_too_long, taking};
 use crate::read::front_at;
+use hk_cli_calls::NodePlace;
 use hk_cli_commands::{Output, Stop};
 use hk_cli_reasons::{Origin, RequestContext};
 use hk_log::Version;
@@ -130,7 +131,7 @@ pub(crate) fn pull<R: Net<Listener = TcpListener, Stream = TcpStream> + Clock, W
     from: u16,
     output: &mut Output<'_, W, E>,
 ) -> Result<(), Stop> {
-    let stream = opened(rt, from, own.limits(), output)?;
+    let stream = opened(rt, NodePlace::Port(from), own.limits(), output)?;
     let mut other = Link::new(own.alloc(), &stream, own.limits())?;
     let front = front_at(own)?;
     match handed_on(&mut other, front.readable)? {

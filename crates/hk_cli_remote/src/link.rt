@@ -1,6 +1,6 @@
 //! An open connection to a node.
 
-use hk_cli_calls::Limits;
+use hk_cli_calls::{Limits, NodePlace};
 use hk_cli_commands::{MOST_READS, Output, PIECE_BYTES, Stop};
 use hk_cli_reasons::{Origin, Place, RequestContext};
 use hk_types::{FormFault, Refusal};
@@ -63,13 +63,24 @@ const TRIES_A_SECOND: u64 = 50;
 /// How many milliseconds it waits between two tries.
 const TRY_MILLIS: u64 = 20;
 
-/// A stream to the node on a port of 127.0.0.1. A stream that the system joined with itself, as it may where nobody listens on a
-/// port that it also hands out, is refused.
+/// A stream to a place; of the addresses that a name has, the first that is listened to.
+fn stream_to<R: Net<Listener = TcpListener, Stream = TcpStream>>(
+    rt: &R,
+    place: NodePlace<'_>,
+) -> io::Result<TcpStream> {
+    match place {
+        NodePlace::Port(port) => TcpStream::connect(rt, (Ipv4Addr::LOCALHOST, port)),
+        NodePlace::Address(address) => TcpStream::connect(rt, address),
+    }
+}
+
+/// The same. A stream that the system joined with itself, as it may where nobody listens on a port that it also hands out, is
+/// refused.
 fn connected<R: Net<Listener = TcpListener, Stream = TcpStream>>(
     rt: &R,
-    port: u16,
+    place: NodePlace<'_>,
 ) -> io::Result<TcpStream> {
-    let stream = TcpStream::connect(rt, (Ipv4Addr::LOCALHOST, port))?;
+    let stream = stream_to(rt, place)?;
     if stream.local_addr()? == stream.peer_addr()? {
         return Err(ErrorKind::ConnectionRefused.into());
     }
@@ -79,18 +90,18 @@ fn connected<R: Net<Listener = TcpListener, Stream = TcpStream>>(
 /// The same, tried again for so many seconds while nobody listens.
 fn connected_within<R: Net<Listener = TcpListener, Stream = TcpStream> + Clock>(
     rt: &R,
-    port: u16,
+    place: NodePlace<'_>,
     seconds: u64,
 ) -> io::Result<TcpStream> {
     for _ in 0..seconds.saturating_mul(TRIES_A_SECOND) {
-        match connected(rt, port) {
+        match connected(rt, place) {
             Err(error) if error.kind() == ErrorKind::ConnectionRefused => {
                 thread::sleep(rt, Duration::from_millis(TRY_MILLIS));
             }
             other => return other,
         }
     }
-    connected(rt, port)
+    connected(rt, place)
 }
 
 /// Has reads and writes of a stream wait for so many seconds at most; 0 is no limit.
@@ -106,26 +117,31 @@ fn with_limit(stream: TcpStream, seconds: u64) -> io::Result<TcpStream> {
 /// The same stream with these limits.
 fn limited<R: Net<Listener = TcpListener, Stream = TcpStream> + Clock>(
     rt: &R,
-    port: u16,
+    place: NodePlace<'_>,
     limits: Limits,
 ) -> io::Result<TcpStream> {
-    let stream = connected_within(rt, port, limits.connect_seconds)?;
+    let stream = connected_within(rt, place, limits.connect_seconds)?;
     with_limit(stream, limits.reply_seconds)
 }
 
-/// Opens a stream to the node on a port of 127.0.0.1; where that fails the system's words are printed.
+/// Opens a stream to the node at a place; where that fails the system's words are printed.
 pub(crate) fn opened<
     R: Net<Listener = TcpListener, Stream = TcpStream> + Clock,
     W: Write,
     E: Write,
->(rt: &R, port: u16, limits: Limits, output: &mut Output<'_, W, E>) -> Result<TcpStream, Stop> {
-    match limited(rt, port, limits) {
+>(
+    rt: &R,
+    place: NodePlace<'_>,
+    limits: Limits,
+    output: &mut Output<'_, W, E>,
+) -> Result<TcpStream, Stop> {
+    match limited(rt, place, limits) {
         Ok(stream) => {
             // A request is sent at once; where the system doesn't allow that, it comes later.
             let _at_once = stream.set_nodelay(true);
             Ok(stream)
         }
-        Err(error) => Err(output.connect_fault(port, &error)),
+        Err(error) => Err(output.connect_fault(place, &error)),
     }
 }
 

@@ -47,11 +47,11 @@ where
     told.map(|()| false)
 }
 
-/// The same over a new connection to the node on a port, and writes what was printed.
+/// The same over a new connection to the node, and writes what was printed.
 fn obey_at<R, I: Read, W: Write, E: Write>(
     rt: &R,
     alloc: Global,
-    call: &NodeCall,
+    call: &NodeCall<'_>,
     input: &mut I,
     is_terminal: bool,
     output: &mut Output<'_, W, E>,
@@ -59,15 +59,15 @@ fn obey_at<R, I: Read, W: Write, E: Write>(
 where
     R: Net<Listener = TcpListener, Stream = TcpStream> + Clock,
 {
-    let stream = opened(rt, call.port, call.limits, output)?;
+    let stream = opened(rt, call.place, call.limits, output)?;
     let mut link = Link::new(alloc, &stream, call.limits)?;
     let is_refused = obey(rt, &mut link, input, is_terminal, output, &call.order)?;
     output.flush().map(|_written| is_refused)
 }
 
-/// Has the node on a port of 127.0.0.1 do what is asked, over a new connection, and prints its replies.
+/// Has the node at a place do what is asked, over a new connection, and prints its replies.
 ///
-/// Where nobody listens on the port it tries again to connect, for as many seconds as the call's limits have it. Where the node
+/// Where nobody listens there it tries again to connect, for as many seconds as the call's limits have it. Where the node
 /// then replies nothing for as many seconds as they have it, or reads nothing of a request, the command ends.
 ///
 /// `Push` sends a request, waits for its reply and prints it, and then sends the next; a reply that is a refusal is printed and explained,
@@ -89,7 +89,7 @@ where
 /// - 90 where memory ran out;
 /// - 91 where a read failed, of the input or the connection, 2^32 reads did not come to an end, or the node replied nothing in time;
 /// - 92 where a write to the connection failed or took no bytes;
-/// - 93 where the connection could not be opened, as to a port that nobody listens to;
+/// - 93 where the connection could not be opened, as to a place where nobody listens, or whose name has no address;
 /// - a write of the output that failed or took no bytes.
 ///
 /// Each but the last is printed as `refused` and the number, in the order's form (where `Save` writes one frame it writes all of it or
@@ -99,7 +99,7 @@ where
 pub fn run_order<R, I: Read, W: Write, E: Write>(
     rt: &R,
     alloc: Global,
-    call: &NodeCall,
+    call: &NodeCall<'_>,
     input: &mut I,
     is_terminal: bool,
     writer: &mut W,
