@@ -33,7 +33,7 @@ use Rattle.hk_session.specs.Transcript.{Transcript, PartialTranscript, IsDone, I
 use Rattle.hk_session.specs.Endings.{ended_number}
 use Rattle.hk_session.specs.declared.ended.Ended.{Ended}
 use Rattle.hk_session.specs.declared.ended.Ended.TheVariants.{ReadFault}
-use Rattle.hk_c.specs.declared.replica.Replica.{Replica}
+use Rattle.hk_c.specs.Values.{ReplicaValue}
 
 -- no replica of this log was made: there is no such log, or memory ran out
 abbrev pub NotOpened : ℕ → ℕ → ℕ → Type 0
@@ -42,34 +42,34 @@ NotOpened log streams number =
     ⊎ (IsOk (checked_config log streams) × (number ≡ 90))
 
 -- a replica of this log that took nothing
-abbrev pub IsNew : Replica → ℕ → ℕ → Type 0
+abbrev pub IsNew : ReplicaValue → ℕ → ℕ → Type 0
 IsNew r log streams =
-    (config : ConfigValue) × (checked_config log streams ≡ Ok config) × (r.host.content ≡ empty_content config) × (r.host.ops ≡ 1) × (r.feeder ≡ Ok [])
-    × (r.reply.items ≡ [])
+    (config : ConfigValue) × (checked_config log streams ≡ Ok config) × (r.host.content ≡ empty_content config) × (r.host.ops ≡ 1) × (r.rest ≡ Ok [])
+    × (r.reply ≡ [])
 
 -- the handle holds a replica of this log that took nothing, where the number is 0, and nothing where it is another
-abbrev pub Opened : Option Replica → ℕ → ℕ → ℕ → Type 0
+abbrev pub Opened : Option ReplicaValue → ℕ → ℕ → ℕ → Type 0
 Opened None log streams number = NotOpened log streams number
 Opened (Some r) log streams number = (number ≡ 0) × IsNew r log streams
 
 -- What a session on these bytes did to the replica, where it ended so: its reply is their transcript, and a front of
 -- that where memory ran out.
-abbrev pub Answered : Replica → Replica → List ℕ → Ended → Type 0
+abbrev pub Answered : ReplicaValue → ReplicaValue → List ℕ → Ended → Type 0
 Answered old new bytes ended =
-    (IsDone ended → Transcript 1 Step old.host new.host bytes new.reply.items)
-    × (IsStopped ended → PartialTranscript 1 Step old.host new.host bytes new.reply.items)
+    (IsDone ended → Transcript 1 Step old.host new.host bytes new.reply)
+    × (IsStopped ended → PartialTranscript 1 Step old.host new.host bytes new.reply)
 
 -- the same by the number, at what a handle holds
-abbrev pub Called : Option Replica → Option Replica → List ℕ → ℕ → Type 0
+abbrev pub Called : Option ReplicaValue → Option ReplicaValue → List ℕ → ℕ → Type 0
 Called None None bytes number = number ≡ 255
 Called None (Some new) bytes number = ⊥
 Called (Some old) None bytes number = ⊥
-Called (Some old) (Some new) bytes number = (ended : Ended) × (number ≡ ended_number ended) × (ended ≢ ReadFault) × Answered old new bytes ended × (new.feeder ≡ old.feeder)
+Called (Some old) (Some new) bytes number = (ended : Ended) × (number ≡ ended_number ended) × (ended ≢ ReadFault) × Answered old new bytes ended × (new.rest ≡ old.rest)
 
 -- the reply that a handle keeps
-abbrev pub kept_reply : Option Replica → List ℕ
+abbrev pub kept_reply : Option ReplicaValue → List ℕ
 kept_reply None = []
-kept_reply (Some r) = r.reply.items
+kept_reply (Some r) = r.reply
 
 -- what a buffer has once as much of a text of so many bytes was copied to it as there is room
 abbrev pub copied_into : List ℕ → List ℕ → ℕ → List ℕ
@@ -97,21 +97,21 @@ Told (Some row) found before after =
     × (after ≡ copied_into before row.body found.len)
 
 -- a row was asked for: it is told, or it is refused, and then nothing was written
-abbrev pub Got : Option Replica → ℕ → ℕ → ℕ → Found → List ℕ → List ℕ → ℕ → Type 0
+abbrev pub Got : Option ReplicaValue → ℕ → ℕ → ℕ → Found → List ℕ → List ℕ → ℕ → Type 0
 Got None time table key found before after number = number ≡ 255
 Got (Some r) time table key found before after number =
     ((number ≡ 0) × (row : Option RowValue) × (asked_reply r.host.content time (Get table key) ≡ Ok (One row)) × Told row found before after)
     ⊎ (IsRefusedBy r.host.content time (Get table key) number × (after ≡ before))
 
 -- the rows of a table were counted, or it is refused
-abbrev pub Counts : Option Replica → ℕ → ℕ → ℕ → ℕ → Type 0
+abbrev pub Counts : Option ReplicaValue → ℕ → ℕ → ℕ → ℕ → Type 0
 Counts None time table count number = number ≡ 255
 Counts (Some r) time table count number =
     ((number ≡ 0) × (asked_reply r.host.content time (Count table) ≡ Ok (Number count)))
     ⊎ IsRefusedBy r.host.content time (Count table) number
 
 -- from where to where the replica can be read, and its operations
-abbrev pub Bounded : Option Replica → Bounds → ℕ → Type 0
+abbrev pub Bounded : Option ReplicaValue → Bounds → ℕ → Type 0
 Bounded None bounds number = number ≡ 255
 Bounded (Some r) bounds number =
     (number ≡ 0) × (bounds.horizon ≡ r.host.content.horizon) × (bounds.readable ≡ readable r.host.content) × (bounds.ops ≡ r.host.ops)
@@ -132,27 +132,27 @@ abbrev pub rows_text : ℕ → List (ℕ × RowValue) → List ℕ
 rows_text low rows = flat_map (text_from low) rows
 
 -- the rows that the replica answers were written, and are kept in the place of the last reply
-abbrev pub Lists : Replica → Replica → ℕ → Query → ℕ → Type 0
+abbrev pub Lists : ReplicaValue → ReplicaValue → ℕ → Query → ℕ → Type 0
 Lists old new time query low =
-    (rows : List (ℕ × RowValue)) × (asked_reply old.host.content time query ≡ Ok (Rows rows)) × (new.reply.items ≡ rows_text low rows)
-    × (new.host ≡ old.host) × (new.feeder ≡ old.feeder)
+    (rows : List (ℕ × RowValue)) × (asked_reply old.host.content time query ≡ Ok (Rows rows)) × (new.reply ≡ rows_text low rows)
+    × (new.host ≡ old.host) × (new.rest ≡ old.rest)
 
 -- the same at what a handle holds; where it is refused nothing is written
-abbrev pub Listed : Option Replica → Option Replica → ℕ → Query → ℕ → ℕ → List ℕ → List ℕ → ℕ → Type 0
+abbrev pub Listed : Option ReplicaValue → Option ReplicaValue → ℕ → Query → ℕ → ℕ → List ℕ → List ℕ → ℕ → Type 0
 Listed None None time query low needed before after number = number ≡ 255
 Listed None (Some new) time query low needed before after number = ⊥
 Listed (Some old) None time query low needed before after number = ⊥
 Listed (Some old) (Some new) time query low needed before after number =
-    ((number ≡ 0) × Lists old new time query low × (needed ≡ length new.reply.items)
-    × (after ≡ copied_into before new.reply.items needed))
+    ((number ≡ 0) × Lists old new time query low × (needed ≡ length new.reply)
+    × (after ≡ copied_into before new.reply needed))
     ⊎ (IsRefusedBy old.host.content time query number × (new ≡ old) × (after ≡ before))
 
 -- the rows of a table from a low key to a high one were listed
-abbrev pub Ranged : Option Replica → Option Replica → ℕ → ℕ → ℕ → ℕ → ℕ → List ℕ → List ℕ → ℕ → Type 0
+abbrev pub Ranged : Option ReplicaValue → Option ReplicaValue → ℕ → ℕ → ℕ → ℕ → ℕ → List ℕ → List ℕ → ℕ → Type 0
 Ranged old new time table low high needed before after number = Listed old new time (Range table low high) low needed before after number
 
 -- the rows of a table with a tag were listed, from a key on
-abbrev pub Tagged : Option Replica → Option Replica → ℕ → ℕ → ℕ → ℕ → ℕ → List ℕ → List ℕ → ℕ → Type 0
+abbrev pub Tagged : Option ReplicaValue → Option ReplicaValue → ℕ → ℕ → ℕ → ℕ → ℕ → List ℕ → List ℕ → ℕ → Type 0
 Tagged old new time table tag low needed before after number = Listed old new time (ByTag table tag) low needed before after number
 
 -- ---- changes
@@ -176,7 +176,7 @@ done_number (Ok done) = 0
 done_number (Err why) = refusal_number why
 
 -- the host was asked this, the number is that of its reply, and nothing but the host may have changed
-abbrev pub Asked : Replica → Replica → Request → ℕ → Type 0
+abbrev pub Asked : ReplicaValue → ReplicaValue → Request → ℕ → Type 0
 Asked old new request number =
     (answer : Reply) × Step old.host request answer new.host × (number ≡ reply_number answer) × (new ≡ record old { host = new.host })
 
@@ -194,56 +194,56 @@ IsItems (requests.Feed sent) items = ⊥
 IsItems (requests.Later request) items = ⊥
 
 -- the items were taken, where there are some, as the host takes them
-abbrev pub Taken : Replica → Replica → List Item → ℕ → Type 0
+abbrev pub Taken : ReplicaValue → ReplicaValue → List Item → ℕ → Type 0
 Taken old new items number = ((items ≡ []) × (new ≡ old) × (number ≡ 0)) ⊎ ((request : Request) × Asked old new request number × IsItems request items)
 
 -- A piece of a stream of item frames came in. What was cut off before and the piece are read as items and what is cut
 -- off now, which is kept, or as a fault; where memory ran out in reading nothing changed. The items were taken, or
 -- refused together; the number is that of their refusal, else that of the fault.
-pub record Absorbed (old new : Replica) (piece : List ℕ) (number : ℕ) : Type 0 where
-  pub mid : Replica
+pub record Absorbed (old new : ReplicaValue) (piece : List ℕ) (number : ℕ) : Type 0 where
+  pub mid : ReplicaValue
   pub items : List Item
   pub fed : Result (Unit {0}) Refusal
-  pub feeds : Feeds Adds old.feeder mid.feeder [] items piece fed
-  pub fault : KeepsFault old.feeder mid.feeder [] items fed
-  pub memory : KeepsOnMemory old.feeder mid.feeder [] items fed
-  pub only : mid ≡ record old { feeder = mid.feeder }
+  pub feeds : Feeds Adds old.rest mid.rest [] items piece fed
+  pub fault : KeepsFault old.rest mid.rest [] items fed
+  pub memory : KeepsOnMemory old.rest mid.rest [] items fed
+  pub only : mid ≡ record old { rest = mid.rest }
   pub refused : ℕ
   pub taken : Taken mid new items refused
   pub told : number ≡ (if refused == 0 then done_number fed else refused)
 
 -- the horizon was raised as the host raises it, or it is no time
-abbrev pub Pruned : Replica → Replica → ℕ → ℕ → Type 0
+abbrev pub Pruned : ReplicaValue → ReplicaValue → ℕ → ℕ → Type 0
 Pruned old new horizon number =
     ((horizon ≤ 2 ^ 62) × Asked old new (requests.Prune horizon) number) ⊎ ((2 ^ 62 < horizon) × (number ≡ 6) × (new ≡ old))
 
 -- all that a peer holds was joined as the host joins it
-abbrev pub Merged : Replica → Replica → Replica → ℕ → Type 0
+abbrev pub Merged : ReplicaValue → ReplicaValue → ReplicaValue → ℕ → Type 0
 Merged old new peer number = Asked old new (requests.MergeThis (cut peer.host.content 0)) number
 
 -- ---- at what handles hold
 
 -- a call left the handle so: a closed one is told by 255 and stays closed, a live one stays live
-abbrev pub AtLive : (Replica → Replica → ℕ → Type 0) → Option Replica → Option Replica → ℕ → Type 0
+abbrev pub AtLive : (ReplicaValue → ReplicaValue → ℕ → Type 0) → Option ReplicaValue → Option ReplicaValue → ℕ → Type 0
 AtLive Done None None number = number ≡ 255
 AtLive Done None (Some new) number = ⊥
 AtLive Done (Some old) None number = ⊥
 AtLive Done (Some old) (Some new) number = Done old new number
 
 -- a piece of a stream of items was taken, at what a handle holds
-abbrev pub AbsorbedAt : Option Replica → Option Replica → List ℕ → ℕ → Type 0
+abbrev pub AbsorbedAt : Option ReplicaValue → Option ReplicaValue → List ℕ → ℕ → Type 0
 AbsorbedAt old new piece number = AtLive (λ before after count. Absorbed before after piece count) old new number
 
 -- the replica was pruned, at what a handle holds
-abbrev pub PrunedAt : Option Replica → Option Replica → ℕ → ℕ → Type 0
+abbrev pub PrunedAt : Option ReplicaValue → Option ReplicaValue → ℕ → ℕ → Type 0
 PrunedAt old new horizon number = AtLive (λ before after count. Pruned before after horizon count) old new number
 
 -- the stream of items was ended, and another begun
-abbrev pub Finished : Replica → Replica → ℕ → Type 0
-Finished old new number = (new ≡ record old { feeder = Ok [] }) × (number ≡ done_number (last_answer old.feeder))
+abbrev pub Finished : ReplicaValue → ReplicaValue → ℕ → Type 0
+Finished old new number = (new ≡ record old { rest = Ok [] }) × (number ≡ done_number (last_answer old.rest))
 
 -- two handles: where one is closed nothing changes
-abbrev pub MergedAt : Option Replica → Option Replica → Option Replica → ℕ → Type 0
+abbrev pub MergedAt : Option ReplicaValue → Option ReplicaValue → Option ReplicaValue → ℕ → Type 0
 MergedAt None new peer number = (new ≡ None) × (number ≡ 255)
 MergedAt (Some old) new None number = (new ≡ Some old) × (number ≡ 255)
 MergedAt (Some old) None (Some peer) number = ⊥

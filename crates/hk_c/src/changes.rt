@@ -72,8 +72,8 @@ impl Replica {
 
     /// Ends the stream of items, and begins another.
     pub(crate) fn finish(&mut self, alloc: Global) -> u8
-        ensures fed { self.new ≡ record self.old { feeder = Ok [] } }
-        ensures number { result ≡ done_number (last_answer self.old.feeder) }
+        ensures fed { self.new ≡ record self.old { rest = Ok [] } }
+        ensures number { result ≡ done_number (last_answer self.old.rest) }
     {
         let ended = replace(&mut self.feeder, Feeder::new(alloc));
         number_done(ended.finish())

@@ -6,7 +6,7 @@ ghost use Rattle.std.specs.Option.{MatchOption};
 ghost use Rattle.std.specs.declared.option.Option.{Option};
 ghost use Rattle.std.specs.declared.option.Option.TheVariants.{None, Some};
 ghost use Rattle.std.specs.declared.alloc.Global.{Global as Heap};
-ghost use Rattle.hk_c.specs.declared.replica.Replica.{Replica as ReplicaValue};
+ghost use Rattle.hk_c.specs.Values.{ReplicaValue};
 ghost use Rattle.hk_c.specs.contracts.replica.Replica.{the_row as replica_row};
 ghost use Rattle.hk_c.specs.Holding.{holds};
 

@@ -245,7 +245,7 @@ fn write_list(
     out: &mut [u8],
     needed: &mut usize,
 ) -> u8
-    ensures { Wrote listed replica.now.reply.items needed.new out.old out.new result }
+    ensures { Wrote listed replica.now.reply needed.new out.old out.new result }
 {
     match listed {
         Err(why) => {

@@ -15,6 +15,7 @@ use hk_session::{Counted, Ended, StateHost, serve_bytes};
 use hk_state::ReplicaState;
 use hk_types::{Config, Key, Refusal, Row, Table, Time};
 use std::alloc::Global;
+use std::marker::Model;
 
 /// A replica that answers requests, with what is cut off of its items, and its last reply.
 #[derive(Drop)]
@@ -22,6 +23,16 @@ pub struct Replica {
     pub(crate) host: StateHost,
     pub(crate) feeder: Feeder,
     reply: Vec<u8>,
+}
+
+impl Model for Replica {
+    ghost use Rattle.hk_c.specs.Values.{ReplicaValue, replica_code};
+
+    ghost Value = { ReplicaValue };
+
+    ghost coded = { replica_code };
+
+    ghost view = { λ r. record { host = r.host; rest = r.feeder; reply = r.reply.items } };
 }
 
 impl Replica {
@@ -43,7 +54,7 @@ impl Replica {
     pub(crate) fn answer(&mut self, alloc: Global, requests: &[u8]) -> Ended
         ensures answered { Answered self.old self.new requests.now result }
         ensures reads { result ≢ ReadFault }
-        ensures fed { self.new.feeder ≡ self.old.feeder }
+        ensures fed { self.new.rest ≡ self.old.rest }
     {
         let mut writer = Counted::new(Vec::new(alloc));
         let ended = serve_bytes::<1, _, _>(alloc, requests, &mut writer, &mut self.host);
@@ -125,7 +136,7 @@ impl Replica {
 
     /// The replies to the last requests, or the text of the last rows.
     pub(crate) fn reply(&self) -> &[u8]
-        ensures { result.now ≡ self.now.reply.items }
+        ensures { result.now ≡ self.now.reply }
     {
         self.reply.as_slice()
     }

@@ -1,5 +1,5 @@
 -- What stands under a number, counted from 1.
-use Rattle.std.proofs.Common.{◌≡◌, refl, sym, ap, ◌∙◌, ℕ, zero, suc, ◌-◌, ◌<◌, ◌≤◌, ◌==◌, Bor, IfSome, MatchOption, length, get_or, set, replicate, ◌+◌, ◌++◌, add-one, false, cond, Option, Some, None, List, [], ◌∷◌, arith, true, is_some, ◌&&◌, true≢false}
+use Rattle.std.proofs.Common.{◌≡◌, refl, sym, ap, ◌∙◌, ℕ, zero, suc, ◌-◌, ◌<◌, ◌≤◌, ◌==◌, Bor, IfSome, MatchOption, length, get_or, set, map, replicate, ◌+◌, ◌++◌, add-one, false, cond, Option, Some, None, List, [], ◌∷◌, arith, true, is_some, ◌&&◌, true≢false}
 use Rattle.std.proofs.lemmas.Bool.Decides.{nat_tests}
 use Rattle.std.proofs.lemmas.Option.{slice_get_past, slice_get_read}
 use Rattle.std.specs.List.{slice_get, HoldsAt, list_all, filter_map, cons_option}
@@ -44,6 +44,15 @@ module _ {X : Type 0} where
   -- what is read at a place stands under the next number
   pub numbered_at : (xs : List X) (i k : ℕ) (d : X) → i + 1 ≡ k → i < length xs → at_number xs k ≡ Some (get_or xs i d)
   numbered_at xs i k d e l = (let f : k ≡ suc i = omega arith in ap (at_number xs) f) ∙ sym (numbered_suc xs i) ∙ read_at xs i d l
+
+  mapped_suc : {Y : Type 0} (f : X → Y) (xs : List X) (i : ℕ) (d : X) → i < length xs → at_number (map f xs) (suc i) ≡ Some (f (get_or xs i d))
+  mapped_suc f [] i d l = absurd (omega arith)
+  mapped_suc f (x ∷ xs) zero d l = refl
+  mapped_suc f (x ∷ xs) (suc i) d l = (λ j. cond (not_first i j) (Some (f x)) (at_number (map f xs) (one_less (suc i) j))) ∙ mapped_suc f xs i d (omega arith)
+
+  -- what a function makes of what is read at a place stands under the next number of what it makes of all
+  pub mapped_at : {Y : Type 0} (f : X → Y) (xs : List X) (i k : ℕ) (d : X) → i + 1 ≡ k → i < length xs → at_number (map f xs) k ≡ Some (f (get_or xs i d))
+  mapped_at f xs i k d e l = (let g : k ≡ suc i = omega arith in ap (at_number (map f xs)) g) ∙ mapped_suc f xs i d l
 
   renumbered_suc : (xs : List X) (n : ℕ) (y : X) → n < length xs → set xs n y ≡ with_at_number xs (suc n) y
   renumbered_suc [] n y l = absurd (omega arith)

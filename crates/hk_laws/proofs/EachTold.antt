@@ -23,7 +23,7 @@ one_told : (replicas : ℕ) (events : List EventValue) (done : List ToldValue) (
     Stands old.config replicas events done (e ∷ left) old.world → Stands old.config replicas events (done ++ t ∷ []) left new.world
 one_told replicas events done e left old new t steps h =
     elim (steps h.0 h.1) [
-      | inl lacks ↦ (h.0, subst (λ (r : Running). Agree old.config h.0 r.world) (sym lacks.0.1) h.1, λ outcome k. with_it outcome (h.2 (t ∷ outcome) (inl (lacks.0.0, lacks.1, k))))
+      | inl lacks ↦ (h.0, subst (λ (r : Running). Agree old.config h.0 r.world) (sym lacks.0.1) h.1, λ outcome k. with_it outcome (h.2 (t ∷ outcome) (inl (lacks.0.0, lacks.1, lacks.2, k))))
       | inr told ↦ ((step (by_items old.config) old.config h.0 e).1, told.2, λ outcome k. with_it outcome (h.2 (t ∷ outcome) (inr (told.0, k))))
     ]
   where

@@ -1,11 +1,13 @@
 -- One replica of a list acts.
-use Rattle.std.proofs.Common.{◌≡◌, sym, ap, ◌∙◌, subst, ℕ, ◌+◌, ◌<◌, length, get_or, set, Option, Some, List, Result, Ok, Err}
+use Rattle.std.proofs.Common.{◌≡◌, sym, ap, ◌∙◌, subst, ℕ, ◌+◌, ◌<◌, true, length, get_or, set, Option, Some, List, Result, Ok, Err, OnErr}
+use Rattle.std.proofs.lemmas.Bool.{lt-ltb}
 use Rattle.hk_types.specs.declared.faults.Refusal.{Refusal}
 use Rattle.hk_model.specs.declared.told.Told.{Told}
 use Rattle.hk_model.specs.Replica.Content.{Content}
 use Rattle.hk_model.specs.World.Worlds.{ToldValue, both, at_number}
-use Rattle.hk_laws.specs.Calls.{Acts, Gives}
-use Rattle.hk_laws.proofs.AtNumber.{numbered_at, renumbered_at, set_same}
+use Rattle.hk_model.specs.World.Worlds.EventValue.{Prune}
+use Rattle.hk_laws.specs.Calls.{Acts, Gives, horizons_of, is_above, takes_memory_at}
+use Rattle.hk_laws.proofs.AtNumber.{mapped_at, numbered_at, renumbered_at, set_same}
 
 module _ (rs : List Content) (k i : ℕ) (e : i + 1 ≡ k) (l : i < length rs) where
   -- the replica at a place is the one with the next number
@@ -33,3 +35,10 @@ module _ (rs : List Content) (k i : ℕ) (e : i + 1 ≡ k) (l : i < length rs) w
       x ≡ Some y → Gives (act (get_or rs i d, y)) (get_or rs i d) (get_or rs i d) result → Acts rs rs k (both (at_number rs k) x) act result
   acts_not x y act d result found gives =
       subst (λ ys. Acts rs ys k (both (at_number rs k) x) act result) (set_same rs i d l) (acts_on x y act d (get_or rs i d) result found gives)
+
+  -- a prune above the horizon that is there may take memory
+  pub prune_takes : (h : ℕ) (d : Content) (result : Result Told Refusal) →
+      OnErr result ((get_or rs i d).horizon < h) → OnErr result (takes_memory_at (horizons_of rs) (Prune k h) ≡ true)
+  prune_takes h d (Ok outcome) above = tt
+  prune_takes h d (Err why) above =
+      ap (λ (x : Option ℕ). is_above x h) (mapped_at (λ (c : Content). c.horizon) rs i k d e l) ∙ lt-ltb (get_or rs i d).horizon h above

@@ -27,19 +27,31 @@ use Rattle.hk_laws.specs.Calls.{Gives, is_first, is_first_outcome, is_memory, is
 abbrev pub Passes : Refusal → Result Told Refusal → Type 0
 Passes why result = MatchResult result (λ outcome. (told_seen outcome ≡ Refused why) × (is_memory why ≡ false)) (λ e. (e ≡ Memory) × (why ≡ Memory))
 
--- a call refused with what was expected, or because memory ran out where something else was
+-- what is so is so where there is an error
+pub on_err : {P : Type 0} → (result : Result Told Refusal) → P → OnErr result P
+on_err (Ok outcome) p = tt
+on_err (Err why) p = p
+
+-- a call refused with what was expected, or because memory ran out where something else was that takes some
+pub refusal_where : {C : Type 0} (expected : Result C Refusal → ToldValue × Content) (x : Result C Refusal) (old new : Content) (why : Refusal) (result : Result Told Refusal)
+    → ((w : Refusal) → expected (Err w) ≡ (Refused w, old))
+    → new ≡ old → (x ≡ Err why) ⊎ ((why ≡ Memory) × (is_first_outcome (expected x).0 ≡ false)) → Passes why result → Gives (expected x) old new result
+refusal_where expected x old new why (Ok outcome) errs same (inl e) m =
+    let is : expected x ≡ (Refused why, old) = ap expected e ∙ errs why in
+    (m.0 ∙ sym (ap (λ (p : ToldValue × Content). p.0) is), same ∙ sym (ap (λ (p : ToldValue × Content). p.1) is), ap is_memory_outcome m.0 ∙ m.1)
+refusal_where expected x old new why (Ok outcome) errs same (inr p) m = absurd (true≢false (sym (ap is_memory p.0) ∙ m.1))
+refusal_where expected x old new why (Err e) errs same (inl f) m =
+    let is : expected x ≡ (Refused why, old) = ap expected f ∙ errs why in
+    (m.0, same, ap (λ (p : ToldValue × Content). is_first_outcome p.0) is ∙ ap is_first m.1)
+refusal_where expected x old new why (Err e) errs same (inr p) m = (m.0, same, p.1)
+
+-- so where all that may be expected beside a refusal takes some
 pub refusal_gives : {C : Type 0} (expected : Result C Refusal → ToldValue × Content) (x : Result C Refusal) (old new : Content) (why : Refusal) (result : Result Told Refusal)
     → ((w : Refusal) → expected (Err w) ≡ (Refused w, old)) → ((c : C) → x ≡ Ok c → is_first_outcome (expected (Ok c)).0 ≡ false)
     → new ≡ old → (x ≡ Err why) ⊎ ((why ≡ Memory) × ((c : C) × (x ≡ Ok c))) → Passes why result → Gives (expected x) old new result
-refusal_gives expected x old new why (Ok outcome) errs oks same (inl e) m =
-    let is : expected x ≡ (Refused why, old) = ap expected e ∙ errs why in
-    (m.0 ∙ sym (ap (λ (p : ToldValue × Content). p.0) is), same ∙ sym (ap (λ (p : ToldValue × Content). p.1) is), ap is_memory_outcome m.0 ∙ m.1)
-refusal_gives expected x old new why (Ok outcome) errs oks same (inr p) m = absurd (true≢false (sym (ap is_memory p.0) ∙ m.1))
-refusal_gives expected x old new why (Err e) errs oks same (inl f) m =
-    let is : expected x ≡ (Refused why, old) = ap expected f ∙ errs why in
-    (m.0, same, ap (λ (p : ToldValue × Content). is_first_outcome p.0) is ∙ ap is_first m.1)
-refusal_gives expected x old new why (Err e) errs oks same (inr p) m =
-    (m.0, same, ap (λ y. is_first_outcome (expected y).0) p.1.1 ∙ oks p.1.0 p.1.1)
+refusal_gives {C} expected x old new why result errs oks same p m =
+    refusal_where expected x old new why result errs same
+    (elim p [ inl e ↦ inl e | inr q ↦ inr (q.0, ap (λ (y : Result C Refusal). is_first_outcome (expected y).0) q.1.1 ∙ oks q.1.0 q.1.1) ]) m
 
 -- a join tells a gap alone of what is tested before anything grows
 pub joined_first : (c : Content) (f : FragmentValue) → f.base ≤ readable c → is_first_outcome (outcome_by c (join_result c f)).0 ≡ false

@@ -10,7 +10,7 @@ use Rattle.hk_model.specs.History.Commits.{writes_result, commit_result, committ
 use Rattle.hk_model.specs.Replica.Content.{Content}
 use Rattle.hk_model.specs.World.Worlds.{World, Replica, EventValue, after_commit}
 use Rattle.hk_model.specs.declared.write_op.WriteOp.{WriteOp}
-use Rattle.hk_laws.specs.Calls.{IsBuilt, refusal_of_transaction, is_first, is_memory, is_of_writes, is_first_outcome, may_lack, Happens, Turns}
+use Rattle.hk_laws.specs.Calls.{IsBuilt, refusal_of_transaction, is_first, is_memory, is_of_writes, is_first_outcome, horizons_of, may_lack, takes_memory_at, Happens, Turns}
 use Rattle.hk_laws.specs.Running.{Running, step_outcome}
 use Rattle.hk_model.specs.declared.told.Told.{Told}
 
@@ -91,9 +91,9 @@ module _ (config : ConfigValue) (w : World Content) (stream read_at : ℕ) (ws :
       of_built (Ok m) h = by m (nat_lt stream 1 || nat_lt config.streams stream) (is_retired w.history stream) (nat_lt (last (commits w.history)) read_at) e
 
 -- what happened is all that was to be said, where nothing is expected that is tested first
-pub turned : (old new : Running) (event : EventValue) (result : Result Told Refusal) → Turns old new event result → is_first_outcome (step_outcome old event).0 ≡ false → Happens old new event result
-turned old new event (Ok outcome) t f = t
-turned old new event (Err why) t f = (t.0, t.1, f)
+pub turned : (old new : Running) (event : EventValue) (result : Result Told Refusal) → Turns old new event result → is_first_outcome (step_outcome old event).0 ≡ false → takes_memory_at (horizons_of old.world.replicas) event ≡ true → Happens old new event result
+turned old new event (Ok outcome) t f g = t
+turned old new event (Err why) t f g = (t.0, t.1, f, g)
 
 -- ---- on items
 

@@ -8,12 +8,16 @@ use Rattle.hk_model.specs.declared.query.Query.{Query}
 use Rattle.hk_model.specs.History.Histories.{History, commits, is_retired, history_with_mark, table_at}
 use Rattle.hk_log.specs.Items.{MarkValue}
 use Rattle.hk_log.specs.declared.item.Item.TheVariants.{Closed}
-use Rattle.hk_model.specs.World.Worlds.{World, Replica, EventValue, ToldValue, Agree, act_on, after_mark, asked_primary, asked_of, both, by_items, delta_with, mark_now, retirement, readable_on_primary, merged_with, at_number, all_numbered, pruned_to, readable_of, step, outcome_of}
+use Rattle.hk_model.specs.declared.took.Took.{Took}
+use Rattle.hk_model.specs.declared.took.Took.TheVariants.{Taken, Repeated}
+use Rattle.hk_model.specs.Replica.ContentOf.{content_of}
+use Rattle.hk_model.specs.Replica.Rules.{took}
+use Rattle.hk_model.specs.World.Worlds.{World, Replica, EventValue, ToldValue, Agree, AllRepresent, act_on, after_mark, asked_primary, asked_of, both, by_items, delta_with, mark_now, retirement, readable_on_primary, merged_with, at_number, all_numbered, pruned_to, readable_of, step, outcome_of}
 use Rattle.hk_model.specs.World.Worlds.EventValue.{Commit, MarkOf, Retire, Absorb, Batch, Prune, Merge, Delta, Ask, FrontOf}
-use Rattle.hk_model.specs.World.Worlds.ToldValue.{Done, Answered, Marked, Refused}
+use Rattle.hk_model.specs.World.Worlds.ToldValue.{Absorbed, Done, Answered, Marked, Refused}
 use Rattle.hk_model.proofs.World.Runs.{step_law_proof}
 use Rattle.hk_query.specs.Memory.{takes_memory}
-use Rattle.hk_laws.specs.Calls.{Steps, StepsOf, is_first_outcome, may_lack}
+use Rattle.hk_laws.specs.Calls.{Steps, StepsOf, horizons_of, is_first_outcome, item_horizons, may_lack, takes_memory_at}
 use Rattle.hk_laws.proofs.RefusedCommits.{commit_lacks}
 use Rattle.hk_laws.specs.Running.{Running}
 
@@ -40,6 +44,10 @@ world_only false x y h k = k
 outcome_only : (x : Option Replica) (tell : Replica → ToldValue) → ((r : Replica) → OnlyFirst (tell r)) → OnlyFirst (outcome_of x tell)
 outcome_only None tell h = λ e. absurd (true≢false e)
 outcome_only (Some r) tell h = h r
+
+absorbed_only : (t : Took) → OnlyFirst (Absorbed t)
+absorbed_only Taken e = refl
+absorbed_only Repeated e = absurd (true≢false e)
 
 answered_only : (a : AnswerValue) → OnlyFirst (Answered a)
 answered_only a e = by (takes_memory a) e
@@ -78,7 +86,7 @@ lack_of : (config : ConfigValue) (w : World Replica) (event : EventValue) → is
 lack_of config w (Commit s r ws) e = commit_lacks config w s r ws e
 lack_of config w (MarkOf s) e = marked_only config w (mark_now config w.history s) e
 lack_of config w (Retire s) e = marked_only config w (retirement config w.history s) e
-lack_of config w (Absorb k i) e = (acted_only w k (both (at_number w.replicas k) (at_number w.emitted i)) (λ p. (by_items config).absorb p.0 p.1) (λ p f. refl) e)
+lack_of config w (Absorb k i) e = (acted_only w k (both (at_number w.replicas k) (at_number w.emitted i)) (λ p. (by_items config).absorb p.0 p.1) (λ p. absorbed_only (took (content_of config p.0.items p.0.horizon) p.1)) e)
 lack_of config w (Batch k is) e = (acted_only w k (both (at_number w.replicas k) (all_numbered w.emitted is)) (λ p. (by_items config).batch p.0 p.1) (λ p f. refl) e)
 lack_of config w (Prune k h) e = (acted_only w k (at_number w.replicas k) (λ r. (by_items config).prune r h) (pruned_only config h) e)
 lack_of config w (Merge to from) e = (acted_only w to (both (at_number w.replicas to) (at_number w.replicas from)) (λ p. (by_items config).merge p.0 p.1) (λ p f. refl) e)
@@ -88,10 +96,18 @@ lack_of config w (Ask k t q) e =
     (outcome_only (at_number w.replicas k) (λ r. (by_items config).ask w.history r t q) (λ r. asked_only config w.history t r q)) e)
 lack_of config w (FrontOf k) e = (outcome_only (at_number w.replicas k) (by_items config).front (λ r f. absurd (true≢false f)) e)
 
+-- what represents items has their horizon
+same_horizons : (config : ConfigValue) (history : History) (rs : List Replica) (cs : List Content) → AllRepresent config history rs cs → horizons_of cs ≡ item_horizons rs
+same_horizons config history [] [] h = refl
+same_horizons config history [] (c ∷ cs) h = absurd h
+same_horizons config history (r ∷ rs) [] h = absurd h
+same_horizons config history (r ∷ rs) (c ∷ cs) h = λ i. (h.0.is_content_of i).horizon ∷ same_horizons config history rs cs h.1 i
+
 pub steps_of : (old new : Running) (event : EventValue) (outcome : ToldValue) → Steps old new event outcome → StepsOf old new event outcome
 steps_of old new event outcome (inl lacks) = λ items agree.
     let law = step_law_proof old.config items old.world agree event in
-    inl (lacks.0, lack_of old.config items event (ap is_first_outcome law.0 ∙ lacks.1))
+    let same = same_horizons old.config items.history items.replicas old.world.replicas agree.all_stand in
+    inl (lacks.0, lack_of old.config items event (ap is_first_outcome law.0 ∙ lacks.1), sym (ap (λ (hs : List ℕ). takes_memory_at hs event) same) ∙ lacks.2)
 steps_of old new event outcome (inr s) = λ items agree.
     let law = step_law_proof old.config items old.world agree event in
     inr (s.0 ∙ sym law.0, ap (λ (r : Running). r.config) s.1, subst (λ (w : World Content). Agree old.config (step (by_items old.config) old.config items event).1 w) (sym (ap (λ (r : Running). r.world) s.1)) law.1)

@@ -1,5 +1,5 @@
 -- What calls on a world, and on one of its replicas, tell and leave.
-use Rattle.std.specs.Prelude.{◌≡◌, ◌⊎◌, ℕ, Bool, true, false, not, ◌||◌, nat_lt, if◌then◌else◌, List, Option, Some, None, Result, Ok, Err, MatchResult}
+use Rattle.std.specs.Prelude.{◌≡◌, ◌⊎◌, ◌==◌, ℕ, Bool, true, false, not, ◌||◌, nat_lt, if◌then◌else◌, List, map, Option, Some, None, Result, Ok, Err, MatchResult}
 use Rattle.std.specs.FinMap as finmap
 use Rattle.hk_types.specs.Values.{ConfigValue}
 use Rattle.hk_model.specs.History.Rows.{row_key_cmp}
@@ -10,10 +10,13 @@ use Rattle.hk_types.specs.declared.faults.Refusal.{Refusal}
 use Rattle.hk_types.specs.declared.faults.Refusal.TheVariants.{Gap, AheadOfMark, TooOld, NotYet, WriteConflict, NoRow, TwiceWritten, TooManyWrites, NoStream, ClockFull, Retired, NoSuch, Memory}
 use Rattle.hk_model.specs.declared.query.Query.{Query}
 use Rattle.hk_model.specs.declared.told.Told.{Told}
+use Rattle.hk_model.specs.declared.took.Took.{Took}
+use Rattle.hk_model.specs.declared.took.Took.TheVariants.{Taken, Repeated}
 use Rattle.hk_model.specs.Replica.Content.{Content}
 use Rattle.hk_model.specs.World.Events.{told_seen}
-use Rattle.hk_model.specs.World.Worlds.{World, Replica, EventValue, ToldValue, Agree, asked_primary, with_at_number, step, by_items}
-use Rattle.hk_model.specs.World.Worlds.ToldValue.{Refused, Fronted, Answered}
+use Rattle.hk_model.specs.World.Worlds.{World, Replica, EventValue, ToldValue, Agree, asked_primary, at_number, with_at_number, step, by_items}
+use Rattle.hk_model.specs.World.Worlds.EventValue.{Prune, Merge, FrontOf}
+use Rattle.hk_model.specs.World.Worlds.ToldValue.{Refused, Fronted, Answered, Absorbed}
 use Rattle.hk_query.specs.Memory.{takes_memory}
 use Rattle.hk_primary.specs.Log.{PrimaryValue}
 use Rattle.hk_laws.specs.Running.{Running, step_outcome}
@@ -39,15 +42,43 @@ is_first (Gap base readable) = true
 is_first (AheadOfMark readable) = true
 is_first _ = false
 
--- whether such a refusal is told, or what takes no memory: a front, a count, or that there is no such row
+-- whether an item was known
+abbrev pub is_repeated : Took → Bool
+is_repeated Taken = false
+is_repeated Repeated = true
+
+-- whether such a refusal is told, or what takes no memory: a front, a count, that there is no such row, or that an item
+-- was known
 abbrev pub is_first_outcome : ToldValue → Bool
 is_first_outcome (Refused why) = is_first why
 is_first_outcome (Fronted horizon readable) = true
 is_first_outcome (Answered a) = not (takes_memory a)
+is_first_outcome (Absorbed took) = is_repeated took
 is_first_outcome _ = false
 
--- what was told, and what it left, are as expected; or memory ran out where no refusal is expected that is tested
--- before anything grows, and nothing changed
+-- the horizons of replicas
+abbrev pub horizons_of : List Content → List ℕ
+horizons_of replicas = map (λ c. c.horizon) replicas
+
+-- the same of replicas that are kept as items
+abbrev pub item_horizons : List Replica → List ℕ
+item_horizons replicas = map (λ r. r.horizon) replicas
+
+-- whether there is a horizon, and a time is above it
+abbrev pub is_above : Option ℕ → ℕ → Bool
+is_above None time = false
+is_above (Some horizon) time = nat_lt horizon time
+
+-- whether an event may take memory where the replicas have these horizons: a prune to at most its replica's horizon
+-- takes none, nor does a merge of a replica with itself, nor a front
+abbrev pub takes_memory_at : List ℕ → EventValue → Bool
+takes_memory_at horizons (Prune replica time) = is_above (at_number horizons replica) time
+takes_memory_at horizons (Merge to from) = not (to == from)
+takes_memory_at horizons (FrontOf replica) = false
+takes_memory_at horizons _ = true
+
+-- what was told, and what it left, are as expected; or memory ran out where nothing is expected that takes none, as a
+-- refusal that is tested before anything grows, and nothing changed
 abbrev pub Gives : {W : Type 0} → ToldValue × W → W → W → Result Told Refusal → Type 0
 Gives expected old new (Ok outcome) = (told_seen outcome ≡ expected.0) × (new ≡ expected.1) × (is_memory_outcome (told_seen outcome) ≡ false)
 Gives expected old new (Err why) = (why ≡ Memory) × (new ≡ old) × (is_first_outcome expected.0 ≡ false)
@@ -90,17 +121,20 @@ Turns old new event (Err why) = (why ≡ Memory) × (new ≡ old)
 -- so happened an event
 abbrev pub Happens : Running → Running → EventValue → Result Told Refusal → Type 0
 Happens old new event (Ok outcome) = (told_seen outcome ≡ (step_outcome old event).0) × (new ≡ (step_outcome old event).1) × (is_memory_outcome (told_seen outcome) ≡ false)
-Happens old new event (Err why) = (why ≡ Memory) × (new ≡ old) × (is_first_outcome (step_outcome old event).0 ≡ false)
+Happens old new event (Err why) =
+    (why ≡ Memory) × (new ≡ old) × (is_first_outcome (step_outcome old event).0 ≡ false)
+    × (takes_memory_at (horizons_of old.world.replicas) event ≡ true)
 
 -- it was told that memory ran out, and nothing changed
 abbrev pub Lacks : Running → Running → ToldValue → Type 0
 Lacks old new outcome = (outcome ≡ Refused Memory) × (new ≡ old)
 
--- the event told and left what the definition on contents gives; or it was told that memory ran out, where the definition
--- tells no refusal that is tested before anything grows
+-- the event told and left what the definition on contents gives; or it was told that memory ran out, where the event may
+-- take some, and the definition tells nothing that takes none, as a refusal that is tested before anything grows
 abbrev pub Steps : Running → Running → EventValue → ToldValue → Type 0
 Steps old new event outcome =
-    (Lacks old new outcome × (is_first_outcome (step_outcome old event).0 ≡ false))
+    (Lacks old new outcome × (is_first_outcome (step_outcome old event).0 ≡ false)
+    × (takes_memory_at (horizons_of old.world.replicas) event ≡ true))
     ⊎ ((outcome ≡ (step_outcome old event).0) × (new ≡ (step_outcome old event).1) × (is_memory_outcome outcome ≡ false))
 
 -- whether a transaction is refused for what it writes: by its writes, a conflict, a row that is not there, or a full clock
@@ -117,13 +151,15 @@ abbrev pub may_lack : ToldValue → Bool
 may_lack (Refused why) = is_of_writes why
 may_lack (Fronted horizon readable) = false
 may_lack (Answered a) = takes_memory a
+may_lack (Absorbed took) = not (is_repeated took)
 may_lack _ = true
 
 -- where the replicas represent items, at their horizons, the event told what the definition on items gives, and
--- each replica represents its items after it; or it was told that memory ran out, where that definition tells what takes
--- memory, or refuses a transaction for what it writes
+-- each replica represents its items after it; or it was told that memory ran out, where the event may take some, and that
+-- definition tells what takes memory, or refuses a transaction for what it writes
 abbrev pub StepsOf : Running → Running → EventValue → ToldValue → Type 0
 StepsOf old new event outcome =
     (items : World Replica) → Agree old.config items old.world →
     let after = step (by_items old.config) old.config items event in
-    (Lacks old new outcome × (may_lack after.0 ≡ true)) ⊎ ((outcome ≡ after.0) × (new.config ≡ old.config) × Agree old.config after.1 new.world)
+    (Lacks old new outcome × (may_lack after.0 ≡ true) × (takes_memory_at (item_horizons items.replicas) event ≡ true))
+    ⊎ ((outcome ≡ after.0) × (new.config ≡ old.config) × Agree old.config after.1 new.world)

@@ -7,7 +7,7 @@ use Rattle.hk_model.specs.World.Events.{event_seen, told_seen}
 use Rattle.hk_model.specs.World.Worlds.{World, Replica, EventValue, ToldValue, step, run, by_items, new_items}
 use Rattle.hk_types.specs.declared.faults.Refusal.TheVariants.{Memory}
 use Rattle.hk_model.specs.World.Worlds.ToldValue.{Refused}
-use Rattle.hk_laws.specs.Calls.{is_memory_outcome, may_lack}
+use Rattle.hk_laws.specs.Calls.{is_memory_outcome, item_horizons, may_lack, takes_memory_at}
 
 -- the events that were not told that memory ran out
 abbrev pub answered_events : List EventValue → List ToldValue → List EventValue
@@ -26,12 +26,15 @@ pub record Runs (config : ConfigValue) (replicas : ℕ) (events : List EventValu
   pub same : answers outcome ≡ run (by_items config) config (new_items replicas) (answered_events events outcome)
 
 -- Each event told what the definition on items gives, and left the world so; or it was told that memory ran out, where
--- that definition refuses nothing, or a transaction for what it writes, and left the world as it was.
+-- it may take some, and that definition refuses nothing, or a transaction for what it writes, and left the world as it
+-- was.
 abbrev pub TellsEach : ConfigValue → World Replica → List EventValue → List ToldValue → Type 0
 TellsEach config items [] [] = Unit {0}
 TellsEach config items (e ∷ events) (t ∷ outcome) =
     let after = step (by_items config) config items e in
-    ((t ≡ Refused Memory) × (may_lack after.0 ≡ true) × TellsEach config items events outcome) ⊎ ((t ≡ after.0) × TellsEach config after.1 events outcome)
+    ((t ≡ Refused Memory) × (may_lack after.0 ≡ true) × (takes_memory_at (item_horizons items.replicas) e ≡ true)
+    × TellsEach config items events outcome)
+    ⊎ ((t ≡ after.0) × TellsEach config after.1 events outcome)
 TellsEach config items [] (t ∷ outcome) = ⊥
 TellsEach config items (e ∷ events) [] = ⊥
 

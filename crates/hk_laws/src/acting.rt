@@ -1,6 +1,6 @@
 //! What one replica does and returns.
 
-ghost use Rattle.std.specs.Prelude.{◌≡◌, Result, IfOk, IfErr, OnErr, false};
+ghost use Rattle.std.specs.Prelude.{◌≡◌, ◌<◌, Result, IfOk, IfErr, OnErr, false};
 ghost use Rattle.hk_types.specs.declared.faults.Refusal.TheVariants.{Memory};
 ghost use Rattle.hk_model.specs.Replica.Answers.{reply};
 ghost use Rattle.hk_model.specs.Replica.Content.{readable};
@@ -36,9 +36,10 @@ pub(crate) fn absorb(state: &mut ReplicaState, item: &Item) -> Result<Told, Refu
     }
 }
 
-/// A replica is pruned to a time.
+/// A replica is pruned to a time. To at most its oldest readable time it takes no memory.
 pub(crate) fn prune(state: &mut ReplicaState, horizon: Time) -> Result<Told, Refusal>
-    ensures { Gives (outcome_by state.old (rules.prune_result state.old horizon)) state.old state.new result }
+    ensures gives { Gives (outcome_by state.old (rules.prune_result state.old horizon)) state.old state.new result }
+    ensures above { OnErr result (state.old.horizon < horizon) }
 {
     match state.prune(horizon) {
         Ok(()) => Ok(Told::Done),

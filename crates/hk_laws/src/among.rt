@@ -1,10 +1,12 @@
 //! What happens to one replica of a list.
 
-ghost use Rattle.std.specs.Prelude.{◌≡◌, ◌≢◌, ◌+◌, ◌<◌, length, Ok};
+ghost use Rattle.std.specs.Prelude.{◌≡◌, ◌≢◌, ◌+◌, ◌<◌, length, true, Ok, OnErr};
 ghost use Rattle.hk_model.specs.World.Events.{told_seen};
 ghost use Rattle.hk_model.specs.Replica.Rules as rules;
+ghost use Rattle.hk_model.specs.World.Worlds.EventValue.{Merge, Prune};
 ghost use Rattle.hk_model.specs.World.Worlds.ToldValue.{Done};
 ghost use Rattle.hk_laws.specs.Among.{AbsorbsAt, JoinsBatch, JoinsDelta, MergesAt, PrunesAt, RefusesDelta};
+ghost use Rattle.hk_laws.specs.Calls.{horizons_of, takes_memory_at};
 
 use crate::acting::{self, refused};
 use crate::joining;
@@ -34,13 +36,14 @@ pub(crate) fn absorb(
     acting::absorb(&mut replicas[place], item)
 }
 
-/// A replica is pruned to a time.
+/// A replica is pruned to a time. To at most its oldest readable time it takes no memory.
 pub(crate) fn prune(
     replicas: &mut [ReplicaState],
     replica: u16,
     horizon: Time,
 ) -> Result<Told, Refusal>
-    ensures { PrunesAt replicas.old replicas.new replica horizon result }
+    ensures prunes { PrunesAt replicas.old replicas.new replica horizon result }
+    ensures takes { OnErr result (takes_memory_at (horizons_of replicas.old) (Prune replica horizon) ≡ true) }
 {
     let Some(place) = place_of(replicas, replica) else {
         return Ok(Told::Refused(Refusal::NoSuch));
@@ -129,9 +132,10 @@ fn merge_apart(replicas: &mut [ReplicaState], to: usize, from: usize) -> Result<
     joining::merge(&mut high[0], &low[from])
 }
 
-/// A replica is merged into another one. Merged into itself it does not change.
+/// A replica is merged into another one. Merged into itself it does not change, and takes no memory.
 pub(crate) fn merge(replicas: &mut [ReplicaState], to: u16, from: u16) -> Result<Told, Refusal>
-    ensures { MergesAt replicas.old replicas.new to from result }
+    ensures merges { MergesAt replicas.old replicas.new to from result }
+    ensures takes { OnErr result (takes_memory_at (horizons_of replicas.old) (Merge to from) ≡ true) }
 {
     let Some(target) = place_of(replicas, to) else {
         return Ok(Told::Refused(Refusal::NoSuch));

@@ -127,7 +127,7 @@ impl World {
         among::batch(self.alloc, config, &mut self.replicas, replica, log, items)
     }
 
-    /// A replica is merged into another one, or into itself, which leaves it as it is.
+    /// A replica is merged into another one, or into itself, which leaves it as it is and takes no memory.
     pub(crate) fn merge(&mut self, to: u16, from: u16) -> Result<Told, Refusal>
         ensures { Happens self.old self.new (Merge to from) result }
     {

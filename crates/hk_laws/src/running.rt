@@ -25,8 +25,8 @@ fn push_outcome(list: &mut Vec<Told>, outcome: Told)
 ///
 /// The only refusal is `Memory`, where the world or the list of answers could not be made. An event whose outcome is
 /// `Memory` changes nothing, and the others have the outcomes that they would have without it; an event has this
-/// outcome as in `World::step`: only where nothing else is refused, or a transaction for what it writes. Cost: that
-/// of the events.
+/// outcome as in `World::step`: only where it may take memory, and nothing else is refused, or a transaction for what
+/// it writes. Cost: that of the events.
 pub fn run(
     alloc: Global,
     config: Config,

@@ -45,9 +45,10 @@ impl World {
     /// a commit, `Primary::mark` for a mark, `ReplicaState::absorb` and `prune`, `fragment_of` and `join` for a
     /// batch, `merge`, `delta_since` and `join` for a delta, and `ask`. `Memory` comes where a growth was refused,
     /// and last: where the replicas represent items, only where nothing else is refused, or a transaction for what it
-    /// writes. A refusal changes nothing. A merge of a replica with itself changes nothing. Cost: that of those
-    /// calls; the items of a batch are copied, and no replica is. Where a commit is refused `NoStream` or `NotYet`:
-    /// O(w²), w writes, up to 1,024.
+    /// writes. It never comes for an item that is repeated, a prune to at most the replica's oldest readable time, a
+    /// merge of a replica with itself, a front, a count or a row that is not there. A refusal changes nothing. A merge
+    /// of a replica with itself changes nothing. Cost: that of those calls; the items of a batch are copied, and no
+    /// replica is. Where a commit is refused `NoStream` or `NotYet`: O(w²), w writes, up to 1,024.
     pub fn step(&mut self, event: Event) -> Told
         ensures gives { Steps self.old self.new (event_seen event) (told_seen result) }
         ensures represents { StepsOf self.old self.new (event_seen event) (told_seen result) }

@@ -1,4 +1,4 @@
-use Rattle.std.proofs.Common.{◌≡◌, sym, ap, ◌∙◌, subst, List, Option, Err, Result, MatchOption}
+use Rattle.std.proofs.Common.{◌≡◌, refl, sym, ap, ◌∙◌, subst, List, Option, Err, Result, MatchOption}
 use Rattle.std.specs.FinMap as finmap
 use Rattle.hk_types.specs.declared.faults.Refusal.{Refusal}
 use Rattle.hk_model.specs.History.Commits.{writes_result, commit_result}
@@ -14,7 +14,7 @@ use Rattle.hk_laws.proofs.world.World.commit.Goals as goal
 pub returns : goal.returns
 returns c =
     let old = c.args.self.now in
-    turned old c.build_and_commit.new.self (Commit c.args.stream c.args.read_at c.args.writes.items) c.build_and_commit.result c.build_and_commit.ensures (open_first old.config old.world c.args.stream c.args.read_at c.args.writes.items (sym c.in_default.ensures))
+    turned old c.build_and_commit.new.self (Commit c.args.stream c.args.read_at c.args.writes.items) c.build_and_commit.result c.build_and_commit.ensures (open_first old.config old.world c.args.stream c.args.read_at c.args.writes.items (sym c.in_default.ensures)) refl
 
 pub returns-in-Some : goal.returns-in-Some
 returns-in-Some c =
