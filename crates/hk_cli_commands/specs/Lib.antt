@@ -1,2 +1,3 @@
+pub mod Absorbing
 pub mod Scripts
 pub mod Statuses

@@ -1,6 +1,7 @@
 //! The commands `at`, `ask`, `front` and `status`.
 
-ghost use Rattle.std.specs.Prelude.{◌≤◌};
+ghost use Rattle.std.specs.Prelude.{◌≤◌, OnOk};
+ghost use Rattle.hk_cli_commands.specs.Absorbing.{Takes};
 
 use crate::frames::{Sink, hand_items};
 use crate::output::Output;
@@ -31,7 +32,9 @@ impl Absorber {
 }
 
 impl Sink for Absorber {
-    fn take(&mut self, item: Item) -> Result<(), Stop> {
+    fn take(&mut self, item: Item) -> Result<(), Stop>
+        ensures { OnOk result (Takes self.old.state item self.new.state) }
+    {
         let _took = self.state.absorb_owned(item)?;
         Ok(())
     }

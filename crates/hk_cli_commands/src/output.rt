@@ -4,11 +4,13 @@ ghost use Rattle.std.specs.Prelude.{◌≡◌};
 
 use crate::flaw::{Flaw, put_bad_line};
 use crate::json::{LineFault, put_bad_item};
+use crate::status::put_streams;
 use crate::stop::Stop;
 use hk_cli_calls::{NodePlace, OutputForm};
 use hk_cli_json::InJson;
 use hk_cli_lines::Printed;
 use hk_cli_reasons::{Origin, Place, RequestContext, put_known, put_reason};
+use hk_marks::Got;
 use hk_model::{Front, Told};
 use hk_types::Refusal;
 use std::alloc::{AllocError, Global};
@@ -121,6 +123,12 @@ impl<'a, W: Write, E: Write> Output<'a, W, E> {
             OutputForm::Json => self.print_json(&front),
             OutputForm::Lines | OutputForm::Bytes => self.print(&Told::Fronted(front)),
         }
+    }
+
+    /// Adds the lines of the streams, how far each is: each line whole or not at all. Cost: O(s²), s streams.
+    pub(crate) fn show_streams(&mut self, got: &Got) -> Result<(), Stop> {
+        put_streams(self.alloc, self.form, got, &mut self.next, &mut self.lines)?;
+        Ok(())
     }
 
     /// Adds a value's line of JSON, all of it or nothing. Cost: as that of `print`.

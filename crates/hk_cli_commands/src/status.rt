@@ -1,6 +1,6 @@
 //! How far each stream of a replica is.
 
-ghost use Rattle.std.specs.Prelude.{◌≡◌, ◌≤◌, ◌++◌, ℕ, nat_le, length, OnOk};
+ghost use Rattle.std.specs.Prelude.{◌≡◌, ◌≤◌, ◌++◌, ℕ, nat_le, length, Some, OnOk};
 ghost use Rattle.hk_model.specs.Replica.Streams.{covers, stream_at};
 ghost use Rattle.std.specs.FinMap as finmap;
 ghost use Rattle.std.specs.FinSet as set;
@@ -10,11 +10,12 @@ ghost use Rattle.hk_cli_commands.specs.Statuses as spec;
 
 use crate::output::Output;
 use crate::stop::Stop;
+use hk_cli_calls::OutputForm;
 use hk_cli_json::{InJson, StreamLine};
 use hk_cli_lines::Printed;
 use hk_marks::Got;
 use hk_model::Front;
-use hk_types::{StreamNo, Time};
+use hk_types::{Refusal, StreamNo, Time};
 use std::alloc::{AllocError, Global};
 use std::io::Write;
 
@@ -85,6 +86,7 @@ pub fn stream_status(got: &Got, stream: StreamNo) -> StreamStatus
     ensures closed { result.closed ≡ (stream_at got.now stream).closed }
     ensures waiting { result.waiting ≡ finmap.len (stream_at got.now stream).waiting }
     ensures standing { result.standing ≡ spec.standing_of (stream_at got.now stream).closed got.now }
+    ensures whole { result ≡ spec.status_of got.now stream }
 {
     StreamStatus {
         stream,
@@ -140,7 +142,9 @@ impl Printed for StreamStatus {
     }
 }
 
-fn word_of(standing: Standing) -> &'static str {
+fn word_of(standing: Standing) -> &'static str
+    ensures { result.now ≡ spec.word_of standing }
+{
     match standing {
         Standing::Open => "open",
         Standing::Holds => "holds",
@@ -149,6 +153,8 @@ fn word_of(standing: Standing) -> &'static str {
 }
 
 impl InJson for StreamStatus {
+    ghost json = { λ status. Some (spec.status_json status) };
+
     fn json_to(&self, alloc: Global, out: &mut String) -> Result<(), AllocError> {
         let line = StreamLine {
             stream: self.stream,
@@ -162,15 +168,49 @@ impl InJson for StreamStatus {
     }
 }
 
+/// Adds the line of a stream in a form, all of it or nothing; it is made in `next`.
+fn put_whole(
+    alloc: Global,
+    form: OutputForm,
+    status: &StreamStatus,
+    next: &mut String,
+    lines: &mut String,
+) -> Result<(), AllocError>
+    ensures { OnOk result (string_bytes lines.new ≡ string_bytes lines.old ++ spec.line_in form status.now) }
+{
+    next.clear();
+    match form {
+        OutputForm::Json => status.json_to(alloc, next)?,
+        OutputForm::Lines | OutputForm::Bytes => status.print_to(alloc, next)?,
+    }
+    lines.push_str(next)
+}
+
+/// Adds the lines of the streams in a form, in their order, as `put_whole` does. The only error is out of memory; then the
+/// lines of the first streams were added.
+#[tactic(auto, using(std::proofs::Common::append_assoc))]
+pub(crate) fn put_streams(
+    alloc: Global,
+    form: OutputForm,
+    got: &Got,
+    next: &mut String,
+    lines: &mut String,
+) -> Result<(), Refusal>
+    ensures { OnOk result (string_bytes lines.new ≡ string_bytes lines.old ++ spec.all_lines form got.now) }
+{
+    for index in 0..got.streams() {
+        let stream = StreamNo::new(index + 1)?;
+        put_whole(alloc, form, &stream_status(got, stream), next, lines)?;
+    }
+    Ok(())
+}
+
 /// Adds a line of each stream, how far it is, and then one with the range of readable times. Cost: O(s²), s streams.
 pub fn put_status<W: Write, E: Write>(
     got: &Got,
     front: Front,
     output: &mut Output<'_, W, E>,
 ) -> Result<(), Stop> {
-    for index in 0..got.streams() {
-        let stream = StreamNo::new(index + 1)?;
-        output.show(&stream_status(got, stream))?;
-    }
+    output.show_streams(got)?;
     output.show_front(front)
 }

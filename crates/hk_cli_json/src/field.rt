@@ -1,5 +1,8 @@
 //! The fields of lines that are read.
 
+ghost use Rattle.std.specs.Prelude.{◌≡◌, IfSome};
+ghost use Rattle.hk_cli_json.specs.Reading as spec;
+
 use hk_types::{MOST_BODY_BYTES, StreamNo, Time};
 use serde::{Deserialize, Deserializer, Format};
 use std::alloc::Global;
@@ -9,7 +12,9 @@ use std::alloc::Global;
 pub(crate) struct Wide(pub(crate) u64);
 
 /// The number that decimal digits alone make.
-fn number_of(digits: &str) -> Option<u64> {
+fn number_of(digits: &str) -> Option<u64>
+    ensures { IfSome result (λ n. spec.Writes digits.now n) }
+{
     if digits.is_empty() || !digits.bytes().all(|byte| byte.is_ascii_digit()) {
         return None;
     }
@@ -69,7 +74,9 @@ pub(crate) struct Body(String);
 
 impl Body {
     /// The bytes of these digits.
-    pub(crate) fn bytes(&self, alloc: Global) -> Option<Vec<u8>> {
+    pub(crate) fn bytes(&self, alloc: Global) -> Option<Vec<u8>>
+        ensures { IfSome result (λ bytes. bytes.items ≡ spec.body_of self.now) }
+    {
         hex::decode(alloc, &self.0).ok()
     }
 }

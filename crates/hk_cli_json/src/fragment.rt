@@ -1,6 +1,8 @@
 //! Fragments in JSON: a line of its head, and one of each version.
 
-ghost use Rattle.std.specs.Prelude.{◌≤◌, length};
+ghost use Rattle.std.specs.Prelude.{◌≡◌, ◌≤◌, ◌++◌, length, Some, OnOk};
+ghost use Rattle.std.specs.String.{string_bytes};
+ghost use Rattle.hk_cli_json.specs.Fragments as spec;
 
 use crate::line::{InJson, put_comma};
 use crate::row::put_maybe_row;
@@ -11,7 +13,9 @@ use hk_types::{StreamNo, Time, VersionKey};
 use std::alloc::{AllocError, Global};
 
 /// Adds up to which number all entries of a stream are applied.
-fn put_prefix(prefix: u64, out: &mut String) -> Result<(), AllocError> {
+fn put_prefix(prefix: u64, out: &mut String) -> Result<(), AllocError>
+    ensures { OnOk result (string_bytes out.new ≡ string_bytes out.old ++ spec.prefix_part prefix) }
+{
     write!(out, "{{\"prefix\":\"{prefix}\",\"extra\":[")
 }
 
@@ -33,12 +37,16 @@ fn put_extra(got: &Got, stream: StreamNo, out: &mut String) -> Result<(), AllocE
 }
 
 /// Adds up to when a stream is closed.
-fn put_closed(closed: Time, out: &mut String) -> Result<(), AllocError> {
+fn put_closed(closed: Time, out: &mut String) -> Result<(), AllocError>
+    ensures { OnOk result (string_bytes out.new ≡ string_bytes out.old ++ spec.closed_part closed) }
+{
     write!(out, "],\"closed\":\"{closed}\",\"waiting\":[")
 }
 
 /// Adds a mark that waits for entries.
-fn put_mark(index: usize, n: u64, m: Time, out: &mut String) -> Result<(), AllocError> {
+fn put_mark(index: usize, n: u64, m: Time, out: &mut String) -> Result<(), AllocError>
+    ensures { OnOk result (string_bytes out.new ≡ string_bytes out.old ++ spec.mark_part index n m) }
+{
     put_comma(index, out)?;
     write!(out, "{{\"n\":\"{n}\",\"m\":\"{m}\"}}")
 }
@@ -75,10 +83,9 @@ fn put_streams(got: &Got, out: &mut String) -> Result<(), AllocError> {
 #[derive(Clone, Copy)]
 pub struct FragmentSummary<'a>(pub &'a Fragment);
 
-fn put_head(fragment: &Fragment, out: &mut String) -> Result<(), AllocError> {
-    let log = fragment.config().log();
-    let base = fragment.base();
-    let horizon = fragment.horizon();
+fn put_head(log: u64, base: Time, horizon: Time, out: &mut String) -> Result<(), AllocError>
+    ensures { OnOk result (string_bytes out.new ≡ string_bytes out.old ++ spec.head_part log base horizon) }
+{
     write!(
         out,
         "{{\"fragment\":{{\"log\":\"{log}\",\"base\":\"{base}\",\"horizon\":\"{horizon}\",\"streams\":["
@@ -86,20 +93,25 @@ fn put_head(fragment: &Fragment, out: &mut String) -> Result<(), AllocError> {
 }
 
 /// Adds how many facts there are, and the end of the line.
-fn put_count(facts: usize, out: &mut String) -> Result<(), AllocError> {
+fn put_count(facts: usize, out: &mut String) -> Result<(), AllocError>
+    ensures { OnOk result (string_bytes out.new ≡ string_bytes out.old ++ spec.count_part facts) }
+{
     writeln!(out, "],\"facts\":\"{facts}\"}}}}")
 }
 
 impl InJson for FragmentSummary<'_> {
     fn json_to(&self, _alloc: Global, out: &mut String) -> Result<(), AllocError> {
         let fragment = self.0;
-        put_head(fragment, out)?;
+        let log = fragment.config().log();
+        put_head(log, fragment.base(), fragment.horizon(), out)?;
         put_streams(fragment.got(), out)?;
         put_count(fragment.facts().len(), out)
     }
 }
 
-fn put_key(key: &VersionKey, out: &mut String) -> Result<(), AllocError> {
+fn put_key(key: &VersionKey, out: &mut String) -> Result<(), AllocError>
+    ensures { OnOk result (string_bytes out.new ≡ string_bytes out.old ++ spec.key_part key.now) }
+{
     let table = key.table;
     let born = key.born;
     let key = key.key;
@@ -109,7 +121,9 @@ fn put_key(key: &VersionKey, out: &mut String) -> Result<(), AllocError> {
     )
 }
 
-fn put_died(died: Option<Time>, out: &mut String) -> Result<(), AllocError> {
+fn put_died(died: Option<Time>, out: &mut String) -> Result<(), AllocError>
+    ensures { OnOk result (string_bytes out.new ≡ string_bytes out.old ++ spec.died_part died) }
+{
     match died {
         Some(time) => writeln!(out, ",\"died\":\"{time}\"}}}}"),
         None => out.push_str(",\"died\":null}}\n"),
@@ -117,6 +131,9 @@ fn put_died(died: Option<Time>, out: &mut String) -> Result<(), AllocError> {
 }
 
 impl InJson for (VersionKey, Version) {
+    ghost json = { λ fact. Some (spec.fact_line fact) };
+
+    #[tactic(auto, using(std::proofs::Common::append_assoc))]
     fn json_to(&self, alloc: Global, out: &mut String) -> Result<(), AllocError> {
         let (key, version) = self;
         put_key(key, out)?;

@@ -1,5 +1,9 @@
 //! Items in JSON.
 
+ghost use Rattle.std.specs.Prelude.{◌≡◌, ◌++◌, Some, OnOk};
+ghost use Rattle.std.specs.String.{string_bytes};
+ghost use Rattle.hk_cli_json.specs.Items as spec;
+
 use crate::line::{InJson, put_comma};
 use crate::row::put_row;
 use hk_log::{Entry, Item, Mark};
@@ -7,7 +11,9 @@ use hk_types::{Key, Row, Table, VersionKey};
 use std::alloc::{AllocError, Global};
 
 /// Adds a version that an entry ends.
-fn put_end(end: &VersionKey, out: &mut String) -> Result<(), AllocError> {
+fn put_end(end: &VersionKey, out: &mut String) -> Result<(), AllocError>
+    ensures { OnOk result (string_bytes out.new ≡ string_bytes out.old ++ spec.end_text end.now) }
+{
     let table = end.table;
     let key = end.key;
     let born = end.born;
@@ -24,12 +30,16 @@ fn put_placed(
     key: Key,
     row: &Row,
     out: &mut String,
-) -> Result<(), AllocError> {
+) -> Result<(), AllocError>
+    ensures { OnOk result (string_bytes out.new ≡ string_bytes out.old ++ spec.placed_text (table, key, row.now)) }
+{
     write!(out, "{{\"table\":{table},\"key\":\"{key}\",")?;
     put_row(alloc, row, out)
 }
 
-fn put_ends(ends: &[VersionKey], out: &mut String) -> Result<(), AllocError> {
+fn put_ends(ends: &[VersionKey], out: &mut String) -> Result<(), AllocError>
+    ensures { OnOk result (string_bytes out.new ≡ string_bytes out.old ++ spec.entry_ends ends.now) }
+{
     out.push_str(",\"ends\":[")?;
     for (index, end) in ends.iter().enumerate() {
         put_comma(index, out)?;
@@ -38,7 +48,9 @@ fn put_ends(ends: &[VersionKey], out: &mut String) -> Result<(), AllocError> {
     Ok(())
 }
 
-fn put_rows(alloc: Global, rows: &[(Table, Key, Row)], out: &mut String) -> Result<(), AllocError> {
+fn put_rows(alloc: Global, rows: &[(Table, Key, Row)], out: &mut String) -> Result<(), AllocError>
+    ensures { OnOk result (string_bytes out.new ≡ string_bytes out.old ++ spec.entry_rows rows.now) }
+{
     out.push_str("],\"rows\":[")?;
     for (index, (table, key, row)) in rows.iter().enumerate() {
         put_comma(index, out)?;
@@ -48,7 +60,9 @@ fn put_rows(alloc: Global, rows: &[(Table, Key, Row)], out: &mut String) -> Resu
 }
 
 /// Adds which entry it is.
-fn put_place(entry: &Entry, out: &mut String) -> Result<(), AllocError> {
+fn put_place(entry: &Entry, out: &mut String) -> Result<(), AllocError>
+    ensures { OnOk result (string_bytes out.new ≡ string_bytes out.old ++ spec.entry_head entry.now) }
+{
     let log = entry.log();
     let stream = entry.stream();
     let number = entry.number();
@@ -59,13 +73,18 @@ fn put_place(entry: &Entry, out: &mut String) -> Result<(), AllocError> {
     )
 }
 
-fn put_entry(alloc: Global, entry: &Entry, out: &mut String) -> Result<(), AllocError> {
+#[tactic(auto, using(std::proofs::Common::append_assoc))]
+fn put_entry(alloc: Global, entry: &Entry, out: &mut String) -> Result<(), AllocError>
+    ensures { OnOk result (string_bytes out.new ≡ string_bytes out.old ++ spec.entry_line entry.now) }
+{
     put_place(entry, out)?;
     put_ends(entry.ends(), out)?;
     put_rows(alloc, entry.rows(), out)
 }
 
-fn put_mark(mark: &Mark, out: &mut String) -> Result<(), AllocError> {
+fn put_mark(mark: &Mark, out: &mut String) -> Result<(), AllocError>
+    ensures { OnOk result (string_bytes out.new ≡ string_bytes out.old ++ spec.mark_line mark.now) }
+{
     let log = mark.log();
     let stream = mark.stream();
     let n = mark.n();
@@ -77,6 +96,8 @@ fn put_mark(mark: &Mark, out: &mut String) -> Result<(), AllocError> {
 }
 
 impl InJson for Item {
+    ghost json = { λ item. Some (spec.item_line item) };
+
     fn json_to(&self, alloc: Global, out: &mut String) -> Result<(), AllocError> {
         match self {
             Item::Commit(entry) => put_entry(alloc, entry, out),

@@ -1,5 +1,9 @@
 //! Items from JSON.
 
+ghost use Rattle.std.specs.Prelude.{◌≡◌, map, IfOk};
+ghost use Rattle.hk_log.specs.declared.item.Item.TheVariants.{Commit, Closed};
+ghost use Rattle.hk_cli_json.specs.Reading as spec;
+
 use crate::field::{Body, Wide};
 use crate::item_line::{EndLine, EntryLine, ItemLine, MarkLine, RowLine};
 use hk_log::{Entry, Item, Mark};
@@ -34,15 +38,21 @@ impl BadItem {
     }
 }
 
-fn table_of(number: u16) -> Table {
+fn table_of(number: u16) -> Table
+    ensures { result ≡ number }
+{
     Table::new(number)
 }
 
-fn key_of(number: Wide) -> Key {
+fn key_of(number: Wide) -> Key
+    ensures { result ≡ number.0 }
+{
     Key::new(number.0)
 }
 
-fn row_of(alloc: Global, tag: u32, body: &Body) -> Result<Row, BadItem> {
+fn row_of(alloc: Global, tag: u32, body: &Body) -> Result<Row, BadItem>
+    ensures { IfOk result (λ row. row ≡ record { tag = tag; body = spec.body_of body.now }) }
+{
     let Some(bytes) = body.bytes(alloc) else {
         return Err(BadItem::Memory);
     };
@@ -52,7 +62,9 @@ fn row_of(alloc: Global, tag: u32, body: &Body) -> Result<Row, BadItem> {
     }
 }
 
-fn ends_of(alloc: Global, lines: &[EndLine]) -> Result<Vec<VersionKey>, BadItem> {
+fn ends_of(alloc: Global, lines: &[EndLine]) -> Result<Vec<VersionKey>, BadItem>
+    ensures { IfOk result (λ ends. ends.items ≡ map spec.end_of lines.now) }
+{
     let mut ends = Vec::new(alloc);
     for line in lines {
         let end = VersionKey {
@@ -65,7 +77,9 @@ fn ends_of(alloc: Global, lines: &[EndLine]) -> Result<Vec<VersionKey>, BadItem>
     Ok(ends)
 }
 
-fn rows_of(alloc: Global, lines: &[RowLine]) -> Result<Vec<(Table, Key, Row)>, BadItem> {
+fn rows_of(alloc: Global, lines: &[RowLine]) -> Result<Vec<(Table, Key, Row)>, BadItem>
+    ensures { IfOk result (λ rows. rows.items ≡ map spec.row_of lines.now) }
+{
     let mut rows = Vec::new(alloc);
     for line in lines {
         let row = row_of(alloc, line.tag, &line.body)?;
@@ -75,7 +89,9 @@ fn rows_of(alloc: Global, lines: &[RowLine]) -> Result<Vec<(Table, Key, Row)>, B
     Ok(rows)
 }
 
-fn entry_of(alloc: Global, line: &EntryLine) -> Result<Item, BadItem> {
+fn entry_of(alloc: Global, line: &EntryLine) -> Result<Item, BadItem>
+    ensures { IfOk result (λ item. item ≡ Commit (spec.entry_of line.now)) }
+{
     let ends = ends_of(alloc, &line.ends)?;
     let rows = rows_of(alloc, &line.rows)?;
     let entry = Entry::new(
@@ -89,7 +105,9 @@ fn entry_of(alloc: Global, line: &EntryLine) -> Result<Item, BadItem> {
     Ok(Item::Commit(entry))
 }
 
-fn mark_of(line: &MarkLine) -> Result<Item, BadItem> {
+fn mark_of(line: &MarkLine) -> Result<Item, BadItem>
+    ensures { IfOk result (λ item. item ≡ Closed (spec.mark_of line.now)) }
+{
     let mark = Mark::new(line.log.0, line.stream.0, line.n.0, line.m.0)?;
     Ok(Item::Closed(mark))
 }
