@@ -78,7 +78,7 @@ impl<J: NodeName> SeatHost<J> {
     }
 
     /// Applies the receipt of a change that was just made, and returns the number of its operations, more than the seat had
-    /// seen. A receipt of no more than that doesn't come; the change is told then as one that waits to be shown.
+    /// seen. A receipt of no more than that doesn't come; the change is reported then as one that waits to be shown.
     pub(crate) fn learn(&mut self, receipt: Receipt<J>) -> Result<u64, Refusal>
         ensures legal { is_legal self.new ≡ true }
         ensures seen { IsPrefix self.old self.new }
