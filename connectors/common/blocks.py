@@ -46,6 +46,8 @@ class Block(NamedTuple):
     last: int
     latest: int  # the greatest time that its entries and marks speak of
     marked: int  # the greatest m of its marks, or 0
+    earliest: int = 0  # the time of its first entry, or 0
+    name: str = ""  # of the message, with its stream; empty where it is in none yet
 
 
 class Framed(NamedTuple):
@@ -62,7 +64,7 @@ class Framed(NamedTuple):
 def walked(data: bytes, last: int, log: int, stream: int, name: str) -> Block:
     """The block of a message of which the engine says that its last entry is `last`. Looks at the heads alone; 3 where
     it is no block of this stream, or another one than the engine says."""
-    at, count, first, number, latest, marked, counted, size = 0, 0, 0, 0, 0, 0, 0, len(data)
+    at, count, first, number, earliest, latest, marked, counted, size = 0, 0, 0, 0, 0, 0, 0, 0, len(data)
     while at + 32 <= size:
         length, version, kind, its_log, its_stream, its_first, time = _HEAD(data, at)
         if (
@@ -74,24 +76,42 @@ def walked(data: bytes, last: int, log: int, stream: int, name: str) -> Block:
         ):
             break
         if kind == 1:
-            if first and its_first != number + 1:
-                raise Broken(3, f"{name} is no block of this stream: entry {its_first} stands behind entry {number}")
-            first, number = first or its_first, its_first
+            if not first:
+                first, earliest = its_first, time
+            elif its_first != number + 1:
+                raise no_block(name, misplaced(its_first, number))
+            number = its_first
         else:
             counted, marked = max(counted, its_first - (number - first + 1 if first else 0)), max(marked, time)
         if time > latest:
             latest = time
+        elif kind == 1:
+            raise no_block(name, closed(its_first))
         at, count = at + 4 + length, count + 1
     if at != size or not count:
-        raise Broken(
-            3, f"{name} is no block of this stream: {reason(data[at:]) if at <= size else 'its last frame is cut off'}"
-        )
+        raise no_block(name, reason(data[at:]) if at <= size else "its last frame is cut off")
     if first and number != last:
-        raise Broken(3, f"{name} is no block of this stream: its last entry is {number}, and it says {last}")
+        raise no_block(name, f"its last entry is {number}, and it says {last}")
     first = first or last + 1
     if counted > first - 1:
-        raise Broken(3, f"{name} is no block of this stream: a mark counts entries that come behind it")
-    return Block(data, count, first, last, latest, marked)
+        raise no_block(name, AHEAD)
+    return Block(data, count, first, last, latest, marked, earliest, name)
+
+
+AHEAD = "a mark counts entries that come behind it"
+
+
+def no_block(name: str, why: str) -> Broken:
+    """What is said of a message that is no block, or of the bytes of a file that begin no item."""
+    return Broken(3, f"{name} is no block of this stream: {why}")
+
+
+def misplaced(number: int, before: int) -> str:
+    return f"entry {number} stands behind entry {before}"
+
+
+def closed(number: int) -> str:
+    return f"entry {number} is of a time that the entries or marks before it have closed"
 
 
 def reason(rest: bytes) -> str:

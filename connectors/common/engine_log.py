@@ -6,7 +6,7 @@ import abc
 import argparse
 from typing import Any, Callable, Dict, Iterator, List, NamedTuple, Optional, Tuple, Type
 
-from blocks import BLOCK_BYTES, BLOCK_FRAMES, Block, Broken, Framed, entries_of, time_of
+from blocks import BLOCK_BYTES, BLOCK_FRAMES, Block, Broken, Framed, closed, entries_of, no_block, time_of
 
 USAGE = 64
 
@@ -42,6 +42,8 @@ class EngineLog(abc.ABC):
     def __init__(self, log: int, streams: int) -> None:
         self.log, self.streams = log, streams
         self.seen: Dict[int, Dict[int, bytes]] = {}  # the entries of the block of each stream that was looked at last
+        self.names: Dict[int, str] = {}  # and its message
+        self.say: Callable[[str], None] = lambda text: None  # a line on standard error
 
     @abc.abstractmethod
     def is_passing(self, error: BaseException) -> bool:
@@ -57,6 +59,23 @@ class EngineLog(abc.ABC):
 
     def prepare(self) -> None:
         """Makes what a publisher needs."""
+
+    def more_streams(self) -> List[int]:
+        """Streams of this log above `streams` that the engine has, as far as it can be asked for them."""
+        return []
+
+    def see_streams(self) -> None:
+        """3 where the log has more streams than was said: what is in those would never be read."""
+        more = self.more_streams()
+        if more:
+            raise Broken(
+                3,
+                f"stream {more[0]}: {self.key(more[0])} is there, and --streams says that the log has {self.streams}",
+            )
+
+    def left_over(self) -> List[str]:
+        """What stands at the end and is no block yet, a line for each."""
+        return []
 
     # ------------------------------------------------------------ how far it is
 
@@ -76,6 +95,10 @@ class EngineLog(abc.ABC):
     @abc.abstractmethod
     def gone(self, stream: int) -> Optional[int]:
         """How many messages of the stream are there no more; None where the engine doesn't count them."""
+
+    def deleted(self, stream: int) -> int:
+        """Entries up to this one may have been deleted one by one; 0 where none were, or the engine doesn't know."""
+        return 0
 
     @abc.abstractmethod
     def holding(self, stream: int, number: int) -> Optional[Block]:
@@ -97,39 +120,88 @@ class EngineLog(abc.ABC):
         once."""
 
     def tail(self, stream: int) -> Tail:
+        """How far a stream is. Of what is there, the last two blocks at least go on one behind the other (2, 3)."""
         place, number, blocks = self.end(stream)
         latest = marked = 0
         has_entry = False
+        behind: Optional[Block] = None
         for block in blocks:
+            if behind is not None:
+                self.see_next(stream, block, behind)
             latest, marked = max(latest, block.latest), max(marked, block.marked)
             has_entry = has_entry or block.last >= block.first
-            if marked:
+            if marked and behind is not None:
                 break
+            behind = block
         if number and not has_entry:  # marks alone, which needn't count the last entry
             found = self.holding(stream, number)
             frame = entries_of(found.data).get(number) if found else None
             latest = max(latest, time_of(frame)) if frame else latest
         return Tail(place, number, latest, marked)
 
+    def see_next(self, stream: int, before: Block, block: Block) -> None:
+        """Raises where a block doesn't go on behind the one before it: where entries lack (3), where it ends lower or
+        has an entry of a closed time (3), and where it repeats an entry otherwise (2). A repeat of the same passes."""
+        if block.first > before.last + 1:
+            raise self.not_there(stream, before.last + 1, block.first - 1)
+        if block.last < before.last:
+            raise Broken(
+                3,
+                f"{block.name} ends with entry {block.last}, behind one that ends with entry {before.last}: something"
+                " else writes to this stream",
+            )
+        if block.first <= before.last:
+            self.see_repeat(stream, before, block)
+        elif block.first <= block.last and block.earliest <= before.latest:
+            raise no_block(block.name, closed(block.first))
+
+    def see_repeat(self, stream: int, before: Block, block: Block) -> None:
+        own, others = entries_of(block.data), entries_of(before.data)
+        for number in range(block.first, before.last + 1):
+            other = others.get(number) or self.entry(stream, number)
+            if other is not None and other != own[number]:
+                raise Broken(2, f"{block.name} has another entry {number} than stands before it: the log forks")
+        if block.last > before.last and time_of(own[before.last + 1]) <= before.latest:
+            raise no_block(block.name, closed(before.last + 1))
+
     # ------------------------------------------------------------ comparing
 
     def entry(self, stream: int, number: int) -> Optional[bytes]:
-        """An entry up to the last one; None where it was trimmed: it is below the first that is there, and so many
-        messages are gone as would hold what lacks. 3 where it isn't there otherwise."""
+        """An entry up to the last one; None where it was trimmed. 3 where it isn't there otherwise."""
         if number not in self.seen.get(stream, {}):
             block = self.holding(stream, number)
             self.seen[stream] = entries_of(block.data) if block else {}
+            self.names[stream] = block.name if block else ""
             if number not in self.seen[stream]:
-                first, gone = self.first(stream), self.gone(stream)
-                if number < first and (gone is None or first - 1 <= gone * BLOCK_FRAMES):
+                if self.is_trimmed(stream, number):
                     return None
-                upto = block.first - 1 if block else self.last(stream)
-                raise Broken(
-                    3,
-                    f"stream {stream}: entries {number} to {upto} are not in {self.key(stream)} and were not trimmed, "
-                    "and there are higher ones: they were deleted, or something else writes to this stream",
-                )
+                raise self.not_there(stream, number, block.first - 1 if block else self.last(stream))
         return self.seen[stream][number]
+
+    def is_trimmed(self, stream: int, number: int) -> bool:
+        """Whether an entry that isn't there was trimmed: it is below the first that is there, so many messages are gone
+        as would hold what lacks, and none that may have had it was deleted by itself."""
+        first, gone = self.first(stream), self.gone(stream)
+        is_enough = gone is None or first - 1 <= gone * BLOCK_FRAMES
+        return self.deleted(stream) < number < first and is_enough
+
+    def not_there(self, stream: int, low: int, high: int) -> Broken:
+        """What is said of entries that aren't there, though the stream had higher ones."""
+        key, first = self.key(stream), self.first(stream)
+        text, other = f"stream {stream}: entries {low} to {high}", "something else writes to this stream"
+        if low >= first:
+            text += f" are not in {key}, which had higher ones, and were not trimmed: they were deleted, or {other}"
+        elif self.gone(stream) == 0:
+            text += f" were never in {key}, which begins with entry {first}: {other}"
+        else:
+            text += f" are not in {key}, which begins with entry {first}, and were not trimmed: they were deleted, or"
+            text += f" {other}"
+        return Broken(3, text)
+
+    def forget(self) -> None:
+        """What was looked at may be another by now."""
+        self.seen.clear()
+        self.drop()
 
     def checked(self, frames: List[Framed], tail: Tail, added: Dict[int, bytes]) -> Tuple[List[Framed], Tail, int, int]:
         """What of these frames is new behind the tail, the tail behind that, how many were there, and how many were
@@ -143,10 +215,7 @@ class EngineLog(abc.ABC):
             is_entry, _, stream, first, time, frame = one
             if is_entry and first == number + 1:
                 if time <= latest:
-                    raise Broken(
-                        2,
-                        f"stream {stream}: entry {first} is of a time that the entries or marks before it have closed",
-                    )
+                    raise Broken(2, f"stream {stream}: {closed(first)}")
                 number, latest, added[first] = first, time, frame
                 new.append(one)
             elif first > number:
@@ -165,12 +234,14 @@ class EngineLog(abc.ABC):
 
     def compare(self, one: Framed, added: Dict[int, bytes]) -> bool:
         """2 where an entry is another than the one that is there, or is about to be; whether it is there no more."""
-        there = added.get(one.first) or self.entry(one.stream, one.first)
+        own = added.get(one.first)
+        there = own or self.entry(one.stream, one.first)
         if there is not None and there != one.frame:
+            name = "" if own else f" ({self.names[one.stream].removeprefix(f'stream {one.stream}: ')})"
             raise Broken(
                 2,
-                f"stream {one.stream}: entry {one.first} in {self.engine} is another: this log is not the one that was "
-                "published before",
+                f"stream {one.stream}: entry {one.first} in {self.engine} is another{name}: this log is not the one "
+                "that was published before",
             )
         return there is None
 

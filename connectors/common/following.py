@@ -12,8 +12,8 @@ from feeding import Certificates, Fault, Feed, LinkBroken, Patience, Refused, ad
 from vadungsil.node import Node
 
 STATUSES = """status: 0 as far as was asked for; 1 a failure, with --once, or ENGINE refuses; 2 the log forks:
-ENGINE has another entry than a node was fed; 3 entries lack that ENGINE had, or its messages are no blocks of the
-log; 4 a node refuses the items; 64 the words of the command line."""
+ENGINE has another entry than a node was fed, or two of one number; 3 entries lack that ENGINE had, or its messages are
+no blocks of the log, or it has more streams; 4 a node refuses the items; 64 the words of the command line."""
 
 
 MOST_A_STREAM = 256
@@ -100,6 +100,7 @@ class Follower:
         self.reading: Optional[Reading] = None  # None: ask the nodes
         self.numbers: Dict[int, int] = {}  # the last entry of each stream that was read
         self.fed: Dict[int, Block] = {}  # the last block with entries of each stream that was sent
+        self.before: Dict[int, Block] = {}  # the last block of each stream that this reading gave
         self.behind: Dict[int, float] = {}  # since when the engine seems to have less than a node
         self.lacked: Dict[
             int, Tuple[int, int]
@@ -118,6 +119,7 @@ class Follower:
         self.link_all()
         for it in self.linked():
             it.learn(self.store.streams)
+        self.store.see_streams()
         self.see_no_fork()
         for it in self.linked():
             self.see_no_loss(it)
@@ -131,6 +133,7 @@ class Follower:
                 if lacking:
                     raise Missing(self.store.engine, lacking)
         self.numbers = {stream: min(it.prefixes[stream] for it in self.linked()) for stream in self.streams}
+        self.before.clear()
         self.reading = self.store.reading(self.numbers, self.said.batch)
 
     def link_all(self) -> None:
@@ -182,6 +185,7 @@ class Follower:
             if last >= it.prefixes[stream]:
                 self.behind.pop(stream, None)
                 continue
+            self.store.tail(stream)  # says so where it only ends with a repeat
             text = (
                 f"stream {stream}: the node at {it.address} has entries to {it.prefixes[stream]}, and"
                 f" {self.store.engine} to {last} only"
@@ -207,6 +211,7 @@ class Follower:
         for stream, _, block in found:
             if block.first > self.numbers[stream] + 1:
                 raise Missing(self.store.engine, {stream: (self.numbers[stream] + 1, block.first - 1)})
+            self.see_next(stream, block)
             self.numbers[stream] = max(self.numbers[stream], block.last)
         name = ", ".join(f"stream {stream} to {self.numbers[stream]}" for stream in sorted({it[0] for it in found}))
         for it in self.linked():
@@ -215,6 +220,14 @@ class Follower:
         self.blocks, self.frames = self.blocks + len(found), self.frames + sum(it[2].frames for it in found)
         self.size += sum(len(it[2].data) for it in found)
         return bool(found)
+
+    def see_next(self, stream: int, block: Block) -> None:
+        """A block goes on behind the one that was read before it (2, 3)."""
+        before = self.before.get(stream)
+        if before is not None:
+            self.store.see_next(stream, before, block)
+            block = block if block.latest >= before.latest else block._replace(latest=before.latest)
+        self.before[stream] = block
 
     def send(self, it: Fed, found: List[Tuple[int, Any, Block]], name: str) -> None:
         """Sends blocks to a node; where its connection breaks and there are others, those are fed on."""
@@ -277,7 +290,7 @@ class Follower:
     def look_anew(self) -> None:
         """Gives up the connection to the engine, and what was thought of it: what comes at the places of before may be
         other blocks."""
-        self.store.drop()
+        self.store.forget()
         self.reading = None
         for it in self.nodes:
             it.sent.clear()
@@ -350,5 +363,7 @@ def follow(store: EngineLog, said: argparse.Namespace) -> int:
     finally:
         for it in follower.linked():
             it.unlink()
+    for line in store.left_over():
+        follower.patience.say(line)
     follower.patience.say(f"{follower.frames} frames in {follower.blocks} blocks, {follower.size} bytes")
     return 0

@@ -17,8 +17,8 @@ MOST_EARLY = 2**28  # bytes of entries that wait for those before them
 
 STATUSES = """status: 0 all frames are in ENGINE; 1 ENGINE refuses, or is set otherwise than was asked for; 2 the
 log forks: ENGINE has another entry, or one that conflicts with this one; 3 entries lack, in the input, because ENGINE
-lost its tail, or because they were deleted or never there, or messages in ENGINE are no blocks of the log; 4 the
-input is no log of this id and these streams; 64 the words of the command line."""
+lost its tail, or because they were deleted or never there, or messages in ENGINE are no blocks of the log, or it has
+more streams; 4 the input is no log of this id and these streams; 64 the words of the command line."""
 
 
 class Batch:
@@ -72,6 +72,7 @@ class Sending:
 class Publisher:
     def __init__(self, store: EngineLog, said: argparse.Namespace) -> None:
         self.store, self.said, self.patience = store, said, Patience("publish")
+        store.say = lambda text: self.patience.say(text)
         self.passing: Tuple[Type[Exception], ...] = (Behind, *store.errors)
         self.sending: Dict[int, Sending] = {}
         self.added = self.there = self.gone = self.blocks = 0
@@ -86,9 +87,14 @@ class Publisher:
             except self.passing as error:
                 if not isinstance(error, Behind) and not self.store.is_passing(error):
                     raise
-                self.store.drop()
+                self.store.forget()
                 self.take_back()
                 self.patience.wait(error)
+
+    def begin(self) -> None:
+        """Makes what is needed to publish, and sees that it is this log's."""
+        self.kept_up(self.store.prepare)
+        self.kept_up(self.store.see_streams)
 
     def take_back(self) -> None:
         self.tell_kept()
@@ -199,6 +205,7 @@ class Publisher:
             self.put(frames if self.said.heads else read_whole(frames))
             if not has_more(source):
                 self.flush_all()
+        self.flush_all()
         cutter.finish()
 
     def end(self) -> None:
@@ -264,7 +271,7 @@ def publish(store: EngineLog, said: argparse.Namespace, words: argparse.Argument
     gc.set_threshold(50_000)  # it looks at all frames on their way again and again, and these are never in a cycle
     may_fail: Tuple[Type[Exception], ...] = (*store.errors, OSError)
     try:
-        publisher.kept_up(store.prepare)
+        publisher.begin()
         for file in said.files or [""]:
             with open(file, "rb", buffering=0) if file else os.fdopen(os.dup(0), "rb", buffering=0) as source:
                 publisher.run(source)

@@ -16,11 +16,12 @@ from typing import Any, Callable, Dict, Iterator, List, Optional, Tuple
 sys.dont_write_bytecode = True
 sys.path.append(str(pathlib.Path(__file__).resolve().parent.parent / "common"))
 
-from blocks import BLOCK_BYTES, Block, Broken, walked  # noqa: E402
+from blocks import AHEAD, BLOCK_BYTES, Block, Broken, closed, misplaced, no_block, reason, walked  # noqa: E402
 from engine_log import EngineLog, Moved, Reading, add_log_words, see_log  # noqa: E402
 from feeding import LEAST_REST, MOST_REST  # noqa: E402
 
-_HEAD = struct.Struct(">IBBQHQQ").unpack_from
+_TWO = (1, 2)  # versions, and kinds
+_HEAD, _PLACE = struct.Struct(">IBBQHQQ").unpack_from, struct.Struct(">QH").pack
 # how much is looked at and how many blocks are read at once, and how long a reader sleeps in between, in seconds
 PIECE, BLOCKS, PAUSE = 1 << 20, 16, 0.01
 
@@ -36,30 +37,67 @@ def last_entry(data: bytes) -> int:
 
 class Places:
     """Where the blocks of a file end, each of 64 KB or one frame, with the number of the last entry up to there; and
-    where what is whole ends. A file that grows is looked at from there on."""
+    where what is whole ends. A file that grows is looked at from there on. Where bytes begin no item of the log, or one
+    that can't stand there, is the end of what is whole, and `fault` says why."""
 
-    def __init__(self) -> None:
+    def __init__(self, log: int, path: str) -> None:
+        self.log, self.path = log, path
         self.ends: List[int] = []
         self.lasts: List[int] = []
-        self.size = self.number = 0
+        self.size = self.first = self.number = self.latest = 0
+        self.fault: Optional[Broken] = None
 
     def add(self, data: bytes) -> int:
         """Takes whole frames that stand behind what was looked at, and says how many bytes they have."""
-        at, begin = 0, self.ends[-1] if self.ends else 0
-        while at + 32 <= len(data):
-            length, _, kind, _, _, first, _ = _HEAD(data, at)
-            if not LEAST_REST <= length <= MOST_REST:
-                raise Broken(3, f"byte {self.size + at} begins no item frame: length {length}")
-            if at + 4 + length > len(data):
+        at, begin, size, log = 0, self.ends[-1] if self.ends else 0, len(data), self.log
+        number, latest, why = self.number, self.latest, ""
+        while at + 32 <= size:
+            length, version, kind, its_log, stream, first, time = _HEAD(data, at)
+            is_next = first == number + 1 and time > latest if kind == 1 else first <= number
+            if (
+                not is_next
+                or its_log != log
+                or stream != 1
+                or not LEAST_REST <= length <= MOST_REST
+                or version not in _TWO
+                or kind not in _TWO
+            ):
+                why = self.wrong(data[at : at + 32], number, latest)
+            if why or at + 4 + length > size:
                 break
             at += 4 + length
-            self.number = first if kind == 1 else self.number
+            if kind == 1:
+                number, self.first = first, self.first or first
+            if time > latest:
+                latest = time
             if self.size + at - begin >= BLOCK_BYTES:
                 begin = self.size + at
                 self.ends.append(begin)
-                self.lasts.append(self.number)
-        self.size += at
+                self.lasts.append(number)
+        self.size, self.number, self.latest = self.size + at, number, latest
+        rest = data[at : at + 32]
+        if not why and 0 < len(rest) < 32 and not self.may_begin(rest):
+            why = reason(rest)
+        if why:
+            self.fault = no_block(f"stream 1: byte {self.size} of {self.path}", why)
         return at
+
+    def wrong(self, head: bytes, number: int, latest: int) -> str:
+        """Why an item can't stand behind entry `number` and these times, or nothing; a log may begin anywhere."""
+        _, _, kind, _, _, first, time = _HEAD(head)
+        if not self.may_begin(head):
+            return reason(head)
+        if kind == 1 and number and first != number + 1:
+            return misplaced(first, number)
+        if kind == 1 and time <= latest:
+            return closed(first)
+        return AHEAD if kind == 2 and number and first > number else ""
+
+    def may_begin(self, head: bytes) -> bool:
+        """Whether an item of the log may begin with these bytes."""
+        least, most = (int.from_bytes(head[:4].ljust(4, fill), "big") for fill in (b"\0", b"\xff"))
+        is_frame = least <= MOST_REST and most >= LEAST_REST and all(1 <= it <= 2 for it in head[4:6])
+        return is_frame and _PLACE(self.log, 1).startswith(head[6:16])
 
     def around(self, number: int) -> Tuple[int, int]:
         """Where the block begins and ends that has an entry."""
@@ -76,7 +114,8 @@ class LogInFile(EngineLog):
     def __init__(self, path: str, log: int, fsync: bool = True) -> None:
         super().__init__(log, 1)
         self.engine, self.path, self.fsync = path, path, fsync
-        self.file, self.places, self.is_writing = -1, Places(), False
+        self.file, self.places, self.is_writing = -1, Places(log, path), False
+        self.rest = 0  # bytes behind what is whole
 
     def is_passing(self, error: BaseException) -> bool:
         """Whether the file isn't there yet."""
@@ -85,13 +124,14 @@ class LogInFile(EngineLog):
     def drop(self) -> None:
         if self.file >= 0:
             os.close(self.file)
-        self.file, self.places, self.is_writing = -1, Places(), False
+        self.file, self.places, self.is_writing = -1, Places(self.log, self.path), False
 
     def key(self, stream: int) -> str:
         return self.path
 
     def prepare(self) -> None:
-        """Opens the file for writing, which one program does at a time (1), and takes away what was cut off."""
+        """Opens the file for writing, which one program does at a time (1), and takes away what was cut off; what was
+        never the begin of an item stays (3)."""
         if self.is_writing:
             return
         self.drop()
@@ -102,7 +142,10 @@ class LogInFile(EngineLog):
         except BlockingIOError:
             raise Broken(1, f"another program writes to {self.path}") from None
         self.is_writing = True
-        os.ftruncate(self.file, self.look().size)
+        whole = self.see().size
+        for line in self.left_over():
+            self.say(f"{line} are taken away")
+        os.ftruncate(self.file, whole)
         if is_new and self.fsync:
             folder = os.open(os.path.dirname(os.path.abspath(self.path)), os.O_RDONLY)
             os.fsync(folder)
@@ -114,19 +157,32 @@ class LogInFile(EngineLog):
         """Where the blocks are by now."""
         if self.file < 0:
             self.file = os.open(self.path, os.O_RDONLY)
-        size = PIECE
-        while piece := os.pread(self.file, size, self.places.size):
-            if not self.places.add(piece):
+        size, self.rest = PIECE, 0
+        while not self.places.fault and (piece := os.pread(self.file, size, self.places.size)):
+            taken = self.places.add(piece)
+            self.rest = len(piece) - taken
+            if not taken:
                 if len(piece) < size:
                     break
                 size *= 2  # a frame that is larger
         return self.places
 
+    def see(self) -> Places:
+        """The same; 3 where something else stands behind them."""
+        places = self.look()
+        if places.fault:
+            raise places.fault
+        return places
+
+    def left_over(self) -> List[str]:
+        size = self.look().size
+        return [f"byte {size} of {self.path}: {self.rest} bytes that are no whole frame"] if self.rest else []
+
     def block(self, begin: int, end: int) -> Block:
         """The frames between two places; 3 where they are none of this log."""
         data = os.pread(self.file, end - begin, begin)
         last = last_entry(data) or self.number_before(begin)
-        return walked(data, last, self.log, 1, f"{self.path} from byte {begin} on")
+        return walked(data, last, self.log, 1, f"stream 1: byte {begin} of {self.path}")
 
     def number_before(self, begin: int) -> int:
         """The last entry before a place."""
@@ -135,7 +191,7 @@ class LogInFile(EngineLog):
         return last_entry(os.pread(self.file, begin - start, start)) or number
 
     def end(self, stream: int) -> Tuple[int, int, Iterator[Block]]:
-        places = self.look()
+        places = self.see()
         return places.size, places.number, self.backwards(places)
 
     def backwards(self, places: Places) -> Iterator[Block]:
@@ -148,7 +204,7 @@ class LogInFile(EngineLog):
         return self.look().number
 
     def first(self, stream: int) -> int:
-        return 1
+        return self.look().first or 1
 
     def gone(self, stream: int) -> Optional[int]:
         return 0
@@ -161,7 +217,7 @@ class LogInFile(EngineLog):
 
     def append(self, stream: int, behind: int, blocks: List[Block], kept: Callable[[int], None]) -> int:
         self.prepare()
-        if self.look().size != behind:
+        if self.see().size != behind:
             raise Moved
         data = b"".join(block.data for block in blocks)
         left = memoryview(data)
@@ -189,6 +245,7 @@ class ReadingFile(Reading):
     def read(self, seconds: float) -> List[Tuple[int, Any, Block]]:
         until = time.monotonic() + seconds
         while self.at >= self.store.look().size:
+            self.store.see()
             if time.monotonic() > until:
                 self.is_over = True
                 return []

@@ -22,7 +22,7 @@ sys.dont_write_bytecode = True
 HERE = pathlib.Path(__file__).resolve().parent
 sys.path[:0] = [str(HERE), str(HERE.parent / "common")]
 
-from blocks import BLOCK_BYTES, Block, walked  # noqa: E402
+from blocks import BLOCK_BYTES, Block, no_block, walked  # noqa: E402
 from engine_log import EngineLog, Moved, Reading, add_log_words, see_log  # noqa: E402
 from jetstream import ApiError, Away, Denied, Message, Nats, Security, see_version, versions  # noqa: E402
 
@@ -128,6 +128,12 @@ class LogInNats(EngineLog):
                     f"{self.key(stream)} is kept by {replicas} servers, and not by {self.replicas}: --replicas says how"
                     " many are to keep it"
                 )
+
+    def more_streams(self) -> List[int]:
+        """The next one alone, since publish makes all of them; not where no leader is asked."""
+        if self.by == "get" or not self.info(self.streams + 1).replicas:
+            return []
+        return [self.streams + 1]
 
     def config(self, stream: int) -> Dict[str, Any]:
         """It refuses what would be too much, and drops nothing by itself."""
@@ -265,7 +271,9 @@ class LogInNats(EngineLog):
     def block(self, stream: int, sequence: int, message: Message) -> Block:
         last = message.header(b"Hk-Last")
         name = f"stream {stream}: message {sequence} of {self.key(stream)}"
-        return walked(message.data, int(last) if last.isdigit() and len(last) < 20 else 0, self.log, stream, name)
+        if not last.isdigit() or len(last) > 19:
+            raise no_block(name, "its header Hk-Last is no number" if last else "it has no header Hk-Last")
+        return walked(message.data, int(last), self.log, stream, name)
 
     # ------------------------------------------------------------ appending
 

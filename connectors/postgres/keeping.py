@@ -62,12 +62,13 @@ class KeptByEngine(Kept):
             store, argparse.Namespace(block=BLOCK_BYTES, patience=patience, confirm=False, heads=True)
         )
         self.publisher.patience = Patience("capture")
-        self.publisher.kept_up(store.prepare)
+        self.publisher.begin()
 
     def frames(self) -> Iterator[bytes]:
         last = self.publisher.kept_up(self.store.last, 1)
         end = self.publisher.kept_up(self.last_whole) or last
         reading: Optional[Reading] = None
+        before: Optional[Block] = None
         while self.number < end:
             try:
                 reading = reading or self.store.reading({1: self.number}, 256)
@@ -75,13 +76,16 @@ class KeptByEngine(Kept):
             except self.store.errors as error:
                 if not self.store.is_passing(error):
                     raise
-                reading = None
-                self.store.drop()
+                reading = before = None
+                self.store.forget()
                 self.publisher.patience.wait(error)
                 continue
             if not found and reading.has_all():
                 raise Broken(LOST, f"{self.name} has entries up to {self.number} by now, and had {end}")
             for _, _, block in found:
+                if before is not None and block.first <= before.last + 1:
+                    self.store.see_next(1, before, block)
+                before = block
                 yield from self.entries(block, end)
 
     def entries(self, block: Block, end: int) -> Iterator[bytes]:

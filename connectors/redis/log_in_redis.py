@@ -20,7 +20,7 @@ sys.path.append(str(pathlib.Path(__file__).resolve().parent.parent / "common"))
 
 import redis  # noqa: E402
 
-from blocks import Block, Broken, walked  # noqa: E402
+from blocks import Block, Broken, no_block, walked  # noqa: E402
 from engine_log import EngineLog, Moved, Reading, add_log_words, see_log  # noqa: E402
 from finding import OwnersConnection, through_cluster, through_sentinels  # noqa: E402
 
@@ -100,7 +100,16 @@ class LogInRedis(EngineLog):
         except redis.ResponseError as error:
             if "no such key" in str(error):
                 return None
+            if "WRONGTYPE" in str(error):
+                raise Broken(3, f"stream {stream}: {self.key(stream)} is no stream") from None
             raise
+
+    def more_streams(self) -> List[int]:
+        line, above = self.client.pipeline(transaction=False), range(self.streams + 1, 65)
+        for stream in above:
+            line.xinfo_stream(self.key(stream))
+        told = line.execute(raise_on_error=False) if above else []
+        return [stream for stream, it in zip(above, told) if not isinstance(it, redis.RedisError)]
 
     def end(self, stream: int) -> Tuple[Id, int, Iterator[Block]]:
         told = self.info(stream)
@@ -133,6 +142,11 @@ class LogInRedis(EngineLog):
         told = self.info(stream) or {"length": 0, "entries-added": 0}
         return told["entries-added"] - told["length"] if "entries-added" in told else None
 
+    def deleted(self, stream: int) -> int:
+        """By XDEL; from Redis 7 on it knows the greatest id that was, and XTRIM leaves that as it is."""
+        told = self.info(stream) or {}
+        return number_of(told.get("max-deleted-entry-id", b"0-0"))[0]
+
     def holding(self, stream: int, number: int) -> Optional[Block]:
         for message, fields in self.client.xrange(self.key(stream), f"{number}-0", "+", count=1):
             return self.block(stream, message, fields)
@@ -142,11 +156,12 @@ class LogInRedis(EngineLog):
         """The block of a message; 3 where it is none of this stream, or another one than its id says."""
         last, beside = number_of(message)
         name = f"stream {stream}: message {message.decode()} of {self.key(stream)}"
-        block = walked(fields.get(b"b") or fields.get(b"f") or b"", last, self.log, stream, name)
+        data = fields.get(b"b", fields.get(b"f"))
+        if data is None:
+            raise no_block(name, "it has no field b")
+        block = walked(data, last, self.log, stream, name)
         if (block.last >= block.first) != (beside == 0):
-            raise Broken(
-                3, f"{name} is no block of this stream: its id is one of {'entries' if beside == 0 else 'marks alone'}"
-            )
+            raise no_block(name, f"its id is one of {'entries' if beside == 0 else 'marks alone'}")
         return block
 
     # ------------------------------------------------------------ appending
@@ -215,7 +230,7 @@ class ReadingRedis(Reading):
     def read(self, seconds: float) -> List[Tuple[int, Id, Block]]:
         asked = {self.store.key(stream): text_of(place) for stream, place in self.at.items()}
         found = []
-        for key, messages in self.store.client.xread(asked, count=self.count, block=max(1, int(seconds * 1000))):
+        for key, messages in self.given(asked, max(1, int(seconds * 1000))):
             stream = int(key.rsplit(b":", 1)[1])
             for message, fields in messages:
                 found.append((stream, number_of(message), self.store.block(stream, message, fields)))
@@ -223,6 +238,14 @@ class ReadingRedis(Reading):
         self.is_over = not found
         self.learn_size(sum(len(block.data) for _, _, block in found), len(found))
         return found
+
+    def given(self, asked: Dict[str, str], wait: int) -> Any:
+        try:
+            return self.store.client.xread(asked, count=self.count, block=wait)
+        except redis.ResponseError:
+            for stream in self.at:
+                self.store.info(stream)  # names one that is no stream
+            raise
 
     def learn_size(self, size: int, count: int) -> None:
         """How many messages of a stream to read at once, by what the last had in bytes."""

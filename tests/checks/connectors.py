@@ -5,6 +5,7 @@ Each story starts a Redis and a node, publishes and follows a log of that many e
 the work, and then compares the rows that the node shows at 12 times with those of tests/lib/reference.py. Kills are by how far the work is,
 never by the clock. Two stories are played side by side. Needs bin/hkrep, redis-server and python3-redis; where one of the last two isn't
 installed, that is said as skipped. It ends only what it started."""
+import importlib.util
 import os
 import pathlib
 import re
@@ -27,10 +28,12 @@ except ImportError:
         os.execv(DEBIAN, [DEBIAN, *sys.argv])
     redis = None
 
+import bad_records
 import journeys
+import records_tried
 from checks import ended, free_port, is_built, report, skip
-from journeys import (HKREP, LOG, PATIENCE, STREAMS, WORDS, bad_messages, demonstration, holds, is_entry, kill, log_of, number_of, play,
-                      rows_of_log, status, stream_of, tables_of, waited)
+from journeys import (HKREP, LOG, PATIENCE, STREAMS, WORDS, demonstration, holds, is_entry, kill, log_of, number_of, play, status, stream_of,
+                      tables_of, waited)
 from shown import of
 from vadungsil import LAST_TIME, Entry, Mark, encode
 from vadungsil.node import Node
@@ -74,8 +77,8 @@ class Bench(journeys.Bench):
     def url(self):
         return ["--redis", f"redis://127.0.0.1:{self.redis_port}"]
 
-    def publish(self, name="log.bin", *more):
-        return self.start(CONNECTORS / "publish", *self.url(), *WORDS, *SMALL, *more, stdin=open(self.folder / name, "rb"))
+    def publish(self, name="log.bin", *more, **pipes):
+        return self.start(CONNECTORS / "publish", *self.url(), *WORDS, *SMALL, *more, stdin=open(self.folder / name, "rb"), **pipes)
 
     def follow(self, *more, port=None):
         return self.start(CONNECTORS / "follow", *self.url(), *WORDS, "--node", port or self.node_port, *more)
@@ -329,113 +332,107 @@ def poisoned(it):
     it.same(it.other_port)
 
 
-class Aside:
-    """Stream 1 of a log of its own, of which `publish --confirm` is given some of the entries 1 to 9."""
+class Records(records_tried.Engine):
+    """The bad cases of a log in Redis."""
 
-    def __init__(self, bench, log):
-        self.bench, self.words, self.key = bench, ["--log", log, "--streams", 1], f"hekaton:{log}:1"
-        self.frames = rows_of_log(log)
+    name = bad_records.REDIS
 
-    def add(self, message, frame, field="f"):
-        """Something else than `publish` adds a message."""
-        self.bench.client.xadd(self.key, {field: frame}, id=message)
+    def __init__(self, bench):
+        super().__init__(bench.folder, records_tried.Programs(bench.start))
+        self.bench, self.client = bench, bench.client
 
-    def ran(self, program, *more, **options):
-        """What it printed, its status, and what it said."""
-        (self.bench.folder / "said").write_bytes(b"")
-        child = self.bench.start(CONNECTORS / program, *self.bench.url(), *self.words, *more, stdout=subprocess.PIPE, **options)
-        out = child.communicate(timeout=PATIENCE)[0].decode()
-        return out, child.returncode, self.bench.said()
+    def begin(self):
+        self.client.flushall()
 
-    def publish(self, numbers, *more):
-        self.bench.write("aside.bin", [self.frames[number - 1] for number in numbers])
-        with open(self.bench.folder / "aside.bin", "rb") as source:
-            return self.ran("publish", "--confirm", "--block", 1, *more, stdin=source)
+    def words(self, side):
+        return [CONNECTORS / side, *self.bench.url()]
 
-    def is_refused(self, numbers, *words):
-        """`publish` confirms nothing, ends with 3, and says these words."""
-        out, code, said = self.publish(numbers)
-        holds((out, code) == ("", 3) and all(word in said for word in words), f"{self.key}: printed {out!r}, status {code}, said {said!r}")
+    def key(self):
+        return f"hekaton:{bad_records.LOG}:1"
 
-    def is_kept(self, numbers, *words):
-        out, code, said = self.publish(numbers)
-        is_told = all(word in said for word in words)
-        holds((out, code) == (f"kept 1 {max(numbers)}\n", 0) and is_told, f"{self.key}: {out!r}, {code}, {said!r}")
+    def put(self, step):
+        key, message = f"hekaton:{bad_records.LOG}:{step.stream}", f"{step.last}-{step.beside}"
+        self.client.xadd(key, {step.field: step.data}, id=message)
+        return key if step.stream > 1 else f"message {message} of {key}"
 
-    def is_named(self, named, row):
-        """`follow` and `status` name it, too."""
-        node = self.bench.start(HKREP, "serve", *self.words, "--port", self.bench.other_port, "--links", 4, stdout=subprocess.PIPE)
-        holds(node.stdout.readline().startswith(b"listening"), "the node doesn't listen")
-        out, code, said = self.ran("follow", "--node", self.bench.other_port, "--once")
-        holds((out, code) == ("", 3) and named in said, f"follow: {out!r}, {code}, {said!r}")
-        kill(node)
-        out, code, said = self.ran("status")
-        first, _, told = out.splitlines()
-        holds((code, said) == (3, "") and named in first and told.split() == row, f"{out!r}, {code}, {said!r}")
+    def do(self, step):
+        if isinstance(step, bad_records.Trimmed):
+            self.client.xtrim(self.key(), minid=step.below, approximate=False)
+        elif isinstance(step, bad_records.Deleted):
+            self.client.xdel(self.key(), f"{step.last}-0")
+        elif isinstance(step, bad_records.LastIs):
+            self.client.execute_command("XSETID", self.key(), f"{step.number}-0")
+        else:
+            self.client.set(self.key(), b"no stream")
 
 
-def never_there(it):
-    """Entries that Redis never had, or that were deleted, behind or below what somebody else put there: they are named, and never
-    confirmed. What was trimmed is confirmed."""
-    for log, adds, numbers in ((100, {"18446744073709551615-0": 9}, "1 to 8"), (101, {"9-0": 9}, "1 to 8"), (102, {"5-0": 5}, "3 to 4")):
-        aside = Aside(it, log)
-        if log == 102:
-            aside.is_kept([1, 2])
-        for message, number in adds.items():
-            aside.add(message, aside.frames[number - 1])
-        aside.is_refused(range(1, 9), "is no block of this stream" if log == 100 else f"stream 1: entries {numbers} are not in {aside.key}")
-    emptied = Aside(it, 103)
-    emptied.add("5000-0", encode(Entry.of(103, 1, 5000, 5000, rows=[(1, 5, 0, b"")])))
-    it.client.xtrim(emptied.key, maxlen=0, approximate=False)
-    emptied.is_refused(range(1, 9), "entries 1 to 5000 are not in")
-    deleted = Aside(it, 104)
-    deleted.is_kept(range(1, 9))
-    it.client.xdel(deleted.key, "3-0", "4-0")
-    deleted.is_refused(range(1, 9), "entries 3 to 4 are not in")
-    trimmed_ = Aside(it, 105)
-    trimmed_.is_kept(range(1, 9))
-    it.client.xtrim(trimmed_.key, minid=4, approximate=False)
-    trimmed_.is_kept(range(1, 9), "5 were there, 3 not compared, as Redis no longer has them")
-    trimmed_.is_kept(range(1, 3), "2 not compared")
-    it.client.xtrim(trimmed_.key, maxlen=0, approximate=False)
-    trimmed_.is_kept(range(1, 10), "1 frames added in 1 blocks, 0 were there, 8 not compared")
+def bad_records_in_redis(it):
+    """The bad cases of tests/lib/bad_records.py: whatever something else puts into Redis is named, and nothing wrong gets to a node."""
+    return tried(Records(it))
 
 
-def no_messages_of_ours(it):
-    """Messages that are no blocks: publish, follow and status name each alike. So is one of marks alone with an entry's id, and one that
-    has neither field."""
-    fields = [*(("b", name) for name in bad_messages(0)), ("f", "short"), ("g", "empty")]
-    for log, (field, name) in enumerate(fields, 200):
-        aside, (data, reason) = Aside(it, log), bad_messages(log)[name]
-        aside.add("2-0", aside.frames[0] + aside.frames[1], "b")
-        aside.add("3-0", data, field)
-        named = f"stream 1: message 3-0 of {aside.key} is no block of this stream: {reason}"
-        aside.is_refused(range(1, 9), named)
-        aside.is_named(named, ["1", "1", "3", "0"])
-    marks = Aside(it, 250)
-    marks.is_kept([1, 2])
-    marks.add("3-0", encode(Mark(250, 1, 2, 9)), "b")
-    marks.is_refused(range(1, 9), "is no block of this stream: its id is one of entries")
+def bad_records_in_a_file(it):
+    """The same of a log in a file."""
+    return tried(records_tried.File(it.folder, records_tried.Programs(it.start)))
+
+
+class RecordsOfKafka(records_tried.Engine):
+    """The same over the example for Kafka: a topic of the mock broker for each case."""
+
+    name = bad_records.KAFKA
+
+    def __init__(self, bench, kafka):
+        super().__init__(bench.folder, records_tried.Programs(bench.start))
+        self.mock = kafka.Producer({"test.mock.num.brokers": 1, "linger.ms": 0, "log_level": 3})
+        self.brokers = ",".join(f"{it.host}:{it.port}" for it in self.mock.list_topics(timeout=PATIENCE).brokers.values())
+
+    def topic(self):
+        return f"hekaton.{bad_records.LOG}.{self.count}"
+
+    def words(self, side):
+        return [ROOT / "tests" / "lib" / "over_kafka.py", side, self.brokers, self.topic()]
+
+    def key(self):
+        return f"{self.topic()}/0"
+
+    def put(self, step):
+        places = []
+        self.mock.produce(self.topic(), step.data, partition=0, headers={"Hk-Last": str(step.last)}, on_delivery=lambda _, it: places.append(it.offset()))
+        holds(self.mock.flush(PATIENCE) == 0, "the mock broker takes nothing")
+        return f"message {places[0]} of {self.key()}"
+
+
+def bad_records_in_kafka(it):
+    """The same over the example for Kafka, on a mock broker."""
+    import confluent_kafka
+    return tried(RecordsOfKafka(it, confluent_kafka))
+
+
+def tried(engine):
+    problems, count = records_tried.tried(engine)
+    holds(not problems, f"{len(problems)} of {count} cases: " + "; ".join(problems[:3]))
+    return f"{count} cases"
 
 
 def added_beneath(it):
     """A message of somebody else that comes while the publisher runs, and one that stands below more marks than the publisher looks at, are
     named where the entry of that number is published."""
-    aside, low = Aside(it, 400), Aside(it, 401)
-    writer = it.start(CONNECTORS / "publish", *it.url(), *aside.words, "--confirm", stdin=subprocess.PIPE, stdout=subprocess.PIPE)
-    writer.stdin.write(b"".join(aside.frames[:2]))
+    rows = bad_records.OURS
+    writer = it.start(CONNECTORS / "publish", *it.url(), *WORDS, "--confirm", stdin=subprocess.PIPE, stdout=subprocess.PIPE)
+    writer.stdin.write(rows[1] + rows[2])
     writer.stdin.flush()
     holds(writer.stdout.readline() == b"kept 1 2\n", "not confirmed while the input is open")
-    aside.add("3-0", b"abc")
-    writer.stdin.write(aside.frames[2])
+    it.client.xadd(it.key(1), {"f": b"abc"}, id="3-0")
+    writer.stdin.write(rows[3])
     writer.stdin.close()
     status(writer, 3)
-    holds(writer.stdout.read() == b"" and f"message 3-0 of {aside.key} is no block of this stream: 3 bytes" in it.said(), it.said())
-    low.is_kept([1, 2])
-    low.add("3-0", b"abc")
+    holds(writer.stdout.read() == b"" and f"message 3-0 of {it.key(1)} is no block of this stream: 3 bytes" in it.said(), it.said())
     for beside in range(1, 41):
-        low.add(f"3-{beside}", encode(Mark(401, 1, 1, beside)))
-    low.is_refused(range(1, 9), f"message 3-0 of {low.key} is no block of this stream: 3 bytes")
+        it.client.xadd(it.key(1), {"f": encode(Mark(LOG, 1, 1, beside))}, id=f"3-{beside}")
+    it.write("rows.bin", list(rows.values()))
+    again = it.publish("rows.bin", "--confirm", stdout=subprocess.PIPE)
+    status(again, 3)
+    holds(again.stdout.read() == b"" and it.said().count("message 3-0 of") == 2, it.said())
 
 
 def told_in_short(it):
@@ -698,19 +695,21 @@ def as_in_the_page(it):
 
 
 STORIES = [killed_followers, killed_publisher, killed_redis, killed_node, lost_tail, trimmed, forked, two_followers, two_publishers, out_of_order,
-           twice_fed, lacking_input, poisoned, never_there, no_messages_of_ours, added_beneath, told_in_short, large_numbers, kept, secured,
-           through_sentinels, through_a_cluster, of_before, lost_and_forked, told_by_status, as_in_the_page]
+           twice_fed, lacking_input, poisoned, bad_records_in_redis, bad_records_in_a_file, bad_records_in_kafka, added_beneath, told_in_short,
+           large_numbers, kept, secured, through_sentinels, through_a_cluster, of_before, lost_and_forked, told_by_status, as_in_the_page]
+
+
+def bad_records_of_the_page():
+    """The page's table beside the cases."""
+    report("each bad record that docs/CONNECTORS.md names is tried, and each that is tried is named", records_tried.differences_from_page())
 
 
 def over_kafka():
     """The recipe's example, over the mock broker of Kafka's client: it ends only once the node can be read up to the last entry."""
-    if subprocess.run([sys.executable, "-c", "import confluent_kafka"], stderr=subprocess.DEVNULL, check=False).returncode:
-        skip("python3-confluent-kafka is not installed")
-        return
     begin = time.monotonic()
-    got = subprocess.run([sys.executable, ROOT / "examples" / "kafka" / "try.py", "100"], stdout=subprocess.PIPE, stderr=subprocess.STDOUT, text=True,
+    got = subprocess.run([sys.executable, ROOT / "examples" / "kafka" / "try.py", "100"], stdout=subprocess.PIPE, stderr=subprocess.PIPE, text=True,
                          timeout=PATIENCE, check=False)
-    problems = [] if got.returncode == 0 and got.stdout.endswith("front horizon 0 readable 100\n") else [got.stdout]
+    problems = [] if got.returncode == 0 and got.stdout.endswith("front horizon 0 readable 100\n") else [got.stdout, got.stderr]
     report(f"the example for Kafka, on a mock broker ({time.monotonic() - begin:.1f} s)", problems)
 
 
@@ -736,12 +735,18 @@ def main(words):
     frames = log_of(entries, 5)
     log = (entries, frames, tables_of(frames, entries))
     chosen = [story for story in STORIES if not words or story.__name__ in words]
+    has_kafka = importlib.util.find_spec("confluent_kafka") is not None
+    if not has_kafka:
+        skip("python3-confluent-kafka is not installed")
+        chosen = [story for story in chosen if story is not bad_records_in_kafka]
     with ThreadPoolExecutor(SIDE_BY_SIDE) as pool:
         for name, problems, told in pool.map(lambda story: play(story, lambda folder: Bench(folder, *log)), chosen):
             report(name, problems, told)
+    if not words or "bad_records_of_the_page" in words:
+        bad_records_of_the_page()
     if not words or "demonstrated" in words:
         demonstrated()
-    if not words or "over_kafka" in words:
+    if has_kafka and (not words or "over_kafka" in words):
         over_kafka()
     return ended()
 

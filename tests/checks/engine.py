@@ -25,14 +25,16 @@ ROOT = pathlib.Path(__file__).resolve().parents[2]
 CONNECTORS = ROOT / "connectors" / "nats"
 sys.path[:0] = [str(ROOT / "tests" / "lib"), str(CONNECTORS)]
 
+import bad_records
 import journeys
+import records_tried
 from checks import ended, free_port, is_built, report, skip
-from journeys import (HKREP, LOG, PATIENCE, STREAMS, WORDS, bad_messages, demonstration, holds, is_entry, kill, log_of, number_of, play,
-                      rows_of_log, status, stream_of, tables_of, waited)
+from journeys import (HKREP, LOG, PATIENCE, STREAMS, WORDS, demonstration, holds, is_entry, kill, log_of, number_of, play, status, stream_of,
+                      tables_of, waited)
 from blocks import walked
 from engine_log import Moved
 from feeding import Feed
-from jetstream import Nats
+from jetstream import ApiError, Nats
 from log_in_nats import LogInNats
 from servers import HOSTS, Servers, program
 from shown import of
@@ -435,91 +437,81 @@ def several_nodes(it):
     it.finished()
 
 
-class Aside:
-    """Stream 1 of a log of its own on one server."""
+class Records(records_tried.Engine):
+    """The bad cases of a log in NATS, on one server."""
 
-    def __init__(self, bench, log):
-        self.bench, self.log, self.words, self.key = bench, log, ["--log", log, "--streams", 1], f"hekaton_{log}_1"
+    name = bad_records.NATS
 
-    def ran(self, name, *more, **options):
-        """What it printed, its status, and what it said."""
-        (self.bench.folder / "said").write_bytes(b"")
-        own = ["--replicas", 1, "--confirm"] if name == "publish" else []
-        child = self.bench.start(CONNECTORS / name, *self.bench.url(), *self.words, *own, *more, stdout=subprocess.PIPE, **options)
-        out = child.communicate(timeout=PATIENCE)[0].decode()
-        return out, child.returncode, self.bench.said()
+    def __init__(self, bench):
+        super().__init__(bench.folder, records_tried.Programs(bench.start))
+        self.bench, self.nats = bench, bench.any_link()
 
-    def begin(self, *numbers):
-        """Makes the stream, with a block of these entries in it."""
-        store = LogInNats(self.bench.servers.urls().split(","), self.log, 1, replicas=1)
+    def begin(self):
+        for stream in (1, 2):
+            try:
+                self.nats.ask(f"$JS.API.STREAM.DELETE.hekaton_{bad_records.LOG}_{stream}")
+            except ApiError:
+                pass
+        self.made_streams(1)
+
+    def made_streams(self, count):
+        store = LogInNats(self.bench.servers.urls().split(","), bad_records.LOG, count, replicas=1)
         store.prepare()
         store.drop()
-        if numbers:
-            self.add(b"".join(rows_of_log(self.log)[number - 1] for number in numbers), b"%d" % numbers[-1])
 
-    def publish(self, numbers):
-        self.bench.write("aside.bin", [rows_of_log(self.log)[number - 1] for number in numbers])
-        return self.ran("publish", self.bench.folder / "aside.bin")
+    def words(self, side):
+        return [CONNECTORS / side, *self.bench.url(), *(("--replicas", 1) if side == "publish" else ())]
 
-    def add(self, data, last):
-        """Something else than `publish` adds a message."""
-        nats = self.bench.any_link()
-        token, text = nats.put(b"hekaton.%d.1" % self.log, data, b"Hk-Last: %s\r\n" % last)
-        nats.send(text)
-        holds("error" not in json.loads(nats.take(token).data), "not added")
-        nats.close()
+    def key(self):
+        return f"hekaton_{bad_records.LOG}_1"
 
-    def is_named(self, *words):
-        """publish, follow and status end with 3 and say these words; nothing is confirmed."""
-        out, code, said = self.publish(range(1, 9))
-        holds((out, code) == ("", 3) and any(word in said for word in words), f"publish: {out!r}, {code}, {said!r}")
-        node = self.bench.start(HKREP, "serve", *self.words, "--port", free_port(), "--links", 4, stdout=subprocess.PIPE)
-        port = node.stdout.readline().split()[1].decode()
-        out, code, said = self.ran("follow", "--node", port, "--once")
-        holds((out, code) == ("", 3) and any(word in said for word in words), f"follow: {out!r}, {code}, {said!r}")
-        kill(node)
+    def put(self, step):
+        if step.stream > 1:
+            self.made_streams(step.stream)
+        head = step.says if step.last is None else b"%d" % step.last
+        place = put_by_another(self.nats, bad_records.LOG, step.data, head, step.stream)
+        return f"message {place} of {self.key()}" if step.stream == 1 else f"hekaton_{bad_records.LOG}_{step.stream}"
+
+    def do(self, step):
+        holds(isinstance(step, bad_records.Trimmed), f"{step} is nothing for NATS")
+        self.nats.ask(f"$JS.API.STREAM.PURGE.{self.key()}", {"seq": step.below})
 
 
-def no_messages_of_ours(it):
-    """Messages that are no blocks, holes and other logs are named by publish, follow and status alike."""
-    for log, (name, (data, reason)) in enumerate(bad_messages(0).items(), 200):
-        aside, (data, reason) = Aside(it, log), bad_messages(log)[name]
-        aside.begin(1, 2)
-        aside.add(data, b"3")
-        named = f"stream 1: message 2 of {aside.key} is no block of this stream: {reason}"
-        aside.is_named(named)
-        if log < 203:
-            out, code, _ = aside.ran("status")
-            holds(code == 3 and out.startswith(named), f"status: {out!r}, {code}")
-    node = it.start(HKREP, "serve", *aside.words, "--port", free_port(), "--links", 4, stdout=subprocess.PIPE)
-    out, code, said = aside.ran("trim", "--node", node.stdout.readline().split()[1].decode())
-    holds((out, code) == ("", 3) and named in said, f"trim: {out!r}, {code}, {said!r}")
+def put_by_another(nats, log, data, last, stream=1):
+    """Something else than `publish` adds a message; gives its sequence."""
+    token, text = nats.put(b"hekaton.%d.%d" % (log, stream), data, b"" if last is None else b"Hk-Last: %s\r\n" % last)
+    nats.send(text)
+    told = json.loads(nats.take(token).data)
+    holds("error" not in told, f"not added: {told}")
+    return told["seq"]
+
+
+def bad_records_in_nats(it):
+    """The bad cases of tests/lib/bad_records.py: whatever something else puts into NATS is named, and nothing wrong gets to a node. `trim`
+    names it, too."""
+    engine = Records(it)
+    problems, count = records_tried.tried(engine)
+    holds(not problems, f"{len(problems)} of {count} cases: " + "; ".join(problems[:3]))
+    case = next(case for case in bad_records.NO_BLOCKS if case.name == "noise")
+    named, node = engine.made(case), it.start(HKREP, "serve", "--log", LOG, "--streams", 1, "--port", free_port(), "--links", 4, stdout=subprocess.PIPE)
+    code, out, lines = engine.programs.ran(*engine.words("trim"), "--log", LOG, "--streams", 1, "--node", node.stdout.readline().split()[1].decode())
+    wanted = f"trim: {case.said[0].line.format(at=named)}"
+    holds((code, out, lines) == (3, "", [wanted]), f"trim: {code}, {out!r}, {lines}")
     kill(node)
-    for log, last in ((300, b""), (301, b"x"), (302, b"-3"), (303, b"9" * 30)):
-        aside = Aside(it, log)
-        aside.begin(1, 2)
-        aside.add(rows_of_log(log)[2], last)
-        aside.is_named("is no block of this stream: its last entry is 3, and it says 0")
-    hole = Aside(it, 310)
-    holds(hole.publish([1, 2])[:2] == ("kept 1 2\n", 0), it.said())
-    hole.add(rows_of_log(310)[4], b"5")
-    hole.is_named(f"entries 3 to 4 are not in {hole.key} and were not trimmed", "stream 1: entries 3 to 4 are no longer in NATS")
-    never = Aside(it, 311)
-    never.begin()
-    never.add(rows_of_log(311)[4], b"5")
-    never.is_named(f"entries 1 to 4 are not in {never.key} and were not trimmed", "stream 1: entries 1 to 4 are no longer in NATS")
+    return f"{count} cases"
 
 
 def another_between(it):
     """Somebody else's block takes the place for which a publisher has some: none of them is stored, not even the one
     whose own place is still free, for it would stand behind a hole. Who publishes the log then goes on behind the
     other's block."""
-    aside, rows, kept = Aside(it, 320), rows_of_log(320), []
-    aside.begin()
-    store = LogInNats(it.servers.urls().split(","), aside.log, 1, replicas=1)
+    engine, nats, kept = Records(it), it.any_link(), []
+    engine.begin()
+    store = LogInNats(it.servers.urls().split(","), LOG, 1, replicas=1)
     place, _, _ = store.end(1)
-    aside.add(rows[0], b"1")
-    blocks = [walked(b"".join(rows[first - 1:last]), last, aside.log, 1, "a block") for first, last in ((1, 2), (3, 4))]
+    put_by_another(nats, LOG, bad_records.OURS[1], b"1")
+    nats.close()
+    blocks = [walked(bad_records.ours(first, last), last, LOG, 1, "a block") for first, last in ((1, 2), (3, 4))]
     try:
         store.append(1, place, blocks, kept.append)
         store.settle()
@@ -528,7 +520,7 @@ def another_between(it):
         pass
     holds(not kept and store.end(1)[:2] == (1, 1), f"{kept} are called kept, and the stream ends at {store.end(1)[:2]}")
     store.drop()
-    holds(aside.publish(range(1, 9))[:2] == ("kept 1 8\n", 0), it.said())
+    holds(engine.publish([bad_records.OURS[number] for number in range(1, 9)], "--confirm")[:2] == (0, "kept 1 8\n"), it.said())
 
 
 def late_and_forked(it):
@@ -666,8 +658,8 @@ def demonstrated():
 
 STORIES = [as_in_the_page, slow_server, demonstrated, killed_leader, all_killed, each_in_turn, lost_disk, minority, forked, trimmed,
            killed_publishers, lost_all, greatest_frame, several_nodes, late_and_forked, another_between,
-           no_messages_of_ours, secured, old_server]
-ALONE = (greatest_frame, another_between, no_messages_of_ours, secured, old_server)
+           bad_records_in_nats, secured, old_server]
+ALONE = (greatest_frame, another_between, bad_records_in_nats, secured, old_server)
 BENCHES = {as_in_the_page: Paged, **dict.fromkeys(ALONE, Alone)}
 
 

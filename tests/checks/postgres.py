@@ -426,8 +426,8 @@ def halves(shop):
 
 
 def losses(shop):
-    """A log and a slot that lost something are told (3), and so is a log that was begun with another configuration
-    (4)."""
+    """A log and a slot that lost something are told (3), and so is a file that somebody else wrote to, which stays as
+    it is, and a log that was begun with another configuration (4)."""
     shop.captured()
     before = shop.file.stat().st_size
     shop.sql("insert into files values ('lost', 1, '')")
@@ -437,6 +437,9 @@ def losses(shop):
     shop.captured(wanted=3, said="lost its tail")
     shop.file.write_bytes(b"")
     shop.captured(wanted=3, said="slot vadungsil_7 is there")
+    shop.file.write_bytes(whole + b"a line\n")
+    shop.captured(wanted=3, said=f"byte {len(whole)} of {shop.file} is no block of this stream: 7 bytes are no")
+    holds(shop.file.read_bytes() == whole + b"a line\n", "the line was taken away")
     shop.file.write_bytes(whole)
     said = shop.configuration.read_text()
     for other in (said.replace('tag = "size"\n', ""), said[:said.rindex("[[table]]")]):

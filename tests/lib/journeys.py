@@ -1,6 +1,5 @@
 """What the stories of connectors share (tests/checks/connectors.py, tests/checks/engine.py): a log and the rows that it has, programs that are started
-and ended, a node's rows beside the log's, and the messages that are no blocks. The connectors' package, tests/lib/reference.py and the
-standard library."""
+and ended, and a node's rows beside the log's. The connectors' package, tests/lib/reference.py and the standard library."""
 import os
 import pathlib
 import random
@@ -70,30 +69,6 @@ def stream_of(frame):
 
 def number_of(frame):
     return int.from_bytes(frame[16:24], "big")
-
-
-def rows_of_log(log):
-    """The first entries of stream 1 of a small log, each at the time of its number."""
-    return [encode(Entry.of(log, 1, number, number, rows=[(1, 5, 0, b"row %d" % number)])) for number in range(1, 10)]
-
-
-def bad_messages(log):
-    """What is no block of stream 1 of a log behind its entries 1 and 2, though it stands there and says that its last entry is 3; and
-    what is said of it."""
-    third, fourth, fifth = rows_of_log(log)[2:5]
-    mark = encode(Mark(log, 1, 4, 9))
-    return {"empty": (b"", "0 bytes are no item frame"),
-            "short": (b"abc", "3 bytes are no item frame"),
-            "noise": (b"?" * 100, "length 1061109567, version 63, kind 63 are no item frame's"),
-            "no kind": (third[:5] + b"\3" + third[6:], "length 55, version 2, kind 3 are no item frame's"),
-            "another log": (rows_of_log(log + 1)[2], f"a frame of log {log + 1}, stream 1"),
-            "another stream": (third[:15] + b"\2" + third[16:], f"a frame of log {log}, stream 2"),
-            "cut off": (third[:-1], "its last frame is cut off"),
-            "more bytes": (third + b"abc", "3 bytes are no item frame"),
-            "a hole": (third + fifth, "entry 5 stands behind entry 3"),
-            "another number": (fourth, "its last entry is 4, and it says 3"),
-            "a mark ahead": (third + mark, "a mark counts entries that come behind it"),
-            "a mark before": (encode(Mark(log, 1, 3, 9)) + third, "a mark counts entries that come behind it")}
 
 
 # ---------------------------------------------------------------- programs
