@@ -12,8 +12,8 @@ pub trait InJson {
     // The bytes of the line, or `None` where only tests say them.
     ghost json: { Self → Option (List ℕ) } = { λ _. None };
 
-    /// Adds the line at the end of the text, with its line feed. The only error is out of memory; then the text may end with
-    /// a part of the line. Cost: O(n), n bytes of the line.
+    /// Adds the line at the end of the text, with its line feed. The only error is out of memory; then nothing is
+    /// promised of the text. Cost: O(n), n bytes of the line.
     fn json_to(&self, alloc: Global, out: &mut String) -> Result<(), AllocError>
         ensures { OnOk result (AppendsText (string_bytes out.old) (string_bytes out.new) (json self.now)) };
 }

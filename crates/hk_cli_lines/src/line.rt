@@ -18,8 +18,8 @@ use std::alloc::{AllocError, Global};
 pub trait Printed {
     ghost text: { Self → List ℕ };
 
-    /// Adds the lines at the end of the text. The only error is out of memory; then the text may end with a part of
-    /// the lines. Cost: O(n), n bytes of the lines.
+    /// Adds the lines at the end of the text. The only error is out of memory; then nothing is promised of the text, so
+    /// what has to stay is kept in another one, as `line_of` does. Cost: O(n), n bytes of the lines.
     fn print_to(&self, alloc: Global, out: &mut String) -> Result<(), AllocError>
         ensures { OnOk result (string_bytes out.new ≡ string_bytes out.old ++ text self.now) };
 }
