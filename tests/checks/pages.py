@@ -37,6 +37,7 @@ UNTYPED = {
     "rt plant": "runs for hours, by hand",
     "make quick": "minutes of the compiler; a program that is proved is what the gate has",
     "tests/tools/quick": "builds a program for minutes, and times it beside the proved one: by hand",
+    "tests/tools/dear": "proves a crate from nothing: minutes, by hand",
     "make lib": "proves anew what tests/tools/library --gate took from the gate",
     "make test": "is the gate",
     "make": "proves what the gate has proved",
