@@ -117,9 +117,10 @@ def run_in(folder, script):
         return out.read(), errors.read()
 
 
-def lines_of(printed):
-    """What was printed, without what a node says of its port and its links, which comes when it comes."""
-    return "".join(line for line in printed.splitlines(keepends=True) if not re.match(r"(listening|reading|ended) \d+$", line))
+def without_nodes(printed):
+    """What was printed, without what a node says of its port and its links, which comes when it comes: also inside a line that a command
+    writes in pieces."""
+    return re.sub(r"(listening|reading|ended) \d+\n", "", printed)
 
 
 def problems_of(page, program):
@@ -130,7 +131,7 @@ def problems_of(page, program):
         folder = pathlib.Path(name)
         reader(folder, program)
         printed, told = run_in(folder, with_ports(script))
-    pieces = [lines_of(piece) for piece in re.split(ENDS, printed)]
+    pieces = re.split(ENDS, without_nodes(printed))
     problems = differ([(page, got, said) for got, said in zip(pieces, wanted) if said is not None])
     if not len(pieces) == len(wanted) + 1 >= least + 1:
         problems.append(f"{page}: {len(wanted)} pieces, {len(pieces) - 1} ended: {told[-300:]}")
