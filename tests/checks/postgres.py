@@ -540,7 +540,7 @@ def page(shop):
     folder.mkdir()
     pasted.reader(folder, HKREP)
     printed, told = pasted.run_in(folder, pasted.with_ports(script))
-    pieces = re.findall(r"(.*?)<end (\d+)>\n", pasted.lines_of(printed), re.S)
+    pieces = re.findall(r"(.*?)<end (\d+)>\n", pasted.without_nodes(printed), re.S)
     wanted = {at - 1: it.text for at, it in enumerate(blocks) if it.how == "text"}
     problems = differ([(blocks[int(at)].text[:40], said, wanted[int(at)]) for said, at in pieces if int(at) in wanted])
     holds(len(pieces) == len(blocks) - len(wanted) >= 8 and not problems, f"{problems} {len(pieces)} pieces: "

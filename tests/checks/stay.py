@@ -273,6 +273,13 @@ def what_is_told():
     report("what a node that stays tells on standard error", problems)
 
 
+def heard(node, start):
+    """Waits until a node told something that begins so, for ten seconds at most."""
+    until = time.monotonic() + 10
+    while not any(line.startswith(start) for line in list(node.words)) and time.monotonic() < until:
+        time.sleep(0.01)
+
+
 def changes_are_told():
     """With -v each change that takes effect is told, with --report-changes the front after so many; a refused one counts for neither."""
     first, later = ["link 1: refused 24: ", "after 2 changes: front 0 5"], ["after 4 changes: front 1 5", "link 1: ended 0"]
@@ -286,6 +293,9 @@ def changes_are_told():
                 pairs = [("a push", link.ask(PUSHED), ("done", 2)), ("a prune that is refused", link.ask(say.prune(9))[:2], ("refused", 24)), ("a row", link.ask(GET), ROW)]
                 for at, change in enumerate((say.items(say.mark(1, 1, 5)), say.prune(1), PUSHED), 3):
                     pairs.append((f"change {at}", link.ask(change), ("done", at)))
+                    # the front is read once the change was answered, so the next one waits for what is told of it
+                    if at in (3, 5) and "--report-changes" in options:
+                        heard(node, first[1] if at == 3 else later[0])
             pairs.append(("its end", node.line(), "ended 0"))
             until = time.monotonic() + 10
             while len(node.words) < len(told) and time.monotonic() < until:
