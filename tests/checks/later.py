@@ -129,6 +129,18 @@ def holds():
     report("holds end with their link, and with no other", differ(pairs))
 
 
+def a_full_link():
+    """A link has 1,024 holds at most. One more is refused as the node refuses it, and only else since the link is full."""
+    with Node(1, words=LATER) as node, node.link() as link:
+        pairs = [("items", link.ask(ALL)[0], "done"), ("a prune", link.ask(say.prune(2))[0], "done")]
+        link.send(say.hold(2) * 1024)
+        pairs += [("1,024 holds", [link.reply() for _ in range(1024)], [("held", number, 2) for number in range(1, 1025)])]
+        pairs += [(name, link.ask(request), wanted) for name, request, wanted in (
+            ("one more", say.hold(2), ("refused", 46, 1024, 0)), ("one that is too old", say.hold(1), ("refused", 25, 2, 0)), ("and one more", say.hold(3), ("refused", 46, 1024, 0)))]
+        pairs += [("a release", link.ask(say.release(7))[0], "done"), ("one in its place", link.ask(say.hold(3)), ("held", 1025, 3)), ("full again", link.ask(say.hold(3)), ("refused", 46, 1024, 0))]
+    report("the node's own refusal comes before that of a full link", differ(pairs))
+
+
 def a_limit_for_all():
     """What all links keep in parts has one limit; what would be more is refused and nothing changed; it is given back with the last part, a
     join, and the end of a link."""
@@ -474,7 +486,7 @@ def commands():
     report("pull, save and load in parts", differ(pairs))
 
 
-CHECKS = (sessions, faults, without_it, links_that_only_read, holds, a_limit_for_all, many_at_once, damage, python_node, python_feeds, commands)
+CHECKS = (sessions, faults, without_it, links_that_only_read, holds, a_full_link, a_limit_for_all, many_at_once, damage, python_node, python_feeds, commands)
 
 
 def main():
