@@ -147,7 +147,7 @@ def compare(one, other):
 
 
 def main():
-    port = int(sys.argv[1]) if len(sys.argv) > 1 else 47111
+    port = int(sys.argv[1]) if len(sys.argv) > 1 else 7427
     start = time.monotonic()
     nodes = []
     try:

@@ -2,9 +2,9 @@
 """A report of the shop, from one moment of all nodes that are named: what each branch has, and the sum, which no
 transfer changes.
 
-    report.py --node 47000 --node 47001                     at the last moment that all of them have
-    report.py --node 47000 --clock 2026-11-26T20:00:00Z     as it was by that time of the clock
-    report.py --node 47000 --lsn 0/16B3748                  with all up to this place of the write-ahead log"""
+    report.py --node 7420 --node 7421                     at the last moment that all of them have
+    report.py --node 7420 --clock 2026-11-26T20:00:00Z     as it was by that time of the clock
+    report.py --node 7420 --lsn 0/16B3748                  with all up to this place of the write-ahead log"""
 from __future__ import annotations
 
 import argparse

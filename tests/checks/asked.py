@@ -269,7 +269,7 @@ def addressed():
     pairs += [("nobody there", (out, status, f"can't connect to 127.0.0.1:{nobody}: " in told), (b"refused 93\n", 1, True))]
     out, status, told = run("front", "--node", f"nobody.invalid:{nobody}", "--connect-seconds", 0)
     pairs += [("a name of nothing", (out, status, f"can't connect to nobody.invalid:{nobody}: " in told), (b"refused 93\n", 1, True))]
-    for word in ("far", "far:", "far:0", "far:65536", "far:x", ":47110", "47110"):
+    for word in ("far", "far:", "far:0", "far:65536", "far:x", ":7426", "7426"):
         out, status, told = run("front", "--node", word)
         pairs += [(word, (out, status, f"invalid value '{word}' for '--node <ADDRESS>': an address is HOST:PORT" in told), (b"", 2, True))]
     for words in (["front", "--node", "far:1", "--port", 1], ["front", "--node", "far:1", "--log", 7, "--streams", 1], ["push"], ["front"],

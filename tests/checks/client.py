@@ -470,7 +470,7 @@ def bad_ports_and_lines():
     with socket.create_server(("127.0.0.1", 0)) as taken:
         port = str(taken.getsockname()[1])
         problems += differ([("a port in use", run(["serve", "--log", "7", "--streams", "1", "--port", port, "--links", "1"]), ("refused 93\n", 1, 1))])
-    serve = {"--log": "7", "--streams": "1", "--port": "47110", "--links": "1"}
+    serve = {"--log": "7", "--streams": "1", "--port": "7426", "--links": "1"}
     lines = [["serve", *(word for pair in {**serve, name: value}.items() for word in pair)] for name, value in (
         ("--port", "0"), ("--port", "65536"), ("--port", "+1"), ("--links", "0"), ("--links", "65"), ("--links", "-1"), ("--streams", "65"),
         ("--log", "x"), ("--more", "1"))]

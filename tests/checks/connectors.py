@@ -680,7 +680,7 @@ def as_in_the_page(it):
     takes."""
     env = {**os.environ, "REDIS_URL": f"redis://127.0.0.1:{it.redis_port}"}
     for shown in of("connectors.py typed"):
-        line = shown.text.replace("LOG.bin", str(it.folder / "log.bin")).replace("47000", str(it.node_port)).replace("redis-cli", f"redis-cli -p {it.redis_port}")
+        line = shown.text.replace("LOG.bin", str(it.folder / "log.bin")).replace("7420", str(it.node_port)).replace("redis-cli", f"redis-cli -p {it.redis_port}")
         child = it.start("bash", "-c", f"exec {line}", cwd=ROOT, env=env, stdout=subprocess.PIPE)
         if "/follow" in line:
             it.reached(1)

@@ -630,7 +630,7 @@ def as_in_the_page(it):
     env = {**os.environ, "NATS_URL": it.servers.urls()}
     for shown in of("engine.py typed"):
         line = shown.text.replace("LOG.bin", shlex.quote(str(it.folder / "log.bin"))).replace("A:4222,B:4222,C:4222", it.servers.urls())
-        line = line.replace("47000", str(it.ports["one"])).replace("47001", str(it.ports["two"]))
+        line = line.replace("7420", str(it.ports["one"])).replace("7421", str(it.ports["two"]))
         for host, monitor in zip("ABC", it.servers.monitors()):
             line = line.replace(f"{host}:8222", monitor)
         child = it.start("bash", "-c", f"exec {line}", cwd=ROOT, env=env, stdout=subprocess.PIPE)

@@ -178,7 +178,7 @@ def in_a_bare_root():
 def answered(root, lines):
     """What is wrong with lines that are typed in the root, one of which starts a node that stays: examples/node tells on standard error which."""
     port, wanted = str(free_port()), [it for line in lines for it in re.findall(r"# (.*)$", line)]
-    text = "\n".join(re.sub(r" *#.*$", "", line) for line in lines).replace("47100", port)
+    text = "\n".join(re.sub(r" *#.*$", "", line) for line in lines).replace("7428", port)
     text = re.sub(r"^(\S*examples/node)$", rf'\1 {port} 2> /said; while read -r word node _; do [ "$word" = node ] && break; done < /said', text, flags=re.M)
     said, status = inside(root, f"{text}\nkill $node")
     return differ([("prints", said.splitlines(), wanted), ("status", status, 0)])
@@ -352,7 +352,7 @@ def systemd(whole):
     if not shutil.which("systemd-analyze"):
         skip("systemd is not installed: nothing reads the unit", needed=False)
         return
-    copy = WORK / "hkrep@47000.service"
+    copy = WORK / "hkrep@7420.service"
     copy.write_text((whole / "usr/lib/systemd/system/hkrep@.service").read_text(encoding="utf-8").replace("/usr/bin/hkrep", str(whole / "usr/bin/hkrep")), encoding="utf-8")
     said, _ = run(["systemd-analyze", "verify", "--man=no", copy])
     report("systemd reads the unit", [line for line in said.splitlines() if "hkrep@" in line])

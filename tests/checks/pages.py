@@ -95,7 +95,7 @@ def asked_node():
     port = str(free_port())
     node = subprocess.Popen([PROGRAM, "serve", "--log", "7", "--streams", "1", "--port", port, "--links", "1"], stdout=subprocess.PIPE, text=True)
     node.stdout.readline()
-    words = of("pages.py asked node")[0].text.replace("47000", port).split()
+    words = of("pages.py asked node")[0].text.replace("7420", port).split()
     got = subprocess.run([sys.executable, *words], cwd=ROOT, stdout=subprocess.PIPE, stderr=subprocess.STDOUT, text=True, timeout=60, check=False)
     ended, _ = node.communicate(timeout=60)
     wanted = "front 01 21 00 00 00 00 00 00 00 00 00 00 00 00 00 00 00 01\ntag 9 body 41\n"
@@ -215,7 +215,7 @@ def run_example(line, ports, folder):
     """Runs a line of an example, with free ports for those that it names and in a folder for what it writes."""
     if line.endswith("&"):
         port = str(free_port())
-        line = line.replace("47110", port).replace("47111", str(free_port())).replace("hkrep", str(PROGRAM), 1)
+        line = line.replace("7426", port).replace("7427", str(free_port())).replace("hkrep", str(PROGRAM), 1)
         return line, started_node(line, port)
     for named, port in ports.items():
         line = line.replace(named, port)
@@ -227,11 +227,11 @@ def helped():
     """Each command's help has an example, which runs; those with a port are asked of nodes, one of which took the first items."""
     listed, _ = bash("bin/hkrep --help")
     known = [line.split()[0] for line in listed.splitlines() if re.match(r"  [a-z]+ ", line) and line.split()[0] not in ("help", "world")]
-    ports = {"47110": str(free_port()), "47111": str(free_port())}
+    ports = {"7426": str(free_port()), "7427": str(free_port())}
     nodes = [serving(port) for port in ports.values()]
     problems = []
     try:
-        bash(f"bin/hkrep feed --port {ports['47110']} < examples/first.bin")
+        bash(f"bin/hkrep feed --port {ports['7426']} < examples/first.bin")
         with tempfile.TemporaryDirectory() as folder:
             for command in sorted(known, key=lambda it: (it == "prune", it == "load", it)):
                 lines = examples_of(command)

@@ -29,7 +29,7 @@ STUNNEL = shutil.which("stunnel") or shutil.which("stunnel4")
 AUTHORITY = ROOT / "deploy" / "stunnel" / "authority"
 LIMIT = 30
 # the ports of the page and of deploy/stunnel
-PORTS = ("7420", "7421", "47000", "47001", "47002", "47100", "47101")
+PORTS = ("7420", "7421", "7422", "7424", "7425", "7428", "7429")
 ENTRY = va.Entry.of(7, 1, 1, 1, rows=[(1, 5, 9, b"A")])
 ROW = va.Row(9, b"A")
 # what each client that may not come is told; the words are those of TLS
@@ -93,7 +93,7 @@ def typed():
 def typed_one(started, folder, shown, ports):
     line = shown.text.replace("/etc/vadungsil", str(folder)).replace("NODE", "localhost")
     line = re.sub(r"(?<=[ =])(\w+\.pem)", rf"{folder}/\1", line)
-    line = re.sub(r"(?<=[ :])(742[01]|47[01]0[01]|47002)\b", lambda found: ports[found[1]], line)
+    line = re.sub(r"(?<=[ :])(742[0124589])\b", lambda found: ports[found[1]], line)
     env = {**os.environ, "PATH": f"{PROGRAM.parent}:{os.environ['PATH']}", "PYTHONPATH": str(ROOT / "clients" / "python"),
            "NATS_URL": f"127.0.0.1:{ports['nothing']}"}
     if line.startswith("stunnel "):
@@ -159,7 +159,7 @@ def strangers():
         certified(other, ("reader", "other"))
         with Started(folder) as started:
             readers, feeders = str(free_port()), str(free_port())
-            started.stunnel("node.conf", {"7421": readers, "7420": feeders, "47002": str(node.feed_port), "47001": str(node.read_port)})
+            started.stunnel("node.conf", {"7429": readers, "7428": feeders, "7422": str(node.feed_port), "7421": str(node.read_port)})
             report("who may come over TLS, and what the others are told",
                    come(folder, node, readers, feeders) + stay_out(folder, other, node, readers, feeders))
 
@@ -227,11 +227,11 @@ def wrong_words():
             return f"made {call()}"
         except ValueError as error:
             return str(error)
-    pairs = [("for a plain address", told(lambda: va.Node(47000, ca="x")), "certificates are for addresses that begin with tls://"),
-             ("for many", told(lambda: va.Nodes([47000, "a:1"], cert="x")), "certificates are for addresses that begin with tls://"),
+    pairs = [("for a plain address", told(lambda: va.Node(7420, ca="x")), "certificates are for addresses that begin with tls://"),
+             ("for many", told(lambda: va.Nodes([7420, "a:1"], cert="x")), "certificates are for addresses that begin with tls://"),
              ("no file", told(lambda: va.Node("tls://a:1", ca="/nowhere/ca.pem"))[:41], "certificates of /nowhere/ca.pem: [Errno 2"),
              ("no address", told(lambda: va.Node("tls://a")), "no address: 'tls://a'")]
-    said, status = run(sys.executable, "-m", "vadungsil", "--port", "47000", "--cacert", "x", "front", cwd=ROOT / "clients" / "python")
+    said, status = run(sys.executable, "-m", "vadungsil", "--port", "7420", "--cacert", "x", "front", cwd=ROOT / "clients" / "python")
     pairs.append(("the command", (said, status), ("vadungsil: certificates are for addresses that begin with tls://\n", 2)))
     report("certificates that can't be used", differ(pairs))
 

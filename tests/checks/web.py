@@ -557,7 +557,7 @@ def page():
     """Each command and address that docs/LOOKING.md shows works as it stands there, on other ports."""
     problems, shown = [], of("web.py commands")
     with nodes(2) as two, tempfile.TemporaryDirectory() as folder, web_of([it.port for it in two]) as web:
-        ports = {"47000": str(two[0].port), "47001": str(two[1].port), "8080": str(web.port), "picture.svg": f"{folder}/picture.svg"}
+        ports = {"7420": str(two[0].port), "7421": str(two[1].port), "8080": str(web.port), "picture.svg": f"{folder}/picture.svg"}
         for line in shown:
             words, said = line.text if ".web" not in line.text or "--http" in line.text else f"{line.text} --http 127.0.0.1:8080", line.printed
             for word, stands_for in ports.items():

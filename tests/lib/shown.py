@@ -53,7 +53,7 @@ ROWS = (
     (".*", "said|set in", "make nats-demo", "engine.py demonstrated"),
     (".*", "said|set in", "make shop-demo", "postgres.py demonstrated"),
     ("docs/POSTGRESQL.md", "sh|python|text", "", "postgres.py page"),
-    ("docs/OPERATING.md", "set in", r"deploy/stunnel/authority |stunnel |.*(tls://|--read-port 47001|--port 47100)", "tunnel.py typed"),
+    ("docs/OPERATING.md", "set in", r"deploy/stunnel/authority |stunnel |.*(tls://|--read-port 7421|--port 7424)", "tunnel.py typed"),
     ("docs/FORMATS.md|docs/PROTOCOL.md", "set in", " *[0-9a-f]{4}", "pages.py bytes"),
     ("docs/PROTOCOL.md", "set in", " +[0-9a-f]{2}", "pages.py bytes"),
     ("docs/FORMATS.md", "set in", "", "pages.py words"),

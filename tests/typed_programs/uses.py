@@ -90,7 +90,7 @@ def many(node: Node) -> List[Optional[Row]]:
         asked = [pipe.get(1, key) for key in range(5, 8)]
         counts: List[Later[int]] = [pipe.count(1), pipe.items([])]
     print(counts[0].result() + 1)
-    nodes = Nodes([47001, "other:47001"], agree=2, log=7, streams=1)
+    nodes = Nodes([7421, "other:7421"], agree=2, log=7, streams=1)
     members: List[Member] = nodes.members()
     print([it.address for it in members if it.state == "bad"], (members[0].readable or 0) + 1)
     print(nodes.latest() + nodes.at().count(1), export(nodes, "rows.csv", "csv", 1, [1]) + 1)
@@ -98,7 +98,7 @@ def many(node: Node) -> List[Optional[Row]]:
 
 
 async def side_by_side() -> Tuple[Optional[Row], int]:
-    async with AsyncNode(47001) as node:
+    async with AsyncNode(7421) as node:
         row, count = await asyncio.gather(node.get(1, 5), node.count(1))
         count += (await node.items([])).new or 0
         time, newest = await node.latest(Get(1, 5))
@@ -122,5 +122,5 @@ def refused(node: Node) -> Union[int, str]:
 
 
 def beside() -> Optional[Row]:
-    print(Server([47001], ("127.0.0.1", 0)).address)
+    print(Server([7421], ("127.0.0.1", 0)).address)
     return Replica(7, 1).get(1, 5)

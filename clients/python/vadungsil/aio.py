@@ -94,7 +94,7 @@ class AsyncNode(
         Awaitable[Operations],
     ]
 ):
-    """As `Node`, with awaitable answers: `async with AsyncNode(47000) as node:`, `await node.get(1, 5)`.
+    """As `Node`, with awaitable answers: `async with AsyncNode(7420) as node:`, `await node.get(1, 5)`.
     `asyncio.gather` of many questions is a pipeline. `limit` is the most seconds from a request to its reply; past it
     the connection is closed."""
 

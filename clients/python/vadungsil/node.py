@@ -70,7 +70,7 @@ class Node(
         Operations,
     ]
 ):
-    """A node: `Node(47000)`, `Node("127.0.0.1:47000")`. The connection is opened with the first request, kept, and
+    """A node: `Node(7420)`, `Node("127.0.0.1:7420")`. The connection is opened with the first request, kept, and
     opened anew where it broke; a request whose reply did not come is then made once more, which is safe for all of
     them: a change made twice is as made once (the number that it returns is another). A time limit is not tried again:
     `TimeLimit` is raised.

@@ -33,7 +33,7 @@ class NoNode(LinkBroken):
 
 
 class Nodes(Reads[Optional[Row], List[KeyRow], int]):
-    """`Nodes([47000, "other:47000"])`: each question goes to the next node in turn that can read its time. Threads may
+    """`Nodes([7420, "other:7420"])`: each question goes to the next node in turn that can read its time. Threads may
     share it. The files `ca`, `cert` and `key` are for those of its addresses that begin with tls://, as those of a
     `Node`.
 

@@ -158,7 +158,7 @@ def table_of(number: int, body: bytes) -> Table:
 
 class Database:
     """The tables of a capture in a node that reads messages of version 2 (`serve --messages 2`):
-    `Database(Node(47000))`. Without a time all is asked at the resolved time, which is a moment; a time that is handed
+    `Database(Node(7420))`. Without a time all is asked at the resolved time, which is a moment; a time that is handed
     in is rounded down to one."""
 
     def __init__(self, node: Node) -> None:

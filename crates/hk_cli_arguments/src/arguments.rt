@@ -31,14 +31,14 @@ const SERVE_ABOUT: &str =
     "Start a node, and serve connections to it on a port of 127.0.0.1; with --stay without an end";
 
 const LINKS_EXAMPLE: &str = "Example, a node and a feeder:
-  hkrep serve --log 7 --streams 1 --port 47110 --links 1 &
-  hkrep push --port 47110 < examples/links/first.bin
-The node prints 'listening 47110' once connections can be opened. The feeder sends two items and asks \
+  hkrep serve --log 7 --streams 1 --port 7426 --links 1 &
+  hkrep push --port 7426 < examples/links/first.bin
+The node prints 'listening 7426' once connections can be opened. The feeder sends two items and asks \
 for a row: it prints 'done 2' and '9 41'. When the connections have ended, the node prints 'ended 0' for \
 each, or the number of what ended it.
 
 A long-running node, with a port of its own for readers:
-  hkrep serve --stay --log 7 --streams 1 --port 47110 --links 40 --read-port 47111 --read-links 20 &";
+  hkrep serve --stay --log 7 --streams 1 --port 7426 --links 40 --read-port 7427 --read-links 20 &";
 
 const SERVE_LONG_ABOUT: &str = "Start a node, and serve connections to it on a port of 127.0.0.1.
 
@@ -272,7 +272,7 @@ fn addressed_form<'a>(
         return made_form(alloc, form, matches);
     };
     let message = format!(in alloc;
-        "invalid value '{word}' for '--node <ADDRESS>': an address is HOST:PORT, as far:47110 or [::1]:47110"
+        "invalid value '{word}' for '--node <ADDRESS>': an address is HOST:PORT, as far:7426 or [::1]:7426"
     )?;
     no_call(alloc, message.as_str())
 }

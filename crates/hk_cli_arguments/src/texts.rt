@@ -18,7 +18,7 @@ pub(crate) const ASK_EXAMPLE: &str = "Example:
 prints '5 9 41', the key, tag and body of each row of table 1 with a key from 0 to 9 at time 1, and \
 then 'rows 1'. What is refused is printed as at 'hkrep at'. With --port it asks a node that runs, and \
 reads at the resolved time where no time is given:
-  hkrep ask --port 47110 get 1 5";
+  hkrep ask --port 7426 get 1 5";
 
 pub(crate) const GET_ABOUT: &str = "The row at a key: prints 'TAG BODY' or 'none'";
 
@@ -37,7 +37,7 @@ pub(crate) const FRONT_ABOUT: &str =
 pub(crate) const FRONT_EXAMPLE: &str = "Example:
   hkrep front --log 7 --streams 1 < examples/first.bin
 prints 'front horizon 0 readable 1': times from 0 to 1 can be read. Of a node that runs:
-  hkrep front --port 47110";
+  hkrep front --port 7426";
 
 pub(crate) const STATUS_ABOUT: &str =
     "Absorb the item frames of standard input, or ask a node that runs \
@@ -52,7 +52,7 @@ prints
 Of each stream: the number up to which all entries are there, how many are there above it, the time \
 up to which marks close it, how many marks wait for entries, and whether it holds the resolved time \
 back while another is closed further ('holds'), doesn't ('open') or is retired ('retired'). Of a node that runs:
-  hkrep status --port 47110";
+  hkrep status --port 7426";
 
 pub(crate) const EXPLAIN_ABOUT: &str = "Print what the numbers of refusals mean, and what to do";
 
@@ -129,9 +129,9 @@ where the input or a reply is malformed (1 to 10; 1 where the replies end), a re
 write (92) fails, or nobody listens (93). docs/PROTOCOL.md describes the messages of a connection.
 
 Example, a node and a feeder:
-  hkrep serve --log 7 --streams 1 --port 47110 --links 1 &
-  hkrep push --port 47110 < examples/links/first.bin
-The node prints 'listening 47110' once connections can be opened. The feeder sends two items and asks \
+  hkrep serve --log 7 --streams 1 --port 7426 --links 1 &
+  hkrep push --port 7426 < examples/links/first.bin
+The node prints 'listening 7426' once connections can be opened. The feeder sends two items and asks \
 for a row: it prints 'done 2' and '9 41'. When the connections have ended, the node prints 'ended 0' for \
 each, or the number of what ended it.";
 
@@ -146,32 +146,32 @@ number, the column and what was expected, and nothing is written for it.";
 pub(crate) const SAVE_ABOUT: &str = "Write a full snapshot of a node, for 'hkrep load'";
 
 pub(crate) const SAVE_EXAMPLE: &str = "Example:
-  hkrep save --port 47110 > whole.bin
+  hkrep save --port 7426 > whole.bin
 writes one frame. With --json it prints a line of the head and one of each version.";
 
 pub(crate) const LOAD_ABOUT: &str = "Send what 'hkrep save' wrote to a node";
 
 pub(crate) const LOAD_EXAMPLE: &str = "Example:
-  hkrep load --port 47110 < whole.bin
+  hkrep load --port 7426 < whole.bin
 prints 'done' and the number of the node's operation.";
 
 pub(crate) const PULL_ABOUT: &str = "Copy missing data from another node";
 
 pub(crate) const PULL_EXAMPLE: &str = "Example:
-  hkrep pull --port 47111 --from 47110
-asks the node on 47110 for a delta since the resolved time of the one on 47111, or for a full snapshot where \
+  hkrep pull --port 7427 --from 7426
+asks the node on 7426 for a delta since the resolved time of the one on 7427, or for a full snapshot where \
 it can't cut one there, sends it to that one, and prints 'done' and the number of its operation.";
 
 pub(crate) const PRUNE_ABOUT: &str = "Discard the versions that no read at TIME or later needs";
 
 pub(crate) const PRUNE_EXAMPLE: &str = "Example:
-  hkrep prune --port 47110 1
+  hkrep prune --port 7426 1
 prints 'done' and the number of the node's operation.";
 
 pub(crate) const FEED_ABOUT: &str = "Send the item frames of standard input to a node";
 
 pub(crate) const FEED_EXAMPLE: &str = "Example:
-  hkrep feed --port 47110 < examples/first.bin
+  hkrep feed --port 7426 < examples/first.bin
 prints 'done' and the number of the node's last operation. Standard error says how many items a second went. \
 The first batch that is refused ends it; those before it are applied. With --messages 2, to a node that answers these, \
 standard error also says how many of the items the node didn't know before: 'new 2 of 2'.";
@@ -179,7 +179,7 @@ standard error also says how many of the items the node didn't know before: 'new
 pub(crate) const SHELL_ABOUT: &str = "Answer the lines of standard input from a node that runs";
 
 pub(crate) const SHELL_EXAMPLE: &str = "Example:
-  echo 'range 1 0 9' | hkrep shell --port 47110
+  echo 'range 1 0 9' | hkrep shell --port 7426
 prints the rows of table 1 with a key from 0 to 9 at the resolved time as a table, and how many they are. The lines:
   get TABLE KEY | range TABLE LOW HIGH | tag TABLE TAG | count TABLE      at the resolved time
   at TIME get TABLE KEY                                                   the same at a time

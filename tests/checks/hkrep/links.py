@@ -18,7 +18,7 @@ def free_pair():
             except OSError:
                 continue
             return port
-    return 47111
+    return 7427
 
 
 def links_example():
