@@ -16,7 +16,6 @@ use std::sync::Arc;
 pub const MOST_BODY_BYTES: usize = 4_096;
 
 /// A row of a table: a tag, and a body of 0 to 4,096 bytes.
-#[derive(Drop)]
 pub struct Row {
     form: RowForm,
 }
@@ -45,6 +44,14 @@ impl Model for Row {
     ghost view = { λ a. stored a.form };
 
     ghost invariant = { λ a. AreWithin a.form };
+}
+
+// Written out, so that a crate which drops rows sees one call, and not each form.
+impl Drop for Row {
+    fn drop(self) {
+        let Row { form } = self;
+        drop(form);
+    }
 }
 
 impl Debug for Row {
