@@ -23,13 +23,27 @@ use std::mem;
 ///
 /// `base` is 0 or at least `horizon`, `horizon` is at most the least closed time of the streams, versions are born at
 /// 1 or later, and ends are above `base`, `horizon` and the birth of their version.
-#[derive(Drop)]
 pub struct Fragment {
     config: Config,
     base: Time,
     horizon: Time,
     got: Got,
     facts: Vec<(VersionKey, Version)>,
+}
+
+// Written out, so that a crate above which drops one sees one call, and not all that it holds.
+impl Drop for Fragment {
+    fn drop(self) {
+        let Fragment {
+            config: _,
+            base: _,
+            horizon: _,
+            got,
+            facts,
+        } = self;
+        drop(got);
+        drop(facts);
+    }
 }
 
 impl Model for Fragment {

@@ -39,12 +39,25 @@ use std::marker::Model;
 ///     add_mark(4, 40)      prefix 1   extra {3: 5}   closed 0    waiting {4: 40}    entry 2 is missing
 ///     add_mark(1, 10)      prefix 1   extra {3: 5}   closed 10   waiting {4: 40}
 ///     add_number(2)        prefix 4   extra {}       closed 40   waiting {}
-#[derive(Drop)]
 pub struct Stream {
     prefix: u64,
     extra: BTreeMap<u64, u64>,
     closed: Time,
     waiting: BTreeMap<u64, Time>,
+}
+
+// Written out, so that a crate above which drops one sees one call, and not all that it holds.
+impl Drop for Stream {
+    fn drop(self) {
+        let Stream {
+            prefix: _,
+            extra,
+            closed: _,
+            waiting,
+        } = self;
+        drop(extra);
+        drop(waiting);
+    }
 }
 
 impl Model for Stream {

@@ -26,12 +26,27 @@ use std::marker::Model;
 
 /// The rows and the ends of all versions, with lists of the keys that have a row with a tag, and two indexes: by the time
 /// of birth of those whose row is known, and by the time of death of those whose end is known.
-#[derive(Drop)]
 pub struct Facts {
     pub(crate) chains: Chains,
     pub(crate) tags: TagKeys,
     pub(crate) births: BirthIndex,
     pub(crate) deaths: TimeIndex,
+}
+
+// Written out, so that a crate above which drops one sees one call, and not all that it holds.
+impl Drop for Facts {
+    fn drop(self) {
+        let Facts {
+            chains,
+            tags,
+            births,
+            deaths,
+        } = self;
+        drop(chains);
+        drop(tags);
+        drop(births);
+        drop(deaths);
+    }
 }
 
 impl Model for Facts {
