@@ -29,6 +29,7 @@ from vadungsil.__main__ import main
 sys.exit(main())
 """
 SHARED = ("examples", "connectors")
+UNITS = ("hkrep@.service", "hkrep-save@.service", "hkrep-save@.timer")
 PAGES = (".md", ".svg", ".png", ".json")
 
 
@@ -136,10 +137,11 @@ def of_shells(tree, program):
 
 
 def of_system(tree):
-    """The unit of a node, and its settings."""
+    """The units of a node and of its saves, and their settings."""
     settings = f"{tree.sysconfdir}/default/hkrep"
-    unit = (ROOT / "deploy" / "hkrep@.service").read_text(encoding="utf-8")
-    tree.add(f"{tree.prefix}/lib/systemd/system/hkrep@.service", unit.replace("@BIN@", f"{tree.prefix}/bin").replace("@SETTINGS@", settings))
+    for name in UNITS:
+        unit = (ROOT / "deploy" / name).read_text(encoding="utf-8")
+        tree.add(f"{tree.prefix}/lib/systemd/system/{name}", unit.replace("@BIN@", f"{tree.prefix}/bin").replace("@SETTINGS@", settings))
     tree.copy(settings, ROOT / "deploy" / "hkrep.default", 0o644)
     tree.settings.append(settings.lstrip("/"))
 

@@ -184,23 +184,31 @@ def answered(root, lines):
     return differ([("prints", said.splitlines(), wanted), ("status", status, 0)])
 
 
-# a shell that has nothing waits for a node so
-WAIT = "tries=0; until hkrep front --port PORT > /dev/null 2>&1 || [ $tries -gt 300 ]; do tries=$((tries + 1)); done\n"
+UNITS = ("hkrep@.service", "hkrep-save@.service", "hkrep-save@.timer")
 
 
 def unit(root):
-    """The node as the unit starts it: its command line with its settings."""
-    of_unit = (BARE / "usr/lib/systemd/system/hkrep@.service").read_text(encoding="utf-8")
-    settings = re.search(r"^EnvironmentFile=(/.*)$", of_unit, re.M)[1]
+    """The node as the units start, save and stop it, by their command lines with their settings; then it begins with what was saved."""
+    of_units = {name: (BARE / "usr/lib/systemd/system" / name).read_text(encoding="utf-8") for name in UNITS}
     port = str(free_port())
-    command = re.search(r"^ExecStart=(.*)$", of_unit, re.M)[1].replace("%i", port)
-    lines = f". {settings}; {command} > /dev/null & node=$!\n{WAIT.replace('PORT', port)}" \
-            f"hkrep feed --port {port} < /{SHARED}/examples/first.bin; hkrep ask --port {port} get 1 5\n" \
-            f"printf '\\0\\0\\0\\2\\2\\60' | hkrep push --messages 2 --port {port}; kill $node"
+
+    def command(name, field):
+        line = re.search(rf"^{field}=-?(.*)$", of_units[name], re.M)[1]
+        return line.replace("%i", port).replace("%S", "")
+
+    settings = command(UNITS[0], "EnvironmentFile")
+    start = f". {settings}; {command(UNITS[0], 'ExecStart')} > /dev/null & node=$!\n{command(UNITS[0], 'ExecStartPost')} > /dev/null\n"
+    (BARE / "hkrep").mkdir()
+    lines = f"{start}hkrep feed --port {port} < /{SHARED}/examples/first.bin; hkrep ask --port {port} get 1 5\n" \
+            f"printf '\\0\\0\\0\\2\\2\\60' | hkrep push --messages 2 --port {port}; {command(UNITS[1], 'ExecStart')} && kill -9 $node; wait $node\n" \
+            f"{start}hkrep ask --port {port} get 1 5; {command(UNITS[0], 'ExecStop')}; kill $node; wait $node\n{start}hkrep front --port {port}; kill $node"
     said, _ = inside(root, lines)
+    saved = sorted(it.name for it in (BARE / "hkrep").iterdir())
+    shutil.rmtree(BARE / "hkrep")
     # the last is Streams, a request of version 2, which the calls of docs/PYTHON.md need
     told = "streams log 7 horizon 0 readable 1 operations 2\nstream 1 prefix 1 extra 0 closed 1 waiting 0\n"
-    report("the unit's command line starts a node that answers, also messages of version 2", differ([("prints", said, f"done 2\n9 41\n{told}")]))
+    report("the units' command lines start a node that answers, also messages of version 2, and save it; then it comes back with what it had",
+           differ([("prints", said, f"done 2\n9 41\n{told}9 41\nfront horizon 0 readable 1\n"), ("saved", saved, [f"{port}.save"])]))
 
 
 def listed(deb, to, manifest):
@@ -348,14 +356,17 @@ def over_c():
 
 
 def systemd(whole):
-    """systemd reads the unit, where it is."""
+    """systemd reads the units, where it is."""
     if not shutil.which("systemd-analyze"):
-        skip("systemd is not installed: nothing reads the unit", needed=False)
+        skip("systemd is not installed: nothing reads the units", needed=False)
         return
-    copy = WORK / "hkrep@7420.service"
-    copy.write_text((whole / "usr/lib/systemd/system/hkrep@.service").read_text(encoding="utf-8").replace("/usr/bin/hkrep", str(whole / "usr/bin/hkrep")), encoding="utf-8")
-    said, _ = run(["systemd-analyze", "verify", "--man=no", copy])
-    report("systemd reads the unit", [line for line in said.splitlines() if "hkrep@" in line])
+    copies = WORK / "units"
+    copies.mkdir()
+    for name in UNITS:
+        text = (whole / "usr/lib/systemd/system" / name).read_text(encoding="utf-8").replace("/usr/bin/hkrep", str(whole / "usr/bin/hkrep"))
+        (copies / name.replace("@", "@7420")).write_text(text, encoding="utf-8")
+    said, _ = run(["systemd-analyze", "verify", "--man=no", *sorted(copies.iterdir())])
+    report("systemd reads the units", [line for line in said.splitlines() if "hkrep" in line])
 
 
 def unproved():

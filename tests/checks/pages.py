@@ -54,8 +54,8 @@ UNTYPED = {
 }
 
 # What stands in a command of a page for something of the reader's own; a port is a free one.
-STAND_INS = {"FRAMES": "examples/first.bin", "NAME": "half_fed", "TIME": "1"}
-PORTS = r"\b(4700[01]|4701[01]|4711[01]|(?<=--port )P|(?<=--port )Q)\b"
+STAND_INS = {"FILE": "/dev/shm/hkrep.save", "FRAMES": "examples/first.bin", "NAME": "half_fed", "TIME": "1"}
+PORTS = r"\b(742\d|(?<=--port )P|(?<=--port )Q)\b"
 
 
 def sources():
@@ -140,7 +140,7 @@ def started_node(command, port):
     line = node.stdout.readline()
     node.kill()
     node.communicate(timeout=60)
-    return line, 0 if line == f"listening {port}\n" else 1
+    return line, 0 if line == f"listening {port}\n" or line.startswith(f"listening on 127.0.0.1:{port} ") else 1
 
 
 def asked_of_nodes(command, port):
@@ -167,7 +167,7 @@ def typed_command(text):
     for word, stands_for in STAND_INS.items():
         command = re.sub(rf"\b{word}\b", stands_for, command)
     command = command if command.startswith("bin/") else f"bin/{command}"
-    if " serve " in command:
+    if re.search(" (serve|node) ", command):
         return command, *started_node(command.replace("bin/hkrep", str(PROGRAM)), port)
     if " --log " in command and " < " not in command:
         command += " < examples/first.bin"
@@ -238,7 +238,7 @@ def helped():
                 problems += [] if lines else [f"{command} has no example"]
                 for line in lines:
                     line, (printed, status) = run_example(line, ports, folder)
-                    if status != 0 or (not printed and " > " not in line):
+                    if status != 0 or (not printed and not re.search(" > | --out ", line)):
                         problems.append(f"{line}: status {status}, printed {printed[:100]!r}")
     finally:
         for node in nodes:

@@ -48,7 +48,7 @@ def shell_of(blocks):
 
 def readme():
     """The node of README.md, what is typed to it, and the listing for Python behind it."""
-    lines = shown("README.md", "set in", r"hkrep (serve --stay --log|feed|ask|status) ")
+    lines = shown("README.md", "set in", r"hkrep (node --log|feed|ask|status) ")
     (listing,) = shown("README.md", "python")
     wanted = [f"{it.printed}\n" if it.printed else None for it in lines] + ["".join(f"{text}\n" for text in re.findall(r"# prints (.*)", listing.text))]
     return shell_of([it.text for it in lines]) + python_of([listing.text]) + "kill $(jobs -p)\n", wanted
@@ -84,7 +84,7 @@ def is_free(port):
 
 def with_ports(script):
     """A script whose ports nobody has."""
-    for port in sorted(set(re.findall(r"\b47\d\d\d\b", script))):
+    for port in sorted(set(re.findall(r"\b742\d\b", script))):
         if not is_free(int(port)):
             script = re.sub(rf"\b{port}\b", str(free_port()), script)
     return script

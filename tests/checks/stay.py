@@ -1,8 +1,11 @@
 #!/usr/bin/env python3
-"""Checks of `bin/hkrep serve --stay`: places that are given back, links that only read, limits of time, and peers that mean ill.
+"""Checks of `bin/hkrep serve --stay` and `bin/hkrep node`: places that are given back, links that only read, limits of time, and peers that mean ill.
 
 Prints a line for each check and ends with 'N passed, M failed'. Standard library only."""
+import datetime
+import fcntl
 import pathlib
+import re
 import signal
 import socket
 import struct
@@ -13,9 +16,9 @@ import time
 
 sys.path.append(str(pathlib.Path(__file__).resolve().parents[1] / "lib"))
 import messages as say
-from checks import differ, ended, guarded, is_built, report
+from checks import differ, ended, free_port, guarded, is_built, report
 from messages import E1, TOO_LONG
-from staying import PROGRAM, Staying
+from staying import PROGRAM, OwnNode, Staying
 
 PUSHED = say.items(E1, say.mark(1, 1, 1))
 GET = say.ask(1, say.get(1, 5))
@@ -322,6 +325,118 @@ def changes_are_guarded():
     report("changes are tested first with --guard", differ(pairs))
 
 
+def heard_in(node, count):
+    """The lines on standard error of a node, once there are so many."""
+    until = time.monotonic() + 10
+    while len(node.words) < count and time.monotonic() < until:
+        time.sleep(0.01)
+    return list(node.words)
+
+
+LOGGED = re.compile(r"(\d{4}-\d\d-\d\dT\d\d:\d\d:\d\d\.\d{3}Z) (info|warn|error) (-|127\.0\.0\.1:\d+) (.*)\n")
+
+
+def what_a_node_logs():
+    """`hkrep node` dates what it tells of connections, with how grave it is and the peer's address, on standard error alone; of connections
+    of one slot each has its own number and address."""
+    peers, wanted = [], []
+    before = datetime.datetime.now(datetime.timezone.utc)
+    with OwnNode("-v", "--links", 1, "--report-changes", 1) as node:
+        pairs = [("what it opened", node.opened, f"listening on 127.0.0.1:{node.port} for 1 connections; log 7, streams 1, guarded, chunks {node.opened.split()[-2]} bytes")]
+        for at in (1, 2):
+            with node.link() as link:
+                peers.append("127.0.0.1:%d" % link.socket.getsockname()[1])
+                pairs += [("a push", link.ask(PUSHED)[0], "done"), ("another log's item", link.ask(say.items(say.mark(1, 0, 0, log=8)))[:2], ("refused", 20))]
+                if at == 2:
+                    link.send(TOO_LONG)
+                    link.read_all()
+            wanted += [("info", peers[-1], f"link {at}: opened"), ("info", peers[-1], f"link {at}: done {at + 1}"), ("info", "-", f"after {at} changes: front 0 1"),
+                       ("warn", peers[-1], f"link {at}: refused 20: "), (("info", peers[-1], f"link {at}: ended 0") if at == 1 else ("warn", peers[-1], f"link {at}: ended 2: "))]
+            heard_in(node, len(wanted))
+        lines = heard_in(node, len(wanted))
+        pairs += [("nothing else on standard output", node.lines.empty(), True), ("how many lines", len(lines), len(wanted))]
+    found = [LOGGED.fullmatch(line) for line in lines]
+    pairs += [("a line", (it[2], it[3], it[4][:len(want[2])]) if it else line, want) for it, line, want in zip(found, lines, wanted)]
+    times = [datetime.datetime.strptime(it[1], "%Y-%m-%dT%H:%M:%S.%f%z") for it in found if it]
+    after = datetime.datetime.now(datetime.timezone.utc)
+    pairs += [("the times rise", times, sorted(times)), ("they are of now", all(before - datetime.timedelta(seconds=1) < it < after for it in times), True)]
+    report("what a node logs of connections", differ(pairs))
+
+
+# a pipe of the system's least size, and so many connections that it and the 1,024 texts that wait are full before they end
+PIPE_BYTES, MANY_LINKS = 4_096, 2_000
+
+
+def full_pipes():
+    """Where nobody reads what a node prints its connections are answered all the same; how many lines were dropped is told once there is room."""
+    problems = []
+    for words, first, of_each in ((["serve", "--stay", "--links", "2"], 1, 3), (["node", "--links", "2"], 1, 2)):
+        port = free_port()
+        with subprocess.Popen([str(PROGRAM), *words, "--log", "7", "--streams", "1", "--port", str(port)], stdout=subprocess.PIPE, stderr=subprocess.PIPE, text=True) as node:
+            for pipe in (node.stdout, node.stderr):
+                fcntl.fcntl(pipe, fcntl.F_SETPIPE_SZ, PIPE_BYTES)
+            node.stdout.readline()
+            answers = set()
+            start = time.monotonic()
+            for _ in range(MANY_LINKS):
+                with say.Link(port, 30) as link:
+                    answers.add(link.ask(say.front()))
+            took = time.monotonic() - start
+            said, errors = [], []
+            readers = [threading.Thread(target=lambda to=to, pipe=pipe: to.extend(pipe), daemon=True) for to, pipe in ((said, node.stdout), (errors, node.stderr))]
+            for reader in readers:
+                reader.start()
+            until = time.monotonic() + 20
+            while not any("lines were dropped" in it for it in list(errors)) and time.monotonic() < until:
+                time.sleep(0.02)
+            time.sleep(0.3)
+            with say.Link(port, 30) as link:
+                answers.add(link.ask(say.front()))
+            until = time.monotonic() + 10
+            while not any(f"link {MANY_LINKS + first}: ended 0" in it for it in list(errors)) and time.monotonic() < until:
+                time.sleep(0.02)
+            node.kill()
+            for reader in readers:
+                reader.join(10)
+        dropped = [int(found[1]) for found in (re.search(r"(\d+) lines were dropped\n", it) for it in errors) if found]
+        got = len(said) + len(errors) - len(dropped) + sum(dropped)
+        pairs = [("the answers", answers, {("front", 0, 0)}), ("lines were dropped", sum(dropped) > 0, True), ("lines, with those that were dropped", got, (MANY_LINKS + 1) * of_each),
+                 ("the last connection has its number", any(f"link {MANY_LINKS + first}: opened" in it for it in errors), True), ("in time", took < 60, True)]
+        problems += [f"{words[0]}: {problem}" for problem in differ(pairs)]
+    report("where nobody reads what a node prints, connections are answered", problems)
+
+
+def bad_node_lines():
+    """Options of `hkrep node` whose values are none: each is told by its name."""
+    pairs = []
+    for words, part in ((["--from", "node"], "invalid value 'node' for '--from'"), (["--from", "7420,node:0"], "invalid value 'node:0' for '--from'"),
+                        (["--from", ",".join(map(str, range(1, 10)))], "invalid value '9' for '--from'"), (["--parts-bytes", "0%"], "invalid value '0%' for '--parts-bytes'"),
+                        (["--parts-bytes", "101%"], "for '--parts-bytes'"), (["--parts-bytes", "x"], "for '--parts-bytes'"), (["--address", "::1"], "invalid value '::1' for '--address'"),
+                        (["--links", "60", "--read-port", "7421", "--read-links", "5"], "64 at most together"), (["--read-port", "7421"], "--read-links"), (["--guard"], "--guard"),
+                        (["--stay"], "--stay"), (["-q", "-v"], "--verbose"), (["--port", "0"], "--port"), (["--read-seconds", "+1"], "'+1'")):
+        done = subprocess.run([str(PROGRAM), "node", "--log", "7", "--streams", "1", *words], capture_output=True, text=True, timeout=30, check=False)
+        pairs.append((" ".join(words), (done.returncode, done.stdout, part in done.stderr), (2, "", True)))
+    report("bad options of a node", differ(pairs))
+
+
+def what_a_node_opens():
+    """By default a node has 64 connections, is guarded, answers version 2, and keeps a share of the memory for chunks; options change each."""
+    memory = int(re.search(r"MemTotal: +(\d+) kB", pathlib.Path("/proc/meminfo").read_text())[1]) * 1024
+    read, feed = free_port(), free_port()
+    with OwnNode() as node, node.link() as link:
+        told = re.fullmatch(rf"listening on 127.0.0.1:{node.port} for 64 connections; log 7, streams 1, guarded, chunks (\d+) bytes", node.opened)
+        pairs = [("what it opened", bool(told), True), ("its share of the memory", 1 << 28 <= int(told[1]) <= max(memory // 4, 1 << 28), True),
+                 ("version 2", link.ask(say.status())[0], "streams"), ("a push", link.ask(PUSHED), ("done", 2)),
+                 ("a conflict", link.ask(say.join_this(facts=[(1, 5, 1, (9, b"B"), None)]))[:2], ("refused", 23)), ("a row after it", link.ask(GET), ROW)]
+    options = ["--no-guard", "--parts-bytes", 1_000, "--read-port", read, "--read-links", 20, "--feed-port", feed, "--feed-links", 3]
+    with OwnNode(*options) as node, node.link() as link, node.link(read) as reading, node.link(feed) as feeding:
+        pairs += [("what it opened", node.opened, f"listening on 127.0.0.1:{node.port} for 41 connections, feeding on 127.0.0.1:{feed} for 3, reading on 127.0.0.1:{read} for 20; "
+                   "log 7, streams 1, not guarded, chunks 1000 bytes"),
+                  ("a feeder", feeding.ask(PUSHED), ("done", 2)), ("a reader", reading.ask(GET), ROW),
+                  ("a conflict without a guard", link.ask(say.join_this(facts=[(1, 5, 1, (9, b"B"), None)]))[:2], ("refused", 23)), ("the damage", link.ask(GET)[:2], ("refused", 41))]
+    report("what a node opens", differ(pairs))
+
+
 def addresses_and_bad_lines():
     """An address of its own; options that want others, and numbers out of their ranges."""
     with Staying(1, "--address", "127.0.0.2", address="127.0.0.2") as node, node.link() as link:
@@ -352,7 +467,8 @@ def main():
     if not is_built(PROGRAM):
         return ended()
     start = time.monotonic()
-    for check in (places_are_given_back, ends_soon_after_a_fault, limits_of_time, links_that_only_read, links_that_feed, no_more_files, signals, what_is_told, changes_are_told, changes_are_guarded, addresses_and_bad_lines, bad_peers):
+    for check in (places_are_given_back, ends_soon_after_a_fault, limits_of_time, links_that_only_read, links_that_feed, no_more_files, signals, what_is_told, changes_are_told, changes_are_guarded, what_a_node_opens, what_a_node_logs, full_pipes,
+                  bad_node_lines, addresses_and_bad_lines, bad_peers):
         if sys.argv[1:] and check.__name__ not in sys.argv[1:]:
             continue
         guarded(check)

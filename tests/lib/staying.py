@@ -1,4 +1,4 @@
-"""A node of `hkrep serve --stay` for the tests, with what it prints as it comes. Standard library only."""
+"""Long-running nodes for the tests, `hkrep serve --stay` and `hkrep node`, with what they print as it comes. Standard library only."""
 import pathlib
 import queue
 import resource
@@ -12,38 +12,30 @@ PROGRAM = pathlib.Path(__file__).resolve().parents[2] / "bin" / "hkrep"
 LIMIT = 30
 
 
-class Staying:
-    """A node that stays, which is ended when the block is left; limits are of `resource`."""
+class Running:
+    """A node, which is ended when the block is left; limits are of `resource`."""
 
-    def __init__(self, links, *options, streams=1, reading=0, feeding=0, address="127.0.0.1", **limits):
+    def __init__(self, words, address="127.0.0.1", **limits):
         def restrict():
             for name, limit in limits.items():
                 resource.setrlimit(getattr(resource, name), (limit, limit))
 
-        self.address, self.port, self.read_port, self.feed_port = address, free_port(), free_port(), free_port()
-        words = ["serve", "--log", "7", "--streams", str(streams), "--port", str(self.port), "--links", str(links), "--stay", *options]
-        if feeding:
-            words += ["--feed-port", str(self.feed_port), "--feed-links", str(feeding)]
-        if reading:
-            words += ["--read-port", str(self.read_port), "--read-links", str(reading)]
+        self.address = address
         self.child = subprocess.Popen([str(PROGRAM), *words], stdout=subprocess.PIPE, stderr=subprocess.PIPE, text=True, preexec_fn=restrict)
         self.lines, self.words = queue.Queue(), []
         threading.Thread(target=self._read, daemon=True).start()
         self.words_thread = threading.Thread(target=lambda: self.words.extend(self.child.stderr), daemon=True)
         self.words_thread.start()
-        wanted = [f"listening {self.port}"] + ([f"feeding {self.feed_port}"] if feeding else []) + ([f"reading {self.read_port}"] if reading else [])
-        said = []
-        while len(said) < len(wanted) and None not in said:
-            said.append(self.line())
-        if said != wanted:
-            self.child.kill()
-            self.child.wait()
-            raise RuntimeError(f"the node said {said}")
 
     def _read(self):
         for line in self.child.stdout:
             self.lines.put(line.removesuffix("\n"))
         self.lines.put(None)
+
+    def _failed(self, said):
+        self.child.kill()
+        self.child.wait()
+        raise RuntimeError(f"the node said {said}")
 
     def line(self, limit=LIMIT):
         """The next line that it prints, or None where it ended."""
@@ -69,3 +61,33 @@ class Staying:
         self.child.kill()
         self.child.wait()
         self.words_thread.join(LIMIT)
+
+
+class Staying(Running):
+    """A node of `hkrep serve --stay`."""
+
+    def __init__(self, links, *options, streams=1, reading=0, feeding=0, address="127.0.0.1", **limits):
+        self.port, self.read_port, self.feed_port = free_port(), free_port(), free_port()
+        words = ["serve", "--log", "7", "--streams", str(streams), "--port", str(self.port), "--links", str(links), "--stay", *options]
+        if feeding:
+            words += ["--feed-port", str(self.feed_port), "--feed-links", str(feeding)]
+        if reading:
+            words += ["--read-port", str(self.read_port), "--read-links", str(reading)]
+        super().__init__(words, address, **limits)
+        wanted = [f"listening {self.port}"] + ([f"feeding {self.feed_port}"] if feeding else []) + ([f"reading {self.read_port}"] if reading else [])
+        said = []
+        while len(said) < len(wanted) and None not in said:
+            said.append(self.line())
+        if said != wanted:
+            self._failed(said)
+
+
+class OwnNode(Running):
+    """A node of `hkrep node` of log 7 with a stream, once it listens."""
+
+    def __init__(self, *options, port=0, **limits):
+        self.port = port or free_port()
+        super().__init__(["node", "--log", "7", "--streams", "1", "--port", str(self.port), *map(str, options)], **limits)
+        self.opened = self.line()
+        if not (self.opened or "").startswith(f"listening on 127.0.0.1:{self.port} "):
+            self._failed(self.opened)

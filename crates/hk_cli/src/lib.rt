@@ -1,10 +1,15 @@
 //! What the program's commands do, over any reader and writers, and the lines that they print.
 #![tactic(auto)]
 
+mod head;
 mod link_reporter;
+mod memory;
+mod moment;
 mod notice;
 mod serve;
+mod starting;
 mod stay;
+mod texts;
 
 pub use hk_cli_commands::{
     run_ask, run_at, run_explain, run_frames, run_front, run_items, run_rewrite, run_status,

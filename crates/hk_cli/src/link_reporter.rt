@@ -1,5 +1,6 @@
 //! What a long-running node reports of its connections.
 
+use crate::head::{Grade, Heads};
 use crate::notice::Notice;
 use hk_cli_calls::Level;
 use hk_cli_commands::Output;
@@ -10,6 +11,8 @@ use hk_session::Ended;
 use hk_types::Time;
 use std::alloc::{AllocError, Global};
 use std::io::Write;
+use std::net::SocketAddr;
+use std::rt::Clock;
 
 /// How many connection slots a node has at most.
 const MOST_PLACES: usize = 64;
@@ -49,31 +52,37 @@ impl<J: NodeName> Reports<J> {
 
 /// Prints what happens to the connections of a node. They are counted from 1 as they open.
 #[derive(Drop)]
-pub(crate) struct LinkReporter<'o, 'a, W: Write, E: Write, J: NodeName> {
+pub(crate) struct LinkReporter<'o, 'a, W: Write, E: Write, J: NodeName, C: Clock> {
     alloc: Global,
     output: &'o mut Output<'a, W, E>,
+    heads: &'o Heads<'o, C>,
     level: Level,
     reports: Option<Reports<J>>,
     /// How many connections opened.
     count: u64,
     /// The number of the last connection of each slot.
     links: [u64; MOST_PLACES],
+    /// The address of its peer.
+    peers: [Option<SocketAddr>; MOST_PLACES],
 }
 
-impl<'o, 'a, W: Write, E: Write, J: NodeName> LinkReporter<'o, 'a, W, E, J> {
+impl<'o, 'a, W: Write, E: Write, J: NodeName, C: Clock> LinkReporter<'o, 'a, W, E, J, C> {
     pub(crate) fn new(
         alloc: Global,
         output: &'o mut Output<'a, W, E>,
+        heads: &'o Heads<'o, C>,
         level: Level,
         reports: Option<Reports<J>>,
-    ) -> LinkReporter<'o, 'a, W, E, J> {
+    ) -> LinkReporter<'o, 'a, W, E, J, C> {
         LinkReporter {
             alloc,
             output,
+            heads,
             level,
             reports,
             count: 0,
             links: [0; MOST_PLACES],
+            peers: [None; MOST_PLACES],
         }
     }
 
@@ -85,11 +94,25 @@ impl<'o, 'a, W: Write, E: Write, J: NodeName> LinkReporter<'o, 'a, W, E, J> {
         }
     }
 
-    /// Counts a connection of a slot.
-    fn count(&mut self, place: usize) {
+    /// Counts a connection of a slot, from this address.
+    fn count(&mut self, place: usize, address: SocketAddr) {
         self.count = self.count.saturating_add(1);
         if let Some(link) = self.links.get_mut(place) {
             *link = self.count;
+        }
+        if let Some(peer) = self.peers.get_mut(place) {
+            *peer = Some(address);
+        }
+    }
+
+    /// Begins a line of the last connection of a slot, or of no connection.
+    fn begin(&mut self, grade: Grade, place: Option<usize>) {
+        let peer = match place {
+            Some(place) => self.peers.get(place).copied().flatten(),
+            None => None,
+        };
+        if let Ok(head) = self.heads.head(grade, peer) {
+            self.output.note(head.as_str());
         }
     }
 
@@ -101,25 +124,30 @@ impl<'o, 'a, W: Write, E: Write, J: NodeName> LinkReporter<'o, 'a, W, E, J> {
     }
 
     /// Prints that a connection did something that is no fault, unless only faults are wanted.
-    fn note(&mut self, link: u64, what: &str) {
+    fn note(&mut self, place: usize, what: &str) {
         if self.level == Level::Faults {
             return;
         }
+        let link = self.link(place);
+        self.begin(Grade::Info, Some(place));
         let line = format!(in self.alloc; "link {link}: {what}\n");
         self.say(line);
     }
 
     /// Prints that a change took effect, where each is wanted.
-    fn note_change(&mut self, link: u64, ops: u64) {
+    fn note_change(&mut self, place: usize, ops: u64) {
         if self.level != Level::Changes {
             return;
         }
+        let link = self.link(place);
+        self.begin(Grade::Info, Some(place));
         let line = format!(in self.alloc; "link {link}: done {ops}\n");
         self.say(line);
     }
 
     /// Prints the front after so many changes.
     fn note_front(&mut self, changes: u64, horizon: Time, readable: Time) {
+        self.begin(Grade::Info, None);
         let line = format!(in self.alloc; "after {changes} changes: front {horizon} {readable}\n");
         self.say(line);
     }
@@ -135,41 +163,53 @@ impl<'o, 'a, W: Write, E: Write, J: NodeName> LinkReporter<'o, 'a, W, E, J> {
         let changes = reports.changes;
         match reports.seat.front() {
             Ok(front) => self.note_front(changes, front.horizon, front.readable),
-            Err(why) => self.output.tell_known(Place::Whole, "front", why.number()),
+            Err(why) => self.tell_node("front", why.number()),
         }
     }
 
-    /// Prints how a connection ended.
-    fn ended(&mut self, link: u64, ended: Ended) {
+    /// Prints what failed of the node, in words.
+    fn tell_node(&mut self, what: &str, number: u8) {
+        self.begin(Grade::Error, None);
+        self.output.tell_known(Place::Whole, what, number);
+    }
+
+    /// Prints what failed of the last connection of a slot, in words.
+    fn tell_link(&mut self, place: usize, what: &str, number: u8) {
+        let link = self.link(place);
+        self.begin(Grade::Warn, Some(place));
+        self.output.tell_known(Place::Link(link), what, number);
+    }
+
+    /// Prints how the connection of a slot ended; where lines have the time, in words alone.
+    fn ended(&mut self, place: usize, ended: Ended) {
         let number = ended.number();
         if number == 0 {
-            self.note(link, "ended 0");
+            self.note(place, "ended 0");
         } else {
-            self.output.tell_known(Place::Link(link), "ended", number);
+            self.tell_link(place, "ended", number);
         }
-        // Where the line can't be printed the node serves on.
-        let _printed = self.output.print(&Notice::Ended(number));
+        if !self.heads.are_dated() {
+            // Where the line can't be printed the node serves on.
+            let _printed = self.output.print(&Notice::Ended(number));
+        }
     }
 }
 
-impl<W: Write, E: Write, J: NodeName> Watch for LinkReporter<'_, '_, W, E, J> {
+impl<W: Write, E: Write, J: NodeName, C: Clock> Watch for LinkReporter<'_, '_, W, E, J, C> {
     fn told(&mut self, place: usize, event: LinkEvent) {
-        if event == LinkEvent::Opened {
-            self.count(place);
-        }
-        let link = self.link(place);
         match event {
-            LinkEvent::Opened => self.note(link, "opened"),
-            LinkEvent::Refused(number) => {
-                self.output.tell_known(Place::Link(link), "refused", number);
+            LinkEvent::Opened(address) => {
+                self.count(place, address);
+                self.note(place, "opened");
             }
+            LinkEvent::Refused(number) => self.tell_link(place, "refused", number),
             LinkEvent::Changed(ops) => {
-                self.note_change(link, ops);
+                self.note_change(place, ops);
                 self.report_change();
             }
-            LinkEvent::Ended(ended) => self.ended(link, ended),
-            LinkEvent::NotAccepted => self.output.tell_known(Place::Whole, "not accepted", 93),
-            LinkEvent::NotStarted => self.output.tell_known(Place::Whole, "not started", 90),
+            LinkEvent::Ended(ended) => self.ended(place, ended),
+            LinkEvent::NotAccepted => self.tell_node("not accepted", 93),
+            LinkEvent::NotStarted => self.tell_node("not started", 90),
         }
         let _written = self.output.flush();
     }

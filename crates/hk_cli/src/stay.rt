@@ -1,22 +1,34 @@
-//! The command `serve` of a long-running node.
+//! A long-running node: the command `node`, and `serve --stay`.
 
 ghost use Rattle.std.specs.Prelude.{◌≡◌, ◌<◌, ◌≤◌};
+ghost use Rattle.std.specs.Thread.{IsSend, IsSync};
 
+use crate::head::Heads;
 use crate::link_reporter::{LinkReporter, Reports};
+use crate::memory::share_of_memory;
 use crate::notice::Notice;
 use crate::serve::{listener_of, new_list, stop_of, tell_unproved};
-use hk_cli_calls::{Level, OtherPort, Stay};
+use crate::starting::begin;
+use crate::texts::{Backlog, MOST_WAITING, Target, Text, TextWriter, write_texts};
+use crossbeam_channel::{Sender, bounded};
+use hk_cli_calls::{Level, OtherPort, OutputForm, PartsLimit, Stay};
 use hk_cli_commands::{Output, Stop};
-use hk_net::{Door, PartsBudget, serve_forever};
+use hk_net::{Door, NetFault, PartsBudget, serve_forever};
 use hk_node::{NewList, Node, NodeName, ReaderSeat, start};
 use hk_types::{Config, Refusal};
-use std::alloc::Global;
+use std::alloc::{AllocError, Global};
+use std::fs::Files;
 use std::io::Write;
 use std::marker::Brand;
 use std::net::{Ipv4Addr, Net, TcpListener, TcpStream};
 use std::rt::Clock;
 use std::sync::Wait;
+use std::thread;
 use std::thread::Threads;
+
+/// The line where a node that needs data can have none.
+const NO_DATA: &str =
+    "stopped: there is no data, and --need-data is given; see the lines above, or start it without\n";
 
 /// The listeners of the further ports, of those that there are.
 #[derive(Drop)]
@@ -29,7 +41,7 @@ struct Listeners {
 /// The listener of a further port, if there is one.
 fn other_listener<R: Net<Listener = TcpListener, Stream = TcpStream>, W: Write, E: Write>(
     rt: &R,
-    stay: &Stay,
+    stay: &Stay<'_>,
     other: Option<OtherPort>,
     output: &mut Output<'_, W, E>,
 ) -> Result<Option<TcpListener>, Stop> {
@@ -45,7 +57,7 @@ fn other_listener<R: Net<Listener = TcpListener, Stream = TcpStream>, W: Write, 
 /// The listeners of all ports.
 fn listeners_of<R: Net<Listener = TcpListener, Stream = TcpStream>, W: Write, E: Write>(
     rt: &R,
-    stay: &Stay,
+    stay: &Stay<'_>,
     output: &mut Output<'_, W, E>,
 ) -> Result<Listeners, Stop> {
     let open = listener_of(rt, stay.address, stay.port, output)?;
@@ -61,7 +73,7 @@ fn listeners_of<R: Net<Listener = TcpListener, Stream = TcpStream>, W: Write, E:
 /// A door as its node has them: in which messages its connections are answered, and whether changes are reported.
 fn furnished<'d, J: NodeName, N: Wait + Drop>(
     door: Door<'d, J, N>,
-    stay: &Stay,
+    stay: &Stay<'_>,
     budget: Option<&'d PartsBudget>,
 ) -> Door<'d, J, N> {
     let door = match budget {
@@ -89,7 +101,7 @@ fn links_of(other: Option<OtherPort>) -> usize
 /// others to the reading one.
 fn door_of<'d, J: NodeName, N: Wait + Drop>(
     node: &'d Node<J, N>,
-    stay: &Stay,
+    stay: &Stay<'_>,
     listeners: &'d Listeners,
     place: usize,
 ) -> Door<'d, J, N> {
@@ -114,7 +126,7 @@ fn places_of<'d, J: NodeName, N: Wait + Drop>(
     alloc: Global,
     node: &'d Node<J, N>,
     seats: Vec<ReaderSeat<J>>,
-    stay: &Stay,
+    stay: &Stay<'_>,
     listeners: &'d Listeners,
     budget: Option<&'d PartsBudget>,
 ) -> Result<Vec<(Door<'d, J, N>, ReaderSeat<J>)>, Refusal> {
@@ -127,7 +139,7 @@ fn places_of<'d, J: NodeName, N: Wait + Drop>(
 }
 
 /// How many seats a node has: one for each of its connections, of all kinds, and one to report its front; at most as many as it may have.
-fn seats_wanted(stay: &Stay) -> usize
+fn seats_wanted(stay: &Stay<'_>) -> usize
     ensures { (0 < result) × (result ≤ 64) }
 {
     let reporter = if stay.report_changes == 0 { 0 } else { 1 };
@@ -135,8 +147,11 @@ fn seats_wanted(stay: &Stay) -> usize
     (stay.links.count() + others + reporter).min(64)
 }
 
-/// Prints that connections can be opened, and to which ports.
-fn tell_ports<W: Write, E: Write>(stay: &Stay, output: &mut Output<'_, W, E>) -> Result<(), Stop> {
+/// Prints that connections can be opened, and to which ports: a line for each.
+fn tell_ports<W: Write, E: Write>(
+    stay: &Stay<'_>,
+    output: &mut Output<'_, W, E>,
+) -> Result<(), Stop> {
     output.print(&Notice::Listening(stay.port))?;
     if let Some(feeding) = stay.feeding {
         output.print(&Notice::Feeding(feeding.port))?;
@@ -147,54 +162,231 @@ fn tell_ports<W: Write, E: Write>(stay: &Stay, output: &mut Output<'_, W, E>) ->
     output.flush()
 }
 
-/// Serves connections to a new node of this list without an end.
-fn stay_list<
+/// Adds what a further port is for, its address, and for how many connections it is.
+fn put_other(
+    stay: &Stay<'_>,
+    what: &str,
+    other: Option<OtherPort>,
+    out: &mut String,
+) -> Result<(), AllocError> {
+    if let Some(other) = other {
+        let (address, port, links) = (stay.address, other.port, other.links.count());
+        write!(out, ", {what} on {address}:{port} for {links}")?;
+    }
+    Ok(())
+}
+
+/// Prints in one line what a node opened.
+fn tell_opened<W: Write, E: Write>(
+    alloc: Global,
+    config: Config,
+    stay: &Stay<'_>,
+    parts_bytes: Option<u64>,
+    output: &mut Output<'_, W, E>,
+) -> Result<(), Stop> {
+    let (address, port, links) = (stay.address, stay.port, stay.links.count());
+    let mut line = format!(in alloc; "listening on {address}:{port} for {links} connections")?;
+    put_other(stay, "feeding", stay.feeding, &mut line)?;
+    put_other(stay, "reading", stay.reading, &mut line)?;
+    let (log, streams) = (config.log(), config.streams());
+    let guarded = if stay.is_guarded {
+        "guarded"
+    } else {
+        "not guarded"
+    };
+    let bytes = parts_bytes.unwrap_or(0);
+    writeln!(
+        line,
+        "; log {log}, streams {streams}, {guarded}, chunks {bytes} bytes"
+    )?;
+    output.send(line.as_bytes())
+}
+
+/// What stands before a node's lines: nothing, or as `node` the time and more.
+fn heads_of<'c, R: Clock>(rt: &'c R, alloc: Global, stay: &Stay<'_>) -> Heads<'c, R> {
+    match stay.start {
+        Some(_) => Heads::new(alloc, Some(rt)),
+        None => Heads::new(alloc, None),
+    }
+}
+
+/// How many bytes all connections keep at most for messages of version 2, where these are answered.
+fn parts_bytes_of<R: Files + Alloc<A = Global>>(rt: &R, stay: &Stay<'_>) -> Option<u64> {
+    match stay.parts? {
+        PartsLimit::Bytes(bytes) => Some(bytes),
+        PartsLimit::Percent(percent) => Some(share_of_memory(rt, percent)),
+    }
+}
+
+/// Serves connections without an end, and hands on what is printed of them.
+fn serve_places<
+    'd,
     J: NodeName + Send + Sync,
-    R: Net<Listener = TcpListener, Stream = TcpStream> + Threads + Wait + Clock + Sync,
+    N: Wait + Drop + Send + Sync,
+    R: Threads + Wait + Clock + Sync,
+>(
+    rt: &'d R,
+    alloc: Global,
+    heads: Heads<'d, R>,
+    level: Level,
+    places: Vec<(Door<'d, J, N>, ReaderSeat<J>)>,
+    reports: Option<Reports<J>>,
+    texts: Sender<Text>,
+    backlog: &Backlog,
+) -> Result<(), NetFault> {
+    let mut lines = TextWriter::new(rt, alloc, Target::Lines, &texts, backlog);
+    let mut words = TextWriter::new(rt, alloc, Target::Words, &texts, backlog);
+    let mut output = Output::new(alloc, &mut lines, &mut words);
+    let mut reporter = LinkReporter::new(alloc, &mut output, &heads, level, reports);
+    serve_forever(rt, alloc, places, &mut reporter)
+}
+
+/// The same, and writes what is printed: this thread alone waits where nobody reads it.
+fn serve_writing<
+    'd,
+    J: NodeName + Send + Sync,
+    N: Wait + Drop + Send + Sync,
+    R: Threads + Wait + Clock + Sync,
     W: Write,
     E: Write,
 >(
-    rt: &R,
+    rt: &'d R,
     alloc: Global,
-    stay: &Stay,
+    stay: &Stay<'_>,
+    places: Vec<(Door<'d, J, N>, ReaderSeat<J>)>,
+    reports: Option<Reports<J>>,
+    output: &mut Output<'_, W, E>,
+) -> Result<(), NetFault> {
+    let (level, heads) = (stay.level, heads_of(rt, alloc, stay));
+    let told_heads = heads_of(rt, alloc, stay);
+    let backlog = Backlog::new();
+    let backlog = &backlog;
+    let (texts, told) = bounded::<Text, _>(alloc, MOST_WAITING)?;
+    thread::scope(
+        thread::scope_env(),
+        rt,
+        |scope| -> Result<(), NetFault>
+            requires { IsSend J.row × IsSync J.row × IsSend N.row × IsSync N.row × IsSync R.row }
+        {
+            let serving = scope.spawn(move || {
+                serve_places(rt, alloc, heads, level, places, reports, texts, backlog)
+            });
+            match serving {
+                Ok(serving) => {
+                    write_texts(rt, &told_heads, &told, backlog, output);
+                    serving.join(rt)
+                }
+                Err(_error) => Err(NetFault::Memory),
+            }
+        },
+    )
+}
+
+/// Has a node take what it begins with, on one of its seats. It refuses where nothing was taken and something has to be.
+fn take_start<J: NodeName, N: Wait + Drop, R, W: Write, E: Write>(
+    rt: &R,
+    node: &Node<J, N>,
+    stay: &Stay<'_>,
+    seats: &mut Vec<ReaderSeat<J>>,
+    output: &mut Output<'_, W, E>,
+) -> Result<(), Stop>
+where
+    R: Net<Listener = TcpListener, Stream = TcpStream> + Clock + Files + Alloc<A = Global>,
+    R: Threads + Wait + Sync,
+{
+    let Some(start) = &stay.start else {
+        return Ok(());
+    };
+    let Some(seat) = seats.pop() else {
+        return Ok(());
+    };
+    let heads = heads_of(rt, rt.alloc(), stay);
+    let (seat, has_data) = begin(rt, &heads, node, seat, start, output);
+    output.flush()?;
+    if start.needs_data && !has_data {
+        output.note(NO_DATA);
+        return Err(Stop::NetTold);
+    }
+    match seats.push(seat) {
+        Ok(_kept) => Ok(()),
+        Err(_memory) => Err(Stop::Refused(Refusal::Memory)),
+    }
+}
+
+/// Prints that connections can be opened.
+fn tell_start<W: Write, E: Write>(
+    alloc: Global,
+    config: Config,
+    stay: &Stay<'_>,
+    parts_bytes: Option<u64>,
+    output: &mut Output<'_, W, E>,
+) -> Result<(), Stop> {
+    match stay.start {
+        Some(_) => tell_opened(alloc, config, stay, parts_bytes, output),
+        None => tell_ports(stay, output),
+    }
+}
+
+/// Serves connections to a new node of this list without an end.
+fn stay_list<J: NodeName + Send + Sync, R, W: Write, E: Write>(
+    rt: &R,
+    config: Config,
+    stay: &Stay<'_>,
     list: NewList,
     output: &mut Output<'_, W, E>,
 ) -> Result<(), Stop>
+where
+    R: Net<Listener = TcpListener, Stream = TcpStream> + Clock + Files + Alloc<A = Global>,
+    R: Threads + Wait + Sync,
     requires { list ≡ (J.book, J.kind) }
 {
-    let listeners = listeners_of(rt, stay, output)?;
+    let alloc = rt.alloc();
     let (node, mut seats) = start::<J, &R>(rt, alloc, list, seats_wanted(stay))?;
+    take_start(rt, &node, stay, &mut seats, output)?;
+    let listeners = listeners_of(rt, stay, output)?;
     let reports = match stay.report_changes {
         0 => None,
         every => seats.pop().map(|seat| Reports::new(seat, every)),
     };
-    let budget = stay.parts_bytes.map(PartsBudget::new);
+    let parts_bytes = parts_bytes_of(rt, stay);
+    let budget = parts_bytes.map(PartsBudget::new);
     let places = places_of(alloc, &node, seats, stay, &listeners, budget.as_ref())?;
-    tell_ports(stay, output)?;
-    let mut reporter = LinkReporter::new(alloc, output, stay.level, reports);
-    serve_forever(rt, alloc, places, &mut reporter).map_err(stop_of)
+    tell_start(alloc, config, stay, parts_bytes, output)?;
+    serve_writing(rt, alloc, stay, places, reports, output).map_err(stop_of)
 }
 
-/// Starts a node of a log, and serves connections to it without an end: a slot is free again when its connection ends. Prints
-/// `listening` and the port once connections can be opened, `feeding` and `reading` and a further port where there is one, and `ended`
-/// and its number for each connection when it ends.
+/// Starts a node of a log, and serves connections to it without an end: a slot is free again when its connection ends. As `node` it
+/// first takes what a file of `save` has, and then what the first of other nodes that answers has above that; neither needs to be
+/// there, unless it is asked for. Prints `listening` and the port once connections can be opened, `feeding` and `reading` and a further
+/// port where there is one, and `ended` and its number for each connection when it ends; as `node` one line of what it opened, and no other.
 ///
 /// It ends, and the status is 1, only where one of these happens: `refused 93` where a port can't be listened to,
-/// `refused 90` where memory ran out for the node or its threads, and no line where those first lines can't be written.
-/// Later lines that can't be written are lost, and the node serves on. Each connection that opens and ends, each change that
-/// is refused, and each accept that failed is printed to `errors` in words, as far as the level asks for it, and the node's
-/// front after so many changes. That report uses one of the 64 seats. Cost: that of `start` and of `serve_forever`.
-pub fn run_stay<
-    R: Net<Listener = TcpListener, Stream = TcpStream> + Threads + Wait + Clock + Sync,
-    W: Write,
-    E: Write,
->(rt: &R, alloc: Global, config: Config, stay: &Stay, writer: &mut W, errors: &mut E) -> u8
+/// `refused 90` where memory ran out for the node or its threads, and no line where those first lines can't be written, or where nothing
+/// was taken that is asked for. Later lines that can't be written are lost, and the node serves on. Each connection that opens and ends,
+/// each change that is refused, and each accept that failed is printed to `errors` in words, as far as the level asks for it, and the
+/// node's front after so many changes; as `node` with the time, how grave it is, and the peer's address. That report uses one of the 64
+/// seats. No connection waits for a line to be written: where 1,024 texts wait, further lines are dropped, and how many is printed
+/// once there is room. Cost: that of `start`, of what is taken, and of `serve_forever`.
+pub fn run_stay<R, W: Write, E: Write>(
+    rt: &R,
+    config: Config,
+    stay: &Stay<'_>,
+    writer: &mut W,
+    errors: &mut E,
+) -> u8
+where
+    R: Net<Listener = TcpListener, Stream = TcpStream> + Clock + Files + Alloc<A = Global>,
+    R: Threads + Wait + Sync,
     ensures { result ≤ 1 }
 {
-    let mut output = Output::new(alloc, writer, errors);
+    let form = match stay.start {
+        Some(_) => OutputForm::Bytes,
+        None => OutputForm::Lines,
+    };
+    let mut output = Output::of_form(rt.alloc(), form, writer, errors);
     tell_unproved(&mut output);
     let list = new_list(config, stay.is_guarded);
-    match stay_list::<Brand, R, W, E>(rt, alloc, stay, list, &mut output) {
+    match stay_list::<Brand, R, W, E>(rt, config, stay, list, &mut output) {
         Ok(()) => 0,
         Err(stop) => output.stop(stop),
     }

@@ -2,7 +2,10 @@
 
 use crate::calls::{call_of, has_flag, is_second, port_of, u16_of, u64_of};
 use crate::forms::{CommandForm, add_forms, command_named, numbers_of, query_numbers};
-use crate::numbers::{Number, add_numbers, keep, name_of, serve_numbers, serve_words};
+use crate::node::{BadOption, bad_option, node_call, node_command};
+use crate::numbers::{
+    Number, add_numbers, keep, name_of, node_numbers, serve_numbers, serve_words,
+};
 use crate::stay::{add_stay, stay_call};
 use clap::error::ErrorKind;
 use clap::{Arg, ArgMatches, Command, Error};
@@ -61,6 +64,10 @@ NOTHING IS ENCRYPTED OR AUTHENTICATED: whoever reaches the port may write. Give 
 /// The error for a number that no call can be made of.
 const OUT_OF_RANGE: &str = "a number is out of its range";
 
+/// The error of a node for whose connections there are not enough slots.
+const TOO_MANY_LINKS: &str =
+    "--links, --feed-links and --read-links are 64 at most together, and 63 with --report-changes";
+
 fn with_long_about<'a>(command: Command<'a>) -> Command<'a> {
     command.long_about(SERVE_LONG_ABOUT)
 }
@@ -118,9 +125,14 @@ fn add_serve<'a>(alloc: Global, commands: &mut Vec<Command<'a>>) -> Result<(), A
     keep(serve_command(alloc)?, commands)
 }
 
+fn add_node<'a>(alloc: Global, commands: &mut Vec<Command<'a>>) -> Result<(), AllocError> {
+    keep(node_command(alloc)?, commands)
+}
+
 fn all_commands<'a>(alloc: Global) -> Result<Vec<Command<'a>>, AllocError> {
     let mut commands = Vec::new(alloc);
     add_forms(alloc, &mut commands)?;
+    add_node(alloc, &mut commands)?;
     add_serve(alloc, &mut commands)?;
     Ok(commands)
 }
@@ -238,6 +250,37 @@ fn read_serve<'a>(alloc: Global, matches: &ArgMatches<'a>) -> Result<Call<'a>, E
     }
 }
 
+/// No call, since the value of this option is none.
+fn no_option<'a>(alloc: Global, bad: BadOption<'_>) -> Result<Call<'a>, Error> {
+    let BadOption { name, word, wanted } = bad;
+    let message = format!(in alloc; "invalid value '{word}' for '--{name}': expected {wanted}")?;
+    no_call(alloc, message.as_str())
+}
+
+/// The call of `node`, where it could be made.
+fn made_node<'a>(alloc: Global, matches: &ArgMatches<'a>) -> Result<Call<'a>, Error> {
+    match node_call(matches) {
+        Some(call) => Ok(call),
+        None => no_call(alloc, TOO_MANY_LINKS),
+    }
+}
+
+/// The call of `node`, where each of its options has a value that it may have.
+fn checked_node<'a>(alloc: Global, matches: &ArgMatches<'a>) -> Result<Call<'a>, Error> {
+    match bad_option(matches) {
+        Some(bad) => no_option(alloc, bad),
+        None => made_node(alloc, matches),
+    }
+}
+
+/// The same, where the words of its numbers are made of decimal digits alone.
+fn read_node<'a>(alloc: Global, matches: &ArgMatches<'a>) -> Result<Call<'a>, Error> {
+    match first_signed(matches, node_numbers()) {
+        Some(word) => bad_word(alloc, word),
+        None => checked_node(alloc, matches),
+    }
+}
+
 /// The first word of a form's numbers, or of its query's, that is not made of decimal digits alone.
 fn first_bad<'a>(form: CommandForm, matches: &ArgMatches<'a>) -> Option<&'a str> {
     if let Some((name, words)) = matches.subcommand() {
@@ -300,6 +343,7 @@ fn read_form<'a>(alloc: Global, name: &str, matches: &ArgMatches<'a>) -> Result<
 fn read_matches<'a>(alloc: Global, matches: &ArgMatches<'a>) -> Result<Call<'a>, Error> {
     match matches.subcommand() {
         Some(("serve", serve)) => read_serve(alloc, serve),
+        Some(("node", node)) => read_node(alloc, node),
         Some((name, words)) => read_form(alloc, name, words),
         None => no_call(alloc, "a command is missing"),
     }

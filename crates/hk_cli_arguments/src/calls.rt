@@ -240,7 +240,6 @@ fn order_of(form: CommandForm, matches: &ArgMatches<'_>) -> Option<Order> {
     match form {
         CommandForm::Push => Some(push_order(matches)),
         CommandForm::Shell => Some(Order::Shell),
-        CommandForm::Save => Some(save_order(matches)),
         CommandForm::Load => Some(Order::Load),
         CommandForm::Pull => pull_order(matches),
         CommandForm::Prune => prune_order(matches),
@@ -253,6 +252,19 @@ fn node_call<'a>(form: CommandForm, matches: &ArgMatches<'a>) -> Option<Call<'a>
     let order = order_of(form, matches)?;
     let place = place_of(matches)?;
     Some(node_of(matches, place, 0, order))
+}
+
+/// The call of `save`: to standard output, or into a file.
+fn save_call<'a>(matches: &ArgMatches<'a>) -> Option<Call<'a>> {
+    let call = NodeCall {
+        place: place_of(matches)?,
+        limits: limits_of(matches, 0),
+        order: save_order(matches),
+    };
+    match matches.get_str("out") {
+        Some(name) => Some(Call::Into(call, name)),
+        None => Some(Call::Node(call)),
+    }
 }
 
 fn items_call<'a>(matches: &ArgMatches<'a>) -> Option<Call<'a>> {
@@ -282,6 +294,7 @@ pub(crate) fn call_of<'a>(form: CommandForm, matches: &ArgMatches<'a>) -> Option
         CommandForm::Frames => Some(Call::Alone(Alone::Frames)),
         CommandForm::Rewrite => Some(Call::Alone(Alone::Rewrite)),
         CommandForm::World => world_call(matches),
+        CommandForm::Save => save_call(matches),
         CommandForm::Explain => explain_call(matches),
         node => node_call(node, matches),
     }

@@ -325,6 +325,25 @@ fn add_node<'a>(
     Ok(())
 }
 
+const OUT_HELP: &str = "Write to this file: all of it, synced, or it stays as it was";
+
+fn out_arg<'a>(alloc: Global) -> Arg<'a> {
+    valued(alloc, "out", "FILE", OUT_HELP).long("out")
+}
+
+/// Adds a file that a command writes to.
+fn add_file<'a>(
+    alloc: Global,
+    form: CommandForm,
+    args: &mut Vec<Arg<'a>>,
+) -> Result<(), AllocError> {
+    match form {
+        CommandForm::World => keep(items_arg(alloc), args),
+        CommandForm::Save => keep(out_arg(alloc), args),
+        _none => Ok(()),
+    }
+}
+
 /// Adds what a command accepts beside numbers.
 fn add_extra<'a>(
     alloc: Global,
@@ -332,12 +351,9 @@ fn add_extra<'a>(
     args: &mut Vec<Arg<'a>>,
 ) -> Result<(), AllocError> {
     if has_json(form) {
-        return keep(flag(alloc, "json", "Print lines of JSON"), args);
+        keep(flag(alloc, "json", "Print lines of JSON"), args)?;
     }
-    if matches!(form, CommandForm::World) {
-        return keep(items_arg(alloc), args);
-    }
-    Ok(())
+    add_file(alloc, form, args)
 }
 
 /// What a command accepts.

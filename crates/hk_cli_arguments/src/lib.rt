@@ -4,6 +4,7 @@
 mod arguments;
 mod calls;
 mod forms;
+mod node;
 mod numbers;
 mod stay;
 mod texts;

@@ -17,7 +17,9 @@ pub(crate) enum Number {
     Port,
     OrPort,
     ServePort,
+    NodePort,
     Links,
+    NodeLinks,
     From,
     Batch,
     Time,
@@ -37,6 +39,7 @@ pub(crate) enum Number {
     SentMessages,
     PartsBytes,
     ReadSeconds,
+    NodeReadSeconds,
     ReportChanges,
     FeedPort,
     FeedLinks,
@@ -82,13 +85,13 @@ fn name_of_node<'a>(number: Number) -> &'a str {
         Number::ReplySeconds | Number::OrReplySeconds => "reply-seconds",
         Number::Messages | Number::SentMessages => "messages",
         Number::PartsBytes => "parts-bytes",
-        Number::ReadSeconds => "read-seconds",
+        Number::ReadSeconds | Number::NodeReadSeconds => "read-seconds",
         Number::ReportChanges => "report-changes",
         Number::FeedPort => "feed-port",
         Number::FeedLinks => "feed-links",
         Number::ReadPort => "read-port",
         Number::ReadLinks => "read-links",
-        Number::Links => "links",
+        Number::Links | Number::NodeLinks => "links",
         Number::From => "from",
         _port => "port",
     }
@@ -120,7 +123,7 @@ fn value_of_node<'a>(number: Number) -> &'a str {
         Number::ReadPort => "P2",
         Number::ReadLinks => "M",
         Number::From => "Q",
-        Number::Port | Number::OrPort | Number::ServePort => "P",
+        Number::Port | Number::OrPort | Number::ServePort | Number::NodePort => "P",
         _other => "N",
     }
 }
@@ -145,6 +148,10 @@ fn value_of<'a>(number: Number) -> &'a str {
 fn help_of_links<'a>(number: Number) -> &'a str {
     match number {
         Number::Links => "How many connections are served, with --stay at once: 1 to 64",
+        Number::NodePort => "The port of 127.0.0.1: 1 to 65535; 7420 where it isn't given",
+        Number::NodeLinks => {
+            "How many connections are served at once: 1 to 64; what other ports leave of 64 where it isn't given"
+        }
         Number::FeedPort => "A further port, whose connections may send items and ask: 1 to 65535",
         Number::FeedLinks => {
             "How many connections to that port are served at once: 1 to 63, and 64 with the others"
@@ -155,6 +162,9 @@ fn help_of_links<'a>(number: Number) -> &'a str {
         }
         Number::ReadSeconds => {
             "End a connection where inside a frame nothing comes for so long: 0 (never) to 86400"
+        }
+        Number::NodeReadSeconds => {
+            "End a connection where inside a frame nothing comes for so long: 0 (never) to 86400; 30 where it isn't given"
         }
         _changes => {
             "Print the front to standard error after each N changes, 1 to 1000000000; uses one of the 64 slots"
@@ -220,10 +230,10 @@ fn help_of<'a>(number: Number) -> &'a str {
 fn range_of(number: Number) -> Range {
     match number {
         Number::Streams | Number::OrStreams => Range::Within(1, 64),
-        Number::ServeStreams | Number::Links => Range::Signed(1, 64),
+        Number::ServeStreams | Number::Links | Number::NodeLinks => Range::Signed(1, 64),
         Number::Port | Number::OrPort | Number::From => Range::Within(1, 65_535),
         Number::FeedPort | Number::ReadPort => Range::Within(1, 65_535),
-        Number::ServePort => Range::Signed(1, 65_535),
+        Number::ServePort | Number::NodePort => Range::Signed(1, 65_535),
         Number::FeedLinks | Number::ReadLinks => Range::Within(1, 63),
         Number::Batch => Range::Within(1, 65_536),
         Number::Time | Number::OrTime | Number::Horizon => {
@@ -233,7 +243,7 @@ fn range_of(number: Number) -> Range {
         Number::Tag => Range::Within(0, 4_294_967_295),
         Number::ConnectSeconds | Number::OrConnectSeconds => Range::Within(0, 86_400),
         Number::ReplySeconds | Number::OrReplySeconds => Range::Within(0, 86_400),
-        Number::ReadSeconds => Range::Within(0, 86_400),
+        Number::ReadSeconds | Number::NodeReadSeconds => Range::Within(0, 86_400),
         Number::Messages | Number::SentMessages => Range::Within(1, 2),
         Number::ReportChanges => Range::Within(1, 1_000_000_000),
         _any => Range::Any,
@@ -256,6 +266,18 @@ fn need_of(number: Number) -> Need {
         Number::ConnectSeconds | Number::ReplySeconds => Need::Never,
         Number::Messages | Number::SentMessages => Need::Never,
         _always => Need::Always,
+    }
+}
+
+/// The same of an argument of `node`, which always stays.
+fn node_need_of(number: Number) -> Need {
+    match number {
+        Number::Log | Number::ServeStreams => Need::Always,
+        Number::FeedPort => Need::With("feed-links"),
+        Number::FeedLinks => Need::With("feed-port"),
+        Number::ReadPort => Need::With("read-links"),
+        Number::ReadLinks => Need::With("read-port"),
+        _other => Need::Never,
     }
 }
 
@@ -363,6 +385,44 @@ pub(crate) fn add_numbers<'a>(
 ) -> Result<(), AllocError> {
     for number in numbers {
         add_number(alloc, *number, args)?;
+    }
+    Ok(())
+}
+
+/// The numbers of `node`, in the order in which a bad word is looked for.
+pub(crate) fn node_numbers() -> &'static [Number] {
+    &[
+        Number::Log,
+        Number::ServeStreams,
+        Number::NodePort,
+        Number::NodeLinks,
+        Number::FeedPort,
+        Number::FeedLinks,
+        Number::ReadPort,
+        Number::ReadLinks,
+        Number::NodeReadSeconds,
+        Number::ReportChanges,
+    ]
+}
+
+fn add_node_number<'a>(
+    alloc: Global,
+    number: Number,
+    args: &mut Vec<Arg<'a>>,
+) -> Result<(), AllocError> {
+    keep(
+        with_need(named_arg(alloc, number), node_need_of(number))?,
+        args,
+    )
+}
+
+/// Adds the numbers of `node`.
+pub(crate) fn add_node_numbers<'a>(
+    alloc: Global,
+    args: &mut Vec<Arg<'a>>,
+) -> Result<(), AllocError> {
+    for number in node_numbers() {
+        add_node_number(alloc, *number, args)?;
     }
     Ok(())
 }

@@ -5,21 +5,21 @@ use crate::calls::{has_flag, port_of, u16_of, u64_of};
 use crate::forms::flag;
 use crate::numbers::{add_numbers, keep, stay_numbers, valued};
 use clap::{Arg, ArgMatches};
-use hk_cli_calls::{Call, Level, OtherPort, Stay};
+use hk_cli_calls::{Call, Level, OtherPort, PartsLimit, Stay};
 use hk_types::Links;
 use std::alloc::{AllocError, Global};
 use std::net::Ipv4Addr;
 
 const STAY_HELP: &str = "Serve connections without an end, so many at once";
 
-const QUIET_HELP: &str = "Print faults alone to standard error, and not each connection";
+pub(crate) const QUIET_HELP: &str = "Print faults alone to standard error, and not each connection";
 
-const VERBOSE_HELP: &str = "Print each change that takes effect to standard error, too";
+pub(crate) const VERBOSE_HELP: &str = "Print each change that takes effect to standard error, too";
 
 const GUARD_HELP: &str =
     "Test each change first: one that conflicts is refused 23, and changes nothing";
 
-const ADDRESS_HELP: &str =
+pub(crate) const ADDRESS_HELP: &str =
     "Where the ports are opened, in place of 127.0.0.1. Nothing is encrypted or authenticated";
 
 /// How many connections a node serves at once at most, of all kinds.
@@ -78,19 +78,19 @@ pub(crate) fn add_stay<'a>(alloc: Global, args: &mut Vec<Arg<'a>>) -> Result<(),
 }
 
 /// How many connections this option asks for, 0 without it.
-fn count_of(matches: &ArgMatches<'_>, name: &str) -> u16 {
+pub(crate) fn count_of(matches: &ArgMatches<'_>, name: &str) -> u16 {
     u16_of(matches, name).unwrap_or(0)
 }
 
 /// A further port by these options, if there is one.
-fn other_port(matches: &ArgMatches<'_>, port: &str, links: &str) -> Option<OtherPort> {
+pub(crate) fn other_port(matches: &ArgMatches<'_>, port: &str, links: &str) -> Option<OtherPort> {
     let port = u16_of(matches, port)?;
     let links = Links::new(count_of(matches, links))?;
     Some(OtherPort { port, links })
 }
 
 /// Whether the seats suffice for the connections of all ports and for the report of changes.
-fn are_seated(matches: &ArgMatches<'_>, report_changes: u64) -> bool {
+pub(crate) fn are_seated(matches: &ArgMatches<'_>, report_changes: u64) -> bool {
     let others = count_of(matches, "feed-links").saturating_add(count_of(matches, "read-links"));
     let telling = u16::from(report_changes > 0);
     count_of(matches, "links")
@@ -104,7 +104,7 @@ fn address_named(word: &str) -> Option<Ipv4Addr> {
 }
 
 /// The address that is named, or that of this machine alone.
-fn address_of(matches: &ArgMatches<'_>) -> Option<Ipv4Addr> {
+pub(crate) fn address_of(matches: &ArgMatches<'_>) -> Option<Ipv4Addr> {
     match matches.get_str("address") {
         None => Some(Ipv4Addr::LOCALHOST),
         Some(word) => address_named(word),
@@ -112,7 +112,7 @@ fn address_of(matches: &ArgMatches<'_>) -> Option<Ipv4Addr> {
 }
 
 /// What is reported of connections.
-fn level_of(matches: &ArgMatches<'_>) -> Level {
+pub(crate) fn level_of(matches: &ArgMatches<'_>) -> Level {
     if has_flag(matches, "quiet") {
         Level::Faults
     } else if has_flag(matches, "verbose") {
@@ -137,9 +137,10 @@ pub(crate) fn stay_call<'a>(matches: &ArgMatches<'a>) -> Option<Call<'a>> {
         reading: other_port(matches, "read-port", "read-links"),
         read_seconds: u64_of(matches, "read-seconds").unwrap_or(0),
         is_guarded: has_flag(matches, "guard"),
-        parts_bytes: parts_bytes_of(matches),
+        parts: parts_bytes_of(matches).map(PartsLimit::Bytes),
         level: level_of(matches),
         report_changes,
+        start: None,
     };
     Some(Call::Stay(config, stay))
 }

@@ -147,7 +147,8 @@ pub(crate) const SAVE_ABOUT: &str = "Write a full snapshot of a node, for 'hkrep
 
 pub(crate) const SAVE_EXAMPLE: &str = "Example:
   hkrep save --port 7426 > whole.bin
-writes one frame. With --json it prints a line of the head and one of each version.";
+writes one frame. With --json it prints a line of the head and one of each version. With --out FILE the file is whole, or as it was:
+  hkrep save --port 7426 --out whole.bin";
 
 pub(crate) const LOAD_ABOUT: &str = "Send what 'hkrep save' wrote to a node";
 

@@ -77,7 +77,9 @@ pub enum Call<'a> {
         parts_bytes: Option<u64>,
     },
     /// Start a node of a log, and serve connections to it without an end.
-    Stay(Config, Stay),
+    Stay(Config, Stay<'a>),
     /// Have a node that runs do something.
     Node(NodeCall<'a>),
+    /// The same, and write what it prints into a file of this name: all of it, or the file stays as it is.
+    Into(NodeCall<'a>, &'a str),
 }

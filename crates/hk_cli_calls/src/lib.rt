@@ -8,5 +8,5 @@ mod version;
 
 pub use call::{Alone, Call, OutputForm};
 pub use node::{Limits, NodeCall, NodePlace, Order};
-pub use serving::{Level, OtherPort, Stay};
+pub use serving::{Level, MOST_SOURCES, OtherPort, PartsLimit, Start, Stay};
 pub use version::{IS_PROVED, VERSION};

@@ -1,5 +1,6 @@
 //! How a long-running node serves its connections.
 
+use crate::node::NodePlace;
 use hk_types::Links;
 use std::net::Ipv4Addr;
 
@@ -23,9 +24,32 @@ pub struct OtherPort {
     pub links: Links,
 }
 
+/// How many bytes all connections keep at most for messages of version 2.
+#[derive(Clone, Copy)]
+pub enum PartsLimit {
+    /// So many.
+    Bytes(u64),
+    /// So many hundredths of the memory that the program may have, but not less than 268,435,456.
+    Percent(u64),
+}
+
+/// The most nodes of which one takes what it begins with.
+pub const MOST_SOURCES: usize = 8;
+
+/// What `node` has before it listens.
+#[derive(Clone, Copy)]
+pub struct Start<'a> {
+    /// The name of a file that `save` wrote, if what it has is taken first.
+    pub file: Option<&'a str>,
+    /// Nodes: what the first that answers has above that is taken next. Those that there are come first.
+    pub sources: [Option<NodePlace<'a>>; MOST_SOURCES],
+    /// Whether the program ends where neither can be had.
+    pub needs_data: bool,
+}
+
 /// How a long-running node serves its connections.
-#[derive(Clone, Copy, Debug)]
-pub struct Stay {
+#[derive(Clone, Copy)]
+pub struct Stay<'a> {
     /// The address that its ports are opened at.
     pub address: Ipv4Addr,
     /// The port for connections of every kind.
@@ -41,9 +65,12 @@ pub struct Stay {
     /// Whether each change is tested before it is added, so that none makes the node fail.
     pub is_guarded: bool,
     /// How many bytes all connections keep at most for messages of version 2; without it those of version 1 alone are answered.
-    pub parts_bytes: Option<u64>,
+    pub parts: Option<PartsLimit>,
     /// What is reported of connections.
     pub level: Level,
     /// After how many changes the node's front is printed each time; 0 is never.
     pub report_changes: u64,
+    /// What it has before it listens, as `node`: it prints one line of what it opened, and its other lines have the time, how grave
+    /// they are, and the peer's address. None as `serve --stay`.
+    pub start: Option<Start<'a>>,
 }

@@ -1,27 +1,18 @@
-//! What changes a node: `pull` and `prune`.
+//! What changes a node: `pull` and `prune`, and what a node begins with.
 
 use crate::link::{Link, opened, unasked};
 use crate::parts::{Parts, TOO_LONG, hand_parts, is_too_long, taking};
 use crate::read::front_at;
-use hk_cli_calls::NodePlace;
+use hk_cli_calls::{Limits, NodePlace};
 use hk_cli_commands::{Output, Stop};
 use hk_cli_reasons::{Origin, RequestContext};
 use hk_log::Version;
 use hk_types::{Refusal, Time, VersionKey};
 use hk_wire::{LaterReply, LaterRequest, Reply, Request};
+use std::alloc::Global;
 use std::io::Write;
 use std::net::{Net, TcpListener, TcpStream};
 use std::rt::Clock;
-
-/// Sends a request, and prints its reply.
-fn tell<W: Write, E: Write>(
-    link: &mut Link<'_>,
-    request: &Request,
-    output: &mut Output<'_, W, E>,
-) -> Result<(), Stop> {
-    let reply = link.granted(request)?;
-    output.print(&reply)
-}
 
 /// Has the node drop the versions that no read at a time or later needs, and prints its number.
 pub(crate) fn prune<W: Write, E: Write>(
@@ -29,7 +20,8 @@ pub(crate) fn prune<W: Write, E: Write>(
     horizon: Time,
     output: &mut Output<'_, W, E>,
 ) -> Result<(), Stop> {
-    tell(link, &Request::Prune { horizon }, output)
+    let reply = link.granted(&Request::Prune { horizon })?;
+    output.print(&reply)
 }
 
 /// Whether a delta was refused for its base alone, so that a full snapshot may serve in its place.
@@ -90,38 +82,87 @@ fn handed_on(from: &mut Link<'_>, base: Time) -> Result<Handed, Stop> {
     }
 }
 
-/// Chunks on their way to a node.
-#[derive(Drop)]
-struct Adder<'k, 'l> {
-    link: &'k mut Link<'l>,
+/// A node that is given what another one has: over a connection, or in the same program.
+pub trait Taker {
+    /// Returns its resolved time, or what stops the command.
+    fn readable(&mut self) -> Result<Time, Stop>;
+
+    /// Returns whether it reads requests of version 2.
+    fn reads_second(&mut self) -> Result<bool, Stop>;
+
+    /// Has it answer a request. A refusal stops the command.
+    fn take(&mut self, request: Request) -> Result<Reply, Stop>;
 }
 
-impl Parts for Adder<'_, '_> {
+impl Taker for Link<'_> {
+    fn readable(&mut self) -> Result<Time, Stop> {
+        Ok(front_at(self)?.readable)
+    }
+
+    fn reads_second(&mut self) -> Result<bool, Stop> {
+        self.reads_later()
+    }
+
+    fn take(&mut self, request: Request) -> Result<Reply, Stop> {
+        self.granted(&request)
+    }
+}
+
+/// Chunks on their way to a node.
+#[derive(Drop)]
+struct Adder<'k, T: Taker> {
+    own: &'k mut T,
+}
+
+impl<T: Taker> Parts for Adder<'_, T> {
     /// Has the node keep the facts until the head is there.
     fn take(&mut self, facts: Vec<(VersionKey, Version)>) -> Result<(), Stop> {
-        match self.link.granted_later(LaterRequest::AddPart(facts))? {
-            LaterReply::Added { .. } => Ok(()),
+        match self.own.take(Request::Later(LaterRequest::AddPart(facts)))? {
+            Reply::Later(LaterReply::Added { .. }) => Ok(()),
             _none => Err(unasked()),
         }
     }
 }
 
-/// Copies to a node in chunks what another has applied since a time, or its full snapshot since 0, and prints the
-/// node's number. Where one of them doesn't read requests of chunks, it stops for what was refused before.
-fn pull_parts<W: Write, E: Write>(
-    own: &mut Link<'_>,
+/// Gives a node in chunks what another has applied since a time, or its full snapshot since 0, and returns the reply. Where one of
+/// them doesn't read requests of chunks, it stops for what was refused before.
+fn give_parts<T: Taker>(
+    own: &mut T,
     other: &mut Link<'_>,
     base: Time,
     long: Origin,
-    output: &mut Output<'_, W, E>,
-) -> Result<(), Stop> {
-    if !own.reads_later()? || !other.reads_later()? {
+) -> Result<Reply, Stop> {
+    if !own.reads_second()? || !other.reads_later()? {
         return Err(Stop::RefusedAt(TOO_LONG, long));
     }
-    let mut adder = Adder { link: own };
+    let mut adder = Adder { own };
     let head = hand_parts(other, base, &mut adder)?;
-    let reply = own.granted_later(taking(head))?;
-    output.print(&reply)
+    adder.own.take(Request::Later(taking(head)))
+}
+
+/// Gives a node what the one at a place has applied since the node's resolved time, or its full snapshot where it refuses the delta for
+/// its base, and returns the node's reply: in chunks where a message has no room for it. Where that place can't be reached, why is
+/// printed on `output`. What stops it otherwise is as in `run_order`; nothing was joined then. Cost: O(n), n bytes of what goes.
+pub fn give_from<
+    R: Net<Listener = TcpListener, Stream = TcpStream> + Clock,
+    T: Taker,
+    W: Write,
+    E: Write,
+>(
+    rt: &R,
+    alloc: Global,
+    place: NodePlace<'_>,
+    limits: Limits,
+    own: &mut T,
+    output: &mut Output<'_, W, E>,
+) -> Result<Reply, Stop> {
+    let stream = opened(rt, place, limits, output)?;
+    let mut other = Link::new(alloc, &stream, limits)?;
+    let readable = own.readable()?;
+    match handed_on(&mut other, readable)? {
+        Handed::Frame(request) => own.take(request),
+        Handed::Long(base, long) => give_parts(own, &mut other, base, long),
+    }
 }
 
 /// Copies to the node what the one on another port has applied since the node's resolved time, and prints its number.
@@ -131,11 +172,7 @@ pub(crate) fn pull<R: Net<Listener = TcpListener, Stream = TcpStream> + Clock, W
     from: u16,
     output: &mut Output<'_, W, E>,
 ) -> Result<(), Stop> {
-    let stream = opened(rt, NodePlace::Port(from), own.limits(), output)?;
-    let mut other = Link::new(own.alloc(), &stream, own.limits())?;
-    let front = front_at(own)?;
-    match handed_on(&mut other, front.readable)? {
-        Handed::Frame(request) => tell(own, &request, output),
-        Handed::Long(base, long) => pull_parts(own, &mut other, base, long, output),
-    }
+    let (alloc, limits) = (own.alloc(), own.limits());
+    let reply = give_from(rt, alloc, NodePlace::Port(from), limits, own, output)?;
+    output.print(&reply)
 }

@@ -12,4 +12,6 @@ mod read;
 mod shell;
 mod table;
 
+pub use change::{Taker, give_from};
+pub use link::refusal_of;
 pub use order::run_order;

@@ -41,8 +41,8 @@ pub(crate) fn asked_of(request: &Request) -> RequestContext {
     }
 }
 
-/// Why a reply refuses its request.
-pub(crate) fn refusal_of(reply: &Reply) -> Option<Refusal> {
+/// Why a reply refuses its request, if it does. Cost: O(1).
+pub fn refusal_of(reply: &Reply) -> Option<Refusal> {
     match reply {
         Reply::Refused(why) | Reply::Later(LaterReply::Refused(why)) => Some(*why),
         _other => None,

@@ -3,6 +3,7 @@
 use crossbeam_channel::{Receiver, Sender};
 use hk_session::Ended;
 use std::alloc::AllocError;
+use std::net::SocketAddr;
 use std::sync::Wait;
 
 /// How many events may wait for the watcher; a connection whose event finds no room waits with it.
@@ -11,8 +12,8 @@ pub const EVENTS: usize = 1_024;
 /// What happens to the connections of a long-running node.
 #[derive(Clone, Copy, Debug, PartialEq, Eq)]
 pub enum LinkEvent {
-    /// A connection was opened.
-    Opened,
+    /// A connection was opened from this address.
+    Opened(SocketAddr),
     /// A change that came over a connection was refused with this number.
     Refused(u8),
     /// A change that came over a connection took effect; the node's list of operations that ends with it has so many.

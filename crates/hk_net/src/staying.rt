@@ -195,8 +195,8 @@ fn serve_next<J: NodeName, N: Wait + Drop, R: Threads + Wait + Clock + Sync>(
     ensures { IsPrefix place.seat result.seat }
 {
     match door.listener.accept() {
-        Ok((stream, _address)) => {
-            teller.tell(rt, LinkEvent::Opened);
+        Ok((stream, address)) => {
+            teller.tell(rt, LinkEvent::Opened(address));
             let (ended, back) = serve_stream(rt, alloc, door, place, &stream, teller);
             drain(&stream);
             drop(stream);

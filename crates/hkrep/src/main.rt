@@ -2,16 +2,18 @@
 #![tactic(auto)]
 
 mod watched;
+mod whole_file;
 
 use crate::watched::Watched;
+use crate::whole_file::WholeFile;
 use hk_cli::{
     run_ask, run_at, run_explain, run_frames, run_front, run_items, run_order, run_rewrite,
     run_serve, run_status, run_stay, run_world,
 };
 use hk_cli_arguments::read_call;
-use hk_cli_calls::{Alone, Call};
+use hk_cli_calls::{Alone, Call, NodeCall};
 use std::alloc::Global;
-use std::fs::Files;
+use std::fs::{File, Files};
 use std::io::{IsTerminal, Read, Write};
 use std::net::{Net, TcpListener, TcpStream};
 use std::process::ExitCode;
@@ -61,9 +63,15 @@ fn run_alone<I: Read, W: Write, E: Write>(
     }
 }
 
-/// Prints that a file can't be made, in the system's words.
-fn tell_no_file<E: Write>(alloc: Global, name: &str, error: &io::Error, errors: &mut E) {
-    let line = format!(in alloc; "stopped: can't make the file {name}: {error}\n");
+/// Prints that a file can't be made or written, in the system's words.
+fn tell_no_file<E: Write>(
+    alloc: Global,
+    what: &str,
+    name: &str,
+    error: &io::Error,
+    errors: &mut E,
+) {
+    let line = format!(in alloc; "stopped: can't {what} the file {name}: {error}\n");
     let _told = match line {
         Ok(line) => errors.write_all(line.as_bytes()),
         Err(_memory) => errors.write_all(NO_FILE),
@@ -90,7 +98,41 @@ fn run_script<R: Files + Alloc<A = Global>, I: Read, W: Write, E: Write>(
     match made(rt, items) {
         Ok(mut file) => run_world(alloc, input, file.as_mut(), output, errors),
         Err(error) => {
-            tell_no_file(alloc, items.unwrap_or(""), &error, errors);
+            tell_no_file(alloc, "make", items.unwrap_or(""), &error, errors);
+            1
+        }
+    }
+}
+
+/// The status of an order to a node whose output goes into the file of this name: all of it, or the file stays as it was.
+fn run_into<R, I: Read, E: Write>(
+    rt: &R,
+    input: &mut I,
+    call: &NodeCall<'_>,
+    name: &str,
+    errors: &mut E,
+) -> u8
+where
+    R: Net<Listener = TcpListener, Stream = TcpStream> + Clock,
+    R: Files<File = File> + Alloc<A = Global>,
+{
+    let alloc = rt.alloc();
+    let mut whole = match WholeFile::new(rt, name) {
+        Ok(whole) => whole,
+        Err(error) => {
+            tell_no_file(alloc, "make", name, &error, errors);
+            return 1;
+        }
+    };
+    let status = run_order(rt, alloc, call, input, false, &mut whole.file, errors);
+    if status > 0 {
+        whole.leave(rt);
+        return status;
+    }
+    match whole.finish(rt) {
+        Ok(()) => 0,
+        Err(error) => {
+            tell_no_file(alloc, "write", name, &error, errors);
             1
         }
     }
@@ -105,7 +147,7 @@ fn run<R, I: Read, E: Write>(
     call: &Call<'_>,
 ) -> u8
 where
-    R: Print + Alloc<A = Global> + Clock + Files,
+    R: Print + Alloc<A = Global> + Clock + Files<File = File>,
     R: Net<Listener = TcpListener, Stream = TcpStream> + Threads + Wait + Sync,
 {
     let mut output = io::writer(rt);
@@ -129,7 +171,8 @@ where
                 errors,
             )
         }
-        Call::Stay(config, stay) => { run_stay(rt, rt.alloc(), *config, stay, &mut output, errors) }
+        Call::Stay(config, stay) => run_stay(rt, *config, stay, &mut output, errors),
+        Call::Into(call, name) => run_into(rt, input, call, name, errors),
         Call::Node(call) => {
             run_order(
                 rt,

@@ -1,0 +1,104 @@
+//! A file that is written whole: what it had before stays until all of the new is there.
+
+use std::alloc::Global;
+use std::fs::{File, Files, OpenOptions};
+use std::io::ErrorKind;
+use std::os::unix::fs::MetadataExt;
+use std::{fs, io};
+
+/// What stands behind a file's name in that of the file beside it.
+const BESIDE: &str = ".part";
+
+/// How often a file beside is opened that another writer put in its place meanwhile.
+const MOST_TRIES: u64 = 1_000;
+
+/// A new file beside another, whose place it takes once it is whole.
+#[derive(Drop)]
+pub(crate) struct WholeFile {
+    /// The file beside, which no other writer has.
+    pub(crate) file: File,
+    name: String,
+    beside: String,
+}
+
+/// The name of the file that is meant: where a link leads, if it is one. A device or a folder is refused.
+fn plain_name<R: Files + Alloc<A = Global>>(rt: &R, name: &str) -> io::Result<String> {
+    match fs::metadata(rt, name) {
+        Ok(found) if found.is_file() => Ok(fs::canonicalize(rt, name)?.into_string()),
+        Ok(_other) => Err(ErrorKind::InvalidInput.into()),
+        Err(error) if error.kind() == ErrorKind::NotFound => {
+            Ok(format!(in rt.alloc(); "{name}")?)
+        }
+        Err(error) => Err(error),
+    }
+}
+
+/// Whether an open file is the one of this name.
+fn is_at<R: Files>(rt: &R, file: &File, name: &str) -> io::Result<bool> {
+    match fs::metadata(rt, name) {
+        Ok(found) => Ok(found.ino() == file.metadata()?.ino()),
+        Err(error) if error.kind() == ErrorKind::NotFound => Ok(false),
+        Err(error) => Err(error),
+    }
+}
+
+/// The file of this name, which no other writer has: where one has it, it is waited for.
+fn locked<R: Files<File = File>>(rt: &R, name: &str) -> io::Result<File> {
+    for _ in 0..MOST_TRIES {
+        let file = OpenOptions::new().write(true).create(true).open(rt, name)?;
+        file.lock()?;
+        if is_at(rt, &file, name)? {
+            file.set_len(0)?;
+            return Ok(file);
+        }
+    }
+    Err(ErrorKind::WouldBlock.into())
+}
+
+/// Has the system keep the names of a file's folder, where it can.
+fn sync_folder<R: Files<File = File>>(rt: &R, name: &str) {
+    let folder = match name.rsplit_once('/') {
+        Some(("", _name)) => "/",
+        Some((folder, _name)) => folder,
+        None => ".",
+    };
+    if let Ok(folder) = fs::open(rt, folder) {
+        let _synced = folder.sync_all();
+    }
+}
+
+impl WholeFile {
+    /// A new file for this name, with nothing in it yet.
+    pub(crate) fn new<R: Files<File = File> + Alloc<A = Global>>(
+        rt: &R,
+        name: &str,
+    ) -> io::Result<WholeFile> {
+        let name = plain_name(rt, name)?;
+        let beside = format!(in rt.alloc(); "{name}{BESIDE}")?;
+        let file = locked(rt, beside.as_str())?;
+        Ok(WholeFile { file, name, beside })
+    }
+
+    /// Puts it in the place of the other, once the system keeps all of it. Where that fails the other stays.
+    pub(crate) fn finish<R: Files<File = File>>(self, rt: &R) -> io::Result<()> {
+        let put = match self.file.sync_all() {
+            Ok(()) => fs::rename(rt, self.beside.as_str(), self.name.as_str()),
+            Err(error) => Err(error),
+        };
+        match put {
+            Ok(()) => {
+                sync_folder(rt, self.name.as_str());
+                Ok(())
+            }
+            Err(error) => {
+                self.leave(rt);
+                Err(error)
+            }
+        }
+    }
+
+    /// Removes it. The other stays.
+    pub(crate) fn leave<R: Files<File = File>>(self, rt: &R) {
+        let _removed = fs::remove_file(rt, self.beside.as_str());
+    }
+}
