@@ -55,7 +55,7 @@ UNTYPED = {
 
 # What stands in a command of a page for something of the reader's own; a port is a free one.
 STAND_INS = {"FRAMES": "examples/first.bin", "NAME": "half_fed", "TIME": "1"}
-PORTS = r"\b(4700[01]|4701[01]|4711[01]|(?<=--port )P|(?<=--port )Q)\b"
+PORTS = r"\b(742[0-9]|(?<=--port )P|(?<=--port )Q)\b"
 
 
 def sources():
