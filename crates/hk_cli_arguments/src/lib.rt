@@ -3,8 +3,10 @@
 
 mod arguments;
 mod calls;
+mod flaw;
 mod forms;
 mod numbers;
+mod places;
 mod stay;
 mod texts;
 

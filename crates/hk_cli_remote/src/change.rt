@@ -1,9 +1,11 @@
 //! What changes a node: `pull` and `prune`.
 
-use crate::link::{Link, opened, unasked};
+use crate::link::{Link, unasked};
+use crate::order::Terminal;
 use crate::parts::{Parts, TOO_LONG, hand_parts, is_too_long, taking};
 use crate::read::front_at;
-use hk_cli_calls::NodePlace;
+use crate::stream::opened;
+use hk_cli_calls::NodeCall;
 use hk_cli_commands::{Output, Stop};
 use hk_cli_reasons::{Origin, RequestContext};
 use hk_log::Version;
@@ -124,15 +126,18 @@ fn pull_parts<W: Write, E: Write>(
     output.print(&reply)
 }
 
-/// Copies to the node what the one on another port has applied since the node's resolved time, and prints its number.
+/// Copies to the node what the call's source has applied since the node's resolved time, and prints its number.
 pub(crate) fn pull<R: Net<Listener = TcpListener, Stream = TcpStream> + Clock, W: Write, E: Write>(
     rt: &R,
     own: &mut Link<'_>,
-    from: u16,
+    call: &NodeCall<'_>,
+    terminal: Terminal,
     output: &mut Output<'_, W, E>,
 ) -> Result<(), Stop> {
-    let stream = opened(rt, NodePlace::Port(from), own.limits(), output)?;
-    let mut other = Link::new(own.alloc(), &stream, own.limits())?;
+    let source = call.source.unwrap_or(call.place);
+    let stream = opened(rt, source, call.limits, output)?;
+    let mut other = Link::new(own.alloc(), &stream, call.limits, terminal.errors, true)?;
+    output.copy_from(source)?;
     let front = front_at(own)?;
     match handed_on(&mut other, front.readable)? {
         Handed::Frame(request) => tell(own, &request, output),

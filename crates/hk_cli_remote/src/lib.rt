@@ -7,9 +7,11 @@ mod feed;
 mod link;
 mod order;
 mod parts;
+mod progress;
 mod push;
 mod read;
 mod shell;
+mod stream;
 mod table;
 
-pub use order::run_order;
+pub use order::{Terminal, run_order};
