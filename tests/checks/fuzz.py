@@ -181,12 +181,16 @@ LINES = [["at", "--log", "7", "--streams", "1", "1", "1", "5"], ["items"], ["ite
          ["serve", "--log", "7", "--streams", "1", "--port", "0", "--links", "1"], ["help", "at"], ["at", "--help"]]
 
 
+# The commands that ask a node, and where one is that is never there.
+ASKING = ("push", "feed", "ask", "front", "status", "save", "load", "pull", "prune", "shell")
+os.environ["HKREP_NODE"] = "127.0.0.1:1"
+
+
 def once(words):
-    """The words of a command line, which sees at once that nobody listens on its port."""
+    """The words of a command line, which sees at once that nobody listens on its port or at the environment's address."""
     kept = [word for word in words if not word.startswith("--connect-seconds")]
-    if "--port" in kept and "serve" not in kept:
-        at = kept.index("--port")
-        kept[at:at] = ["--connect-seconds", "0"]
+    if kept and kept[0] in ASKING:
+        kept[1:1] = ["--connect-seconds", "0"]
     return kept
 
 

@@ -455,6 +455,11 @@ def addresses_and_bad_lines():
                   ["1", "--stay", "--feed-port", "47998"], ["1", "--stay", "--feed-links", "1"], ["63", "--stay", "--feed-port", "47997", "--feed-links", "1", "--read-port", "47998", "--read-links", "1"]):
         done = subprocess.run([str(PROGRAM), "serve", *plain, *words], capture_output=True, text=True, timeout=30, check=False)
         pairs.append((" ".join(words), (done.returncode, done.stdout), (2, "")))
+    together = "error: --links, --feed-links and --read-links are 64 together at most, and --report-changes takes one of these"
+    for words, told in ((["1", "--address", "localhost"], "'localhost' for '--address <A>': an IPv4 address is wanted"), (["1", "--address", "::1"], "'::1' for '--address <A>': an IPv4 address"),
+                        (["40", "--read-port", "47998", "--read-links", "40"], together), (["64", "--report-changes", "2"], together)):
+        done = subprocess.run([str(PROGRAM), "serve", *plain, *words, "--stay"], capture_output=True, text=True, timeout=30, check=False)
+        pairs.append((f"what is told of {words}", (done.returncode, done.stdout, told in done.stderr), (2, "", True)))
     with socket.create_server(("127.0.0.1", 0)) as taken:
         port = str(taken.getsockname()[1])
         done = subprocess.run([str(PROGRAM), "serve", "--log", "7", "--streams", "1", "--port", port, "--links", "1", "--stay"],

@@ -13,15 +13,15 @@ LIMIT = 30
 
 
 class Running:
-    """A node, which is ended when the block is left; limits are of `resource`."""
+    """A node, which is ended when the block is left, started behind the words before; limits are of `resource`."""
 
-    def __init__(self, words, address="127.0.0.1", **limits):
+    def __init__(self, words, address="127.0.0.1", before=(), **limits):
         def restrict():
             for name, limit in limits.items():
                 resource.setrlimit(getattr(resource, name), (limit, limit))
 
         self.address = address
-        self.child = subprocess.Popen([str(PROGRAM), *words], stdout=subprocess.PIPE, stderr=subprocess.PIPE, text=True, preexec_fn=restrict)
+        self.child = subprocess.Popen([*before, str(PROGRAM), *words], stdout=subprocess.PIPE, stderr=subprocess.PIPE, text=True, preexec_fn=restrict)
         self.lines, self.words = queue.Queue(), []
         threading.Thread(target=self._read, daemon=True).start()
         self.words_thread = threading.Thread(target=lambda: self.words.extend(self.child.stderr), daemon=True)

@@ -16,6 +16,6 @@ pub use hk_cli_commands::{
     run_world,
 };
 pub use hk_cli_lines::{Printed, line_of};
-pub use hk_cli_remote::run_order;
+pub use hk_cli_remote::{Terminal, run_order};
 pub use serve::run_serve;
 pub use stay::run_stay;

@@ -223,6 +223,7 @@ fn name_of(alloc: Global, origin: Origins<'_>) -> Result<String, AllocError> {
         Origins::File(name) => format!(in alloc; "load {name}: "),
         Origins::Node(NodePlace::Port(port)) => format!(in alloc; "from 127.0.0.1:{port}: "),
         Origins::Node(NodePlace::Address(address)) => format!(in alloc; "from {address}: "),
+        Origins::Node(NodePlace::Path(path)) => format!(in alloc; "from unix:{path}: "),
     }
 }
 
@@ -240,7 +241,7 @@ where
     match origin {
         Origins::File(name) => take_file(rt, name, own, scratch)?,
         Origins::Node(place) => {
-            let _done = give_from(rt, rt.alloc(), place, LIMITS, own, scratch)?;
+            let _done = give_from(rt, rt.alloc(), place, LIMITS, None, own, scratch)?;
         }
     }
     own.front()

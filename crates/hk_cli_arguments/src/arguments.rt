@@ -1,12 +1,14 @@
 //! The command line.
 
-use crate::calls::{call_of, has_flag, is_second, port_of, u16_of, u64_of};
+use crate::calls::{call_of, has_flag, is_second, port_of, refusal_named, u16_of, u64_of};
+use crate::flaw::{Flaw, text_of};
 use crate::forms::{CommandForm, add_forms, command_named, numbers_of, query_numbers};
-use crate::node::{BadOption, bad_option, node_call, node_command};
+use crate::node::{node_call, node_command, start_flaw};
 use crate::numbers::{
     Number, add_numbers, keep, name_of, node_numbers, serve_numbers, serve_words,
 };
-use crate::stay::{add_stay, stay_call};
+use crate::places::{is_alone, is_decimal, place_flaw};
+use crate::stay::{add_stay, stay_call, stay_flaw};
 use clap::error::ErrorKind;
 use clap::{Arg, ArgMatches, Command, Error};
 use hk_cli_calls::{Call, VERSION};
@@ -60,13 +62,6 @@ It prints 'ended' and a number as each connection ends. --read-port opens a seco
 may ask and not change, --feed-port a further one, whose connections may send items and ask. \
 NOTHING IS ENCRYPTED OR AUTHENTICATED: whoever reaches the port may write. Give \
 --address only behind a proxy that does both (docs/OPERATING.md).";
-
-/// The error for a number that no call can be made of.
-const OUT_OF_RANGE: &str = "a number is out of its range";
-
-/// The error of a node for whose connections there are not enough slots.
-const TOO_MANY_LINKS: &str =
-    "--links, --feed-links and --read-links are 64 at most together, and 63 with --report-changes";
 
 fn with_long_about<'a>(command: Command<'a>) -> Command<'a> {
     command.long_about(SERVE_LONG_ABOUT)
@@ -142,10 +137,6 @@ fn program<'a>(alloc: Global) -> Result<Command<'a>, AllocError> {
     whole(alloc).subcommands(commands)
 }
 
-fn is_decimal(word: &str) -> bool {
-    !word.is_empty() && word.bytes().all(|byte| byte.is_ascii_digit())
-}
-
 /// The named word, where it is not made of decimal digits alone.
 fn signed<'a>(matches: &ArgMatches<'a>, name: &str) -> Option<&'a str> {
     let word = matches.get_str(name)?;
@@ -153,10 +144,10 @@ fn signed<'a>(matches: &ArgMatches<'a>, name: &str) -> Option<&'a str> {
 }
 
 /// The first word of these numbers that is not made of decimal digits alone.
-fn first_signed<'a>(matches: &ArgMatches<'a>, numbers: &[Number]) -> Option<&'a str> {
+fn first_signed<'a>(matches: &ArgMatches<'a>, numbers: &[Number]) -> Option<Flaw<'a>> {
     for number in numbers {
         if let Some(word) = signed(matches, name_of(*number)) {
-            return Some(word);
+            return Some(Flaw::Digits(word));
         }
     }
     None
@@ -214,11 +205,9 @@ fn no_call<'a>(alloc: Global, message: &str) -> Result<Call<'a>, Error> {
     Err(bad_line(alloc, message)?)
 }
 
-/// The same since this word is not made of decimal digits alone.
-fn bad_word<'a>(alloc: Global, word: &str) -> Result<Call<'a>, Error> {
-    let message = format!(in alloc;
-        "invalid value '{word}': a number is written in decimal digits alone"
-    )?;
+/// The same since the words have this flaw.
+fn flawed<'a>(alloc: Global, flaw: Flaw<'_>) -> Result<Call<'a>, Error> {
+    let message = text_of(alloc, flaw)?;
     no_call(alloc, message.as_str())
 }
 
@@ -226,7 +215,7 @@ fn bad_word<'a>(alloc: Global, word: &str) -> Result<Call<'a>, Error> {
 fn made_serve<'a>(alloc: Global, matches: &ArgMatches<'a>) -> Result<Call<'a>, Error> {
     match serve_call(matches) {
         Some(call) => Ok(call),
-        None => no_call(alloc, OUT_OF_RANGE),
+        None => flawed(alloc, Flaw::Range),
     }
 }
 
@@ -235,116 +224,159 @@ fn made_form<'a>(
     alloc: Global,
     form: CommandForm,
     matches: &ArgMatches<'a>,
+    named: Option<&'a str>,
 ) -> Result<Call<'a>, Error> {
-    match call_of(form, matches) {
+    match call_of(form, matches, named) {
         Some(call) => Ok(call),
-        None => no_call(alloc, OUT_OF_RANGE),
+        None => flawed(alloc, Flaw::Range),
     }
 }
 
-/// The call of `serve`, where the words of its numbers are made of decimal digits alone and it could be made.
-fn read_serve<'a>(alloc: Global, matches: &ArgMatches<'a>) -> Result<Call<'a>, Error> {
+/// What is wrong with the words of `serve`.
+fn serve_flaw<'a>(matches: &ArgMatches<'a>) -> Option<Flaw<'a>> {
     match first_signed(matches, serve_words()) {
-        Some(word) => bad_word(alloc, word),
+        Some(flaw) => Some(flaw),
+        None => stay_flaw(matches),
+    }
+}
+
+/// The call of `serve`, where its words have no flaw.
+fn read_serve<'a>(alloc: Global, matches: &ArgMatches<'a>) -> Result<Call<'a>, Error> {
+    match serve_flaw(matches) {
+        Some(flaw) => flawed(alloc, flaw),
         None => made_serve(alloc, matches),
     }
 }
 
-/// No call, since the value of this option is none.
-fn no_option<'a>(alloc: Global, bad: BadOption<'_>) -> Result<Call<'a>, Error> {
-    let BadOption { name, word, wanted } = bad;
-    let message = format!(in alloc; "invalid value '{word}' for '--{name}': expected {wanted}")?;
-    no_call(alloc, message.as_str())
+/// What is wrong with the words of `node`.
+fn node_flaw<'a>(matches: &ArgMatches<'a>) -> Option<Flaw<'a>> {
+    if let Some(flaw) = first_signed(matches, node_numbers()) {
+        return Some(flaw);
+    }
+    match start_flaw(matches) {
+        Some(flaw) => Some(flaw),
+        None => stay_flaw(matches),
+    }
 }
 
 /// The call of `node`, where it could be made.
 fn made_node<'a>(alloc: Global, matches: &ArgMatches<'a>) -> Result<Call<'a>, Error> {
     match node_call(matches) {
         Some(call) => Ok(call),
-        None => no_call(alloc, TOO_MANY_LINKS),
+        None => flawed(alloc, Flaw::Range),
     }
 }
 
-/// The call of `node`, where each of its options has a value that it may have.
-fn checked_node<'a>(alloc: Global, matches: &ArgMatches<'a>) -> Result<Call<'a>, Error> {
-    match bad_option(matches) {
-        Some(bad) => no_option(alloc, bad),
+/// The call of `node`, where its words have no flaw.
+fn read_node<'a>(alloc: Global, matches: &ArgMatches<'a>) -> Result<Call<'a>, Error> {
+    match node_flaw(matches) {
+        Some(flaw) => flawed(alloc, flaw),
         None => made_node(alloc, matches),
     }
 }
 
-/// The same, where the words of its numbers are made of decimal digits alone.
-fn read_node<'a>(alloc: Global, matches: &ArgMatches<'a>) -> Result<Call<'a>, Error> {
-    match first_signed(matches, node_numbers()) {
-        Some(word) => bad_word(alloc, word),
-        None => checked_node(alloc, matches),
+/// What is wrong with the times of a question, which stand before the query or behind it.
+fn time_flaw<'a>(matches: &ArgMatches<'a>, words: &ArgMatches<'a>) -> Option<Flaw<'a>> {
+    let times = [
+        matches.get_str("time"),
+        matches.get_str("at"),
+        words.get_str("at"),
+    ];
+    match times.iter().filter(|time| time.is_some()).count() {
+        0 if is_alone(matches) => Some(Flaw::NoTime),
+        0 | 1 => None,
+        _more => Some(Flaw::TwoTimes),
     }
 }
 
-/// The first word of a form's numbers, or of its query's, that is not made of decimal digits alone.
-fn first_bad<'a>(form: CommandForm, matches: &ArgMatches<'a>) -> Option<&'a str> {
-    if let Some((name, words)) = matches.subcommand() {
-        if let Some(word) = first_signed(words, query_numbers(name)) {
-            return Some(word);
-        }
-    }
-    first_signed(matches, numbers_of(form))
-}
-
-/// Whether a word is a name or an IP address, a colon, and a port.
-fn is_address(word: &str) -> bool {
-    match word.rsplit_once(':') {
-        Some((host, port)) => !host.is_empty() && port.parse::<u16>().is_ok_and(|port| port > 0),
-        None => false,
+/// Whether the keys of a range go from the greatest to the least.
+fn is_backwards(words: &ArgMatches<'_>) -> bool {
+    match (u64_of(words, "low"), u64_of(words, "high")) {
+        (Some(low), Some(high)) => low > high,
+        _other => false,
     }
 }
 
-/// The address of a node, where it is given and is none.
-fn bad_address<'a>(matches: &ArgMatches<'a>) -> Option<&'a str> {
-    let word = matches.get_str("node")?;
-    if is_address(word) { None } else { Some(word) }
+/// What is wrong with the words of a query.
+fn query_flaw<'a>(matches: &ArgMatches<'a>) -> Option<Flaw<'a>> {
+    let (name, words) = matches.subcommand()?;
+    if let Some(flaw) = first_signed(words, query_numbers(name)) {
+        return Some(flaw);
+    }
+    if is_backwards(words) {
+        return Some(Flaw::Backwards);
+    }
+    time_flaw(matches, words)
 }
 
-/// The call of a form, where it could be made and a node's address is one.
-fn addressed_form<'a>(
-    alloc: Global,
+/// What is wrong with the word of `explain`.
+fn refusal_flaw<'a>(matches: &ArgMatches<'a>) -> Option<Flaw<'a>> {
+    let word = matches.get_str("refusal")?;
+    match refusal_named(word) {
+        Some(_number) => None,
+        None => Some(Flaw::NoRefusal(word)),
+    }
+}
+
+/// What is wrong with the words of a form that are no places and no plain numbers of it.
+fn word_flaw<'a>(form: CommandForm, matches: &ArgMatches<'a>) -> Option<Flaw<'a>> {
+    match form {
+        CommandForm::Ask => query_flaw(matches),
+        CommandForm::Explain => refusal_flaw(matches),
+        _other => None,
+    }
+}
+
+/// What is wrong with the words of a form: its numbers first, its place last.
+fn form_flaw<'a>(
     form: CommandForm,
     matches: &ArgMatches<'a>,
-) -> Result<Call<'a>, Error> {
-    let Some(word) = bad_address(matches) else {
-        return made_form(alloc, form, matches);
-    };
-    let message = format!(in alloc;
-        "invalid value '{word}' for '--node <ADDRESS>': an address is HOST:PORT, as far:7426 or [::1]:7426"
-    )?;
-    no_call(alloc, message.as_str())
+    named: Option<&'a str>,
+) -> Option<Flaw<'a>> {
+    if let Some(flaw) = first_signed(matches, numbers_of(form)) {
+        return Some(flaw);
+    }
+    match word_flaw(form, matches) {
+        Some(flaw) => Some(flaw),
+        None => place_flaw(form, matches, named),
+    }
 }
 
-/// The call of a form, where the words of its numbers are made of decimal digits alone and it could be made.
+/// The call of a form, where its words have no flaw.
 fn checked_form<'a>(
     alloc: Global,
     form: CommandForm,
     matches: &ArgMatches<'a>,
+    named: Option<&'a str>,
 ) -> Result<Call<'a>, Error> {
-    match first_bad(form, matches) {
-        Some(word) => bad_word(alloc, word),
-        None => addressed_form(alloc, form, matches),
+    match form_flaw(form, matches, named) {
+        Some(flaw) => flawed(alloc, flaw),
+        None => made_form(alloc, form, matches, named),
     }
 }
 
-fn read_form<'a>(alloc: Global, name: &str, matches: &ArgMatches<'a>) -> Result<Call<'a>, Error> {
+fn read_form<'a>(
+    alloc: Global,
+    name: &str,
+    matches: &ArgMatches<'a>,
+    named: Option<&'a str>,
+) -> Result<Call<'a>, Error> {
     match command_named(name) {
-        Some(form) => checked_form(alloc, form, matches),
+        Some(form) => checked_form(alloc, form, matches, named),
         None => no_call(alloc, "no such command"),
     }
 }
 
 /// The call of what was read of the words.
-fn read_matches<'a>(alloc: Global, matches: &ArgMatches<'a>) -> Result<Call<'a>, Error> {
+fn read_matches<'a>(
+    alloc: Global,
+    matches: &ArgMatches<'a>,
+    named: Option<&'a str>,
+) -> Result<Call<'a>, Error> {
     match matches.subcommand() {
         Some(("serve", serve)) => read_serve(alloc, serve),
         Some(("node", node)) => read_node(alloc, node),
-        Some((name, words)) => read_form(alloc, name, words),
+        Some((name, words)) => read_form(alloc, name, words, named),
         None => no_call(alloc, "a command is missing"),
     }
 }
@@ -354,9 +386,14 @@ fn matches_of<'a>(alloc: Global, words: &'a [String]) -> Result<ArgMatches<'a>, 
     program(alloc)?.try_get_matches_from(words)
 }
 
-/// Reads the words of the command line, the program's name first. An error has a text and a status: 2 for a
-/// bad command line, 0 where help or the version was asked for. Cost: O(n), n bytes of the words.
-pub fn read_call<'a>(alloc: Global, words: &'a [String]) -> Result<Call<'a>, Error> {
+/// Reads the words of the command line, the program's name first. Where they ask a node and name none, it is at the address
+/// of `node`, the environment's `HKREP_NODE`, and at 127.0.0.1:7420 where that is left out or empty. An error has a text and a
+/// status: 2 for a bad command line or address, 0 where help or the version was asked for. Cost: O(n), n bytes of the words.
+pub fn read_call<'a>(
+    alloc: Global,
+    words: &'a [String],
+    node: Option<&'a str>,
+) -> Result<Call<'a>, Error> {
     let matches = matches_of(alloc, words)?;
-    read_matches(alloc, &matches)
+    read_matches(alloc, &matches, node)
 }

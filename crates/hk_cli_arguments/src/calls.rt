@@ -2,8 +2,10 @@
 
 use crate::arguments::config_of;
 use crate::forms::CommandForm;
+use crate::places::{is_alone, is_decimal, place_of, source_of};
 use clap::ArgMatches;
-use hk_cli_calls::{Alone, Call, Limits, NodeCall, NodePlace, Order, OutputForm};
+use hk_cli_calls::{Alone, Bodies, Call, Limits, NodeCall, NodePlace, Order, OutputForm};
+use hk_cli_reasons::number_named;
 use hk_model::Query;
 use hk_types::{Key, Table, Tag, Time};
 
@@ -79,19 +81,6 @@ fn limits_of(matches: &ArgMatches<'_>, reply: u64) -> Limits {
     }
 }
 
-/// Where the node is that is named by an address.
-fn address_of<'a>(matches: &ArgMatches<'a>) -> Option<NodePlace<'a>> {
-    Some(NodePlace::Address(matches.get_str("node")?))
-}
-
-/// Where the node is that is named, if one is.
-fn place_of<'a>(matches: &ArgMatches<'a>) -> Option<NodePlace<'a>> {
-    match port_of(matches) {
-        Some(port) => Some(NodePlace::Port(port)),
-        None => address_of(matches),
-    }
-}
-
 /// The call of an order to the node at a place.
 fn node_of<'a>(
     matches: &ArgMatches<'a>,
@@ -102,6 +91,7 @@ fn node_of<'a>(
     let limits = limits_of(matches, reply);
     Call::Node(NodeCall {
         place,
+        source: source_of(matches),
         limits,
         order,
     })
@@ -157,42 +147,60 @@ fn at_call<'a>(matches: &ArgMatches<'a>) -> Option<Call<'a>> {
     }
 }
 
-/// The call of an order that only asks, to a node where one is named, else of what is done alone.
-fn either<'a>(matches: &ArgMatches<'a>, order: Order, alone: Option<Alone>) -> Option<Call<'a>> {
-    match place_of(matches) {
-        Some(place) => Some(node_of(matches, place, REPLY_SECONDS, order)),
-        None => Some(Call::Alone(alone?)),
-    }
+/// The time that a query is asked at, where one is given: before the query, or behind it.
+fn asked_time(matches: &ArgMatches<'_>, words: &ArgMatches<'_>) -> Option<Time> {
+    let first = u64_of(matches, "time").or(u64_of(matches, "at"));
+    Time::new(first.or(u64_of(words, "at"))?).ok()
 }
 
-/// The call of a query over a connection, or of item frames.
-fn ask_call<'a>(matches: &ArgMatches<'a>) -> Option<Call<'a>> {
-    let (name, words) = matches.subcommand()?;
-    let query = query_of(name, words)?;
-    let time = time_of(matches);
-    let form = form_of(matches);
-    if let Some(place) = place_of(matches) {
-        let order = Order::Ask { time, query, form };
-        return Some(node_of(matches, place, REPLY_SECONDS, order));
+/// The call of an order that only asks, of what is done alone where a log is named, else to a node.
+fn either<'a>(
+    matches: &ArgMatches<'a>,
+    named: Option<&'a str>,
+    order: Order,
+    alone: Option<Alone>,
+) -> Option<Call<'a>> {
+    if is_alone(matches) {
+        return Some(Call::Alone(alone?));
     }
+    let place = place_of(matches, named)?;
+    Some(node_of(matches, place, REPLY_SECONDS, order))
+}
+
+/// The call of a query of item frames.
+fn alone_ask<'a>(matches: &ArgMatches<'a>, time: Option<Time>, query: Query) -> Option<Call<'a>> {
     Some(Call::Alone(Alone::Ask {
         config: config_of(matches)?,
         time: time?,
         query,
-        form,
+        form: form_of(matches),
     }))
 }
 
-fn front_call<'a>(matches: &ArgMatches<'a>) -> Option<Call<'a>> {
+/// The call of a query over a connection, or of item frames.
+fn ask_call<'a>(matches: &ArgMatches<'a>, named: Option<&'a str>) -> Option<Call<'a>> {
+    let (name, words) = matches.subcommand()?;
+    let query = query_of(name, words)?;
+    let time = asked_time(matches, words);
+    if is_alone(matches) {
+        return alone_ask(matches, time, query);
+    }
     let form = form_of(matches);
-    let alone = config_of(matches).map(|config| Alone::Front { config, form });
-    either(matches, Order::Front { form }, alone)
+    let place = place_of(matches, named)?;
+    let order = Order::Ask { time, query, form };
+    Some(node_of(matches, place, REPLY_SECONDS, order))
 }
 
-fn status_call<'a>(matches: &ArgMatches<'a>) -> Option<Call<'a>> {
+fn front_call<'a>(matches: &ArgMatches<'a>, named: Option<&'a str>) -> Option<Call<'a>> {
+    let form = form_of(matches);
+    let alone = config_of(matches).map(|config| Alone::Front { config, form });
+    either(matches, named, Order::Front { form }, alone)
+}
+
+fn status_call<'a>(matches: &ArgMatches<'a>, named: Option<&'a str>) -> Option<Call<'a>> {
     let form = form_of(matches);
     let alone = config_of(matches).map(|config| Alone::Status { config, form });
-    either(matches, Order::Status { form }, alone)
+    either(matches, named, Order::Status { form }, alone)
 }
 
 fn batch_of(matches: &ArgMatches<'_>) -> u64 {
@@ -216,10 +224,16 @@ fn save_order(matches: &ArgMatches<'_>) -> Order {
     }
 }
 
-fn pull_order(matches: &ArgMatches<'_>) -> Option<Order> {
-    Some(Order::Pull {
-        from: u16_of(matches, "from")?,
-    })
+/// How a shell prints the bodies of rows.
+fn shell_order(matches: &ArgMatches<'_>) -> Order {
+    let bodies = if has_flag(matches, "hex") {
+        Bodies::Digits
+    } else if has_flag(matches, "text") {
+        Bodies::Text
+    } else {
+        Bodies::Guessed
+    };
+    Order::Shell { bodies }
 }
 
 fn prune_order(matches: &ArgMatches<'_>) -> Option<Order> {
@@ -239,25 +253,30 @@ fn feed_order(matches: &ArgMatches<'_>) -> Order {
 fn order_of(form: CommandForm, matches: &ArgMatches<'_>) -> Option<Order> {
     match form {
         CommandForm::Push => Some(push_order(matches)),
-        CommandForm::Shell => Some(Order::Shell),
+        CommandForm::Shell => Some(shell_order(matches)),
         CommandForm::Load => Some(Order::Load),
-        CommandForm::Pull => pull_order(matches),
+        CommandForm::Pull => Some(Order::Pull),
         CommandForm::Prune => prune_order(matches),
         CommandForm::Feed => Some(feed_order(matches)),
         _other => None,
     }
 }
 
-fn node_call<'a>(form: CommandForm, matches: &ArgMatches<'a>) -> Option<Call<'a>> {
+fn node_call<'a>(
+    form: CommandForm,
+    matches: &ArgMatches<'a>,
+    named: Option<&'a str>,
+) -> Option<Call<'a>> {
     let order = order_of(form, matches)?;
-    let place = place_of(matches)?;
+    let place = place_of(matches, named)?;
     Some(node_of(matches, place, 0, order))
 }
 
 /// The call of `save`: to standard output, or into a file.
-fn save_call<'a>(matches: &ArgMatches<'a>) -> Option<Call<'a>> {
+fn save_call<'a>(matches: &ArgMatches<'a>, named: Option<&'a str>) -> Option<Call<'a>> {
     let call = NodeCall {
-        place: place_of(matches)?,
+        place: place_of(matches, named)?,
+        source: None,
         limits: limits_of(matches, 0),
         order: save_order(matches),
     };
@@ -272,8 +291,19 @@ fn items_call<'a>(matches: &ArgMatches<'a>) -> Option<Call<'a>> {
     Some(Call::Alone(Alone::Items { form }))
 }
 
+/// The number that a word names, by its digits or as the name of a refusal.
+pub(crate) fn refusal_named(word: &str) -> Option<u64> {
+    if is_decimal(word) {
+        return word.parse::<u64>().ok();
+    }
+    number_named(word).map(u64::from)
+}
+
 fn explain_call<'a>(matches: &ArgMatches<'a>) -> Option<Call<'a>> {
-    let number = u64_of(matches, "number");
+    let number = match matches.get_str("refusal") {
+        Some(word) => Some(refusal_named(word)?),
+        None => None,
+    };
     Some(Call::Alone(Alone::Explain { number }))
 }
 
@@ -283,19 +313,24 @@ fn world_call<'a>(matches: &ArgMatches<'a>) -> Option<Call<'a>> {
     })
 }
 
-/// The call that the arguments of a command make, where each of them is in its range.
-pub(crate) fn call_of<'a>(form: CommandForm, matches: &ArgMatches<'a>) -> Option<Call<'a>> {
+/// The call that the arguments of a command make, where each of them is in its range; where they name no node, that of the
+/// environment's word is meant.
+pub(crate) fn call_of<'a>(
+    form: CommandForm,
+    matches: &ArgMatches<'a>,
+    named: Option<&'a str>,
+) -> Option<Call<'a>> {
     match form {
         CommandForm::At => at_call(matches),
-        CommandForm::Ask => ask_call(matches),
-        CommandForm::Front => front_call(matches),
-        CommandForm::Status => status_call(matches),
+        CommandForm::Ask => ask_call(matches, named),
+        CommandForm::Front => front_call(matches, named),
+        CommandForm::Status => status_call(matches, named),
         CommandForm::Items => items_call(matches),
         CommandForm::Frames => Some(Call::Alone(Alone::Frames)),
         CommandForm::Rewrite => Some(Call::Alone(Alone::Rewrite)),
         CommandForm::World => world_call(matches),
-        CommandForm::Save => save_call(matches),
+        CommandForm::Save => save_call(matches, named),
         CommandForm::Explain => explain_call(matches),
-        node => node_call(node, matches),
+        node => node_call(node, matches, named),
     }
 }

@@ -1,7 +1,7 @@
 //! The commands but `serve`, and the queries.
 
 use crate::arguments::{named, plain};
-use crate::numbers::{NODE, Number, add_numbers, keep, valued};
+use crate::numbers::{Number, add_numbers, keep, valued};
 use crate::texts;
 use clap::{Arg, ArgAction, Command};
 use std::alloc::{AllocError, Global};
@@ -158,10 +158,10 @@ fn example_of<'a>(form: CommandForm) -> &'a str {
 /// The numbers of a query.
 fn numbers_of_query(form: CommandForm) -> &'static [Number] {
     match form {
-        CommandForm::Get => &[Number::Table, Number::Key],
-        CommandForm::Range => &[Number::Table, Number::Low, Number::High],
-        CommandForm::ByTag => &[Number::Table, Number::Tag],
-        CommandForm::Count => &[Number::Table],
+        CommandForm::Get => &[Number::Table, Number::Key, Number::At],
+        CommandForm::Range => &[Number::Table, Number::Low, Number::High, Number::At],
+        CommandForm::ByTag => &[Number::Table, Number::Tag, Number::At],
+        CommandForm::Count => &[Number::Table, Number::At],
         _other => &[],
     }
 }
@@ -182,15 +182,9 @@ fn numbers_of_node(form: CommandForm) -> &'static [Number] {
             Number::ConnectSeconds,
             Number::ReplySeconds,
         ],
-        CommandForm::Save | CommandForm::Load | CommandForm::Shell => {
+        CommandForm::Save | CommandForm::Load | CommandForm::Shell | CommandForm::Pull => {
             &[Number::Port, Number::ConnectSeconds, Number::ReplySeconds]
         }
-        CommandForm::Pull => &[
-            Number::Port,
-            Number::From,
-            Number::ConnectSeconds,
-            Number::ReplySeconds,
-        ],
         CommandForm::Prune => &[
             Number::Port,
             Number::Horizon,
@@ -214,19 +208,19 @@ pub(crate) fn numbers_of(form: CommandForm) -> &'static [Number] {
         CommandForm::Ask => &[
             Number::OrLog,
             Number::OrStreams,
-            Number::OrPort,
+            Number::Port,
             Number::OrTime,
-            Number::OrConnectSeconds,
+            Number::At,
+            Number::ConnectSeconds,
             Number::OrReplySeconds,
         ],
         CommandForm::Front | CommandForm::Status => &[
             Number::OrLog,
             Number::OrStreams,
-            Number::OrPort,
-            Number::OrConnectSeconds,
+            Number::Port,
+            Number::ConnectSeconds,
             Number::OrReplySeconds,
         ],
-        CommandForm::Explain => &[Number::Refusal],
         other => numbers_of_node(other),
     }
 }
@@ -288,16 +282,42 @@ fn items_arg<'a>(alloc: Global) -> Arg<'a> {
 }
 
 const NODE_HELP: &str =
-    "The node's address, in place of --port: HOST:PORT, a name or an IP address";
+    "The node's address, in place of --port: HOST:PORT, a name or an IP address, or unix:PATH; \
+where neither is given HKREP_NODE of the environment, else 127.0.0.1:7420";
 
 /// The address of a node.
 fn node_arg<'a>(alloc: Global) -> Result<Arg<'a>, AllocError> {
     let arg = valued(alloc, "node", "ADDRESS", NODE_HELP).long("node");
-    arg.conflicts_with("port")?.group(NODE)
+    arg.conflicts_with("port")
 }
 
-/// Whether it asks a node, alone or where one is named.
-fn asks_node(form: CommandForm) -> bool {
+const FROM_HELP: &str = "The other node: its port on 127.0.0.1, or an address as that of --node";
+
+/// The place of another node.
+fn from_arg<'a>(alloc: Global) -> Arg<'a> {
+    let arg = valued(alloc, "from", "Q", FROM_HELP);
+    arg.long("from").required(true)
+}
+
+const REFUSAL_HELP: &str = "The number or the name of a refusal";
+
+const TEXT_HELP: &str = "Print bodies as text, and escape what can't be shown";
+
+fn text_flag<'a>(alloc: Global) -> Result<Arg<'a>, AllocError> {
+    flag(alloc, "text", TEXT_HELP).conflicts_with("hex")
+}
+
+/// Adds how a shell prints the bodies of rows.
+fn add_bodies<'a>(alloc: Global, args: &mut Vec<Arg<'a>>) -> Result<(), AllocError> {
+    keep(text_flag(alloc)?, args)?;
+    keep(
+        flag(alloc, "hex", "Print bodies in hexadecimal digits"),
+        args,
+    )
+}
+
+/// Whether it asks a node, alone or where no log is named.
+pub(crate) fn asks_node(form: CommandForm) -> bool {
     !matches!(
         form,
         CommandForm::At
@@ -331,19 +351,6 @@ fn out_arg<'a>(alloc: Global) -> Arg<'a> {
     valued(alloc, "out", "FILE", OUT_HELP).long("out")
 }
 
-/// Adds a file that a command writes to.
-fn add_file<'a>(
-    alloc: Global,
-    form: CommandForm,
-    args: &mut Vec<Arg<'a>>,
-) -> Result<(), AllocError> {
-    match form {
-        CommandForm::World => keep(items_arg(alloc), args),
-        CommandForm::Save => keep(out_arg(alloc), args),
-        _none => Ok(()),
-    }
-}
-
 /// Adds what a command accepts beside numbers.
 fn add_extra<'a>(
     alloc: Global,
@@ -353,7 +360,14 @@ fn add_extra<'a>(
     if has_json(form) {
         keep(flag(alloc, "json", "Print lines of JSON"), args)?;
     }
-    add_file(alloc, form, args)
+    match form {
+        CommandForm::World => keep(items_arg(alloc), args),
+        CommandForm::Save => keep(out_arg(alloc), args),
+        CommandForm::Pull => keep(from_arg(alloc), args),
+        CommandForm::Explain => keep(valued(alloc, "refusal", "NUMBER", REFUSAL_HELP), args),
+        CommandForm::Shell => add_bodies(alloc, args),
+        _other => Ok(()),
+    }
 }
 
 /// What a command accepts.

@@ -3,9 +3,11 @@
 
 mod arguments;
 mod calls;
+mod flaw;
 mod forms;
 mod node;
 mod numbers;
+mod places;
 mod stay;
 mod texts;
 

@@ -2,10 +2,13 @@
 
 use crate::arguments::{config_of, plain};
 use crate::calls::{has_flag, port_of, u16_of, u64_of};
+use crate::flaw::Flaw;
 use crate::forms::flag;
 use crate::numbers::{add_node_numbers, keep, valued};
+use crate::places::port_or_place;
 use crate::stay::{
-    ADDRESS_HELP, QUIET_HELP, VERBOSE_HELP, address_of, are_seated, count_of, level_of, other_port,
+    ADDRESS_HELP, QUIET_HELP, VERBOSE_HELP, address_of, count_of, level_of, other_port,
+    report_changes_of,
 };
 use clap::{Arg, ArgAction, ArgMatches, Command};
 use hk_cli_calls::{Call, MOST_SOURCES, NodePlace, PartsLimit, Start, Stay};
@@ -38,7 +41,7 @@ A node that begins with what that had, and what another node has above it:
 const NO_GUARD_HELP: &str = "Don't test changes first: a conflict makes the node fail";
 
 const FROM_HELP: &str =
-    "Begin with what this node has: PORT or HOST:PORT. More than one, also with commas: the first that answers";
+    "Begin with what this node has: PORT, HOST:PORT or unix:PATH. More than one, also with commas: the first that answers";
 
 const LOAD_HELP: &str =
     "Begin with what this file has, which 'hkrep save' wrote, before what --from has above it";
@@ -155,24 +158,6 @@ fn limit_of(matches: &ArgMatches<'_>) -> Option<PartsLimit> {
     }
 }
 
-/// Where the node is that a word names: a port of 127.0.0.1, or an address.
-fn place_named<'a>(word: &'a str) -> Option<NodePlace<'a>> {
-    let (host, port) = match word.rsplit_once(':') {
-        Some((host, port)) => (host, port),
-        None => ("127.0.0.1", word),
-    };
-    match port.parse::<u16>() {
-        Ok(port) if port > 0 && !host.is_empty() => {
-            if word.contains(':') {
-                Some(NodePlace::Address(word))
-            } else {
-                Some(NodePlace::Port(port))
-            }
-        }
-        _other => None,
-    }
-}
-
 /// The nodes that the words name, in their order, and how many they are.
 #[derive(Clone, Copy)]
 struct Sources<'a> {
@@ -188,7 +173,7 @@ impl<'a> Sources<'a> {
         if word.is_empty() {
             return;
         }
-        let place = place_named(word);
+        let place = port_or_place(word);
         match self.places.get_mut(self.count) {
             Some(free) if place.is_some() => *free = place,
             _full => self.bad = self.bad.or(Some(word)),
@@ -219,36 +204,15 @@ fn sources_of<'a>(matches: &ArgMatches<'a>) -> Sources<'a> {
     sources
 }
 
-/// An option whose value is none: its name, the value, and what it may be.
-#[derive(Clone, Copy)]
-pub(crate) struct BadOption<'a> {
-    pub(crate) name: &'static str,
-    pub(crate) word: &'a str,
-    pub(crate) wanted: &'static str,
-}
-
-/// The first option that is no number and whose value is none.
-pub(crate) fn bad_option<'a>(matches: &ArgMatches<'a>) -> Option<BadOption<'a>> {
-    let address = matches.get_str("address").unwrap_or("");
-    let parts = matches.get_str("parts-bytes").unwrap_or("");
+/// What is wrong with what a node begins with, or with what it keeps for snapshots in chunks.
+pub(crate) fn start_flaw<'a>(matches: &ArgMatches<'a>) -> Option<Flaw<'a>> {
     if let Some(word) = sources_of(matches).bad {
-        let (name, wanted) = ("from", "up to 8 nodes, each PORT or HOST:PORT");
-        return Some(BadOption { name, word, wanted });
+        return Some(Flaw::Sources(word));
     }
-    if limit_of(matches).is_none() {
-        let (name, wanted) = (
-            "parts-bytes",
-            "a number of bytes, or 1% to 100% of the memory",
-        );
-        let word = parts;
-        return Some(BadOption { name, word, wanted });
+    match limit_of(matches) {
+        Some(_limit) => None,
+        None => Some(Flaw::Chunks(matches.get_str("parts-bytes")?)),
     }
-    if address_of(matches).is_none() {
-        let (name, wanted) = ("address", "an IPv4 address of this machine, as 127.0.0.1");
-        let word = address;
-        return Some(BadOption { name, word, wanted });
-    }
-    None
 }
 
 /// What it begins with.
@@ -260,12 +224,9 @@ fn start_of<'a>(matches: &ArgMatches<'a>) -> Start<'a> {
     }
 }
 
-/// The call that `node` makes, where its connections are at most as many as there may be.
+/// The call that `node` makes, where each argument is in its range and they have no flaw.
 pub(crate) fn node_call<'a>(matches: &ArgMatches<'a>) -> Option<Call<'a>> {
-    let report_changes = u64_of(matches, "report-changes").unwrap_or(0);
-    if !are_seated(matches, report_changes) {
-        return None;
-    }
+    let report_changes = report_changes_of(matches);
     let stay = Stay {
         address: address_of(matches)?,
         port: port_of(matches).unwrap_or(PORT),

@@ -5,7 +5,7 @@ use clap::builder::ValueParser;
 use clap::{Arg, ArgAction, value_parser};
 use std::alloc::{AllocError, Global};
 
-/// An argument that is a number. Those of a name that begins with `Or` are of a command that asks a node where one is named,
+/// An argument that is a number. Those of a name that begins with `Or` are of a command that asks a node where no log is named,
 /// and those with `Serve` report a negative number as one that is not in the range.
 #[derive(Clone, Copy)]
 pub(crate) enum Number {
@@ -15,24 +15,21 @@ pub(crate) enum Number {
     OrStreams,
     ServeStreams,
     Port,
-    OrPort,
     ServePort,
     NodePort,
     Links,
     NodeLinks,
-    From,
     Batch,
     Time,
     OrTime,
+    At,
     Horizon,
     Table,
     Key,
     Low,
     High,
     Tag,
-    Refusal,
     ConnectSeconds,
-    OrConnectSeconds,
     ReplySeconds,
     OrReplySeconds,
     Messages,
@@ -47,19 +44,12 @@ pub(crate) enum Number {
     ReadLinks,
 }
 
-/// The group of the two options that name a node.
-pub(crate) const NODE: &str = "a node";
-
 /// When an argument has to be given.
 #[derive(Clone, Copy)]
 enum Need {
     Always,
-    /// Where no address of a node is given.
-    NoAddress,
-    /// Where no node is named, by a port or an address.
-    NoNode,
-    /// The same, and with one it may not be.
-    NotWithNode,
+    /// It need not, and with it the streams have to be, and nothing that is said of a node may be.
+    LogAlone,
     /// It need not, and with it this has to be.
     With(&'static str),
     /// It need not, and with it this and `stay` have to be.
@@ -81,7 +71,7 @@ enum Range {
 /// The name of a number that a node's ports, connections and limits of time have.
 fn name_of_node<'a>(number: Number) -> &'a str {
     match number {
-        Number::ConnectSeconds | Number::OrConnectSeconds => "connect-seconds",
+        Number::ConnectSeconds => "connect-seconds",
         Number::ReplySeconds | Number::OrReplySeconds => "reply-seconds",
         Number::Messages | Number::SentMessages => "messages",
         Number::PartsBytes => "parts-bytes",
@@ -92,7 +82,6 @@ fn name_of_node<'a>(number: Number) -> &'a str {
         Number::ReadPort => "read-port",
         Number::ReadLinks => "read-links",
         Number::Links | Number::NodeLinks => "links",
-        Number::From => "from",
         _port => "port",
     }
 }
@@ -104,12 +93,12 @@ pub(crate) fn name_of<'a>(number: Number) -> &'a str {
         Number::Streams | Number::OrStreams | Number::ServeStreams => "streams",
         Number::Batch => "batch",
         Number::Time | Number::OrTime | Number::Horizon => "time",
+        Number::At => "at",
         Number::Table => "table",
         Number::Key => "key",
         Number::Low => "low",
         Number::High => "high",
         Number::Tag => "tag",
-        Number::Refusal => "number",
         other => name_of_node(other),
     }
 }
@@ -122,8 +111,7 @@ fn value_of_node<'a>(number: Number) -> &'a str {
         Number::FeedLinks => "M3",
         Number::ReadPort => "P2",
         Number::ReadLinks => "M",
-        Number::From => "Q",
-        Number::Port | Number::OrPort | Number::ServePort | Number::NodePort => "P",
+        Number::Port | Number::ServePort | Number::NodePort => "P",
         _other => "N",
     }
 }
@@ -133,13 +121,12 @@ fn value_of<'a>(number: Number) -> &'a str {
     match number {
         Number::Log | Number::OrLog => "L",
         Number::Streams | Number::OrStreams | Number::ServeStreams => "S",
-        Number::Time | Number::OrTime | Number::Horizon => "T",
+        Number::Time | Number::OrTime | Number::At | Number::Horizon => "T",
         Number::Table => "TABLE",
         Number::Key => "KEY",
         Number::Low => "LOW",
         Number::High => "HIGH",
         Number::Tag => "TAG",
-        Number::Refusal => "NUMBER",
         other => value_of_node(other),
     }
 }
@@ -175,7 +162,7 @@ fn help_of_links<'a>(number: Number) -> &'a str {
 /// The help of a number of messages or of limits of time.
 fn help_of_messages<'a>(number: Number) -> &'a str {
     match number {
-        Number::ConnectSeconds | Number::OrConnectSeconds => {
+        Number::ConnectSeconds => {
             "Try again to connect for so long where nobody listens: 0 (once) to 86400; 3 where it isn't given"
         }
         Number::ReplySeconds => {
@@ -202,6 +189,7 @@ fn help_of_query<'a>(number: Number) -> &'a str {
     match number {
         Number::Horizon => "The time: 0 to 4611686018427387904",
         Number::Time | Number::OrTime => "The time to read at: 0 to 4611686018427387904",
+        Number::At => "The same, behind the query as well as before it",
         Number::Table => "The number of the table: 0 to 65535",
         Number::Key => "The key of the row: 0 to 18446744073709551615",
         Number::Low => "The least key",
@@ -218,11 +206,9 @@ fn help_of<'a>(number: Number) -> &'a str {
         Number::Streams | Number::OrStreams | Number::ServeStreams => {
             "How many streams the log has: 1 to 64"
         }
-        Number::Port | Number::ServePort => "The port of 127.0.0.1: 1 to 65535",
-        Number::OrPort => "Ask the node on this port of 127.0.0.1: 1 to 65535",
-        Number::From => "The port of the other node: 1 to 65535",
+        Number::ServePort => "The port of 127.0.0.1: 1 to 65535",
+        Number::Port => "The node's port on 127.0.0.1: 1 to 65535",
         Number::Batch => "How many items a batch has: 1 to 65536; 4096 where it isn't given",
-        Number::Refusal => "The number of a refusal",
         other => help_of_query(other),
     }
 }
@@ -231,19 +217,19 @@ fn range_of(number: Number) -> Range {
     match number {
         Number::Streams | Number::OrStreams => Range::Within(1, 64),
         Number::ServeStreams | Number::Links | Number::NodeLinks => Range::Signed(1, 64),
-        Number::Port | Number::OrPort | Number::From => Range::Within(1, 65_535),
-        Number::FeedPort | Number::ReadPort => Range::Within(1, 65_535),
+        Number::Port | Number::FeedPort | Number::ReadPort => Range::Within(1, 65_535),
         Number::ServePort | Number::NodePort => Range::Signed(1, 65_535),
         Number::FeedLinks | Number::ReadLinks => Range::Within(1, 63),
         Number::Batch => Range::Within(1, 65_536),
-        Number::Time | Number::OrTime | Number::Horizon => {
+        Number::Time | Number::OrTime | Number::At | Number::Horizon => {
             Range::Within(0, 4_611_686_018_427_387_904)
         }
         Number::Table => Range::Within(0, 65_535),
         Number::Tag => Range::Within(0, 4_294_967_295),
-        Number::ConnectSeconds | Number::OrConnectSeconds => Range::Within(0, 86_400),
+        Number::ConnectSeconds | Number::ReadSeconds | Number::NodeReadSeconds => {
+            Range::Within(0, 86_400)
+        }
         Number::ReplySeconds | Number::OrReplySeconds => Range::Within(0, 86_400),
-        Number::ReadSeconds | Number::NodeReadSeconds => Range::Within(0, 86_400),
         Number::Messages | Number::SentMessages => Range::Within(1, 2),
         Number::ReportChanges => Range::Within(1, 1_000_000_000),
         _any => Range::Any,
@@ -252,18 +238,16 @@ fn range_of(number: Number) -> Range {
 
 fn need_of(number: Number) -> Need {
     match number {
-        Number::Port => Need::NoAddress,
-        Number::OrLog | Number::OrStreams => Need::NotWithNode,
-        Number::OrTime => Need::NoNode,
-        Number::OrConnectSeconds | Number::OrReplySeconds => Need::With(NODE),
+        Number::OrLog => Need::LogAlone,
+        Number::OrStreams => Need::With("log"),
         Number::PartsBytes => Need::With("messages"),
         Number::ReadSeconds | Number::ReportChanges => Need::With("stay"),
         Number::FeedPort => Need::WithStayAnd("feed-links"),
         Number::FeedLinks => Need::WithStayAnd("feed-port"),
         Number::ReadPort => Need::WithStayAnd("read-links"),
         Number::ReadLinks => Need::WithStayAnd("read-port"),
-        Number::OrPort | Number::Batch | Number::Refusal => Need::Never,
-        Number::ConnectSeconds | Number::ReplySeconds => Need::Never,
+        Number::Port | Number::Batch | Number::OrTime | Number::At => Need::Never,
+        Number::ConnectSeconds | Number::ReplySeconds | Number::OrReplySeconds => Need::Never,
         Number::Messages | Number::SentMessages => Need::Never,
         _always => Need::Always,
     }
@@ -293,7 +277,6 @@ fn is_option(number: Number) -> bool {
             | Number::Low
             | Number::High
             | Number::Tag
-            | Number::Refusal
     )
 }
 
@@ -305,9 +288,9 @@ fn parser_of<'a>(range: Range) -> ValueParser<'a> {
     }
 }
 
-fn not_with_node<'a>(arg: Arg<'a>) -> Result<Arg<'a>, AllocError> {
-    arg.required_unless_present_any(&["port", "node"])?
-        .conflicts_with_all(&["port", "node"])
+fn log_alone<'a>(arg: Arg<'a>) -> Result<Arg<'a>, AllocError> {
+    arg.requires_arg("streams")?
+        .conflicts_with_all(&["port", "node", "connect-seconds", "reply-seconds"])
 }
 
 fn with_stay_and<'a>(arg: Arg<'a>, name: &'static str) -> Result<Arg<'a>, AllocError> {
@@ -317,9 +300,7 @@ fn with_stay_and<'a>(arg: Arg<'a>, name: &'static str) -> Result<Arg<'a>, AllocE
 fn with_need<'a>(arg: Arg<'a>, need: Need) -> Result<Arg<'a>, AllocError> {
     match need {
         Need::Always => Ok(arg.required(true)),
-        Need::NoAddress => arg.required_unless_present("node"),
-        Need::NoNode => arg.required_unless_present_any(&["port", "node"]),
-        Need::NotWithNode => not_with_node(arg),
+        Need::LogAlone => log_alone(arg),
         Need::With(name) => arg.requires_arg(name),
         Need::WithStayAnd(name) => with_stay_and(arg, name),
         Need::Never => Ok(arg),
@@ -349,18 +330,9 @@ fn named_arg<'a>(alloc: Global, number: Number) -> Arg<'a> {
     arg
 }
 
-/// The same in the group of what names a node, where it does.
-fn grouped_arg<'a>(alloc: Global, number: Number) -> Result<Arg<'a>, AllocError> {
-    let arg = named_arg(alloc, number);
-    if matches!(number, Number::Port | Number::OrPort) {
-        return arg.group(NODE);
-    }
-    Ok(arg)
-}
-
 /// The argument of a number.
 fn number_arg<'a>(alloc: Global, number: Number) -> Result<Arg<'a>, AllocError> {
-    with_need(grouped_arg(alloc, number)?, need_of(number))
+    with_need(named_arg(alloc, number), need_of(number))
 }
 
 /// Adds a value to a list.

@@ -2,6 +2,7 @@
 
 use crate::arguments::{config_of, links_of, parts_bytes_of};
 use crate::calls::{has_flag, port_of, u16_of, u64_of};
+use crate::flaw::Flaw;
 use crate::forms::flag;
 use crate::numbers::{add_numbers, keep, stay_numbers, valued};
 use clap::{Arg, ArgMatches};
@@ -89,10 +90,15 @@ pub(crate) fn other_port(matches: &ArgMatches<'_>, port: &str, links: &str) -> O
     Some(OtherPort { port, links })
 }
 
+/// After how many changes the front is printed; 0 is never.
+pub(crate) fn report_changes_of(matches: &ArgMatches<'_>) -> u64 {
+    u64_of(matches, "report-changes").unwrap_or(0)
+}
+
 /// Whether the seats suffice for the connections of all ports and for the report of changes.
-pub(crate) fn are_seated(matches: &ArgMatches<'_>, report_changes: u64) -> bool {
+fn is_seated(matches: &ArgMatches<'_>) -> bool {
     let others = count_of(matches, "feed-links").saturating_add(count_of(matches, "read-links"));
-    let telling = u16::from(report_changes > 0);
+    let telling = u16::from(report_changes_of(matches) > 0);
     count_of(matches, "links")
         .saturating_add(others)
         .saturating_add(telling)
@@ -111,6 +117,24 @@ pub(crate) fn address_of(matches: &ArgMatches<'_>) -> Option<Ipv4Addr> {
     }
 }
 
+/// The word of the address, where it names none.
+fn bad_address<'a>(matches: &ArgMatches<'a>) -> Option<&'a str> {
+    let word = matches.get_str("address")?;
+    match address_named(word) {
+        Some(_address) => None,
+        None => Some(word),
+    }
+}
+
+/// What is wrong with the options of a long-running node, each of which is in its range.
+pub(crate) fn stay_flaw<'a>(matches: &ArgMatches<'a>) -> Option<Flaw<'a>> {
+    match bad_address(matches) {
+        Some(word) => Some(Flaw::Listening(word)),
+        None if is_seated(matches) => None,
+        None => Some(Flaw::Slots),
+    }
+}
+
 /// What is reported of connections.
 pub(crate) fn level_of(matches: &ArgMatches<'_>) -> Level {
     if has_flag(matches, "quiet") {
@@ -122,12 +146,8 @@ pub(crate) fn level_of(matches: &ArgMatches<'_>) -> Level {
     }
 }
 
-/// The call that `serve --stay` makes, where each argument is in its range.
+/// The call that `serve --stay` makes, where each argument is in its range and they have no flaw.
 pub(crate) fn stay_call<'a>(matches: &ArgMatches<'a>) -> Option<Call<'a>> {
-    let report_changes = u64_of(matches, "report-changes").unwrap_or(0);
-    if !are_seated(matches, report_changes) {
-        return None;
-    }
     let config = config_of(matches)?;
     let stay = Stay {
         address: address_of(matches)?,
@@ -139,7 +159,7 @@ pub(crate) fn stay_call<'a>(matches: &ArgMatches<'a>) -> Option<Call<'a>> {
         is_guarded: has_flag(matches, "guard"),
         parts: parts_bytes_of(matches).map(PartsLimit::Bytes),
         level: level_of(matches),
-        report_changes,
+        report_changes: report_changes_of(matches),
         start: None,
     };
     Some(Call::Stay(config, stay))

@@ -10,14 +10,14 @@ It prints 'none' where there is no such row, and 'refused 26 readable R' where t
 be read up to R only.";
 
 pub(crate) const ASK_ABOUT: &str =
-    "Absorb the item frames of standard input, or ask a node that runs \
-(--port), and print the answer to a query at a time";
+    "Absorb the item frames of standard input, or without --log ask a node \
+that runs, and print the answer to a query at a time";
 
 pub(crate) const ASK_EXAMPLE: &str = "Example:
   hkrep ask --log 7 --streams 1 1 range 1 0 9 < examples/first.bin
 prints '5 9 41', the key, tag and body of each row of table 1 with a key from 0 to 9 at time 1, and \
-then 'rows 1'. What is refused is printed as at 'hkrep at'. With --port it asks a node that runs, and \
-reads at the resolved time where no time is given:
+then 'rows 1'. What is refused is printed as at 'hkrep at'. The time may stand behind the query, as \
+'get 1 5 --at 1'. Without --log it asks a node that runs, and reads at the resolved time where no time is given:
   hkrep ask --port 7426 get 1 5";
 
 pub(crate) const GET_ABOUT: &str = "The row at a key: prints 'TAG BODY' or 'none'";
@@ -31,8 +31,8 @@ pub(crate) const TAG_ABOUT: &str =
 pub(crate) const COUNT_ABOUT: &str = "How many rows there are: prints 'count COUNT'";
 
 pub(crate) const FRONT_ABOUT: &str =
-    "Absorb the item frames of standard input, or ask a node that runs \
-(--port), and print the range of readable times";
+    "Absorb the item frames of standard input, or without --log ask a node \
+that runs, and print the range of readable times";
 
 pub(crate) const FRONT_EXAMPLE: &str = "Example:
   hkrep front --log 7 --streams 1 < examples/first.bin
@@ -40,8 +40,8 @@ prints 'front horizon 0 readable 1': times from 0 to 1 can be read. Of a node th
   hkrep front --port 7426";
 
 pub(crate) const STATUS_ABOUT: &str =
-    "Absorb the item frames of standard input, or ask a node that runs \
-(--port), and print how far each stream is";
+    "Absorb the item frames of standard input, or without --log ask a node \
+that runs, and print how far each stream is";
 
 pub(crate) const STATUS_EXAMPLE: &str = "Example:
   hkrep status --log 7 --streams 2 < examples/first.bin
@@ -58,8 +58,8 @@ pub(crate) const EXPLAIN_ABOUT: &str = "Print what the numbers of refusals mean,
 
 pub(crate) const EXPLAIN_EXAMPLE: &str = "Example:
   hkrep explain 26
-prints the number, the name, the meaning and what to do. Without a number it lists all. A number that \
-no refusal has ends with status 2.";
+prints the number, the name, the meaning and what to do, as 'hkrep explain NotYet' does. Without a number it \
+lists all. A number or a name that no refusal has ends with status 2.";
 
 pub(crate) const ITEMS_ABOUT: &str =
     "Print the head of each item of the frames of standard input, and how much is in it";
@@ -160,7 +160,7 @@ pub(crate) const PULL_ABOUT: &str = "Copy missing data from another node";
 
 pub(crate) const PULL_EXAMPLE: &str = "Example:
   hkrep pull --port 7427 --from 7426
-asks the node on 7426 for a delta since the resolved time of the one on 7427, or for a full snapshot where \
+asks the node on 7426, which may be an address as well, for a delta since the resolved time of the one on 7427, or for a full snapshot where \
 it can't cut one there, sends it to that one, and prints 'done' and the number of its operation.";
 
 pub(crate) const PRUNE_ABOUT: &str = "Discard the versions that no read at TIME or later needs";
@@ -183,6 +183,7 @@ pub(crate) const SHELL_EXAMPLE: &str = "Example:
   echo 'range 1 0 9' | hkrep shell --port 7426
 prints the rows of table 1 with a key from 0 to 9 at the resolved time as a table, and how many they are. The lines:
   get TABLE KEY | range TABLE LOW HIGH | tag TABLE TAG | count TABLE      at the resolved time
-  at TIME get TABLE KEY                                                   the same at a time
-  front | status | help
-On a terminal each line has a prompt. A refusal is printed, and the next line goes on.";
+  get TABLE KEY --at TIME | at TIME get TABLE KEY                         the same at a time
+  front | status | help | quit
+In a table a body that is text is shown as that, another one as \\x and hexadecimal digits. On a terminal each line \
+has a prompt, and 'rlwrap hkrep shell' edits lines. A refusal is printed, and the next line goes on.";

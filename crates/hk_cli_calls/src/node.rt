@@ -11,6 +11,19 @@ pub enum NodePlace<'a> {
     Port(u16),
     /// At an address: a name or an IP address, a colon, and a port.
     Address(&'a str),
+    /// At a Unix domain socket of this path.
+    Path(&'a str),
+}
+
+/// How the bodies of a table are printed.
+#[derive(Clone, Copy)]
+pub enum Bodies {
+    /// As text where they are text that can be shown as it is, else in hexadecimal digits behind `\x`.
+    Guessed,
+    /// In hexadecimal digits.
+    Digits,
+    /// As text; what can't be shown as it is, is escaped.
+    Text,
 }
 
 /// What a node is asked to do.
@@ -21,7 +34,9 @@ pub enum Order {
         with_second: bool,
     },
     /// To answer the lines of the input.
-    Shell,
+    Shell {
+        bodies: Bodies,
+    },
     /// To answer a query, at the resolved time where the caller names no time.
     Ask {
         time: Option<Time>,
@@ -43,11 +58,9 @@ pub enum Order {
     },
     /// To join the fragments of the input, in one message or in chunks, as `Save` writes them in bytes.
     Load,
-    /// To join what the node on another port of 127.0.0.1 has applied since this one's resolved time, or its full
-    /// snapshot where it refuses the delta for its base; in chunks where one message has no room for it.
-    Pull {
-        from: u16,
-    },
+    /// To join what the node at the call's source has applied since this one's resolved time, or its full snapshot where it
+    /// refuses the delta for its base; in chunks where one message has no room for it.
+    Pull,
     /// To drop the versions that no read at a time or later needs.
     Prune {
         horizon: Time,
@@ -66,8 +79,8 @@ impl Order {
         match self {
             Order::Ask { form, .. } | Order::Front { form } => *form,
             Order::Status { form } | Order::Save { form } => *form,
-            Order::Push { .. } | Order::Shell | Order::Load => OutputForm::Lines,
-            Order::Pull { .. } | Order::Prune { .. } | Order::Feed { .. } => OutputForm::Lines,
+            Order::Push { .. } | Order::Shell { .. } | Order::Load => OutputForm::Lines,
+            Order::Pull | Order::Prune { .. } | Order::Feed { .. } => OutputForm::Lines,
         }
     }
 }
@@ -85,6 +98,8 @@ pub struct Limits {
 #[derive(Clone, Copy)]
 pub struct NodeCall<'a> {
     pub place: NodePlace<'a>,
+    /// The node that `Pull` copies from; without one it is the same.
+    pub source: Option<NodePlace<'a>>,
     pub limits: Limits,
     pub order: Order,
 }

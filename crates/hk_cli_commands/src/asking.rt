@@ -1,6 +1,7 @@
 //! The lines that a person asks a node with.
 
 use crate::command::{query, query_named};
+use crate::flaw::Flaw;
 use crate::words::{Unread, Words};
 use hk_model::Query;
 use hk_types::Time;
@@ -18,16 +19,19 @@ pub enum Asking {
     Status,
     /// What the lines are.
     Help,
+    /// To end.
+    Quit,
 }
 
 impl Asking {
     /// The forms of the lines.
     pub const HELP: &'static str =
-        "get TABLE KEY | range TABLE LOW HIGH | tag TABLE TAG | count TABLE: at the readable mark
-at TIME QUERY: the same at a time
-front: from where to where can be read
+        "get TABLE KEY | range TABLE LOW HIGH | tag TABLE TAG | count TABLE: at the resolved time
+QUERY --at TIME, or at TIME QUERY: the same at a time
+front: the range of readable times
 status: how far each stream is
 help: this
+quit: end
 ";
 }
 
@@ -39,12 +43,20 @@ fn at_time(words: &mut Words<'_>) -> Result<Asking, Unread> {
     })
 }
 
-/// A query of this name at the resolved time.
+/// The time behind a query, where one is given.
+fn time_behind(words: &mut Words<'_>) -> Result<Option<Time>, Unread> {
+    match words.next() {
+        None => Ok(None),
+        Some("--at") => Ok(Some(words.time()?)),
+        Some(_other) => Err(Unread::Bad(Flaw::TooMany)),
+    }
+}
+
+/// A query of this name at the time behind it, or at the resolved time.
 fn at_mark(name: &str, words: &mut Words<'_>) -> Result<Asking, Unread> {
-    Ok(Asking::Query {
-        time: None,
-        query: query_named(name, words)?,
-    })
+    let query = query_named(name, words)?;
+    let time = time_behind(words)?;
+    Ok(Asking::Query { time, query })
 }
 
 /// What the words ask that begin with this one.
@@ -54,6 +66,7 @@ fn named(name: &str, words: &mut Words<'_>) -> Result<Asking, Unread> {
         "front" => Ok(Asking::Front),
         "status" => Ok(Asking::Status),
         "help" => Ok(Asking::Help),
+        "quit" | "exit" => Ok(Asking::Quit),
         name => at_mark(name, words),
     }
 }

@@ -4,12 +4,9 @@ ghost use Rattle.std.specs.Prelude.{◌≤◌};
 
 use crate::output::Output;
 use crate::stop::Stop;
-use hk_cli_reasons::{Known, known_of};
+use hk_cli_reasons::{Known, LAST_NUMBER, known_of};
 use std::alloc::{AllocError, Global};
 use std::io::Write;
-
-/// The greatest number of a refusal.
-const LAST_NUMBER: u8 = 93;
 
 /// Adds the line of a number.
 fn put_line(number: u8, known: Known, out: &mut String) -> Result<(), AllocError> {

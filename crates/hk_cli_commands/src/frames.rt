@@ -16,6 +16,22 @@ pub trait Sink {
     fn take(&mut self, item: Item) -> Result<(), Stop>;
 }
 
+/// The kind of the first frame of an input, by its first bytes; 0 where they don't reach so far.
+pub fn kind_at_head(piece: &[u8]) -> u8 {
+    match piece.get(5) {
+        Some(kind) => *kind,
+        None => 0,
+    }
+}
+
+/// What was asked where the first frame of an input has this kind, and is no item.
+fn asked_at_head(kind: u8) -> RequestContext {
+    match kind {
+        16..=23 | 48..=58 => RequestContext::RequestsAsItems,
+        _other => RequestContext::Nothing,
+    }
+}
+
 /// What was asked where an item is to be applied.
 fn asked_of(item: &Item) -> RequestContext {
     let (log, stream) = match item {
@@ -43,10 +59,11 @@ fn take_all<S: Sink>(items: Vec<Item>, sink: &mut S, frames: &mut u64) -> Result
     Ok(())
 }
 
-/// What an answer of a feeder stops, behind so many frames.
-fn checked(fed: Result<(), Refusal>, frames: u64) -> Result<(), Stop> {
+/// What an answer of a feeder stops, behind so many frames of an input whose first has this kind.
+fn checked(fed: Result<(), Refusal>, frames: u64, kind: u8) -> Result<(), Stop> {
     match fed {
         Ok(()) => Ok(()),
+        Err(why) if frames == 0 => Err(Stop::RefusedAt(why, origin_of(0, asked_at_head(kind)))),
         Err(why) => Err(Stop::RefusedAt(why, origin_of(frames, RequestContext::Nothing))),
     }
 }
@@ -58,20 +75,25 @@ struct Frames<'a, S> {
     feeder: Feeder,
     /// How many frames' items the sink accepted.
     count: u64,
+    /// The kind of the first frame, once it is there.
+    kind: u8,
     sink: &'a mut S,
 }
 
 impl<S: Sink> Pieces for Frames<'_, S> {
     fn take(&mut self, piece: &[u8]) -> Result<(), Stop> {
+        if self.kind == 0 {
+            self.kind = kind_at_head(piece);
+        }
         let mut items = Vec::new(self.alloc);
         let fed = self.feeder.feed(piece, &mut items);
         take_all(items, self.sink, &mut self.count)?;
-        checked(fed, self.count)
+        checked(fed, self.count, self.kind)
     }
 
     fn end(&mut self) -> Result<(), Stop> {
         let feeder = mem::replace(&mut self.feeder, Feeder::new(self.alloc));
-        checked(feeder.finish(), self.count)
+        checked(feeder.finish(), self.count, self.kind)
     }
 }
 
@@ -86,6 +108,7 @@ pub fn hand_items<I: Read, S: Sink>(
         alloc,
         feeder: Feeder::new(alloc),
         count: 0,
+        kind: 0,
         sink,
     };
     read_pieces(alloc, input, &mut frames)

@@ -75,6 +75,8 @@ struct Framer<'o, W: Write, E: Write> {
     output: Output<'o, W, E>,
     /// The frames of lines that are not written yet.
     frames: Vec<u8>,
+    /// Whether a line had an item.
+    has_item: bool,
 }
 
 impl<W: Write, E: Write> Framer<'_, W, E> {
@@ -87,6 +89,7 @@ impl<W: Write, E: Write> Framer<'_, W, E> {
             Ok(item) => item,
             Err(bad) => return Err(LineFault::Item(bad)),
         };
+        self.has_item = true;
         match encode(&item, &mut self.frames) {
             Ok(()) => Ok(()),
             Err(_memory) => Err(LineFault::Item(BadItem::Memory)),
@@ -142,7 +145,8 @@ impl<W: Write, E: Write> Lines for Framer<'_, W, E> {
 /// - the number and column of a line that is no item, with what was expected there; nothing is written for it;
 /// - 90 where memory ran out;
 /// - 91 where a read failed, or 2^32 reads did not come to the end;
-/// - that the output can't be written, where a write failed or took no bytes.
+/// - that the output can't be written, where a write failed or took no bytes;
+/// - that the input is empty, where no line has an item.
 ///
 /// It keeps one line, and up to 65,536 bytes of frames and one more frame. Cost: O(n), n bytes of the input.
 pub fn run_frames<I: Read, W: Write, E: Write>(
@@ -157,9 +161,11 @@ pub fn run_frames<I: Read, W: Write, E: Write>(
         alloc,
         output: Output::of_form(alloc, OutputForm::Bytes, writer, errors),
         frames: Vec::new(alloc),
+        has_item: false,
     };
     match read_lines(alloc, input, &mut framer) {
-        Ok(()) => 0,
+        Ok(()) if framer.has_item => 0,
+        Ok(()) => framer.output.stop(Stop::EmptyInput),
         Err(stop) => framer.output.stop(stop),
     }
 }

@@ -4,12 +4,13 @@ ghost use Rattle.std.specs.Prelude.{◌≡◌};
 
 use crate::flaw::{Flaw, put_bad_line};
 use crate::json::{LineFault, put_bad_item};
+use crate::link_fault::{LinkFault, put_fault, put_node, put_unconnected};
 use crate::status::put_streams;
 use crate::stop::Stop;
 use hk_cli_calls::{NodePlace, OutputForm};
 use hk_cli_json::InJson;
 use hk_cli_lines::Printed;
-use hk_cli_reasons::{Origin, Place, RequestContext, put_known, put_reason};
+use hk_cli_reasons::{Origin, Place, RequestContext, put_known, put_place, put_reason};
 use hk_marks::Got;
 use hk_model::{Front, Told};
 use hk_types::Refusal;
@@ -28,6 +29,10 @@ const NO_MEMORY: &[u8] = b"refused 90: out of memory; free memory, and make the 
 
 /// The line where a write of the file of items failed.
 const NO_ITEMS: &[u8] = b"stopped: the file of items can't be written; see where it goes\n";
+
+/// The line where the input has nothing.
+const NO_INPUT: &[u8] =
+    b"stopped: the input is empty; give it by '< FILE', or behind a command and '|'\n";
 
 /// The line where a write of the output failed.
 const NO_OUTPUT: &[u8] = b"stopped: the output can't be written; see where standard output goes\n";
@@ -73,6 +78,9 @@ pub struct Output<'a, W: Write, E: Write> {
     reasons: String,
     /// The lines of the value that is being printed; where memory runs out none of them is.
     next: String,
+    /// The address of the node that is asked, and that of the one that is copied from, where there are any.
+    node: String,
+    source: String,
     /// Whether nobody reads the output any more, as behind `head`.
     is_closed: bool,
 }
@@ -97,8 +105,25 @@ impl<'a, W: Write, E: Write> Output<'a, W, E> {
             lines: String::new(alloc),
             reasons: String::new(alloc),
             next: String::new(alloc),
+            node: String::new(alloc),
+            source: String::new(alloc),
             is_closed: false,
         }
+    }
+
+    /// Notes where the node is that is asked, so that what fails there names it. Cost: O(n), n bytes of the address.
+    pub fn ask_at(&mut self, place: NodePlace<'_>) -> Result<(), AllocError> {
+        put_node(place, &mut self.node)
+    }
+
+    /// The same of the node that is copied from. Cost: as that of `ask_at`.
+    pub fn copy_from(&mut self, place: NodePlace<'_>) -> Result<(), AllocError> {
+        put_node(place, &mut self.source)
+    }
+
+    /// The address of the node that is asked, or nothing.
+    pub fn node(&self) -> &str {
+        &self.node
     }
 
     /// Adds the lines of a value, all of them or none, and writes what was gathered once that is much.
@@ -176,40 +201,36 @@ impl<'a, W: Write, E: Write> Output<'a, W, E> {
         self.keep_reason(made);
     }
 
-    /// Adds that a connection was cut before the reply to a request. Cost: O(1).
-    fn tell_cut(&mut self, request: u64) {
+    /// Adds what a connection to a node failed by. Cost: O(n), n bytes of the addresses.
+    fn tell_link(&mut self, fault: &LinkFault, place: Place) {
         self.next.clear();
+        let address = match place {
+            Place::Source(_request) => &self.source,
+            _other => &self.node,
+        };
+        let made = match put_place(place, &mut self.next) {
+            Ok(()) => put_fault(fault, address, &self.node, &self.source, &mut self.next),
+            Err(memory) => Err(memory),
+        };
+        self.keep_reason(made);
+    }
+
+    /// Adds in words that the input can't be read. Cost: O(1).
+    fn tell_input(&mut self, code: i32) {
+        self.next.clear();
+        let error = io::Error::from_raw_os_error(code);
         let made = writeln!(
             self.next,
-            "request {request}: refused 1: the connection was cut before the reply; see whether the node still runs"
+            "refused 91: the input can't be read: {error}; see what standard input is"
         );
         self.keep_reason(made);
     }
 
-    /// Adds that a node replied nothing for so long. Cost: O(1).
-    fn tell_late(&mut self, request: u64, seconds: u64) {
-        self.next.clear();
-        let made = writeln!(
-            self.next,
-            "request {request}: refused 91: no reply for {seconds} s; see whether the node runs, and whether all its connection slots are in use, or give --reply-seconds more"
-        );
-        self.keep_reason(made);
-    }
-
-    /// Prints that a connection to a place can't be opened, in the system's words, and returns what stops the command.
-    /// Cost: O(n), n bytes of an address.
+    /// Prints that a connection to a place can't be opened, and returns what stops the command. Cost: O(n), n bytes of an
+    /// address.
     pub fn connect_fault(&mut self, place: NodePlace<'_>, error: &io::Error) -> Stop {
         self.next.clear();
-        let made = match place {
-            NodePlace::Port(port) => writeln!(
-                self.next,
-                "refused 93: can't connect to port {port}: {error}; see that a node listens there"
-            ),
-            NodePlace::Address(address) => writeln!(
-                self.next,
-                "refused 93: can't connect to {address}: {error}; see that a node listens there"
-            ),
-        };
+        let made = put_unconnected(place, error, &mut self.next);
         self.keep_reason(made);
         Stop::NetTold
     }
@@ -303,8 +324,8 @@ impl<'a, W: Write, E: Write> Output<'a, W, E> {
         1
     }
 
-    /// Adds why the command stopped, in words. A line that is no command was reported before.
-    fn tell_stop(&mut self, stop: &Stop) {
+    /// Adds why the command stopped, or would stop, in words. A line that is no command was reported before. Cost: O(1).
+    pub fn tell_stop(&mut self, stop: &Stop) {
         match stop {
             Stop::Refused(refusal) => self.tell_refusal(NOWHERE, refusal),
             Stop::RefusedAt(refusal, origin) => self.tell_refusal(*origin, refusal),
@@ -326,9 +347,10 @@ impl<'a, W: Write, E: Write> Output<'a, W, E> {
             Stop::ReadFault | Stop::SendFault | Stop::NetFault => {
                 self.tell_known(Place::Whole, "refused", stop.device_number())
             }
-            Stop::LinkCut(request) => self.tell_cut(*request),
-            Stop::ReplyLate { request, seconds } => self.tell_late(*request, *seconds),
+            Stop::Link(fault, place) => self.tell_link(fault, *place),
+            Stop::InputFault(code) => self.tell_input(*code),
             Stop::ItemsFault => self.say(NO_ITEMS),
+            Stop::EmptyInput => self.say(NO_INPUT),
             Stop::WriteFault => self.say_no_output(),
             _told => (),
         }
@@ -340,8 +362,17 @@ impl<'a, W: Write, E: Write> Output<'a, W, E> {
         match stop {
             Stop::Refused(refusal) | Stop::RefusedAt(refusal, _) => self.print_refusal(refusal),
             Stop::BadCommand(line) => self.print_bad(*line),
-            Stop::WriteFault | Stop::ItemsFault => Ok(()),
+            Stop::WriteFault | Stop::ItemsFault | Stop::EmptyInput | Stop::Quit => Ok(()),
+            Stop::Link(fault, _) => self.print_link(fault, stop.device_number()),
             other => self.print_number(other.device_number()),
+        }
+    }
+
+    /// Adds the refusal of what a connection failed by, or its number.
+    fn print_link(&mut self, fault: &LinkFault, number: u8) -> Result<(), Stop> {
+        match fault.refusal() {
+            Some(refusal) => self.print_refusal(&refusal),
+            None => self.print_number(number),
         }
     }
 

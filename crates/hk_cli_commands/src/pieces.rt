@@ -3,6 +3,7 @@
 use crate::stop::Stop;
 use hk_types::Refusal;
 use std::alloc::Global;
+use std::io;
 use std::io::Read;
 
 /// How many bytes are asked for in one read.
@@ -25,6 +26,14 @@ pub trait Pieces {
     fn end(&mut self) -> Result<(), Stop>;
 }
 
+/// What stops a command where a read of its input failed.
+fn fault_of(error: &io::Error) -> Stop {
+    match error.raw_os_error() {
+        Some(code) => Stop::InputFault(code),
+        None => Stop::ReadFault,
+    }
+}
+
 /// Reads the input up to its end, or to what stops it first: the receiver of its pieces, a read that fails, or that there were
 /// 2^32 reads. Cost: O(n), n bytes of the input, and that of the receiver.
 pub fn read_pieces<I: Read, P: Pieces>(
@@ -37,7 +46,7 @@ pub fn read_pieces<I: Read, P: Pieces>(
         pieces.ready()?;
         let count = match input.read(piece.as_mut_slice()) {
             Ok(count) => count,
-            Err(_error) => return Err(Stop::ReadFault),
+            Err(error) => return Err(fault_of(&error)),
         };
         if count == 0 {
             return pieces.end();

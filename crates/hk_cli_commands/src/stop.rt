@@ -4,7 +4,8 @@ ghost use Rattle.std.specs.Prelude.{◌≡◌};
 ghost use Rattle.hk_types.specs.declared.faults.Refusal.TheVariants.{Form, Memory};
 ghost use Rattle.hk_cli_commands.specs.declared.stop.Stop.TheVariants.{Refused};
 
-use hk_cli_reasons::Origin;
+use crate::link_fault::LinkFault;
+use hk_cli_reasons::{Origin, Place};
 use hk_types::{FormFault, Refusal};
 use std::alloc::AllocError;
 
@@ -17,6 +18,12 @@ pub enum Stop {
     RefusedAt(Refusal, Origin),
     /// A read failed, or there were 2^32 reads without an end.
     ReadFault,
+    /// A read of the input failed with this error of the system.
+    InputFault(i32),
+    /// The input has nothing.
+    EmptyInput,
+    /// A person asked to end: nothing failed.
+    Quit,
     /// The line of this number, counted from 1, is no command.
     BadCommand(u64),
     /// A write failed or took no bytes, so nothing more can be printed.
@@ -29,10 +36,8 @@ pub enum Stop {
     NetFault,
     /// The same, where what failed and why is printed already.
     NetTold,
-    /// A connection ended before the reply to the request of this number, counted from 1.
-    LinkCut(u64),
-    /// A node let the request of this number, counted from 1, wait for so many seconds.
-    ReplyLate { request: u64, seconds: u64 },
+    /// What a connection to a node failed by, at a request.
+    Link(LinkFault, Place),
 }
 
 impl From<Refusal> for Stop {
@@ -63,7 +68,7 @@ impl Stop {
     /// The number of what failed, where that is a device or a connection.
     pub(crate) fn device_number(&self) -> u8 {
         match self {
-            Stop::LinkCut(_) => 1,
+            Stop::Link(LinkFault::Cut, _) => 1,
             Stop::SendFault => 92,
             Stop::NetFault | Stop::NetTold => 93,
             _read => 91,

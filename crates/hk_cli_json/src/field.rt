@@ -81,14 +81,11 @@ impl Body {
     }
 }
 
-/// Whether a byte is a lower-case hexadecimal digit.
-fn is_digit(byte: u8) -> bool {
-    byte.is_ascii_digit() || (b'a'..=b'f').contains(&byte)
-}
-
-/// Whether these are the digits of a body.
+/// Whether these are the hexadecimal digits of a body, in either case.
 fn are_digits(digits: &str) -> bool {
-    digits.len() <= 2 * MOST_BODY_BYTES && digits.len() % 2 == 0 && digits.bytes().all(is_digit)
+    digits.len() <= 2 * MOST_BODY_BYTES
+        && digits.len() % 2 == 0
+        && digits.bytes().all(|byte| byte.is_ascii_hexdigit())
 }
 
 impl<'de> Deserialize<'de> for Body {

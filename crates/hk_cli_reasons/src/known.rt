@@ -22,6 +22,30 @@ pub fn known_of(number: u8) -> Option<Known> {
     }
 }
 
+/// The greatest number of a refusal.
+pub const LAST_NUMBER: u8 = 93;
+
+/// Whether this is a number's name, in whichever case, without its fields.
+fn is_named(number: u8, name: &str) -> bool {
+    match known_of(number) {
+        Some(known) => match known.name.split_once(' ') {
+            Some((own, _fields)) => own.eq_ignore_ascii_case(name),
+            None => known.name.eq_ignore_ascii_case(name),
+        },
+        None => false,
+    }
+}
+
+/// The number of the refusal with this name, in whichever case. Cost: O(1).
+pub fn number_named(name: &str) -> Option<u8> {
+    for number in 1..=LAST_NUMBER {
+        if is_named(number, name) {
+            return Some(number);
+        }
+    }
+    None
+}
+
 fn told(name: &'static str, meaning: &'static str, advice: &'static str) -> Option<Known> {
     Some(Known {
         name,

@@ -4,5 +4,5 @@
 mod known;
 mod reason;
 
-pub use known::{Known, known_of};
-pub use reason::{Origin, Place, RequestContext, put_known, put_reason};
+pub use known::{Known, LAST_NUMBER, known_of, number_named};
+pub use reason::{Origin, Place, RequestContext, put_known, put_place, put_reason};

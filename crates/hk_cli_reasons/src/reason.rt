@@ -15,6 +15,8 @@ pub enum Place {
     Line(u64),
     /// A request.
     Request(u64),
+    /// A request to the node that is copied from.
+    Source(u64),
     /// A connection, in the order in which they were accepted.
     Link(u64),
 }
@@ -28,7 +30,18 @@ pub enum RequestContext {
     At(Time),
     /// That an item of a log and a stream is applied.
     Item { log: u64, stream: StreamNo },
+    /// That requests are read as items.
+    RequestsAsItems,
+    /// That items are read as requests.
+    ItemsAsRequests,
 }
+
+/// What to do with requests that were read as items.
+const LOAD_INSTEAD: &str =
+    "this is what 'hkrep save' writes, or other requests: give it to 'hkrep load', or to 'hkrep push'";
+
+/// What to do with items that were read as requests.
+const FEED_INSTEAD: &str = "these are items: give them to 'hkrep feed'";
 
 /// Where a refusal came from.
 #[derive(Clone, Copy)]
@@ -37,12 +50,14 @@ pub struct Origin {
     pub asked: RequestContext,
 }
 
-fn put_place(place: Place, out: &mut String) -> Result<(), AllocError> {
+/// Adds where a command was refused, and a colon. The only error is out of memory. Cost: O(1).
+pub fn put_place(place: Place, out: &mut String) -> Result<(), AllocError> {
     match place {
         Place::Whole => Ok(()),
         Place::Frame(number) => write!(out, "frame {number}: "),
         Place::Line(number) => write!(out, "line {number}: "),
         Place::Request(number) => write!(out, "request {number}: "),
+        Place::Source(number) => write!(out, "request {number} to the source: "),
         Place::Link(number) => write!(out, "link {number}: "),
     }
 }
@@ -64,7 +79,7 @@ fn put_asked(asked: RequestContext, refusal: &Refusal, out: &mut String) -> Resu
 }
 
 /// What to do, with the numbers that the refusal names.
-fn put_advice(refusal: &Refusal, out: &mut String) -> Result<(), AllocError> {
+fn put_own_advice(refusal: &Refusal, out: &mut String) -> Result<(), AllocError> {
     match refusal {
         Refusal::Gap { readable, .. } => {
             write!(out, "ask for a delta since {readable}, or for a snapshot")
@@ -84,6 +99,19 @@ fn put_advice(refusal: &Refusal, out: &mut String) -> Result<(), AllocError> {
     }
 }
 
+/// What to do.
+fn put_advice(
+    asked: RequestContext,
+    refusal: &Refusal,
+    out: &mut String,
+) -> Result<(), AllocError> {
+    match asked {
+        RequestContext::RequestsAsItems => out.push_str(LOAD_INSTEAD),
+        RequestContext::ItemsAsRequests => out.push_str(FEED_INSTEAD),
+        _other => put_own_advice(refusal, out),
+    }
+}
+
 /// Adds a line that says why something was refused: where, the number, what was refused, and what to do. The only
 /// error is out of memory; then the text may end with a part of the line. Cost: O(1).
 pub fn put_reason(origin: Origin, refusal: &Refusal, out: &mut String) -> Result<(), AllocError> {
@@ -92,7 +120,7 @@ pub fn put_reason(origin: Origin, refusal: &Refusal, out: &mut String) -> Result
     write!(out, "refused {number}: ")?;
     put_asked(origin.asked, refusal, out)?;
     write!(out, "{refusal}; ")?;
-    put_advice(refusal, out)?;
+    put_advice(origin.asked, refusal, out)?;
     out.push('\n')
 }
 

@@ -1,16 +1,18 @@
 //! What changes a node: `pull` and `prune`, and what a node begins with.
 
-use crate::link::{Link, opened, unasked};
+use crate::link::{Link, unasked};
+use crate::order::Terminal;
 use crate::parts::{Parts, TOO_LONG, hand_parts, is_too_long, taking};
 use crate::read::front_at;
-use hk_cli_calls::{Limits, NodePlace};
+use crate::stream::opened;
+use hk_cli_calls::{Limits, NodeCall, NodePlace};
 use hk_cli_commands::{Output, Stop};
 use hk_cli_reasons::{Origin, RequestContext};
 use hk_log::Version;
 use hk_types::{Refusal, Time, VersionKey};
 use hk_wire::{LaterReply, LaterRequest, Reply, Request};
 use std::alloc::Global;
-use std::io::Write;
+use std::io::{Stderr, Write};
 use std::net::{Net, TcpListener, TcpStream};
 use std::rt::Clock;
 
@@ -141,8 +143,8 @@ fn give_parts<T: Taker>(
 }
 
 /// Gives a node what the one at a place has applied since the node's resolved time, or its full snapshot where it refuses the delta for
-/// its base, and returns the node's reply: in chunks where a message has no room for it. Where that place can't be reached, why is
-/// printed on `output`. What stops it otherwise is as in `run_order`; nothing was joined then. Cost: O(n), n bytes of what goes.
+/// its base, and returns the node's reply: in chunks where a message has no room for it. On a terminal each megabyte that comes is
+/// counted. Where that place can't be reached, why is printed on `output`. What stops it otherwise is as in `run_order`; nothing was joined then. Cost: O(n), n bytes of what goes.
 pub fn give_from<
     R: Net<Listener = TcpListener, Stream = TcpStream> + Clock,
     T: Taker,
@@ -153,11 +155,13 @@ pub fn give_from<
     alloc: Global,
     place: NodePlace<'_>,
     limits: Limits,
+    terminal: Option<Stderr>,
     own: &mut T,
     output: &mut Output<'_, W, E>,
 ) -> Result<Reply, Stop> {
     let stream = opened(rt, place, limits, output)?;
-    let mut other = Link::new(alloc, &stream, limits)?;
+    let mut other = Link::new(alloc, &stream, limits, terminal, true)?;
+    output.copy_from(place)?;
     let readable = own.readable()?;
     match handed_on(&mut other, readable)? {
         Handed::Frame(request) => own.take(request),
@@ -165,14 +169,15 @@ pub fn give_from<
     }
 }
 
-/// Copies to the node what the one on another port has applied since the node's resolved time, and prints its number.
+/// Copies to the node what the call's source has applied since the node's resolved time, and prints its number.
 pub(crate) fn pull<R: Net<Listener = TcpListener, Stream = TcpStream> + Clock, W: Write, E: Write>(
     rt: &R,
     own: &mut Link<'_>,
-    from: u16,
+    call: &NodeCall<'_>,
+    terminal: Terminal,
     output: &mut Output<'_, W, E>,
 ) -> Result<(), Stop> {
-    let (alloc, limits) = (own.alloc(), own.limits());
-    let reply = give_from(rt, alloc, NodePlace::Port(from), limits, own, output)?;
+    let (alloc, source) = (own.alloc(), call.source.unwrap_or(call.place));
+    let reply = give_from(rt, alloc, source, call.limits, terminal.errors, own, output)?;
     output.print(&reply)
 }

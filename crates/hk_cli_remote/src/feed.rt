@@ -67,45 +67,41 @@ impl<'a, 'l> Batches<'a, 'l> {
         self.new = self.new.saturating_add(new);
     }
 
-    /// Has the node apply these items, so many.
-    fn hand(&mut self, items: Vec<Item>, count: u64) -> Result<(), Stop> {
-        match self.link.granted(&Request::Items(items))? {
-            Reply::Done { ops } => {
-                self.count(count, ops, 0);
-                Ok(())
+    /// Notes the reply to a batch of so many items.
+    fn note(&mut self, reply: &Reply, count: u64) -> Result<(), Stop> {
+        match reply {
+            Reply::Done { ops } if !self.with_second => self.count(count, *ops, 0),
+            Reply::Later(LaterReply::Fed { ops, new }) if self.with_second => {
+                self.count(count, *ops, *new)
             }
-            _other => Err(unasked()),
+            _other => return Err(unasked()),
         }
+        Ok(())
     }
 
-    /// The same by a request of version 2, whose reply says how many were new.
-    fn hand_counted(&mut self, items: Vec<Item>, count: u64) -> Result<(), Stop> {
-        match self.link.granted(&Request::Feed(items))? {
-            Reply::Later(LaterReply::Fed { ops, new }) => {
-                self.count(count, ops, new);
-                Ok(())
-            }
-            _other => Err(unasked()),
-        }
-    }
-
-    /// Sends what was gathered, and waits until the node applied it.
+    /// Sends what was gathered, and waits until the node applied it. A request of version 2 is replied how many were new.
     fn send(&mut self) -> Result<(), Stop> {
         let count = self.items.len() as u64;
         let items = mem::replace(&mut self.items, Vec::new(self.alloc));
         self.bytes = 0;
-        if self.with_second {
-            return self.hand_counted(items, count);
-        }
-        self.hand(items, count)
+        let request = if self.with_second {
+            Request::Feed(items)
+        } else {
+            Request::Items(items)
+        };
+        let reply = self.link.granted(&request)?;
+        self.note(&reply, count)
     }
 
-    /// Sends what is left; an empty batch where there was no item at all, so that the node returns its number.
+    /// Sends what is left; that there was no item at all stops the command.
     fn finish(&mut self) -> Result<(), Stop> {
-        if self.items.is_empty() && self.ops > 0 {
-            return Ok(());
+        if !self.items.is_empty() {
+            return self.send();
         }
-        self.send()
+        if self.taken == 0 {
+            return Err(Stop::EmptyInput);
+        }
+        Ok(())
     }
 
     fn is_full(&self) -> bool {

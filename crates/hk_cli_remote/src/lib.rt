@@ -7,11 +7,13 @@ mod feed;
 mod link;
 mod order;
 mod parts;
+mod progress;
 mod push;
 mod read;
 mod shell;
+mod stream;
 mod table;
 
 pub use change::{Taker, give_from};
 pub use link::refusal_of;
-pub use order::run_order;
+pub use order::{Terminal, run_order};

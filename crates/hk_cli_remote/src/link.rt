@@ -1,23 +1,26 @@
 //! An open connection to a node.
 
-use hk_cli_calls::{Limits, NodePlace};
-use hk_cli_commands::{MOST_READS, Output, PIECE_BYTES, Stop};
+use crate::progress::Progress;
+use crate::stream::Stream;
+use hk_cli_calls::Limits;
+use hk_cli_commands::{LinkFault, MOST_READS, PIECE_BYTES, Peer, Stop};
 use hk_cli_reasons::{Origin, Place, RequestContext};
+use hk_log::Item;
 use hk_types::{FormFault, Refusal};
 use hk_wire::{LaterReply, LaterRequest, Reply, ReplyFeeder, Request, encode_request};
 use std::alloc::Global;
-use std::io::{ErrorKind, Read, Write};
-use std::net::{Ipv4Addr, Net, TcpListener, TcpStream};
-use std::rt::Clock;
-use std::time::Duration;
-use std::{io, thread};
+use std::io;
+use std::io::{ErrorKind, Stderr};
 
 /// An open connection to a node.
 #[derive(Drop)]
 pub(crate) struct Link<'a> {
     alloc: Global,
-    stream: &'a TcpStream,
+    stream: &'a Stream,
     limits: Limits,
+    progress: Progress,
+    /// Whether the node is the one that is copied from.
+    is_source: bool,
     feeder: ReplyFeeder,
     /// Replies that came and are not returned yet: more than one where the node sends more than it was asked for.
     replies: Vec<Reply>,
@@ -25,6 +28,8 @@ pub(crate) struct Link<'a> {
     text: Vec<u8>,
     /// How many requests were sent.
     sent: u64,
+    /// Whether a reply came.
+    is_answered: bool,
 }
 
 /// The time that a request asks for.
@@ -57,109 +62,67 @@ fn is_later(request: &Request) -> bool {
 /// The refusal of a message of another version.
 const OTHER_VERSION: Refusal = Refusal::Form(FormFault::BadVersion);
 
-/// How often a second a command tries to connect where nobody listens.
-const TRIES_A_SECOND: u64 = 50;
+/// Who sends bytes that begin so and are no frame.
+fn peer_of(bytes: &[u8]) -> Peer {
+    if bytes.starts_with(b"HTTP") {
+        return Peer::Http;
+    }
+    if bytes.starts_with(b"\x15\x03") {
+        return Peer::Tls;
+    }
+    Peer::Other
+}
 
-/// How many milliseconds it waits between two tries.
-const TRY_MILLIS: u64 = 20;
-
-/// A stream to a place; of the addresses that a name has, the first that is listened to.
-fn stream_to<R: Net<Listener = TcpListener, Stream = TcpStream>>(
-    rt: &R,
-    place: NodePlace<'_>,
-) -> io::Result<TcpStream> {
-    match place {
-        NodePlace::Port(port) => TcpStream::connect(rt, (Ipv4Addr::LOCALHOST, port)),
-        NodePlace::Address(address) => TcpStream::connect(rt, address),
+/// The log of an item.
+fn log_of(item: &Item) -> u64 {
+    match item {
+        Item::Commit(entry) => entry.log(),
+        Item::Closed(mark) => mark.log(),
     }
 }
 
-/// The same. A stream that the system joined with itself, as it may where nobody listens on a port that it also hands out, is
-/// refused.
-fn connected<R: Net<Listener = TcpListener, Stream = TcpStream>>(
-    rt: &R,
-    place: NodePlace<'_>,
-) -> io::Result<TcpStream> {
-    let stream = stream_to(rt, place)?;
-    if stream.local_addr()? == stream.peer_addr()? {
-        return Err(ErrorKind::ConnectionRefused.into());
-    }
-    Ok(stream)
-}
-
-/// The same, tried again for so many seconds while nobody listens.
-fn connected_within<R: Net<Listener = TcpListener, Stream = TcpStream> + Clock>(
-    rt: &R,
-    place: NodePlace<'_>,
-    seconds: u64,
-) -> io::Result<TcpStream> {
-    for _ in 0..seconds.saturating_mul(TRIES_A_SECOND) {
-        match connected(rt, place) {
-            Err(error) if error.kind() == ErrorKind::ConnectionRefused => {
-                thread::sleep(rt, Duration::from_millis(TRY_MILLIS));
-            }
-            other => return other,
+/// The first log of these items that isn't this one.
+fn other_log(items: &[Item], own: Option<u64>) -> Option<u64> {
+    for item in items {
+        let log = log_of(item);
+        if own != Some(log) {
+            return Some(log);
         }
     }
-    connected(rt, place)
+    None
 }
 
-/// Has reads and writes of a stream wait for so many seconds at most; 0 is no limit.
-fn with_limit(stream: TcpStream, seconds: u64) -> io::Result<TcpStream> {
-    if seconds > 0 {
-        let limit = Duration::from_secs(seconds);
-        stream.set_read_timeout(Some(limit))?;
-        stream.set_write_timeout(Some(limit))?;
-    }
-    Ok(stream)
-}
-
-/// The same stream with these limits.
-fn limited<R: Net<Listener = TcpListener, Stream = TcpStream> + Clock>(
-    rt: &R,
-    place: NodePlace<'_>,
-    limits: Limits,
-) -> io::Result<TcpStream> {
-    let stream = connected_within(rt, place, limits.connect_seconds)?;
-    with_limit(stream, limits.reply_seconds)
-}
-
-/// Opens a stream to the node at a place; where that fails the system's words are printed.
-pub(crate) fn opened<
-    R: Net<Listener = TcpListener, Stream = TcpStream> + Clock,
-    W: Write,
-    E: Write,
->(
-    rt: &R,
-    place: NodePlace<'_>,
-    limits: Limits,
-    output: &mut Output<'_, W, E>,
-) -> Result<TcpStream, Stop> {
-    match limited(rt, place, limits) {
-        Ok(stream) => {
-            // A request is sent at once; where the system doesn't allow that, it comes later.
-            let _at_once = stream.set_nodelay(true);
-            Ok(stream)
+/// The log of what a request gives to a node of this log, where it names one and it is another.
+fn sent_log(request: &Request, own: Option<u64>) -> Option<u64> {
+    match request {
+        Request::Items(items) | Request::Feed(items) => other_log(items, own),
+        Request::JoinThis(fragment) | Request::MergeThis(fragment) => {
+            Some(fragment.config().log())
         }
-        Err(error) => Err(output.connect_fault(place, &error)),
+        _other => None,
     }
 }
 
 impl<'a> Link<'a> {
     pub(crate) fn new(
         alloc: Global,
-        stream: &'a TcpStream,
+        stream: &'a Stream,
         limits: Limits,
+        terminal: Option<Stderr>,
+        is_source: bool,
     ) -> Result<Link<'a>, Stop> {
         Ok(Link {
             alloc,
             stream,
             limits,
+            progress: Progress::new(terminal),
+            is_source,
             feeder: ReplyFeeder::new(alloc),
             replies: Vec::new(alloc),
             piece: vec![in alloc; 0u8; PIECE_BYTES]?,
             text: Vec::new(alloc),
             sent: 0,
+            is_answered: false,
         })
     }
 
@@ -168,33 +131,53 @@ impl<'a> Link<'a> {
         self.alloc
     }
 
-    /// How long it waits.
-    pub(crate) fn limits(&self) -> Limits {
-        self.limits
-    }
-
     /// Why a read or a write of the stream stops the command: the node let it wait too long, or this.
     fn stop_of(&self, error: &io::Error, stop: Stop) -> Stop {
         match error.kind() {
-            ErrorKind::WouldBlock => Stop::ReplyLate {
-                request: self.sent,
-                seconds: self.limits.reply_seconds,
-            },
+            ErrorKind::WouldBlock => self.fault(LinkFault::Late(self.limits.reply_seconds)),
             _other => stop,
         }
     }
 
+    /// The place of the request of this number.
+    fn place(&self, request: u64) -> Place {
+        if self.is_source {
+            Place::Source(request)
+        } else {
+            Place::Request(request)
+        }
+    }
+
+    /// That the connection failed by this at the last request.
+    fn fault(&self, fault: LinkFault) -> Stop {
+        Stop::Link(fault, self.place(self.sent))
+    }
+
+    /// Why bytes that are no reply and begin as this peer's stop the command: before the first reply they may be of no node.
+    fn malformed(&self, why: Refusal, peer: Peer) -> Stop {
+        let is_length = matches!(
+            why,
+            Refusal::Form(FormFault::TooLong | FormFault::WrongLength)
+        );
+        if self.is_answered || !is_length {
+            return Stop::Refused(why);
+        }
+        self.fault(LinkFault::NoNode(peer, why))
+    }
+
     /// The origin of a refusal that answers a request, or of a fault of the connection behind it.
     pub(crate) fn origin(&self, asked: RequestContext) -> Origin {
-        let place = Place::Request(self.sent);
-        Origin { place, asked }
+        Origin {
+            place: self.place(self.sent),
+            asked,
+        }
     }
 
     /// The same of a request that was not sent yet.
-    pub(crate) fn next_origin(&self) -> Origin {
+    pub(crate) fn next_origin(&self, asked: RequestContext) -> Origin {
         Origin {
-            place: Place::Request(self.sent.saturating_add(1)),
-            asked: RequestContext::Nothing,
+            place: self.place(self.sent.saturating_add(1)),
+            asked,
         }
     }
 
@@ -206,8 +189,7 @@ impl<'a> Link<'a> {
 
     /// Sends the text of a request.
     fn send(&mut self) -> Result<(), Stop> {
-        let mut writer = self.stream;
-        match writer.write_all(&self.text) {
+        match self.stream.send(&self.text) {
             Ok(()) => Ok(()),
             Err(error) => Err(self.stop_of(&error, Stop::SendFault)),
         }
@@ -215,25 +197,27 @@ impl<'a> Link<'a> {
 
     /// Receives what comes next. A stream that ends has the fault of one that is cut.
     fn receive(&mut self) -> Result<(), Stop> {
-        let mut reader = self.stream;
-        let count = match reader.read(self.piece.as_mut_slice()) {
+        let count = match self.stream.receive(self.piece.as_mut_slice()) {
             Ok(count) => count,
             Err(error) => return Err(self.stop_of(&error, Stop::ReadFault)),
         };
         if count == 0 {
-            return Err(Stop::LinkCut(self.sent));
+            return Err(self.fault(LinkFault::Cut));
         }
-        let fed = self.feeder.feed(&self.piece[..count], &mut self.replies);
-        if self.replies.is_empty() {
-            fed?;
+        self.progress.add(count);
+        let piece = &self.piece[..count];
+        match self.feeder.feed(piece, &mut self.replies) {
+            Err(why) if self.replies.is_empty() => Err(self.malformed(why, peer_of(piece))),
+            _fed => Ok(()),
         }
-        Ok(())
     }
 
     /// The next reply.
     fn reply(&mut self) -> Result<Reply, Stop> {
         for _ in 0..MOST_READS {
             if !self.replies.is_empty() {
+                self.is_answered = true;
+                self.progress.clear();
                 return Ok(self.replies.remove(0));
             }
             self.receive()?;
@@ -258,9 +242,34 @@ impl<'a> Link<'a> {
     pub(crate) fn granted(&mut self, request: &Request) -> Result<Reply, Stop> {
         let reply = self.ask(request)?;
         match refusal_of(&reply) {
-            Some(why) => Err(Stop::RefusedAt(why, self.origin(asked_of(request)))),
+            Some(why) => Err(self.refused(request, why)),
             None => Ok(reply),
         }
+    }
+
+    /// What the node says of its log: that of the delta since its resolved time.
+    fn own_log(&mut self) -> Result<Option<u64>, Stop> {
+        let Reply::Front(front) = self.ask(&Request::Front)? else {
+            return Ok(None);
+        };
+        let base = front.readable;
+        match self.ask(&Request::Delta { base })? {
+            Reply::Fragment(fragment) => Ok(Some(fragment.config().log())),
+            _other => Ok(None),
+        }
+    }
+
+    /// Why the command stops where the node refuses a request: where it has another log, which.
+    pub(crate) fn refused(&mut self, request: &Request, why: Refusal) -> Stop {
+        let origin = self.origin(asked_of(request));
+        if !matches!(why, Refusal::ForeignLog) {
+            return Stop::RefusedAt(why, origin);
+        }
+        let count = self.sent;
+        let own = self.own_log().unwrap_or(None);
+        self.sent = count;
+        let sent = sent_log(request, own);
+        Stop::Link(LinkFault::OtherLog { sent, own }, origin.place)
     }
 
     /// The same with a request of version 2, whose reply has its version.

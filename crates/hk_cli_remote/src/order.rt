@@ -4,30 +4,40 @@ ghost use Rattle.std.specs.Prelude.{◌≤◌};
 
 use crate::change::{prune, pull};
 use crate::feed::feed;
-use crate::link::{Link, opened};
+use crate::link::Link;
 use crate::push::{Accepted, push_all};
 use crate::read::{save, tell_answer, tell_front, tell_status};
 use crate::shell::answer_lines;
+use crate::stream::opened;
 use hk_cli_calls::{NodeCall, Order};
 use hk_cli_commands::{Output, Stop};
 use std::alloc::Global;
-use std::io::{Read, Write};
+use std::io::{Read, Stderr, Write};
 use std::net::{Net, TcpListener, TcpStream};
 use std::rt::Clock;
+
+/// What a command has of a person's terminal.
+#[derive(Clone, Copy)]
+pub struct Terminal {
+    /// Whether its lines are the input.
+    pub is_input: bool,
+    /// The standard error on it, where that is on one.
+    pub errors: Option<Stderr>,
+}
 
 /// Has a node do what is asked, and returns whether a reply was a refusal after which the command went on.
 fn obey<R, I: Read, W: Write, E: Write>(
     rt: &R,
     link: &mut Link<'_>,
+    call: &NodeCall<'_>,
     input: &mut I,
-    is_terminal: bool,
+    terminal: Terminal,
     output: &mut Output<'_, W, E>,
-    order: &Order,
 ) -> Result<bool, Stop>
 where
     R: Net<Listener = TcpListener, Stream = TcpStream> + Clock,
 {
-    let told = match order {
+    let told = match &call.order {
         Order::Push { with_second: false } => {
             return push_all::<_, _, _, 1>(link, input, Accepted::All, output);
         }
@@ -35,12 +45,14 @@ where
             return push_all::<_, _, _, 2>(link, input, Accepted::All, output);
         }
         Order::Load => return push_all::<_, _, _, 2>(link, input, Accepted::Fragments, output),
-        Order::Shell => return answer_lines(link, input, is_terminal, output),
+        Order::Shell { bodies } => {
+            return answer_lines(link, input, terminal.is_input, *bodies, output);
+        }
         Order::Ask { time, query, .. } => tell_answer(link, *time, *query, output),
         Order::Front { .. } => tell_front(link, output),
         Order::Status { .. } => tell_status(link, output),
         Order::Save { form } => save(link, *form, output),
-        Order::Pull { from } => pull(rt, link, *from, output),
+        Order::Pull => pull(rt, link, call, terminal, output),
         Order::Prune { horizon } => prune(link, *horizon, output),
         Order::Feed { batch, with_second } => feed(rt, link, input, *batch, *with_second, output),
     };
@@ -53,15 +65,16 @@ fn obey_at<R, I: Read, W: Write, E: Write>(
     alloc: Global,
     call: &NodeCall<'_>,
     input: &mut I,
-    is_terminal: bool,
+    terminal: Terminal,
     output: &mut Output<'_, W, E>,
 ) -> Result<bool, Stop>
 where
     R: Net<Listener = TcpListener, Stream = TcpStream> + Clock,
 {
     let stream = opened(rt, call.place, call.limits, output)?;
-    let mut link = Link::new(alloc, &stream, call.limits)?;
-    let is_refused = obey(rt, &mut link, input, is_terminal, output, &call.order)?;
+    let mut link = Link::new(alloc, &stream, call.limits, terminal.errors, false)?;
+    output.ask_at(call.place)?;
+    let is_refused = obey(rt, &mut link, call, input, terminal, output)?;
     output.flush().map(|_written| is_refused)
 }
 
@@ -73,8 +86,10 @@ where
 /// `Push` sends a request, waits for its reply and prints it, and then sends the next; a reply that is a refusal is printed and explained,
 /// and the next request goes on, but not after a chunk that is refused. A request of version 2 is sent only where the order has it so, and
 /// else is one that can't be read: 3. `Load` does the same with fragments and chunks alone; another request is not sent, and ends it with
-/// 4. `Shell` reads lines such as `get 1 5`, `at 5 range 1 0 9`, `front` and `status`, prints rows as a table, and on a terminal a prompt
-/// before each line; a line of another form is reported on `errors`, a refusal is printed and explained, and the next line goes on.
+/// 4. `Shell` reads lines such as `get 1 5`, `range 1 0 9 --at 5`, `front` and `status` up to `quit`, prints rows as a table, and where a
+/// terminal is the input a banner, and a prompt before each line; a line of another form is reported on `errors`, a refusal is printed and
+/// explained, and the next line goes on. `Load` and `Feed` end with the status 1 where the input is empty. Where standard error is a
+/// terminal each megabyte of a reply is counted there, in a line that is overwritten.
 /// `Status` reads a delta since the resolved time, and is refused as too old where the node is pruned between. `Save` and `Pull` send
 /// chunks of up to 8,388,608 bytes, or of one fact, where a node refuses a single message as too long and both nodes read version 2; else
 /// they end with 2, as it was refused. Of what goes in chunks nothing is joined before all is there. `Pull`, `Prune` and `Feed` print
@@ -101,7 +116,7 @@ pub fn run_order<R, I: Read, W: Write, E: Write>(
     alloc: Global,
     call: &NodeCall<'_>,
     input: &mut I,
-    is_terminal: bool,
+    terminal: Terminal,
     writer: &mut W,
     errors: &mut E,
 ) -> u8
@@ -110,7 +125,7 @@ where
     ensures { result ≤ 1 }
 {
     let mut output = Output::of_form(alloc, call.order.form(), writer, errors);
-    match obey_at(rt, alloc, call, input, is_terminal, &mut output) {
+    match obey_at(rt, alloc, call, input, terminal, &mut output) {
         Ok(is_refused) => u8::from(is_refused),
         Err(stop) => output.stop(stop),
     }

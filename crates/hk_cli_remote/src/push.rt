@@ -1,7 +1,8 @@
 //! Requests as bytes: `push` and `load`.
 
 use crate::link::{Link, asked_of, refusal_of};
-use hk_cli_commands::{Output, Pieces, Stop, read_pieces};
+use hk_cli_commands::{Output, Pieces, Stop, kind_at_head, read_pieces};
+use hk_cli_reasons::RequestContext;
 use hk_types::{FormFault, Refusal};
 use hk_wire::{LaterRequest, Reply, Request, RequestFeeder};
 use std::io::{Read, Write};
@@ -42,7 +43,7 @@ fn is_accepted(accepted: Accepted, request: &Request) -> bool {
 
 /// Prints why a reply refuses its request, and returns whether it does. It stops at a chunk that is refused.
 fn is_refused<W: Write, E: Write>(
-    link: &Link<'_>,
+    link: &mut Link<'_>,
     request: &Request,
     reply: &Reply,
     output: &mut Output<'_, W, E>,
@@ -50,11 +51,14 @@ fn is_refused<W: Write, E: Write>(
     let Some(why) = refusal_of(reply) else {
         return Ok(false);
     };
-    let origin = link.origin(asked_of(request));
     if is_part(request) {
-        return Err(Stop::RefusedAt(why, origin));
+        return Err(Stop::RefusedAt(why, link.origin(RequestContext::Nothing)));
     }
-    output.tell(origin, &why);
+    if is_fragment(request) {
+        output.tell_stop(&link.refused(request, why));
+    } else {
+        output.tell(link.origin(asked_of(request)), &why);
+    }
     Ok(true)
 }
 
@@ -87,6 +91,8 @@ struct Pusher<'k, 'l, 'o, 'p, W: Write, E: Write, const LATEST: u8> {
     requests: Vec<Request>,
     /// Whether a reply was a refusal.
     is_refused: bool,
+    /// The kind of the input's first frame, once it is there.
+    kind: u8,
 }
 
 impl<'k, 'l, 'o, 'p, W: Write, E: Write, const LATEST: u8> Pusher<'k, 'l, 'o, 'p, W, E, LATEST> {
@@ -103,6 +109,7 @@ impl<'k, 'l, 'o, 'p, W: Write, E: Write, const LATEST: u8> Pusher<'k, 'l, 'o, 'p
             feeder: RequestFeeder::new(alloc),
             requests: Vec::new(alloc),
             is_refused: false,
+            kind: 0,
         }
     }
 
@@ -110,7 +117,8 @@ impl<'k, 'l, 'o, 'p, W: Write, E: Write, const LATEST: u8> Pusher<'k, 'l, 'o, 'p
     fn ask_all(&mut self) -> Result<(), Stop> {
         for request in &self.requests {
             if !is_accepted(self.accepted, request) {
-                return Err(Stop::RefusedAt(BAD_KIND, self.link.next_origin()));
+                let origin = self.link.next_origin(RequestContext::Nothing);
+                return Err(Stop::RefusedAt(BAD_KIND, origin));
             }
             if asked(self.link, request, self.output)? {
                 self.is_refused = true;
@@ -121,15 +129,30 @@ impl<'k, 'l, 'o, 'p, W: Write, E: Write, const LATEST: u8> Pusher<'k, 'l, 'o, 'p
 
     /// What an answer of the feeder stops, in front of the next request.
     fn checked(&self, fed: Result<(), Refusal>) -> Result<(), Stop> {
+        let asked = match self.kind {
+            1 | 2 => RequestContext::ItemsAsRequests,
+            _request => RequestContext::Nothing,
+        };
         match fed {
             Ok(()) => Ok(()),
-            Err(why) => Err(Stop::RefusedAt(why, self.link.next_origin())),
+            Err(why) => Err(Stop::RefusedAt(why, self.link.next_origin(asked))),
         }
+    }
+
+    /// Where nothing came and the input is to give a fragment, that it is empty.
+    fn filled(&self) -> Result<(), Stop> {
+        if self.kind == 0 && matches!(self.accepted, Accepted::Fragments) {
+            return Err(Stop::EmptyInput);
+        }
+        Ok(())
     }
 }
 
 impl<W: Write, E: Write, const LATEST: u8> Pieces for Pusher<'_, '_, '_, '_, W, E, LATEST> {
     fn take(&mut self, piece: &[u8]) -> Result<(), Stop> {
+        if self.kind == 0 {
+            self.kind = kind_at_head(piece);
+        }
         let fed = self.feeder.feed(piece, &mut self.requests);
         self.ask_all()?;
         self.requests.clear();
@@ -138,7 +161,8 @@ impl<W: Write, E: Write, const LATEST: u8> Pieces for Pusher<'_, '_, '_, '_, W, 
 
     fn end(&mut self) -> Result<(), Stop> {
         let feeder = mem::replace(&mut self.feeder, RequestFeeder::new(self.link.alloc()));
-        self.checked(feeder.finish())
+        self.checked(feeder.finish())?;
+        self.filled()
     }
 }
 

@@ -3,6 +3,7 @@
 use crate::link::Link;
 use crate::read::{answer_at, tell_front, tell_status};
 use crate::table::put_table;
+use hk_cli_calls::Bodies;
 use hk_cli_commands::{Asking, Lines, Output, Stop, asking_of, read_lines};
 use hk_cli_reasons::Origin;
 use hk_model::{Answer, Query};
@@ -16,6 +17,10 @@ const MOST_LINE_BYTES: usize = 1_024;
 /// The prompt before a line on a terminal.
 const PROMPT: &[u8] = b"hkrep> ";
 
+/// What a terminal shows before the first prompt, behind the node's address.
+const BANNER: &str =
+    "; 'help' lists the lines, 'quit' ends. 'rlwrap hkrep shell' edits lines and keeps their history";
+
 /// Lines on their way to a node.
 #[derive(Drop)]
 struct Shell<'k, 'l, 'o, 'p, W: Write, E: Write> {
@@ -23,6 +28,7 @@ struct Shell<'k, 'l, 'o, 'p, W: Write, E: Write> {
     link: &'k mut Link<'l>,
     output: &'o mut Output<'p, W, E>,
     is_terminal: bool,
+    bodies: Bodies,
     /// Whether something was refused, or a line had no form.
     is_refused: bool,
 }
@@ -32,12 +38,14 @@ impl<'k, 'l, 'o, 'p, W: Write, E: Write> Shell<'k, 'l, 'o, 'p, W, E> {
         link: &'k mut Link<'l>,
         output: &'o mut Output<'p, W, E>,
         is_terminal: bool,
+        bodies: Bodies,
     ) -> Shell<'k, 'l, 'o, 'p, W, E> {
         Shell {
             alloc: link.alloc(),
             link,
             output,
             is_terminal,
+            bodies,
             is_refused: false,
         }
     }
@@ -48,7 +56,7 @@ impl<'k, 'l, 'o, 'p, W: Write, E: Write> Shell<'k, 'l, 'o, 'p, W, E> {
             return self.output.print(answer);
         };
         let mut text = String::new(self.alloc);
-        put_table(self.alloc, rows, &mut text)?;
+        put_table(self.alloc, rows, self.bodies, &mut text)?;
         self.output.send(text.as_bytes())
     }
 
@@ -63,15 +71,26 @@ impl<'k, 'l, 'o, 'p, W: Write, E: Write> Shell<'k, 'l, 'o, 'p, W, E> {
             Asking::Front => tell_front(self.link, self.output),
             Asking::Status => tell_status(self.link, self.output),
             Asking::Help => self.output.send(Asking::HELP.as_bytes()),
+            Asking::Quit => Err(Stop::Quit),
             Asking::Nothing => Ok(()),
         }
+    }
+
+    /// Prints the banner, on a terminal.
+    fn greet(&mut self) -> Result<(), Stop> {
+        if !self.is_terminal {
+            return Ok(());
+        }
+        let node = self.output.node();
+        let line = format!(in self.alloc; "node {node}{BANNER}\n")?;
+        self.output.send(line.as_bytes())
     }
 
     /// Prints that the line of this number has no form.
     fn tell_unknown(&mut self, number: u64) -> Result<(), AllocError> {
         self.is_refused = true;
         let line = format!(in self.alloc;
-            "line {number}: expected: [at TIME] get TABLE KEY, range TABLE LOW HIGH, tag TABLE TAG or count TABLE; front, status or help\n"
+            "line {number}: expected: [at TIME] get TABLE KEY, range TABLE LOW HIGH, tag TABLE TAG or count TABLE [--at TIME]; front, status, help or quit\n"
         )?;
         self.output.note(&line);
         Ok(())
@@ -138,15 +157,19 @@ impl<W: Write, E: Write> Lines for Shell<'_, '_, '_, '_, W, E> {
     }
 }
 
-/// Answers the lines of the input from the node, and returns whether one was refused or had no form.
+/// Answers the lines of the input from the node, up to its end or `quit`, and returns whether one was refused or had no form.
 pub(crate) fn answer_lines<I: Read, W: Write, E: Write>(
     link: &mut Link<'_>,
     input: &mut I,
     is_terminal: bool,
+    bodies: Bodies,
     output: &mut Output<'_, W, E>,
 ) -> Result<bool, Stop> {
     let alloc = link.alloc();
-    let mut shell = Shell::new(link, output, is_terminal);
-    read_lines(alloc, input, &mut shell)?;
-    Ok(shell.is_refused)
+    let mut shell = Shell::new(link, output, is_terminal, bodies);
+    shell.greet()?;
+    match read_lines(alloc, input, &mut shell) {
+        Ok(()) | Err(Stop::Quit) => Ok(shell.is_refused),
+        Err(stop) => Err(stop),
+    }
 }

@@ -7,14 +7,15 @@ mod whole_file;
 use crate::watched::Watched;
 use crate::whole_file::WholeFile;
 use hk_cli::{
-    run_ask, run_at, run_explain, run_frames, run_front, run_items, run_order, run_rewrite,
-    run_serve, run_status, run_stay, run_world,
+    Terminal, run_ask, run_at, run_explain, run_frames, run_front, run_items, run_order,
+    run_rewrite, run_serve, run_status, run_stay, run_world,
 };
 use hk_cli_arguments::read_call;
 use hk_cli_calls::{Alone, Call, NodeCall};
 use std::alloc::Global;
+use std::env::VarError;
 use std::fs::{File, Files};
-use std::io::{IsTerminal, Read, Write};
+use std::io::{ErrorKind, IsTerminal, Read, Write};
 use std::net::{Net, TcpListener, TcpStream};
 use std::process::ExitCode;
 use std::rt::{Clock, Env};
@@ -27,6 +28,23 @@ const NO_OUTPUT: &[u8] = b"stopped: the output can't be written; see where stand
 
 /// The line where a file can't be made and there is no memory to say which.
 const NO_FILE: &[u8] = b"stopped: the file can't be made, and there is no memory to say why\n";
+
+/// The line of a command that reads item frames from a terminal.
+const READING: &[u8] =
+    b"reading item frames from this terminal: give them by '< FILE', or behind a command and '|'\n";
+
+/// The variable of the environment that names a node.
+const NODE_VARIABLE: &str = "HKREP_NODE";
+
+/// What names a node where the words don't; what is no text names none that there is.
+fn node_named<R: Env + Alloc<A = Global>>(rt: &R) -> io::Result<Option<String>> {
+    match std::env::var(rt, NODE_VARIABLE) {
+        Ok(word) => Ok(Some(word)),
+        Err(VarError::NotPresent) => Ok(None),
+        Err(VarError::NotUnicode) => Ok(Some(String::from_str(rt.alloc(), "\u{fffd}")?)),
+        Err(VarError::OutOfMemory) => Err(ErrorKind::OutOfMemory.into()),
+    }
+}
 
 /// The words that the process was started with.
 fn words<R: Env + Alloc<A = Global>>(rt: &R) -> io::Result<Vec<String>> {
@@ -60,6 +78,18 @@ fn run_alone<I: Read, W: Write, E: Write>(
         Alone::Items { form } => run_items(alloc, input, output, errors, *form),
         Alone::Frames => run_frames(alloc, input, output, errors),
         Alone::Rewrite => run_rewrite(alloc, input, output, errors),
+    }
+}
+
+/// Whether it reads item frames.
+fn reads_frames(call: &Alone) -> bool {
+    !matches!(call, Alone::Explain { .. } | Alone::Frames)
+}
+
+/// Prints that item frames are read from a terminal, where they are.
+fn tell_reading<E: Write>(terminal: Terminal, call: &Alone, errors: &mut E) {
+    if terminal.is_input && reads_frames(call) {
+        let _told = errors.write_all(READING);
     }
 }
 
@@ -108,6 +138,7 @@ fn run_script<R: Files + Alloc<A = Global>, I: Read, W: Write, E: Write>(
 fn run_into<R, I: Read, E: Write>(
     rt: &R,
     input: &mut I,
+    terminal: Terminal,
     call: &NodeCall<'_>,
     name: &str,
     errors: &mut E,
@@ -124,7 +155,7 @@ where
             return 1;
         }
     };
-    let status = run_order(rt, alloc, call, input, false, &mut whole.file, errors);
+    let status = run_order(rt, alloc, call, input, terminal, &mut whole.file, errors);
     if status > 0 {
         whole.leave(rt);
         return status;
@@ -142,7 +173,7 @@ where
 fn run<R, I: Read, E: Write>(
     rt: &R,
     input: &mut I,
-    is_terminal: bool,
+    terminal: Terminal,
     errors: &mut E,
     call: &Call<'_>,
 ) -> u8
@@ -172,26 +203,35 @@ where
             )
         }
         Call::Stay(config, stay) => run_stay(rt, *config, stay, &mut output, errors),
-        Call::Into(call, name) => run_into(rt, input, call, name, errors),
+        Call::Into(call, name) => run_into(rt, input, terminal, call, name, errors),
         Call::Node(call) => {
-            run_order(
-                rt,
-                rt.alloc(),
-                call,
-                input,
-                is_terminal,
-                &mut output,
-                errors,
-            )
+            run_order(rt, rt.alloc(), call, input, terminal, &mut output, errors)
         }
         Call::World { items } => run_script(rt, input, *items, &mut output, errors),
-        Call::Alone(call) => run_alone(rt.alloc(), input, &mut output, errors, call),
+        Call::Alone(call) => {
+            tell_reading(terminal, call, errors);
+            run_alone(rt.alloc(), input, &mut output, errors, call)
+        }
+    }
+}
+
+/// What there is of a terminal.
+fn terminal_of(rt: &HostRuntime) -> Terminal {
+    let errors = rt.stderr();
+    Terminal {
+        is_input: rt.stdin().is_terminal(),
+        errors: if errors.is_terminal() {
+            Some(errors)
+        } else {
+            None
+        },
     }
 }
 
 fn main(rt: HostRuntime) -> io::Result<ExitCode> {
     let words = words(&rt)?;
-    let call = match read_call(rt.alloc(), &words) {
+    let node = node_named(&rt)?;
+    let call = match read_call(rt.alloc(), &words, node.as_deref()) {
         Ok(call) => call,
         Err(error) => {
             if error.print(&rt).is_err() {
@@ -201,8 +241,8 @@ fn main(rt: HostRuntime) -> io::Result<ExitCode> {
             return Ok(ExitCode::from(error.exit_code() as u8));
         }
     };
+    let terminal = terminal_of(&rt);
     let mut input = Watched::new(&rt, rt.reader());
     let mut errors = rt.stderr();
-    let is_terminal = rt.stdin().is_terminal();
-    Ok(ExitCode::from(run(&rt, &mut input, is_terminal, &mut errors, &call)))
+    Ok(ExitCode::from(run(&rt, &mut input, terminal, &mut errors, &call)))
 }

@@ -7,7 +7,7 @@ use std::time::Instant;
 /// A megabyte.
 const MEGABYTE: u64 = 1_000_000;
 
-/// A reader that prints each second how much was read, where standard error is a terminal. The line is overwritten by
+/// A reader that prints each second how much was read, where standard error is a terminal and standard input isn't. The line is overwritten by
 /// what is written next, and cleared at the end of the input.
 #[derive(Drop)]
 pub(crate) struct Watched<'a, I: Drop> {
@@ -22,7 +22,7 @@ pub(crate) struct Watched<'a, I: Drop> {
 
 impl<'a, I: Drop> Watched<'a, I> {
     pub(crate) fn new(rt: &'a HostRuntime, input: I) -> Watched<'a, I> {
-        let start = if rt.stderr().is_terminal() {
+        let start = if rt.stderr().is_terminal() && !rt.stdin().is_terminal() {
             Instant::now(rt).ok()
         } else {
             None

@@ -47,12 +47,14 @@ def explained():
     for (number, name, _), line in zip(rows, lines):
         if not line.startswith(f"{number} {name}: " if name else f"{number} ") or "; " not in line:
             problems.append(f"{number} {name}: {line!r}")
-        if run(["explain", number]).stdout.decode() != line + "\n":
-            problems.append(f"explain {number}")
+        words = [number, name.split(" ")[0], name.split(" ")[0].lower(), name.split(" ")[0].upper()] if name else [number]
+        problems += [f"explain {word}" for word in words if run(["explain", word]).stdout.decode() != line + "\n"]
     report("explain has each refusal", problems[:5])
     for number in ("0", "11", "48", "94", "256", "282"):
         check_bad_line(f"explain {number}", ["explain", number], ["no refusal"])
-    check_bad_line("explain of no number", ["explain", "x"], ["error"])
+    for word in ("x", "NotYe", "NotYets", "", "-1", "+26", str(2 ** 64)):
+        check_bad_line(f"explain {word!r}", ["explain", word], ["error"])
+    check_bad_line("explain of no name", ["explain", "Nothing"], ["invalid value 'Nothing'", "no refusal has this number or name"])
 
 
 def command_lines():

@@ -1,0 +1,146 @@
+//! What a connection to a node fails by.
+
+use hk_cli_calls::NodePlace;
+use hk_types::Refusal;
+use std::alloc::AllocError;
+use std::io;
+use std::io::ErrorKind;
+
+/// Who answered in the place of a node.
+#[derive(Clone, Copy)]
+pub enum Peer {
+    /// One that speaks HTTP.
+    Http,
+    /// One that speaks TLS, and raised an alert.
+    Tls,
+    /// One whose bytes are no frame.
+    Other,
+}
+
+/// What a connection to a node fails by.
+#[derive(Clone, Copy)]
+pub enum LinkFault {
+    /// It ended before the reply.
+    Cut,
+    /// No byte came, or none was taken, for so many seconds.
+    Late(u64),
+    /// What answers is no node; as a reply it has this fault.
+    NoNode(Peer, Refusal),
+    /// The node has another log than what it was sent, as far as the two are known.
+    OtherLog { sent: Option<u64>, own: Option<u64> },
+}
+
+impl LinkFault {
+    /// The refusal that is printed for it, where it has one.
+    pub(crate) fn refusal(&self) -> Option<Refusal> {
+        match self {
+            LinkFault::NoNode(_, why) => Some(*why),
+            LinkFault::OtherLog { .. } => Some(Refusal::ForeignLog),
+            _other => None,
+        }
+    }
+}
+
+/// Whether no connection to a place can be opened since nobody listens there, or a socket's file isn't there.
+pub fn is_nobody(place: NodePlace<'_>, error: &io::Error) -> bool {
+    match error.kind() {
+        ErrorKind::ConnectionRefused => true,
+        ErrorKind::NotFound => matches!(place, NodePlace::Path(_)),
+        _other => false,
+    }
+}
+
+/// The end of the line where nobody listens.
+const NOBODY: &str =
+    ": nobody listens there; 'hkrep node' starts a node, and --node or HKREP_NODE names another\n";
+
+/// Adds a place as a person writes it.
+pub(crate) fn put_node(place: NodePlace<'_>, out: &mut String) -> Result<(), AllocError> {
+    match place {
+        NodePlace::Port(port) => write!(out, "127.0.0.1:{port}"),
+        NodePlace::Address(address) => out.push_str(address),
+        NodePlace::Path(path) => write!(out, "unix:{path}"),
+    }
+}
+
+/// Adds why no connection to a place can be opened.
+pub(crate) fn put_unconnected(
+    place: NodePlace<'_>,
+    error: &io::Error,
+    out: &mut String,
+) -> Result<(), AllocError> {
+    out.push_str("refused 93: can't connect to ")?;
+    put_node(place, out)?;
+    if is_nobody(place, error) {
+        return out.push_str(NOBODY);
+    }
+    writeln!(out, ": {error}; see that a node listens there")
+}
+
+/// What is said of who answered in the place of a node.
+fn words_of(peer: Peer) -> &'static str {
+    match peer {
+        Peer::Http => "it speaks HTTP; give the port of a node, with no proxy before it",
+        Peer::Tls => {
+            "it speaks TLS, which this program doesn't; connect by way of stunnel (docs/OPERATING.md)"
+        }
+        Peer::Other => "its bytes are no frame; give the port of a node",
+    }
+}
+
+/// Adds a log's number, or that it isn't known.
+fn put_log(log: Option<u64>, out: &mut String) -> Result<(), AllocError> {
+    match log {
+        Some(log) => write!(out, "log {log}"),
+        None => out.push_str("another log"),
+    }
+}
+
+/// Adds which logs two nodes have, or what was sent and the node that got it.
+fn put_logs(
+    sent: Option<u64>,
+    own: Option<u64>,
+    node: &str,
+    source: &str,
+    out: &mut String,
+) -> Result<(), AllocError> {
+    if source.is_empty() {
+        out.push_str("what was sent")?;
+    } else {
+        out.push_str(source)?;
+    }
+    out.push_str(" has ")?;
+    put_log(sent, out)?;
+    write!(out, " and {node} has ")?;
+    put_log(own, out)?;
+    out.push_str("; a node takes one log alone\n")
+}
+
+/// Adds the line of a fault behind its place: who failed is at an address; the others are those of the node, and of the one
+/// that is copied from, or nothing.
+pub(crate) fn put_fault(
+    fault: &LinkFault,
+    address: &str,
+    node: &str,
+    source: &str,
+    out: &mut String,
+) -> Result<(), AllocError> {
+    match fault {
+        LinkFault::Cut => out.push_str(
+            "refused 1: the connection was cut before the reply; see whether the node still runs\n",
+        ),
+        LinkFault::Late(seconds) => writeln!(
+            out,
+            "refused 91: {address} listens, and sent no reply for {seconds} s; its connections may all be taken, or it is stopped: see its lines, or give --reply-seconds more"
+        ),
+        LinkFault::NoNode(peer, why) => {
+            let number = why.number();
+            let words = words_of(*peer);
+            writeln!(out, "refused {number}: {address} is no node: {words}")
+        }
+        LinkFault::OtherLog { sent, own } => {
+            out.push_str("refused 20: ")?;
+            put_logs(*sent, *own, node, source, out)
+        }
+    }
+}
