@@ -168,6 +168,7 @@ def typed_command(text):
         command = re.sub(rf"\b{word}\b", stands_for, command)
     command = command if command.startswith("bin/") else f"bin/{command}"
     if re.search(" (serve|node) ", command):
+        command = command if " --port " in command else command.replace(" node ", f" node --port {port} ")
         return command, *started_node(command.replace("bin/hkrep", str(PROGRAM)), port)
     if " --log " in command and " < " not in command:
         command += " < examples/first.bin"
@@ -180,7 +181,7 @@ def shown_commands():
     for (text, printed), page in commands_shown.items():
         command, got, status = typed_command(text)
         is_refused = bool(re.search(r"^refused", got, re.M))
-        if status != is_refused or not got or not as_said(got, printed):
+        if status != is_refused or not (got or " --out " in command) or not as_said(got, printed):
             problems.append(f"{page}: {command}: status {status}, printed {got[:200]!r}")
     report(f"each command with hkrep that a page shows runs and prints what the page says ({len(commands_shown)})", problems)
 

@@ -83,7 +83,8 @@ def is_free(port):
 
 
 def with_ports(script):
-    """A script whose ports nobody has."""
+    """A script whose ports nobody has, that of a node which is given none among them."""
+    script = re.sub(r"hkrep node (?!.*--port )", "hkrep node --port 7420 ", script)
     for port in sorted(set(re.findall(r"\b742\d\b", script))):
         if not is_free(int(port)):
             script = re.sub(rf"\b{port}\b", str(free_port()), script)
@@ -120,7 +121,7 @@ def run_in(folder, script):
 def without_nodes(printed):
     """What was printed, without what a node says of its port and its links, which comes when it comes: also inside a line that a command
     writes in pieces."""
-    return re.sub(r"(listening|reading|ended) \d+\n", "", printed)
+    return re.sub(r"(listening|reading|ended) \d+\n|listening on .*\n", "", printed)
 
 
 def problems_of(page, program):

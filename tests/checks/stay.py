@@ -18,7 +18,7 @@ sys.path.append(str(pathlib.Path(__file__).resolve().parents[1] / "lib"))
 import messages as say
 from checks import differ, ended, free_port, guarded, is_built, report
 from messages import E1, TOO_LONG
-from staying import PROGRAM, OwnNode, Staying
+from staying import PROGRAM, OwnNode, Staying, said
 
 PUSHED = say.items(E1, say.mark(1, 1, 1))
 GET = say.ask(1, say.get(1, 5))
@@ -382,8 +382,8 @@ def full_pipes():
                 with say.Link(port, 30) as link:
                     answers.add(link.ask(say.front()))
             took = time.monotonic() - start
-            said, errors = [], []
-            readers = [threading.Thread(target=lambda to=to, pipe=pipe: to.extend(pipe), daemon=True) for to, pipe in ((said, node.stdout), (errors, node.stderr))]
+            lines, errors = [], []
+            readers = [threading.Thread(target=lambda to=to, pipe=pipe: to.extend(said(pipe)), daemon=True) for to, pipe in ((lines, node.stdout), (errors, node.stderr))]
             for reader in readers:
                 reader.start()
             until = time.monotonic() + 20
@@ -399,7 +399,7 @@ def full_pipes():
             for reader in readers:
                 reader.join(10)
         dropped = [int(found[1]) for found in (re.search(r"(\d+) lines were dropped\n", it) for it in errors) if found]
-        got = len(said) + len(errors) - len(dropped) + sum(dropped)
+        got = len(lines) + len(errors) - len(dropped) + sum(dropped)
         pairs = [("the answers", answers, {("front", 0, 0)}), ("lines were dropped", sum(dropped) > 0, True), ("lines, with those that were dropped", got, (MANY_LINKS + 1) * of_each),
                  ("the last connection has its number", any(f"link {MANY_LINKS + first}: opened" in it for it in errors), True), ("in time", took < 60, True)]
         problems += [f"{words[0]}: {problem}" for problem in differ(pairs)]

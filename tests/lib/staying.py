@@ -12,6 +12,11 @@ PROGRAM = pathlib.Path(__file__).resolve().parents[2] / "bin" / "hkrep"
 LIMIT = 30
 
 
+def said(pipe):
+    """The lines of a pipe as they come, but for the one of a program that was built without proofs."""
+    return (line for line in pipe if not line.startswith("unproved: "))
+
+
 class Running:
     """A node, which is ended when the block is left, started behind the words before; limits are of `resource`."""
 
@@ -24,7 +29,7 @@ class Running:
         self.child = subprocess.Popen([*before, str(PROGRAM), *words], stdout=subprocess.PIPE, stderr=subprocess.PIPE, text=True, preexec_fn=restrict)
         self.lines, self.words = queue.Queue(), []
         threading.Thread(target=self._read, daemon=True).start()
-        self.words_thread = threading.Thread(target=lambda: self.words.extend(self.child.stderr), daemon=True)
+        self.words_thread = threading.Thread(target=lambda: self.words.extend(said(self.child.stderr)), daemon=True)
         self.words_thread.start()
 
     def _read(self):
@@ -32,10 +37,10 @@ class Running:
             self.lines.put(line.removesuffix("\n"))
         self.lines.put(None)
 
-    def _failed(self, said):
+    def _failed(self, told):
         self.child.kill()
         self.child.wait()
-        raise RuntimeError(f"the node said {said}")
+        raise RuntimeError(f"the node said {told}")
 
     def line(self, limit=LIMIT):
         """The next line that it prints, or None where it ended."""
@@ -75,11 +80,11 @@ class Staying(Running):
             words += ["--read-port", str(self.read_port), "--read-links", str(reading)]
         super().__init__(words, address, **limits)
         wanted = [f"listening {self.port}"] + ([f"feeding {self.feed_port}"] if feeding else []) + ([f"reading {self.read_port}"] if reading else [])
-        said = []
-        while len(said) < len(wanted) and None not in said:
-            said.append(self.line())
-        if said != wanted:
-            self._failed(said)
+        told = []
+        while len(told) < len(wanted) and None not in told:
+            told.append(self.line())
+        if told != wanted:
+            self._failed(told)
 
 
 class OwnNode(Running):

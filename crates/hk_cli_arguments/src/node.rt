@@ -173,12 +173,15 @@ impl<'a> Sources<'a> {
         if word.is_empty() {
             return;
         }
-        let place = port_or_place(word);
-        match self.places.get_mut(self.count) {
-            Some(free) if place.is_some() => *free = place,
-            _full => self.bad = self.bad.or(Some(word)),
+        let (count, place) = (self.count, port_or_place(word));
+        self.count = count.saturating_add(1);
+        if place.is_none() || count >= MOST_SOURCES {
+            self.bad = self.bad.or(Some(word));
+            return;
         }
-        self.count = self.count.saturating_add(1);
+        if let Some(free) = self.places.get_mut(count) {
+            *free = place;
+        }
     }
 
     /// Adds those that a value names, between commas.
