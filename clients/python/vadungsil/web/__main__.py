@@ -7,7 +7,8 @@ import sys
 import threading
 from typing import Any, List, Optional
 
-from ..link import add_certificates, address_of, certificates_of
+from ..address import ELSE, FORMS, host_and_port, place_of
+from ..link import add_certificates, certificates_of
 from .server import Server
 
 
@@ -21,7 +22,7 @@ def parser() -> argparse.ArgumentParser:
         action="append",
         default=[],
         metavar="ADDRESS",
-        help="a node: HOST:PORT, tls://HOST:PORT, or a port of this machine; may be given again",
+        help=f"a node, {FORMS}; may be given again; {ELSE}",
     )
     add_certificates(it)
     it.add_argument(
@@ -46,24 +47,15 @@ def parser() -> argparse.ArgumentParser:
     return it
 
 
-def listened(word: str) -> Any:
-    """Host and port, which may be 0."""
-    if word.endswith(":0"):
-        return word[:-2] or "127.0.0.1", 0
-    return address_of(word)
-
-
 def main(arguments: Optional[List[str]] = None) -> int:
     words_of = parser()
     words = words_of.parse_args(arguments)
-    if not words.node:
-        words_of.error("name a node: --node HOST:PORT")
     if not words.limit > 0 or not words.every >= 0.1:
         words_of.error("--limit is above 0, --every at least 0.1")
     try:
         server = Server(
-            words.node,
-            listened(words.http),
+            words.node or [place_of()],
+            host_and_port(words.http, 0),
             words.limit,
             words.every,
             words.allow_host,

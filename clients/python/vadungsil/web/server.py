@@ -9,7 +9,8 @@ import threading
 from http.server import ThreadingHTTPServer
 from typing import Any, Dict, Iterable, List, Tuple
 
-from ..link import Address, Certificates
+from ..address import Address, place_of
+from ..link import Certificates
 from .api import Api
 from .handler import Handler
 from .metrics import Family, Sample, text_of
@@ -62,7 +63,7 @@ class Server(ThreadingHTTPServer):
         """
         if not nodes:
             raise ValueError("no nodes")
-        certificates.see(nodes)
+        certificates.see(place_of(it) for it in nodes)
         self._change = threading.Condition()
         self._changes = 0
         self.nodes = watched_by_name(

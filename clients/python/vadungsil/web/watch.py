@@ -8,8 +8,9 @@ import threading
 import time as clock
 from typing import Any, Callable, Dict, List, NamedTuple, Optional, Tuple, TypeVar
 
+from ..address import Address, place_of
 from ..errors import LinkBroken, Refused, TimeLimit, VadungsilError
-from ..link import Address, Certificates
+from ..link import Certificates
 from ..node import Node
 from ..values import LAST_TIME, Fragment, Stream
 from .meters import Meters
@@ -118,7 +119,8 @@ class Watched:
         changed: Optional[Callable[[], None]] = None,
         certificates: Certificates = Certificates(),
     ) -> None:
-        self.node = Node(address, limit, tries=1, wait=0.0, **certificates.of(address)._asdict())
+        place = place_of(address)
+        self.node = Node(place, limit, tries=1, wait=0.0, **certificates.of(place)._asdict())
         self.name, self.limit, self.every = self.node.name, limit, every
         self.meters = Meters()
         self.state = State()
