@@ -5,7 +5,7 @@ import argparse
 import signal
 import sys
 import threading
-from typing import Any, List, Optional
+from typing import Any, Callable, List, Optional, Tuple
 
 from ..address import ELSE, FORMS, host_and_port, place_of
 from ..link import add_certificates, certificates_of
@@ -39,12 +39,42 @@ def parser() -> argparse.ArgumentParser:
         help="a further Host that a request may name; may be given again",
     )
     it.add_argument(
+        "--messages",
+        type=int,
+        choices=(1, 2),
+        default=1,
+        help="2 asks nodes that read version 2 for their operations and their least pinned time too",
+    )
+    for option, most in (("--table", 2**16 - 1), ("--stream", 64)):
+        it.add_argument(
+            option,
+            action="append",
+            default=[],
+            type=named(most),
+            metavar="NUMBER=NAME",
+            help=f"what the page calls a {option[2:]}; may be given again",
+        )
+    it.add_argument(
         "--limit", type=float, default=10.0, metavar="SECONDS", help="the most that a node's reply is waited for (10)"
     )
     it.add_argument(
         "--every", type=float, default=1.0, metavar="SECONDS", help="from one look at the nodes to the next (1)"
     )
     return it
+
+
+def named(most: int) -> Callable[[str], Tuple[int, str]]:
+    """What reads NUMBER=NAME."""
+
+    def read(word: str) -> Tuple[int, str]:
+        number, equals, name = word.partition("=")
+        if not (equals and name and not name.isdigit() and number.isascii() and number.isdigit() and len(number) < 9):
+            raise argparse.ArgumentTypeError(f"{word!r} is no NUMBER=NAME, as 1=orders")
+        if int(number) > most:
+            raise argparse.ArgumentTypeError(f"{word!r}: the number is at most {most}")
+        return int(number), name
+
+    return read
 
 
 def main(arguments: Optional[List[str]] = None) -> int:
@@ -60,6 +90,8 @@ def main(arguments: Optional[List[str]] = None) -> int:
             words.every,
             words.allow_host,
             certificates=certificates_of(words),
+            messages=words.messages,
+            names={"tables": dict(words.table), "streams": dict(words.stream)},
         )
     except ValueError as error:
         words_of.error(str(error))
