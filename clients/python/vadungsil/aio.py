@@ -217,7 +217,12 @@ class AsyncNode(
         place = self.address
         if place.path:
             return await asyncio.open_unix_connection(place.path, limit=2**20)
-        reader, writer = await asyncio.open_connection(place.host, place.port, limit=2**20, ssl=self._security)
+        try:
+            reader, writer = await asyncio.open_connection(place.host, place.port, limit=2**20, ssl=self._security)
+        except OSError as error:
+            if error.errno is None and f"[Errno {errno.ECONNREFUSED}]" in str(error):  # by each address of the name
+                raise ConnectionRefusedError(errno.ECONNREFUSED, os.strerror(errno.ECONNREFUSED)) from error
+            raise
         if self._security is None and is_joined_with_itself(writer.get_extra_info("socket")):
             writer.close()
             raise ConnectionRefusedError(errno.ECONNREFUSED, os.strerror(errno.ECONNREFUSED))
