@@ -14,16 +14,17 @@ _PACKAGE = pathlib.Path(__file__).resolve().parents[2] / "clients" / "python"
 if _PACKAGE.is_dir():
     sys.path.insert(0, str(_PACKAGE))
 
-from vadungsil.errors import Fault, LinkBroken, Refused, TimeLimit  # noqa: E402, F401
+from vadungsil.address import ELSE, FORMS, Address, address_word, place_of, usual  # noqa: E402, F401
+from vadungsil.errors import Fault, LinkBroken, NotANode, Refused, TimeLimit  # noqa: E402, F401
 from vadungsil.items import LEAST_REST, MOST_REST, decode, head_of  # noqa: E402, F401
 from vadungsil.link import (
-    Address,
     Certificates,
     Link,
     add_certificates,
-    address_of,
     certificates_of,
+    no_length,
     security_of,
+    too_late,
 )  # noqa: E402
 from vadungsil.messages import MOST_ITEMS, MOST_MESSAGE, encode_request, framed  # noqa: E402
 from vadungsil.requests import FRONT, FULL, read_done, read_fragment, read_front  # noqa: E402
@@ -34,6 +35,8 @@ if TYPE_CHECKING:
 
 # what the package has that connectors take from here, beside what stands below
 __all__ = [
+    "ELSE",
+    "FORMS",
     "LAST_TIME",
     "LEAST_REST",
     "MOST_REST",
@@ -48,6 +51,8 @@ __all__ = [
     "TimeLimit",
     "decode",
     "head_of",
+    "place_of",
+    "usual",
 ]
 
 # How many bytes of items go into one request: a node takes these in less of its time than longer ones.
@@ -68,7 +73,8 @@ class Feed(Link):
         ahead: int = 4,
         certificates: Certificates = Certificates(),
     ) -> None:
-        super().__init__(address_of(address), limit, 0.0, security_of(address, certificates))
+        place = place_of(address)
+        super().__init__(place, limit, 0.0, security_of(place, certificates))
         self.replies = self.socket.makefile("rb")
         self.ahead, self.waiting = ahead, []  # type: int, List[str]
 
@@ -121,11 +127,15 @@ class Feed(Link):
     def front(self) -> Front:
         return read_front(self._ask(FRONT))
 
-    def streams(self) -> Tuple[Stream, ...]:
-        """How far each stream is, by a delta, which each node answers: Streams wants one that reads messages of version
-        2. It has that at its head, and where its base is the last time of all it has no facts behind: 36 bytes and 24 a
-        stream, 8 for each extra number and 16 for each waiting mark."""
-        return read_fragment(self._ask(encode_request(Delta(LAST_TIME)))).streams
+    def streams(self, log: int) -> Tuple[Stream, ...]:
+        """How far each stream of this log is, by a delta, which each node answers: Streams wants one that reads
+        messages of version 2. It has that at its head, and where its base is the last time of all it has no facts
+        behind: 36 bytes and 24 a stream, 8 for each extra number and 16 for each waiting mark. 20: the node has another
+        log."""
+        head = read_fragment(self._ask(encode_request(Delta(LAST_TIME))))
+        if head.log != log:
+            raise Refused(20, place=f"{self.name} has log {head.log}, and not {log}")
+        return head.streams
 
     def facts_since(self, base: int) -> bytes:
         """The body of the fragment since a base, for another node's `join_facts`; of the full snapshot, where the node
@@ -157,10 +167,12 @@ class Feed(Link):
         self.waiting.append(name)
 
     def _reply(self) -> bytes:
-        size = int.from_bytes(self._exactly(4), "big")
+        head = self._exactly(4)
+        size = int.from_bytes(head, "big")
         if not 2 <= size <= MOST_MESSAGE:
-            raise LinkBroken(f"{self.name}: a reply of length {size}")
+            raise self._no_reply(head)
         rest = self._exactly(size)
+        self.has_replied = True
         del self.waiting[0]
         return rest
 
@@ -175,8 +187,18 @@ class Feed(Link):
             raise LinkBroken(f"{self.name}: the node ended the connection")
         return data
 
+    def _no_reply(self, head: bytes) -> LinkBroken:
+        """The error of four bytes that are no length, with what came behind them."""
+        try:
+            told = no_length(self.name, head + self.replies.peek(200))
+        except OSError:
+            told = no_length(self.name, head)
+        if isinstance(told, NotANode):
+            return LinkBroken(f"{told.place}: {told.meaning}; {told.advice}")
+        return LinkBroken(f"{self.name}: a reply of length {int.from_bytes(head, 'big')}")
+
     def _over_time(self) -> TimeLimit:
-        return TimeLimit(f"{self.name}: no reply within {self.limit} s")
+        return too_late(self.name, self.limit, True, self.has_replied)
 
 
 def pieces_of(data: bytes) -> Iterator[Tuple[bytes, int]]:
@@ -199,15 +221,28 @@ def short(text: str) -> str:
 def add_node_words(words: argparse.ArgumentParser, more: str, **options: Any) -> None:
     """Nodes, and the certificates for those at tls://HOST:PORT: those of the engine are others."""
     words.add_argument(
-        "--node", action="append", metavar="ADDRESS", help=f"PORT, HOST:PORT or tls://HOST:PORT of {more}", **options
+        "--node",
+        action="append",
+        type=address,
+        metavar="ADDRESS",
+        help=f"{FORMS} of {more}",
+        **options,
     )
     add_certificates(words, "node-")
+
+
+def address(word: str) -> str:
+    """The same word, where it is an address."""
+    try:
+        return address_word(word)
+    except ValueError as error:
+        raise argparse.ArgumentTypeError(str(error)) from None
 
 
 def node_certificates(said: argparse.Namespace) -> Certificates:
     """`ValueError` where some are given and no node is one over TLS."""
     found = certificates_of(said)
-    found.see([*said.node, *filter(None, [getattr(said, "source", None)])])
+    found.see(map(place_of, [*said.node, *filter(None, [getattr(said, "source", None)])]))
     return found
 
 

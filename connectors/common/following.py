@@ -8,7 +8,20 @@ from typing import Any, Dict, List, Optional, Tuple, Type
 
 from blocks import Block, Broken, Missing, entries_of
 from engine_log import Behind, EngineLog, Reading
-from feeding import Certificates, Fault, Feed, LinkBroken, Patience, Refused, add_node_words, node_certificates
+from feeding import (
+    ELSE,
+    Certificates,
+    Fault,
+    Feed,
+    LinkBroken,
+    Patience,
+    Refused,
+    add_node_words,
+    address,
+    node_certificates,
+    place_of,
+    usual,
+)
 from vadungsil.node import Node
 
 STATUSES = """status: 0 as far as was asked for; 1 a failure, with --once, or ENGINE refuses; 2 the log forks:
@@ -42,8 +55,8 @@ class Fed:
             self.feed.close()
         self.feed = None
 
-    def learn(self, streams: int) -> None:
-        told = self.link().streams()
+    def learn(self, log: int, streams: int) -> None:
+        told = self.link().streams(log)
         if len(told) != streams:
             raise Broken(4, f"the node has {len(told)} streams, and not {streams}")
         self.prefixes = {stream: it.prefix for stream, it in enumerate(told, 1)}
@@ -79,7 +92,8 @@ class Fed:
             raise refused.at(f"what the node at {source} gives")
 
     def node(self, address: str) -> Node:
-        return Node(address, limit=60, **self.certificates.of(address)._asdict())
+        place = place_of(address)
+        return Node(place, limit=60, **self.certificates.of(place)._asdict())
 
     def join(self, source: str, readable: int) -> str:
         other = Feed(source, certificates=self.certificates)
@@ -118,7 +132,7 @@ class Follower:
         node has joined what another one knows."""
         self.link_all()
         for it in self.linked():
-            it.learn(self.store.streams)
+            it.learn(self.store.log, self.store.streams)
         self.store.see_streams()
         self.see_no_fork()
         for it in self.linked():
@@ -128,7 +142,7 @@ class Follower:
                 if not self.said.source:
                     raise Missing(self.store.engine, lacking)
                 self.patience.say(it.fill(self.said.source))
-                it.learn(self.store.streams)
+                it.learn(self.store.log, self.store.streams)
                 lacking = self.lacking(it)
                 if lacking:
                     raise Missing(self.store.engine, lacking)
@@ -308,12 +322,12 @@ def add_follow_words(words: argparse.ArgumentParser, engine: str) -> None:
         words,
         (
             "a node's first port; as often as wanted: each block is then read once for all of them, and the slowest"
-            " holds the others back"
+            f" holds the others back; {ELSE}"
         ),
-        required=True,
+        default=[],
     )
     words.add_argument(
-        "--from", dest="source", metavar="ADDRESS", help=f"another node, for what {engine} no longer has"
+        "--from", dest="source", type=address, metavar="ADDRESS", help=f"another node, for what {engine} no longer has"
     )
     words.add_argument("--only", type=streams_of, metavar="STREAMS", help="of these streams alone, as 1,2")
     words.add_argument(
@@ -339,6 +353,7 @@ def add_follow_words(words: argparse.ArgumentParser, engine: str) -> None:
 
 
 def see_follow_words(said: argparse.Namespace, words: argparse.ArgumentParser) -> None:
+    said.node = said.node or [usual()]
     if said.only and said.only[-1] > said.streams:
         words.error(f"stream {said.only[-1]} of {said.streams}")
     if said.batch < 1 or said.ahead < 1 or said.block < 1:

@@ -17,12 +17,12 @@ class Asked:
         self.address, self.certificates = address, certificates
         self.feed: Optional[Feed] = None
 
-    def told(self) -> Tuple[Tuple[Stream, ...], str]:
-        """Its streams, and its front as a line."""
+    def told(self, log: int) -> Tuple[Tuple[Stream, ...], str]:
+        """Its streams, and its front as a line. 20: it has another log."""
         try:
             if self.feed is None:
                 self.feed = Feed(self.address, limit=20, certificates=self.certificates)
-            return self.feed.streams(), self.feed.front().line()
+            return self.feed.streams(log), self.feed.front().line()
         except BaseException:
             if self.feed is not None:
                 self.feed.close()
@@ -59,7 +59,7 @@ def lines_of(store: EngineLog, nodes: List[Asked]) -> Tuple[List[str], int]:
         return lines + table_of(["stream", "first", "last", "marked"], there), code
     for node in nodes:
         try:
-            streams, front = node.told()
+            streams, front = node.told(store.log)
         except (LinkBroken, Refused) as error:
             lines.append(f"node {node.address}: {error}")
             code = 1

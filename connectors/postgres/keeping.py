@@ -166,7 +166,7 @@ class KeptByNode(Kept):
         self.size = 0
 
     def frames(self) -> Iterator[bytes]:
-        streams = self.feed.streams()
+        streams = self.feed.streams(self.log)
         if len(streams) != 1 or streams[0].extra or streams[0].waiting:
             raise Broken(
                 BAD_NODE,

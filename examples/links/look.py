@@ -20,7 +20,7 @@ sys.dont_write_bytecode = True
 ROOT = pathlib.Path(__file__).resolve().parent.parent.parent
 sys.path.insert(0, str(ROOT / "clients" / "python"))
 from vadungsil import LogWriter, Node, encode
-from vadungsil.link import address_of
+from vadungsil.address import host_and_port
 from vadungsil.web import Server
 from vadungsil.web.server import serve_beside
 
@@ -115,9 +115,8 @@ def main():
     port = free_port()
     child = node_on(port)
     try:
-        host, _, http = words.http.rpartition(":")
         try:
-            server = Server([port], (host, 0) if http == "0" else address_of(words.http))
+            server = Server([port], host_and_port(words.http, 0))
         except OSError as error:
             raise SystemExit(f"can't listen on {words.http}: {error}; name another by --http") from error
         serve_beside(server)

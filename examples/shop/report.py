@@ -14,6 +14,7 @@ from typing import Dict, List, Tuple
 
 import servers      # noqa: F401: it finds the package
 from vadungsil import Node
+from vadungsil.address import FORMS
 from vadungsil.postgres import Database, moment
 
 Branches = Dict[int, Tuple[int, int]]
@@ -38,7 +39,7 @@ def moment_for(nodes: List[Node], said: argparse.Namespace) -> int:
 
 def main() -> int:
     words = argparse.ArgumentParser(description=__doc__, formatter_class=argparse.RawDescriptionHelpFormatter)
-    words.add_argument("--node", action="append", required=True, help="PORT or HOST:PORT of a node, as often as wanted")
+    words.add_argument("--node", action="append", required=True, help=f"a node, as often as wanted: {FORMS}")
     words.add_argument("--clock", help="a time of the clock with its zone")
     words.add_argument("--lsn", help="a place in the write-ahead log")
     said = words.parse_args()

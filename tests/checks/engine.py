@@ -140,7 +140,7 @@ class Bench(journeys.Bench):
     def taken(self, name):
         feed = self.feed(name)
         try:
-            return sum(stream.prefix for stream in feed.streams())
+            return sum(stream.prefix for stream in feed.streams(7))
         finally:
             feed.close()
 

@@ -17,6 +17,7 @@ from checks import differ, guarded, report, timed
 from web_parts import FRAMES, LAST, LIMIT, STREAMS, Served, changes_of, fed, log_of, nodes, quiet_port, rows_at, va, waited, web_of
 
 ALL = "kind=range&table=1&low=0&high=18446744073709551615"
+HEX = f"{ALL}&view=hex"
 ROWS = """return [...document.querySelectorAll('#answers article')].map(card => [...card.querySelectorAll('tbody tr')].map(
     line => [...line.children].map(cell => cell.textContent)))"""
 CHANGES = "return [...document.querySelectorAll('#changes li')].map(line => [line.querySelector('b').textContent, line.textContent])"
@@ -84,7 +85,7 @@ def browser_slider(driver):
     """Moving the slider shows the rows that the reference has at that time, of two nodes that agree; the address keeps question and time."""
     problems = []
     with nodes(2) as two, web_of([it.port for it in two]) as web:
-        page = Page(driver, web, ALL)
+        page = Page(driver, web, HEX)
         page.shows(LAST)
         problems += differ([("at first", page.rows(), [as_texts(rows_at(LAST))] * 2)])
         slider = page.it("slider")
@@ -139,7 +140,7 @@ def browser_away(driver):
         fed(port)
         name = f"127.0.0.1:{port}"
         with web_of([node.port, port]) as web:
-            page = Page(driver, web, f"{ALL}&at=9")
+            page = Page(driver, web, f"{HEX}&at=9")
             page.shows(9)
             waited(lambda: "equal" in page.text("told"), 10)
             other.child.kill()
@@ -173,7 +174,7 @@ def browser_changes(driver):
     """What came, went and became between two moments; the other questions; a refusal in words."""
     problems = []
     with nodes(1) as (node,), web_of([node.port]) as web:
-        page = Page(driver, web, f"{ALL}&at=30&with=10")
+        page = Page(driver, web, f"{HEX}&at=30&with=10")
         waited(lambda: page.driver.execute_script(CHANGES), 10)
         found = [(int(line.split("key ")[1].split(" ")[0]), what) for what, line in driver.execute_script(CHANGES)]
         problems += differ([("changes", found, changes_of(10, 30)), ("between", "From time 10 to time 30" in page.text("changes-told"), True)])
@@ -197,7 +198,7 @@ def browser_more(driver):
     problems, writer = [], va.LogWriter(7, 1)
     entries = [writer.commit([(1, key, 0, b"x") for key in range(low, low + 600)]) for low in (0, 600)]
     with nodes(1, [va.encode(it) for it in [*entries, *writer.marks()]], 1) as (node,), web_of([node.port], limit=LIMIT) as web:
-        page = Page(driver, web, ALL)
+        page = Page(driver, web, HEX)
         page.shows(2)
         rows = page.rows()[0]
         problems += differ([("the first", (len(rows), rows[0][0], rows[-1][0]), (1000, "0", "999"))])
@@ -212,7 +213,7 @@ def browser_live(driver):
     """The page follows the resolved time; its event stream ends while the tab is hidden; a web server that goes away is told."""
     problems = []
     with nodes(1, FRAMES[:20]) as (node,), web_of([node.port]) as web:
-        page = Page(driver, web, ALL)
+        page = Page(driver, web, HEX)
         mark = web.node()["readable"]
         page.shows(mark)
         fed(node.port)
@@ -237,7 +238,7 @@ def browser_wide(driver):
     writer = va.LogWriter(7, 1)
     entries = [writer.commit([(1, 2 ** 64 - 1, 2 ** 32 - 1, b"%d" % at)], time=at) for at in (1, 2 ** 53 + 1, last)]
     with nodes(1, [va.encode(it) for it in [*entries, *writer.marks()]], 1) as (node,), web_of([node.port]) as web:
-        page = Page(driver, web, ALL)
+        page = Page(driver, web, HEX)
         page.shows(last)
         row = lambda at: [[["18446744073709551615", "4294967295", (b"%d" % at).hex()]]]
         problems += differ([("at the last", page.rows(), row(last))])
@@ -256,7 +257,132 @@ def browser_wide(driver):
     report("times and keys up to their greatest", problems)
 
 
-CHECKS = (browser_slider, browser_text, browser_away, browser_unequal, browser_changes, browser_wide, browser_more, browser_live)
+# ---------------------------------------------------------------- the overview, names, widths
+
+READ = {b"\xff\x00\xfe": "ff00fe", b"": "empty"}
+LONG = '{"id":18446744073709551615,"in":[%s]}' % ",".join("1" * 30)
+MORE_BODIES = ((b"[1]", "[1]"), (LONG.encode(), '{\n  "id": 18446744073709551615,\n  "in": [\n%s\n  ]\n}' % ",\n".join(["    1"] * 30)), ((LONG + "}").encode(), LONG + "}"), (b"{", "{"), (b"12", "12"), ("Zo\u00eb \u6771".encode(), "Zo\u00eb \u6771"), (b"a\nb", "610a62"), ("a\u202eb".encode(), "61e280ae62"),
+               ('["\u202e"]'.encode(), '["\u202e"]'.encode().hex()), (b'{\n "a":1}', '{\n  "a": 1\n}'), (b"\xc3", "c3"))
+OVERVIEW = "return [...document.querySelectorAll('#overview tbody tr')].map(line => [...line.children].map(cell => [cell.dataset.name ?? 'node', cell.textContent]))"
+# of each text that is shown: how high its letters are, in points of the window
+SIZES = """const found = []; const walk = document.createTreeWalker(document.body, NodeFilter.SHOW_TEXT);
+    while (walk.nextNode()) {
+        const text = walk.currentNode, of = text.parentElement;
+        if (text.data.trim() === '' || of.closest('title, script, noscript, [hidden], option') || !of.getClientRects().length) continue;
+        const svg = of.closest('svg'), scale = svg && svg.viewBox.baseVal.width ? svg.getBoundingClientRect().width / svg.viewBox.baseVal.width : 1;
+        found.push([parseFloat(getComputedStyle(of).fontSize) * scale, text.data.trim().slice(0, 30)]);
+    }
+    return found"""
+# texts of drawings that go beyond them
+BEYOND = """return [...document.querySelectorAll('#nodes svg')].flatMap(svg => [...svg.querySelectorAll('text')].filter(text => {
+    const box = text.getBoundingClientRect(), all = svg.getBoundingClientRect(); return box.left < all.left - 1 || box.right > all.right + 1; }).map(text => text.textContent))"""
+
+
+def browser_read(driver):
+    """By default a body is JSON in lines where it is a long object or list, text where it is plain text, else hexadecimal."""
+    problems, writer = [], va.LogWriter(7, 1)
+    entry = writer.commit([(1, key, 0, body) for key, (body, _) in enumerate(MORE_BODIES)])
+    with nodes(1) as (node,), nodes(1, [va.encode(it) for it in [entry, *writer.marks()]], 1) as (other,):
+        with web_of([node.port]) as web:
+            page = Page(driver, web, f"{ALL}&at=20")
+            page.shows(20)
+            problems += differ([("rows", page.rows(), [[[str(key), str(tag), READ.get(body, body.decode("latin-1"))] for key, tag, body in rows_at(20)]])])
+        with web_of([other.port]) as web:
+            page = Page(driver, web, ALL)
+            page.shows(1)
+            problems += differ([(f"{body}", row[2], wanted) for row, (body, wanted) in zip(page.rows()[0], MORE_BODIES)] + [("rows", len(page.rows()[0]), len(MORE_BODIES))])
+    report("bodies as text and JSON where they are", problems)
+
+
+def overview_of(driver):
+    return [dict(line) for line in driver.execute_script(OVERVIEW)]
+
+
+def browser_overview(driver):
+    """A row a node: its times, how far it is behind, operations and pins, and a line of its last lags; names; another log."""
+    problems, writer = [], va.LogWriter(7, 2)
+    items = [writer.commit([(1, at, 0, b"%d" % at)], stream=at % 2 + 1) for at in range(1, 7)]
+    marks = writer.marks()
+    with contextlib.ExitStack() as stack:
+        new, old = [stack.enter_context(Served(8, streams=2, words=("--messages", "2"))) for _ in range(2)]
+        fed(new.port, [va.encode(it) for it in [*items, *marks]])
+        fed(old.port, [va.encode(it) for it in [*items[:3], va.Mark(7, 1, 1, 3), va.Mark(7, 2, 2, 3)]])
+        hold = stack.enter_context(va.Node(new.port)).hold(2)
+        web = stack.enter_context(web_of([new.port, old.port], messages=2, every=0.2, names={"tables": {1: "orders"}, "streams": {1: "east", 2: "a very long name"}}))
+        page = Page(driver, web, ALL)
+        waited(lambda: overview_of(driver) and len(web.node(1)["lags"]) > 3, 10)
+        first, second = [{name: text for name, text in line.items() if name not in ("seen up for", "lag lately")} for line in overview_of(driver)]
+        wanted = lambda port, readable, lag, operations: {"node": f"127.0.0.1:{port}", "state": "up", "resolved time": str(readable), "oldest readable": "0", "lag": lag, "operations": str(operations)}
+        problems += differ([("the newest", first, {**wanted(new.port, 6, "none", 3), "least pinned": "2"}),
+                            ("the one behind", second, {**wanted(old.port, 3, "3 commits, lacks 3 entries of others", 2), "least pinned": ""}),
+                            ("why", f"127.0.0.1:{old.port} can read no further; the newest is 6" in page.text("window"), True),
+                            ("the lags", [set(web.node(place)["lags"]) for place in (0, 1)], [{"0"}, {"3"}]),
+                            ("drawn", driver.execute_script("return [...document.querySelectorAll('.spark')].map(it => [it.getAttribute('aria-label').split(', ')[1], it.querySelectorAll('polyline').length])"),
+                             [["0 commits at most", 1], ["3 commits at most", 1]]),
+                            ("names of streams", driver.execute_script("return [...document.querySelectorAll('#nodes article:first-child li')].map(it => it.textContent.split(':')[0])"), ["east", "a very long name"]),
+                            ("the legend", len(driver.find_elements(By.CSS_SELECTOR, ".legend .mark")), 5), ("one log", page.it("logs").is_displayed(), False)])
+        page.write("table", "orders")
+        waited(lambda: "table 1 (orders)" in page.text("told"), 10)
+        page.write("table", "orderz")
+        problems += differ([("told", (page.text("wrong"), "table=1&" in driver.current_url), (
+            'Not asked: the table is a number from 0 to 65535, or a name: orders, and not "orderz". Below is the answer to what was asked before.', True))])
+        page.write("table", "1")
+        page.write("low", 9)
+        page.write("high", 3)
+        problems += differ([("upside down", "the first key, 9, is above the last, 3" in page.text("wrong"), True)])
+        page.write("high", 9)
+        problems += differ([("and mended", page.it("wrong").is_displayed(), False)])
+        hold.release()
+    with nodes(1) as (node,), Served(8, log=9) as other, web_of([node.port, other.port]) as web:
+        page = Page(driver, web, ALL)
+        waited(lambda: page.it("logs").is_displayed(), 10)
+        problems += differ([("of two logs", f"127.0.0.1:{node.port} has log 7, 127.0.0.1:{other.port} has log 9" in page.text("logs"), True)])
+    report("the overview, names, and what is wrong in a field", problems)
+
+
+def browser_later(driver):
+    """A time that can't be read yet is asked again once it can."""
+    with nodes(1, FRAMES[:20]) as (node,), web_of([node.port]) as web:
+        page = Page(driver, web, f"{HEX}&at={LAST}")
+        waited(lambda: "refused 26" in page.text("answers"), 10)
+        fed(node.port)
+        waited(lambda: page.rows() and page.rows()[0], 10)
+        report("a time that can be read later", differ([("rows", page.rows(), [as_texts(rows_at(LAST))])]))
+
+
+def browser_clock(driver):
+    """Where times are a clock's the lag is in seconds, and the time in words."""
+    at, writer, problems = 1_795_698_000_000_000, va.LogWriter(7, 1), []
+    items = [writer.commit([(1, 1, 0, b"%d" % it)], time=it) for it in (at, at + 2_500_000)]
+    with contextlib.ExitStack() as stack:
+        new, old = [stack.enter_context(Served(8)) for _ in range(2)]
+        fed(new.port, [va.encode(it) for it in [*items, *writer.marks()]])
+        fed(old.port, [va.encode(it) for it in [items[0], va.Mark(7, 1, 1, at)]])
+        web = stack.enter_context(web_of([new.port, old.port]))
+        Page(driver, web, ALL)
+        waited(lambda: len(overview_of(driver)) == 2 and overview_of(driver)[1]["lag"], 10)
+        # November 26 of 2026, 13:00:00, as `date -u -d @1795698000` has it
+        problems += differ([("in seconds", overview_of(driver)[1]["lag"], "2.5 s, lacks 1 entry of others"), ("in words", overview_of(driver)[1]["resolved time"], f"{at} 2026-11-26 13:00:00 UTC")])
+    report("the lag of a log by the clock is in seconds", problems)
+
+
+def browser_widths(driver):
+    """At 1180 and at 390 points no text is smaller than 11, none of a drawing goes beyond it, and nothing scrolls sideways."""
+    problems, late = [], [it for it in story()]
+    with nodes(2, late, 3) as two, web_of([it.port for it in two], names={"tables": {}, "streams": {2: "the second one of all"}}) as web:
+        for width in (1180, 390):
+            driver.execute_cdp_cmd("Emulation.setDeviceMetricsOverride", {"width": width, "height": 844, "deviceScaleFactor": 1, "mobile": False})
+            page = Page(driver, web, "kind=range&table=1&low=100&high=199&at=30&with=24")
+            page.shows(30)
+            waited(lambda: driver.execute_script(CHANGES) and driver.execute_script("return document.querySelectorAll('#nodes svg').length") == 2, 10)
+            sizes = driver.execute_script(SIZES)
+            problems += differ([(f"small at {width}", [it for it in sizes if it[0] < 11], []), (f"texts at {width}", len(sizes) > 60, True), (f"beyond at {width}", driver.execute_script(BEYOND), []),
+                                (f"sideways at {width}", driver.execute_script("return document.documentElement.scrollWidth - innerWidth") <= 0, True)])
+        driver.execute_cdp_cmd("Emulation.clearDeviceMetricsOverride", {})
+    report("the page at 1180 and at 390 points", problems)
+
+
+CHECKS = (browser_slider, browser_text, browser_read, browser_away, browser_unequal, browser_changes, browser_wide, browser_more, browser_live, browser_later, browser_overview, browser_clock, browser_widths)
 
 
 def run(words):
@@ -291,14 +417,20 @@ def story():
 
 def picture_of(driver):
     """The page of two nodes, one stream of which holds both back, as PNG."""
-    with nodes(2, story(), 3) as two, web_of([it.port for it in two]) as web:
-        page = Page(driver, web, "kind=range&table=1&low=100&high=199&at=30&with=24&view=text")
+    items = story()
+    with nodes(2, items[:30], 3) as two, web_of([it.port for it in two], every=0.1) as web:
+        page = Page(driver, web, "kind=range&table=1&low=100&high=199&at=30&with=24")
+        waited(lambda: len(web.node(1)["lags"]) > 20, 10)
+        with va.Node(two[0].port) as one, va.Node(two[1].port) as other:
+            one.items(items)
+            time.sleep(1.5)
+            other.items(items)
         page.shows(30)
-        waited(lambda: driver.execute_script(CHANGES), 10)
-        time.sleep(0.3)
+        waited(lambda: driver.execute_script(CHANGES) and len(web.node(1)["lags"]) > 80, 30)
+        time.sleep(0.5)
         return driver.get_screenshot_as_png()
 
 
 def write_page(path):
-    with chromium("1010,1130") as driver:
+    with chromium("1010,1600") as driver:
         path.write_bytes(picture_of(driver))

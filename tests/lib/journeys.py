@@ -151,7 +151,7 @@ def demonstration(*words):
 
 
 def taken_of(feed, wanted):
-    taken = sum(stream.prefix for stream in feed.streams())
+    taken = sum(stream.prefix for stream in feed.streams(7))
     return taken if taken >= wanted else None
 
 

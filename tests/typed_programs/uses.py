@@ -6,7 +6,9 @@ from typing import Iterator, List, Optional, Tuple, Union
 
 import vadungsil
 from vadungsil import (AsyncNode, Count, Entry, Feeder, Fragment, Front, Get, Hold, Item, KeyRow, LinkBroken, Later, LogWriter, Mark, Member, NameCollision,
-                       Names, Node, Nodes, NotAName, Operations, Range, Refused, Row, Stream, export, later)
+                       Names, Node, Nodes, NotANode, NotAName, Operations, Range, Refused, Row, Stream, export, later)
+from vadungsil.address import Place, place_of
+from vadungsil.bodies import shown, table_of
 from vadungsil.embedded import Replica
 from vadungsil.web import Server
 
@@ -110,6 +112,8 @@ async def side_by_side() -> Tuple[Optional[Row], int]:
 def refused(node: Node) -> Union[int, str]:
     try:
         node.get(1, 5, at=9)
+    except NotANode as stranger:
+        return f"{stranger.what}, {stranger.hint}"
     except Refused as error:
         number: int = error.number
         return number + sum(error.values)
@@ -122,5 +126,7 @@ def refused(node: Node) -> Union[int, str]:
 
 
 def beside() -> Optional[Row]:
-    print(Server([7421], ("127.0.0.1", 0)).address)
+    print(Server([7421], ("127.0.0.1", 0), messages=2, names={"tables": {1: "orders"}}).address)
+    places: List[Place] = [Node().address, AsyncNode().address, Node("unix:/run/node.sock").address, place_of("[::1]:7420")]
+    print([it.name for it in places], shown(b"A"), table_of(Node().range(1)))
     return Replica(7, 1).get(1, 5)

@@ -1,7 +1,7 @@
 """Reads from nodes of Vadungsil, and writes logs for them: docs/PYTHON.md. Standard library only."""
 from . import later
 from .aio import AsyncMoment, AsyncNode
-from .errors import Fault, LinkBroken, NotResumable, Refused, TimeLimit, VadungsilError
+from .errors import Fault, LinkBroken, NotANode, NotResumable, Refused, TimeLimit, VadungsilError
 from .items import Feeder, Head, decode, encode, head_of
 from .members import Member
 from .messages import ReplyFeeder, RequestFeeder, decode_reply, decode_request, encode_reply, encode_request
@@ -86,6 +86,7 @@ __all__ = [
     "Nodes",
     "NodesMoment",
     "NotAName",
+    "NotANode",
     "NotResumable",
     "Number",
     "One",

@@ -8,13 +8,23 @@ import os
 import socket
 import ssl
 from collections import deque
-from typing import Any, Awaitable, Deque, List, Optional, Tuple
+from typing import Any, Awaitable, Deque, Iterable, List, Optional, Tuple
 
-from .errors import Fault, LinkBroken, TimeLimit
-from .link import PAUSE, Address, Certificates, address_of, is_joined_with_itself, security_of
+from .address import Address, place_of
+from .errors import Fault, LinkBroken, Refused, TimeLimit, VadungsilError
+from .link import (
+    NOBODY,
+    PAUSE,
+    Certificates,
+    is_joined_with_itself,
+    no_connection,
+    no_length,
+    security_of,
+    too_late,
+)
 from .messages import MOST_MESSAGE
 from .node import _ends_link
-from .requests import Moment, Read, Requests, ask_frame, feeding, version_seen
+from .requests import Moment, Read, Requests, ask_frame, feeding, logs_of, other_log, read_done, version_seen
 from .values import (
     LAST_TIME,
     Fragment,
@@ -37,7 +47,7 @@ class _AsyncLink:
     def __init__(self, name: str, reader: asyncio.StreamReader, writer: asyncio.StreamWriter) -> None:
         self.name, self.reader, self.writer = name, reader, writer
         self.waiting: Deque["asyncio.Future[bytes]"] = deque()
-        self.is_open = True
+        self.is_open, self.has_replied = True, False
         self.task = asyncio.ensure_future(self._take())
 
     async def _take(self) -> None:
@@ -48,10 +58,12 @@ class _AsyncLink:
             error = LinkBroken(f"{self.name}: the connection ended, and our certificate may not be taken there")
         try:
             while True:
-                size = int.from_bytes(await self.reader.readexactly(4), "big")
+                head = await self.reader.readexactly(4)
+                size = int.from_bytes(head, "big")
                 if not 2 <= size <= MOST_MESSAGE:
-                    raise Fault(2 if size > MOST_MESSAGE else 10, place=f"{self.name}, length {size} of a reply")
+                    raise no_length(self.name, head + await self._said())
                 rest = await self.reader.readexactly(size)
+                self.has_replied = True
                 if not self.waiting:
                     raise Fault(4, place=f"{self.name}, a reply that nobody asked for")
                 future = self.waiting.popleft()
@@ -68,6 +80,12 @@ class _AsyncLink:
         except (OSError, asyncio.IncompleteReadError, asyncio.CancelledError):
             pass
         self.close(error)
+
+    async def _said(self) -> bytes:
+        """What comes behind four bytes that are no node's, to show it."""
+        with contextlib.suppress(OSError, asyncio.TimeoutError):
+            return await asyncio.wait_for(self.reader.read(200), 1.0)
+        return b""
 
     def close(self, error: Optional[Exception] = None) -> None:
         self.is_open = False
@@ -100,7 +118,7 @@ class AsyncNode(
 
     def __init__(
         self,
-        address: Address,
+        address: Optional[Address] = None,
         limit: Optional[float] = 20.0,
         tries: int = 2,
         wait: float = 3.0,
@@ -110,17 +128,17 @@ class AsyncNode(
         key: Optional[str] = None,
         messages: Optional[int] = None,
     ) -> None:
-        certificates = Certificates(ca, cert, key)
-        certificates.see([address])
+        certificates, self.address = Certificates(ca, cert, key), place_of(address)
+        certificates.see([self.address])
         self._told = self._version = None if messages is None else number_in(messages, 1, 2, "messages")
-        self.address, self.limit, self.tries, self.wait = address_of(address), limit, max(tries, 1), wait
-        self._security = security_of(address, certificates)
+        self.limit, self.tries, self.wait = limit, max(tries, 1), wait
+        self._security = security_of(self.address, certificates)
         self._link: Optional[_AsyncLink] = None
         self._opening: Optional[asyncio.Lock] = None
 
     @property
     def name(self) -> str:
-        return f"{self.address[0]}:{self.address[1]}"
+        return self.address.name
 
     async def _call(self, request: bytes, read: Read) -> Any:
         for left in range(self.tries - 1, -1, -1):
@@ -138,10 +156,23 @@ class AsyncNode(
         version = self._version or 1
         try:
             return await self._call(*feeding(body, version))
-        except Fault as fault:
-            if (fault.number, version) == (3, 2):  # it may have been started anew, and reads version 1 alone
+        except Refused as refused:
+            if (refused.number, version) == (3, 2):  # it may have been started anew, and reads version 1 alone
                 self._version = self._told
-            raise
+            raise await self._with_logs(refused, logs_of(body))
+
+    async def _give(self, fragment: Fragment, request: bytes) -> Any:
+        try:
+            return await self._call(request, read_done)
+        except Refused as refused:
+            raise await self._with_logs(refused, [fragment.log])
+
+    async def _with_logs(self, refused: Refused, given: Iterable[int]) -> Refused:
+        """The same; where it is 20, with both logs: the node is asked for its own."""
+        if refused.number == 20:
+            with contextlib.suppress(VadungsilError):
+                refused.place = other_log(self.name, (await self.delta(LAST_TIME)).log, given)
+        return refused
 
     async def _read(self, at: Optional[int], query: Query, read: Read) -> Any:
         time = (await self.front()).readable if at is None else at
@@ -158,10 +189,11 @@ class AsyncNode(
         except asyncio.TimeoutError:
             if link is not None:
                 link.close()
-            raise TimeLimit(f"{self.name}: no reply within {self.limit} s") from None
+            raise too_late(self.name, self.limit, link is not None, link is not None and link.has_replied) from None
         except OSError as error:
-            if link is not None:
-                link.close()
+            if link is None:
+                raise no_connection(self.name, error) from error
+            link.close()
             raise LinkBroken(f"{self.name}: {error}") from error
 
     @staticmethod
@@ -175,24 +207,34 @@ class AsyncNode(
         until, self.wait = asyncio.get_running_loop().time() + self.wait, 0.0
         while True:
             try:
-                reader, writer = await asyncio.open_connection(*self.address, limit=2**20, ssl=self._security)
-                if self._security is not None or not is_joined_with_itself(writer.get_extra_info("socket")):
-                    return reader, writer
-                writer.close()
-                raise ConnectionRefusedError(errno.ECONNREFUSED, os.strerror(errno.ECONNREFUSED))
-            except ConnectionRefusedError:
+                return await self._connected_once()
+            except NOBODY:
                 if asyncio.get_running_loop().time() >= until:
                     raise
                 await asyncio.sleep(PAUSE)
+
+    async def _connected_once(self) -> Tuple[asyncio.StreamReader, asyncio.StreamWriter]:
+        place = self.address
+        if place.path:
+            return await asyncio.open_unix_connection(place.path, limit=2**20)
+        try:
+            reader, writer = await asyncio.open_connection(place.host, place.port, limit=2**20, ssl=self._security)
+        except OSError as error:
+            if error.errno is None and f"[Errno {errno.ECONNREFUSED}]" in str(error):  # by each address of the name
+                raise ConnectionRefusedError(errno.ECONNREFUSED, os.strerror(errno.ECONNREFUSED)) from error
+            raise
+        if self._security is None and is_joined_with_itself(writer.get_extra_info("socket")):
+            writer.close()
+            raise ConnectionRefusedError(errno.ECONNREFUSED, os.strerror(errno.ECONNREFUSED))
+        writer.get_extra_info("socket").setsockopt(socket.IPPROTO_TCP, socket.TCP_NODELAY, 1)
+        return reader, writer
 
     async def _opened(self) -> _AsyncLink:
         if self._opening is None:
             self._opening = asyncio.Lock()
         async with self._opening:
             if self._link is None or not self._link.is_open:
-                reader, writer = await self._connected()
-                writer.get_extra_info("socket").setsockopt(socket.IPPROTO_TCP, socket.TCP_NODELAY, 1)
-                self._link = _AsyncLink(self.name, reader, writer)
+                self._link = _AsyncLink(self.name, *await self._connected())
             return self._link
 
     async def streams(self) -> Tuple[Stream, ...]:

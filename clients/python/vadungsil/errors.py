@@ -80,6 +80,26 @@ class Fault(Refused):
     """Malformed input, 1 to 10: bytes that are no frame, or a value that has none."""
 
 
+class NotANode(Fault):
+    """What answers at an address is no node: `what` says what it seems to be. `number` is 2 or 10, that of its first
+    four bytes, taken for the length of a reply."""
+
+    def __init__(self, number: int, what: str, hint: str, place: str = "") -> None:
+        super().__init__(number, place=place)
+        self.what, self.hint = what, hint
+
+    @property
+    def meaning(self) -> str:
+        return f"no node answers there, but {self.what}"
+
+    @property
+    def advice(self) -> str:
+        return self.hint
+
+    def __reduce__(self) -> Tuple[Any, ...]:
+        return type(self), (self.number, self.what, self.hint, self.place)
+
+
 class LinkBroken(VadungsilError):
     """A connection could not be opened, or ended where a reply was awaited; whether the request was made isn't
     known."""

@@ -48,18 +48,26 @@ def rows_of(moment: Any, table: int) -> Iterator[List[KeyRow]]:
 
 
 class Progress:
-    """A bar on standard error, where that is a terminal."""
+    """How much is done, on standard error where that is a terminal: a bar, or a number where the total isn't known."""
 
-    def __init__(self, total: int, out: TextIO = sys.stderr) -> None:
-        self.total, self.done, self.out, self.is_shown, self.last = total, 0, out, out.isatty(), 0.0
+    def __init__(self, total: Optional[int], noun: str = "rows", out: Optional[TextIO] = None) -> None:
+        self.total, self.noun, self.done, self.last = total, noun, 0, 0.0
+        self.out = sys.stderr if out is None else out
+        self.is_shown = self.out.isatty()
 
     def add(self, count: int) -> None:
         self.done += count
-        if self.is_shown and (clock.monotonic() - self.last > 0.1 or self.done >= self.total):
+        is_all = self.total is not None and self.done >= self.total
+        if self.is_shown and (clock.monotonic() - self.last > 0.1 or is_all):
             self.last = clock.monotonic()
-            share = self.done / self.total if self.total else 1.0
-            self.out.write(f"\r[{'#' * int(30 * share):<30}] {self.done} of {self.total} rows")
+            self.out.write(f"\r{self._line()}")
             self.out.flush()
+
+    def _line(self) -> str:
+        if self.total is None:
+            return f"{self.done} {self.noun}"
+        share = self.done / self.total if self.total else 1.0
+        return f"[{'#' * int(30 * share):<30}] {self.done} of {self.total} {self.noun}"
 
     def end(self) -> None:
         if self.is_shown:

@@ -8,13 +8,11 @@ import select
 import socket
 import ssl
 import time
-from typing import Iterable, List, NamedTuple, Optional, Tuple, Union
+from typing import Iterable, List, NamedTuple, Optional, Union
 
-from .errors import Fault, LinkBroken, TimeLimit
+from .address import TLS, Place
+from .errors import Fault, LinkBroken, NotANode, TimeLimit
 from .messages import MOST_MESSAGE
-
-Address = Union[int, str, Tuple[str, int]]
-TLS = "tls://"
 
 
 class Certificates(NamedTuple):
@@ -35,13 +33,13 @@ class Certificates(NamedTuple):
             raise ValueError(f"certificates of {', '.join(filter(None, self))}: {error}") from error
         return context
 
-    def of(self, address: Address) -> "Certificates":
-        """These, for an address over TLS; none for another."""
-        return self if is_secured(address) else Certificates()
+    def of(self, place: Place) -> "Certificates":
+        """These, for a node over TLS; none for another."""
+        return self if place.is_secured else Certificates()
 
-    def see(self, addresses: Iterable[Address]) -> None:
-        """`ValueError` where there are some, and no address is one over TLS: then nothing would be encrypted."""
-        if any(self) and not any(map(is_secured, addresses)):
+    def see(self, places: Iterable[Place]) -> None:
+        """`ValueError` where there are some, and no node is one over TLS: then nothing would be encrypted."""
+        if any(self) and not any(place.is_secured for place in places):
             raise ValueError(f"certificates are for addresses that begin with {TLS}")
 
 
@@ -61,29 +59,54 @@ def certificates_of(words: argparse.Namespace) -> Certificates:
     return Certificates(*(getattr(words, f"node_{name}", None) for name in ("cacert", "cert", "key")))
 
 
-def is_secured(address: Address) -> bool:
-    """Whether a connection to it is one over TLS."""
-    return isinstance(address, str) and address.startswith(TLS)
+def security_of(place: Place, certificates: Certificates) -> Optional[ssl.SSLContext]:
+    """What a connection to a node goes through: nothing, but for "tls://HOST:PORT"."""
+    return certificates.context() if place.is_secured else None
 
 
-def security_of(address: Address, certificates: Certificates) -> Optional[ssl.SSLContext]:
-    """What a connection to an address goes through: nothing, but for "tls://HOST:PORT"."""
-    return certificates.context() if is_secured(address) else None
+# ---------------------------------------------------------------- where no reply comes
+
+# Nobody listens, and may so in a moment.
+NOBODY = (ConnectionRefusedError, FileNotFoundError)
 
 
-def address_of(address: Address) -> Tuple[str, int]:
-    """A port of this machine, "HOST:PORT", "tls://HOST:PORT", or the two."""
-    if isinstance(address, tuple):
-        host, port = address
-    elif isinstance(address, int):
-        host, port = "127.0.0.1", address
-    else:
-        host, _, word = address[len(TLS) if is_secured(address) else 0 :].rpartition(":")
-        host, port = host or "127.0.0.1", int(word) if word.isascii() and word.isdigit() else 0
-    if not 1 <= port <= 65_535:
-        raise ValueError(f"no address: {address!r}")
-    return host, port
+def no_connection(name: str, error: OSError) -> LinkBroken:
+    """The error where no connection could be opened, of which this one is the reason."""
+    if isinstance(error, NOBODY):
+        return LinkBroken(f"{name}: nobody listens there: {os.strerror(error.errno) if error.errno else error}")
+    if isinstance(error, socket.gaierror):
+        return LinkBroken(f"{name}: no address is found for this name: {error}")
+    return LinkBroken(f"{name}: {error}")
 
+
+def too_late(name: str, limit: Optional[float], is_open: bool, has_replied: bool = False) -> TimeLimit:
+    """The error where nothing came within the time: no connection, or no reply over one that is open."""
+    if not is_open:
+        return TimeLimit(f"{name}: no connection within {limit} s: the machine is away, or drops what is sent there")
+    if has_replied:
+        return TimeLimit(f"{name}: no reply within {limit} s: the node is stopped, or takes longer for it")
+    why = "all connections of the node may be taken, or it is stopped"
+    return TimeLimit(f"{name}: no reply within {limit} s, though it listens: {why}")
+
+
+def no_length(name: str, data: bytes) -> Fault:
+    """The error of bytes whose first four are no length of a reply."""
+    size = int.from_bytes(data[:4], "big")
+    number = 2 if size > MOST_MESSAGE else 10
+    if data.startswith(b"\x15\x03"):
+        return NotANode(number, "one who speaks TLS, and sends an alert", f"write {TLS}HOST:PORT", name)
+    said = data[:4].decode("ascii", "replace")
+    if not (said.isascii() and said.isprintable()):
+        return Fault(number, place=f"{name}, length {size} of a reply")
+    line = repr(data.splitlines()[0][:80].decode("ascii", "replace"))
+    if said == "HTTP":
+        return NotANode(
+            number, f"one who speaks HTTP: {line}", "name the node's own port, without a proxy for HTTP before it", name
+        )
+    return NotANode(number, f"another server: {line}", "name the port of a node", name)
+
+
+# ---------------------------------------------------------------- opening one
 
 # how long is waited between two tries to connect, in seconds
 PAUSE = 0.02
@@ -95,20 +118,34 @@ def is_joined_with_itself(own: socket.socket) -> bool:
     return bool(own.getsockname() == own.getpeername())
 
 
-def connected(address: Tuple[str, int], limit: Optional[float], wait: float) -> socket.socket:
+def connected(place: Place, limit: Optional[float], wait: float) -> socket.socket:
     """A connection, tried again for so many seconds while nobody listens."""
     until = time.monotonic() + wait
     while True:
         try:
-            found = socket.create_connection(address, timeout=limit)
-            if not is_joined_with_itself(found):
-                return found
-            found.close()
-            raise ConnectionRefusedError(errno.ECONNREFUSED, os.strerror(errno.ECONNREFUSED))
-        except ConnectionRefusedError:
+            return _connected_once(place, limit)
+        except NOBODY:
             if time.monotonic() >= until:
                 raise
             time.sleep(PAUSE)
+
+
+def _connected_once(place: Place, limit: Optional[float]) -> socket.socket:
+    if not place.path:
+        found = socket.create_connection((place.host, place.port), timeout=limit)
+        if not is_joined_with_itself(found):
+            found.setsockopt(socket.IPPROTO_TCP, socket.TCP_NODELAY, 1)
+            return found
+        found.close()
+        raise ConnectionRefusedError(errno.ECONNREFUSED, os.strerror(errno.ECONNREFUSED))
+    found = socket.socket(socket.AF_UNIX, socket.SOCK_STREAM)
+    try:
+        found.settimeout(limit)
+        found.connect(place.path)
+        return found
+    except BaseException:
+        found.close()
+        raise
 
 
 def wrapped(plain: socket.socket, security: ssl.SSLContext, host: str) -> socket.socket:
@@ -127,21 +164,20 @@ class Link:
 
     def __init__(
         self,
-        address: Tuple[str, int],
+        place: Place,
         limit: Optional[float],
         wait: float = 0.0,
         security: Optional[ssl.SSLContext] = None,
     ) -> None:
-        self.name, self.limit = f"{address[0]}:{address[1]}", limit
+        self.name, self.limit, self.has_replied = place.name, limit, False
         try:
-            self.socket = connected(address, limit, wait)
+            self.socket = connected(place, limit, wait)
             if security is not None:
-                self.socket = wrapped(self.socket, security, address[0])
+                self.socket = wrapped(self.socket, security, place.host)
         except socket.timeout:
-            raise TimeLimit(f"{self.name}: no link within {limit} s") from None
+            raise too_late(self.name, limit, False) from None
         except OSError as error:
-            raise LinkBroken(f"{self.name}: {error}") from error
-        self.socket.setsockopt(socket.IPPROTO_TCP, socket.TCP_NODELAY, 1)
+            raise no_connection(self.name, error) from error
         self.kept = bytearray()
 
     def close(self) -> None:
@@ -155,7 +191,7 @@ class Link:
                 self._cut(self._received(), count, found)
         except socket.timeout:
             self.close()
-            raise TimeLimit(f"{self.name}: no reply within {self.limit} s") from None
+            raise too_late(self.name, self.limit, True, self.has_replied) from None
         except LinkBroken:
             self.close()
             raise
@@ -231,10 +267,11 @@ class Link:
         while length - at >= 4 and len(found) < count:
             size = int.from_bytes(data[at : at + 4], "big")
             if not 2 <= size <= MOST_MESSAGE:
-                raise Fault(2 if size > MOST_MESSAGE else 10, place=f"{self.name}, length {size} of a reply")
+                raise no_length(self.name, bytes(data[at : at + 200]))
             if length - at < 4 + size:
                 break
             found.append(bytes(data[at + 4 : at + 4 + size]))
+            self.has_replied = True
             at += 4 + size
         if data is self.kept:
             del self.kept[:at]

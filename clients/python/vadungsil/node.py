@@ -5,9 +5,23 @@ import threading
 from types import TracebackType
 from typing import Any, Generic, Iterable, Iterator, List, Optional, Tuple, Type, TypeVar
 
-from .errors import Fault, LinkBroken, TimeLimit
-from .link import Address, Certificates, Link, address_of, security_of
-from .requests import FRONT, Moment, Read, Requests, ask_frame, feeding, read_front, version_seen
+from .address import Address, place_of
+from .errors import Fault, LinkBroken, Refused, TimeLimit, VadungsilError
+from .link import Certificates, Link, security_of
+from .requests import (
+    FRONT,
+    Moment,
+    Read,
+    Requests,
+    ask_frame,
+    feeding,
+    logs_of,
+    other_log,
+    range_of,
+    read_done,
+    read_front,
+    version_seen,
+)
 from .transfer import AnyPart, Hold, parts_from, parts_to
 from .values import (
     LAST_KEY,
@@ -70,10 +84,11 @@ class Node(
         Operations,
     ]
 ):
-    """A node: `Node(7420)`, `Node("127.0.0.1:7420")`. The connection is opened with the first request, kept, and
-    opened anew where it broke; a request whose reply did not come is then made once more, which is safe for all of
-    them: a change made twice is as made once (the number that it returns is another). A time limit is not tried again:
-    `TimeLimit` is raised.
+    """A node: `Node(7420)`, `Node("127.0.0.1:7420")`, `Node("[::1]:7420")`, `Node("unix:/run/node.sock")`. `Node()` is
+    where HKREP_NODE in the environment says, else 127.0.0.1:7420. `ValueError`: that is no address. The connection is
+    opened with the first request, kept, and opened anew where it broke; a request whose reply did not come is then made
+    once more, which is safe for all of them: a change made twice is as made once (the number that it returns is
+    another). A time limit is not tried again: `TimeLimit` is raised. `NotANode`: an HTTP server, say, answers there.
 
     Threads may share a node; their requests go one after the other. `limit` is the most seconds of each wait, None
     without one. While nobody listens the first connection is tried again for `wait` seconds, so that a node may be
@@ -90,7 +105,7 @@ class Node(
 
     def __init__(
         self,
-        address: Address,
+        address: Optional[Address] = None,
         limit: Optional[float] = 20.0,
         tries: int = 2,
         wait: float = 3.0,
@@ -100,17 +115,17 @@ class Node(
         key: Optional[str] = None,
         messages: Optional[int] = None,
     ) -> None:
-        certificates = Certificates(ca, cert, key)
-        certificates.see([address])
+        certificates, self.address = Certificates(ca, cert, key), place_of(address)
+        certificates.see([self.address])
         self._told = self._version = None if messages is None else number_in(messages, 1, 2, "messages")
-        self.address, self.limit, self.tries, self.wait = address_of(address), limit, max(tries, 1), wait
-        self._security = security_of(address, certificates)
+        self.limit, self.tries, self.wait = limit, max(tries, 1), wait
+        self._security = security_of(self.address, certificates)
         self._link: Optional[Link] = None
         self._lock = threading.RLock()
 
     @property
     def name(self) -> str:
-        return f"{self.address[0]}:{self.address[1]}"
+        return self.address.name
 
     # ------------------------------------------------------------ requests
 
@@ -126,10 +141,25 @@ class Node(
         version = self._version or 1
         try:
             return self._call(*feeding(body, version))
-        except Fault as fault:
-            if (fault.number, version) == (3, 2):  # it may have been started anew, and reads version 1 alone
+        except Refused as refused:
+            if (refused.number, version) == (3, 2):  # it may have been started anew, and reads version 1 alone
                 self._version = self._told
-            raise
+            raise self._with_logs(refused, logs_of(body))
+
+    def _give(self, fragment: Fragment, request: bytes) -> Any:
+        try:
+            return self._call(request, read_done)
+        except Refused as refused:
+            raise self._with_logs(refused, [fragment.log])
+
+    def _with_logs(self, refused: Refused, given: Iterable[int]) -> Refused:
+        """The same; where it is 20, with both logs: the node is asked for its own."""
+        if refused.number == 20:
+            try:
+                refused.place = other_log(self.name, self.delta(LAST_TIME).log, given)
+            except VadungsilError:
+                pass
+        return refused
 
     def streams(self) -> Tuple[Stream, ...]:
         """How far each stream is: for feeders, which go on behind each `prefix`. A delta since the last time of all has
@@ -140,7 +170,8 @@ class Node(
         self, table: int, low: int = 0, high: int = LAST_KEY, at: Optional[int] = None, most: int = 1_000
     ) -> Iterator[KeyRow]:
         """Each row of the keys from low to high at one time, asked for page by page (`page`), so there is no limit on
-        their number."""
+        their number. `ValueError`: low is above high."""
+        range_of(table, low, high)
         time = self.front().readable if at is None else at
         while True:
             page = self.page(table, low, high, at=time, most=most)
@@ -150,8 +181,9 @@ class Node(
             low = page.rows[-1].key + 1
 
     def hold(self, time: int) -> Hold:
-        """Pins a time, so that it stays readable, over a connection of its own: `with node.hold(5):`. 25: it is below
-        the oldest readable time."""
+        """Pins a time, so that it stays readable, over a connection of its own: `with node.hold(5):`. A time above the
+        resolved time is pinned too, and stays readable from when it is reached. 25: it is below the oldest readable
+        time."""
         return Hold(self._own_link(), time_of(time))
 
     def whole(self, part_bytes: Optional[int] = None) -> Fragment:
@@ -175,7 +207,18 @@ class Node(
     def take_parts(self, parts: Iterable[AnyPart]) -> int:
         """Takes what another node gives: `node.take_parts(other.parts())`. Nothing is taken before all chunks are
         there."""
-        return parts_to(self._own_link, parts)
+        logs: List[int] = []
+
+        def noted() -> Iterator[AnyPart]:
+            for part in parts:
+                if isinstance(part, LastPart):
+                    logs.append(part.head.log)
+                yield part
+
+        try:
+            return parts_to(self._own_link, noted())
+        except Refused as refused:
+            raise self._with_logs(refused, logs)
 
     def at(self, time: Optional[int] = None) -> "NodeMoment":
         """One moment: all questions at this time, or at the current resolved time."""

@@ -6,8 +6,9 @@ from __future__ import annotations
 
 from typing import Any, Callable, Iterable, List, Optional, Set, Tuple
 
+from .address import Address, place_of
 from .errors import LinkBroken, Refused, VadungsilError
-from .link import Address, Certificates
+from .link import Certificates
 from .members import BadMember, Member, Members, Round, Tracked, exchanged
 from .node import Node
 from .requests import Moment, Read, Reads, ask_frame, read_number
@@ -72,13 +73,13 @@ class Nodes(Reads[Optional[Row], List[KeyRow], int]):
         log: Optional[int] = None,
         streams: Optional[int] = None,
     ) -> None:
-        certificates, listed = Certificates(ca, cert, key), list(addresses)
-        certificates.see(listed)
+        certificates, places = Certificates(ca, cert, key), [place_of(it) for it in addresses]
+        certificates.see(places)
         if log is not None:
             number_in(log, 0, LAST_KEY, "log")
         if streams is not None:
             number_in(streams, 1, MOST_STREAMS, "number of streams", 5)
-        self.nodes = [Node(it, limit, wait=0.0, **certificates.of(it)._asdict()) for it in listed]
+        self.nodes = [Node(it, limit, wait=0.0, **certificates.of(it)._asdict()) for it in places]
         if not self.nodes:
             raise ValueError("no addresses")
         if not 1 <= agree <= len(self.nodes):

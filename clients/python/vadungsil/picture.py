@@ -8,6 +8,8 @@ import sys
 from typing import Iterator, List, Optional, Sequence, Tuple
 from xml.sax.saxutils import escape
 
+from .address import FORMS
+from .bodies import shown as shown_body
 from .errors import LinkBroken, Refused, VadungsilError
 from .items import Feeder
 from .node import Node
@@ -202,8 +204,8 @@ def shown(row: Optional[Row]) -> str:
     """A body in a few letters: as text where it is that, else in hexadecimal."""
     if row is None:
         return "?"
-    text = row.body.decode("ascii", "replace")
-    words = text if text.isascii() and text.isprintable() and text.strip() else row.body.hex() or "-"
+    text = shown_body(row.body)
+    words = text if text.strip() else row.body.hex() or "-"
     return words if len(words) <= 24 else f"{words[:22]}.."
 
 
@@ -224,7 +226,9 @@ def parser() -> argparse.ArgumentParser:
     it = argparse.ArgumentParser(
         prog="python3 -m vadungsil.picture", description="Draws the item frames of standard input, or a node, as SVG."
     )
-    it.add_argument("--node", metavar="HOST:PORT", help="a node in place of standard input: it sends a full snapshot")
+    it.add_argument(
+        "--node", metavar="ADDRESS", help=f"a node in place of standard input, {FORMS}: it sends a full snapshot"
+    )
     it.add_argument(
         "--keys", metavar="TABLE:KEY,..", help=f"the keys whose versions are drawn; without it the first {MOST_KEYS}"
     )

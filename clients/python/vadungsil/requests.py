@@ -2,7 +2,7 @@
 # mypy: no-warn-return-any
 from __future__ import annotations
 
-from typing import Any, Callable, Dict, Generic, Iterable, List, Optional, Tuple, TypeVar, Union, overload
+from typing import Any, Callable, Dict, Generic, Iterable, Iterator, List, Optional, Tuple, TypeVar, Union, overload
 
 from .errors import Fault, Refused
 from .messages import encode_request, framed, items_bytes, query_bytes, reply_of
@@ -173,6 +173,28 @@ def read_page(rest: bytes, asked: AskPage) -> Page:
     return page
 
 
+def range_of(table: int, low: int, high: int) -> Range:
+    """The query for a range of keys. `ValueError`: low is above high, where no key could be."""
+    query = Range(table, low, high)
+    if low > high:
+        raise ValueError(f"low is {low}, above high, {high}")
+    return query
+
+
+def logs_of(body: bytes) -> Iterator[int]:
+    """The logs of the items in the body of Items that a node has read."""
+    at = 4
+    while at < len(body):
+        yield int.from_bytes(body[at + 6 : at + 14], "big")
+        at += 4 + int.from_bytes(body[at : at + 4], "big")
+
+
+def other_log(name: str, own: int, given: Iterable[int]) -> str:
+    """The place of a refusal 20 by a node of the log `own`, which was given items or a fragment of these logs."""
+    other = next((log for log in given if log != own), own)
+    return f"{name} has log {own}, and was given log {other}"
+
+
 class Moment(Generic[RowT, RowsT, NumberT]):
     """Questions at one time. `time` is it."""
 
@@ -186,8 +208,8 @@ class Moment(Generic[RowT, RowsT, NumberT]):
         return self._read(Get(table, key), read_row)
 
     def range(self, table: int, low: int = 0, high: int = LAST_KEY) -> RowsT:
-        """The rows of the keys from low to high, both with, by rising key."""
-        return self._read(Range(table, low, high), read_rows)
+        """The rows of the keys from low to high, both with, by rising key. `ValueError`: low is above high."""
+        return self._read(range_of(table, low, high), read_rows)
 
     def by_tag(self, table: int, tag: int) -> RowsT:
         """The rows with a tag, by rising key."""
@@ -211,9 +233,9 @@ class Reads(Generic[RowT, RowsT, NumberT]):
         return self._read(at, Get(table, key), read_row)
 
     def range(self, table: int, low: int = 0, high: int = LAST_KEY, at: Optional[int] = None) -> RowsT:
-        """The rows of the keys from low to high, both with, by rising key. More than 2^28 bytes of them are refused
-        2."""
-        return self._read(at, Range(table, low, high), read_rows)
+        """The rows of the keys from low to high, both with, by rising key. More than 2^28 bytes of them are refused 2.
+        `ValueError`: low is above high."""
+        return self._read(at, range_of(table, low, high), read_rows)
 
     def by_tag(self, table: int, tag: int, at: Optional[int] = None) -> RowsT:
         """The rows with a tag, by rising key."""
@@ -239,6 +261,10 @@ class Requests(
         """Sends the body of Items, as Feed to a node that reads messages of version 2."""
         raise NotImplementedError
 
+    def _give(self, fragment: Fragment, request: bytes) -> Any:
+        """Sends the request that has a node take a fragment."""
+        return self._call(request, read_done)
+
     def front(self) -> FrontT:
         """The range of readable times."""
         return self._call(FRONT, read_front)
@@ -262,11 +288,11 @@ class Requests(
     def join(self, fragment: Fragment) -> NumberT:
         """Takes a delta or a full snapshot of another node. 22: it begins above this node's resolved time
         (`error.readable`)."""
-        return self._call(encode_request(JoinThis(fragment)), read_done)
+        return self._give(fragment, encode_request(JoinThis(fragment)))
 
     def merge(self, fragment: Fragment) -> NumberT:
         """Takes the full snapshot of another node; its base is 0."""
-        return self._call(encode_request(MergeThis(fragment)), read_done)
+        return self._give(fragment, encode_request(MergeThis(fragment)))
 
     def prune(self, horizon: int) -> NumberT:
         """Drops the versions that ended up to a time, which becomes the oldest readable time. 24: it is above the
@@ -298,6 +324,7 @@ class Requests(
 
     def page(self, table: int, low: int = 0, high: int = LAST_KEY, *, at: int, most: int = 1_000) -> PageT:
         """The rows of the keys from low to high at a time, and as many as `most` of them, and whether more follow
-        (`later.Page`)."""
+        (`later.Page`). `ValueError`: low is above high."""
         asked = AskPage(time_of(at), table, low, high, most)
+        range_of(table, low, high)
         return self._call(encode_request(asked), lambda rest: read_page(rest, asked))

@@ -108,7 +108,10 @@ Ended = Union[VersionKey, Tuple[int, int, int]]
 
 
 def put_of(written: Written) -> Put:
+    """`ValueError`: it is no put, with what one is."""
     it: Any = written
+    if not isinstance(it, (tuple, list)) or not (len(it) == 4 or (len(it) == 3 and isinstance(it[2], Row))):
+        raise ValueError(f"{it!r:.80} is no put: it wants (table, key, tag, body), or (table, key, Row)")
     return Put(it[0], it[1], it[2] if len(it) == 3 else Row(it[2], it[3]))
 
 

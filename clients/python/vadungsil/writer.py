@@ -32,6 +32,13 @@ Place = Tuple[int, int]
 Clock = Union[bool, Callable[[], int]]
 
 
+def place_in(removed: Place) -> Place:
+    """`ValueError`: it is no place of a row, with what one is."""
+    if not isinstance(removed, (tuple, list)) or len(removed) != 2:
+        raise ValueError(f"{removed!r:.80} can't be removed: a place is (table, key)")
+    return removed[0], removed[1]
+
+
 def clock_of(clock: Clock) -> Optional[Callable[[], int]]:
     """What gives microseconds since 1970, or None where times are no clock's."""
     if isinstance(clock, bool):
@@ -73,7 +80,8 @@ class LogWriter:
         self, puts: Iterable[Written] = (), removes: Iterable[Place] = (), stream: int = 1, time: Optional[int] = None
     ) -> Optional[Entry]:
         """The entry of a transaction: `puts` are (table, key, tag, body) or (table, key, Row), `removes` (table, key).
-        Without a time it is one above the last, or the clock's (`clock`). None where nothing is written.
+        Without a time it is one above the last, or the clock's (`clock`). None where nothing is written. `ValueError`:
+        one of them has another form.
 
         Refused, in this order: 32 a key that is written twice, 33 a write after 1,024, 34 no such stream, 36 a retired
         one, 31 a removed row that is not there, 35 no time is left, 6 a time that is not above the last."""
@@ -146,7 +154,7 @@ class LogWriter:
     def _writes(puts: Iterable[Written], removes: Iterable[Place]) -> Dict[Place, Optional[Row]]:
         writes: Dict[Place, Optional[Row]] = {}
         every: List[Tuple[int, int, Optional[Row]]] = [put_of(it) for it in puts]
-        every += [(table, key, None) for table, key in removes]
+        every += [(*place_in(it), None) for it in removes]
         for table, key, row in every:
             place = (table_of(table), key_of(key))
             if place in writes:

@@ -5,9 +5,10 @@ import argparse
 import signal
 import sys
 import threading
-from typing import Any, List, Optional
+from typing import Any, Callable, List, Optional, Tuple
 
-from ..link import add_certificates, address_of, certificates_of
+from ..address import ELSE, FORMS, host_and_port, place_of
+from ..link import add_certificates, certificates_of
 from .server import Server
 
 
@@ -21,7 +22,7 @@ def parser() -> argparse.ArgumentParser:
         action="append",
         default=[],
         metavar="ADDRESS",
-        help="a node: HOST:PORT, tls://HOST:PORT, or a port of this machine; may be given again",
+        help=f"a node, {FORMS}; may be given again; {ELSE}",
     )
     add_certificates(it)
     it.add_argument(
@@ -38,6 +39,22 @@ def parser() -> argparse.ArgumentParser:
         help="a further Host that a request may name; may be given again",
     )
     it.add_argument(
+        "--messages",
+        type=int,
+        choices=(1, 2),
+        default=1,
+        help="2 asks nodes that read version 2 for their operations and their least pinned time too",
+    )
+    for option, most in (("--table", 2**16 - 1), ("--stream", 64)):
+        it.add_argument(
+            option,
+            action="append",
+            default=[],
+            type=named(most),
+            metavar="NUMBER=NAME",
+            help=f"what the page calls a {option[2:]}; may be given again",
+        )
+    it.add_argument(
         "--limit", type=float, default=10.0, metavar="SECONDS", help="the most that a node's reply is waited for (10)"
     )
     it.add_argument(
@@ -46,28 +63,35 @@ def parser() -> argparse.ArgumentParser:
     return it
 
 
-def listened(word: str) -> Any:
-    """Host and port, which may be 0."""
-    if word.endswith(":0"):
-        return word[:-2] or "127.0.0.1", 0
-    return address_of(word)
+def named(most: int) -> Callable[[str], Tuple[int, str]]:
+    """What reads NUMBER=NAME."""
+
+    def read(word: str) -> Tuple[int, str]:
+        number, equals, name = word.partition("=")
+        if not (equals and name and not name.isdigit() and number.isascii() and number.isdigit() and len(number) < 9):
+            raise argparse.ArgumentTypeError(f"{word!r} is no NUMBER=NAME, as 1=orders")
+        if int(number) > most:
+            raise argparse.ArgumentTypeError(f"{word!r}: the number is at most {most}")
+        return int(number), name
+
+    return read
 
 
 def main(arguments: Optional[List[str]] = None) -> int:
     words_of = parser()
     words = words_of.parse_args(arguments)
-    if not words.node:
-        words_of.error("name a node: --node HOST:PORT")
     if not words.limit > 0 or not words.every >= 0.1:
         words_of.error("--limit is above 0, --every at least 0.1")
     try:
         server = Server(
-            words.node,
-            listened(words.http),
+            words.node or [place_of()],
+            host_and_port(words.http, 0),
             words.limit,
             words.every,
             words.allow_host,
             certificates=certificates_of(words),
+            messages=words.messages,
+            names={"tables": dict(words.table), "streams": dict(words.stream)},
         )
     except ValueError as error:
         words_of.error(str(error))

@@ -12,6 +12,10 @@ from .watch import Away, State, StreamState, Watched
 
 Json = Dict[str, Any]
 Answer = Tuple[int, Json]
+Names = Mapping[str, Mapping[int, str]]
+
+# What may have names.
+NAMED = ("tables", "streams")
 
 
 class Unknown(KeyError):
@@ -19,6 +23,10 @@ class Unknown(KeyError):
 
 
 # ---------------------------------------------------------------- values
+
+
+def text_of(number: Optional[int]) -> Optional[str]:
+    return None if number is None else str(number)
 
 
 def json_of_row(key: int, row: Row) -> Json:
@@ -54,17 +62,23 @@ def json_of_stream(stream: StreamState) -> Json:
 
 def json_of_node(watched: Watched) -> Json:
     """How a node stands; oldest readable time, resolved time and streams only where they are those of now."""
-    state, age = watched.state, watched.age
+    state, age, up_for, lag, lacks = watched.state, watched.age, watched.up_for, watched.lag, watched.lacks
     found: Json = {
         "node": watched.name,
         "up": state.up,
         "age": None if age is None else round(age, 1),
+        "up_for": None if up_for is None else round(up_for, 1),
         "error": state.error,
         "damaged": state.damaged,
         "log": None if state.log is None else str(state.log),
         "refused": None if state.refused is None else json_of_refusal(state.refused),
         "horizon": None,
         "readable": None,
+        "lag": text_of(lag),
+        "lacks": text_of(lacks),
+        "lags": [text_of(it) for it in list(watched.lags)],
+        "operations": text_of(state.operations),
+        "least_hold": text_of(state.least_hold),
         "streams": [],
     }
     if state.is_known:
@@ -108,10 +122,10 @@ def json_of_changes(before: Found, after: Found) -> Json:
 
 
 class Api:
-    """The calls of /api/ on these nodes."""
+    """The calls of /api/ on these nodes. `names` are what the page calls tables and streams, by their numbers."""
 
-    def __init__(self, nodes: Dict[str, Watched]) -> None:
-        self.nodes = nodes
+    def __init__(self, nodes: Dict[str, Watched], names: Optional[Names] = None) -> None:
+        self.nodes, self.names = nodes, names or {}
         self._pool = ThreadPoolExecutor(4 * len(nodes), thread_name_prefix="ask")
 
     def close(self) -> None:
@@ -134,6 +148,7 @@ class Api:
         return {
             "nodes": [json_of_node(it) for it in self.nodes.values()],
             "window": window_of([it.state for it in self.nodes.values()]),
+            "names": {of: {str(it): name for it, name in self.names.get(of, {}).items()} for of in NAMED},
         }
 
     def _chosen(self, words: Mapping[str, str]) -> List[Watched]:

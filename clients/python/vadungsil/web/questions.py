@@ -93,6 +93,8 @@ def question_of(kind: str, words: Mapping[str, str], more: Tuple[str, ...] = ())
         if name not in (*names, "most", "node", *more):
             raise BadQuestion(f"no parameter of {kind}: {name[:40]!r}")
     numbers = {name: number_of(words, name, *NUMBERS[name]) for name in names}
+    if kind == "range" and numbers["low"] > numbers["high"]:
+        raise BadQuestion(f"low is {numbers['low']}, above high, {numbers['high']}")
     return Question(kind, numbers, number_of(words, "most", MOST_ROWS, FEW_ROWS, 1))
 
 

@@ -25,11 +25,31 @@ export function indented(text) {
   return found;
 }
 
+// Characters that don't stand for themselves on a line, as vadungsil.bodies has them; within JSON lines may end.
+const HIDDEN = /[\p{Cc}\p{Cf}\p{Cs}\p{Zl}\p{Zp}]/u, HIDDEN_IN_JSON = /[\p{Cf}\p{Cs}\p{Zl}\p{Zp}]/u;
+
+// JSON of so many letters stays on its line.
+const SHORT = 60;
+
+// A body as JSON in lines where it is a long object or list, as text where it is plain text, else in hexadecimal.
+function readable(bytes, hex) {
+  let text;
+  try {
+    text = new TextDecoder("utf-8", { fatal: true, ignoreBOM: true }).decode(bytes);
+    const isShort = text.length <= SHORT && !HIDDEN.test(text);
+    if (/^\s*[{[]/.test(text) && !HIDDEN_IN_JSON.test(text) && !isShort) return indented(text);
+  } catch (error) {
+    if (!(error instanceof SyntaxError)) return hex;
+  }
+  return HIDDEN.test(text) ? hex : text;
+}
+
 // A body in the wanted view, and what is to be said where it isn't of that kind.
 export function body(hex, view) {
   if (hex === "") return make("span", { class: "soft" }, "empty");
   if (view === "hex") return make("code", {}, hex);
   const bytes = bytesOf(hex);
+  if (view === "auto") return make("code", {}, readable(bytes, hex));
   try {
     const text = new TextDecoder("utf-8", { fatal: true, ignoreBOM: true }).decode(bytes);
     if (view === "text") return make("code", {}, text);
@@ -60,7 +80,7 @@ function card(answer, said, ...parts) {
 }
 
 function troubled(answer) {
-  if (answer.away !== undefined) return card(answer, "away", make("p", { class: "trouble" }, answer.away));
+  if (answer.away !== undefined) return card(answer, "away: see above");
   return card(answer, `refused ${answer.refused.number}`, refusal(answer.refused));
 }
 

@@ -7,10 +7,11 @@ import pathlib
 import socket
 import threading
 from http.server import ThreadingHTTPServer
-from typing import Any, Dict, Iterable, List, Tuple
+from typing import Any, Dict, Iterable, List, Optional, Tuple
 
-from ..link import Address, Certificates
-from .api import Api
+from ..address import Address, place_of
+from ..link import Certificates
+from .api import Api, Names
 from .handler import Handler
 from .metrics import Family, Sample, text_of
 from .watch import watched_by_name
@@ -23,6 +24,7 @@ ASSETS = {
     "/page.css": ("page.css", "text/css; charset=utf-8"),
     "/page.js": ("page.js", "text/javascript; charset=utf-8"),
     "/draw.js": ("draw.js", "text/javascript; charset=utf-8"),
+    "/overview.js": ("overview.js", "text/javascript; charset=utf-8"),
     "/rows.js": ("rows.js", "text/javascript; charset=utf-8"),
     "/icon.svg": ("icon.svg", "image/svg+xml"),
     "/api/openapi.json": ("openapi.json", "application/json; charset=utf-8"),
@@ -55,18 +57,26 @@ class Server(ThreadingHTTPServer):
         allowed: Iterable[str] = (),
         patience: float = 10.0,
         certificates: Certificates = Certificates(),
+        messages: int = 1,
+        names: Optional[Names] = None,
     ) -> None:
         """`limit`: seconds that a node's reply is waited for; `every`: seconds from one look at the nodes to the next;
         `patience`: seconds in which a request has to come, and each piece of an answer has to go; `certificates` are
-        for nodes at tls://HOST:PORT.
+        for nodes at tls://HOST:PORT; `messages`: 2 asks nodes for their operations and pinned times too; `names`: what
+        the page calls "tables" and "streams", by their numbers.
         """
         if not nodes:
             raise ValueError("no nodes")
-        certificates.see(nodes)
+        certificates.see(place_of(it) for it in nodes)
         self._change = threading.Condition()
         self._changes = 0
         self.nodes = watched_by_name(
-            list(nodes), limit=limit, every=every, changed=self._note_change, certificates=certificates
+            list(nodes),
+            limit=limit,
+            every=every,
+            changed=self._note_change,
+            certificates=certificates,
+            messages=messages,
         )
         self.patience, self.every, self.ended = patience, every, threading.Event()
         self._free, self._streams = threading.BoundedSemaphore(MOST_REQUESTS), threading.BoundedSemaphore(MOST_STREAMS)
@@ -77,7 +87,7 @@ class Server(ThreadingHTTPServer):
         )  # type: threading.Lock, Dict[int, int], int
         self.assets = {path: ((HERE / name).read_bytes(), kind) for path, (name, kind) in ASSETS.items()}
         super().__init__(http, Handler)
-        self.api = Api(self.nodes)
+        self.api = Api(self.nodes, names)
         self.hosts = hosts_of(http[0], self.server_address[1], allowed)
 
     @property

@@ -6,10 +6,12 @@ from __future__ import annotations
 
 import threading
 import time as clock
-from typing import Any, Callable, Dict, List, NamedTuple, Optional, Tuple, TypeVar
+from collections import deque
+from typing import Any, Callable, Deque, Dict, List, NamedTuple, Optional, Tuple, TypeVar
 
+from ..address import Address, place_of
 from ..errors import LinkBroken, Refused, TimeLimit, VadungsilError
-from ..link import Address, Certificates
+from ..link import Certificates
 from ..node import Node
 from ..values import LAST_TIME, Fragment, Stream
 from .meters import Meters
@@ -22,7 +24,10 @@ PAUSE, LONGEST_PAUSE = 1.0, 30.0
 
 # Of the numbers above a gap, and of the marks that wait, so many are told; the counts are of all.
 SHOWN = 32
-DAMAGED = 41
+DAMAGED, BAD_VERSION = 41, 3
+
+# So many lags are kept, one a look.
+HISTORY = 120
 
 
 class Away(VadungsilError):
@@ -59,7 +64,8 @@ class StreamState(NamedTuple):
 
 
 class State(NamedTuple):
-    """What a node reported last. `damaged` is None until a node has replied."""
+    """What a node reported last. `damaged` is None until a node has replied; `operations`, their number, and the least
+    pinned time are None where that isn't asked, or no time is pinned."""
 
     up: bool = False
     error: str = "not asked yet"
@@ -69,6 +75,13 @@ class State(NamedTuple):
     horizon: int = 0
     readable: int = 0
     streams: Tuple[StreamState, ...] = ()
+    operations: Optional[int] = None
+    least_hold: Optional[int] = None
+
+    @property
+    def newest(self) -> int:
+        """The greatest time up to which a stream is closed that isn't retired."""
+        return max((it.closed for it in self.streams if not it.is_retired), default=self.readable)
 
     @property
     def is_known(self) -> bool:
@@ -108,7 +121,8 @@ def state_of(head: Fragment) -> State:
 
 class Watched:
     """A node that is asked how it stands every so many seconds, by a thread of its own, and questions between. Threads
-    may share it."""
+    may share it. With `messages` of 2 it is asked for its operations and its least pinned time too: where it reads
+    version 1 alone that costs a connection each time that it comes back."""
 
     def __init__(
         self,
@@ -117,12 +131,18 @@ class Watched:
         every: float = 1.0,
         changed: Optional[Callable[[], None]] = None,
         certificates: Certificates = Certificates(),
+        messages: int = 1,
     ) -> None:
-        self.node = Node(address, limit, tries=1, wait=0.0, **certificates.of(address)._asdict())
+        place = place_of(address)
+        self.node = Node(place, limit, tries=1, wait=0.0, **certificates.of(place)._asdict())
         self.name, self.limit, self.every = self.node.name, limit, every
         self.meters = Meters()
         self.state = State()
         self.told_at: Optional[float] = None
+        self.up_at: Optional[float] = None
+        self.peers: List[Watched] = [self]
+        self.lags: Deque[Optional[int]] = deque(maxlen=HISTORY)
+        self._messages = self._latest = messages
         self._changed = changed or (lambda: None)
         self._lock, self._stop = threading.Lock(), threading.Event()
         self._broken, self._again, self._pause = "", 0.0, PAUSE
@@ -132,6 +152,35 @@ class Watched:
     def age(self) -> Optional[float]:
         """Seconds since the node's last reply to the watch; None before the first."""
         return None if self.told_at is None else clock.monotonic() - self.told_at
+
+    @property
+    def up_for(self) -> Optional[float]:
+        """Seconds since it was first seen up, without a look between that found it away."""
+        return None if self.up_at is None else clock.monotonic() - self.up_at
+
+    def _known_peers(self) -> List[State]:
+        """The nodes of its log that are known, it among them."""
+        states = [it.state for it in self.peers]
+        return [it for it in states if it.is_known and it.log == self.state.log]
+
+    @property
+    def lag(self) -> Optional[int]:
+        """How far its resolved time is behind the newest that a node of its log has; None while that isn't known."""
+        if not self.state.is_known:
+            return None
+        newest = [it.newest for it in self._known_peers()]
+        return max([it - self.state.readable for it in newest] + [0])
+
+    @property
+    def lacks(self) -> Optional[int]:
+        """How many entries it lacks that another node of its log has, by the prefixes; None while that isn't known."""
+        if not self.state.is_known:
+            return None
+        lacking = 0
+        for place, own in enumerate(self.state.streams):
+            there = [it.streams[place].prefix for it in self._known_peers() if place < len(it.streams)]
+            lacking += max([it - own.prefix for it in there] + [0])
+        return lacking
 
     def start(self) -> None:
         self._thread.start()
@@ -189,11 +238,24 @@ class Watched:
             self.look()
             self._stop.wait(self.every)
 
+    def _polled(self) -> State:
+        """How it stands: by a delta since the last time of all, which has no facts, and by its streams, where it reads
+        messages of version 2."""
+        if self._latest == 2:
+            try:
+                head, told = self.ask("delta", lambda node: (node.delta(LAST_TIME), node.status()))
+                return state_of(head)._replace(operations=told.operations, least_hold=told.least_hold)
+            except Refused as refused:
+                if refused.number != BAD_VERSION:
+                    raise
+                self._latest = 1
+        return state_of(self.ask("delta", lambda node: node.delta(LAST_TIME)))
+
     def look(self) -> State:
-        """Asks the node how it stands: by a delta since the last time of all, which has no facts."""
+        """Asks the node how it stands, and keeps that and its lag."""
         before = self.state
         try:
-            state = state_of(self.ask("delta", lambda node: node.delta(LAST_TIME)))
+            state = self._polled()
             self.told_at = clock.monotonic()
         except Refused as refused:
             state = State(True, str(refused), refused, refused.number == DAMAGED, before.log)
@@ -205,6 +267,11 @@ class Watched:
         except Exception as error:  # pylint: disable=broad-except
             state = State(False, f"{self.name}: {type(error).__name__}: {error}", None, before.damaged, before.log)
         self.state = state
+        if not state.up:
+            self.up_at, self._latest = None, self._messages
+        elif self.up_at is None:
+            self.up_at = clock.monotonic()
+        self.lags.append(self.lag)
         if (state.up, state.damaged) != (before.up, before.damaged):
             self._changed()
         return state
@@ -218,4 +285,6 @@ def watched_by_name(addresses: List[Address], **more: Any) -> Dict[str, Watched]
         if one.name in found:
             raise ValueError(f"{one.name} is named twice")
         found[one.name] = one
+    for one in found.values():
+        one.peers = list(found.values())
     return found
