@@ -385,8 +385,8 @@ def python_feeds():
     with Staying(4, *LATER, reading=1, feeding=1) as node:
         pairs = of_version_2(node)
         for words, told in (((), ""), (("--messages", "2"), "new 0 of 2\n"), (("--messages", "1"), "")):
-            done = subprocess.run([sys.executable, "-m", "vadungsil", "--port", str(node.port), "push", *words], input=E1 + say.mark(1, 1, 1), cwd=PACKAGE, capture_output=True, timeout=LIMIT, check=False)
-            pairs.append((f"push {words}", (done.stdout[:5], done.stderr.decode(), done.returncode), (b"done ", told, 0)))
+            done = subprocess.run([sys.executable, "-m", "vadungsil", "--port", str(node.port), "feed", *words], input=E1 + say.mark(1, 1, 1), cwd=PACKAGE, capture_output=True, timeout=LIMIT, check=False)
+            pairs.append((f"feed {words}", (done.stdout[:5], done.stderr.decode(), done.returncode), (b"done ", told, 0)))
     with Staying(4) as node:
         pairs += [(f"version 1: {it}", got, wanted) for it, got, wanted in of_version_1(node)]
     lying = va.later.encode_reply(va.later.Fed(2, 2))

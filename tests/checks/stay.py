@@ -409,10 +409,10 @@ def full_pipes():
 def bad_node_lines():
     """Options of `hkrep node` whose values are none: each is told by its name."""
     pairs = []
-    for words, part in ((["--from", "node"], "invalid value 'node' for '--from'"), (["--from", "7420,node:0"], "invalid value 'node:0' for '--from'"),
-                        (["--from", ",".join(map(str, range(1, 10)))], "invalid value '9' for '--from'"), (["--parts-bytes", "0%"], "invalid value '0%' for '--parts-bytes'"),
-                        (["--parts-bytes", "101%"], "for '--parts-bytes'"), (["--parts-bytes", "x"], "for '--parts-bytes'"), (["--address", "::1"], "invalid value '::1' for '--address'"),
-                        (["--links", "60", "--read-port", "7421", "--read-links", "5"], "64 at most together"), (["--read-port", "7421"], "--read-links"), (["--guard"], "--guard"),
+    for words, part in ((["--from", "node"], "invalid value 'node' for '--from <NODE>'"), (["--from", "7420,node:0"], "invalid value 'node:0' for '--from <NODE>'"),
+                        (["--from", ",".join(map(str, range(1, 10)))], "invalid value '9' for '--from <NODE>'"), (["--parts-bytes", "0%"], "invalid value '0%' for '--parts-bytes <BYTES>'"),
+                        (["--parts-bytes", "101%"], "for '--parts-bytes <BYTES>'"), (["--parts-bytes", "x"], "for '--parts-bytes <BYTES>'"), (["--address", "::1"], "invalid value '::1' for '--address <A>'"),
+                        (["--links", "60", "--read-port", "7421", "--read-links", "5"], "64 together at most"), (["--read-port", "7421"], "--read-links"), (["--guard"], "--guard"),
                         (["--stay"], "--stay"), (["-q", "-v"], "--verbose"), (["--port", "0"], "--port"), (["--read-seconds", "+1"], "'+1'")):
         done = subprocess.run([str(PROGRAM), "node", "--log", "7", "--streams", "1", *words], capture_output=True, text=True, timeout=30, check=False)
         pairs.append((" ".join(words), (done.returncode, done.stdout, part in done.stderr), (2, "", True)))

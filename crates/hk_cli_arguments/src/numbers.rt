@@ -226,9 +226,8 @@ fn range_of(number: Number) -> Range {
         }
         Number::Table => Range::Within(0, 65_535),
         Number::Tag => Range::Within(0, 4_294_967_295),
-        Number::ConnectSeconds | Number::ReadSeconds | Number::NodeReadSeconds => {
-            Range::Within(0, 86_400)
-        }
+        Number::ConnectSeconds | Number::ReadSeconds => Range::Within(0, 86_400),
+        Number::NodeReadSeconds => Range::Within(0, 86_400),
         Number::ReplySeconds | Number::OrReplySeconds => Range::Within(0, 86_400),
         Number::Messages | Number::SentMessages => Range::Within(1, 2),
         Number::ReportChanges => Range::Within(1, 1_000_000_000),
