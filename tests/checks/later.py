@@ -74,7 +74,8 @@ def links_that_only_read():
         pairs.append(("it ends", node.line(), "ended 0"))
         for name in [it for it in REQUESTS if it not in reading]:
             with node.link(node.read_port) as link:
-                pairs += [(name, link.ask(REQUESTS[name]), ("refused", 4, 0, 0)), (f"{name} ends it", node.line(), "ended 4")]
+                fault = 2 if len(REQUESTS[name]) > 68 else 4
+                pairs += [(name, link.ask(REQUESTS[name]), ("refused", fault, 0, 0)), (f"{name} ends it", node.line(), f"ended {fault}")]
         with node.link(node.read_port) as link:
             pairs.append(("nothing changed", link.ask(say.status())[1].operations, 2))
     report("what links that only read may ask in version 2", differ(pairs))

@@ -61,7 +61,7 @@ def getting_started():
 
 def python_page():
     """docs/PYTHON.md: its node, its listings in one run of Python, and the commands of its last part."""
-    nodes = shown("docs/PYTHON.md", "set in", "hkrep serve ")
+    nodes = shown("docs/PYTHON.md", "set in", "hkrep node ")
     listed = with_texts(shown("docs/PYTHON.md", "python|text"), "python")
     commands = shown("docs/PYTHON.md", "set in", "python3 -m vadungsil ")
     script = "".join(f"{it.text}\n" for it in nodes) + python_of([block for block, _ in listed]) + shell_of([it.text for it in commands])

@@ -181,8 +181,13 @@ def limits_of_time():
 CHANGES = {"items": PUSHED, "a join": say.join_this(), "a merge": say.merge_this(), "a prune": say.prune(0)}
 
 
+def fault_of(change):
+    """With which number a change is refused where nothing may change: what asks has at most 64 bytes behind its length."""
+    return 2 if int.from_bytes(change[:4], "big") > 64 else 4
+
+
 def links_that_only_read():
-    """Links to the second port ask and do not change: a change is refused with 4 and ends the link."""
+    """Links to the second port ask and do not change: a change is refused, and ends the link."""
     with Staying(1, reading=1) as node, node.link() as link:
         pairs = [("a push", link.ask(PUSHED), ("done", 2))]
         for name, change in CHANGES.items():
@@ -194,8 +199,11 @@ def links_that_only_read():
                             reading.send(text[at:at + cut])
                         except OSError:
                             break
-                    pairs += [(f"{name}: an ask before it", reading.reply(), ROW), (name, reading.reply()[:2], ("refused", 4)), (f"{name}: the end", reading.reply(), None)]
-                pairs.append((f"{name}: its line", node.line(), "ended 4"))
+                    pairs += [(f"{name}: an ask before it", reading.reply(), ROW), (name, reading.reply()[:2], ("refused", fault_of(change))), (f"{name}: the end", reading.reply(), None)]
+                pairs.append((f"{name}: its line", node.line(), f"ended {fault_of(change)}"))
+        with node.link(node.read_port) as reading:
+            reading.send(b"\0\0\0\x41")
+            pairs += [("a length of 65, and nothing behind it", reading.reply()[:2], ("refused", 2)), ("its end", node.line(), "ended 2")]
         with node.link(node.read_port) as reading:
             pairs += [("front", reading.ask(say.front()), ("front", 0, 1)), ("delta", reading.ask(say.delta(1))[0], "fragment"),
                       ("whole", reading.ask(say.full()), link.ask(say.full())), ("no kind", reading.ask(b"\0\0\0\2\1\xff")[:2], ("refused", 4))]

@@ -1,5 +1,5 @@
 -- Which kinds of requests a door lets through.
-use Rattle.std.specs.Prelude.{ℕ, Bool, true, false, ◌&&◌, ◌||◌, ◌==◌, nat_le}
+use Rattle.std.specs.Prelude.{ℕ, Bool, true, false, ◌&&◌, ◌||◌, ◌==◌, nat_le, nat_lt}
 use Rattle.hk_net.specs.declared.frame_watch.Passes.{Passes}
 use Rattle.hk_net.specs.declared.frame_watch.Passes.TheVariants.{All, Feeds, Readings}
 
@@ -16,6 +16,12 @@ abbrev pub lets_through : Passes → ℕ → Bool
 lets_through All kind = true
 lets_through Feeds kind = is_feeding kind || is_reading kind
 lets_through Readings kind = is_reading kind
+
+-- no request that a door for readers lets through has so many bytes behind its length: the longest has 32
+abbrev pub is_too_long : Passes → ℕ → Bool
+is_too_long All bytes = false
+is_too_long Feeds bytes = false
+is_too_long Readings bytes = nat_lt 64 bytes
 
 abbrev pub passes_all : Passes → Bool
 passes_all All = true
