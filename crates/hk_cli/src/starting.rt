@@ -210,7 +210,7 @@ fn take_file<J: NodeName, N: Wait + Drop, R: Threads + Wait + Sync + Files + All
 
 /// What a node takes.
 #[derive(Clone, Copy)]
-enum Origins<'a> {
+enum Source<'a> {
     /// What `save` wrote into the file of this name.
     File(&'a str),
     /// What the node at a place has above what this one has.
@@ -218,19 +218,19 @@ enum Origins<'a> {
 }
 
 /// What it is called in lines.
-fn name_of(alloc: Global, origin: Origins<'_>) -> Result<String, AllocError> {
-    match origin {
-        Origins::File(name) => format!(in alloc; "load {name}: "),
-        Origins::Node(NodePlace::Port(port)) => format!(in alloc; "from 127.0.0.1:{port}: "),
-        Origins::Node(NodePlace::Address(address)) => format!(in alloc; "from {address}: "),
-        Origins::Node(NodePlace::Path(path)) => format!(in alloc; "from unix:{path}: "),
+fn name_of(alloc: Global, source: Source<'_>) -> Result<String, AllocError> {
+    match source {
+        Source::File(name) => format!(in alloc; "load {name}: "),
+        Source::Node(NodePlace::Port(port)) => format!(in alloc; "from 127.0.0.1:{port}: "),
+        Source::Node(NodePlace::Address(address)) => format!(in alloc; "from {address}: "),
+        Source::Node(NodePlace::Path(path)) => format!(in alloc; "from unix:{path}: "),
     }
 }
 
 /// Has the node take something, and returns its range of readable times after that.
-fn take_origin<J: NodeName, N: Wait + Drop, R>(
+fn take_source<J: NodeName, N: Wait + Drop, R>(
     rt: &R,
-    origin: Origins<'_>,
+    source: Source<'_>,
     own: &mut Own<'_, J, N, R>,
     scratch: &mut Scratch<'_>,
 ) -> Result<Front, Stop>
@@ -238,9 +238,9 @@ where
     R: Net<Listener = TcpListener, Stream = TcpStream> + Clock + Files + Alloc<A = Global>,
     R: Threads + Wait + Sync,
 {
-    match origin {
-        Origins::File(name) => take_file(rt, name, own, scratch)?,
-        Origins::Node(place) => {
+    match source {
+        Source::File(name) => take_file(rt, name, own, scratch)?,
+        Source::Node(place) => {
             let _done = give_from(rt, rt.alloc(), place, LIMITS, None, own, scratch)?;
         }
     }
@@ -252,13 +252,13 @@ fn tell_taken<C: Clock, W: Write, E: Write>(
     alloc: Global,
     heads: &Heads<'_, C>,
     grade: Grade,
-    origin: Origins<'_>,
+    source: Source<'_>,
     words: &[u8],
     output: &mut Output<'_, W, E>,
 ) -> Result<(), AllocError> {
     let head = heads.head(grade, None)?;
     output.note(head.as_str());
-    let name = name_of(alloc, origin)?;
+    let name = name_of(alloc, source)?;
     output.note(name.as_str());
     output.note(str::from_utf8(words).unwrap_or("\n"));
     Ok(())
@@ -268,7 +268,7 @@ fn tell_taken<C: Clock, W: Write, E: Write>(
 fn is_taken<J: NodeName, N: Wait + Drop, R, W: Write, E: Write>(
     rt: &R,
     heads: &Heads<'_, R>,
-    origin: Origins<'_>,
+    source: Source<'_>,
     own: &mut Own<'_, J, N, R>,
     output: &mut Output<'_, W, E>,
 ) -> bool
@@ -279,7 +279,7 @@ where
     let alloc = rt.alloc();
     let (mut lines, mut words) = (Vec::new(alloc), Vec::new(alloc));
     let mut scratch = Output::of_form(alloc, OutputForm::Bytes, &mut lines, &mut words);
-    let grade = match take_origin(rt, origin, own, &mut scratch) {
+    let grade = match take_source(rt, source, own, &mut scratch) {
         Ok(front) => {
             let _printed = scratch.print(&Told::Fronted(front));
             let _written = scratch.flush();
@@ -292,7 +292,7 @@ where
     };
     let is_taken = matches!(grade, Grade::Info);
     let said = if is_taken { &lines } else { &words };
-    let _told = tell_taken(alloc, heads, grade, origin, said, output);
+    let _told = tell_taken(alloc, heads, grade, source, said, output);
     is_taken
 }
 
@@ -316,14 +316,14 @@ where
     let mut own = Own::new(rt, rt.alloc(), node, seat, &budget);
     let mut has_data = false;
     if let Some(name) = start.file {
-        has_data = is_taken(rt, heads, Origins::File(name), &mut own, output);
+        has_data = is_taken(rt, heads, Source::File(name), &mut own, output);
         own = Own::new(rt, rt.alloc(), node, own.into_seat(), &budget);
     }
     for place in start.sources {
         let Some(place) = place else {
             break;
         };
-        if is_taken(rt, heads, Origins::Node(place), &mut own, output) {
+        if is_taken(rt, heads, Source::Node(place), &mut own, output) {
             has_data = true;
             break;
         }

@@ -1,6 +1,7 @@
 //! What a connection to a node fails by.
 
 use hk_cli_calls::NodePlace;
+use hk_cli_reasons::{Place, put_place};
 use hk_types::Refusal;
 use std::alloc::AllocError;
 use std::io;
@@ -116,15 +117,24 @@ fn put_logs(
     out.push_str("; a node takes one log alone\n")
 }
 
-/// Adds the line of a fault behind its place: who failed is at an address; the others are those of the node, and of the one
-/// that is copied from, or nothing.
+/// The address of the node that a request went to.
+fn address_of<'x>(place: Place, node: &'x str, source: &'x str) -> &'x str {
+    match place {
+        Place::Source(_request) => source,
+        _other => node,
+    }
+}
+
+/// Adds the line of a fault at a request: the addresses are those of the node, and of the one that is copied from, or nothing.
 pub(crate) fn put_fault(
     fault: &LinkFault,
-    address: &str,
+    place: Place,
     node: &str,
     source: &str,
     out: &mut String,
 ) -> Result<(), AllocError> {
+    put_place(place, out)?;
+    let address = address_of(place, node, source);
     match fault {
         LinkFault::Cut => out.push_str(
             "refused 1: the connection was cut before the reply; see whether the node still runs\n",

@@ -10,7 +10,7 @@ use crate::stop::Stop;
 use hk_cli_calls::{NodePlace, OutputForm};
 use hk_cli_json::InJson;
 use hk_cli_lines::Printed;
-use hk_cli_reasons::{Origin, Place, RequestContext, put_known, put_place, put_reason};
+use hk_cli_reasons::{Origin, Place, RequestContext, put_known, put_reason};
 use hk_marks::Got;
 use hk_model::{Front, Told};
 use hk_types::Refusal;
@@ -204,14 +204,7 @@ impl<'a, W: Write, E: Write> Output<'a, W, E> {
     /// Adds what a connection to a node failed by. Cost: O(n), n bytes of the addresses.
     fn tell_link(&mut self, fault: &LinkFault, place: Place) {
         self.next.clear();
-        let address = match place {
-            Place::Source(_request) => &self.source,
-            _other => &self.node,
-        };
-        let made = match put_place(place, &mut self.next) {
-            Ok(()) => put_fault(fault, address, &self.node, &self.source, &mut self.next),
-            Err(memory) => Err(memory),
-        };
+        let made = put_fault(fault, place, &self.node, &self.source, &mut self.next);
         self.keep_reason(made);
     }
 
