@@ -658,7 +658,7 @@ def lost_and_forked(it):
 
 
 def told_by_status(it):
-    """`status` tells how far Redis and the node are, in the words of its table; `--watch` keeps one link."""
+    """`status` tells how far Redis and the node are, in the words of its table, and a node of another log; `--watch` keeps one link."""
     status(it.publish())
     status(it.follow("--only", "1,2", "--once"))
     child = it.start(CONNECTORS / "status", *it.url(), *WORDS, "--node", it.node_port, stdout=subprocess.PIPE, text=True)
@@ -667,6 +667,9 @@ def told_by_status(it):
     wanted = [[str(stream), "1", str(last), str(it.entries), *([str(last), str(it.entries), "0", "0"] if stream < 3 else
               ["0", "0", str(last), str(it.entries)]), "-"] for stream, last in enumerate(lasts, 1)]
     holds(child.returncode == 0 and rows == wanted, f"{rows}")
+    child = it.start(CONNECTORS / "status", *it.url(), "--log", 9, "--streams", 4, "--node", it.node_port, stdout=subprocess.PIPE, text=True)
+    said = child.communicate(timeout=PATIENCE)[0]
+    holds(child.returncode == 1 and f"127.0.0.1:{it.node_port} has log 7, and not 9: refused 20: " in said, said)
     watch = it.start(CONNECTORS / "status", *it.url(), *WORDS, "--node", it.node_port, "--watch", 0.01, stdout=subprocess.PIPE, text=True)
     for _ in range(66 * (STREAMS + 3)):
         holds(watch.stdout.readline(), "--watch ended")

@@ -292,22 +292,23 @@ def other_logs():
 
 # ---------------------------------------------------------------- bodies
 
-BODIES = ((b"", "", "", ""), (b"plain", "plain", "plain", "706c61696e"), ("Zoë 東".encode(), "Zoë 東", "Zoë 東", "5a6fc3ab20e69db1"), (b"a\\b", "a\\b", "a\\\\b", "615c62"),
-          (b"a\nb", "610a62", "a\\nb", "610a62"), (b"\x1b[2J", "1b5b324a", "\\x1b[2J", "1b5b324a"), (b"\xff\x00", "ff00", "\\xff\\x00", "ff00"),
-          ("a\u202eb".encode(), "61e280ae62", "a\\u202eb", "61e280ae62"), ("\u2066".encode(), "e281a6", "\\u2066", "e281a6"), ("\u200f".encode(), "e2808f", "\\u200f", "e2808f"),
-          ("a\u2028b".encode(), "61e280a862", "a\\u2028b", "61e280a862"), ("\u00ad".encode(), "c2ad", "\\xad", "c2ad"), ("\U0001f600".encode(), "\U0001f600", "\U0001f600", "f09f9880"))
+BODIES = ((b"", "-", "-", "-"), (b"plain", "plain", "plain", "706c61696e"), ("Zoë 東".encode(), "Zoë 東", "Zoë 東", "5a6fc3ab20e69db1"), (b"a\\b", "a\\b", "a\\\\b", "615c62"),
+          (b"a\nb", "\\x610a62", "a\\nb", "610a62"), (b"\x1b[2J", "\\x1b5b324a", "\\u{1b}[2J", "1b5b324a"), (b"a\xff\x00\n", "\\x61ff000a", "a\\xff\\u{0}\\n", "61ff000a"),
+          ("ë".encode() + b"\xff", "\\xc3abff", "\\xc3\\xab\\xff", "c3abff"), ("a\u202eb".encode(), "\\x61e280ae62", "a\\u{202e}b", "61e280ae62"),
+          ("\u2066".encode(), "\\xe281a6", "\\u{2066}", "e281a6"), ("\u200f".encode(), "\\xe2808f", "\\u{200f}", "e2808f"), ("a\u2028b".encode(), "\\x61e280a862", "a\\u{2028}b", "61e280a862"),
+          ("\u00ad".encode(), "\\xc2ad", "\\u{ad}", "c2ad"), ("\ue000".encode(), "\\xee8080", "\\u{e000}", "ee8080"), ("\U0001f600".encode(), "\U0001f600", "\U0001f600", "f09f9880"))
 
 
 def bodies():
     """Bodies as text where they are plain, else in hexadecimal; always one or the other; and the tables of the command."""
     problems = [problem for body, *wanted in BODIES for problem in differ([(body, [shown(body, way) for way in ("plain", "text", "hex")], wanted)])]
     rows = [va.KeyRow(5, va.Row(9, b"A")), va.KeyRow(12, va.Row(10, b"\xff"))]
-    problems += differ([("a table", table_of(rows), "key  tag  body\n  5    9  A\n 12   10  ff\nrows 2"), ("an empty one", table_of([]), "key  tag  body\nrows 0")])
+    problems += differ([("a table", table_of(rows), "key  tag  body\n  5    9  A\n 12   10  \\xff\nrows 2"), ("an empty one", table_of([]), "key  tag  body\nrows 0")])
     with Served(12) as served, va.Node(served.port) as node:
         log = va.LogWriter(7, 1)
         node.items([log.commit([(1, 5, 9, b"A"), (1, 12, 10, b"\xff")]), *log.marks()])
         problems += differ([(words, command(["--port", str(served.port), *words])[:2], (out, 0)) for words, out in (
-            (["range", "1", "0", "99"], "5 9 41\n12 10 ff\nrows 2\n"), (["range", "1", "0", "99", "--table"], "key  tag  body\n  5    9  A\n 12   10  ff\nrows 2\n"),
+            (["range", "1", "0", "99"], "5 9 41\n12 10 ff\nrows 2\n"), (["range", "1", "0", "99", "--table"], "key  tag  body\n  5    9  A\n 12   10  \\xff\nrows 2\n"),
             (["tag", "1", "10", "--text"], "key  tag  body\n 12   10  \\xff\nrows 1\n"), (["get", "1", "5", "--hex"], "key  tag  body\n  5    9  41\nrows 1\n"),
             (["get", "1", "6", "--table"], "key  tag  body\nrows 0\n"), (["1", "get", "1", "5"], "9 41\n"), (["get", "1", "5", "--at", "1"], "9 41\n"), (["0", "count", "1"], "count 0\n"))])
         problems += differ([("both", command(["--port", str(served.port), "get", "1", "5", "--hex", "--text"])[1], 2)])

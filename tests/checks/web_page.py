@@ -259,10 +259,10 @@ def browser_wide(driver):
 
 # ---------------------------------------------------------------- the overview, names, widths
 
-READ = {b"\xff\x00\xfe": "ff00fe", b"": "empty"}
+READ = {b"\xff\x00\xfe": "\\xff00fe", b"": "empty"}
 LONG = '{"id":18446744073709551615,"in":[%s]}' % ",".join("1" * 30)
-MORE_BODIES = ((b"[1]", "[1]"), (LONG.encode(), '{\n  "id": 18446744073709551615,\n  "in": [\n%s\n  ]\n}' % ",\n".join(["    1"] * 30)), ((LONG + "}").encode(), LONG + "}"), (b"{", "{"), (b"12", "12"), ("Zo\u00eb \u6771".encode(), "Zo\u00eb \u6771"), (b"a\nb", "610a62"), ("a\u202eb".encode(), "61e280ae62"),
-               ('["\u202e"]'.encode(), '["\u202e"]'.encode().hex()), (b'{\n "a":1}', '{\n  "a": 1\n}'), (b"\xc3", "c3"))
+MORE_BODIES = ((b"[1]", "[1]"), (LONG.encode(), '{\n  "id": 18446744073709551615,\n  "in": [\n%s\n  ]\n}' % ",\n".join(["    1"] * 30)), ((LONG + "}").encode(), LONG + "}"), (b"{", "{"), (b"12", "12"), ("Zo\u00eb \u6771".encode(), "Zo\u00eb \u6771"), (b"a\nb", "\\x610a62"), ("a\u202eb".encode(), "\\x61e280ae62"),
+               ('["\u202e"]'.encode(), "\\x" + '["\u202e"]'.encode().hex()), (b'{\n "a":1}', '{\n  "a": 1\n}'), (b"\xc3", "\\xc3"))
 OVERVIEW = "return [...document.querySelectorAll('#overview tbody tr')].map(line => [...line.children].map(cell => [cell.dataset.name ?? 'node', cell.textContent]))"
 # of each text that is shown: how high its letters are, in points of the window
 SIZES = """const found = []; const walk = document.createTreeWalker(document.body, NodeFilter.SHOW_TEXT);

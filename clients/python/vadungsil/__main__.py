@@ -264,7 +264,9 @@ def main(arguments: Optional[List[str]] = None) -> int:
         return 1
     except LinkBroken as broken:
         print("refused 93")
-        print(f"refused 93: {broken}; see that a node runs there, or name another: --node", file=sys.stderr)
+        print(
+            f"refused 93: {broken}; 'hkrep node' starts a node, and --node or HKREP_NODE names another", file=sys.stderr
+        )
         return 1
     except OSError as error:
         return _failed(error)

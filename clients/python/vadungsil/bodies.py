@@ -9,8 +9,9 @@ from .values import KeyRow
 # How a body is shown: as text where it is plain text, always as text, always in hexadecimal.
 WAYS = ("plain", "text", "hex")
 
-# Control and format characters, those of direction among them, halves of pairs, and ends of lines and paragraphs.
-HIDDEN = frozenset({"Cc", "Cf", "Cs", "Zl", "Zp"})
+# Control and format characters, those of direction among them, ends of lines and paragraphs, and what has no shape.
+HIDDEN = frozenset({"Cc", "Cf", "Cn", "Co", "Cs", "Zl", "Zp"})
+SHORT = {"\\": "\\\\", "\n": "\\n"}
 
 
 def is_plain(text: str) -> bool:
@@ -19,24 +20,25 @@ def is_plain(text: str) -> bool:
 
 
 def shown(body: bytes, way: str = "plain") -> str:
-    """A body in one line: its text where it is UTF-8 without hidden characters, else two hexadecimal digits a byte. By
-    "hex" always these, by "text" always its text, with backslashes doubled, and hidden characters and bytes that are no
-    UTF-8 as escapes."""
-    if way == "text":
-        return "".join(map(_escaped, body.decode("utf-8", "surrogateescape")))
+    """A body in one line, as the tables of `hkrep shell` have it; a dash where it is empty. Its text where it is UTF-8
+    without hidden characters, else `\\x` and two hexadecimal digits a byte. By "hex" always these digits; by "text"
+    always text, with escapes for hidden characters and the backslash, and where it isn't UTF-8 for each byte that isn't
+    ASCII."""
+    if way == "hex" or not body:
+        return body.hex() or "-"
     try:
         text = body.decode()
     except UnicodeDecodeError:
-        return body.hex()
-    return text if way == "plain" and is_plain(text) else body.hex()
+        if way == "plain":
+            return f"\\x{body.hex()}"
+        return "".join(_escaped(chr(byte)) if byte < 128 else f"\\x{byte:02x}" for byte in body)
+    if way == "text":
+        return "".join(map(_escaped, text))
+    return text if is_plain(text) else f"\\x{body.hex()}"
 
 
 def _escaped(letter: str) -> str:
-    if "\udc80" <= letter <= "\udcff":  # a byte that is no UTF-8
-        return f"\\x{ord(letter) - 0xDC00:02x}"
-    if letter == "\\" or unicodedata.category(letter) in HIDDEN:
-        return letter.encode("unicode_escape").decode()
-    return letter
+    return SHORT.get(letter) or (letter if is_plain(letter) else f"\\u{{{ord(letter):x}}}")
 
 
 def table_of(rows: Iterable[KeyRow], way: str = "plain") -> str:
@@ -44,5 +46,5 @@ def table_of(rows: Iterable[KeyRow], way: str = "plain") -> str:
     texts: List[Tuple[str, str, str]] = [("key", "tag", "body")]
     texts += [(str(key), str(row.tag), shown(row.body, way)) for key, row in rows]
     keys, tags = (max(len(it[column]) for it in texts) for column in (0, 1))
-    lines = [f"{key:>{keys}}  {tag:>{tags}}  {body}".rstrip() for key, tag, body in texts]
+    lines = [f"{key:>{keys}}  {tag:>{tags}}  {body}" for key, tag, body in texts]
     return "\n".join([*lines, f"rows {len(texts) - 1}"])

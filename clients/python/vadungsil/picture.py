@@ -9,7 +9,7 @@ from typing import Iterator, List, Optional, Sequence, Tuple
 from xml.sax.saxutils import escape
 
 from .address import FORMS
-from .bodies import shown as shown_body
+from .bodies import is_plain
 from .errors import LinkBroken, Refused, VadungsilError
 from .items import Feeder
 from .node import Node
@@ -204,8 +204,8 @@ def shown(row: Optional[Row]) -> str:
     """A body in a few letters: as text where it is that, else in hexadecimal."""
     if row is None:
         return "?"
-    text = shown_body(row.body)
-    words = text if text.strip() else row.body.hex() or "-"
+    text = row.body.decode("utf-8", "replace")
+    words = text if is_plain(text) and text.strip() and text.encode() == row.body else row.body.hex() or "-"
     return words if len(words) <= 24 else f"{words[:22]}.."
 
 

@@ -26,12 +26,12 @@ export function indented(text) {
 }
 
 // Characters that don't stand for themselves on a line, as vadungsil.bodies has them; within JSON lines may end.
-const HIDDEN = /[\p{Cc}\p{Cf}\p{Cs}\p{Zl}\p{Zp}]/u, HIDDEN_IN_JSON = /[\p{Cf}\p{Cs}\p{Zl}\p{Zp}]/u;
+const HIDDEN = /[\p{C}\p{Zl}\p{Zp}]/u, HIDDEN_IN_JSON = /[\p{Cf}\p{Cn}\p{Co}\p{Cs}\p{Zl}\p{Zp}]/u;
 
 // JSON of so many letters stays on its line.
 const SHORT = 60;
 
-// A body as JSON in lines where it is a long object or list, as text where it is plain text, else in hexadecimal.
+// A body as JSON in lines where it is a long object or list, as text where it is plain text, else in hexadecimal behind \\x.
 function readable(bytes, hex) {
   let text;
   try {
@@ -39,9 +39,9 @@ function readable(bytes, hex) {
     const isShort = text.length <= SHORT && !HIDDEN.test(text);
     if (/^\s*[{[]/.test(text) && !HIDDEN_IN_JSON.test(text) && !isShort) return indented(text);
   } catch (error) {
-    if (!(error instanceof SyntaxError)) return hex;
+    if (!(error instanceof SyntaxError)) return `\\x${hex}`;
   }
-  return HIDDEN.test(text) ? hex : text;
+  return HIDDEN.test(text) ? `\\x${hex}` : text;
 }
 
 // A body in the wanted view, and what is to be said where it isn't of that kind.
