@@ -21,16 +21,20 @@ fn fed(alloc: Global, bytes: &[u8]) -> Result<Vec<Item>, Refusal> {
     Ok(items)
 }
 
-/// An entry of 71 bytes in version 1, a mark of 32 in version 2, an entry, a mark and so on.
-fn frames(alloc: Global) -> Result<Vec<u8>, Fail> {
-    let (entry, mark) = (item(alloc, 3)?, item(alloc, 6)?);
+/// The frames of an entry, of 71 bytes in version 1, and of a mark, of 32 in version 2.
+fn pair(alloc: Global) -> Result<Vec<u8>, Fail> {
     let mut bytes = Vec::new(alloc);
-    for number in 0..FRAMES {
-        if number % 2 == 0 {
-            encode_old(&entry, &mut bytes)?;
-        } else {
-            encode(&mark, &mut bytes)?;
-        }
+    encode_old(&item(alloc, 3)?, &mut bytes)?;
+    encode(&item(alloc, 6)?, &mut bytes)?;
+    Ok(bytes)
+}
+
+/// These two, again and again.
+fn frames(alloc: Global) -> Result<Vec<u8>, Fail> {
+    let pair = pair(alloc)?;
+    let mut bytes = Vec::new(alloc);
+    for _ in 0..FRAMES / 2 {
+        bytes.extend_from_slice(&pair)?;
     }
     Ok(bytes)
 }
