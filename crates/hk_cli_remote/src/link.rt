@@ -205,10 +205,14 @@ impl<'a> Link<'a> {
             return Err(self.fault(LinkFault::Cut));
         }
         self.progress.add(count);
-        let piece = &self.piece[..count];
-        match self.feeder.feed(piece, &mut self.replies) {
-            Err(why) if self.replies.is_empty() => Err(self.malformed(why, peer_of(piece))),
-            _fed => Ok(()),
+        let fed = self.feeder.feed(&self.piece[..count], &mut self.replies);
+        if !self.replies.is_empty() {
+            return Ok(());
+        }
+        let peer = peer_of(&self.piece[..count]);
+        match fed {
+            Ok(()) => Ok(()),
+            Err(why) => Err(self.malformed(why, peer)),
         }
     }
 
