@@ -1,6 +1,6 @@
 //! The position of a connection's bytes in their frames, without a look at what the frames contain.
 
-ghost use Rattle.std.specs.Prelude.{◌≡◌, ◌<◌, ◌≤◌, true, length};
+ghost use Rattle.std.specs.Prelude.{◌≡◌, ◌<◌, ◌≤◌, ◌+◌, true, length};
 ghost use Rattle.hk_net.specs.Doors.{is_feeding, is_reading, is_too_long, lets_through, passes_all};
 
 /// How many bytes the length field of a frame has.
