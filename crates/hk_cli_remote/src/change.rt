@@ -96,9 +96,15 @@ pub trait Taker {
     fn take(&mut self, request: Request) -> Result<Reply, Stop>;
 }
 
+/// The resolved time of the node.
+fn readable_at(link: &mut Link<'_>) -> Result<Time, Stop> {
+    let front = front_at(link)?;
+    Ok(front.readable)
+}
+
 impl Taker for Link<'_> {
     fn readable(&mut self) -> Result<Time, Stop> {
-        Ok(front_at(self)?.readable)
+        readable_at(self)
     }
 
     fn reads_second(&mut self) -> Result<bool, Stop> {
