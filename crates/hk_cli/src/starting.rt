@@ -72,11 +72,17 @@ impl<'a, J: NodeName, N: Wait + Drop, R: Threads + Wait + Sync> Own<'a, J, N, R>
             _none => Err(Stop::Refused(BAD_KIND)),
         }
     }
+
+    /// Its resolved time.
+    fn resolved(&mut self) -> Result<Time, Stop> {
+        let front = self.front()?;
+        Ok(front.readable)
+    }
 }
 
 impl<J: NodeName, N: Wait + Drop, R: Threads + Wait + Sync> Taker for Own<'_, J, N, R> {
     fn readable(&mut self) -> Result<Time, Stop> {
-        Ok(self.front()?.readable)
+        self.resolved()
     }
 
     fn reads_second(&mut self) -> Result<bool, Stop> {
