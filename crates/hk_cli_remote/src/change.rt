@@ -1,20 +1,30 @@
-//! What changes a node: `pull` and `prune`, and what a node begins with.
+//! What changes a node: `pull` and `prune`; and what another node has, as the requests that give it to one.
 
 use crate::link::{Link, unasked};
 use crate::order::Terminal;
 use crate::parts::{Parts, TOO_LONG, hand_parts, is_too_long, taking};
-use crate::read::front_at;
+use crate::read::{front_at, send_parts};
 use crate::stream::opened;
 use hk_cli_calls::{Limits, NodeCall, NodePlace};
 use hk_cli_commands::{Output, Stop};
 use hk_cli_reasons::{Origin, RequestContext};
 use hk_log::Version;
 use hk_types::{Refusal, Time, VersionKey};
-use hk_wire::{LaterReply, LaterRequest, Reply, Request};
+use hk_wire::{LaterReply, LaterRequest, Reply, Request, encode_request};
 use std::alloc::Global;
-use std::io::{Stderr, Write};
+use std::io::Write;
 use std::net::{Net, TcpListener, TcpStream};
 use std::rt::Clock;
+
+/// Sends a request, and prints its reply.
+fn tell<W: Write, E: Write>(
+    link: &mut Link<'_>,
+    request: &Request,
+    output: &mut Output<'_, W, E>,
+) -> Result<(), Stop> {
+    let reply = link.granted(request)?;
+    output.print(&reply)
+}
 
 /// Has the node drop the versions that no read at a time or later needs, and prints its number.
 pub(crate) fn prune<W: Write, E: Write>(
@@ -22,8 +32,7 @@ pub(crate) fn prune<W: Write, E: Write>(
     horizon: Time,
     output: &mut Output<'_, W, E>,
 ) -> Result<(), Stop> {
-    let reply = link.granted(&Request::Prune { horizon })?;
-    output.print(&reply)
+    tell(link, &Request::Prune { horizon }, output)
 }
 
 /// Whether a delta was refused for its base alone, so that a full snapshot may serve in its place.
@@ -84,95 +93,38 @@ fn handed_on(from: &mut Link<'_>, base: Time) -> Result<Handed, Stop> {
     }
 }
 
-/// A node that is given what another one has: over a connection, or in the same program.
-pub trait Taker {
-    /// Returns its resolved time, or what stops the command.
-    fn readable(&mut self) -> Result<Time, Stop>;
-
-    /// Returns whether it reads requests of version 2.
-    fn reads_second(&mut self) -> Result<bool, Stop>;
-
-    /// Has it answer a request. A refusal stops the command.
-    fn take(&mut self, request: Request) -> Result<Reply, Stop>;
-}
-
-/// The resolved time of the node.
-fn readable_at(link: &mut Link<'_>) -> Result<Time, Stop> {
-    let front = front_at(link)?;
-    Ok(front.readable)
-}
-
-impl Taker for Link<'_> {
-    fn readable(&mut self) -> Result<Time, Stop> {
-        readable_at(self)
-    }
-
-    fn reads_second(&mut self) -> Result<bool, Stop> {
-        self.reads_later()
-    }
-
-    fn take(&mut self, request: Request) -> Result<Reply, Stop> {
-        self.granted(&request)
-    }
-}
-
 /// Chunks on their way to a node.
 #[derive(Drop)]
-struct Adder<'k, T: Taker> {
-    own: &'k mut T,
+struct Adder<'k, 'l> {
+    link: &'k mut Link<'l>,
 }
 
-impl<T: Taker> Parts for Adder<'_, T> {
+impl Parts for Adder<'_, '_> {
     /// Has the node keep the facts until the head is there.
     fn take(&mut self, facts: Vec<(VersionKey, Version)>) -> Result<(), Stop> {
-        match self.own.take(Request::Later(LaterRequest::AddPart(facts)))? {
-            Reply::Later(LaterReply::Added { .. }) => Ok(()),
+        match self.link.granted_later(LaterRequest::AddPart(facts))? {
+            LaterReply::Added { .. } => Ok(()),
             _none => Err(unasked()),
         }
     }
 }
 
-/// Gives a node in chunks what another has applied since a time, or its full snapshot since 0, and returns the reply. Where one of
-/// them doesn't read requests of chunks, it stops for what was refused before.
-fn give_parts<T: Taker>(
-    own: &mut T,
+/// Copies to a node in chunks what another has applied since a time, or its full snapshot since 0, and prints the
+/// node's number. Where one of them doesn't read requests of chunks, it stops for what was refused before.
+fn pull_parts<W: Write, E: Write>(
+    own: &mut Link<'_>,
     other: &mut Link<'_>,
     base: Time,
     long: Origin,
-) -> Result<Reply, Stop> {
-    if !own.reads_second()? || !other.reads_later()? {
+    output: &mut Output<'_, W, E>,
+) -> Result<(), Stop> {
+    if !own.reads_later()? || !other.reads_later()? {
         return Err(Stop::RefusedAt(TOO_LONG, long));
     }
-    let mut adder = Adder { own };
+    let mut adder = Adder { link: own };
     let head = hand_parts(other, base, &mut adder)?;
-    adder.own.take(Request::Later(taking(head)))
-}
-
-/// Gives a node what the one at a place has applied since the node's resolved time, or its full snapshot where it refuses the delta for
-/// its base, and returns the node's reply: in chunks where a message has no room for it. On a terminal each megabyte that comes is
-/// counted. Where that place can't be reached, why is printed on `output`. What stops it otherwise is as in `run_order`; nothing was joined then. Cost: O(n), n bytes of what goes.
-pub fn give_from<
-    R: Net<Listener = TcpListener, Stream = TcpStream> + Clock,
-    T: Taker,
-    W: Write,
-    E: Write,
->(
-    rt: &R,
-    alloc: Global,
-    place: NodePlace<'_>,
-    limits: Limits,
-    terminal: Option<Stderr>,
-    own: &mut T,
-    output: &mut Output<'_, W, E>,
-) -> Result<Reply, Stop> {
-    let stream = opened(rt, place, limits, output)?;
-    let mut other = Link::new(alloc, &stream, limits, terminal, true)?;
-    output.copy_from(place)?;
-    let readable = own.readable()?;
-    match handed_on(&mut other, readable)? {
-        Handed::Frame(request) => own.take(request),
-        Handed::Long(base, long) => give_parts(own, &mut other, base, long),
-    }
+    let reply = own.granted_later(taking(head))?;
+    output.print(&reply)
 }
 
 /// Copies to the node what the call's source has applied since the node's resolved time, and prints its number.
@@ -183,7 +135,57 @@ pub(crate) fn pull<R: Net<Listener = TcpListener, Stream = TcpStream> + Clock, W
     terminal: Terminal,
     output: &mut Output<'_, W, E>,
 ) -> Result<(), Stop> {
-    let (alloc, source) = (own.alloc(), call.source.unwrap_or(call.place));
-    let reply = give_from(rt, alloc, source, call.limits, terminal.errors, own, output)?;
-    output.print(&reply)
+    let source = call.source.unwrap_or(call.place);
+    let stream = opened(rt, source, call.limits, output)?;
+    let mut other = Link::new(own.alloc(), &stream, call.limits, terminal.errors, true)?;
+    output.copy_from(source)?;
+    let front = front_at(own)?;
+    match handed_on(&mut other, front.readable)? {
+        Handed::Frame(request) => tell(own, &request, output),
+        Handed::Long(base, long) => pull_parts(own, &mut other, base, long, output),
+    }
+}
+
+/// Writes what the node at a place has applied since a time, or its full snapshot where it refuses a delta for that time: as the request
+/// that gives it to a node, or in chunks where a message has no room for it. What stops it is as in `run_order`; what was written then is
+/// no whole. Cost: O(n), n bytes of what is written.
+pub fn fetch_from<R: Net<Listener = TcpListener, Stream = TcpStream> + Clock, W: Write, E: Write>(
+    rt: &R,
+    alloc: Global,
+    place: NodePlace<'_>,
+    limits: Limits,
+    base: Time,
+    output: &mut Output<'_, W, E>,
+) -> Result<(), Stop> {
+    let stream = opened(rt, place, limits, output)?;
+    let mut other = Link::new(alloc, &stream, limits, None, true)?;
+    output.copy_from(place)?;
+    match handed_on(&mut other, base)? {
+        Handed::Frame(request) => send_request(alloc, &request, output),
+        Handed::Long(base, long) => send_long(&mut other, base, long, output),
+    }
+}
+
+/// Writes a request.
+fn send_request<W: Write, E: Write>(
+    alloc: Global,
+    request: &Request,
+    output: &mut Output<'_, W, E>,
+) -> Result<(), Stop> {
+    let mut frame = Vec::new(alloc);
+    encode_request(request, &mut frame)?;
+    output.send(&frame)
+}
+
+/// Writes in chunks what a node has applied since a time, where it reads requests of chunks.
+fn send_long<W: Write, E: Write>(
+    other: &mut Link<'_>,
+    base: Time,
+    long: Origin,
+    output: &mut Output<'_, W, E>,
+) -> Result<(), Stop> {
+    if !other.reads_later()? {
+        return Err(Stop::RefusedAt(TOO_LONG, long));
+    }
+    send_parts(other, base, output)
 }

@@ -14,6 +14,6 @@ mod shell;
 mod stream;
 mod table;
 
-pub use change::{Taker, give_from};
+pub use change::fetch_from;
 pub use link::refusal_of;
 pub use order::{Terminal, run_order};

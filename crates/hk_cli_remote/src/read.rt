@@ -133,13 +133,14 @@ impl<W: Write, E: Write> Parts for Writer<'_, '_, W, E> {
     }
 }
 
-/// Writes the requests that give the chunks of a full snapshot to a node.
-fn send_parts<W: Write, E: Write>(
+/// Writes the requests that give the chunks of what a node has applied since a time to another, those of its full snapshot since 0.
+pub(crate) fn send_parts<W: Write, E: Write>(
     link: &mut Link<'_>,
+    base: Time,
     output: &mut Output<'_, W, E>,
 ) -> Result<(), Stop> {
     let mut writer = Writer::new(link.alloc(), output);
-    let head = hand_parts(link, Time::zero(), &mut writer)?;
+    let head = hand_parts(link, base, &mut writer)?;
     writer.send(taking(head))
 }
 
@@ -152,7 +153,7 @@ fn send_refused<W: Write, E: Write>(
 ) -> Result<(), Stop> {
     let origin = link.origin(RequestContext::Nothing);
     if is_too_long(&why) && link.reads_later()? {
-        return send_parts(link, output);
+        return send_parts(link, Time::zero(), output);
     }
     Err(Stop::RefusedAt(why, origin))
 }
