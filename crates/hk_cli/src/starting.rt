@@ -7,7 +7,7 @@ use crate::head::{Grade, Heads};
 use hk_cli_calls::{Limits, NodePlace, OutputForm, Start};
 use hk_cli_commands::{Output, Stop};
 use hk_cli_reasons::{Origin, Place, RequestContext};
-use hk_cli_remote::{Taker, give_from, refusal_of};
+use hk_cli_remote::{fetch_from, refusal_of};
 use hk_model::{Front, Told};
 use hk_net::{LinkState, NodeHost, PartsBudget, PartsHost};
 use hk_node::{Node, NodeName, ReaderSeat};
@@ -29,7 +29,7 @@ const LIMITS: Limits = Limits {
     reply_seconds: 30,
 };
 
-/// The refusal of a request that no file of `save` has.
+/// The refusal of a request that gives no snapshot.
 const BAD_KIND: Refusal = Refusal::Form(FormFault::BadKind);
 
 /// The origin of what a node of the same program refuses.
@@ -38,36 +38,65 @@ const HERE: Origin = Origin {
     asked: RequestContext::Nothing,
 };
 
-/// The node, as it is given what others have: by the host of a connection that may do everything.
+/// The node, as it takes what others have: by the host of a connection that may do everything. It answers the requests that give it
+/// a snapshot, of which the last, by which it takes all, is kept until the input ended well.
 #[derive(Drop)]
-struct Own<'a, J: NodeName, N: Wait + Drop, R: Threads + Wait + Sync> {
-    host: PartsHost<'a, NodeHost<'a, J, N, R>>,
+struct Own<'n, 'b, J: NodeName, N: Wait + Drop, R: Threads + Wait + Sync> {
+    host: PartsHost<'b, NodeHost<'n, J, N, R>>,
+    last: Option<Request>,
+    /// Why the first was refused that was.
+    refused: Option<Refusal>,
 }
 
-impl<'a, J: NodeName, N: Wait + Drop, R: Threads + Wait + Sync> Own<'a, J, N, R> {
-    /// The node on a seat of it, with nothing of what came before.
+/// Whether a request is the last of a snapshot's.
+fn is_last(request: &Request) -> bool {
+    matches!(
+        request,
+        Request::MergeThis(_)
+            | Request::JoinThis(_)
+            | Request::Later(LaterRequest::MergeParts(_) | LaterRequest::JoinParts(_))
+    )
+}
+
+/// Whether a request has a chunk of a snapshot.
+fn is_part(request: &Request) -> bool {
+    matches!(request, Request::Later(LaterRequest::AddPart(_)))
+}
+
+/// Why an input isn't taken whose session ended so.
+fn stop_of(ended: Ended) -> Option<Stop> {
+    match ended {
+        Ended::Clean => None,
+        Ended::Fault(fault) => Some(Stop::Refused(Refusal::Form(fault))),
+        Ended::Memory => Some(Stop::Refused(Refusal::Memory)),
+        _read => Some(Stop::ReadFault),
+    }
+}
+
+impl<'n, 'b, J: NodeName, N: Wait + Drop, R: Threads + Wait + Sync> Own<'n, 'b, J, N, R> {
+    /// The node by a host of it, with nothing of what came before.
     fn new(
-        rt: &'a R,
         alloc: Global,
-        node: &'a Node<J, N>,
-        seat: ReaderSeat<J>,
-        budget: &'a PartsBudget,
-    ) -> Own<'a, J, N, R> {
+        host: NodeHost<'n, J, N, R>,
+        budget: &'b PartsBudget,
+    ) -> Own<'n, 'b, J, N, R> {
         let kept = LinkState::new(alloc, budget, Vec::new(alloc));
         Own {
-            host: PartsHost::new(NodeHost::new(rt, alloc, node, seat), kept),
+            host: PartsHost::new(host, kept),
+            last: None,
+            refused: None,
         }
     }
 
-    /// The seat again.
-    fn into_seat(self) -> ReaderSeat<J> {
+    /// The host again. What came of a snapshot that wasn't taken is dropped.
+    fn into_host(self) -> NodeHost<'n, J, N, R> {
         let (host, _no_pins) = self.host.end();
-        host.into_seat()
+        host
     }
 
     /// Its range of readable times.
     fn front(&mut self) -> Result<Front, Stop> {
-        match self.take(Request::Front)? {
+        match self.host.answer(Request::Front) {
             Reply::Front(front) => Ok(front),
             _none => Err(Stop::Refused(BAD_KIND)),
         }
@@ -78,50 +107,8 @@ impl<'a, J: NodeName, N: Wait + Drop, R: Threads + Wait + Sync> Own<'a, J, N, R>
         let front = self.front()?;
         Ok(front.readable)
     }
-}
 
-impl<J: NodeName, N: Wait + Drop, R: Threads + Wait + Sync> Taker for Own<'_, J, N, R> {
-    fn readable(&mut self) -> Result<Time, Stop> {
-        self.resolved()
-    }
-
-    fn reads_second(&mut self) -> Result<bool, Stop> {
-        Ok(true)
-    }
-
-    fn take(&mut self, request: Request) -> Result<Reply, Stop> {
-        let reply = self.host.answer(request);
-        match refusal_of(&reply) {
-            Some(why) => Err(Stop::RefusedAt(why, HERE)),
-            None => Ok(reply),
-        }
-    }
-}
-
-/// Answers the requests of a file: those of a snapshot, of which the last, by which the node takes it, is kept until the file ended well.
-#[derive(Drop)]
-struct FileHost<'h, 'a, J: NodeName, N: Wait + Drop, R: Threads + Wait + Sync> {
-    own: &'h mut Own<'a, J, N, R>,
-    last: Option<Request>,
-    /// Why the first was refused that was.
-    refused: Option<Refusal>,
-}
-
-/// Whether a request is the last of a snapshot's.
-fn is_last(request: &Request) -> bool {
-    matches!(
-        request,
-        Request::MergeThis(_) | Request::Later(LaterRequest::MergeParts(_))
-    )
-}
-
-/// Whether a request has a chunk of a snapshot.
-fn is_part(request: &Request) -> bool {
-    matches!(request, Request::Later(LaterRequest::AddPart(_)))
-}
-
-impl<J: NodeName, N: Wait + Drop, R: Threads + Wait + Sync> FileHost<'_, '_, J, N, R> {
-    /// Gives the node a chunk, or keeps the last request.
+    /// Takes a chunk, or keeps the last request.
     fn given(&mut self, request: Request) -> Reply
         requires { IsSync R.row }
     {
@@ -129,7 +116,7 @@ impl<J: NodeName, N: Wait + Drop, R: Threads + Wait + Sync> FileHost<'_, '_, J, 
             return Reply::Refused(BAD_KIND);
         }
         if is_part(&request) {
-            return self.own.host.answer(request);
+            return self.host.answer(request);
         }
         if !is_last(&request) {
             return Reply::Refused(BAD_KIND);
@@ -138,32 +125,39 @@ impl<J: NodeName, N: Wait + Drop, R: Threads + Wait + Sync> FileHost<'_, '_, J, 
         Reply::Done { ops: 0 }
     }
 
-    /// Gives the node the last request, where the file ended well.
+    /// Answers the last request.
+    fn take_last(&mut self) -> Result<(), Stop> {
+        let Some(request) = mem::take(&mut self.last) else {
+            return Err(Stop::Refused(Refusal::Form(FormFault::Truncated)));
+        };
+        let reply = self.host.answer(request);
+        match refusal_of(&reply) {
+            Some(why) => Err(Stop::RefusedAt(why, HERE)),
+            None => Ok(()),
+        }
+    }
+
+    /// Answers the last request, where the input ended well.
     fn finish(&mut self, ended: Ended) -> Result<(), Stop> {
         if let Some(why) = self.refused {
             return Err(Stop::RefusedAt(why, HERE));
         }
-        if let Some(stop) = stop_of(ended) {
-            return Err(stop);
+        match stop_of(ended) {
+            Some(stop) => Err(stop),
+            None => self.take_last(),
         }
-        match mem::take(&mut self.last) {
-            Some(request) => self.own.take(request).map(drop),
-            None => Err(Stop::Refused(Refusal::Form(FormFault::Truncated))),
-        }
+    }
+
+    /// Takes the snapshot that an input has: all of it, or nothing.
+    fn take_input<I: Read + Drop>(&mut self, alloc: Global, input: I) -> Result<(), Stop> {
+        let mut reader = Counted::new(input);
+        let mut writer = Counted::new(io::sink());
+        let ended = serve::<2, _, _, _>(alloc, &mut reader, &mut writer, self);
+        self.finish(ended)
     }
 }
 
-/// Why a file isn't taken whose session ended so.
-fn stop_of(ended: Ended) -> Option<Stop> {
-    match ended {
-        Ended::Clean => None,
-        Ended::Fault(fault) => Some(Stop::Refused(Refusal::Form(fault))),
-        Ended::Memory => Some(Stop::Refused(Refusal::Memory)),
-        _read => Some(Stop::ReadFault),
-    }
-}
-
-impl<J: NodeName, N: Wait + Drop, R: Threads + Wait + Sync> Host for FileHost<'_, '_, J, N, R> {
+impl<J: NodeName, N: Wait + Drop, R: Threads + Wait + Sync> Host for Own<'_, '_, J, N, R> {
     ghost may = { λ _ _ _ _. ⊤ };
 
     ghost ready = { λ _. IsSync R.row };
@@ -174,43 +168,6 @@ impl<J: NodeName, N: Wait + Drop, R: Threads + Wait + Sync> Host for FileHost<'_
             self.refused = self.refused.or(Some(why));
         }
         reply
-    }
-}
-
-/// Has the node take the snapshot that an input has: all of it, or nothing.
-fn take_input<I: Read + Drop, J: NodeName, N: Wait + Drop, R: Threads + Wait + Sync>(
-    alloc: Global,
-    input: I,
-    own: &mut Own<'_, J, N, R>,
-) -> Result<(), Stop> {
-    let mut reader = Counted::new(input);
-    let mut writer = Counted::new(io::sink());
-    let mut host = FileHost {
-        own,
-        last: None,
-        refused: None,
-    };
-    let ended = serve::<2, _, _, _>(alloc, &mut reader, &mut writer, &mut host);
-    host.finish(ended)
-}
-
-/// What is printed while a node takes something: words alone.
-type Scratch<'s> = Output<'s, Vec<u8>, Vec<u8>>;
-
-/// Has the node take the snapshot of the file of this name.
-fn take_file<J: NodeName, N: Wait + Drop, R: Threads + Wait + Sync + Files + Alloc<A = Global>>(
-    rt: &R,
-    name: &str,
-    own: &mut Own<'_, J, N, R>,
-    scratch: &mut Scratch<'_>,
-) -> Result<(), Stop> {
-    match fs::open(rt, name) {
-        Ok(file) => take_input(rt.alloc(), file, own),
-        Err(error) => {
-            let line = format!(in rt.alloc(); "can't open it: {error}\n")?;
-            scratch.note(line.as_str());
-            Err(Stop::NetTold)
-        }
     }
 }
 
@@ -233,35 +190,112 @@ fn name_of(alloc: Global, source: Source<'_>) -> Result<String, AllocError> {
     }
 }
 
-/// Has the node take something, and returns its range of readable times after that.
+/// Adds in words why something stopped.
+fn explain(alloc: Global, stop: Stop, words: &mut Vec<u8>) {
+    let mut lines = Vec::new(alloc);
+    let mut output = Output::of_form(alloc, OutputForm::Bytes, &mut lines, words);
+    let _status = output.stop(stop);
+}
+
+/// Adds in words a range of readable times.
+fn show(alloc: Global, front: Front, words: &mut Vec<u8>) {
+    let mut none = Vec::new(alloc);
+    let mut output = Output::of_form(alloc, OutputForm::Bytes, words, &mut none);
+    let _printed = output.print(&Told::Fronted(front));
+    let _written = output.flush();
+}
+
+/// Adds the requests that give what the node at a place has applied since a time, or in words why there are none.
+fn is_fetched<R: Net<Listener = TcpListener, Stream = TcpStream> + Clock + Alloc<A = Global>>(
+    rt: &R,
+    place: NodePlace<'_>,
+    base: Time,
+    frames: &mut Vec<u8>,
+    words: &mut Vec<u8>,
+) -> bool {
+    let alloc = rt.alloc();
+    let mut output = Output::of_form(alloc, OutputForm::Bytes, frames, words);
+    match fetch_from(rt, alloc, place, LIMITS, base, &mut output) {
+        Ok(()) => output.flush().is_ok(),
+        Err(stop) => {
+            let _status = output.stop(stop);
+            false
+        }
+    }
+}
+
+/// Has the node take what another has above what it has. `None` where why not is in the words already.
+fn take_node<J: NodeName, N: Wait + Drop, R>(
+    rt: &R,
+    place: NodePlace<'_>,
+    own: &mut Own<'_, '_, J, N, R>,
+    words: &mut Vec<u8>,
+) -> Result<bool, Stop>
+where
+    R: Net<Listener = TcpListener, Stream = TcpStream> + Clock + Alloc<A = Global>,
+    R: Threads + Wait + Sync,
+{
+    let base = own.resolved()?;
+    let mut frames = Vec::new(rt.alloc());
+    if !is_fetched(rt, place, base, &mut frames, words) {
+        return Ok(false);
+    }
+    own.take_input(rt.alloc(), frames.as_slice())?;
+    Ok(true)
+}
+
+/// Has the node take the snapshot of the file of this name. `false` where why not is in the words already.
+fn take_file<J: NodeName, N: Wait + Drop, R: Threads + Wait + Sync + Files + Alloc<A = Global>>(
+    rt: &R,
+    name: &str,
+    own: &mut Own<'_, '_, J, N, R>,
+    words: &mut Vec<u8>,
+) -> Result<bool, Stop> {
+    match fs::open(rt, name) {
+        Ok(file) => {
+            own.take_input(rt.alloc(), file)?;
+            Ok(true)
+        }
+        Err(error) => {
+            let line = format!(in rt.alloc(); "can't open it: {error}\n")?;
+            words.extend_from_slice(line.as_bytes())?;
+            Ok(false)
+        }
+    }
+}
+
+/// Has the node take something, and adds in words what came of it. Returns whether it was taken.
 fn take_source<J: NodeName, N: Wait + Drop, R>(
     rt: &R,
     source: Source<'_>,
-    own: &mut Own<'_, J, N, R>,
-    scratch: &mut Scratch<'_>,
-) -> Result<Front, Stop>
+    own: &mut Own<'_, '_, J, N, R>,
+    words: &mut Vec<u8>,
+) -> Result<bool, Stop>
 where
     R: Net<Listener = TcpListener, Stream = TcpStream> + Clock + Files + Alloc<A = Global>,
     R: Threads + Wait + Sync,
 {
-    match source {
-        Source::File(name) => take_file(rt, name, own, scratch)?,
-        Source::Node(place) => {
-            let _done = give_from(rt, rt.alloc(), place, LIMITS, None, own, scratch)?;
-        }
+    let is_taken = match source {
+        Source::File(name) => take_file(rt, name, own, words)?,
+        Source::Node(place) => take_node(rt, place, own, words)?,
+    };
+    if is_taken {
+        let front = own.front()?;
+        show(rt.alloc(), front, words);
     }
-    own.front()
+    Ok(is_taken)
 }
 
 /// Prints what came of taking something.
 fn tell_taken<C: Clock, W: Write, E: Write>(
     alloc: Global,
     heads: &Heads<'_, C>,
-    grade: Grade,
+    is_taken: bool,
     source: Source<'_>,
     words: &[u8],
     output: &mut Output<'_, W, E>,
 ) -> Result<(), AllocError> {
+    let grade = if is_taken { Grade::Info } else { Grade::Warn };
     let head = heads.head(grade, None)?;
     output.note(head.as_str());
     let name = name_of(alloc, source)?;
@@ -270,45 +304,98 @@ fn tell_taken<C: Clock, W: Write, E: Write>(
     Ok(())
 }
 
-/// Has the node take something, prints what came of it, and returns whether it was taken.
-fn is_taken<J: NodeName, N: Wait + Drop, R, W: Write, E: Write>(
+/// Has the node of a host take something, and adds in words what came of it. Returns the host, and whether it was taken.
+fn taken_by<'n, J: NodeName, N: Wait + Drop, R>(
     rt: &R,
-    heads: &Heads<'_, R>,
     source: Source<'_>,
-    own: &mut Own<'_, J, N, R>,
-    output: &mut Output<'_, W, E>,
-) -> bool
+    host: NodeHost<'n, J, N, R>,
+    words: &mut Vec<u8>,
+) -> (NodeHost<'n, J, N, R>, bool)
 where
     R: Net<Listener = TcpListener, Stream = TcpStream> + Clock + Files + Alloc<A = Global>,
     R: Threads + Wait + Sync,
 {
-    let alloc = rt.alloc();
-    let (mut lines, mut words) = (Vec::new(alloc), Vec::new(alloc));
-    let mut scratch = Output::of_form(alloc, OutputForm::Bytes, &mut lines, &mut words);
-    let grade = match take_source(rt, source, own, &mut scratch) {
-        Ok(front) => {
-            let _printed = scratch.print(&Told::Fronted(front));
-            let _written = scratch.flush();
-            Grade::Info
-        }
+    // Nobody else is served yet.
+    let budget = PartsBudget::new(u64::MAX);
+    let mut own = Own::new(rt.alloc(), host, &budget);
+    let is_taken = match take_source(rt, source, &mut own, words) {
+        Ok(is_taken) => is_taken,
         Err(stop) => {
-            let _status = scratch.stop(stop);
-            Grade::Warn
+            explain(rt.alloc(), stop, words);
+            false
         }
     };
-    let is_taken = matches!(grade, Grade::Info);
-    let said = if is_taken { &lines } else { &words };
-    let _told = tell_taken(alloc, heads, grade, source, said, output);
-    is_taken
+    (own.into_host(), is_taken)
+}
+
+/// The same, and prints what came of it.
+fn taken_and_told<'n, J: NodeName, N: Wait + Drop, R, W: Write, E: Write>(
+    rt: &R,
+    heads: &Heads<'_, R>,
+    source: Source<'_>,
+    host: NodeHost<'n, J, N, R>,
+    output: &mut Output<'_, W, E>,
+) -> (NodeHost<'n, J, N, R>, bool)
+where
+    R: Net<Listener = TcpListener, Stream = TcpStream> + Clock + Files + Alloc<A = Global>,
+    R: Threads + Wait + Sync,
+{
+    let mut words = Vec::new(rt.alloc());
+    let (host, is_taken) = taken_by(rt, source, host, &mut words);
+    let _told = tell_taken(rt.alloc(), heads, is_taken, source, &words, output);
+    (host, is_taken)
+}
+
+/// Has the node of a host take what the first of these nodes has that gives something. Returns the host, and whether one did.
+fn taken_of_first<'n, J: NodeName, N: Wait + Drop, R, W: Write, E: Write>(
+    rt: &R,
+    heads: &Heads<'_, R>,
+    sources: &[Option<NodePlace<'_>>],
+    host: NodeHost<'n, J, N, R>,
+    output: &mut Output<'_, W, E>,
+) -> (NodeHost<'n, J, N, R>, bool)
+where
+    R: Net<Listener = TcpListener, Stream = TcpStream> + Clock + Files + Alloc<A = Global>,
+    R: Threads + Wait + Sync,
+{
+    let mut host = host;
+    for place in sources {
+        if let Some(place) = place {
+            let (next, is_taken) = taken_and_told(rt, heads, Source::Node(*place), host, output);
+            host = next;
+            if is_taken {
+                return (host, true);
+            }
+        }
+    }
+    (host, false)
+}
+
+/// Has the node of a host take what the file of this name has, if one is named. Returns the host, and whether it was taken.
+fn taken_of_file<'n, J: NodeName, N: Wait + Drop, R, W: Write, E: Write>(
+    rt: &R,
+    heads: &Heads<'_, R>,
+    name: Option<&str>,
+    host: NodeHost<'n, J, N, R>,
+    output: &mut Output<'_, W, E>,
+) -> (NodeHost<'n, J, N, R>, bool)
+where
+    R: Net<Listener = TcpListener, Stream = TcpStream> + Clock + Files + Alloc<A = Global>,
+    R: Threads + Wait + Sync,
+{
+    match name {
+        Some(name) => taken_and_told(rt, heads, Source::File(name), host, output),
+        None => (host, false),
+    }
 }
 
 /// Has a node take what it begins with: first what the file has, then what the first node that gives something has above that. Each is
 /// taken whole or not at all, as over a connection that may do everything, without one; a line on `errors` says what came of it. Returns
-/// the seat, and whether anything was taken. Cost: that of what is taken.
-pub(crate) fn begin<J: NodeName, N: Wait + Drop, R, W: Write, E: Write>(
-    rt: &R,
+/// the seat, and whether anything was taken. Cost: that of what is taken, which is kept beside the node until then.
+pub(crate) fn begin<'n, J: NodeName, N: Wait + Drop, R, W: Write, E: Write>(
+    rt: &'n R,
     heads: &Heads<'_, R>,
-    node: &Node<J, N>,
+    node: &'n Node<J, N>,
     seat: ReaderSeat<J>,
     start: &Start<'_>,
     output: &mut Output<'_, W, E>,
@@ -317,23 +404,8 @@ where
     R: Net<Listener = TcpListener, Stream = TcpStream> + Clock + Files + Alloc<A = Global>,
     R: Threads + Wait + Sync,
 {
-    // Nobody else is served yet.
-    let budget = PartsBudget::new(u64::MAX);
-    let mut own = Own::new(rt, rt.alloc(), node, seat, &budget);
-    let mut has_data = false;
-    if let Some(name) = start.file {
-        has_data = is_taken(rt, heads, Source::File(name), &mut own, output);
-        own = Own::new(rt, rt.alloc(), node, own.into_seat(), &budget);
-    }
-    for place in start.sources {
-        let Some(place) = place else {
-            break;
-        };
-        if is_taken(rt, heads, Source::Node(place), &mut own, output) {
-            has_data = true;
-            break;
-        }
-        own = Own::new(rt, rt.alloc(), node, own.into_seat(), &budget);
-    }
-    (own.into_seat(), has_data)
+    let host = NodeHost::new(rt, rt.alloc(), node, seat);
+    let (host, has_file) = taken_of_file(rt, heads, start.file, host, output);
+    let (host, has_node) = taken_of_first(rt, heads, &start.sources, host, output);
+    (host.into_seat(), has_file || has_node)
 }

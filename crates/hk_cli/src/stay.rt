@@ -268,15 +268,17 @@ fn serve_writing<
         |scope| -> Result<(), NetFault>
             requires { IsSend J.row × IsSync J.row × IsSend N.row × IsSync N.row × IsSync R.row }
         {
-            let serving = scope.spawn(move || {
-                serve_places(rt, alloc, heads, level, places, reports, texts, backlog)
-            });
+            let serving = scope
+                .spawn(move || {
+                    serve_places(rt, alloc, heads, level, places, reports, texts, backlog)
+                })
+                .ok();
             match serving {
-                Ok(serving) => {
+                Some(serving) => {
                     write_texts(rt, &told_heads, &told, backlog, output);
                     serving.join(rt)
                 }
-                Err(_error) => Err(NetFault::Memory),
+                None => Err(NetFault::Memory),
             }
         },
     )
