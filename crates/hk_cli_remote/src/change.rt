@@ -148,7 +148,7 @@ pub(crate) fn pull<R: Net<Listener = TcpListener, Stream = TcpStream> + Clock, W
 
 /// Writes what the node at a place has applied since a time, or its full snapshot where it refuses a delta for that time: as the request
 /// that gives it to a node, or in chunks where a message has no room for it. What stops it is as in `run_order`; what was written then is
-/// no whole. Cost: O(n), n bytes of what is written.
+/// a part. Cost: O(n), n bytes of what is written.
 pub fn fetch_from<R: Net<Listener = TcpListener, Stream = TcpStream> + Clock, W: Write, E: Write>(
     rt: &R,
     alloc: Global,
