@@ -474,7 +474,7 @@ def bad_ports_and_lines():
     lines = [["serve", *(word for pair in {**serve, name: value}.items() for word in pair)] for name, value in (
         ("--port", "0"), ("--port", "65536"), ("--port", "+1"), ("--links", "0"), ("--links", "65"), ("--links", "-1"), ("--streams", "65"),
         ("--log", "x"), ("--more", "1"))]
-    lines += [["serve"], ["push"], ["push", "--port", "0"], ["push", "--port", "+7"], ["push", "--port", "65536"], ["push", "--port", "1", "2"]]
+    lines += [["serve"], ["push", "--port", "0"], ["push", "--port", "+7"], ["push", "--port", "65536"], ["push", "--port", "1", "2"]]
     for line in lines:
         out, status, words = run(line)
         if (out, status) != ("", 2) or words == 0:
