@@ -211,6 +211,21 @@ def unit(root):
            differ([("prints", said, f"done 2\n9 41\n{told}9 41\nfront horizon 0 readable 1\n"), ("saved", saved, [f"{port}.save"])]))
 
 
+def is_due():
+    """The timer's service saves where the last save is as old as SAVE_MINUTES of the settings has it, or where there is none."""
+    text = (ROOT / "deploy" / UNITS[1]).read_text(encoding="utf-8")
+    condition = re.search(r"^ExecCondition=(.*)$", text, re.M)[1].replace("$$", "$").replace("%S", str(WORK)).replace("%i", "due")
+    file, pairs = WORK / "hkrep" / "due.save", []
+    file.parent.mkdir(exist_ok=True)
+    for minutes, age, wanted in (("1", None, 0), ("1", 0, 1), ("1", 61, 0), ("5", 61, 1), ("5", 301, 0)):
+        if age is not None:
+            file.touch()
+            os.utime(file, (time.time() - age,) * 2)
+        done = subprocess.run(["sh", "-c", f"exec {condition}"], env={**os.environ, "SAVE_MINUTES": minutes}, timeout=30, check=False)
+        pairs.append((f"{minutes} minutes, saved {age} seconds ago", done.returncode, wanted))
+    report("a save is due by SAVE_MINUTES", differ(pairs))
+
+
 def listed(deb, to, manifest):
     """Takes a package apart; what is wrong with its MANIFEST."""
     said, status = run(["dpkg-deb", "-x", deb, to])
@@ -404,6 +419,7 @@ def main():
             manual(whole, of)
             completions(whole, of)
             systemd(whole)
+            is_due()
             over_c()
             unproved()
         print(f"{time.monotonic() - begun:.0f} seconds")
