@@ -133,9 +133,11 @@ class LogInRedis(EngineLog):
         return number_of(told["last-generated-id"])[0] if told else 0
 
     def first(self, stream: int) -> int:
-        for message, fields in self.client.xrange(self.key(stream), "-", "+", count=1):
-            return self.block(stream, message, fields).first
-        return self.last(stream) + 1
+        told = self.info(stream) or {"first-entry": None, "last-generated-id": b"0-0"}
+        if told["first-entry"] is None:
+            return number_of(told["last-generated-id"])[0] + 1
+        message, fields = told["first-entry"]
+        return self.block(stream, message, fields).first
 
     def gone(self, stream: int) -> Optional[int]:
         """From Redis 7 on it counts the messages that a stream ever had."""
