@@ -427,6 +427,18 @@ def asynchronous():
         with Peer([(2, 0, False), (1, 5, False), (9, 0, False)]) as peer:
             async with va.AsyncNode(peer.port) as node:
                 found.append(("over three links", [(await node.front()).readable for _ in range(5)], [3] * 5))
+        with Peer([(9, 0, False)] * 2) as peer:
+            async with va.AsyncNode(peer.port) as node:
+                opened, ended_once = node._opened, []
+
+                async def ended_as_it_is_handed_out():
+                    link = await opened()
+                    if not ended_once:
+                        ended_once.append(link.close())
+                    return link
+
+                node._opened = ended_as_it_is_handed_out
+                found.append(("a link that ends while it is handed out", (await node.front()).readable, 3))
         try:
             await va.AsyncNode(free_port()).front()
             found.append(("nobody", 0, 1))

@@ -182,6 +182,8 @@ class AsyncNode(
         link: Optional[_AsyncLink] = None
         try:
             link = await asyncio.wait_for(self._opened(), self.limit)
+            if not link.is_open:  # it ended while it was handed out, and nobody would take a reply from it
+                raise LinkBroken(f"{self.name}: the node ended the connection")
             future: "asyncio.Future[bytes]" = asyncio.get_running_loop().create_future()
             link.waiting.append(future)
             link.writer.write(request)
