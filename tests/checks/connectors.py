@@ -435,6 +435,25 @@ def added_beneath(it):
     holds(again.stdout.read() == b"" and it.said().count("message 3-0 of") == 2, it.said())
 
 
+def begun_beneath(it):
+    """A stream that begins while a follower looks for its first entry, behind whichever command of that look, begins with entry 1: it isn't
+    taken for one that was trimmed."""
+    import log_in_redis
+    log, command = log_in_redis.LogInRedis(it.client, LOG, STREAMS), it.client.execute_command
+    frames = (frame for frame in it.frames if is_entry(frame) and stream_of(frame) == 1)
+
+    def beneath(*words, **options):
+        try:
+            return command(*words, **options)
+        finally:
+            frame = next(frames)
+            command("XADD", it.key(1), f"{number_of(frame)}-0", "b", frame)
+
+    it.client.execute_command = beneath
+    found = [log.first(1) for _ in range(3)]
+    holds(found == [1, 1, 1] and it.last(1) >= 3, f"{found}")
+
+
 def told_in_short(it):
     """What Redis refuses is told in a line of 400 letters at most, without what was sent; where it may pass, the publisher goes on."""
     frame = encode(Entry.of(LOG, 1, 1, 1, rows=[(1, key, 0, b"a secret row " * 300) for key in range(20)]))
@@ -698,8 +717,8 @@ def as_in_the_page(it):
 
 
 STORIES = [killed_followers, killed_publisher, killed_redis, killed_node, lost_tail, trimmed, forked, two_followers, two_publishers, out_of_order,
-           twice_fed, lacking_input, poisoned, bad_records_in_redis, bad_records_in_a_file, bad_records_in_kafka, added_beneath, told_in_short,
-           large_numbers, kept, secured, through_sentinels, through_a_cluster, of_before, lost_and_forked, told_by_status, as_in_the_page]
+           twice_fed, lacking_input, poisoned, bad_records_in_redis, bad_records_in_a_file, bad_records_in_kafka, added_beneath, begun_beneath,
+           told_in_short, large_numbers, kept, secured, through_sentinels, through_a_cluster, of_before, lost_and_forked, told_by_status, as_in_the_page]
 
 
 def bad_records_of_the_page():

@@ -2,14 +2,15 @@
 use Rattle.std.proofs.Common.{suc, ◌≡◌, refl, sym, ap, subst, ◌∙◌, ℕ, ◌+◌, ◌*◌, ◌/◌, ◌%◌, ◌<◌, ◌≤◌, min, List, [], ◌∷◌, ◌++◌, take, drop, length, get_or, Result, Ok, arith, append_assoc, IfOk}
 use Rattle.std.proofs.lemmas.Grind.{div_ceil_times}
 use Rattle.std.proofs.lemmas.List.{take-append-drop, drop-drop, drop_all}
+use Rattle.std.proofs.lemmas.List.FromFn.{length-map-range_with_len}
 use Rattle.std.specs.List.{remove}
 use Rattle.hk_types.specs.Values.{ConfigValue}
 use Rattle.hk_types.specs.declared.faults.Refusal.{Refusal}
 use Rattle.hk_log.specs.declared.item.Item.{Item}
 use Rattle.hk_model.specs.Replica.Fragments.{FragmentValue}
+use Rattle.hk_model.specs.Replica.Streams.{stream_of}
 use Rattle.hk_fragment.specs.Merging.{IsFromZero}
 use Rattle.hk_delta.specs.Unions.{IsGathered}
-use Rattle.hk_delta.proofs.WrongLogs.{count_streams}
 use Rattle.hk_delta.proofs.UnionOfLists.{gave}
 
 abbrev pub Part : Type 0
@@ -32,7 +33,7 @@ of_config config items f g =
     record {
       zero = (ap (λ (f : FragmentValue). f.base) is, ap (λ (f : FragmentValue). f.content.horizon) is);
       log = ap (λ (f : FragmentValue). f.content.log) is;
-      streams = ap (λ (f : FragmentValue). length f.content.streams) is ∙ count_streams config.streams items;
+      streams = ap (λ (f : FragmentValue). length f.content.streams) is ∙ length-map-range_with_len (stream_of items) 1 config.streams;
     }
 
 -- so far the fragment is of the list's beginning, and these parts are of the rest

@@ -13,6 +13,9 @@ use hk_wire::{LaterReply, Reply, Request};
 use std::alloc::Global;
 use std::mem::replace;
 
+/// The most items for which a list is kept from call to call.
+const MOST_KEPT: usize = 256;
+
 /// 0, or the number of the refusal.
 fn number_of(reply: &Reply) -> u8
     ensures { result ≡ reply_number reply.now }
@@ -54,16 +57,39 @@ impl Replica {
         ensures { Taken self.old self.new items.items result }
     {
         if items.is_empty() {
+            self.keep_items(items);
             return 0;
         }
-        self.change(Request::Items(items))
+        let reply = self.host.take_items(&items);
+        self.keep_items(items);
+        number_of(&reply)
+    }
+
+    /// The list for the next items, with none in it.
+    fn fresh_items(&mut self, alloc: Global) -> Vec<Item>
+        ensures empty { result.items ≡ [] }
+        ensures kept { self.new ≡ self.old }
+    {
+        let mut items = replace(&mut self.items, Vec::new(alloc));
+        items.clear();
+        items
+    }
+
+    /// Keeps a list for the next items, unless it is long.
+    fn keep_items(&mut self, mut items: Vec<Item>)
+        ensures { self.new ≡ self.old }
+    {
+        if items.capacity() <= MOST_KEPT {
+            items.clear();
+            self.items = items;
+        }
     }
 
     /// Applies the items of the frames that are complete now. Returns 0, or the number of the refusal.
     pub(crate) fn absorb(&mut self, alloc: Global, piece: &[u8]) -> u8
         ensures { Absorbed self.old self.new piece.now result }
     {
-        let mut items = Vec::new(alloc);
+        let mut items = self.fresh_items(alloc);
         let fed = self.feeder.feed(piece, &mut items);
         let refused = self.take(items);
         let fault = number_done(fed);

@@ -2,6 +2,7 @@
 #![tactic(auto)]
 
 ghost use Rattle.std.specs.Prelude.{◌≡◌, ◌++◌, true, None, Some, length, min, take, drop};
+ghost use Rattle.std.specs.Option.{option_copied};
 ghost use Rattle.hk_c.specs.Calls.{AbsorbedAt, AtLive, Bounded, Called, Counts, Finished, Got, Listed, MergedAt, Opened, PrunedAt, Ranged, Tagged, Told, Worded, Wrote, asks_rows, copied_into, kept_reply};
 
 mod changes;
@@ -122,8 +123,8 @@ pub extern "C" fn hk_close(alloc: Global, handle: &mut Handle)
 }
 
 /// Reports a row, and copies as much of its body as there is room.
-fn tell(row: Option<Row>, found: &mut Found, out: &mut [u8])
-    ensures { Told row found.new out.old out.new }
+fn tell(row: Option<&Row>, found: &mut Found, out: &mut [u8])
+    ensures { Told (option_copied row.entry) found.new out.old out.new }
 {
     match row {
         None => *found = Found {
@@ -145,7 +146,6 @@ fn tell(row: Option<Row>, found: &mut Found, out: &mut [u8])
 
 /// Reports the row that a replica answers. Returns 0, or the number of the refusal.
 fn get_row(
-    alloc: Global,
     replica: &Replica,
     time: u64,
     table: u16,
@@ -155,7 +155,7 @@ fn get_row(
 ) -> u8
     ensures { Got (Some replica.now) time table key found.new out.old out.new result }
 {
-    match replica.get(alloc, time, Table::new(table), Key::new(key)) {
+    match replica.get(time, Table::new(table), Key::new(key)) {
         Err(why) => why.number(),
         Ok(row) => {
             tell(row, found, out);
@@ -182,7 +182,7 @@ pub extern "C" fn hk_get(
     match replace(handle, Handle::none()).into_box(alloc) {
         None => CLOSED,
         Some(replica) => {
-            let number = get_row(alloc, &replica, time, table, key, found, out);
+            let number = get_row(&replica, time, table, key, found, out);
             put_back(alloc, handle, replica);
             number
         }

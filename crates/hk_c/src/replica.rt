@@ -1,6 +1,7 @@
 //! A replica that answers requests, with what is cut off of its items, and its last reply.
 
 ghost use Rattle.std.specs.Prelude.{◌≡◌, ◌≢◌, [], true, Ok, IfOk, IfErr, OnOk, OnErr};
+ghost use Rattle.std.specs.Option.{option_copied};
 ghost use Rattle.hk_types.specs.FaultNumbers.{refusal_number};
 ghost use Rattle.hk_model.specs.Replica.Answers.{answer_seen, One, Rows, Number};
 ghost use Rattle.hk_model.specs.declared.query.Query.TheVariants.{Get, Count};
@@ -9,8 +10,9 @@ ghost use Rattle.hk_c.specs.Calls.{Answered, IsNew, Lists, NotOpened, WhyNot, as
 
 use crate::listing::put_rows;
 use hk_codec::Feeder;
+use hk_log::Item;
 use hk_model::{Answer, Query};
-use hk_query::ask;
+use hk_query::{ask, row_at};
 use hk_session::{Counted, Ended, StateHost, serve_bytes};
 use hk_state::ReplicaState;
 use hk_types::{Config, Key, Refusal, Row, Table, Time};
@@ -23,6 +25,8 @@ pub struct Replica {
     pub(crate) host: StateHost,
     pub(crate) feeder: Feeder,
     reply: Vec<u8>,
+    /// A list for the next items, with nothing in it that counts.
+    pub(crate) items: Vec<Item>,
 }
 
 impl Model for Replica {
@@ -47,6 +51,7 @@ impl Replica {
             host: StateHost::new(alloc, state),
             feeder: Feeder::new(alloc),
             reply: Vec::new(alloc),
+            items: Vec::new(alloc),
         })
     }
 
@@ -71,22 +76,13 @@ impl Replica {
         ask(alloc, self.host.state(), time, query)
     }
 
-    /// The row of a table at a key at a time.
-    pub(crate) fn get(
-        &self,
-        alloc: Global,
-        time: u64,
-        table: Table,
-        key: Key,
-    ) -> Result<Option<Row>, Refusal>
-        ensures ok { IfOk result (λ row. asked_reply self.now.host.content time (Get table key) ≡ Ok (One row)) }
+    /// The row of a table at a key at a time, lent.
+    pub(crate) fn get(&self, time: u64, table: Table, key: Key) -> Result<Option<&Row>, Refusal>
+        ensures ok { IfOk result (λ row. asked_reply self.now.host.content time (Get table key) ≡ Ok (One (option_copied row))) }
         ensures err { IfErr result (WhyNot self.now.host.content time (Get table key)) }
     {
-        match self.ask(alloc, time, &Query::Get { table, key })? {
-            Answer::One(row) => Ok(row),
-            // A row is answered with a row.
-            Answer::Rows(_) | Answer::Number(_) => Err(Refusal::Memory),
-        }
+        let time = Time::new(time)?;
+        row_at(self.host.state(), time, table, key)
     }
 
     /// How many rows a table has at a time.

@@ -1,13 +1,13 @@
 -- Items absorbed one after the other: what is learnt of them, and what a join of their fragment leaves.
-use Rattle.std.proofs.Common.{◌≡◌, refl, sym, ap, ◌∙◌, subst, ℕ, ◌-◌, Bool, true, false, cond, not, ◌&&◌, ◌||◌, ◌==◌, Option, Some, None, List, [], ◌∷◌, ◌++◌, length, get_or, zero, suc, ◌<◌, ◌≤◌, max, arith, nat_le, nat_lt, Result, Ok, Err, ◌⊎◌, inl, inr, true≢false, leb-false, leb-true, le-leb, eq-eqb}
-use Rattle.std.proofs.lemmas.Bool.{lt-leb, lt-ltb, le-ltb, and_parts, or_parts, eqb-true}
+use Rattle.std.proofs.Common.{◌≡◌, refl, sym, ap, ◌∙◌, subst, ℕ, ◌-◌, Bool, true, false, cond, ◌&&◌, ◌||◌, ◌==◌, Some, None, List, [], ◌∷◌, ◌++◌, length, get_or, zero, suc, ◌<◌, ◌≤◌, max, arith, nat_le, Result, Ok, Err, ◌⊎◌, inl, inr, true≢false, leb-false, leb-true, le-leb}
+use Rattle.std.proofs.lemmas.Bool.{le-ltb, and_parts, or_parts, eqb-true}
 use Rattle.std.specs.List.{list_any}
 use Rattle.std.proofs.lemmas.List.{append-nil, append_assoc}
 use Rattle.std.proofs.lemmas.List.Elements.{All-nil, All-cons, All-append}
 use Rattle.std.specs.FinMap as finmap
-use Rattle.hk_types.specs.Values.{RowValue, ConfigValue, same_row}
+use Rattle.hk_types.specs.Values.{RowValue, same_row}
 use Rattle.hk_types.specs.declared.faults.Refusal.{Refusal}
-use Rattle.hk_types.specs.declared.faults.Refusal.TheVariants.{ForeignLog, WrongStreams, Gap, Conflict, AheadOfMark, Memory}
+use Rattle.hk_types.specs.declared.faults.Refusal.TheVariants.{Conflict, AheadOfMark, Memory}
 use Rattle.hk_types.specs.declared.version_key.VersionKey.{VersionKey}
 use Rattle.hk_log.specs.Items.{EntryValue}
 use Rattle.hk_log.specs.declared.item.Item.{Item}
@@ -15,14 +15,13 @@ use Rattle.hk_log.specs.declared.item.Item.TheVariants.{Commit, Closed}
 use Rattle.hk_model.specs.declared.took.Took.{Took}
 use Rattle.hk_model.specs.declared.took.Took.TheVariants.{Taken, Repeated}
 use Rattle.hk_model.specs.History.Facts.{rows_of, ends_of}
-use Rattle.hk_model.specs.History.Rows.{version_key_cmp}
-use Rattle.hk_model.specs.Replica.Content.{Content, readable, least_closed, at_most, ended_by, without_ended}
+use Rattle.hk_model.specs.Replica.Content.{Content, readable, least_closed, at_most, without_ended}
 use Rattle.hk_model.specs.Replica.Fragments.{FragmentValue, part}
 use Rattle.hk_model.specs.Replica.Items.{wrong_log}
 use Rattle.hk_model.specs.Replica.Lawful.{IsItem, IsLawful}
-use Rattle.hk_model.specs.Replica.Maps.{values_conflict, union, maps_conflict}
+use Rattle.hk_model.specs.Replica.Maps.{union, maps_conflict}
 use Rattle.hk_model.specs.Replica.Replicas.{content_after_take}
-use Rattle.hk_model.specs.Replica.Rules.{prune_result, took, take_result, take_result_unless, absorb_result, entry_conflicts, with_items, join_result, content_after_join, contents_conflict}
+use Rattle.hk_model.specs.Replica.Rules.{prune_result, took, take_result, take_result_unless, absorb_result, entry_conflicts, with_items, join_result}
 use Rattle.hk_model.specs.Replica.Touches.{row_is_late, end_is_late, join_touches_past}
 use Rattle.hk_model.specs.Replica.Streams.{StreamContent, stream_at, streams_of, all_together, unknown}
 use Rattle.hk_model.proofs.Replica.Changes.{no_more_facts, same_if_outcome}
@@ -33,18 +32,19 @@ use Rattle.hk_model.proofs.Replica.Touches.{prune_untouched}
 use Rattle.hk_model.proofs.Replica.Visible.{any_where, not_from}
 use Rattle.hk_merge.proofs.LateFacts.{none_stray}
 use Rattle.hk_model.proofs.History.Logs.{fact_row, fact_end, row_born, end_dead, row_found, end_found}
-use Rattle.hk_model.proofs.Replica.Maps.{version_key_total, version_key_same, get-retain, get-without_ended, no_entry_conflict}
 use Rattle.hk_model.proofs.Replica.Members.{In}
 use Rattle.hk_model.proofs.Replica.Sets.{all_together-streams_of}
 use Rattle.hk_model.proofs.Replica.Streams.{as_many_together, no_gap_at_0}
 use Rattle.hk_model.proofs.History.Writes.{All_In}
 use Rattle.hk_store.proofs.SameRows.{same_value}
 use Rattle.hk_delta.specs.declared.agreeing.News.{News}
-use Rattle.hk_delta.specs.Agreeing.{content_taken, then_take, take_all, absorb_all, if_taken, taken_items, fragment_of_taken, tells_nothing, contradicts, learnt, Learns, IsAbove, DoAgree, IsLearnt}
-use Rattle.hk_delta.proofs.MapsInConflict.{union_assoc, still_agrees, union_conflicts, rows_both, ends_both}
+use Rattle.hk_delta.specs.Agreeing.{content_taken, then_take, take_all, absorb_all, if_taken, taken_items, tells_nothing, contradicts, learnt, Learns, IsAbove, DoAgree, IsLearnt}
+use Rattle.hk_state.proofs.MapsInConflict.{union_assoc, still_agrees, union_conflicts, rows_both, ends_both}
+use Rattle.hk_state.specs.Items.{log_of_content}
+use Rattle.hk_delta.proofs.AddedItems.{added_joins, no_conflict_with_none}
 use Rattle.hk_delta.proofs.StreamsInTurn.{streams_after, streams_none}
 use Rattle.hk_delta.proofs.UnionOfLists.{part_is}
-use Rattle.hk_delta.proofs.WrongLogs.{count_streams}
+use Rattle.hk_state.proofs.WrongLogs.{count_streams}
 
 -- ---- one after the other
 
@@ -123,14 +123,6 @@ module _ (c : Content) (lawful : IsLawful c) where
     rows = no_conflict_with_none same_row c.rows;
     ends = no_conflict_with_none (λ a b. a == b) c.ends;
   }
-    where
-      no_conflict_with_none : {X : Type 0} (same : X → X → Bool) (m : finmap.FinMap version_key_cmp X) → maps_conflict same m (finmap.from_entries []) ≡ false
-      no_conflict_with_none same m = no_entry_conflict version_key_total version_key_same same m (finmap.from_entries []) (λ v.
-          ap (values_conflict same (finmap.get m v)) (finmap.get-from_entries version_key_total [] v) ∙ with_nothing same (finmap.get m v))
-        where
-          with_nothing : {X : Type 0} (same : X → X → Bool) (o : Option X) → values_conflict same o None ≡ false
-          with_nothing same None = refl
-          with_nothing same (Some x) = refl
 
   -- with items that agree, and what was learnt of them
   module _ (items : List Item) (agree : DoAgree c items) (own : IsLawful (after items)) (n : News) (facts : n.facts ≡ record { rows = rows_of items; ends = ends_of items }) (all : n.all ≡ (after items).streams) where
@@ -289,22 +281,6 @@ module _ (c : Content) (lawful : IsLawful c) where
 
   -- ---- the join
 
-  kept_all : {X : Type 0} (b : Bool) (o : Option X) → ((x : X) → o ≡ Some x → b ≡ true) → cond b o None ≡ o
-  kept_all true o f = refl
-  kept_all false None f = refl
-  kept_all false (Some x) f = absurd (true≢false (sym (f x refl)))
-
-  -- no end at most a time that all of them are above
-  none_ended : (h : ℕ) (o : Option ℕ) → ((d : ℕ) → o ≡ Some d → h < d) → not (at_most h o) ≡ true
-  none_ended h None f = refl
-  none_ended h (Some d) f = ap not (lt-leb d h (f d refl))
-
-  all_left : (h : ℕ) (ends : finmap.FinMap version_key_cmp ℕ) → ((v : VersionKey) (d : ℕ) → finmap.get ends v ≡ Some d → h < d) → without_ended ends h ends ≡ ends
-  all_left h ends later = finmap.same_map version_key_total version_key_same _ _ (λ v. get-without_ended ends h ends v ∙ ap (λ b. cond b (finmap.get ends v) None) (none_ended h (finmap.get ends v) (later v)))
-
-  abbrev config : ConfigValue
-  config = record { log = c.log; streams = length c.streams }
-
   module _ (items : List Item) (agree : DoAgree c items) where
     late : (e : EntryValue) → In (Commit e) items → readable c < e.time
     late e i = All_In (IsAbove (readable c)) items agree.late (Commit e) i
@@ -318,50 +294,8 @@ module _ (c : Content) (lawful : IsLawful c) where
     abbrev sent : FragmentValue
     sent = record { base = 0; content = record { log = c.log; horizon = 0; rows = rows_of items; ends = ends_of items; streams = streams_of (length c.streams) items } }
 
-    no_rise : max c.horizon 0 ≡ c.horizon
-    no_rise = omega arith
-
-    own_rows : finmap.retain_keys c.rows (λ v. nat_lt (max c.horizon 0) v.born || (((c.horizon == max c.horizon 0) || nat_lt 0 0) && not (ended_by c.ends (max c.horizon 0) v))) ≡ c.rows
-    own_rows = finmap.same_map version_key_total version_key_same _ _ (λ v.
-        get-retain version_key_total version_key_same c.rows (λ v. nat_lt (max c.horizon 0) v.born || (((c.horizon == max c.horizon 0) || nat_lt 0 0) && not (ended_by c.ends (max c.horizon 0) v))) v
-        ∙ ap (λ b. cond b (finmap.get c.rows v) None) (stays (nat_lt (max c.horizon 0) v.born) (c.horizon == max c.horizon 0) (not (ended_by c.ends (max c.horizon 0) v)) (eq-eqb c.horizon (max c.horizon 0) (sym no_rise)) (none_ended (max c.horizon 0) (finmap.get c.ends v) (λ d e. let a = lawful.end_above v d e in omega arith))))
-      where
-        stays : (a s k : Bool) → s ≡ true → k ≡ true → (a || ((s || nat_lt 0 0) && k)) ≡ true
-        stays true s k e f = refl
-        stays false true true e f = refl
-        stays false true false e f = f
-        stays false false k e f = absurd (true≢false (sym e))
-
-    sent_rows : finmap.retain_keys (rows_of items) (λ v. nat_lt (max c.horizon 0) v.born || ((0 == 0) && (0 == max c.horizon 0))) ≡ rows_of items
-    sent_rows = finmap.same_map version_key_total version_key_same _ _ (λ v.
-        get-retain version_key_total version_key_same (rows_of items) (λ v. nat_lt (max c.horizon 0) v.born || ((0 == 0) && (0 == max c.horizon 0))) v
-        ∙ kept_all (nat_lt (max c.horizon 0) v.born || ((0 == 0) && (0 == max c.horizon 0))) (finmap.get (rows_of items) v) (λ r e.
-        let l = late_row v r e in
-        let reach = lawful.in_reach in
-        let above : max c.horizon 0 < v.born = omega arith in
-        ap (λ b. b || ((0 == 0) && (0 == max c.horizon 0))) (lt-ltb (max c.horizon 0) v.born above)))
-
-    joined : content_after_join c sent ≡ after items
-    joined = λ i. record {
-      log = c.log;
-      horizon = no_rise i;
-      rows = union (own_rows i) (sent_rows i);
-      ends = union (all_left (max c.horizon 0) c.ends (λ v d e. let a = lawful.end_above v d e in omega arith) i) (all_left (max c.horizon 0) (ends_of items) (λ v d e. let a = late_end v d e in let reach = lawful.in_reach in omega arith) i);
-      streams = all_together c.streams (streams_of (length c.streams) items);
-    }
-
-    no_conflict : contents_conflict c sent.content ≡ false
-    no_conflict = λ i. agree.rows i || agree.ends i
-
-    sent_joins : join_result c sent ≡ Ok (after items)
-    sent_joins = λ i.
-        cond (not (eq-eqb c.log c.log refl i)) (Err ForeignLog)
-        (cond (not (eq-eqb (length (streams_of (length c.streams) items)) (length c.streams) (count_streams (length c.streams) items) i)) (Err WrongStreams)
-        (cond (no_gap_at_0 (readable c) i) (Err (Gap 0 (readable c)))
-        (cond (no_conflict i) (Err Conflict) (Ok (joined i)))))
-
-    pub joins : join_result c (part config items 0 0) ≡ Ok (after items)
-    joins = ap (join_result c) (part_is config items agree.each) ∙ sent_joins
+    pub joins : join_result c (part (log_of_content c) items 0 0) ≡ Ok (after items)
+    joins = added_joins c lawful items agree.each (λ e i. let l = late e i in let reach = lawful.in_reach in omega arith) agree.rows agree.ends
 
     -- it brings nothing up to the readable mark, and the horizon stays
     untouched : join_touches_past c sent ≡ false
@@ -392,5 +326,5 @@ module _ (c : Content) (lawful : IsLawful c) where
             let reach = lawful.in_reach in
             λ i. cond (le-ltb (readable c) (max c.horizon 0) (omega arith) i) (Err (AheadOfMark (readable c))) (cond (le-leb (max c.horizon 0) c.horizon (omega arith) i) (Ok c) (Ok (record c { horizon = max c.horizon 0; rows = without_ended c.ends (max c.horizon 0) c.rows; ends = without_ended c.ends (max c.horizon 0) c.ends })))
 
-    pub touches_not : join_touches_past c (part config items 0 0) ≡ false
-    touches_not = ap (join_touches_past c) (part_is config items agree.each) ∙ untouched
+    pub touches_not : join_touches_past c (part (log_of_content c) items 0 0) ≡ false
+    touches_not = ap (join_touches_past c) (part_is (log_of_content c) items agree.each) ∙ untouched

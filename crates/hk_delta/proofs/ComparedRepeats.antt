@@ -1,6 +1,5 @@
 -- Repeats that are compared: what is found beside a state is so in what absorbing leaves, and of one history nothing is found.
-use Rattle.std.proofs.Common.{◌≡◌, refl, sym, ap, ◌∙◌, ℕ, Bool, true, false, cond, not, ◌&&◌, ◌||◌, Option, Some, None, List, [], ◌∷◌, ◌<◌, Result, Ok, Err, ◌⊎◌, inl, inr, length, true≢false, lt-ltb, ltb-true, eq-eqb, arith, nat_lt}
-use Rattle.std.proofs.lemmas.Bool.{and_parts}
+use Rattle.std.proofs.Common.{◌≡◌, refl, sym, ap, ◌∙◌, ℕ, Bool, true, false, cond, not, ◌&&◌, ◌||◌, Option, Some, None, List, [], ◌∷◌, ◌<◌, Result, Ok, Err, ◌⊎◌, inl, inr, true≢false, ltb-true, eq-eqb, arith, nat_lt}
 use Rattle.std.proofs.lemmas.Bool.Decides.{nat_tests}
 use Rattle.std.specs.List.{list_any}
 use Rattle.std.specs.FinMap as finmap
@@ -14,7 +13,6 @@ use Rattle.hk_log.specs.declared.item.Item.TheVariants.{Commit, Closed}
 use Rattle.hk_model.specs.History.Facts.{inserted_version, rows_of, ends_of}
 use Rattle.hk_model.specs.History.Histories.{History, IsHistory, commits, entries_of}
 use Rattle.hk_model.specs.Replica.Content.{Content, at_most}
-use Rattle.hk_model.specs.Replica.ContentOf.{content_of}
 use Rattle.hk_model.specs.Replica.Fragments.{FragmentValue}
 use Rattle.hk_model.specs.Replica.Maps.{or_else}
 use Rattle.hk_model.specs.Replica.Past.{same_shown}

@@ -1,10 +1,10 @@
 -- What items say together is the content of them at horizon 0, and its cut at 0 is their fragment.
-use Rattle.std.proofs.Common.{◌≡◌, refl, sym, ap, ◌∙◌, subst, ℕ, ◌<◌, ◌≤◌, Bool, true, false, cond, not, ◌||◌, Option, Some, None, List, [], ◌∷◌, ◌++◌, All, Result, Ok, Err, ◌⊎◌, inl, inr, nat_le, nat_lt, arith}
+use Rattle.std.proofs.Common.{◌≡◌, refl, sym, ap, ◌∙◌, subst, ℕ, ◌<◌, ◌≤◌, Bool, true, false, cond, not, ◌||◌, ◌==◌, Option, Some, None, List, [], ◌∷◌, ◌++◌, All, Result, Ok, Err, ◌⊎◌, inl, inr, nat_le, nat_lt, arith}
 use Rattle.std.proofs.lemmas.Bool.Decides.{nat_tests}
 use Rattle.std.specs.List.{flat_map}
 use Rattle.std.specs.FinMap as finmap
 use Rattle.std.proofs.lemmas.List.Elements.{All-head, All-tail}
-use Rattle.hk_types.specs.Values.{ConfigValue, RowValue}
+use Rattle.hk_types.specs.Values.{ConfigValue, RowValue, same_row}
 use Rattle.hk_types.specs.declared.version_key.VersionKey.{VersionKey}
 use Rattle.hk_types.specs.declared.faults.Refusal.{Refusal}
 use Rattle.hk_types.specs.declared.faults.Refusal.TheVariants.{Conflict, Memory}
@@ -18,7 +18,7 @@ use Rattle.hk_model.specs.Replica.ContentOf.{content_of}
 use Rattle.hk_model.specs.Replica.Streams.{streams_of}
 use Rattle.hk_model.specs.Replica.Fragments.{FragmentValue, part}
 use Rattle.hk_model.specs.Replica.Lawful.{IsLawful, IsItem}
-use Rattle.hk_model.specs.Replica.Rules.{gather_result, gather_result_unless, first_wrong_log}
+use Rattle.hk_model.specs.Replica.Rules.{conflict, gather_result, gather_result_unless, first_wrong_log}
 use Rattle.hk_model.proofs.Replica.Maps.{version_key_total, version_key_same, get-without_ended}
 use Rattle.hk_model.proofs.Replica.Members.{In, In-map}
 use Rattle.hk_model.proofs.History.Logs.{fact_end, end_found}
@@ -26,40 +26,22 @@ use Rattle.hk_model.proofs.History.Writes.{All_In}
 use Rattle.hk_model.proofs.Replica.Lawful.{IsSound, entry_sound, content_of_lawful}
 use Rattle.hk_model.proofs.Replica.Gathers.{gathered_law}
 use Rattle.hk_facts.specs.Facts.{if_known}
-use Rattle.hk_store.specs.Facts.{FactsValue, no_facts, known_at, entry_if}
+use Rattle.hk_store.specs.Facts.{FactsValue, known_at, entry_if}
 use Rattle.hk_store.specs.Reads.{facts_of_content}
 use Rattle.hk_store.specs.Versions.{AreVersions}
 use Rattle.hk_fragment.specs.Parts.{Known, fragment_seen, fragment_fault}
 use Rattle.hk_delta.specs.Cuts.{HasLeft, all_left, left_above, row_above, end_above}
-use Rattle.hk_delta.specs.Gathers.{item_facts, all_put, have_conflict, Gathers, GathersOf}
-use Rattle.hk_delta.proofs.FactsInConflict.{facts_from, items_settle}
+use Rattle.hk_delta.specs.Gathers.{item_facts, have_conflict, Gathers, GathersOf}
+use Rattle.hk_delta.specs.Versions.{facts_from, told, contradict}
+use Rattle.hk_delta.proofs.FactsInConflict.{inserted_rows_in, stated_ends_in}
 use Rattle.hk_delta.proofs.CutLists.{parts_faultless, cut_is, all_have, if_known_is}
 
-same_ok : (f g : FactsValue) → ◌≡◌ {A = Result FactsValue Refusal} (Ok f) (Ok g) → f ≡ g
-same_ok f g e = cc
+-- what items say, fact by fact
+pub items_told : (items : List Item) → told (flat_map item_facts items) ≡ facts_from (row_facts items) (end_facts items)
+items_told items = λ i. facts_from (inserted_rows_in items i) (stated_ends_in items i)
 
-same_err : (a b : Refusal) → ◌≡◌ {A = Result FactsValue Refusal} (Err a) (Err b) → a ≡ b
-same_err a b e = cc
-
-pub settled_ok : (items : List Item) (f : FactsValue) → all_put (Ok no_facts) (flat_map item_facts items) ≡ Ok f → (f ≡ facts_from (row_facts items) (end_facts items)) × (have_conflict items ≡ false)
-settled_ok items f e =
-    elim (items_settle items) [
-      | inl s ↦ (same_ok f (facts_from (row_facts items) (end_facts items)) (sym e ∙ s.0), (λ i. s.1 i || s.2 i))
-      | inr s ↦ absurd (values_conflict f Conflict (sym e ∙ s.0))
-    ]
-  where
-    values_conflict : (f : FactsValue) (why : Refusal) → ◌≡◌ {A = Result FactsValue Refusal} (Ok f) (Err why) → ⊥
-    values_conflict f why e = cc
-
-pub settled_err : (items : List Item) (why : Refusal) → all_put (Ok no_facts) (flat_map item_facts items) ≡ Err why → (why ≡ Conflict) × (have_conflict items ≡ true)
-settled_err items why e =
-    elim (items_settle items) [
-      | inl s ↦ absurd (values_conflict (facts_from (row_facts items) (end_facts items)) why (sym s.0 ∙ e))
-      | inr s ↦ (same_err why Conflict (sym e ∙ s.0), s.1)
-    ]
-  where
-    values_conflict : (f : FactsValue) (why : Refusal) → ◌≡◌ {A = Result FactsValue Refusal} (Ok f) (Err why) → ⊥
-    values_conflict f why e = cc
+pub items_contradict : (items : List Item) → contradict (flat_map item_facts items) ≡ have_conflict items
+items_contradict items = λ i. conflict same_row (inserted_rows_in items i) || conflict (λ a b. a == b) (stated_ends_in items i)
 
 module _ (config : ConfigValue) (items : List Item) (all : All IsItem items) where
   sound : (e : EntryValue) → In (Commit e) items → IsSound e

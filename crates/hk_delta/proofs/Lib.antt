@@ -1,12 +1,13 @@
 pub mod FactsInConflict
 pub mod ItemTests
 pub mod CutLists
-pub mod WrongLogs
 pub mod FactsInTurn
+pub mod JoinedFacts
+pub mod MovedFacts
 pub mod GatheredWhole
 pub mod MergeInputs
 pub mod UnionOfLists
 pub mod StreamsInTurn
-pub mod MapsInConflict
 pub mod AgreedItems
 pub mod ComparedRepeats
+pub mod AddedItems

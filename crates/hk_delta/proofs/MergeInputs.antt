@@ -19,7 +19,7 @@ use Rattle.hk_model.specs.Replica.Replicas.{Represents}
 use Rattle.hk_model.proofs.Laws.{join_law_proof}
 use Rattle.hk_model.proofs.Replica.Steps.{gap_step}
 use Rattle.hk_model.proofs.Laws.{represents_both}
-use Rattle.hk_delta.proofs.WrongLogs.{count_streams}
+use Rattle.hk_state.proofs.WrongLogs.{count_streams}
 use Rattle.hk_delta.specs.Joins.{JoinsOf}
 use Rattle.hk_fragment.specs.Parts.{Known, versions_listed}
 use Rattle.hk_state.proofs.Represented.{inside, has_conflict_with}

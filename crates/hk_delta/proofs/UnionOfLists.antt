@@ -1,8 +1,7 @@
 -- The union of what two lists of items are gathered to is what the one list after the other is gathered to.
-use Rattle.std.proofs.Common.{◌≡◌, refl, sym, ap, ◌∙◌, Bool, true, false, cond, not, ◌&&◌, ◌||◌, ◌==◌, Option, Some, None, List, ◌++◌, All, inl, inr, Result, Ok, Err, true≢false, OnOk, OnErr, IfErr}
+use Rattle.std.proofs.Common.{◌≡◌, refl, sym, ap, ◌∙◌, Bool, true, false, cond, ◌||◌, ◌==◌, Option, Some, None, List, ◌++◌, All, inl, inr, Result, Ok, Err, true≢false, OnOk, OnErr, IfErr}
 use Rattle.std.proofs.lemmas.List.Elements.{All-append}
 use Rattle.std.proofs.lemmas.Bool.{eqb-true, or_parts, not-false}
-use Rattle.std.specs.List.{list_any}
 use Rattle.std.specs.FinMap as finmap
 use Rattle.std.specs.FinMap.Entries.{find}
 use Rattle.hk_types.specs.Values.{ConfigValue, same_row}
@@ -20,15 +19,15 @@ use Rattle.hk_model.specs.Replica.Lawful.{IsItem}
 use Rattle.hk_model.specs.Replica.Rules.{conflict, first_wrong_log, gather_result, gather_result_unless, contents_conflict}
 use Rattle.hk_model.proofs.Replica.Joins.{rows_of-append, ends_of-append}
 use Rattle.hk_model.proofs.Replica.Maps.{version_key_total, version_key_same, find-append, get-union}
-use Rattle.hk_model.proofs.Replica.Members.{In, In-append, find-In}
+use Rattle.hk_model.proofs.Replica.Members.{In, In-append}
 use Rattle.hk_model.proofs.Replica.Sets.{row_facts-append, end_facts-append, all_together-streams_of}
 use Rattle.hk_model.proofs.Replica.Shown.{any_In, get-key}
 use Rattle.hk_merge.proofs.JoinRefusals.{whole_is}
-use Rattle.hk_delta.specs.Gathers.{facts_conflict, have_conflict}
+use Rattle.hk_delta.specs.Gathers.{have_conflict}
 use Rattle.hk_fragment.specs.Merging.{union_of}
 use Rattle.hk_delta.specs.Unions.{Unites, UnitesGathered}
-use Rattle.hk_delta.proofs.FactsInConflict.{no_conflict, row_alike, time_alike, itself}
-use Rattle.hk_delta.proofs.WrongLogs.{wrong_log-append}
+use Rattle.hk_delta.proofs.FactsInConflict.{agrees_from, no_conflict, row_alike, time_alike}
+use Rattle.hk_state.proofs.WrongLogs.{wrong_log-append}
 use Rattle.hk_delta.proofs.GatheredWhole.{whole_lawful, all_kept, gathered_ok}
 use Rattle.hk_store.proofs.SameRows.{same_value}
 
@@ -40,20 +39,6 @@ module _ {X : Type 0} (same : X → X → Bool) (tells : (a b : X) → same a b 
 
   abbrev Agrees : List (VersionKey × X) → Type 0
   Agrees xs = (v : VersionKey) (x : X) → In (v, x) xs → finmap.get (mapped xs) v ≡ Some x
-
-  same_there : (xs : List (VersionKey × X)) → conflict same xs ≡ false → (v : VersionKey) (x y : X) → In (v, x) xs → In (v, y) xs → same x y ≡ true
-  same_there xs none v x y i j = by (same x y) refl
-    where
-      by : (b : Bool) → same x y ≡ b → b ≡ true
-      by true e = refl
-      by false e =
-          let here = any_In (facts_conflict same (v, x)) (v, y) xs j (ap (λ b. b && not (same x y)) (itself v) ∙ ap not e) in
-          absurd (true≢false (sym (any_In (λ (e : VersionKey × X). list_any (facts_conflict same e) xs) (v, x) xs i here) ∙ none))
-
-  agrees_from : (xs : List (VersionKey × X)) → conflict same xs ≡ false → Agrees xs
-  agrees_from xs none v x i =
-      finmap.get-from_entries version_key_total xs v
-      ∙ find-In version_key_cmp version_key_total version_key_same v x xs (λ y j. tells y x (same_there xs none v y x j i)) i
 
   agree_at : (m n : finmap.FinMap version_key_cmp X) → maps_conflict same m n ≡ false → (v : VersionKey) → values_conflict same (finmap.get m v) (finmap.get n v) ≡ false
   agree_at m n none v = by (finmap.get m v) refl
@@ -80,7 +65,7 @@ module _ {X : Type 0} (same : X → X → Bool) (tells : (a b : X) → same a b 
       by (Some z) e = ap Some (tells z x (not-false (same z x) e))
 
   pub still_none : (xs ys : List (VersionKey × X)) → conflict same xs ≡ false → conflict same ys ≡ false → maps_conflict same (mapped xs) (mapped ys) ≡ false → conflict same (xs ++ ys) ≡ false
-  still_none xs ys p q none = no_conflict same tells alike (xs ++ ys) (agrees_join xs ys (agrees_from xs p) (agrees_from ys q) none)
+  still_none xs ys p q none = no_conflict same tells alike (xs ++ ys) (agrees_join xs ys (agrees_from same tells alike xs p) (agrees_from same tells alike ys q) none)
 
 -- ---- what is gathered
 

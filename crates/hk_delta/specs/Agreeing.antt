@@ -13,13 +13,14 @@ use Rattle.hk_model.specs.Replica.Content.{Content, readable}
 use Rattle.hk_model.specs.Replica.Fragments.{FragmentValue, part}
 use Rattle.hk_model.specs.Replica.Items.{wrong_log}
 use Rattle.hk_model.specs.Replica.Lawful.{IsItem, IsLawful}
-use Rattle.hk_model.specs.Replica.Maps.{union, maps_conflict}
+use Rattle.hk_model.specs.Replica.Maps.{maps_conflict}
 use Rattle.hk_model.specs.Replica.Replicas.{content_after_take}
 use Rattle.hk_model.specs.Replica.Rules.{took, take_result, with_items, join_result}
 use Rattle.hk_model.specs.Replica.Touches.{join_touches_past}
 use Rattle.hk_model.specs.Replica.Streams.{StreamContent, stream_at, streams_of, all_together, adds_nothing}
-use Rattle.hk_store.specs.Facts.{FactsValue, conflicts_with_entry}
+use Rattle.hk_store.specs.Facts.{conflicts_with_entry}
 use Rattle.hk_store.specs.Reads.{facts_of_content}
+use Rattle.hk_state.specs.Items.{facts_with}
 use Rattle.hk_delta.specs.declared.agreeing.News.{News}
 
 -- the content that an item left
@@ -71,14 +72,11 @@ abbrev pub contradicts : Content → News → Item → Bool
 contradicts c n (Commit e) = conflicts_with_entry (facts_of_content c) e || (conflicts_with_entry n.facts e || nat_le e.time (stream_at n.all e.stream).closed)
 contradicts c n (Closed m) = false
 
-abbrev pub facts_with : FactsValue → Item → FactsValue
-facts_with f item = record { rows = union f.rows (rows_of (item ∷ [])); ends = union f.ends (ends_of (item ∷ [])) }
-
 abbrev pub streams_with : List StreamContent → Item → List StreamContent
 streams_with streams item = all_together streams (streams_of (length streams) (item ∷ []))
 
 abbrev pub learnt : News → Item → News
-learnt n item = record { facts = facts_with n.facts item; got = streams_with n.got item; all = streams_with n.all item }
+learnt n item = record { facts = facts_with n.facts (item ∷ []); got = streams_with n.got item; all = streams_with n.all item }
 
 -- an item was learnt, or it told nothing new; or it is none of the log, or it contradicts, or memory ran out
 abbrev pub Learns : Content → News → News → Item → Result (Unit {0}) Refusal → Type 0

@@ -1,5 +1,5 @@
 -- What items say of versions, fact by fact, and what gathering them answers.
-use Rattle.std.specs.Prelude.{◌≡◌, ◌⊎◌, ℕ, Bool, not, ◌&&◌, ◌||◌, ◌==◌, List, [], ◌∷◌, ◌++◌, Result, Ok, Err, IfOk, IfErr}
+use Rattle.std.specs.Prelude.{◌≡◌, ℕ, Bool, not, ◌&&◌, ◌||◌, ◌==◌, List, [], ◌∷◌, ◌++◌, Result, IfOk, IfErr}
 use Rattle.std.specs.List.{flat_map, list_any}
 use Rattle.std.specs.Ordering.{eq_by_cmp}
 use Rattle.hk_types.specs.OrMemory.{GivesOrMemory}
@@ -14,9 +14,8 @@ use Rattle.hk_model.specs.History.Facts.{inserted_version, entry_rows, entry_end
 use Rattle.hk_model.specs.Replica.Fragments.{FragmentValue, part}
 use Rattle.hk_model.specs.History.Histories.{History, IsHistory, AreItemsOf}
 use Rattle.hk_model.specs.Replica.Rules.{conflict, gather_result}
-use Rattle.hk_facts.specs.declared.fact.Fact.{Fact}
 use Rattle.hk_facts.specs.declared.fact.Fact.TheVariants.{Row, End}
-use Rattle.hk_store.specs.Facts.{FactsValue, facts_put}
+use Rattle.hk_delta.specs.Versions.{FactOn}
 
 -- whether two facts give a version different values
 abbrev pub facts_conflict : {X : Type 0} → (X → X → Bool) → VersionKey × X → VersionKey × X → Bool
@@ -49,10 +48,6 @@ conflicts_in_row items e = list_any (λ item. list_any (rows_conflict e) (insert
 abbrev pub conflicts_in_end : List Item → VersionKey × ℕ → Bool
 conflicts_in_end items e = list_any (λ item. list_any (ends_conflict e) (stated_ends item)) items
 
--- a fact on a version
-abbrev pub FactOn : Type 0
-FactOn = VersionKey × Fact
-
 -- the row that an entry of a time inserts, and the end that it states of a version
 abbrev pub row_fact : ℕ → ℕ × ℕ × RowValue → List FactOn
 row_fact time p = ((inserted_version time p).0, Row p.2) ∷ []
@@ -64,21 +59,6 @@ end_fact time v = (v, End time) ∷ []
 abbrev pub item_facts : Item → List FactOn
 item_facts (Commit e) = flat_map (row_fact e.time) e.rows ++ flat_map (end_fact e.time) e.ends
 item_facts (Closed m) = []
-
--- one more fact, unless there was a refusal before
-abbrev pub put_on : Result FactsValue Refusal → FactOn → Result FactsValue Refusal
-put_on (Ok f) s = facts_put f s.0 s.1
-put_on (Err why) s = Err why
-
--- these facts, one after the other, up to the first that conflicts with what is there
-abbrev pub all_put : Result FactsValue Refusal → List FactOn → Result FactsValue Refusal
-all_put r [] = r
-all_put r (s ∷ more) = all_put (put_on r s) more
-
--- these facts were put, or they were refused so, or memory ran out
-abbrev pub Puts : FactsValue → FactsValue → List FactOn → Result (Unit {0}) Refusal → Type 0
-Puts old new facts (Ok done) = all_put (Ok old) facts ≡ Ok new
-Puts old new facts (Err why) = (all_put (Ok old) facts ≡ Err why) ⊎ (why ≡ Memory)
 
 -- what gathering gives, or it was refused so, or memory ran out where there is a fragment
 abbrev pub Gathers : ConfigValue → List Item → Result FragmentValue Refusal → Type 0

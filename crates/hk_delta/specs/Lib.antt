@@ -4,3 +4,4 @@ pub mod Gathers
 pub mod Joins
 pub mod Repeats
 pub mod Unions
+pub mod Versions

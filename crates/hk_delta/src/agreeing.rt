@@ -1,23 +1,23 @@
 //! Items that agree with a state, as a fragment of what is new.
 
-ghost use Rattle.std.specs.Prelude.{◌≡◌, ◌≤◌, length, None, OnOk, IfErr};
+ghost use Rattle.std.specs.Prelude.{◌≡◌, ◌≤◌, ◌∷◌, [], length, None, OnOk, IfErr};
 ghost use Rattle.std.specs.List.{list_any};
 ghost use Rattle.hk_types.specs.declared.faults.Refusal.TheVariants.{Memory};
 ghost use Rattle.hk_model.specs.Replica.Items.{stream_no};
 ghost use Rattle.hk_model.specs.Replica.Lawful.{IsItem};
 ghost use Rattle.hk_model.specs.Replica.Rules.{contents_conflict};
+ghost use Rattle.hk_state.specs.Items.{facts_with};
 ghost use Rattle.hk_store.specs.Versions.{value_conflicts_at};
 ghost use Rattle.hk_delta.specs.Agreeing as spec;
-ghost use Rattle.hk_delta.specs.Agreeing.{Agrees, Learns, LearnsAll, facts_with};
+ghost use Rattle.hk_delta.specs.Agreeing.{Agrees, Learns, LearnsAll};
 ghost use Rattle.hk_delta.specs.Repeats.{AgreesSo};
 
 use crate::Fragment;
 use crate::cutting::left_of_all;
-use crate::gathering::note_item;
 use crate::repeats::some_stand_otherwise;
 use hk_log::{Item, Version};
 use hk_marks::Got;
-use hk_state::{ReplicaState, wrong_log};
+use hk_state::{ReplicaState, note_item, wrong_log};
 use hk_store::Facts;
 use hk_types::{Refusal, Time, VersionKey};
 use std::alloc::Global;
@@ -63,7 +63,7 @@ fn contradicts(state: &ReplicaState, news: &News, item: &Item) -> bool
 
 /// Adds the rows and ends of an item.
 fn add_facts(facts: &mut Facts, item: &Item) -> Result<(), Refusal>
-    ensures ok { OnOk result (facts.new ≡ facts_with facts.old item.now) }
+    ensures ok { OnOk result (facts.new ≡ facts_with facts.old (item.now ∷ [])) }
     ensures err { IfErr result (λ why. why ≡ Memory) }
 {
     match item {

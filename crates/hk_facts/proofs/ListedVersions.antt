@@ -1,5 +1,5 @@
 -- Versions in a list by rising birth, and the chain that the list is.
-use Rattle.std.proofs.Common.{◌≡◌, refl, sym, ap, ◌∙◌, subst, ℕ, zero, suc, ◌+◌, ◌-◌, ◌<◌, ◌≤◌, Bool, true, false, true≢false, cond, not, ◌&&◌, Option, Some, None, option_map, List, [], ◌∷◌, ◌++◌, map, filter, take, drop, set, get_or, length, ◌==◌, nat_cmp, nat_le, is_eq, is_lt, leb, Ordering, Less, Equal, Greater, Result, Ok, Err, IfOk, IfErr, ◌⊎◌, inl, inr, arith}
+use Rattle.std.proofs.Common.{◌≡◌, refl, sym, ap, ◌∙◌, subst, ℕ, zero, suc, ◌+◌, ◌-◌, ◌<◌, ◌≤◌, Bool, true, false, true≢false, cond, not, ◌&&◌, Option, Some, None, option_map, List, [], ◌∷◌, ◌++◌, filter, take, set, get_or, length, ◌==◌, nat_cmp, nat_le, is_lt, Ordering, Less, Equal, Greater, Result, Ok, Err, IfOk, IfErr, ◌⊎◌, inl, inr, arith}
 use Rattle.std.proofs.lemmas.Bool.Decides.{nat_tests}
 use Rattle.std.proofs.lemmas.Bool.{cases_lt}
 use Rattle.std.proofs.lemmas.List.{get_or-map, length-map, length-take, take_more, take_all, get_or-take}
@@ -166,6 +166,16 @@ found es born i d s at =
 none_tied : (q : ℕ) (es : List Entry) → AllWithin (λ (e : Entry). tied q e.0 ≡ false) es 0 (length es) → look q es ≡ None
 none_tied q [] apart = refl
 none_tied q (e ∷ es) apart = ap (λ b. cond b (Some e.1) (look q es)) (apart zero e (omega arith) (omega arith)) ∙ none_tied q es (λ k d low h. apart (suc k) d (omega arith) (omega arith))
+
+-- as many versions as the list is long
+pub many_listed : (es : List Entry) → AreByBirth es → finmap.len (listed es) ≡ length es
+many_listed es s = finmap.len-entries (listed es) ∙ ap length (entries_sorted nat_cmp_total finmap.nat_cmp-IsAntisymmetric es s)
+
+pub below_most : (es : List Entry) (m : ChainValue) (born : ℕ) → AreByBirth es → m ≡ listed es → (finmap.get m born ≡ None → finmap.len m < 32) → finmap.get (listed es) born ≡ None → length es < 32
+below_most es m born s is few none = subst (λ n. n < 32) (many_listed es s) (subst (λ n. finmap.get n born ≡ None → finmap.len n < 32) is few none)
+
+pub short : (n : ℕ) (es fs : List Entry) → n ≡ length es → es ≡ fs → length fs ≤ 32 → n ≤ 32
+short n es fs long is few = subst (λ k. k ≤ 32) (sym (long ∙ ap length is)) few
 
 pub absent : (es : List Entry) (born i : ℕ) → FitsAt es born i → finmap.get (listed es) born ≡ None
 absent es born i fits =
@@ -358,7 +368,7 @@ module _ (es : List Entry) (i born : ℕ) (e : Entry) (s : AreByBirth es) (at : 
   stands : StandsAt es e.0 i
   stands = (at.0, λ d. at.1 d ∙ sym key)
 
-  known : finmap.get (listed es) born ≡ Some e.1
+  pub known : finmap.get (listed es) born ≡ Some e.1
   known = found es born i e s at ∙ ap (λ (x : Entry). Some x.1) (sym is)
 
   written : (w : VersionValue) → listed (set es i (e.0, w)) ≡ set_at (listed es) born (Some w)
@@ -447,8 +457,15 @@ other_absent (Some e) born other = get_entries (e ∷ []) born ∙ ap (λ b. con
 pub put_only : (o : Option Entry) (born : ℕ) (fact : Fact) (w : VersionValue) → o ≡ None → put_result fact None ≡ Ok w → chain_put (first_only o) born fact ≡ Ok (first_only (Some (born, w)))
 put_only o born fact w none put = ap (λ x. chain_put (first_only x) born fact) none ∙ put_in [] ((born, w) ∷ []) 0 born fact w (fits_none born) put refl
 
+pub nothing_first : (o : Option Entry) (born : ℕ) → o ≡ None → finmap.get (first_only o) born ≡ None
+nothing_first o born none = ap (λ x. finmap.get (first_only x) born) none ∙ finmap.get-empty nat_cmp born
+
+pub only_few : (o : Option Entry) (m : ChainValue) → m ≡ first_only o → finmap.len m < 32
+only_few None m is = subst (λ c. finmap.len c < 32) (sym is) (subst (λ n. n < 32) (sym (many_listed [] sorted_none)) (omega arith))
+only_few (Some e) m is = subst (λ c. finmap.len c < 32) (sym is) (subst (λ n. n < 32) (sym (many_listed (e ∷ []) (sorted_one e))) (omega arith))
+
 pub only_absent : (o : Option Entry) (born : ℕ) (part : Part) → o ≡ None → first_only o ≡ chain_forget (first_only o) born part
-only_absent o born part none = nothing_there (first_only o) born part (ap (λ x. finmap.get (first_only x) born) none ∙ finmap.get-empty nat_cmp born)
+only_absent o born part none = nothing_there (first_only o) born part (nothing_first o born none)
 
 pub only_until_none : (o : Option Entry) (h : ℕ) → o ≡ None → first_only o ≡ chain_until (first_only o) h
 only_until_none o h none = ap first_only none ∙ until_entries [] [] h sorted_none refl ∙ ap (λ x. chain_until (first_only x) h) (sym none)
@@ -476,6 +493,9 @@ module _ (o : Option Entry) (e : Entry) (is : o ≡ Some e) where
   module _ (born : ℕ) (same : e.0 ≡ born) where
     alone : StandsAt (e ∷ []) born 0
     alone = (omega arith, λ d. same)
+
+    pub only_there : Some e.1 ≡ finmap.get (first_only o) born
+    only_there = sym (ap (λ x. finmap.get (first_only x) born) is ∙ known (e ∷ []) 0 born e (sorted_one e) alone refl)
 
     pub join_only : (fact : Fact) (w : VersionValue) → put_result fact (Some e.1) ≡ Ok w → chain_put (first_only o) born fact ≡ Ok (first_only (Some (e.0, w)))
     join_only fact w put = ap (λ x. chain_put (first_only x) born fact) is ∙ joined (e ∷ []) 0 born e (sorted_one e) alone refl fact w put

@@ -1,5 +1,5 @@
 -- The version born next of a chain that stands in two parts, or in a tree.
-use Rattle.std.proofs.Common.{◌≡◌, refl, sym, ap, ◌∙◌, subst, ℕ, ◌<◌, ◌≤◌, Bool, true, false, cond, true≢false, ◌==◌, nat_lt, nat_le, nat_cmp, Option, Some, None, List, [], ◌∷◌, arith, Less, length, IsSome}
+use Rattle.std.proofs.Common.{◌≡◌, refl, sym, ap, ◌∙◌, subst, ℕ, ◌<◌, ◌≤◌, Bool, true, false, cond, true≢false, nat_lt, nat_le, nat_cmp, Option, Some, None, List, [], ◌∷◌, arith, Less, length, IsSome}
 use Rattle.std.proofs.lemmas.Bool.Decides.{nat_tests}
 use Rattle.std.specs.Option.{is_some}
 use Rattle.std.specs.BTreeMap.{BTreeMap}

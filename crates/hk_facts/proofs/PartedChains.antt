@@ -20,7 +20,7 @@ use Rattle.hk_facts.specs.declared.fact.Part.TheVariants.{Row as RowPart, End as
 use Rattle.hk_facts.specs.Facts.{put_result, without, row_of, died_of, fact_conflicts, with_fact}
 use Rattle.hk_facts.specs.Chains.{ChainValue, set_at, put_at, chain_put, chain_forget, chain_until, latest_at}
 use Rattle.hk_facts.specs.Parted.{both, AreApart, NoRows, IsParted, lone_end, later_of, is_later}
-use Rattle.hk_facts.proofs.StoredTrees.{tied_same, get-set_at, same_at_all, set_at_same}
+use Rattle.hk_facts.proofs.StoredTrees.{tied_same, get-set_at, same_at_all}
 use Rattle.hk_facts.proofs.DroppedEnds.{until_at}
 use Rattle.hk_facts.proofs.LatestVersion.{IsLatest, is_latest, one_latest, wins}
 

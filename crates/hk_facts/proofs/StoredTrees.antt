@@ -1,5 +1,5 @@
 -- A write to a stored tree is a write to the map that it is seen as.
-use Rattle.std.proofs.Common.{◌≡◌, refl, sym, ap, ◌∙◌, subst, ℕ, Bool, true, false, true≢false, cond, option_map, Option, Some, None, List, [], ◌∷◌, ◌&&◌, T, nat_cmp, is_eq, is_lt, length, Result, Ok, Err, IfErr, IsSome, ◌⊎◌, inr, Ordering, Less, arith}
+use Rattle.std.proofs.Common.{◌≡◌, refl, sym, ap, ◌∙◌, subst, ℕ, Bool, true, false, true≢false, cond, option_map, Option, Some, None, List, [], ◌∷◌, ◌&&◌, T, nat_cmp, is_eq, is_lt, length, not, Result, Ok, Err, IfErr, IfOk, IsSome, ◌⊎◌, inr, Ordering, Less, arith}
 use Rattle.std.proofs.lemmas.Bool.Decides.{nat_tests}
 use Rattle.std.specs.Option.{is_some}
 use Rattle.std.specs.Cmp.{IsTotalOrder, nat_cmp_total, tied_itself, eq_by_cmp_equiv}
@@ -16,6 +16,10 @@ use Rattle.std.proofs.lemmas.Map.Keys.{sorted_head, sorted_tail}
 use Rattle.std.specs.Result.{IsErrAnd}
 use Rattle.hk_types.specs.declared.faults.Refusal.{Refusal}
 use Rattle.hk_types.specs.declared.faults.Refusal.TheVariants.{Memory}
+use Rattle.hk_log.specs.Versions.{VersionValue}
+use Rattle.hk_facts.specs.declared.fact.Fact.{Fact}
+use Rattle.hk_facts.specs.declared.fact.Fact.TheVariants.{Row, End}
+use Rattle.hk_facts.specs.Facts.{has_like, row_of, died_of}
 use Rattle.hk_facts.specs.Chains.{set_at, alter, put_at, put_by}
 
 -- ---- equal keys
@@ -39,6 +43,14 @@ IfErr_map (Err e) f p = f e p
 pub out_of_memory : {A N : Type 0} (P : Refusal → Type 0) (r : Result A Refusal) → IsErrAnd r (λ e. e ≡ Memory) → N → IfErr r (λ why. P why ⊎ ((why ≡ Memory) × N))
 out_of_memory P (Ok a) e n = tt
 out_of_memory P (Err why) e n = inr (e, n)
+
+-- whether a fact was new is told of what stands at its key
+pub new_as : (r : Result Bool Refusal) (x y : Option VersionValue) (fact : Fact) → x ≡ y → IfOk r (λ is. is ≡ not (has_like x fact)) → IfOk r (λ is. is ≡ not (has_like y fact))
+new_as r x y fact same told = subst (λ v. IfOk r (λ is. is ≡ not (has_like v fact))) same told
+
+pub new_at : (x : Option VersionValue) (fact : Fact) → x ≡ None → true ≡ not (has_like x fact)
+new_at x (Row row) none = ap (λ v. not (is_some (row_of v))) (sym none)
+new_at x (End died) none = ap (λ v. not (is_some (died_of v))) (sym none)
 
 pub is_there : {X : Type 0} (x : Option X) (v : X) → Some v ≡ x → IsSome x
 is_there x v e = subst IsSome e refl

@@ -10,7 +10,7 @@ use Rattle.hk_model.specs.Replica.Maps.{or_else}
 use Rattle.hk_model.specs.Replica.Content.{at_most}
 use Rattle.hk_facts.specs.declared.fact.Fact.{Fact}
 use Rattle.hk_facts.specs.declared.fact.Part.{Part}
-use Rattle.hk_facts.specs.Facts.{put_result, without, died_of}
+use Rattle.hk_facts.specs.Facts.{has_like, put_result, without, died_of}
 
 -- the value of a `Chain`
 abbrev pub ChainValue : Type 0
@@ -38,6 +38,10 @@ module _ {X : Type 0} where
 -- the chain with a fact on the version that was born then
 abbrev pub chain_put : ChainValue → ℕ → Fact → Result ChainValue Refusal
 chain_put c born fact = put_by (put_result fact) c born
+
+-- whether nothing like the fact is known of the version that was born then
+abbrev pub is_new_to : ChainValue → ℕ → Fact → Bool
+is_new_to c born fact = not (has_like (finmap.get c born) fact)
 
 -- the chain without a part of the version that was born then
 abbrev pub chain_forget : ChainValue → ℕ → Part → ChainValue

@@ -1,5 +1,5 @@
 -- What one fact makes of what is known of a version, and what is left of it without a part.
-use Rattle.std.specs.Prelude.{ℕ, Bool, ◌==◌, Option, Some, None, Result, Ok, Err, if◌then◌else◌}
+use Rattle.std.specs.Prelude.{ℕ, Bool, ◌==◌, Option, Some, None, Result, Ok, Err, if◌then◌else◌, is_some}
 use Rattle.hk_types.specs.Values.{RowValue, same_row}
 use Rattle.hk_types.specs.declared.faults.Refusal.{Refusal}
 use Rattle.hk_types.specs.declared.faults.Refusal.TheVariants.{Conflict}
@@ -19,6 +19,11 @@ row_of (Some v) = v.row
 abbrev pub died_of : Option VersionValue → Option ℕ
 died_of None = None
 died_of (Some v) = v.died
+
+-- whether a row is known of a version, where the fact is one, or an end, where it is one
+abbrev pub has_like : Option VersionValue → Fact → Bool
+has_like v (Row row) = is_some (row_of v)
+has_like v (End died) = is_some (died_of v)
 
 -- whether the version has another row, or another end, than the fact says
 abbrev pub fact_conflicts : Fact → Option VersionValue → Bool

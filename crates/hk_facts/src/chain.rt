@@ -5,7 +5,7 @@ ghost use Rattle.std.specs.Option.{option_copied, option_map};
 ghost use Rattle.std.specs.FinMap as finmap;
 ghost use Rattle.hk_types.specs.declared.faults.Refusal.TheVariants.{Memory};
 ghost use Rattle.hk_facts.specs.declared.fact.Fact.TheVariants.{Row as RowFact, End as EndFact};
-ghost use Rattle.hk_facts.specs.Chains.{chain_put, chain_forget, chain_until, latest_at, row_at, is_after, FirstBorn, RefusesPut};
+ghost use Rattle.hk_facts.specs.Chains.{chain_put, chain_forget, chain_until, is_new_to, latest_at, row_at, is_after, FirstBorn, RefusesPut};
 
 use crate::chain_form::ChainForm;
 use crate::fact::{Fact, Part};
@@ -29,10 +29,18 @@ use std::marker::Model;
 ///
 /// Before the drop `at(5)` is A, and `at(7)` is B. `at(10)` is B too, since the row of the version born at 9 has not
 /// come. The list has at most 32 versions: a new one beside these turns the chain into `Many`.
-#[derive(Drop)]
 pub struct Chain {
     form: ChainForm,
     alloc: Global,
+}
+
+// Written out, so that a chain with no version that is let go costs nothing.
+impl Drop for Chain {
+    #[inline(always)]
+    fn drop(self) {
+        let Chain { form, alloc: _ } = self;
+        drop(form);
+    }
 }
 
 impl Model for Chain {
@@ -73,13 +81,14 @@ impl Chain {
         }
     }
 
-    /// Adds a fact on the version that was born then. One that is known already changes nothing, and one
-    /// that differs from what is known is a conflict. `Memory` comes only where nothing is known of the
-    /// version. A refusal changes nothing. Cost: O(log n + b), n versions, b bytes of a body that is
+    /// Adds a fact on the version that was born then, and returns whether nothing like it was known. One that is known
+    /// already changes nothing, and one that differs from what is known is a conflict. `Memory` comes only where nothing
+    /// is known of the version. A refusal changes nothing. Cost: O(log n + b), n versions, b bytes of a body that is
     /// compared; once in its life a chain of 32 versions copies their bodies, when it goes over into maps.
     #[inline(always)]
-    pub fn put(&mut self, born: Time, fact: Fact) -> Result<(), Refusal>
+    pub fn put(&mut self, born: Time, fact: Fact) -> Result<bool, Refusal>
         ensures ok { OnOk result (chain_put self.old born fact ≡ Ok self.new) }
+        ensures new { IfOk result (λ is. is ≡ is_new_to self.old born fact) }
         ensures err { IfErr result (λ why. RefusesPut self.old born fact why) }
         ensures kept { OnErr result (self.new ≡ self.old) }
     {
@@ -92,7 +101,8 @@ impl Chain {
         ensures err { IfErr result (λ why. RefusesPut self.old born (RowFact row) why) }
         ensures kept { OnErr result (self.new ≡ self.old) }
     {
-        self.put(born, Fact::Row(row))
+        self.put(born, Fact::Row(row))?;
+        Ok(())
     }
 
     /// Adds an end, as `put` does. Cost: that of `put`.
@@ -101,7 +111,8 @@ impl Chain {
         ensures err { IfErr result (λ why. RefusesPut self.old born (EndFact died) why) }
         ensures kept { OnErr result (self.new ≡ self.old) }
     {
-        self.put(born, Fact::End(died))
+        self.put(born, Fact::End(died))?;
+        Ok(())
     }
 
     /// Removes a part of a version, its row or its end or both. A version of which nothing else is known is dropped.

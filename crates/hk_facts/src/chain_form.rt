@@ -4,7 +4,7 @@ ghost use Rattle.std.specs.Prelude.{◌≡◌, ◌⊎◌, ◌↔◌, IsTrue, OnO
 ghost use Rattle.std.specs.Option.{option_copied, option_map};
 ghost use Rattle.std.specs.FinMap as finmap;
 ghost use Rattle.hk_types.specs.declared.faults.Refusal.TheVariants.{Memory};
-ghost use Rattle.hk_facts.specs.Chains.{chain_put, chain_forget, chain_until, latest_at, is_after, FirstBorn, RefusesPut};
+ghost use Rattle.hk_facts.specs.Chains.{chain_put, chain_forget, chain_until, is_new_to, latest_at, is_after, FirstBorn, RefusesPut};
 ghost use Rattle.hk_facts.specs.Listed.{listed, first_only, is_other, AreByBirth};
 ghost use Rattle.hk_facts.specs.Forms.{stored};
 
@@ -18,21 +18,33 @@ use hk_types::{Refusal, Time};
 use std::alloc::{AllocError, Global};
 
 /// At most one version in place, then a list, and above the size of a list maps.
-#[derive(Drop)]
 pub(crate) enum ChainForm {
     One(Option<(Time, Version)>),
     Few(Few),
     Many(Box<Others>),
 }
 
-impl ChainForm {
-    /// Adds a fact on the version that was born then. One that is known already changes nothing, and one
-    /// that differs from what is known is a conflict. `Memory` comes only where nothing is known of the
-    /// version. A refusal changes nothing. Cost: O(log n + b), n versions, b bytes of a body that is compared; the
-    /// bodies of a list are copied once, when it goes over into maps.
+// Written out, so that letting a chain with no version go costs nothing where it is seen to have none.
+impl Drop for ChainForm {
     #[inline(always)]
-    pub(crate) fn put(&mut self, alloc: Global, born: Time, fact: Fact) -> Result<(), Refusal>
+    fn drop(self) {
+        match self {
+            ChainForm::One(first) => drop(first),
+            ChainForm::Few(few) => drop(few),
+            ChainForm::Many(others) => drop(others),
+        }
+    }
+}
+
+impl ChainForm {
+    /// Adds a fact on the version that was born then, and returns whether nothing like it was known. One that is known
+    /// already changes nothing, and one that differs from what is known is a conflict. `Memory` comes only where nothing
+    /// is known of the version. A refusal changes nothing. Cost: O(log n + b), n versions, b bytes of a body that is
+    /// compared; the bodies of a list are copied once, when it goes over into maps.
+    #[inline(always)]
+    pub(crate) fn put(&mut self, alloc: Global, born: Time, fact: Fact) -> Result<bool, Refusal>
         ensures ok { OnOk result (chain_put (stored self.old) born fact ≡ Ok (stored self.new)) }
+        ensures new { IfOk result (λ is. is ≡ is_new_to (stored self.old) born fact) }
         ensures err { IfErr result (λ why. RefusesPut (stored self.old) born fact why) }
         ensures kept { OnErr result (stored self.new ≡ stored self.old) }
     {
@@ -52,7 +64,7 @@ impl ChainForm {
                 }
                 let others = put_beyond(alloc, few, born, fact)?;
                 *self = ChainForm::Many(others);
-                Ok(())
+                Ok(true)
             }
             ChainForm::Many(others) => others.put(born, fact),
         }
@@ -163,9 +175,10 @@ fn has_other(first: &Option<(Time, Version)>, born: Time) -> bool
 
 /// Adds a fact on the version that was born then, where there is no other.
 #[inline(always)]
-fn put_first(first: &mut Option<(Time, Version)>, born: Time, fact: Fact) -> Result<(), Refusal>
+fn put_first(first: &mut Option<(Time, Version)>, born: Time, fact: Fact) -> Result<bool, Refusal>
     requires { is_other first.old born ≡ false }
     ensures ok { OnOk result (chain_put (first_only first.old) born fact ≡ Ok (first_only first.new)) }
+    ensures new { IfOk result (λ is. is ≡ is_new_to (first_only first.old) born fact) }
     ensures err { IfErr result (λ why. chain_put (first_only first.old) born fact ≡ Err why) }
     ensures kept { OnErr result (first.new ≡ first.old) }
 {
@@ -173,7 +186,7 @@ fn put_first(first: &mut Option<(Time, Version)>, born: Time, fact: Fact) -> Res
         Some((_time, version)) => join(version, fact),
         None => {
             *first = Some((born, version_of(fact)));
-            Ok(())
+            Ok(true)
         }
     }
 }

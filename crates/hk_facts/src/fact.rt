@@ -1,9 +1,9 @@
 //! What is known of a version, one fact at a time.
 
-ghost use Rattle.std.specs.Prelude.{◌≡◌, Some, None, Ok, Err, OnOk, OnErr, IfErr};
+ghost use Rattle.std.specs.Prelude.{◌≡◌, not, Some, None, Ok, Err, OnOk, OnErr, IfErr, IfOk};
 ghost use Rattle.std.specs.Bool.{OnTrue, OnFalse};
 ghost use Rattle.hk_facts.specs.declared.fact.Fact.TheVariants.{Row as KnownRow, End as KnownEnd};
-ghost use Rattle.hk_facts.specs.Facts.{put_result, without};
+ghost use Rattle.hk_facts.specs.Facts.{has_like, put_result, without};
 
 use hk_log::Version;
 use hk_types::{Refusal, Row, Time};
@@ -34,10 +34,11 @@ pub fn version_of(fact: Fact) -> Version
     }
 }
 
-/// Adds a fact to a version, unless the version has another row or another end there.
+/// Adds a fact to a version, unless the version has another row or another end there. Returns whether it had none.
 #[inline(always)]
-pub fn join(version: &mut Version, fact: Fact) -> Result<(), Refusal>
+pub fn join(version: &mut Version, fact: Fact) -> Result<bool, Refusal>
     ensures ok { OnOk result (put_result fact (Some version.old) ≡ Ok version.new) }
+    ensures new { IfOk result (λ is. is ≡ not (has_like (Some version.old) fact)) }
     ensures err { IfErr result (λ why. put_result fact (Some version.old) ≡ Err why) }
     ensures kept { OnErr result (version.new ≡ version.old) }
 {
@@ -48,8 +49,9 @@ pub fn join(version: &mut Version, fact: Fact) -> Result<(), Refusal>
 }
 
 #[inline(always)]
-fn join_row(version: &mut Version, row: Row) -> Result<(), Refusal>
+fn join_row(version: &mut Version, row: Row) -> Result<bool, Refusal>
     ensures ok { OnOk result (put_result (KnownRow row) (Some version.old) ≡ Ok version.new) }
+    ensures new { IfOk result (λ is. is ≡ not (has_like (Some version.old) (KnownRow row))) }
     ensures err { IfErr result (λ why. put_result (KnownRow row) (Some version.old) ≡ Err why) }
     ensures kept { OnErr result (version.new ≡ version.old) }
 {
@@ -57,15 +59,16 @@ fn join_row(version: &mut Version, row: Row) -> Result<(), Refusal>
         if *there != row {
             return Err(Refusal::Conflict);
         }
-        return Ok(());
+        return Ok(false);
     }
     version.set_row(row);
-    Ok(())
+    Ok(true)
 }
 
 #[inline(always)]
-fn join_end(version: &mut Version, died: Time) -> Result<(), Refusal>
+fn join_end(version: &mut Version, died: Time) -> Result<bool, Refusal>
     ensures ok { OnOk result (put_result (KnownEnd died) (Some version.old) ≡ Ok version.new) }
+    ensures new { IfOk result (λ is. is ≡ not (has_like (Some version.old) (KnownEnd died))) }
     ensures err { IfErr result (λ why. put_result (KnownEnd died) (Some version.old) ≡ Err why) }
     ensures kept { OnErr result (version.new ≡ version.old) }
 {
@@ -73,10 +76,10 @@ fn join_end(version: &mut Version, died: Time) -> Result<(), Refusal>
         if there != died {
             return Err(Refusal::Conflict);
         }
-        return Ok(());
+        return Ok(false);
     }
     version.set_died(died);
-    Ok(())
+    Ok(true)
 }
 
 /// Removes a part of a version, and returns whether anything is left. Where nothing would be left, the version is as it was.

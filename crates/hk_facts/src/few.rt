@@ -1,11 +1,11 @@
 //! The versions of a short chain.
 
-ghost use Rattle.std.specs.Prelude.{◌≡◌, ◌⊎◌, ◌↔◌, ◌≤◌, ◌<◌, IsTrue, OnOk, OnErr, IfErr, IfOk, Ok, Err, Some, None, vec_len};
+ghost use Rattle.std.specs.Prelude.{◌≡◌, ◌⊎◌, ◌↔◌, ◌≤◌, ◌<◌, ◌+◌, nat_le, IsTrue, OnOk, OnErr, IfErr, IfOk, Ok, Err, Some, None, vec_len};
 ghost use Rattle.std.specs.FinMap as finmap;
 ghost use Rattle.std.specs.List.{insert};
 ghost use Rattle.std.specs.Map.{keys_of};
 ghost use Rattle.hk_types.specs.declared.faults.Refusal.TheVariants.{Memory};
-ghost use Rattle.hk_facts.specs.Chains.{chain_put, chain_forget, chain_until, RefusesPut};
+ghost use Rattle.hk_facts.specs.Chains.{chain_put, chain_forget, chain_until, is_new_to, RefusesPut};
 ghost use Rattle.hk_facts.specs.Listed.{listed, first_only, AreByBirth, StandsAt};
 
 use crate::fact::{Fact, Part, join, take_back, version_of};
@@ -26,6 +26,7 @@ pub(crate) struct Few {
 }
 
 impl Model for Few {
+    ghost use Rattle.std.specs.Prelude.{◌≤◌, vec_len};
     ghost use Rattle.std.specs.Coded.{coded_ℕ};
     ghost use Rattle.std.specs.FinMap as finmap;
     ghost use Rattle.hk_log.specs.Versions.{version_code};
@@ -38,7 +39,7 @@ impl Model for Few {
 
     ghost view = { λ a. listed a.versions.items };
 
-    ghost invariant = { λ a. AreByBirth a.versions.items };
+    ghost invariant = { λ a. AreByBirth a.versions.items × (vec_len a.versions ≤ 32) };
 }
 
 impl Few {
@@ -69,18 +70,22 @@ impl Few {
         &self.versions
     }
 
-    /// Whether the list has as many versions as it is to have.
+    /// Whether the list has as many versions as it is to have: 32.
     #[inline(always)]
-    pub(crate) fn is_full(&self) -> bool {
+    pub(crate) fn is_full(&self) -> bool
+        ensures { result ≡ nat_le 32 (finmap.len self.now) }
+    {
         self.versions.len() >= MOST
     }
 
-    /// Adds a fact on the version that was born then. One that is known already changes nothing, and one
-    /// that differs from what is known is a conflict. `Memory` comes only where nothing is known of the
-    /// version. A refusal changes nothing. Cost: O(n + b), n versions, b bytes of a body that is compared.
+    /// Adds a fact on the version that was born then, and returns whether nothing like it was known. One that is known
+    /// already changes nothing, and one that differs from what is known is a conflict. `Memory` comes only where nothing
+    /// is known of the version. A refusal changes nothing. Cost: O(n + b), n versions, b bytes of a body that is compared.
     #[inline(always)]
-    pub(crate) fn put(&mut self, born: Time, fact: Fact) -> Result<(), Refusal>
+    pub(crate) fn put(&mut self, born: Time, fact: Fact) -> Result<bool, Refusal>
+        requires { finmap.get self.old born ≡ None → finmap.len self.old < 32 }
         ensures ok { OnOk result (chain_put self.old born fact ≡ Ok self.new) }
+        ensures new { IfOk result (λ is. is ≡ is_new_to self.old born fact) }
         ensures err { IfErr result (λ why. RefusesPut self.old born fact why) }
         ensures kept { OnErr result (self.new ≡ self.old) }
     {
@@ -88,7 +93,7 @@ impl Few {
             Ok(place) => join_at(&mut self.versions, place, born, fact),
             Err(place) => {
                 insert_at(&mut self.versions, place, born, version_of(fact))?;
-                Ok(())
+                Ok(true)
             }
         }
     }
@@ -137,13 +142,15 @@ fn join_at(
     place: usize,
     born: Time,
     fact: Fact,
-) -> Result<(), Refusal>
+) -> Result<bool, Refusal>
     requires sorted { AreByBirth versions.old.items }
     requires there { StandsAt versions.old.items born place }
     ensures ok { OnOk result (chain_put (listed versions.old.items) born fact ≡ Ok (listed versions.new.items)) }
+    ensures new { IfOk result (λ is. is ≡ is_new_to (listed versions.old.items) born fact) }
     ensures err { IfErr result (λ why. chain_put (listed versions.old.items) born fact ≡ Err why) }
     ensures kept { OnErr result (listed versions.new.items ≡ listed versions.old.items) }
     ensures keys { keys_of versions.new.items ≡ keys_of versions.old.items }
+    ensures many { vec_len versions.new ≡ vec_len versions.old }
 {
     join(&mut versions[place].1, fact)
 }
@@ -154,6 +161,7 @@ fn forget_at(versions: &mut Vec<(Time, Version)>, place: usize, born: Time, part
     requires there { StandsAt versions.old.items born place }
     ensures same { listed versions.new.items ≡ chain_forget (listed versions.old.items) born part }
     ensures sorted { AreByBirth versions.new.items }
+    ensures many { vec_len versions.new ≤ vec_len versions.old }
 {
     if take_back(&mut versions[place].1, part) {
         return;
@@ -171,6 +179,7 @@ fn insert_at(
 ) -> Result<(), AllocError>
     requires { place ≤ vec_len versions.old }
     ensures ok { OnOk result (versions.new.items ≡ insert versions.old.items place (born, version)) }
+    ensures many { OnOk result (vec_len versions.new ≡ vec_len versions.old + 1) }
     ensures err { OnErr result (versions.new.items ≡ versions.old.items) }
 {
     versions.insert(place, (born, version))?;

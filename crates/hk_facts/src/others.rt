@@ -5,7 +5,7 @@ ghost use Rattle.std.specs.Option.{option_copied, option_map};
 ghost use Rattle.std.specs.FinMap as finmap;
 ghost use Rattle.hk_types.specs.declared.faults.Refusal.TheVariants.{Memory};
 ghost use Rattle.hk_facts.specs.declared.fact.Fact.TheVariants.{Row as RowFact, End as EndFact};
-ghost use Rattle.hk_facts.specs.Chains.{chain_put, chain_forget, chain_until, latest_at, is_after, FirstBorn, RefusesPut};
+ghost use Rattle.hk_facts.specs.Chains.{chain_put, chain_forget, chain_until, is_new_to, latest_at, is_after, FirstBorn, RefusesPut};
 ghost use Rattle.hk_facts.specs.Listed.{listed, AreByBirth};
 ghost use Rattle.hk_facts.specs.Parted.{both, AreApart, NoRows, lone_end};
 
@@ -59,12 +59,13 @@ impl Others {
         })
     }
 
-    /// Adds a fact on the version that was born then. One that is known already changes nothing, and one
-    /// that differs from what is known is a conflict. `Memory` comes only where nothing is known of the
-    /// version. A refusal changes nothing. Cost: O(log n + b), n versions, b bytes of a body that is
+    /// Adds a fact on the version that was born then, and returns whether nothing like it was known. One that is known
+    /// already changes nothing, and one that differs from what is known is a conflict. `Memory` comes only where nothing
+    /// is known of the version. A refusal changes nothing. Cost: O(log n + b), n versions, b bytes of a body that is
     /// compared.
-    pub(crate) fn put(&mut self, born: Time, fact: Fact) -> Result<(), Refusal>
+    pub(crate) fn put(&mut self, born: Time, fact: Fact) -> Result<bool, Refusal>
         ensures ok { OnOk result (chain_put self.old born fact ≡ Ok self.new) }
+        ensures new { IfOk result (λ is. is ≡ is_new_to self.old born fact) }
         ensures err { IfErr result (λ why. RefusesPut self.old born fact why) }
         ensures kept { OnErr result (self.new ≡ self.old) }
     {
@@ -74,8 +75,9 @@ impl Others {
         }
     }
 
-    fn put_row(&mut self, born: Time, row: Row) -> Result<(), Refusal>
+    fn put_row(&mut self, born: Time, row: Row) -> Result<bool, Refusal>
         ensures ok { OnOk result (chain_put self.old born (RowFact row) ≡ Ok self.new) }
+        ensures new { IfOk result (λ is. is ≡ is_new_to self.old born (RowFact row)) }
         ensures err { IfErr result (λ why. RefusesPut self.old born (RowFact row) why) }
         ensures kept { OnErr result (self.new ≡ self.old) }
     {
@@ -87,8 +89,9 @@ impl Others {
         self.ends.put(born, Fact::Row(row))
     }
 
-    fn put_end(&mut self, born: Time, died: Time) -> Result<(), Refusal>
+    fn put_end(&mut self, born: Time, died: Time) -> Result<bool, Refusal>
         ensures ok { OnOk result (chain_put self.old born (EndFact died) ≡ Ok self.new) }
+        ensures new { IfOk result (λ is. is ≡ is_new_to self.old born (EndFact died)) }
         ensures err { IfErr result (λ why. RefusesPut self.old born (EndFact died) why) }
         ensures kept { OnErr result (self.new ≡ self.old) }
     {

@@ -8,7 +8,7 @@ ghost use Rattle.std.specs.FinMap as finmap;
 ghost use Rattle.hk_types.specs.declared.faults.Refusal.TheVariants.{Memory};
 ghost use Rattle.hk_model.specs.Replica.Content.{at_most};
 ghost use Rattle.hk_facts.specs.Listed.{AreByBirth, IsPartOf};
-ghost use Rattle.hk_facts.specs.Chains.{chain_put, chain_forget, chain_until, latest_at, is_after, FirstBorn, RefusesPut};
+ghost use Rattle.hk_facts.specs.Chains.{chain_put, chain_forget, chain_until, is_new_to, latest_at, is_after, FirstBorn, RefusesPut};
 
 use crate::fact::{Fact, Part, join, take_back, version_of};
 use hk_log::Version;
@@ -59,12 +59,13 @@ impl Versions {
         Ok(Versions { versions })
     }
 
-    /// Adds a fact on the version that was born then. One that is known already changes nothing, and one
-    /// that differs from what is known is a conflict. `Memory` comes only where nothing is known of the
-    /// version. A refusal changes nothing. Cost: O(log n + b), n versions, b bytes of a body that is
+    /// Adds a fact on the version that was born then, and returns whether nothing like it was known. One that is known
+    /// already changes nothing, and one that differs from what is known is a conflict. `Memory` comes only where nothing
+    /// is known of the version. A refusal changes nothing. Cost: O(log n + b), n versions, b bytes of a body that is
     /// compared.
-    pub(crate) fn put(&mut self, born: Time, fact: Fact) -> Result<(), Refusal>
+    pub(crate) fn put(&mut self, born: Time, fact: Fact) -> Result<bool, Refusal>
         ensures ok { OnOk result (chain_put self.old born fact ≡ Ok self.new) }
+        ensures new { IfOk result (λ is. is ≡ is_new_to self.old born fact) }
         ensures err { IfErr result (λ why. RefusesPut self.old born fact why) }
         ensures kept { OnErr result (self.new ≡ self.old) }
     {
@@ -72,7 +73,7 @@ impl Versions {
             return join(version, fact);
         }
         insert(&mut self.versions, born, version_of(fact))?;
-        Ok(())
+        Ok(true)
     }
 
     /// Removes a part of a version, its row or its end or both. A version of which nothing else is known is dropped.

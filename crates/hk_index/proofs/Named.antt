@@ -1,5 +1,5 @@
 -- The versions that a list of timed ones names.
-use Rattle.std.proofs.Common.{◌≡◌, refl, sym, ap, ◌∙◌, ℕ, Bool, true, false, List, [], ◌∷◌, map, ◌||◌, ◌&&◌, ◌==◌, Less, Equal, Greater, is_eq, nat_cmp, arith, true≢false}
+use Rattle.std.proofs.Common.{◌≡◌, refl, sym, ap, ◌∙◌, ℕ, Bool, true, false, List, [], ◌∷◌, map, ◌||◌, ◌&&◌, ◌==◌, Less, Equal, Greater, is_eq, nat_cmp, Ordering, arith, true≢false}
 use Rattle.std.proofs.lemmas.Bool.Decides.{nat_tests}
 use Rattle.std.proofs.lemmas.Bool.{and_parts}
 use Rattle.std.specs.List.{list_any}
@@ -10,22 +10,35 @@ use Rattle.hk_types.specs.declared.version_key.VersionKey.{VersionKey}
 use Rattle.hk_model.specs.History.Rows.{version_key_cmp}
 use Rattle.hk_model.proofs.Replica.Maps.{version_key_total, version_key_same}
 use Rattle.hk_index.specs.declared.timed.TimedVersion.{TimedVersion}
-use Rattle.hk_index.specs.Timed.{timed_cmp, versions_where}
+use Rattle.hk_index.specs.Timed.{timed_cmp, versions_where, ListsWhere}
 use Rattle.hk_index.proofs.Order.{timed_total}
 use Rattle.hk_index.proofs.Shown.{Times}
 use Rattle.hk_index.proofs.StoredKeys.{tied_versions}
 
+same_number : (a b : ℕ) → (a == b) ≡ is_eq (nat_cmp a b)
+same_number a b = grind (arith, nat_tests)
+
+then_tied : (a b : ℕ) (o : Ordering) → is_eq (ordering_then (nat_cmp a b) o) ≡ ((a == b) && is_eq o)
+then_tied a b o =
+    elim (nat_cmp a b) as (λ k. nat_cmp a b ≡ k → is_eq (ordering_then k o) ≡ ((a == b) && is_eq o)) [
+      | Less ↦ λ e. ap (λ c. c && is_eq o) (sym (same_number a b ∙ ap is_eq e))
+      | Equal ↦ λ e. ap (λ c. c && is_eq o) (sym (same_number a b ∙ ap is_eq e))
+      | Greater ↦ λ e. ap (λ c. c && is_eq o) (sym (same_number a b ∙ ap is_eq e))
+    ] refl
+
 -- two timed versions tie where their times and their versions do
 pub tied_parts : (s t : TimedVersion) → eq_by_cmp timed_cmp s t ≡ ((s.time == t.time) && eq_by_cmp version_key_cmp s.version t.version)
-tied_parts s t =
-    elim (nat_cmp s.time t.time) as (λ o. nat_cmp s.time t.time ≡ o → is_eq (ordering_then o (version_key_cmp s.version t.version)) ≡ ((s.time == t.time) && eq_by_cmp version_key_cmp s.version t.version)) [
-      | Less ↦ λ e. let f = ap is_eq e in ap (λ b. b && eq_by_cmp version_key_cmp s.version t.version) (sym (times s.time t.time ∙ f))
-      | Equal ↦ λ e. let f = ap is_eq e in ap (λ b. b && eq_by_cmp version_key_cmp s.version t.version) (sym (times s.time t.time ∙ f))
-      | Greater ↦ λ e. let f = ap is_eq e in ap (λ b. b && eq_by_cmp version_key_cmp s.version t.version) (sym (times s.time t.time ∙ f))
-    ] refl
-  where
-    times : (a b : ℕ) → (a == b) ≡ is_eq (nat_cmp a b)
-    times a b = grind (arith, nat_tests)
+tied_parts s t = then_tied s.time t.time (version_key_cmp s.version t.version)
+
+-- as where they are equal
+pub equal_ties : (s t : TimedVersion) → ((s.time == t.time) && ((s.version.table == t.version.table) && ((s.version.key == t.version.key) && (s.version.born == t.version.born)))) ≡ eq_by_cmp timed_cmp s t
+equal_ties s t =
+    let v = s.version in
+    let w = t.version in
+    ap (λ b. (s.time == t.time) && ((v.table == w.table) && ((v.key == w.key) && b))) (same_number v.born w.born)
+    ∙ ap (λ b. (s.time == t.time) && ((v.table == w.table) && b)) (sym (then_tied v.key w.key (nat_cmp v.born w.born)))
+    ∙ ap (λ b. (s.time == t.time) && b) (sym (then_tied v.table w.table (ordering_then (nat_cmp v.key w.key) (nat_cmp v.born w.born))))
+    ∙ sym (tied_parts s t)
 
 -- ---- the versions of timed ones
 
@@ -38,11 +51,11 @@ is_listed t ts = list_any (eq_by_cmp timed_cmp t) ts
 abbrev pub is_named : VersionKey → List VersionKey → Bool
 is_named v vs = list_any (eq_by_cmp version_key_cmp v) vs
 
-or_right : (a b : Bool) → b ≡ true → (a || b) ≡ true
+pub or_right : (a b : Bool) → b ≡ true → (a || b) ≡ true
 or_right true b e = refl
 or_right false b e = e
 
-itself : (t : TimedVersion) (ts : List TimedVersion) → is_listed t (t ∷ ts) ≡ true
+pub itself : (t : TimedVersion) (ts : List TimedVersion) → is_listed t (t ∷ ts) ≡ true
 itself t ts = ap (λ b. b || is_listed t ts) (ap is_eq (tied_itself timed_total t))
 
 -- a listed one's version is named
@@ -84,3 +97,6 @@ named_where index test found vs is e = set.same_set version_key_total version_ke
   where
     some : Times
     some = set.retain index (λ t. test t.time)
+
+pub listed_where : (versions : List VersionKey) (index : Times) (test : ℕ → Bool) → ListsWhere versions index test → set.from_list versions ≡ versions_where index test
+listed_where versions index test lists = named_where index test lists.members versions lists.named lists.same

@@ -3,6 +3,7 @@ use Rattle.std.specs.Prelude.{◌≡◌, ℕ, Bool, false, ◌==◌, map, refl, 
 use Rattle.std.specs.declared.cmp.Ordering.{Ordering}
 use Rattle.std.specs.Coded.{Coded, code_by, coded×, coded_ℕ}
 use Rattle.std.specs.Ordering.{nat_cmp, on, then_cmp}
+use Rattle.std.specs.List.Sorted.{IsStrictlySortedBy}
 use Rattle.std.specs.FinSet as set
 use Rattle.hk_types.specs.declared.version_key.VersionKey.{VersionKey}
 use Rattle.hk_model.specs.Replica.Codes.{version_key_code}
@@ -19,6 +20,13 @@ timed_code = code_by (ℕ × VersionKey) (coded× coded_ℕ version_key_code) (�
 -- the versions whose time passes a test
 abbrev pub versions_where : set.FinSet timed_cmp → (ℕ → Bool) → set.FinSet version_key_cmp
 versions_where index test = set.from_list (map (λ t. t.version) (set.items (set.retain index (λ t. test t.time))))
+
+-- the versions whose times pass a test, in the order of time and then version, each as often as it has such a time
+pub record ListsWhere (versions : List VersionKey) (index : set.FinSet timed_cmp) (test : ℕ → Bool) : Type 0 where
+  pub members : List TimedVersion
+  pub rising : IsStrictlySortedBy timed_cmp members
+  pub same : set.from_list members ≡ set.retain index (λ t. test t.time)
+  pub named : versions ≡ map (λ t. t.version) members
 
 -- the least timed version of a time
 abbrev pub first_at : ℕ → TimedVersion

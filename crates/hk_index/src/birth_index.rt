@@ -3,7 +3,7 @@
 ghost use Rattle.std.specs.Prelude.{◌≡◌, nat_le, nat_lt, IfOk, IfErr, OnErr, OnOk};
 ghost use Rattle.std.specs.FinSet as set;
 ghost use Rattle.hk_types.specs.declared.faults.Refusal.TheVariants.{Memory};
-ghost use Rattle.hk_index.specs.Timed.{timed_cmp, versions_where};
+ghost use Rattle.hk_index.specs.Timed.{ListsWhere};
 
 use crate::time_index::names;
 use crate::time_runs::TimeRuns;
@@ -69,12 +69,11 @@ impl BirthIndex {
         self.versions.remove(TimedVersion { time, version });
     }
 
-    /// The versions that were born up to a time.
+    /// The versions that were born up to a time, in the order of birth.
     ///
     /// The only refusal is `Memory`. Cost: O(log n + k), n versions in the set, k of them returned.
     pub fn until(&self, alloc: Global, time: Time) -> Result<Vec<VersionKey>, Refusal>
-        ensures ok { IfOk result (λ found.
-            set.from_list found.items ≡ versions_where self.now (λ t. nat_le t time)) }
+        ensures ok { IfOk result (λ found. ListsWhere found.items self.now (λ t. nat_le t time)) }
         ensures err { IfErr result (λ why. why ≡ Memory) }
     {
         let time = time.number();
@@ -83,12 +82,11 @@ impl BirthIndex {
         Ok(versions)
     }
 
-    /// The versions that were born above a time.
+    /// The versions that were born above a time, in the order of birth.
     ///
     /// The only refusal is `Memory`. Cost: O(log n + k), n versions in the set, k of them returned.
     pub fn above(&self, alloc: Global, time: Time) -> Result<Vec<VersionKey>, Refusal>
-        ensures ok { IfOk result (λ found.
-            set.from_list found.items ≡ versions_where self.now (λ t. nat_lt time t)) }
+        ensures ok { IfOk result (λ found. ListsWhere found.items self.now (λ t. nat_lt time t)) }
         ensures err { IfErr result (λ why. why ≡ Memory) }
     {
         let time = time.number();

@@ -7,7 +7,7 @@ ghost use Rattle.std.specs.BTreeSet as sorted;
 ghost use Rattle.std.specs.FinSet as set;
 ghost use Rattle.std.specs.List.Sorted.{IsStrictlySortedBy};
 ghost use Rattle.hk_index.specs.Timed.{timed_cmp, first_at, Appends, above, up_to};
-ghost use Rattle.hk_index.specs.Entries.{entry_cmp, live_entry, shown};
+ghost use Rattle.hk_index.specs.Entries.{entry_cmp, gone_count, live_entry, shown};
 
 use crate::packed::{Packed, Stamp};
 use crate::timed::TimedVersion;
@@ -108,6 +108,7 @@ impl Loose {
     pub(crate) fn entries<T: Stamp>(&self, alloc: Global) -> Option<Vec<Packed<T>>>
         ensures sorted { IfSome result (λ entries. IsStrictlySortedBy entry_cmp entries.items) }
         ensures same { IfSome result (λ entries. shown entries.items ≡ self.now) }
+        ensures live { IfSome result (λ entries. gone_count entries.items ≡ 0) }
     {
         let entries = live_entries(alloc, &self.members)?;
         Some(entries)

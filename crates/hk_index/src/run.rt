@@ -5,7 +5,7 @@ ghost use Rattle.std.specs.Bool.{OnTrue, OnFalse};
 ghost use Rattle.std.specs.FinSet as set;
 ghost use Rattle.std.specs.List.Sorted.{IsStrictlySortedBy};
 ghost use Rattle.hk_index.specs.Timed.{timed_cmp};
-ghost use Rattle.hk_index.specs.Entries.{entry_cmp, live_members, marked, shown};
+ghost use Rattle.hk_index.specs.Entries.{entry_cmp, gone_count, live_members, marked, shown, IsTidy};
 
 use crate::merge::merge_into;
 use crate::packed::{Packed, Stamp};
@@ -14,7 +14,8 @@ use crate::timed::TimedVersion;
 use std::alloc::{AllocError, Global};
 use std::marker::Model;
 
-/// A sorted list of entries, of which those before `start` are there no more, and some of the others are marked so.
+/// A sorted list of entries, of which those before `start` are there no more, and of the others at most `dead` are marked
+/// so. Both together are at most half of the list: as soon as they are more, it drops them.
 #[derive(Drop)]
 pub(crate) struct Run<T: Stamp> {
     entries: Vec<Packed<T>>,
@@ -25,11 +26,10 @@ pub(crate) struct Run<T: Stamp> {
 }
 
 impl<T: Stamp> Model for Run<T> {
-    ghost use Rattle.std.specs.Prelude.{◌≤◌, drop, vec_len};
+    ghost use Rattle.std.specs.Prelude.{drop};
     ghost use Rattle.std.specs.FinSet as set;
-    ghost use Rattle.std.specs.List.Sorted.{IsStrictlySortedBy};
     ghost use Rattle.hk_index.specs.Timed.{timed_cmp, timed_code};
-    ghost use Rattle.hk_index.specs.Entries.{entry_cmp, shown};
+    ghost use Rattle.hk_index.specs.Entries.{shown, IsTidy};
 
     ghost Value = { set.FinSet timed_cmp };
 
@@ -37,7 +37,7 @@ impl<T: Stamp> Model for Run<T> {
 
     ghost view = { λ a. shown (drop a.start a.entries.items) };
 
-    ghost invariant = { λ a. (a.start ≤ vec_len a.entries) × IsStrictlySortedBy entry_cmp (drop a.start a.entries.items) };
+    ghost invariant = { λ a. IsTidy a.entries.items a.start a.dead };
 }
 
 impl<T: Stamp> Run<T> {
@@ -95,44 +95,22 @@ impl<T: Stamp> Run<T> {
             Some(place) => {
                 mark(&mut self.entries, self.start + place);
                 self.near = place + 1;
-                self.dead = self.dead.saturating_add(1);
+                let (start, dead) = tidy(&mut self.entries, self.start, self.dead + 1);
+                self.start = start;
+                self.dead = dead;
             }
             None => {}
         }
     }
 
-    /// Drops the marked entries, where they are more than half. Cost: O(1), amortized.
-    pub(crate) fn tidy(&mut self)
-        ensures { self.new ≡ self.old }
-    {
-        if self.dead > self.entries.len() / 2 {
-            self.sweep();
-        } else if self.start > self.entries.len() / 2 {
-            self.cut();
-        }
-    }
-
-    fn cut(&mut self)
-        ensures { self.new ≡ self.old }
-    {
-        cut_front(&mut self.entries, self.start);
-        self.start = 0;
-    }
-
-    fn sweep(&mut self)
-        ensures { self.new ≡ self.old }
-    {
-        keep_live(&mut self.entries, self.start);
-        self.start = 0;
-        self.dead = 0;
-    }
-
-    /// Removes the members with a time up to this one. Cost: O(log n).
+    /// Removes the members with a time up to this one. Cost: O(log n), amortized.
     pub(crate) fn drop_until(&mut self, time: u64)
         ensures { self.new ≡ set.retain self.old (λ m. nat_lt time m.time) }
     {
         let count = count_until(after(&self.entries, self.start), time);
-        self.start += count;
+        let (start, dead) = tidy(&mut self.entries, self.start + count, self.dead);
+        self.start = start;
+        self.dead = dead;
     }
 
     /// The members with a time up to this one.
@@ -160,7 +138,8 @@ impl<T: Stamp> Run<T> {
     /// The only error is out of memory; then nothing is changed. Cost: O(log n + k + m), amortized, for the k entries
     /// that come after the first of the m that come.
     pub(crate) fn absorb(&mut self, alloc: Global, newer: &[Packed<T>]) -> Result<(), AllocError>
-        requires { IsStrictlySortedBy entry_cmp newer.now }
+        requires sorted { IsStrictlySortedBy entry_cmp newer.now }
+        requires live { gone_count newer.now ≡ 0 }
         ensures ok { OnOk result (self.new ≡ set.union self.old (shown newer.now)) }
         ensures kept { OnErr result (self.new ≡ self.old) }
     {
@@ -188,6 +167,22 @@ fn mark<T: Stamp>(entries: &mut Vec<Packed<T>>, place: usize)
     ensures items { entries.new.items ≡ marked entries.old.items place }
 {
     entries[place].mark();
+}
+
+/// Drops the entries that are there no more where these are more than half, as far as they are counted: those before
+/// `start`, and `dead` others. Returns what both numbers are then. Cost: O(1), amortized over those that it drops.
+fn tidy<T: Stamp>(entries: &mut Vec<Packed<T>>, start: usize, dead: usize) -> (usize, usize)
+    requires within { start ≤ vec_len entries.old }
+    requires sorted { IsStrictlySortedBy entry_cmp (drop start entries.old.items) }
+    requires counted { gone_count (drop start entries.old.items) ≤ dead }
+    ensures tidy { IsTidy entries.new.items result.0 result.1 }
+    ensures same { shown (drop result.0 entries.new.items) ≡ shown (drop start entries.old.items) }
+{
+    if start.saturating_add(dead) <= entries.len() / 2 {
+        return (start, dead);
+    }
+    keep_live(entries, start);
+    (0, 0)
 }
 
 fn cut_front<T: Stamp>(entries: &mut Vec<Packed<T>>, count: usize)

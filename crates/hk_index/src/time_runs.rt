@@ -3,6 +3,7 @@
 ghost use Rattle.std.specs.Prelude.{◌≡◌, nat_le, nat_lt, IfOk, OnOk, OnErr};
 ghost use Rattle.std.specs.Bool.{OnTrue, OnFalse};
 ghost use Rattle.std.specs.FinSet as set;
+ghost use Rattle.std.specs.List.Sorted.{IsStrictlySortedBy};
 ghost use Rattle.hk_index.specs.Timed.{timed_cmp};
 
 use crate::loose::Loose;
@@ -88,7 +89,6 @@ impl<T: Stamp> TimeRuns<T> {
     {
         let late = member;
         self.run.remove(member);
-        self.run.tidy();
         self.loose.remove(late);
     }
 
@@ -98,30 +98,31 @@ impl<T: Stamp> TimeRuns<T> {
         ensures { self.new ≡ set.retain self.old (λ m. nat_lt time m.time) }
     {
         self.run.drop_until(time);
-        self.run.tidy();
         self.loose.drop_until(time);
     }
 
-    /// The members with a time up to this one.
+    /// The members with a time up to this one, in rising order, each once.
     ///
     /// The only error is out of memory. Cost: O(log n + k), n members in the set, k of them returned.
     pub fn until(&self, alloc: Global, time: u64) -> Result<Vec<TimedVersion>, AllocError>
-        ensures { IfOk result (λ found. set.from_list found.items ≡ set.retain self.now (λ m. nat_le m.time time)) }
+        ensures same { IfOk result (λ found. set.from_list found.items ≡ set.retain self.now (λ m. nat_le m.time time)) }
+        ensures rising { IfOk result (λ found. IsStrictlySortedBy timed_cmp found.items) }
     {
         let mut found = self.run.until(alloc, time)?;
         self.loose.list_until(&mut found, time)?;
-        Ok(found)
+        rising(found)
     }
 
-    /// The members with a time above this one.
+    /// The members with a time above this one, in rising order, each once.
     ///
     /// The only error is out of memory. Cost: O(log n + k), n members in the set, k of them returned.
     pub fn above(&self, alloc: Global, time: u64) -> Result<Vec<TimedVersion>, AllocError>
-        ensures { IfOk result (λ found. set.from_list found.items ≡ set.retain self.now (λ m. nat_lt time m.time)) }
+        ensures same { IfOk result (λ found. set.from_list found.items ≡ set.retain self.now (λ m. nat_lt time m.time)) }
+        ensures rising { IfOk result (λ found. IsStrictlySortedBy timed_cmp found.items) }
     {
         let mut found = self.run.above(alloc, time)?;
         self.loose.list_above(&mut found, time)?;
-        Ok(found)
+        rising(found)
     }
 
     /// The same set again.
@@ -150,6 +151,18 @@ impl<T: Stamp> TimeRuns<T> {
             self.loose = Loose::new(self.alloc);
         }
     }
+}
+
+/// The members of a list in rising order, each once.
+///
+/// The only error is out of memory. Cost: O(k), k members, for a list that is in order, or is two such one after the other.
+fn rising(mut found: Vec<TimedVersion>) -> Result<Vec<TimedVersion>, AllocError>
+    ensures same { IfOk result (λ members. set.from_list {R = timed_cmp} members.items ≡ set.from_list found.items) }
+    ensures rising { IfOk result (λ members. IsStrictlySortedBy timed_cmp members.items) }
+{
+    found.sort()?;
+    found.dedup();
+    Ok(found)
 }
 
 /// Whether the loose members are half as many as those of the list that a merge moves. It asks only where their number is a

@@ -20,7 +20,7 @@ use Rattle.hk_model.proofs.Replica.Streams.{no_gap_at_0}
 use Rattle.hk_delta.specs.Agreeing.{content_taken, then_take, take_all, absorb_all, taken_items, fragment_of_taken}
 use Rattle.hk_delta.specs.Repeats.{stands_otherwise, if_as_told, absorb_so}
 use Rattle.hk_delta.proofs.ComparedRepeats.{absorbed_so}
-use Rattle.hk_delta.proofs.WrongLogs.{count_streams}
+use Rattle.hk_state.proofs.WrongLogs.{count_streams}
 use Rattle.hk_oplog.specs.declared.op.Op.{Op}
 use Rattle.hk_oplog.specs.declared.op.Op.TheVariants.{Join}
 use Rattle.hk_oplog.specs.NodeContent.{NodeContent}

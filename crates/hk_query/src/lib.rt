@@ -8,4 +8,4 @@ mod reply;
 pub use answers::answer_at;
 pub use hk_model::{Answer, Page, Query};
 pub use pages::{page, pages_law};
-pub use reply::{ask, latest};
+pub use reply::{ask, latest, row_at};

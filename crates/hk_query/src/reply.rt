@@ -1,8 +1,9 @@
 //! Asking a state.
 
 ghost use Rattle.std.specs.Prelude.{◌≡◌, ◌≢◌, ℕ, true, Ok, None, IsOk, IfOk, IfErr};
+ghost use Rattle.std.specs.Option.{option_copied};
 ghost use Rattle.hk_types.specs.declared.faults.Refusal.TheVariants.{Memory};
-ghost use Rattle.hk_model.specs.declared.query.Query.TheVariants.{Count};
+ghost use Rattle.hk_model.specs.declared.query.Query.TheVariants.{Count, Get};
 ghost use Rattle.hk_query.specs.Memory.{asking_may_lack};
 ghost use Rattle.hk_query.specs.Primary.{IsLatestOfPrimary, IsOfPrimary, Replies};
 ghost use Rattle.hk_query.specs.Times as times;
@@ -12,7 +13,7 @@ ghost use Rattle.hk_model.specs.Replica.Content.{readable};
 use crate::answers::answer_at;
 use hk_model::{Answer, Query};
 use hk_state::ReplicaState;
-use hk_types::{Refusal, Time};
+use hk_types::{Key, Refusal, Row, Table, Time};
 use std::alloc::Global;
 
 /// Why a state can't be asked at a time, if it can't.
@@ -57,6 +58,23 @@ pub fn ask(
     match time_refusal(state, time) {
         Some(why) => Err(why),
         None => answer_at(alloc, state.facts(), time, query),
+    }
+}
+
+/// The row at a key of a table at a time, lent: what `ask` answers to a `Get`, with no copy of it. It is refused as `ask`
+/// is, but takes no memory. Cost: O(log n), n facts.
+pub fn row_at(
+    state: &ReplicaState,
+    time: Time,
+    table: Table,
+    key: Key,
+) -> Result<Option<&Row>, Refusal>
+    ensures ok { IfOk result (λ row. reply state.now time (Get table key) ≡ Ok (One (option_copied row))) }
+    ensures err { IfErr result (λ why. reply state.now time (Get table key) ≡ Err why) }
+{
+    match time_refusal(state, time) {
+        Some(why) => Err(why),
+        None => Ok(state.facts().shown_at(table, key, time)),
     }
 }
 

@@ -1,16 +1,17 @@
 -- A change that was settled, beside the host before it.
-use Rattle.std.proofs.Common.{◌≡◌, ℕ, ◌^◌, ◌<◌, ◌≤◌, ◌⊎◌, Bool, ◌&&◌, nat_lt, is_ok, cond, Result, Ok, Err, IsOk, true≢false, sym, ap, subst, inl, inr, ◌∙◌}
+use Rattle.std.proofs.Common.{◌≡◌, ℕ, ◌^◌, ◌<◌, ◌≤◌, Bool, ◌&&◌, nat_lt, is_ok, cond, List, Result, Ok, Err, IsOk, true≢false, sym, ap, subst, inl, inr}
 use Rattle.std.proofs.lemmas.Bool.{lt-ltb, cases_lt}
 use Rattle.hk_types.specs.OrMemory.{ChangesOrMemory}
 use Rattle.hk_types.specs.declared.faults.Refusal.{Refusal}
 use Rattle.hk_types.specs.declared.faults.Refusal.TheVariants as refusals
 use Rattle.hk_model.specs.Replica.Content.{Content}
-use Rattle.hk_model.specs.Replica.Fragments.{FragmentValue}
-use Rattle.hk_model.specs.Replica.Rules.{join_result}
+use Rattle.hk_model.specs.Replica.Rules.{gather_result}
+use Rattle.hk_log.specs.declared.item.Item.{Item}
+use Rattle.hk_delta.specs.Joins.{JoinsItems}
 use Rattle.hk_wire.specs.declared.reply.Reply.{Reply}
 use Rattle.hk_wire.specs.Replies.{Refused}
 use Rattle.hk_session.specs.Values.{HostValue}
-use Rattle.hk_session.specs.Steps.{change_reply, change_may_lack, change_step, joined_if, IsGiven, Changes}
+use Rattle.hk_session.specs.Steps.{config_of, change_reply, change_may_lack, change_step, joined_if, IsGiven, Changes}
 
 -- the middle one is the host before, with another state
 pub settled_is : (takes : Bool) (h mid : HostValue) (given : Result Content Refusal) (r : Reply) (new : HostValue) → h.ops < 2 ^ 62 → mid ≡ record h { content = mid.content }
@@ -49,14 +50,8 @@ pruned_so old new horizon given (Err why) below h = (
   ],
 )
 
--- what a join of the fragment of items leaves and answers
-pub joined_so : (made : Result FragmentValue Refusal) (f : FragmentValue) (old new : Content) (r : Result (Unit {0}) Refusal) → made ≡ Ok f → ChangesOrMemory old new (join_result old f) r
-    → Changes (is_ok made) old new (joined_if old made) r
-joined_so made f old new (Ok done) e h = ap (joined_if old) e ∙ h
-joined_so made f old new (Err why) e h = (
-  h.0,
-  elim h.1 [
-    | inl w ↦ inl (ap (joined_if old) e ∙ w)
-    | inr m ↦ inr (m.0, ap is_ok e)
-  ],
-)
+-- what a join of items leaves and answers
+pub joined_so : (old new : Content) (items : List Item) (r : Result (Unit {0}) Refusal) → JoinsItems old new items r
+    → Changes (is_ok (gather_result (config_of old) items)) old new (joined_if old (gather_result (config_of old) items)) r
+joined_so old new items (Ok done) h = h
+joined_so old new items (Err why) h = h

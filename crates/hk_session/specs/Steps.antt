@@ -9,6 +9,7 @@ use Rattle.hk_model.specs.Replica.Answers.{AnswerValue, reply}
 use Rattle.hk_model.specs.Replica.Content.{Content, readable}
 use Rattle.hk_model.specs.Replica.Fragments.{FragmentValue, cut}
 use Rattle.hk_model.specs.Replica.Rules.{gather_result, join_result, prune_result}
+pub use Rattle.hk_delta.specs.Joins.{joined_if}
 use Rattle.hk_query.specs.Memory.{asking_may_lack}
 use Rattle.hk_wire.specs.declared.reply.Reply.{Reply}
 use Rattle.hk_wire.specs.declared.request.Request.{Request}
@@ -20,11 +21,6 @@ use Rattle.hk_session.specs.Values.{HostValue}
 -- the log of a content, and how many streams it has
 abbrev pub config_of : Content → ConfigValue
 config_of c = record { log = c.log; streams = length c.streams }
-
--- the content that has a fragment joined to it, where there is one
-abbrev pub joined_if : Content → Result FragmentValue Refusal → Result Content Refusal
-joined_if c (Ok f) = join_result c f
-joined_if c (Err why) = Err why
 
 -- an accepted change counts as one operation and is answered with their number; a refused one changes nothing
 abbrev pub change_reply : HostValue → Result Content Refusal → ReplyValue × HostValue

@@ -7,7 +7,7 @@ ghost use Rattle.hk_model.specs.Replica.Rules.{join_result, prune_result};
 ghost use Rattle.hk_session.specs.Steps.{since, fragment_reply, gathered, with_items, Counts, GivesAnswer, HandsOut, IsGiven, JoinsItems, MakesChange, PrunesTo, Step, Takes};
 
 use crate::host::Host;
-use hk_delta::{Fragment, delta_since, fragment_of, join, whole_of};
+use hk_delta::{Fragment, delta_since, join, join_items, whole_of};
 use hk_log::Item;
 use hk_merge::merge;
 use hk_model::Query;
@@ -21,11 +21,11 @@ use std::marker::Model;
 /// A host over the state of a replica, with the number of its operations. Making it is the first one, and each
 /// change that it accepts is another, also one that leaves the content as it was.
 ///
-/// It applies items all or nothing, as one fragment; joins fragments; prunes; and returns what the state holds. A change
-/// is refused `NodeFull` after operation 2^62, before any other test; else each request is refused as the call on the
-/// state is, and `Memory` comes last: only where the request is not refused otherwise, or, of items, where they make a
-/// fragment. A request of version 2 is refused `Form(BadKind)`. A front, a count and a row that is not there take no
-/// memory. A refused request changes nothing. Cost: that of the calls.
+/// It applies items all or nothing, as their fragment would be joined; joins fragments; prunes; and returns what the
+/// state holds. A change is refused `NodeFull` after operation 2^62, before any other test; else each request is refused
+/// as the call on the state is, and `Memory` comes last: only where the request is not refused otherwise, or, of items,
+/// where they make a fragment. A request of version 2 is refused `Form(BadKind)`. A front, a count and a row that is not
+/// there take no memory. A refused request changes nothing. Cost: that of the calls.
 #[derive(Drop)]
 pub struct StateHost {
     alloc: Global,
@@ -94,12 +94,15 @@ impl StateHost {
         ensures ops { self.new ≡ record self.old { content = self.new.content } }
         ensures gives { JoinsItems self.old self.new items.now result }
     {
-        let fragment = fragment_of(self.alloc, self.state.config(), items)?;
-        join(&mut self.state, &fragment)
+        join_items(&mut self.state, items)
     }
 
-    fn take_items(&mut self, items: &[Item]) -> Reply
-        ensures { MakesChange self.old (gathered self.old items.now) (with_items self.old items.now) result self.new }
+    /// Takes items as an Items request, without making one: all of them or none. `NodeFull` comes first, then the refusals of
+    /// `join_items`, of which `Memory` is the last unless the items would conflict with what is held. A refusal changes
+    /// nothing. Cost: that of `join_items`.
+    pub fn take_items(&mut self, items: &[Item]) -> Reply
+        ensures { MakesChange self.old (gathered self.old items.now)
+            (with_items self.old items.now) result self.new }
     {
         if self.is_full() {
             return Reply::Refused(Refusal::NodeFull);

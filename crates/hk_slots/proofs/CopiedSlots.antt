@@ -1,5 +1,5 @@
 -- A map that is cloned.
-use Rattle.std.proofs.Common.{◌≡◌, sym, ap, subst, ℕ, List, Option, Some, None, Ordering}
+use Rattle.std.proofs.Common.{◌≡◌, ◌<◌, ◌^◌, sym, ap, subst, ℕ, List, Option, Some, None, Ordering}
 use Rattle.std.proofs.lemmas.List.Elements.{same_from_all_zip}
 use Rattle.std.specs.BTreeMap.{BTreeMap}
 use Rattle.std.specs.BTreeMap as tree
@@ -31,4 +31,5 @@ module _ {K V : Type 0} where
     laid_again R l = record {
       ordered = subst (λ (es : List (K × ℕ)). IsStrictlySortedBy R (keys_of es)) (sym keys) l.ordered;
       matched = subst (λ (es : List (K × ℕ)). AreMatched (λ k. lookup (tree.is_at (R k)) es) (slab.get b)) (sym keys) (subst (λ (xs : List (Option (K × V))). AreMatched (tree.get R s) (λ key. slab.get (record a { slots = xs }) key)) (sym slots) l.matched);
+      low = subst (λ (es : List (K × ℕ)). (k : K) (i : ℕ) → lookup (tree.is_at (R k)) es ≡ Some i → i < 2 ^ 32) (sym keys) l.low;
     }

@@ -12,9 +12,6 @@ use Rattle.hk_slots.specs.Seats.{AreLaid, seen}
 use Rattle.hk_slots.proofs.SeenSlots.{no_value, told_slot, room_laid, value_at}
 use Rattle.hk_slots.proofs.ChangedSlots.{kept_laid, kept_map, new_there}
 
-pub same_some : {A : Type 0} (a b : A) → Some a ≡ Some b → a ≡ b
-same_some a b is = cc
-
 pub always_err : {T E P : Type 0} (r : Result T E) → P → OnErr r P
 always_err (Ok x) p = tt
 always_err (Err e) p = p

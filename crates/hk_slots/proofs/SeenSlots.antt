@@ -1,5 +1,5 @@
 -- What a `SlotMap` is seen as, by its tree of keys and its slab of entries.
-use Rattle.std.proofs.Common.{◌≡◌, refl, sym, ap, ◌∙◌, subst, ℕ, Bool, true, false, true≢false, cond, Option, Some, None, is_some, List, [], ◌∷◌, get_or, length, Ordering}
+use Rattle.std.proofs.Common.{◌≡◌, ◌<◌, ◌^◌, refl, sym, ap, ◌∙◌, subst, ℕ, Bool, true, false, true≢false, cond, Option, Some, None, is_some, List, [], ◌∷◌, get_or, length, Ordering}
 use Rattle.std.specs.Cmp.{IsTotalOrder, eq_by_cmp_equiv}
 use Rattle.std.specs.Ordering.{eq_by_cmp}
 use Rattle.std.specs.Option.{option_and_then, option_map}
@@ -120,6 +120,7 @@ module _ {K V : Type 0} (R : K → K → Ordering) where
       seat = λ k s e. absurd (cc (ap (lookup (tree.is_at (R k))) no_keys, e));
       key = λ s k v e. absurd (cc (ap (λ es. get_or es s None) no_slots, e));
     };
+    low = λ k s e. absurd (cc (ap (λ es. lookup (tree.is_at (R k)) es) no_keys, e));
   }
 
   -- ---- room for more entries
@@ -138,6 +139,14 @@ module _ {K V : Type 0} {R : K → K → Ordering} (total : IsTotalOrder R) (sam
 
   pub other_keys : (w : Option ℕ) → tree.Updates R t n k w → (q : K) → eq_by_cmp R q k ≡ false → tree.get R n q ≡ tree.get R t q
   other_keys w updates q e = updates.0 q ∙ ap (λ b. cond b w (tree.get R t q)) ((eq_by_cmp_equiv total).symm k q ∙ e)
+
+  -- where the slot that a key gets is low too
+  pub updated_low : (w : Option ℕ) → tree.Updates R t n k w → ((o : ℕ) → w ≡ Some o → o < 2 ^ 32) → ((q : K) (o : ℕ) → tree.get R t q ≡ Some o → o < 2 ^ 32) → (q : K) (o : ℕ) → tree.get R n q ≡ Some o → o < 2 ^ 32
+  updated_low w updates own low q o at = by (eq_by_cmp R k q) refl
+    where
+      by : (b : Bool) → eq_by_cmp R k q ≡ b → o < 2 ^ 32
+      by true e = own o (ap (λ b. cond b w (tree.get R t q)) (sym e) ∙ sym (updates.0 q) ∙ at)
+      by false e = low q o (ap (λ b. cond b w (tree.get R t q)) (sym e) ∙ sym (updates.0 q) ∙ at)
 
   slots_changed : (w : Option ℕ) → tree.Updates R t n k w → (q : K) → finmap.get (slots_of R (seen n m)) q ≡ cond (eq_by_cmp R q k) w (finmap.get (slots_of R (seen t u)) q)
   slots_changed w updates q = get_slot total same n m q ∙ updates.0 q ∙ (λ i. cond ((eq_by_cmp_equiv total).symm k q i) w (sym (get_slot total same t u q) i))

@@ -5,9 +5,11 @@ mod hints;
 mod key;
 mod range;
 mod slot;
+mod slot_error;
 mod slot_map;
 
 pub use key::Key;
 pub use range::Range;
 pub use slot::Slot;
+pub use slot_error::SlotError;
 pub use slot_map::SlotMap;

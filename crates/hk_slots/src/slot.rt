@@ -1,6 +1,6 @@
 //! The slots of values.
 
-ghost use Rattle.std.specs.Prelude.{◌≡◌, IfOk};
+ghost use Rattle.std.specs.Prelude.{◌≡◌, ◌<◌, ◌^◌, ◌↔◌, IfSome, IsSome};
 
 use std::alloc::AllocError;
 use std::marker::Model;
@@ -55,14 +55,15 @@ impl Slot {
         self.number as usize
     }
 
-    /// The slot at an index. The only error is that no number of 32 bits is left for it.
-    pub(crate) fn at(index: usize) -> Result<Slot, AllocError>
-        ensures { IfOk result (λ slot. slot ≡ index) }
+    /// The slot at an index, where that is a number of 32 bits.
+    pub(crate) fn at(index: usize) -> Option<Slot>
+        ensures slot { IfSome result (λ slot. slot ≡ index) }
+        ensures room { IsSome result ↔ (index < 2 ^ 32) }
     {
         if index > u32::MAX as usize {
-            return Err(AllocError);
+            return None;
         }
-        Ok(Slot {
+        Some(Slot {
             number: index as u32,
         })
     }

@@ -1,6 +1,6 @@
 //! The map.
 
-ghost use Rattle.std.specs.Prelude.{◌≡◌, Some, None, IfOk, IfSome, IfNone, IsTrue, OnErr, OnOk, length, ℕ, ◌==◌, ◌<◌, ◌^◌};
+ghost use Rattle.std.specs.Prelude.{◌≡◌, Some, None, IfOk, IfErr, IfSome, IfNone, IsTrue, OnErr, OnOk, length, ℕ, ◌==◌, ◌<◌, ◌≤◌, ◌^◌};
 ghost use Rattle.std.specs.Option.{option_copied, option_copied_mut};
 ghost use Rattle.std.specs.Borrow.{sem};
 ghost use Rattle.std.specs.FinMap as finmap;
@@ -10,17 +10,22 @@ ghost use Rattle.std.specs.Option.{unwrap_or};
 ghost use Rattle.std.specs.BTreeMap as tree;
 ghost use Rattle.slab.specs.Slab as slab;
 ghost use Rattle.slab.specs.Slab.{HasRoomFor};
+ghost use Rattle.hk_slots.specs.declared.slot_error.SlotError.TheVariants.{Full};
 ghost use Rattle.hk_slots.specs.SlotMaps.{map_of, slots_of, IsFree, AreOwn, pairs_of, with_new};
 
 use crate::hints::Hints;
 use crate::key::Key;
 use crate::range::Range;
 use crate::slot::Slot;
+use crate::slot_error::SlotError;
 use slab::Slab;
 use std::alloc::{AllocError, Global};
 use std::collections::BTreeMap;
 use std::marker::Model;
 use std::ops::RangeBounds;
+
+/// How many slots there are: their numbers have 32 bits.
+const SLOTS: usize = 1 << 32;
 
 /// A map in which each value keeps its slot until its key is removed.
 ///
@@ -92,9 +97,8 @@ impl<K: Key, V> SlotMap<K, V> {
 
     /// Adds a key that is not there, and returns the slot of its value. It is a free slot, or one more.
     ///
-    /// The only error is out of memory, which comes too where all 2^32 slots are in use; then nothing is changed.
-    /// Cost: O(log n), n keys.
-    pub fn insert(&mut self, key: K, value: V) -> Result<Slot, AllocError>
+    /// An error is out of memory, or that 2^32 keys are there; then nothing is changed. Cost: O(log n), n keys.
+    pub fn insert(&mut self, key: K, value: V) -> Result<Slot, SlotError>
     where
         V: Drop,
         requires { finmap.get (map_of K.cmp self.old) key ≡ None }
@@ -102,10 +106,10 @@ impl<K: Key, V> SlotMap<K, V> {
         ensures slots { IfOk result (λ slot. slots_of K.cmp self.new
             ≡ finmap.insert (slots_of K.cmp self.old) key slot) }
         ensures free { IfOk result (λ slot. IsFree K.cmp self.old slot) }
+        ensures full { IfErr result (λ why. why ≡ Full → 2 ^ 32 ≤ length self.old.slots) }
         ensures kept { OnErr result (self.new ≡ self.old) }
     {
-        self.entries.reserve(1)?;
-        let slot = Slot::at(self.entries.vacant_key())?;
+        let slot = room_in(&mut self.entries, self.slots.len())?;
         self.slots.insert(key, slot)?;
         self.entries.insert_reserved((key, value));
         self.hints.fit(self.slots.len());
@@ -171,11 +175,12 @@ impl<K: Key, V> SlotMap<K, V> {
 
     /// A number above that of each slot that a key has. It is at most that of the entries for which there is room.
     pub fn slot_bound(&self) -> usize
+        ensures most { result ≤ 2 ^ 32 }
         ensures above { (key : K) (slot : ℕ)
             → finmap.get (slots_of K.cmp self.now) key ≡ Some slot → slot < result }
         ensures own { AreOwn K.cmp self.now }
     {
-        self.entries.capacity()
+        self.entries.capacity().min(SLOTS)
     }
 
     /// The key that has the slot with a number, where one has. Cost: O(1).
@@ -200,15 +205,16 @@ impl<K: Key, V> SlotMap<K, V> {
 
     /// The value of a key to write to. A key that is not there is inserted first, with the value `fresh`.
     ///
-    /// The only error is out of memory, for a key that is not there; it comes too where all 2^32 slots are in use.
-    /// Then nothing is changed. Cost: O(log n), n keys: one way down, or none where the key is known.
+    /// An error comes for a key that is not there alone: out of memory, or that 2^32 other keys are there. Then nothing
+    /// is changed. Cost: O(log n), n keys: one way down, or none where the key is known.
     #[inline(always)]
-    pub fn get_or_insert(&mut self, key: K, fresh: V) -> Result<&mut V, AllocError>
+    pub fn get_or_insert(&mut self, key: K, fresh: V) -> Result<&mut V, SlotError>
     where
         V: Drop,
         ensures* writes_back { sem 𝓛 (lends_or_new K.row V.row K.Ord self.entry key result) }
         ensures value { IfOk result (λ r. r.now ≡ unwrap_or (finmap.get (map_of K.cmp self.old) key) fresh) }
         ensures absent { OnErr result (finmap.get (map_of K.cmp self.old) key ≡ None) }
+        ensures full { IfErr result (λ why. why ≡ Full → 2 ^ 32 ≤ length self.old.slots) }
     {
         let slot = self.slot_or_new(key, fresh)?;
         let entry = &mut self.entries[slot.index()];
@@ -217,12 +223,13 @@ impl<K: Key, V> SlotMap<K, V> {
 
     /// The slot of a key. A key that is not there is inserted, with the value `fresh`.
     #[inline(always)]
-    fn slot_or_new(&mut self, key: K, fresh: V) -> Result<Slot, AllocError>
+    fn slot_or_new(&mut self, key: K, fresh: V) -> Result<Slot, SlotError>
     where
         V: Drop,
         ensures slot { IfOk result (λ slot. finmap.get (slots_of K.cmp self.new) key ≡ Some slot) }
         ensures map { OnOk result (map_of K.cmp self.new ≡ with_new K.cmp (map_of K.cmp self.old) key fresh) }
         ensures absent { OnErr result (finmap.get (map_of K.cmp self.old) key ≡ None) }
+        ensures full { IfErr result (λ why. why ≡ Full → 2 ^ 32 ≤ length self.old.slots) }
         ensures kept { OnErr result (self.new ≡ self.old) }
     {
         match self.hinted(key) {
@@ -232,16 +239,18 @@ impl<K: Key, V> SlotMap<K, V> {
     }
 
     /// The slot of a key that no hint finds. A key that is not there is inserted, with the value `fresh`.
-    fn found_or_new(&mut self, key: K, fresh: V) -> Result<Slot, AllocError>
+    fn found_or_new(&mut self, key: K, fresh: V) -> Result<Slot, SlotError>
     where
         V: Drop,
         ensures slot { IfOk result (λ slot. finmap.get (slots_of K.cmp self.new) key ≡ Some slot) }
         ensures map { OnOk result (map_of K.cmp self.new ≡ with_new K.cmp (map_of K.cmp self.old) key fresh) }
         ensures absent { OnErr result (finmap.get (map_of K.cmp self.old) key ≡ None) }
+        ensures full { IfErr result (λ why. why ≡ Full → 2 ^ 32 ≤ length self.old.slots) }
         ensures kept { OnErr result (self.new ≡ self.old) }
     {
-        let Ok(vacant) = room_in(&mut self.entries) else {
-            return self.slot(key).ok_or(AllocError);
+        let vacant = match room_in(&mut self.entries, self.slots.len()) {
+            Ok(vacant) => vacant,
+            Err(why) => return self.slot(key).ok_or(why),
         };
         let slot = slot_or(&mut self.slots, key, vacant)?;
         self.hints.note(key.hash(), slot.number());
@@ -296,15 +305,23 @@ impl<K: Key, V> SlotMap<K, V> {
     }
 }
 
-/// The slot that the next entry gets, with room made for it. The only error is that there is none, or no memory.
-fn room_in<K, V>(entries: &mut Slab<(K, V)>) -> Result<Slot, AllocError>
+/// The slot that the next entry gets beside those of so many keys, with room made for it. An error is that there is none,
+/// or no memory.
+fn room_in<K, V>(entries: &mut Slab<(K, V)>, keys: usize) -> Result<Slot, SlotError>
     ensures vacant { IfOk result (λ slot. slot ≡ entries.new.vacant_key) }
     ensures free { IfOk result (λ slot. slab.get entries.new slot ≡ None) }
+    ensures low { IfOk result (λ slot. slot < 2 ^ 32) }
     ensures room { OnOk result (HasRoomFor entries.new 1) }
+    ensures full { IfErr result (λ why. why ≡ Full → 2 ^ 32 ≤ keys) }
     ensures kept { entries.new ≡ record entries.old { capacity = entries.new.capacity } }
 {
     entries.reserve(1)?;
-    Slot::at(entries.vacant_key())
+    match Slot::at(entries.vacant_key()) {
+        Some(slot) => Ok(slot),
+        None if keys >= SLOTS => Err(SlotError::Full),
+        // a slab uses its free slots first, so it never comes to this, which its contract does not say
+        None => Err(SlotError::Memory),
+    }
 }
 
 /// The slot of a key. A key that is not there gets this one. The only error is out of memory, for such a key.

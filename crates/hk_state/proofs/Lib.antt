@@ -4,3 +4,6 @@ pub mod PrunedState
 pub mod Represented
 pub mod TouchedPast
 pub mod StayingAnswers
+pub mod MapsInConflict
+pub mod WrongLogs
+pub mod ItemsInTurn

@@ -1,5 +1,5 @@
 -- How it is found whether a prune touches the past.
-use Rattle.std.proofs.Common.{◌≡◌, refl, sym, ap, ◌∙◌, subst, ℕ, ◌-◌, Bool, true, false, not, Option, Some, None, List, [], ◌∷◌, map, ◌&&◌, ◌||◌, ◌<◌, ◌≤◌, nat_le, is_some, inl, inr, le-leb, leb-true, true≢false, arith}
+use Rattle.std.proofs.Common.{◌≡◌, refl, sym, ap, ◌∙◌, ℕ, ◌-◌, Bool, true, false, not, Option, Some, None, List, [], ◌∷◌, map, ◌&&◌, ◌||◌, ◌<◌, ◌≤◌, nat_le, is_some, inl, inr, le-leb, leb-true, true≢false, arith}
 use Rattle.std.proofs.lemmas.Bool.{and_parts, cases_lt}
 use Rattle.std.specs.List.{list_any}
 use Rattle.std.specs.Ordering.{eq_by_cmp, is_eq}
@@ -18,9 +18,9 @@ use Rattle.hk_model.proofs.Replica.Members.{In}
 use Rattle.hk_model.proofs.Replica.Visible.{any_where, not_from}
 use Rattle.hk_model.proofs.Replica.Shown.{any_In, get-key, replaces_from}
 use Rattle.hk_model.proofs.Replica.Chains.{replaced_by, key_row}
-use Rattle.hk_facts.specs.Chains.{ChainValue, latest_at}
+use Rattle.hk_facts.specs.Chains.{ChainValue}
 use Rattle.hk_facts.specs.Facts.{row_of, died_of}
-use Rattle.hk_facts.proofs.LatestVersion.{is_latest, IsLatest}
+use Rattle.hk_facts.proofs.LatestVersion.{IsLatest}
 use Rattle.hk_facts.proofs.ShownRow.{IsChainOf}
 use Rattle.hk_store.specs.Drops.{is_among}
 use Rattle.hk_store.specs.Facts.{FactsValue, known_at}

@@ -1,4 +1,5 @@
 pub mod Calls
 pub mod Changes
+pub mod Items
 pub mod Replica
 pub mod Touched

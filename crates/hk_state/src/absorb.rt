@@ -10,16 +10,15 @@ ghost use Rattle.hk_model.specs.Replica.Items as spec;
 ghost use Rattle.hk_model.specs.Replica.Streams.{all_together, stream_at, streams_of};
 ghost use Rattle.hk_state.specs.Calls.{Absorbs, AbsorbsOf, AnswersStay};
 ghost use Rattle.hk_store.specs.Facts.{with_entry, conflicts_with_entry};
-ghost use Rattle.hk_store.specs.Journal.{without_journal};
+ghost use Rattle.hk_store.specs.Undos.{rolled_back};
 ghost use Rattle.hk_store.specs.Reads.{facts_of_content};
 
 use crate::replica::ReplicaState;
-use hk_facts::Part;
 use hk_log::{Entry, Item, Mark};
 use hk_marks::Got;
 use hk_model::Took;
-use hk_store::Facts;
-use hk_types::{Config, Refusal, VersionKey};
+use hk_store::{Facts, Undo};
+use hk_types::{Config, Refusal};
 use std::alloc::Global;
 
 /// Why an item is none of the configuration's log, if it is none: `ForeignLog` for another log, and then
@@ -40,12 +39,12 @@ pub fn wrong_log(config: Config, item: &Item) -> Option<Refusal>
     None
 }
 
-/// Adds an entry's rows, ends and number, each fact that is new named in the journal, unless it conflicts with what
+/// Adds an entry's rows, ends and number, each fact that is new noted, unless it conflicts with what
 /// is known.
 fn take_noted(
     facts: &mut Facts,
     got: &mut Got,
-    journal: &mut Vec<(VersionKey, Part)>,
+    undo: &mut Undo,
     entry: Entry,
 ) -> Result<(), Refusal>
     requires { entry.stream ≤ length got.old }
@@ -54,22 +53,17 @@ fn take_noted(
     ensures agrees { OnOk result (conflicts_with_entry facts.old entry ≡ false) }
     ensures err { IfErr result (λ why. why ≡ (if conflicts_with_entry facts.old entry then Conflict else Memory)) }
     ensures kept { OnErr result (got.new ≡ got.old) }
-    ensures back { without_journal journal.new.items facts.new ≡ without_journal journal.old.items facts.old }
+    ensures back { rolled_back undo.new facts.new ≡ rolled_back undo.old facts.old }
 {
     let stream = entry.stream();
     let number = entry.number();
-    facts.put_writes(journal, entry)?;
+    facts.put_writes(undo, entry)?;
     got.add_number(stream, number)
 }
 
 /// Adds an entry's rows, ends and number, or nothing of it: `Conflict` where it conflicts with what is known, and
 /// else `Memory`. Its bodies are moved.
-fn take_entry(
-    alloc: Global,
-    facts: &mut Facts,
-    got: &mut Got,
-    entry: Entry,
-) -> Result<Took, Refusal>
+fn take_entry(facts: &mut Facts, got: &mut Got, entry: Entry) -> Result<Took, Refusal>
     requires { entry.stream ≤ length got.old }
     ensures told { IfOk result (λ took. took ≡ Taken) }
     ensures facts { OnOk result (facts.new ≡ with_entry facts.old entry) }
@@ -79,11 +73,12 @@ fn take_entry(
     ensures same_facts { OnErr result (facts.new ≡ facts.old) }
     ensures same_got { OnErr result (got.new ≡ got.old) }
 {
-    let mut journal = Vec::new(alloc);
-    if let Err(why) = take_noted(facts, got, &mut journal, entry) {
-        facts.take_back(journal);
+    let mut undo = facts.begin_undo();
+    if let Err(why) = take_noted(facts, got, &mut undo, entry) {
+        facts.take_back(undo);
         return Err(why);
     }
+    facts.end_undo(undo);
     Ok(Took::Taken)
 }
 
@@ -156,7 +151,7 @@ impl ReplicaState {
         let Ok(copied) = entry.copy(self.alloc) else {
             return Err(self.refusal_without_memory(entry));
         };
-        take_entry(self.alloc, &mut self.facts, &mut self.got, copied)
+        take_entry(&mut self.facts, &mut self.got, copied)
     }
 
     /// Absorbs an entry of the log, whose bodies it moves.
@@ -167,7 +162,7 @@ impl ReplicaState {
         if let Some(outcome) = self.outcome_at_once(&entry) {
             return outcome;
         }
-        take_entry(self.alloc, &mut self.facts, &mut self.got, entry)
+        take_entry(&mut self.facts, &mut self.got, entry)
     }
 
     /// Absorbs a mark of the log.

@@ -6,12 +6,11 @@ ghost use Rattle.hk_model.specs.Replica.Lawful.{IsLawful};
 ghost use Rattle.hk_model.specs.Replica.Streams.{all_together};
 ghost use Rattle.hk_state.specs.Changes.{content_after_change, facts_after_change};
 ghost use Rattle.hk_store.specs.Changes.{with_listed};
-ghost use Rattle.hk_store.specs.Journal.{without_journal};
+ghost use Rattle.hk_store.specs.Undos.{rolled_back};
 
 use crate::replica::ReplicaState;
-use hk_facts::Part;
 use hk_marks::Got;
-use hk_store::{Facts, meets};
+use hk_store::{Facts, Undo, meets};
 use hk_types::{Refusal, Row, Time, VersionKey};
 use std::alloc::Global;
 
@@ -29,12 +28,12 @@ pub struct Change {
     pub ends: Vec<(VersionKey, Time)>,
 }
 
-/// Adds rows and ends where none are known, each named in the journal, and then joins the given numbers
+/// Adds rows and ends where none are known, each that is new noted, and then joins the given numbers
 /// and marks.
 fn grow_noted(
     facts: &mut Facts,
     got: &mut Got,
-    journal: &mut Vec<(VersionKey, Part)>,
+    undo: &mut Undo,
     rows: Vec<(VersionKey, Row)>,
     ends: &[(VersionKey, Time)],
     given: &Got,
@@ -44,9 +43,9 @@ fn grow_noted(
     ensures got { OnOk result (got.new ≡ all_together got.old given.now) }
     ensures err { IfErr result (λ why. why ≡ Memory) }
     ensures kept { OnErr result (got.new ≡ got.old) }
-    ensures back { without_journal journal.new.items facts.new ≡ without_journal journal.old.items facts.old }
+    ensures back { rolled_back undo.new facts.new ≡ rolled_back undo.old facts.old }
 {
-    facts.add_listed(journal, rows, ends)?;
+    facts.add_listed(undo, rows, ends)?;
     got.join(given)
 }
 
@@ -66,9 +65,9 @@ fn grow(
     ensures same_facts { OnErr result (facts.new ≡ facts.old) }
     ensures same_got { OnErr result (got.new ≡ got.old) }
 {
-    let mut journal = Vec::new(alloc);
-    if let Err(why) = grow_noted(facts, got, &mut journal, rows, ends, given) {
-        facts.take_back(journal);
+    let mut undo = Undo::new(alloc);
+    if let Err(why) = grow_noted(facts, got, &mut undo, rows, ends, given) {
+        facts.take_back(undo);
         return Err(why);
     }
     Ok(())

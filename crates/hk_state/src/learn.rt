@@ -5,22 +5,21 @@ ghost use Rattle.hk_model.specs.Replica.Lawful.{IsLawful};
 ghost use Rattle.hk_model.specs.Replica.Rules.{contents_conflict};
 ghost use Rattle.hk_model.specs.Replica.Streams.{all_together};
 ghost use Rattle.hk_state.specs.Changes.{RefusesLearning, content_learnt};
-ghost use Rattle.hk_store.specs.Journal.{without_journal};
+ghost use Rattle.hk_store.specs.Undos.{rolled_back};
 ghost use Rattle.hk_store.specs.Learning.{IsTold, Learns, RefusesTold, facts_conflict, facts_told};
 ghost use Rattle.hk_store.specs.Reads.{with_facts};
 
 use crate::replica::ReplicaState;
-use hk_facts::Part;
 use hk_marks::Got;
-use hk_store::{Facts, LearnScope, LearnSource};
-use hk_types::{Refusal, VersionKey};
+use hk_store::{Facts, LearnScope, LearnSource, Undo};
+use hk_types::Refusal;
 use std::alloc::Global;
 
-/// Adds what comes of all that is sent, each that is new named in the journal, and then joins the given numbers and marks.
+/// Adds what comes of all that is sent, each that is new noted, and then joins the given numbers and marks.
 fn learn_noted(
     facts: &mut Facts,
     got: &mut Got,
-    journal: &mut Vec<(VersionKey, Part)>,
+    undo: &mut Undo,
     told: &LearnSource,
     coming: &LearnScope,
     given: &Got,
@@ -32,9 +31,9 @@ fn learn_noted(
     ensures err { IfErr result (λ why. RefusesTold facts.old (facts_told told.now) why) }
     ensures got { OnOk result (got.new ≡ all_together got.old given.now) }
     ensures kept { OnErr result (got.new ≡ got.old) }
-    ensures back { without_journal journal.new.items facts.new ≡ without_journal journal.old.items facts.old }
+    ensures back { rolled_back undo.new facts.new ≡ rolled_back undo.old facts.old }
 {
-    facts.learn(journal, told, coming)?;
+    facts.learn(undo, told, coming)?;
     got.join(given)
 }
 
@@ -56,9 +55,9 @@ fn learn_all(
     ensures same_facts { OnErr result (facts.new ≡ facts.old) }
     ensures same_got { OnErr result (got.new ≡ got.old) }
 {
-    let mut journal = Vec::new(alloc);
-    if let Err(why) = learn_noted(facts, got, &mut journal, told, coming, given) {
-        facts.take_back(journal);
+    let mut undo = Undo::new(alloc);
+    if let Err(why) = learn_noted(facts, got, &mut undo, told, coming, given) {
+        facts.take_back(undo);
         return Err(why);
     }
     Ok(())

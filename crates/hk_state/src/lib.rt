@@ -4,6 +4,7 @@
 mod absorb;
 mod apply;
 mod copy;
+mod items;
 mod learn;
 mod past;
 mod prune;
@@ -12,5 +13,6 @@ mod replica;
 
 pub use absorb::wrong_log;
 pub use apply::Change;
+pub use items::{note_item, note_items};
 pub use prune::front_of;
 pub use replica::ReplicaState;

@@ -26,7 +26,7 @@ use Rattle.hk_facts.specs.declared.fact.Fact.TheVariants.{Row, End}
 use Rattle.hk_store.specs.Facts.{FactsValue, with_added, with_fact_at, conflicts_with_entry}
 use Rattle.hk_store.proofs.StoredFacts.{tied, key_tied}
 use Rattle.hk_store.proofs.ChangedChains.{get-added}
-use Rattle.hk_store.proofs.JournalUndone.{union_push}
+use Rattle.hk_store.proofs.RolledBack.{union_push}
 
 -- ---- what holds where a test passes, or fails
 

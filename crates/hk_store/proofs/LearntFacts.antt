@@ -1,10 +1,11 @@
 -- What facts learn of a list of versions, one after the other, they learn of all that it tells.
-use Rattle.std.proofs.Common.{◌≡◌, refl, sym, ap, ◌∙◌, subst, ℕ, Bool, true, false, cond, not, ◌||◌, ◌==◌, Option, Some, None, Result, Ok, Err, OnOk, List, [], ◌∷◌, ◌++◌, map, nat_lt, true≢false, inl, inr}
-use Rattle.std.proofs.lemmas.Bool.{or_parts}
+use Rattle.std.proofs.Common.{◌≡◌, refl, sym, ap, ◌∙◌, subst, ℕ, Bool, true, false, cond, not, ◌||◌, ◌==◌, Option, Some, None, Result, Ok, Err, List, [], ◌∷◌, ◌++◌, map, nat_cmp, nat_le, nat_lt, is_lt, inl, inr, arith}
+use Rattle.std.proofs.lemmas.Bool.{or_from, or_left, or_parts, or_right}
+use Rattle.std.proofs.lemmas.Bool.Decides.{nat_tests}
 use Rattle.std.proofs.lemmas.Grind.{flat_map-append}
 use Rattle.std.proofs.lemmas.List.{append-nil, map-append}
 use Rattle.std.proofs.lemmas.Map.Keys.{sorted_head, sorted_tail}
-use Rattle.std.specs.Option.{is_some, option_and_then}
+use Rattle.std.specs.Option.{option_and_then}
 use Rattle.std.specs.List.{flat_map, list_any, AllByRecursion}
 use Rattle.std.specs.declared.cmp.Ordering.{Ordering}
 use Rattle.std.specs.declared.cmp.Ordering.TheVariants.{Less, Equal}
@@ -29,12 +30,12 @@ use Rattle.hk_facts.specs.declared.fact.Fact.TheVariants.{Row, End}
 use Rattle.hk_store.specs.Changes.{with_listed}
 use Rattle.hk_store.specs.Facts.{FactsValue, entry_if, known_at, with_added, with_fact_at}
 use Rattle.hk_store.specs.Drops.{is_among}
-use Rattle.hk_store.specs.Learning.{RefusesVersion, RefusesTold, contradicts, row_told, end_told, rows_told, ends_told, told_by, with_told, with_version_told}
+use Rattle.hk_store.specs.Learning.{RefusesEnd, RefusesRow, RefusesVersion, RefusesTold, end_conflicts, row_conflicts, row_told, end_told, rows_told, ends_told, told_by, with_told, with_version_told}
 use Rattle.hk_store.specs.Reads.{with_facts}
 use Rattle.hk_store.specs.Versions.{AreVersions, value_conflicts_at}
 use Rattle.hk_store.proofs.ChangedChains.{same_facts}
 use Rattle.hk_store.proofs.EntryPut.{any_found}
-use Rattle.hk_store.proofs.JournalUndone.{union_none, union_push}
+use Rattle.hk_store.proofs.RolledBack.{union_none, union_push}
 use Rattle.hk_store.proofs.ListedVersions.{conflict_listed}
 use Rattle.hk_store.proofs.PickedVersions.{find_picked}
 use Rattle.hk_store.proofs.StoredFacts.{known_row, known_end, or_none, find_entry}
@@ -62,18 +63,6 @@ module _ {X : Type 0} (m : finmap.FinMap version_key_cmp X) where
   pub one_listed : (v : VersionKey) (x : X) → with_added m v x ≡ union m (finmap.from_entries ((v, x) ∷ []))
   one_listed v x = ap (λ n. with_added n v x) (sym (union_none m)) ∙ union_push m [] v x
 
-  -- one that is known already
-  pub known_listed : (v : VersionKey) (o : Option X) → is_some (finmap.get m v) ≡ true → m ≡ union m (finmap.from_entries (entry_if v o))
-  known_listed v o known = finmap.same_map version_key_total version_key_same _ _ (λ q. sym (get_listed (entry_if v o) q ∙ ap (or_else (finmap.get m q)) (find_entry q v o) ∙ here q (eq_by_cmp version_key_cmp q v) refl))
-    where
-      first : (x : Option X) → is_some x ≡ true → or_else x o ≡ x
-      first None e = absurd (true≢false (sym e))
-      first (Some x) e = refl
-
-      here : (q : VersionKey) (b : Bool) → eq_by_cmp version_key_cmp q v ≡ b → or_else (finmap.get m q) (cond b o None) ≡ finmap.get m q
-      here q false e = or_none (finmap.get m q)
-      here q true e = first (finmap.get m q) (ap (λ k. is_some (finmap.get m k)) (tied_versions q v e) ∙ known)
-
 -- ---- facts with lists put in
 
 pub none_put : (f : FactsValue) → f ≡ with_listed f [] []
@@ -90,27 +79,33 @@ lists_put f rows more ends others = λ i. record { rows = both_lists f.rows rows
 
 -- ---- one version
 
-pub row_known_put : (f : FactsValue) (v : VersionKey) (o : Option RowValue) → true ≡ is_some (row_of (known_at f v)) → f ≡ with_listed f (entry_if v o) []
-row_known_put f v o known = λ i. record { rows = known_listed f.rows v o (ap is_some (sym (known_row f v)) ∙ sym known) i; ends = sym (union_none f.ends) i }
+pub never : {X : Type 0} (b : Bool) (o : Option X) → o ≡ None → cond b o None ≡ None
+never true o none = none
+never false o none = refl
 
-pub end_known_put : (f : FactsValue) (v : VersionKey) (o : Option ℕ) → true ≡ is_some (died_of (known_at f v)) → f ≡ with_listed f [] (entry_if v o)
-end_known_put f v o known = λ i. record { rows = sym (union_none f.rows) i; ends = known_listed f.ends v o (ap is_some (sym (known_end f v)) ∙ sym known) i }
+-- whether an end comes
+module _ (h : ℕ) where
+  abbrev coming : Option ℕ → Option ℕ
+  coming o = cond (not (at_most h o)) o None
 
--- where a row was put in before
-pub end_after_known : (f now : FactsValue) (v : VersionKey) (rows : List (VersionKey × RowValue)) (o : Option ℕ) → now ≡ with_listed f rows [] → true ≡ is_some (died_of (known_at f v)) → now ≡ with_listed now [] (entry_if v o)
-end_after_known f now v rows o is known = λ i. record {
-  rows = sym (union_none now.rows) i;
-  ends = known_listed now.ends v o (ap (λ (n : FactsValue). is_some (finmap.get n.ends v)) is ∙ ap (λ m. is_some (finmap.get m v)) (union_none f.ends) ∙ ap is_some (sym (known_end f v)) ∙ sym known) i;
-}
+  late : (died : ℕ) → not (nat_le died h) ≡ is_lt (nat_cmp h died)
+  late died = grind (arith, nat_tests)
+
+  pub no_end : (o : Option ℕ) → o ≡ None → coming o ≡ None
+  no_end o none = ap coming none
+
+  pub end_above : (died : ℕ) (o : Option ℕ) → o ≡ Some died → is_lt (nat_cmp h died) ≡ true → coming o ≡ Some died
+  end_above died o is above = ap coming is ∙ ap (λ b. cond b (Some died) None) (late died ∙ above)
+
+  pub end_below : (died : ℕ) (o : Option ℕ) → o ≡ Some died → is_lt (nat_cmp h died) ≡ false → coming o ≡ None
+  end_below died o is below = ap coming is ∙ ap (λ b. cond b (Some died) None) (late died ∙ below)
 
 -- what comes is put in
-pub row_comes_in : {E : Type 0} (f new : FactsValue) (v : VersionKey) (o : Option RowValue) (row copied : RowValue) (r : Result (Unit {0}) E) → o ≡ Some row → copied ≡ row → OnOk r (new ≡ with_fact_at f v (Row copied)) → OnOk r (new ≡ with_listed f (entry_if v o) [])
-row_comes_in f new v o row copied (Ok done) is same put = put ∙ ap (λ x. with_fact_at f v (Row x)) same ∙ row_put_in f v row ∙ ap (λ x. with_listed f (entry_if v x) []) (sym is)
-row_comes_in f new v o row copied (Err why) is same put = tt
+pub row_comes_in : (f new : FactsValue) (v : VersionKey) (o : Option RowValue) (row copied : RowValue) → o ≡ Some row → copied ≡ row → new ≡ with_fact_at f v (Row copied) → new ≡ with_listed f (entry_if v o) []
+row_comes_in f new v o row copied is same put = put ∙ ap (λ x. with_fact_at f v (Row x)) same ∙ row_put_in f v row ∙ ap (λ x. with_listed f (entry_if v x) []) (sym is)
 
-pub end_comes_in : {E : Type 0} (f new : FactsValue) (v : VersionKey) (o : Option ℕ) (died : ℕ) (r : Result (Unit {0}) E) → o ≡ Some died → OnOk r (new ≡ with_fact_at f v (End died)) → OnOk r (new ≡ with_listed f [] (entry_if v o))
-end_comes_in f new v o died (Ok done) is put = put ∙ end_put_in f v died ∙ ap (λ x. with_listed f [] (entry_if v x)) (sym is)
-end_comes_in f new v o died (Err why) is put = tt
+pub end_comes_in : (f new : FactsValue) (v : VersionKey) (o : Option ℕ) (died : ℕ) → o ≡ Some died → new ≡ with_fact_at f v (End died) → new ≡ with_listed f [] (entry_if v o)
+end_comes_in f new v o died is put = put ∙ end_put_in f v died ∙ ap (λ x. with_listed f [] (entry_if v x)) (sym is)
 
 pub no_row_comes : (f : FactsValue) (v : VersionKey) (o : Option RowValue) → o ≡ None → f ≡ with_listed f (entry_if v o) []
 no_row_comes f v o is = none_put f ∙ ap (λ x. with_listed f (entry_if v x) []) (sym is)
@@ -118,12 +113,25 @@ no_row_comes f v o is = none_put f ∙ ap (λ x. with_listed f (entry_if v x) []
 pub no_end_comes : (f : FactsValue) (v : VersionKey) (o : Option ℕ) → o ≡ None → f ≡ with_listed f [] (entry_if v o)
 no_end_comes f v o is = none_put f ∙ ap (λ x. with_listed f [] (entry_if v x)) (sym is)
 
+-- where a row was put in before, the end is compared as it was
+module _ (f now : FactsValue) (v : VersionKey) (told : VersionValue) (rows : List (VersionKey × RowValue)) (is : now ≡ with_listed f rows []) where
+  end_as_before : end_conflicts now v told ≡ end_conflicts f v told
+  end_as_before = ap (λ (n : FactsValue). end_conflicts n v told) is ∙ ap (λ m. values_conflict (λ a b. a == b) (finmap.get m v) told.died) (union_none f.ends)
+
+  pub both_agree : row_conflicts f v told ≡ false → end_conflicts now v told ≡ false → value_conflicts_at f v told ≡ false
+  both_agree row end = or_from _ _ row (sym end_as_before ∙ end)
+
+  pub end_refused : (why : Refusal) → RefusesEnd now v told why → RefusesVersion f v told why
+  end_refused why (inl e) = inl (e.0, or_right _ _ (sym end_as_before ∙ e.1))
+  end_refused why (inr e) = inr e
+
+pub row_refused : (f : FactsValue) (v : VersionKey) (told : VersionValue) (why : Refusal) → RefusesRow f v told why → RefusesVersion f v told why
+row_refused f v told why (inl e) = inl (e.0, or_left _ _ e.1)
+row_refused f v told why (inr e) = inr e
+
 -- a row and then an end
 pub both_put : (f now new : FactsValue) (rows : List (VersionKey × RowValue)) (ends : List (VersionKey × ℕ)) → now ≡ with_listed f rows [] → new ≡ with_listed now [] ends → new ≡ with_listed f rows ends
 both_put f now new rows ends first then = then ∙ ap (λ n. with_listed n [] ends) first ∙ lists_put f rows [] [] ends ∙ ap (λ l. with_listed f l ends) (append-nil rows)
-
-pub not_contradicted : (f : FactsValue) (v : VersionKey) (told : VersionValue) → value_conflicts_at f v told ≡ contradicts (known_at f v) told
-not_contradicted f v told = λ i. values_conflict same_row (sym (known_row f v) i) told.row || values_conflict (λ a b. a == b) (sym (known_end f v) i) told.died
 
 -- ---- what rises has no version twice
 

@@ -3,7 +3,7 @@ pub mod StoredFacts
 pub mod ChangedChains
 pub mod FactsByRow
 pub mod FilledPages
-pub mod JournalUndone
+pub mod RolledBack
 pub mod SweptChains
 mod NewFacts
 pub mod Conflicts
@@ -20,7 +20,6 @@ pub mod ReplacedFacts
 pub mod ListedVersions
 pub mod PickedVersions
 pub mod LearntFacts
-pub mod MappedVersions
 pub mod WalkedRows
 pub mod SameRows
 pub mod TaggedRows

@@ -5,11 +5,11 @@ use Rattle.hk_types.specs.declared.version_key.VersionKey.{VersionKey}
 use Rattle.hk_log.specs.Versions.{VersionValue}
 use Rattle.hk_facts.specs.declared.fact.Fact.{Fact}
 use Rattle.hk_facts.specs.declared.fact.Fact.TheVariants.{Row, End}
-use Rattle.hk_facts.specs.Facts.{row_of, died_of}
-use Rattle.hk_store.specs.Facts.{ChainsValue, stored_version, facts_of, has_like, with_fact_at}
+use Rattle.hk_facts.specs.Facts.{has_like, row_of, died_of}
+use Rattle.hk_store.specs.Facts.{ChainsValue, stored_version, facts_of, with_fact_at}
 use Rattle.hk_store.specs.Indexed.{IsNew}
 use Rattle.hk_store.proofs.StoredFacts.{get_row, get_end}
-use Rattle.hk_store.proofs.JournalUndone.{added_again, ended_again}
+use Rattle.hk_store.proofs.RolledBack.{added_again, ended_again}
 
 none_of : {X : Type 0} (o : Option X) → is_some o ≡ false → o ≡ None
 none_of None e = refl

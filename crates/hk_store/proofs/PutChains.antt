@@ -1,5 +1,5 @@
 -- A fact that is put in a row's chain, which begins empty where there is none.
-use Rattle.std.proofs.Common.{◌≡◌, refl, sym, ap, ◌∙◌, subst, ◌<◌, Bool, true, false, not, cond, Option, Some, None, Ok, inl, inr, nat_cmp, true≢false, is_eq, arith}
+use Rattle.std.proofs.Common.{◌≡◌, refl, sym, ap, ◌∙◌, subst, ◌<◌, Bool, true, false, not, cond, Option, Some, None, Ok, inl, inr, nat_cmp, is_eq, arith}
 use Rattle.std.specs.Cmp.{tied_itself}
 use Rattle.std.specs.Bool.{OnTrue, OnFalse}
 use Rattle.std.specs.Option.{unwrap_or}
@@ -11,20 +11,16 @@ use Rattle.hk_log.specs.Versions.{VersionValue}
 use Rattle.hk_model.specs.History.Rows.{RowKey, row_key_cmp, row_key_of}
 use Rattle.hk_model.proofs.Replica.Maps.{row_key_total, row_key_same}
 use Rattle.hk_facts.specs.declared.fact.Fact.{Fact}
-use Rattle.hk_facts.specs.declared.fact.Fact.TheVariants.{Row, End}
 use Rattle.hk_facts.specs.Chains.{ChainValue, chain_put, RefusesPut}
 use Rattle.hk_slots.specs.SlotMaps.{Slots}
-use Rattle.hk_store.specs.Facts.{facts_of, facts_put, has_like, with_fact_at, AreStored}
+use Rattle.hk_facts.specs.Facts.{has_like}
+use Rattle.hk_store.specs.Facts.{facts_of, facts_put, AreStored}
 use Rattle.hk_store.specs.Indexed.{IsNew, RefusesUnknown}
 use Rattle.hk_store.proofs.StoredFacts.{nothing_known}
 use Rattle.hk_store.proofs.ChangedChains.{IsChainOf, row_is, facts_put_ok, facts_put_err}
 use Rattle.hk_store.proofs.FactsByRow.{seen, changed, chain_absent, chain_there, put_stored}
 use Rattle.hk_store.proofs.NewFacts.{new_to, known_to, turned}
 use Rattle.hk_store.proofs.Indexed.{put_is}
-
-nothing_like : (fact : Fact) → has_like None fact ≡ false
-nothing_like (Row row) = refl
-nothing_like (End died) = refl
 
 tied_row : (k : RowKey) → eq_by_cmp row_key_cmp k k ≡ true
 tied_row k = ap is_eq (tied_itself row_key_total k)
@@ -65,39 +61,6 @@ module _ (m n : Slots RowKey ChainValue) (k : RowKey) (v : VersionKey) (at : k �
       here : (q : RowKey) (b : Bool) → eq_by_cmp row_key_cmp q k ≡ b → cond b (Some d) (finmap.get (seen m) q) ≡ finmap.get (seen m) q
       here q true t = ap Some (same ∙ is ∙ ap (λ o. unwrap_or o finmap.empty) e) ∙ sym e ∙ ap (finmap.get (seen m)) (sym (row_is q k t))
       here q false t = refl
-
-  -- one that was not there has nothing like the fact
-  like_there : has_like (finmap.get c v.born) fact ≡ true → (x : ChainValue) × (finmap.get (seen m) k ≡ Some x)
-  like_there like = by (finmap.get (seen m) k) refl
-    where
-      by : (o : Option ChainValue) → finmap.get (seen m) k ≡ o → (x : ChainValue) × (o ≡ Some x)
-      by None e = absurd (true≢false (sym like ∙ ap (λ x. has_like (finmap.get x v.born) fact) (is ∙ ap (λ x. unwrap_or x finmap.empty) e) ∙ ap (λ x. has_like x fact) (finmap.get-empty nat_cmp v.born) ∙ nothing_like fact))
-      by (Some x) e = (x, refl)
-
-  module _ (b : Bool) (told : b ≡ not (has_like (finmap.get c v.born) fact)) (new : OnTrue b (chain_put c v.born fact ≡ Ok d)) (known : OnFalse b (d ≡ c)) where
-    left_as_it_was : b ≡ false → d ≡ c → seen n ≡ seen m
-    left_as_it_was e same = let there = like_there (turned false _ (sym e ∙ told)) in written_again there.0 there.1 same
-
-    pub added_stored : AreStored (seen m) → AreStored (seen n)
-    added_stored stored = by b refl new known
-      where
-        by : (x : Bool) → b ≡ x → OnTrue x (chain_put c v.born fact ≡ Ok d) → OnFalse x (d ≡ c) → AreStored (seen n)
-        by true e put same = put_in_stored put stored
-        by false e put same = subst AreStored (sym (left_as_it_was e same)) stored
-
-    pub added_known : OnFalse b (facts_of (seen n) ≡ facts_of (seen m))
-    added_known = by b refl known
-      where
-        by : (x : Bool) → b ≡ x → OnFalse x (d ≡ c) → OnFalse x (facts_of (seen n) ≡ facts_of (seen m))
-        by true e same = tt
-        by false e same = ap facts_of (left_as_it_was e same)
-
-    pub added_with : facts_of (seen n) ≡ with_fact_at (facts_of (seen m)) v fact
-    added_with = by b refl new known
-      where
-        by : (x : Bool) → b ≡ x → OnTrue x (chain_put c v.born fact ≡ Ok d) → OnFalse x (d ≡ c) → facts_of (seen n) ≡ with_fact_at (facts_of (seen m)) v fact
-        by true e put same = put_is (facts_of (seen m)) (facts_of (seen n)) v fact (put_in put)
-        by false e put same = ap facts_of (left_as_it_was e same) ∙ known_to (seen m) v (finmap.get c v.born) (of v.born) fact (turned false _ (sym e ∙ told))
 
   pub refused_by_chain : (why : Refusal) → RefusesPut c v.born fact why → RefusesUnknown (facts_of (seen m)) v fact why
   refused_by_chain why (inl e) = inl (facts_put_err fact (seen m) v c of why e)

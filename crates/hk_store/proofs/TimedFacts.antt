@@ -12,8 +12,8 @@ use Rattle.hk_model.specs.Replica.Content.{at_most, ended_by}
 use Rattle.hk_model.specs.Replica.Maps.{or_else}
 use Rattle.hk_model.proofs.Replica.Maps.{version_key_total}
 use Rattle.hk_index.specs.declared.timed.TimedVersion.{TimedVersion}
-use Rattle.hk_index.specs.Timed.{timed_cmp, is_at, AreTimed, passes_at, versions_where}
-use Rattle.hk_index.proofs.Named.{tied_parts}
+use Rattle.hk_index.specs.Timed.{timed_cmp, is_at, AreTimed, passes_at, ListsWhere}
+use Rattle.hk_index.proofs.Named.{listed_where, tied_parts}
 use Rattle.hk_index.proofs.Order.{timed_total}
 use Rattle.hk_index.proofs.StoredTimes.{timed_where}
 use Rattle.hk_facts.specs.declared.fact.Fact.TheVariants.{Row, End}
@@ -133,23 +133,23 @@ module _ (f : FactsValue) (v : VersionKey) where
 among : (vs : List VersionKey) (q : VersionKey) → is_among vs q ≡ set.contains (set.from_list {R = version_key_cmp} vs) q
 among vs q = sym (set.contains-from_list version_key_total vs q)
 
-pub ended_listed : (f : FactsValue) (deaths : Times) → AreTimed (died_at f) deaths → (h : ℕ) (vs : List VersionKey) → set.from_list vs ≡ versions_where deaths (λ t. nat_le t h) → (q : VersionKey) → is_among vs q ≡ ended_by f.ends h q
-ended_listed f deaths are h vs is q = among vs q ∙ ap (λ s. set.contains s q) is ∙ timed_where (died_at f) deaths are (λ t. nat_le t h) q ∙ at (finmap.get f.ends q)
+pub ended_listed : (f : FactsValue) (deaths : Times) → AreTimed (died_at f) deaths → (h : ℕ) (vs : List VersionKey) → ListsWhere vs deaths (λ t. nat_le t h) → (q : VersionKey) → is_among vs q ≡ ended_by f.ends h q
+ended_listed f deaths are h vs is q = among vs q ∙ ap (λ s. set.contains s q) (listed_where vs deaths (λ t. nat_le t h) is) ∙ timed_where (died_at f) deaths are (λ t. nat_le t h) q ∙ at (finmap.get f.ends q)
   where
     at : (o : Option ℕ) → passes_at (λ t. nat_le t h) o ≡ at_most h o
     at None = refl
     at (Some d) = refl
 
-pub stated_listed : (f : FactsValue) (births deaths : Times) → AreTimed (born_at f) births → AreTimed (died_at f) deaths → (test : ℕ → Bool) (vs ws : List VersionKey) → set.from_list vs ≡ versions_where births test → set.from_list ws ≡ versions_where deaths test
+pub stated_listed : (f : FactsValue) (births deaths : Times) → AreTimed (born_at f) births → AreTimed (died_at f) deaths → (test : ℕ → Bool) (vs ws : List VersionKey) → ListsWhere vs births test → ListsWhere ws deaths test
     → (index : set.FinSet version_key_cmp) → index ≡ set.from_list (vs ++ ws) → (q : VersionKey) → set.contains index q ≡ is_stated f test q
 stated_listed f births deaths born dead test vs ws first second index is q =
     ap (λ s. set.contains s q) is
     ∙ sym (among (vs ++ ws) q)
     ∙ list_any-append (eq_by_cmp version_key_cmp q) vs ws
-    ∙ (λ i. (among vs q ∙ ap (λ s. set.contains s q) first ∙ timed_where (born_at f) births born test q) i || (among ws q ∙ ap (λ s. set.contains s q) second ∙ timed_where (died_at f) deaths dead test q) i)
+    ∙ (λ i. (among vs q ∙ ap (λ s. set.contains s q) (listed_where vs births test first) ∙ timed_where (born_at f) births born test q) i || (among ws q ∙ ap (λ s. set.contains s q) (listed_where ws deaths test second) ∙ timed_where (died_at f) deaths dead test q) i)
 
 -- as its call answers
-pub either_stated : (f : FactsValue) (births deaths : Times) → AreTimed (born_at f) births → AreTimed (died_at f) deaths → (test : ℕ → Bool) (vs ws : List VersionKey) → set.from_list vs ≡ versions_where births test → set.from_list ws ≡ versions_where deaths test
+pub either_stated : (f : FactsValue) (births deaths : Times) → AreTimed (born_at f) births → AreTimed (died_at f) deaths → (test : ℕ → Bool) (vs ws : List VersionKey) → ListsWhere vs births test → ListsWhere ws deaths test
     → (more : List VersionKey) → more ≡ ws → {E : Type 0} (r : Result (set.FinSet version_key_cmp) E) → IfOk r (λ index. index ≡ set.from_list (vs ++ more)) → IfOk r (λ index. (q : VersionKey) → set.contains index q ≡ is_stated f test q)
 either_stated f births deaths born dead test vs ws first second more same (Ok index) is = stated_listed f births deaths born dead test vs ws first second index (is ∙ ap (λ l. set.from_list (vs ++ l)) same)
 either_stated f births deaths born dead test vs ws first second more same (Err why) is = tt

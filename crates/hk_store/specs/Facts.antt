@@ -1,5 +1,5 @@
 -- The facts of a replica: its rows and its ends, by version key.
-use Rattle.std.specs.Prelude.{◌≡◌, ℕ, Bool, true, ◌||◌, ◌==◌, ◌<◌, List, [], ◌∷◌, Option, Some, None, is_some, Result, Ok, Err, if◌then◌else◌, refl}
+use Rattle.std.specs.Prelude.{◌≡◌, ℕ, Bool, true, ◌||◌, ◌==◌, ◌<◌, List, [], ◌∷◌, Option, Some, None, Result, Ok, Err, if◌then◌else◌, refl}
 use Rattle.std.specs.Option.{option_and_then}
 use Rattle.std.specs.List.{flat_map}
 use Rattle.std.specs.Coded.{Coded, code_by, coded×, coded_ℕ}
@@ -20,7 +20,7 @@ use Rattle.hk_facts.specs.declared.fact.Fact.TheVariants.{Row, End}
 use Rattle.hk_facts.specs.declared.fact.Part.{Part}
 use Rattle.hk_facts.specs.declared.fact.Part.TheVariants.{Row as RowPart, End as EndPart, Whole}
 use Rattle.hk_facts.specs.Chains.{ChainValue}
-use Rattle.hk_facts.specs.Facts.{row_of, died_of, if_known}
+use Rattle.hk_facts.specs.Facts.{if_known}
 
 -- the value of a `Facts`
 pub record FactsValue : Type 0 where
@@ -89,11 +89,6 @@ IsChainAt f table key chain = (born : ℕ) → finmap.get chain born ≡ known_a
 -- nothing is known of a key of a table
 abbrev pub IsUnknown : FactsValue → ℕ → ℕ → Type 0
 IsUnknown f table key = (born : ℕ) → known_at f (record { table = table; key = key; born = born }) ≡ None
-
--- whether a row is known of a version, where the fact is one, or an end, where it is one
-abbrev pub has_like : Option VersionValue → Fact → Bool
-has_like v (Row row) = is_some (row_of v)
-has_like v (End died) = is_some (died_of v)
 
 -- the map with this at the key, unless something stands there
 abbrev pub with_added : {X : Type 0} → finmap.FinMap version_key_cmp X → VersionKey → X → finmap.FinMap version_key_cmp X

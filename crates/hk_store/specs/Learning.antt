@@ -7,11 +7,9 @@ use Rattle.hk_types.specs.declared.faults.Refusal.{Refusal}
 use Rattle.hk_types.specs.declared.faults.Refusal.TheVariants.{Conflict, Memory}
 use Rattle.hk_types.specs.declared.version_key.VersionKey.{VersionKey}
 use Rattle.hk_log.specs.Versions.{VersionValue}
-use Rattle.hk_model.specs.History.Rows.{version_key_cmp}
 use Rattle.hk_model.specs.Replica.Content.{at_most, without_ended}
 use Rattle.hk_model.specs.Replica.Maps.{union, values_conflict}
 use Rattle.hk_model.specs.Replica.Rules.{contents_conflict}
-use Rattle.hk_facts.specs.Facts.{row_of, died_of}
 use Rattle.hk_store.specs.Changes.{with_listed}
 use Rattle.hk_store.specs.Facts.{FactsValue, entry_if}
 use Rattle.hk_store.specs.Reads.{with_facts}
@@ -24,10 +22,6 @@ use Rattle.hk_store.specs.declared.learn.LearnSource.TheVariants.{Listed, Held}
 abbrev pub told_by : List (VersionKey × VersionValue) → FactsValue
 told_by es = record { rows = finmap.from_entries (flat_map (λ e. entry_if e.0 e.1.row) es); ends = finmap.from_entries (flat_map (λ e. entry_if e.0 e.1.died) es) }
 
--- the facts that a map from versions tells
-abbrev pub mapped : finmap.FinMap version_key_cmp VersionValue → FactsValue
-mapped m = told_by (finmap.entries m)
-
 -- the facts that are told: those of a list, or all that another holds
 abbrev pub facts_told : LearnSource → FactsValue
 facts_told (Listed versions) = told_by versions.now
@@ -38,9 +32,13 @@ abbrev pub IsTold : LearnSource → Type 0
 IsTold (Listed versions) = AreVersions (told_by versions.now) versions.now
 IsTold (Held facts) = Unit {0}
 
--- whether another row, or another end, is known of a version than is told
-abbrev pub contradicts : Option VersionValue → VersionValue → Bool
-contradicts held told = values_conflict same_row (row_of held) told.row || values_conflict (λ a b. a == b) (died_of held) told.died
+-- whether another row is known of a version than is told
+abbrev pub row_conflicts : FactsValue → VersionKey → VersionValue → Bool
+row_conflicts f v told = values_conflict same_row (finmap.get f.rows v) told.row
+
+-- whether another end is known of it than is told
+abbrev pub end_conflicts : FactsValue → VersionKey → VersionValue → Bool
+end_conflicts f v told = values_conflict (λ a b. a == b) (finmap.get f.ends v) told.died
 
 -- ---- what comes of it at a horizon h: rows born above it, or all rows where `old`, and ends above it
 
@@ -87,7 +85,15 @@ Learns old new coming told = new ≡ with_told coming.old coming.horizon old tol
 abbrev pub facts_conflict : FactsValue → FactsValue → Bool
 facts_conflict f g = contents_conflict (with_facts f) (with_facts g)
 
--- why what is told of a version is not learnt: it contradicts what is known, or memory was refused
+-- why the row of a version is not learnt: it contradicts what is known, or memory was refused
+abbrev pub RefusesRow : FactsValue → VersionKey → VersionValue → Refusal → Type 0
+RefusesRow f v told why = ((why ≡ Conflict) × (row_conflicts f v told ≡ true)) ⊎ (why ≡ Memory)
+
+-- the same of its end
+abbrev pub RefusesEnd : FactsValue → VersionKey → VersionValue → Refusal → Type 0
+RefusesEnd f v told why = ((why ≡ Conflict) × (end_conflicts f v told ≡ true)) ⊎ (why ≡ Memory)
+
+-- the same of what is told of a version
 abbrev pub RefusesVersion : FactsValue → VersionKey → VersionValue → Refusal → Type 0
 RefusesVersion f v told why = ((why ≡ Conflict) × (value_conflicts_at f v told ≡ true)) ⊎ (why ≡ Memory)
 

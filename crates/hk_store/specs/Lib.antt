@@ -2,7 +2,7 @@ pub mod Changes
 pub mod Drops
 pub mod Facts
 pub mod Indexed
-pub mod Journal
+pub mod Undos
 pub mod Learning
 pub mod Paging
 pub mod Reads

@@ -10,10 +10,10 @@ ghost use Rattle.hk_types.specs.declared.faults.Refusal.TheVariants.{Memory};
 ghost use Rattle.hk_types.specs.declared.version_key.VersionKey.{VersionKey};
 ghost use Rattle.hk_model.specs.History.Rows.{row_key_cmp};
 ghost use Rattle.hk_model.specs.Replica.Answers.{visible, rows_where};
-ghost use Rattle.hk_facts.specs.Chains.{row_at, chain_put, RefusesPut};
+ghost use Rattle.hk_facts.specs.Chains.{row_at};
 ghost use Rattle.hk_slots.specs.SlotMaps.{map_of};
 ghost use Rattle.hk_store.specs.Reads.{with_facts, count_rows, rows_ranged};
-ghost use Rattle.hk_store.specs.Facts.{KeepsFilled, LosesEmpty, IsChainAt, IsUnknown, no_facts, known_at, has_like, with_fact_at, facts_put, facts_without};
+ghost use Rattle.hk_store.specs.Facts.{KeepsFilled, LosesEmpty, IsChainAt, IsUnknown, no_facts, known_at, facts_put, facts_without};
 ghost use Rattle.hk_store.specs.Indexed.{IsNew, tag_lost, end_lost, tag_of_part, end_of_part, RefusesUnknown};
 
 use crate::ranges::rows_in_range;
@@ -107,30 +107,11 @@ impl Chains {
         }
     }
 
-    /// Adds a fact where nothing like it is known of the version, and returns whether it did. The only refusal is
-    /// `Memory`, and it changes nothing. Cost: O(log n), n facts: a body is moved.
-    pub(crate) fn put_new(&mut self, version: &VersionKey, fact: Fact) -> Result<bool, Refusal>
-        ensures ok { OnOk result (self.new ≡ with_fact_at self.old version.now fact) }
-        ensures new { IfOk result (λ is. OnTrue is (IsNew self.old version.now fact)) }
-        ensures known { IfOk result (λ is. OnFalse is (self.new ≡ self.old)) }
-        ensures err { IfErr result (λ why. why ≡ Memory) }
-        ensures kept { OnErr result (self.new ≡ self.old) }
-    {
-        let row = RowKey::of_version(version);
-        let chain = self.chains.get_or_insert(row, Chain::new(self.alloc))?;
-        match put_where_new(chain, version.born, fact) {
-            Ok(is_new) => Ok(is_new),
-            Err(why) => {
-                remove_if_empty(&mut self.chains, row);
-                Err(why)
-            }
-        }
-    }
-
     /// Adds a fact of a version, and returns whether nothing like it was known. One that is known already changes
     /// nothing, and one that differs from what is known is a conflict. `Memory` comes only where nothing is known of the
     /// version. A refusal changes nothing. Cost: O(log n + b), n facts, b bytes of a body that is compared.
-    pub(crate) fn insert_fact(&mut self, version: &VersionKey, fact: Fact) -> Result<bool, Refusal>
+    #[inline(always)]
+    pub(crate) fn put(&mut self, version: &VersionKey, fact: Fact) -> Result<bool, Refusal>
         ensures ok { OnOk result (facts_put self.old version.now fact ≡ Ok self.new) }
         ensures new { IfOk result (λ is. OnTrue is (IsNew self.old version.now fact)) }
         ensures known { IfOk result (λ is. OnFalse is (self.new ≡ self.old)) }
@@ -139,7 +120,7 @@ impl Chains {
     {
         let row = RowKey::of_version(version);
         let chain = self.chains.get_or_insert(row, Chain::new(self.alloc))?;
-        match insert_in_chain(chain, version.born, fact) {
+        match chain.put(version.born, fact) {
             Ok(is_new) => Ok(is_new),
             Err(why) => {
                 remove_if_empty(&mut self.chains, row);
@@ -267,47 +248,4 @@ fn count_from(chains: &SlotMap<RowKey, Chain>, first: RowKey, time: Time) -> usi
         .take_while(|(row, _chain)| row.table == first.table)
         .filter(|(_row, chain)| chain.at(time).is_some())
         .count()
-}
-
-/// Adds a fact where nothing like it is known of the version that was born then, and returns whether it did.
-#[inline(always)]
-fn put_where_new(chain: &mut Chain, born: Time, fact: Fact) -> Result<bool, Refusal>
-    ensures told { IfOk result (λ is. is ≡ not (has_like (finmap.get chain.old born) fact)) }
-    ensures new { IfOk result (λ is. OnTrue is (chain_put chain.old born fact ≡ Ok chain.new)) }
-    ensures known { IfOk result (λ is. OnFalse is (chain.new ≡ chain.old)) }
-    ensures err { IfErr result (λ why. why ≡ Memory) }
-    ensures kept { OnErr result (chain.new ≡ chain.old) }
-{
-    if has_like(chain.version(born), &fact) {
-        return Ok(false);
-    }
-    chain.put(born, fact)?;
-    Ok(true)
-}
-
-/// Adds a fact of the version that was born then, and returns whether nothing like it was known.
-#[inline(always)]
-fn insert_in_chain(chain: &mut Chain, born: Time, fact: Fact) -> Result<bool, Refusal>
-    ensures told { IfOk result (λ is. is ≡ not (has_like (finmap.get chain.old born) fact)) }
-    ensures ok { OnOk result (chain_put chain.old born fact ≡ Ok chain.new) }
-    ensures err { IfErr result (λ why. RefusesPut chain.old born fact why) }
-    ensures kept { OnErr result (chain.new ≡ chain.old) }
-{
-    let known = has_like(chain.version(born), &fact);
-    chain.put(born, fact)?;
-    Ok(!known)
-}
-
-/// Whether a row is known of a version, where the fact is one, or an end, where it is one.
-#[inline(always)]
-fn has_like(version: Option<&Version>, fact: &Fact) -> bool
-    ensures { result ≡ has_like (option_copied version.entry) fact.now }
-{
-    match version {
-        Some(version) => match fact {
-            Fact::Row(_row) => version.row().is_some(),
-            Fact::End(_died) => version.died().is_some(),
-        },
-        None => false,
-    }
 }

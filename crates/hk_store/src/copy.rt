@@ -5,6 +5,7 @@ ghost use Rattle.hk_types.specs.declared.faults.Refusal.TheVariants.{Memory};
 
 use crate::facts::Facts;
 use crate::tagged::keys_by_tag;
+use crate::undo::Undo;
 use hk_types::Refusal;
 use std::alloc::Global;
 
@@ -24,6 +25,7 @@ impl Facts {
             tags,
             births,
             deaths,
+            spare: Undo::new(alloc),
         })
     }
 }

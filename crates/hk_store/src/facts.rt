@@ -1,6 +1,6 @@
 //! The facts of a replica, with the indexes of their versions.
 
-ghost use Rattle.std.specs.Prelude.{◌≡◌, ◌==◌, length, true, is_some, ◌⊎◌, ◌<◌, OnOk, OnErr, IfErr, IfOk, IfSome, IfNone, Ok, Err, Some, None, ℕ};
+ghost use Rattle.std.specs.Prelude.{◌≡◌, ◌==◌, ◌++◌, ◌∷◌, [], length, true, is_some, ◌⊎◌, ◌<◌, OnOk, OnErr, IfErr, IfOk, IfSome, IfNone, Ok, Err, Some, None, ℕ};
 ghost use Rattle.std.specs.Bool.{OnTrue, OnFalse};
 ghost use Rattle.std.specs.Option.{option_copied, option_map};
 ghost use Rattle.std.specs.FinMap as finmap;
@@ -10,7 +10,8 @@ ghost use Rattle.hk_types.specs.declared.version_key.VersionKey.{VersionKey};
 ghost use Rattle.hk_facts.specs.declared.fact.Fact.TheVariants.{Row as RowFact, End as EndFact};
 ghost use Rattle.hk_model.specs.Replica.Answers.{visible, rows_where};
 ghost use Rattle.hk_store.specs.Reads.{with_facts};
-ghost use Rattle.hk_store.specs.Facts.{IsChainAt, IsUnknown, no_facts, known_at, with_fact_at, facts_put, facts_without};
+ghost use Rattle.hk_store.specs.Facts.{IsChainAt, IsUnknown, no_facts, known_at, facts_put, facts_without};
+ghost use Rattle.hk_store.specs.Undos.{rolled_back};
 ghost use Rattle.hk_index.specs.Tags.{StillListed, is_listed};
 ghost use Rattle.hk_store.specs.Indexed.{AreTagged, AreKeyed, IsNew, times_without, RefusesNew};
 
@@ -18,6 +19,7 @@ use crate::chains::Chains;
 use crate::key_index::KeyIndex;
 use crate::tag_index::TagIndex;
 use crate::tagged::keys_by_tag;
+use crate::undo::Undo;
 use hk_facts::{Chain, Fact, Part};
 use hk_index::{BirthIndex, TagKeys, TimeIndex};
 use hk_types::{Key, Refusal, Row, Table, Tag, Time, VersionKey};
@@ -31,6 +33,8 @@ pub struct Facts {
     pub(crate) tags: TagKeys,
     pub(crate) births: BirthIndex,
     pub(crate) deaths: TimeIndex,
+    /// A list for the next undo, with nothing in it that counts.
+    pub(crate) spare: Undo,
 }
 
 // Written out, so that a crate above which drops one sees one call, and not all that it holds.
@@ -41,11 +45,13 @@ impl Drop for Facts {
             tags,
             births,
             deaths,
+            spare,
         } = self;
         drop(chains);
         drop(tags);
         drop(births);
         drop(deaths);
+        drop(spare);
     }
 }
 
@@ -72,6 +78,7 @@ impl Facts {
             tags: TagKeys::new(alloc),
             births: BirthIndex::new(alloc),
             deaths: TimeIndex::new(alloc),
+            spare: Undo::new(alloc),
         }
     }
 
@@ -133,93 +140,87 @@ impl Facts {
         self.chains.count_at(table, time) as u64
     }
 
-    /// Adds a fact of a version, and returns whether nothing like it was known. One that is known already changes
-    /// nothing, and one that differs from what is known is a conflict. `Memory` comes only where nothing like it is
-    /// known of the version. A refusal changes nothing. Cost: O(log n + b), n facts, b bytes of a body that is compared.
-    pub(crate) fn insert_fact(&mut self, version: &VersionKey, fact: Fact) -> Result<bool, Refusal>
+    /// Adds a fact of a version, and returns whether nothing like it was known; then it is noted for being taken back. One
+    /// that is known already changes nothing, and one that differs from what is known is refused `Conflict`. `Memory` comes
+    /// only where nothing like it is known of the version. A refusal changes nothing. Cost: O(log n + b), n facts, b bytes
+    /// of a body that is compared: one that is new is moved.
+    #[inline(always)]
+    pub fn put(
+        &mut self,
+        undo: &mut Undo,
+        version: &VersionKey,
+        fact: Fact,
+    ) -> Result<bool, Refusal>
         ensures ok { OnOk result (facts_put self.old version.now fact ≡ Ok self.new) }
         ensures new { IfOk result (λ is. OnTrue is (IsNew self.old version.now fact)) }
         ensures known { IfOk result (λ is. OnFalse is (self.new ≡ self.old)) }
         ensures err { IfErr result (λ why. RefusesNew self.old version.now fact why) }
         ensures kept { OnErr result (self.new ≡ self.old) }
+        ensures back { rolled_back undo.new self.new ≡ rolled_back undo.old self.old }
     {
         match fact {
-            Fact::Row(row) => self.insert_row(version, row),
-            Fact::End(died) => self.insert_end(version, died),
+            Fact::Row(row) => self.put_row(undo, version, row),
+            Fact::End(died) => self.put_end(undo, version, died),
         }
     }
 
-    fn insert_row(&mut self, version: &VersionKey, row: Row) -> Result<bool, Refusal>
+    #[inline(always)]
+    fn put_row(&mut self, undo: &mut Undo, version: &VersionKey, row: Row) -> Result<bool, Refusal>
         ensures ok { OnOk result (facts_put self.old version.now (RowFact row) ≡ Ok self.new) }
         ensures new { IfOk result (λ is. OnTrue is (IsNew self.old version.now (RowFact row))) }
         ensures known { IfOk result (λ is. OnFalse is (self.new ≡ self.old)) }
         ensures err { IfErr result (λ why. RefusesNew self.old version.now (RowFact row) why) }
         ensures kept { OnErr result (self.new ≡ self.old) }
+        ensures back { rolled_back undo.new self.new ≡ rolled_back undo.old self.old }
     {
         let tag = row.tag();
-        if !self.chains.insert_fact(version, Fact::Row(row))? {
-            return Ok(false);
-        }
-        let indexed = add_birth(&mut self.tags, &mut self.births, version, tag);
-        if let Err(why) = indexed {
-            self.chains.forget(version, Part::Row);
-            return Err(why);
-        }
-        Ok(true)
-    }
-
-    fn insert_end(&mut self, version: &VersionKey, died: Time) -> Result<bool, Refusal>
-        ensures ok { OnOk result (facts_put self.old version.now (EndFact died) ≡ Ok self.new) }
-        ensures new { IfOk result (λ is. OnTrue is (IsNew self.old version.now (EndFact died))) }
-        ensures known { IfOk result (λ is. OnFalse is (self.new ≡ self.old)) }
-        ensures err { IfErr result (λ why. RefusesNew self.old version.now (EndFact died) why) }
-        ensures kept { OnErr result (self.new ≡ self.old) }
-    {
-        if !self.chains.insert_fact(version, Fact::End(died))? {
-            return Ok(false);
-        }
-        if let Err(why) = self.deaths.add(died, *version) {
-            self.chains.forget(version, Part::End);
-            return Err(why);
-        }
-        Ok(true)
-    }
-
-    /// Adds a row where none is known of the version, and returns whether it did. The only refusal is `Memory`, and
-    /// it changes nothing. Cost: O(log n), n facts: the body is moved.
-    pub(crate) fn put_new_row(&mut self, version: &VersionKey, row: Row) -> Result<bool, Refusal>
-        ensures ok { OnOk result (self.new ≡ with_fact_at self.old version.now (RowFact row)) }
-        ensures new { IfOk result (λ is. OnTrue is (IsNew self.old version.now (RowFact row))) }
-        ensures known { IfOk result (λ is. OnFalse is (self.new ≡ self.old)) }
-        ensures err { IfErr result (λ why. why ≡ Memory) }
-        ensures kept { OnErr result (self.new ≡ self.old) }
-    {
-        let tag = row.tag();
-        if !self.chains.put_new(version, Fact::Row(row))? {
+        if !self.chains.put(version, Fact::Row(row))? {
             return Ok(false);
         }
         if let Err(why) = add_birth(&mut self.tags, &mut self.births, version, tag) {
             self.chains.forget(version, Part::Row);
             return Err(why);
         }
-        Ok(true)
+        self.note(undo, version, Part::Row)
     }
 
-    /// Adds an end where none is known of the version, and returns whether it did. The only refusal is `Memory`, and
-    /// it changes nothing. Cost: O(log n), n facts.
-    pub(crate) fn put_new_end(&mut self, version: &VersionKey, died: Time) -> Result<bool, Refusal>
-        ensures ok { OnOk result (self.new ≡ with_fact_at self.old version.now (EndFact died)) }
+    #[inline(always)]
+    fn put_end(
+        &mut self,
+        undo: &mut Undo,
+        version: &VersionKey,
+        died: Time,
+    ) -> Result<bool, Refusal>
+        ensures ok { OnOk result (facts_put self.old version.now (EndFact died) ≡ Ok self.new) }
         ensures new { IfOk result (λ is. OnTrue is (IsNew self.old version.now (EndFact died))) }
         ensures known { IfOk result (λ is. OnFalse is (self.new ≡ self.old)) }
-        ensures err { IfErr result (λ why. why ≡ Memory) }
+        ensures err { IfErr result (λ why. RefusesNew self.old version.now (EndFact died) why) }
         ensures kept { OnErr result (self.new ≡ self.old) }
+        ensures back { rolled_back undo.new self.new ≡ rolled_back undo.old self.old }
     {
-        if !self.chains.put_new(version, Fact::End(died))? {
+        if !self.chains.put(version, Fact::End(died))? {
             return Ok(false);
         }
         if let Err(why) = self.deaths.add(died, *version) {
             self.chains.forget(version, Part::End);
             return Err(why);
+        }
+        self.note(undo, version, Part::End)
+    }
+
+    /// Notes what was added, or removes it where memory for the note was refused.
+    #[inline(always)]
+    fn note(&mut self, undo: &mut Undo, version: &VersionKey, part: Part) -> Result<bool, Refusal>
+        ensures told { IfOk result (λ is. is ≡ true) }
+        ensures noted { OnOk result (undo.new ≡ undo.old ++ (version.now, part) ∷ []) }
+        ensures stays { OnOk result (self.new ≡ self.old) }
+        ensures err { IfErr result (λ why. why ≡ Memory) }
+        ensures same { OnErr result (undo.new ≡ undo.old) }
+        ensures back { OnErr result (self.new ≡ facts_without self.old version.now part) }
+    {
+        if undo.note(version, part).is_err() {
+            self.forget(version, part);
+            return Err(Refusal::Memory);
         }
         Ok(true)
     }
@@ -248,6 +249,7 @@ impl Facts {
 }
 
 /// Lists a version's key by its tag, and adds the version to those whose row is known.
+#[inline(always)]
 fn add_birth(
     tags: &mut TagKeys,
     births: &mut BirthIndex,

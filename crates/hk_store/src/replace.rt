@@ -8,10 +8,11 @@ ghost use Rattle.hk_types.specs.declared.faults.Refusal.TheVariants.{Memory};
 ghost use Rattle.hk_model.specs.Replica.Maps.{union};
 ghost use Rattle.hk_store.specs.Changes.{with_listed, facts_after_replace, meets, with_rows, with_ends};
 ghost use Rattle.hk_store.specs.Facts.{FactsValue};
-ghost use Rattle.hk_store.specs.Journal.{without_journal};
+ghost use Rattle.hk_store.specs.Undos.{rolled_back};
 
 use crate::facts::Facts;
-use hk_facts::Part;
+use crate::undo::Undo;
+use hk_facts::Fact;
 use hk_index::VersionSet;
 use hk_types::{Refusal, Row, Time, VersionKey};
 use std::alloc::Global;
@@ -65,54 +66,45 @@ impl Facts {
     {
         let mut facts = self.copy(self.allocator())?;
         facts.drop_all(drops);
-        let mut journal = Vec::new(self.allocator());
-        facts.add_listed(&mut journal, rows, ends)?;
+        let mut undo = Undo::new(self.allocator());
+        facts.add_listed(&mut undo, rows, ends)?;
         Ok(facts)
     }
 
-    /// Adds rows and ends where none are known, each named in the journal. The only refusal is
+    /// Adds rows and ends where none are known, each that is new noted. The only refusal is
     /// `Memory`. Cost: O(c · log n), c rows and ends, n facts and these.
     pub fn add_listed(
         &mut self,
-        journal: &mut Vec<(VersionKey, Part)>,
+        undo: &mut Undo,
         rows: Vec<(VersionKey, Row)>,
         ends: &[(VersionKey, Time)],
     ) -> Result<(), Refusal>
         ensures ok { OnOk result (self.new ≡ with_listed self.old rows.items ends.now) }
         ensures err { IfErr result (λ why. why ≡ Memory) }
-        ensures back { without_journal journal.new.items self.new
-            ≡ without_journal journal.old.items self.old }
+        ensures back { rolled_back undo.new self.new ≡ rolled_back undo.old self.old }
     {
-        self.add_all_rows(journal, rows)?;
-        self.add_all_ends(journal, ends)
+        self.add_all_rows(undo, rows)?;
+        self.add_all_ends(undo, ends)
     }
 
-    fn add_all_rows(
-        &mut self,
-        journal: &mut Vec<(VersionKey, Part)>,
-        rows: Vec<(VersionKey, Row)>,
-    ) -> Result<(), Refusal>
+    fn add_all_rows(&mut self, undo: &mut Undo, rows: Vec<(VersionKey, Row)>) -> Result<(), Refusal>
         ensures ok { OnOk result (self.new ≡ with_rows self.old (finmap.from_entries rows.items)) }
         ensures err { IfErr result (λ why. why ≡ Memory) }
-        ensures back { without_journal journal.new.items self.new ≡ without_journal journal.old.items self.old }
+        ensures back { rolled_back undo.new self.new ≡ rolled_back undo.old self.old }
     {
         for (version, row) in rows {
-            self.add_row(journal, &version, row)?;
+            self.add(undo, &version, Fact::Row(row))?;
         }
         Ok(())
     }
 
-    fn add_all_ends(
-        &mut self,
-        journal: &mut Vec<(VersionKey, Part)>,
-        ends: &[(VersionKey, Time)],
-    ) -> Result<(), Refusal>
+    fn add_all_ends(&mut self, undo: &mut Undo, ends: &[(VersionKey, Time)]) -> Result<(), Refusal>
         ensures ok { OnOk result (self.new ≡ with_ends self.old (finmap.from_entries ends.now)) }
         ensures err { IfErr result (λ why. why ≡ Memory) }
-        ensures back { without_journal journal.new.items self.new ≡ without_journal journal.old.items self.old }
+        ensures back { rolled_back undo.new self.new ≡ rolled_back undo.old self.old }
     {
         for (version, died) in ends {
-            self.add_end(journal, version, *died)?;
+            self.add(undo, version, Fact::End(*died))?;
         }
         Ok(())
     }

@@ -2,8 +2,12 @@
 
 ghost use Rattle.std.specs.Prelude.{◌≡◌, ◌++◌, nat_le, nat_lt, IfOk, IfErr};
 ghost use Rattle.std.specs.FinSet as set;
+ghost use Rattle.std.specs.List.{IsDistinct};
+ghost use Rattle.std.specs.List.Sorted.{IsNonDecreasingBy};
+ghost use Rattle.std.specs.Ordering.{eq_by_cmp};
 ghost use Rattle.hk_types.specs.declared.faults.Refusal.TheVariants.{Memory};
 ghost use Rattle.hk_types.specs.declared.version_key.VersionKey.{VersionKey};
+ghost use Rattle.hk_model.specs.History.Rows.{version_key_cmp};
 ghost use Rattle.hk_model.specs.Replica.Content.{ended_by};
 ghost use Rattle.hk_store.specs.Drops.{is_among};
 ghost use Rattle.hk_store.specs.Indexed.{is_stated};
@@ -14,12 +18,14 @@ use hk_types::{Refusal, Time, VersionKey};
 use std::alloc::Global;
 
 impl Facts {
-    /// The versions whose end is known and at most `until`, in the order of their births, by which they are ordered in the
-    /// index by birth, and their rows in memory. The only refusal is `Memory`. Cost: O(log n + k · log k), n facts, k
+    /// The versions whose end is known and at most `until`, each once, in the order of their births, by which they are ordered
+    /// in the index by birth, and their rows in memory. The only refusal is `Memory`. Cost: O(log n + k · log k), n facts, k
     /// versions returned.
     pub fn ended(&self, alloc: Global, until: Time) -> Result<Vec<VersionKey>, Refusal>
         ensures ok { IfOk result (λ versions. (q : VersionKey) → is_among versions.items q
             ≡ ended_by self.now.ends until q) }
+        ensures rising { IfOk result (λ versions. IsNonDecreasingBy (λ v. v.born) versions.items) }
+        ensures once { IfOk result (λ versions. IsDistinct (eq_by_cmp version_key_cmp) versions.items) }
         ensures err { IfErr result (λ why. why ≡ Memory) }
     {
         let mut versions = self.deaths.until(alloc, until)?;

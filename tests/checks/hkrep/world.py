@@ -2,6 +2,7 @@
 import pathlib
 import tempfile
 
+import reference
 from checks import report
 from hkrep.running import ROOT, check, run
 from messages import mark, new_entry
@@ -141,4 +142,29 @@ def long_scripts():
     check(f"a script of {len(lines)} lines", ["world"], ("\n".join(lines) + "\n").encode(), "\n".join(wanted) + "\n")
 
 
-CHECKS = (world_scripts, items_of_worlds, bad_scripts, long_scripts)
+def long_chains():
+    """A key of 100 versions, which come to a replica by merges, batches and deltas: its chain has 32 in a list and more in maps, and takes
+    more each time. What is wanted is what the definition's plain program tells."""
+    lines = ["world 7 1 4"]
+    for number in range(1, 101):
+        lines += ["begin 1", f"put 1 1 5 {number % 3} {number:02x}", "commit 1 1"]
+    lines.append("mark 1")
+    for replica, first, step in ((1, 1, 3), (2, 2, 3), (3, 3, 3)):
+        lines += [f"absorb {replica} {item}" for item in range(first, 101, step)]
+    lines.append("absorb 1 101")
+    asks = [f"ask 1 {time} get 1 5" for time in (0, 1, 31, 32, 33, 34, 64, 99, 100)]
+    # 34 versions of its own and the ends of those before them, then 33 more in their midst, and then the rest
+    lines += ["front 1", "merge 1 2", "merge 1 2", "batch 4 " + " ".join(map(str, range(3, 101, 9))), "merge 1 4", "merge 1 3", "front 1", *asks]
+    lines += ["ask 1 100 tag 1 0", "ask 1 50 tag 1 2", "ask 1 77 count 1"]
+    # one that has none takes all of them at once, by a delta and by merges; and what is pruned comes back by no merge
+    lines += ["delta 4 1 0", "front 4", "ask 4 70 get 1 5", "prune 4 60", "merge 4 1", "merge 2 4", "ask 2 60 get 1 5", "ask 2 59 get 1 5", "front 2"]
+    world, wanted = reference.World(7, 1, 4), []
+    for line in lines[1:]:
+        try:
+            wanted += world.told(line.split(" "))
+        except reference.Refused as refused:
+            wanted.append(str(refused))
+    check("a chain of more than 32 versions takes more by joins", ["world"], ("\n".join(lines) + "\n").encode(), "".join(f"{it}\n" for it in wanted), 1)
+
+
+CHECKS = (world_scripts, items_of_worlds, bad_scripts, long_scripts, long_chains)

@@ -5,7 +5,7 @@ use Rattle.hk_delta.specs.Agreeing.{taken_items}
 use Rattle.hk_delta.specs.Cuts.{all_left}
 use Rattle.hk_delta.proofs.ComparedRepeats.{agrees_so, beside, told_otherwise}
 use Rattle.hk_delta.proofs.GatheredWhole.{whole_faultless, whole_is}
-use Rattle.hk_delta.proofs.WrongLogs.{count_streams}
+use Rattle.hk_state.proofs.WrongLogs.{count_streams}
 use Rattle.hk_delta.proofs.agreeing.agreed_so.Goals as goal
 
 pub of_parts-requires-clause-many : goal.of_parts-requires-clause-many

@@ -6,7 +6,7 @@ use Rattle.hk_model.specs.Replica.Streams.{unknown}
 use Rattle.hk_model.proofs.Replica.Sets.{append_assoc'}
 use Rattle.hk_delta.specs.Agreeing.{absorb_all, taken_items, IsLearnt}
 use Rattle.hk_delta.proofs.AgreedItems.{nothing_learnt, one_learnt, one_refused, as_many}
-use Rattle.hk_delta.proofs.WrongLogs.{none_told, count_streams}
+use Rattle.hk_state.proofs.WrongLogs.{none_told, count_streams}
 use Rattle.hk_delta.proofs.agreeing.learn_all.Goals as goal
 
 pub loop-item-init : goal.loop-item-init

@@ -3,7 +3,7 @@ use Rattle.std.proofs.lemmas.List.{take_more, take-append-drop}
 use Rattle.hk_log.specs.declared.item.Item.{Item}
 use Rattle.hk_model.specs.Replica.Maps.{or_else}
 use Rattle.hk_model.specs.Replica.Rules.{first_wrong_log}
-use Rattle.hk_delta.proofs.WrongLogs.{wrong_log-append}
+use Rattle.hk_state.proofs.WrongLogs.{wrong_log-append}
 use Rattle.hk_delta.proofs.gathering.first_wrong_log.Goals as goal
 
 pub returns-in-Some : goal.returns-in-Some

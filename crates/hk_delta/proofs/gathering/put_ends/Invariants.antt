@@ -1,7 +1,7 @@
-use Rattle.std.proofs.Common.{◌≡◌, take, Ok}
+use Rattle.std.proofs.Common.{◌≡◌, ◌++◌, take}
 use Rattle.std.specs.List.{flat_map}
-use Rattle.hk_delta.specs.Gathers.{all_put, end_fact}
+use Rattle.hk_delta.specs.Gathers.{end_fact}
 use Rattle.hk_delta.proofs.gathering.put_ends.Given as goal
 
 abbrev pub invariant-loop-version : goal.invariant-loop-version
-invariant-loop-version l = all_put (Ok l.initial.facts) (flat_map (end_fact l.time) (take l.version-index l.ends)) ≡ Ok l.facts
+invariant-loop-version l = l.facts.items ≡ l.initial.facts.items ++ flat_map (end_fact l.time) (take l.version-index l.ends)

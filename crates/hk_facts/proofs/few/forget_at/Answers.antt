@@ -1,5 +1,5 @@
 use Rattle.std.proofs.Common.{◌∙◌, ap}
-use Rattle.hk_facts.specs.Listed.{listed, AreByBirth}
+use Rattle.hk_facts.specs.Listed.{listed}
 use Rattle.hk_facts.proofs.ListedVersions.{left_over, taken_out, sorted_left, sorted_removed, sorted_as}
 use Rattle.hk_facts.proofs.few.forget_at.Goals as goal
 

@@ -1,4 +1,4 @@
-use Rattle.std.proofs.Common.{ℕ, ◌≡◌, ◌≤◌, take, length}
+use Rattle.std.proofs.Common.{◌≡◌, ◌≤◌, take, length}
 use Rattle.hk_facts.specs.Chains.{latest_at, last_where}
 use Rattle.hk_facts.specs.Listed.{listed}
 use Rattle.hk_facts.proofs.LastOfList.{has_row}

@@ -10,14 +10,14 @@ pub returns : goal.returns
 returns c =
     let a = c.self.inside in
     let fed = c.feed-fed in
-    subst (λ (r : ReplicaValue). Absorbed r c.take-refused.new.self c.args.piece.now c.first_of.result) c.self.view_is
+    subst (λ (r : ReplicaValue). Absorbed r c.take-refused.new.self c.args.piece.now c.first_of.result) (c.self.view_is ∙ c.fresh_items-items.ensures.kept)
     (record {
       mid = record { host = a.host; rest = fed.new.self; reply = a.reply.items };
       items = fed.new.out.items;
       fed = fed.result;
-      feeds = subst (λ (xs : List Item). Feeds Adds a.feeder fed.new.self xs fed.new.out.items c.args.piece.now fed.result) c.new-items.ensures.items fed.ensures.reads;
-      fault = subst (λ (xs : List Item). KeepsFault a.feeder fed.new.self xs fed.new.out.items fed.result) c.new-items.ensures.items fed.ensures.fault;
-      memory = subst (λ (xs : List Item). KeepsOnMemory a.feeder fed.new.self xs fed.new.out.items fed.result) c.new-items.ensures.items fed.ensures.memory;
+      feeds = subst (λ (xs : List Item). Feeds Adds a.feeder fed.new.self xs fed.new.out.items c.args.piece.now fed.result) c.fresh_items-items.ensures.empty fed.ensures.reads;
+      fault = subst (λ (xs : List Item). KeepsFault a.feeder fed.new.self xs fed.new.out.items fed.result) c.fresh_items-items.ensures.empty fed.ensures.fault;
+      memory = subst (λ (xs : List Item). KeepsOnMemory a.feeder fed.new.self xs fed.new.out.items fed.result) c.fresh_items-items.ensures.empty fed.ensures.memory;
       only = refl;
       refused = c.take-refused.result;
       taken = c.take-refused.ensures;

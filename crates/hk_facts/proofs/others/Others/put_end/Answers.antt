@@ -1,8 +1,8 @@
 use Rattle.std.proofs.Common.{sym}
 use Rattle.std.proofs.lemmas.Result.{on_ok_weaker}
 use Rattle.hk_facts.specs.declared.fact.Fact.TheVariants.{End as EndFact}
-use Rattle.hk_facts.proofs.StoredTrees.{IfErr_map, none_at, some_at}
-use Rattle.hk_facts.proofs.PartedChains.{put_rows, put_ends, rows_refused, ends_refused, parted_rows_put, parted_end_put}
+use Rattle.hk_facts.proofs.StoredTrees.{IfErr_map, new_as, none_at, some_at}
+use Rattle.hk_facts.proofs.PartedChains.{get_row, get_end, put_rows, put_ends, rows_refused, ends_refused, parted_rows_put, parted_end_put}
 use Rattle.hk_facts.proofs.others.Others.put_end.Goals as goal
 
 pub invariant_of-self : goal.invariant_of-self
@@ -34,3 +34,13 @@ pub returns-clause-err : goal.returns-clause-err
 returns-clause-err c =
     let a = c.self.inside in
     rw (← c.self.view_is) (IfErr_map c.put-2.result (λ why e. ends_refused (EndFact c.args.died) c.args.born a.rows a.ends (none_at (λ x. x.now) c.version.result _ c.version.ensures (sym c.if-is_some.ensures)) why e) c.put-2.ensures.err)
+
+pub returns-then-is_some-clause-new : goal.returns-then-is_some-clause-new
+returns-then-is_some-clause-new c =
+    let a = c.self.inside in
+    rw (← c.self.view_is) (new_as c.put.result _ _ (EndFact c.args.died) (sym (get_row a.rows a.ends c.args.born (c.self.invariant.apart c.args.born (some_at (λ x. x.now) c.version.result _ c.version.ensures (sym c.if-is_some.ensures))))) c.put.ensures.new)
+
+pub returns-clause-new : goal.returns-clause-new
+returns-clause-new c =
+    let a = c.self.inside in
+    rw (← c.self.view_is) (new_as c.put-2.result _ _ (EndFact c.args.died) (sym (get_end a.rows a.ends c.args.born (none_at (λ x. x.now) c.version.result _ c.version.ensures (sym c.if-is_some.ensures)))) c.put-2.ensures.new)

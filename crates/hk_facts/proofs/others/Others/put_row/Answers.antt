@@ -4,8 +4,8 @@ use Rattle.std.proofs.lemmas.Result.{on_ok_weaker}
 use Rattle.hk_types.specs.declared.faults.Refusal.TheVariants.{Memory}
 use Rattle.hk_facts.specs.declared.fact.Fact.TheVariants.{Row as RowFact}
 use Rattle.hk_facts.specs.Chains.{ChainValue, chain_put}
-use Rattle.hk_facts.proofs.StoredTrees.{IfErr_map, none_at, some_at}
-use Rattle.hk_facts.proofs.PartedChains.{put_rows, put_ends, rows_refused, ends_refused, parted_rows_put, parted_mixed, not_in_rows}
+use Rattle.hk_facts.proofs.StoredTrees.{IfErr_map, new_as, none_at, some_at}
+use Rattle.hk_facts.proofs.PartedChains.{get_row, get_end, put_rows, put_ends, rows_refused, ends_refused, parted_rows_put, parted_mixed, not_in_rows}
 use Rattle.hk_facts.proofs.others.Others.put_row.Goals as goal
 
 pub invariant_of-self : goal.invariant_of-self
@@ -47,3 +47,15 @@ returns-clause-err c =
     let fact = RowFact c.args.row in
     let none = not_in_rows m.rows m.ends c.args.born c.make_way.ensures.apart _ refl (some_at (λ x. x.now) c.version.result _ c.version.ensures (c.is_none.ensures ∙ ap not c.if-is_none.false)) in
     rw (← c.self.view_is) (IfErr_map c.put-2.result (λ why e. subst (λ (n : ChainValue). (chain_put n c.args.born fact ≡ Err why) ⊎ ((why ≡ Memory) × (finmap.get n c.args.born ≡ None))) c.make_way.ensures.same (ends_refused fact c.args.born m.rows m.ends none why e)) c.put-2.ensures.err)
+
+pub returns-then-is_none-clause-new : goal.returns-then-is_none-clause-new
+returns-then-is_none-clause-new c =
+    let m = c.make_way.new in
+    let none = none_at (λ x. x.now) c.version.result _ c.version.ensures (c.is_none.ensures ∙ ap not c.if-is_none.true) in
+    rw (← c.self.view_is) (new_as c.put.result _ _ (RowFact c.args.row) (sym (get_row m.rows m.ends c.args.born none) ∙ ap (λ n. finmap.get n c.args.born) c.make_way.ensures.same) c.put.ensures.new)
+
+pub returns-clause-new : goal.returns-clause-new
+returns-clause-new c =
+    let m = c.make_way.new in
+    let none = not_in_rows m.rows m.ends c.args.born c.make_way.ensures.apart _ refl (some_at (λ x. x.now) c.version.result _ c.version.ensures (c.is_none.ensures ∙ ap not c.if-is_none.false)) in
+    rw (← c.self.view_is) (new_as c.put-2.result _ _ (RowFact c.args.row) (sym (get_end m.rows m.ends c.args.born none) ∙ ap (λ n. finmap.get n c.args.born) c.make_way.ensures.same) c.put-2.ensures.new)

@@ -1,6 +1,4 @@
-use Rattle.std.proofs.Common.{◌∙◌, ◌≡◌, ap, sym, arith, cond, nat_cmp, Some}
-use Rattle.std.specs.Cmp.{nat_cmp_total, eq_by_cmp_equiv}
-use Rattle.std.specs.Ordering.{eq_by_cmp}
+use Rattle.std.proofs.Common.{◌∙◌, sym, arith, cond, Some}
 use Rattle.hk_facts.proofs.StoredTrees.{get_seen, tied_flip}
 use Rattle.hk_facts.proofs.ListedVersions.{row_less, row_more, row_all, row_told, same_truth, other_truth}
 use Rattle.hk_facts.proofs.versions.Versions.of_list.Goals as goal

@@ -1,7 +1,7 @@
 use Rattle.std.proofs.Common.{sym, inl, None}
 use Rattle.std.proofs.lemmas.Result.{on_err_weaker, on_ok_weaker}
 use Rattle.hk_facts.specs.Facts.{put_result}
-use Rattle.hk_facts.proofs.StoredTrees.{found_seen, put_there, put_refused, put_new, write_back, out_of_memory, IfErr_map}
+use Rattle.hk_facts.proofs.StoredTrees.{found_seen, put_there, put_refused, put_new, write_back, out_of_memory, IfErr_map, new_as, new_at}
 use Rattle.hk_facts.proofs.versions.Versions.put.Goals as goal
 
 pub returns-in-Some-clause-ok : goal.returns-in-Some-clause-ok
@@ -20,3 +20,9 @@ pub returns-clause-ok : goal.returns-clause-ok
 returns-clause-ok c =
     let updates = rw c.get_mut.follows.holds-at-none at c.in_ok-insert.ensures.ok in
     rw (← c.self.view_is) (put_new c.self.inside.versions c.insert.new.versions c.args.born _ (put_result c.args.fact) c.in_default.ensures.value c.version_of.ensures updates)
+
+pub returns-in-Some-clause-new : goal.returns-in-Some-clause-new
+returns-in-Some-clause-new c = rw (← c.self.view_is) (new_as c.join.result _ _ c.args.fact (found_seen c.self.inside.versions c.args.born _ c.in-Some.ensures.value) c.join.ensures.new)
+
+pub returns-clause-new : goal.returns-clause-new
+returns-clause-new c = rw (← c.self.view_is) (new_at _ c.args.fact (sym (found_seen c.self.inside.versions c.args.born None c.in_default.ensures.value)))

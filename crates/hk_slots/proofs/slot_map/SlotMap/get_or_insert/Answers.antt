@@ -3,8 +3,7 @@ use Rattle.std.specs.FinMap as finmap
 use Rattle.slab.specs.Slab as slab
 use Rattle.hk_slots.specs.SlotMaps.{slots_of, map_of}
 use Rattle.hk_slots.proofs.SeenSlots.{value_at, told_slot}
-use Rattle.hk_slots.proofs.ChangedSlots.{written_laid, written_is, new_here, written_new}
-use Rattle.hk_slots.proofs.FoundSlots.{same_some}
+use Rattle.hk_slots.proofs.ChangedSlots.{written_laid, written_is, new_here, written_new, same_some}
 use Rattle.hk_slots.proofs.slot_map.SlotMap.get_or_insert.Goals as goal
 
 pub index_mut-entry-requires : goal.index_mut-entry-requires
@@ -39,5 +38,5 @@ returns g c =
             ∙ written_new g.met.K.Ord.total g.met.K.Key.same old c.args.key c.args.fresh w,
         tt,
       ),
-      record { writes_back = tt; value = same_some _ _ (sym value ∙ here); absent = tt },
+      record { writes_back = tt; value = same_some _ _ (sym value ∙ here); absent = tt; full = tt },
     )

@@ -10,6 +10,7 @@ returns-clause-above g c =
     rw (← c.self.view_is) (λ key slot at.
     let own = c.self.invariant.matched.seat key slot (sym (get_slot g.met.K.Ord.total g.met.K.Key.same t u key) ∙ at) in
     let within = ContainsKey-within u slot (subst IsSome (sym own.1) refl) in
+    let low = c.self.invariant.low key slot (sym (get_slot g.met.K.Ord.total g.met.K.Key.same t u key) ∙ at) in
     omega arith)
 
 pub returns-clause-own : goal.returns-clause-own

@@ -1,6 +1,6 @@
 use Rattle.std.proofs.Common.{refl, sym, ap, ◌∙◌, arith}
 use Rattle.hk_store.specs.Facts.{FactsValue}
-use Rattle.hk_store.proofs.JournalUndone.{union_none, add_one}
+use Rattle.hk_store.proofs.RolledBack.{union_none, add_one}
 use Rattle.hk_store.proofs.facts.Facts.add_all_ends.Goals as goal
 
 pub loop-version-init : goal.loop-version-init
@@ -8,7 +8,7 @@ loop-version-init c = record { rows = refl; ends = sym (union_none c.args.self.n
 
 pub loop-version-preserved : goal.loop-version-preserved
 loop-version-preserved c = record {
-  rows = ap (λ (f : FactsValue). f.rows) c.in_ok-add_end.ensures.ok ∙ c.loop-version.invariant.rows;
-  ends = add_one c.args.self.now.ends c.loop-version.self.ends c.add_end.new.self.ends c.args.ends.now c.loop-version.version-index c.loop-version-item.result c.loop-version-item.is (omega arith) c.loop-version.invariant.ends (ap (λ (f : FactsValue). f.ends) c.in_ok-add_end.ensures.ok);
-  back = c.in_ok-add_end.ensures.back ∙ c.loop-version.invariant.back;
+  rows = ap (λ (f : FactsValue). f.rows) c.in_ok-add.ensures.ok ∙ c.loop-version.invariant.rows;
+  ends = add_one c.args.self.now.ends c.loop-version.self.ends c.add.new.self.ends c.args.ends.now c.loop-version.version-index c.loop-version-item.result c.loop-version-item.is (omega arith) c.loop-version.invariant.ends (ap (λ (f : FactsValue). f.ends) c.in_ok-add.ensures.ok);
+  back = c.in_ok-add.ensures.back ∙ c.loop-version.invariant.back;
 }

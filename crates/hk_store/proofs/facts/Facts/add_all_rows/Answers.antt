@@ -7,7 +7,7 @@ use Rattle.hk_types.specs.Values.{RowValue}
 use Rattle.hk_types.specs.declared.version_key.VersionKey.{VersionKey}
 use Rattle.hk_model.specs.Replica.Maps.{union}
 use Rattle.hk_store.specs.Facts.{FactsValue, with_added}
-use Rattle.hk_store.proofs.JournalUndone.{union_none, union_push}
+use Rattle.hk_store.proofs.RolledBack.{union_none, union_push}
 use Rattle.hk_store.proofs.facts.Facts.add_all_rows.Goals as goal
 
 pub loop-version-init : goal.loop-version-init
@@ -15,9 +15,9 @@ loop-version-init c = record { rows = sym (union_none c.args.self.now.rows); end
 
 pub loop-version-preserved : goal.loop-version-preserved
 loop-version-preserved c = record {
-  rows = ap (λ (f : FactsValue). f.rows) c.in_ok-add_row.ensures.ok ∙ ap (λ n. with_added n c.in-Some.version c.in-Some.row) c.loop-version.invariant.rows ∙ union_push c.args.self.now.rows c.loop-version.yielded c.in-Some.version c.in-Some.row;
-  ends = ap (λ (f : FactsValue). f.ends) c.in_ok-add_row.ensures.ok ∙ c.loop-version.invariant.ends;
-  back = c.in_ok-add_row.ensures.back ∙ c.loop-version.invariant.back;
+  rows = ap (λ (f : FactsValue). f.rows) c.in_ok-add.ensures.ok ∙ ap (λ n. with_added n c.in-Some.version c.in-Some.row) c.loop-version.invariant.rows ∙ union_push c.args.self.now.rows c.loop-version.yielded c.in-Some.version c.in-Some.row;
+  ends = ap (λ (f : FactsValue). f.ends) c.in_ok-add.ensures.ok ∙ c.loop-version.invariant.ends;
+  back = c.in_ok-add.ensures.back ∙ c.loop-version.invariant.back;
 }
 
 pub returns : goal.returns

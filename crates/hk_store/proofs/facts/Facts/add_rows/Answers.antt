@@ -8,7 +8,7 @@ use Rattle.hk_types.specs.declared.version_key.VersionKey.{VersionKey}
 use Rattle.hk_model.specs.Replica.Maps.{union}
 use Rattle.hk_model.specs.History.Facts.{inserted_version}
 use Rattle.hk_store.specs.Facts.{FactsValue, with_added}
-use Rattle.hk_store.proofs.JournalUndone.{union_none, union_push}
+use Rattle.hk_store.proofs.RolledBack.{union_none, union_push}
 use Rattle.hk_store.proofs.facts.Facts.add_rows.Goals as goal
 
 pub loop-table-init : goal.loop-table-init
@@ -19,9 +19,9 @@ loop-table-preserved c =
     let f = inserted_version c.args.time in
     let p : ℕ × ℕ × RowValue = (c.in-Some.table, c.in-Some.key, c.in-Some.row) in
     record {
-      rows = ap (λ (x : FactsValue). x.rows) c.in_ok-add_row.ensures.ok ∙ ap (λ n. with_added n (f p).0 c.in-Some.row) c.loop-table.invariant.rows ∙ union_push c.args.self.now.rows (map f c.loop-table.yielded) (f p).0 c.in-Some.row ∙ ap (λ (es : List (VersionKey × RowValue)). union c.args.self.now.rows (finmap.from_entries es)) (sym (map-append f c.loop-table.yielded (p ∷ [])));
-      ends = ap (λ (x : FactsValue). x.ends) c.in_ok-add_row.ensures.ok ∙ c.loop-table.invariant.ends;
-      back = c.in_ok-add_row.ensures.back ∙ c.loop-table.invariant.back;
+      rows = ap (λ (x : FactsValue). x.rows) c.in_ok-add.ensures.ok ∙ ap (λ n. with_added n (f p).0 c.in-Some.row) c.loop-table.invariant.rows ∙ union_push c.args.self.now.rows (map f c.loop-table.yielded) (f p).0 c.in-Some.row ∙ ap (λ (es : List (VersionKey × RowValue)). union c.args.self.now.rows (finmap.from_entries es)) (sym (map-append f c.loop-table.yielded (p ∷ [])));
+      ends = ap (λ (x : FactsValue). x.ends) c.in_ok-add.ensures.ok ∙ c.loop-table.invariant.ends;
+      back = c.in_ok-add.ensures.back ∙ c.loop-table.invariant.back;
     }
 
 pub returns : goal.returns

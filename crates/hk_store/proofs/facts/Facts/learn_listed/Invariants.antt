@@ -1,6 +1,6 @@
 use Rattle.std.proofs.Common.{◌≡◌, false, take}
 use Rattle.std.specs.List.{list_any}
-use Rattle.hk_store.specs.Journal.{without_journal}
+use Rattle.hk_store.specs.Undos.{rolled_back}
 use Rattle.hk_store.specs.Versions.{value_conflicts_at}
 use Rattle.hk_store.proofs.LearntFacts.{learnt}
 use Rattle.hk_store.proofs.facts.Facts.learn_listed.Given as goal
@@ -9,5 +9,5 @@ abbrev pub invariant-loop-version : goal.invariant-loop-version
 invariant-loop-version l = record {
   facts : l.self ≡ learnt l.coming.old l.coming.horizon l.initial.self (take l.version-index l.told);
   agrees : list_any (λ e. value_conflicts_at l.initial.self e.0 e.1) (take l.version-index l.told) ≡ false;
-  back : without_journal l.journal.items l.self ≡ without_journal l.initial.journal.items l.initial.self;
+  back : rolled_back l.undo l.self ≡ rolled_back l.initial.undo l.initial.self;
 }

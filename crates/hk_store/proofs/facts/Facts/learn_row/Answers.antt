@@ -1,10 +1,17 @@
-use Rattle.std.proofs.Common.{sym, ap, ◌∙◌}
-use Rattle.std.specs.Option.{option_copied}
-use Rattle.hk_store.proofs.LearntFacts.{row_comes_in, no_row_comes}
+use Rattle.std.proofs.Common.{sym, ap, ◌∙◌, ◌||◌, cond, nat_lt, None}
+use Rattle.hk_facts.specs.declared.fact.Fact.TheVariants.{Row}
+use Rattle.hk_store.proofs.Indexed.{put_is}
+use Rattle.hk_store.proofs.LearntFacts.{never, row_comes_in, no_row_comes}
 use Rattle.hk_store.proofs.facts.Facts.learn_row.Goals as goal
 
-pub returns-in_ok-copied-in-Some-clause-ok : goal.returns-in_ok-copied-in-Some-clause-ok
-returns-in_ok-copied-in-Some-clause-ok c = row_comes_in c.args.self.now c.add_row.new.self c.args.version.now _ c.in-Some.row.now c.in_ok-copied-in-Some.copied c.add_row.result (sym c.row.ensures ∙ ap option_copied c.in-Some.is) c.in_ok-copied-in-Some.ensures c.add_row.ensures.ok
+pub returns-in_default-clause-ok : goal.returns-in_default-clause-ok
+returns-in_default-clause-ok c = no_row_comes c.args.self.now c.args.version.now _ (never (nat_lt c.args.coming.now.horizon c.args.version.now.born || c.args.coming.now.old) _ (sym c.in_default.ensures.value))
 
-pub returns-in-None-clause-ok : goal.returns-in-None-clause-ok
-returns-in-None-clause-ok c = no_row_comes c.args.self.now c.args.version.now _ (sym c.row.ensures ∙ ap option_copied c.in-None.is)
+pub returns-then-has_row-clause-ok : goal.returns-then-has_row-clause-ok
+returns-then-has_row-clause-ok c =
+    let f = c.args.self.now in
+    let v = c.args.version.now in
+    row_comes_in f c.put.new.self v _ c.in-Some.row.now c.in_ok-copied.copied (ap (λ b. cond b c.args.told.now.row None) (sym c.has_row.ensures ∙ c.if-has_row.true) ∙ sym c.in-Some.ensures.value) c.in_ok-copied.ensures (put_is f c.put.new.self v (Row c.in_ok-copied.copied) c.in_ok-put.ensures.ok)
+
+pub returns-clause-ok : goal.returns-clause-ok
+returns-clause-ok c = no_row_comes c.args.self.now c.args.version.now _ (ap (λ b. cond b c.args.told.now.row None) (sym c.has_row.ensures ∙ c.if-has_row.false))

@@ -5,8 +5,8 @@ use Rattle.hk_types.specs.declared.version_key.VersionKey.{VersionKey}
 use Rattle.hk_model.specs.Replica.Maps.{union, values_conflict}
 use Rattle.hk_facts.specs.declared.fact.Fact.TheVariants.{End}
 use Rattle.hk_store.specs.Facts.{conflicts_at}
-use Rattle.hk_store.specs.Journal.{ends_conflict}
-use Rattle.hk_store.proofs.JournalUndone.{union_none}
+use Rattle.hk_store.specs.Undos.{ends_conflict}
+use Rattle.hk_store.proofs.RolledBack.{union_none}
 use Rattle.hk_store.proofs.EntryConflicts.{ends_sorted}
 use Rattle.hk_store.proofs.EntryPut.{IsOutside, walked, walked_more, any_one_more, any_found, outside_at, outside_more, all_put, lasted, end_put, ends_kept, rows_stay, passed_on, on_true_to, itself, through}
 use Rattle.hk_store.proofs.facts.Facts.put_ends.Goals as goal

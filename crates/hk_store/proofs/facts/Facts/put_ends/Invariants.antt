@@ -2,7 +2,7 @@ use Rattle.std.proofs.Common.{◌≡◌, true, false, map, take}
 use Rattle.std.specs.Bool.{OnTrue}
 use Rattle.std.specs.FinMap as finmap
 use Rattle.hk_model.specs.Replica.Maps.{union}
-use Rattle.hk_store.specs.Journal.{ends_conflict, without_journal}
+use Rattle.hk_store.specs.Undos.{ends_conflict, rolled_back}
 use Rattle.hk_store.proofs.EntryPut.{IsOutside}
 use Rattle.hk_store.proofs.facts.Facts.put_ends.Given as goal
 
@@ -13,5 +13,5 @@ invariant-loop-version l = record {
   put : OnTrue l.room (l.self.ends ≡ union l.initial.self.ends (finmap.from_entries (map (λ v. (v, l.fn.time)) (take l.version-index l.ends))));
   agrees : ends_conflict l.initial.self l.fn.time (take l.version-index l.ends) ≡ false;
   rows : l.self.rows ≡ l.initial.self.rows;
-  back : without_journal l.journal.items l.self ≡ without_journal l.initial.journal.items l.initial.self;
+  back : rolled_back l.undo l.self ≡ rolled_back l.initial.undo l.initial.self;
 }

@@ -7,7 +7,7 @@ use Rattle.hk_model.specs.Replica.Maps.{values_conflict}
 use Rattle.hk_model.specs.History.Facts.{inserted_version}
 use Rattle.hk_facts.specs.declared.fact.Fact.TheVariants.{Row}
 use Rattle.hk_store.specs.Facts.{conflicts_at}
-use Rattle.hk_store.proofs.JournalUndone.{union_none}
+use Rattle.hk_store.proofs.RolledBack.{union_none}
 use Rattle.hk_store.proofs.EntryConflicts.{rows_sorted}
 use Rattle.hk_store.proofs.EntryPut.{walked, any_one_more, any_found, outside_at, outside_more, all_put, lasted, row_put, rows_kept, ends_stay, passed_on}
 use Rattle.hk_store.proofs.facts.Facts.put_rows.Goals as goal

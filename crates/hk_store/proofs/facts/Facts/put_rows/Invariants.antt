@@ -3,7 +3,7 @@ use Rattle.std.specs.Bool.{OnTrue}
 use Rattle.std.specs.FinMap as finmap
 use Rattle.hk_model.specs.Replica.Maps.{union}
 use Rattle.hk_model.specs.History.Facts.{inserted_version}
-use Rattle.hk_store.specs.Journal.{rows_conflict, without_journal}
+use Rattle.hk_store.specs.Undos.{rows_conflict, rolled_back}
 use Rattle.hk_store.proofs.EntryPut.{IsOutside}
 use Rattle.hk_store.proofs.facts.Facts.put_rows.Given as goal
 
@@ -13,5 +13,5 @@ invariant-loop-table l = record {
   put : OnTrue l.room (l.self.rows ≡ union l.initial.self.rows (finmap.from_entries (map (inserted_version l.fn.time) l.yielded)));
   agrees : rows_conflict l.initial.self l.fn.time l.yielded ≡ false;
   ends : l.self.ends ≡ l.initial.self.ends;
-  back : without_journal l.journal.items l.self ≡ without_journal l.initial.journal.items l.initial.self;
+  back : rolled_back l.undo l.self ≡ rolled_back l.initial.undo l.initial.self;
 }

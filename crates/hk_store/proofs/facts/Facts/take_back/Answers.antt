@@ -1,11 +1,11 @@
 use Rattle.std.proofs.Common.{sym, ap, ◌∙◌}
-use Rattle.hk_store.specs.Journal.{without_journal}
-use Rattle.hk_store.proofs.JournalUndone.{undone_push}
+use Rattle.hk_store.specs.Undos.{rolled_back}
+use Rattle.hk_store.proofs.RolledBack.{undone_push}
 use Rattle.hk_store.proofs.facts.Facts.take_back.Goals as goal
 
 pub loop-version-preserved : goal.loop-version-preserved
 loop-version-preserved c =
-    ap (without_journal c.pop.new.self.items) c.forget.ensures
+    ap (rolled_back c.pop.new.self.items) c.forget.ensures
     ∙ sym (undone_push c.pop.new.self.items c.in-Some.version c.in-Some.part c.loop-version.self)
-    ∙ ap (λ l. without_journal l c.loop-version.self) (sym c.in-Some.ensures.items)
+    ∙ ap (λ l. rolled_back l c.loop-version.self) (sym c.in-Some.ensures.items)
     ∙ c.loop-version.invariant

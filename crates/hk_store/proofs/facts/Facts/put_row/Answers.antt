@@ -1,0 +1,56 @@
+use Rattle.std.proofs.Common.{ap}
+use Rattle.std.proofs.lemmas.Bool.{OnTrue_at}
+use Rattle.hk_facts.specs.declared.fact.Fact.TheVariants.{Row}
+use Rattle.hk_store.specs.Undos.{rolled_back}
+use Rattle.hk_store.proofs.Indexed.{more_listed, row_listed, put_is}
+use Rattle.hk_store.proofs.RolledBack.{taken_back, kept_unless_noted, noted_or_back}
+use Rattle.hk_store.proofs.TimedFacts.{births_added}
+use Rattle.hk_store.proofs.facts.Facts.put_row.Goals as goal
+
+pub invariant_of-self-in-Err : goal.invariant_of-self-in-Err
+invariant_of-self-in-Err c =
+    let a = c.self.inside in
+    let new = OnTrue_at c.if-not-branch.false c.in_ok-put.ensures.new in
+    let is = put_is a.chains c.put.new.self c.args.version.now (Row c.args.row) c.in_ok-put.ensures.ok in
+    let back = taken_back a.chains c.put.new.self c.args.version.now (Row c.args.row) new is c.forget.new.self c.forget.ensures.left in
+    record {
+      tagged = rw back (more_listed a.chains a.tags c.add_birth.new.tags c.add_birth.ensures.kept c.self.invariant.tagged);
+      born = rw (back, c.in-Err.ensures.untimed) c.self.invariant.born;
+      dead = rw back c.self.invariant.dead;
+    }
+
+pub returns-in-Err-clause-kept : goal.returns-in-Err-clause-kept
+returns-in-Err-clause-kept c =
+    let a = c.self.inside in
+    let new = OnTrue_at c.if-not-branch.false c.in_ok-put.ensures.new in
+    let is = put_is a.chains c.put.new.self c.args.version.now (Row c.args.row) c.in_ok-put.ensures.ok in
+    rw (← c.self.view_is) (taken_back a.chains c.put.new.self c.args.version.now (Row c.args.row) new is c.forget.new.self c.forget.ensures.left)
+
+pub invariant_of-self-in_default : goal.invariant_of-self-in_default
+invariant_of-self-in_default c =
+    let a = c.self.inside in
+    let v = c.args.version.now in
+    let new = OnTrue_at c.if-not-branch.false c.in_ok-put.ensures.new in
+    let is = put_is a.chains c.put.new.self v (Row c.args.row) c.in_ok-put.ensures.ok in
+    record {
+      tagged = rw is (row_listed a.chains v c.add_birth.new.tags (more_listed a.chains a.tags c.add_birth.new.tags c.add_birth.ensures.kept c.self.invariant.tagged) c.args.row new (rw c.tag-tag.ensures at c.in_default.ensures.listed));
+      born = rw (is, c.in_default.ensures.timed) (births_added a.chains v a.births c.self.invariant.born c.args.row new);
+      dead = rw is c.self.invariant.dead;
+    }
+
+pub returns-in-Err-clause-back : goal.returns-in-Err-clause-back
+returns-in-Err-clause-back c = ap (rolled_back c.args.undo.now) (returns-in-Err-clause-kept c)
+
+pub returns-clause-kept : goal.returns-clause-kept
+returns-clause-kept c =
+    let a = c.self.inside in
+    let new = OnTrue_at c.if-not-branch.false c.in_ok-put.ensures.new in
+    let is = put_is a.chains c.put.new.self c.args.version.now (Row c.args.row) c.in_ok-put.ensures.ok in
+    rw (← c.self.view_is) (kept_unless_noted a.chains c.put.new.self c.args.version.now (Row c.args.row) new is c.note.new.self c.args.undo.now c.note.new.undo c.note.result c.note.ensures.back)
+
+pub returns-clause-back : goal.returns-clause-back
+returns-clause-back c =
+    let a = c.self.inside in
+    let new = OnTrue_at c.if-not-branch.false c.in_ok-put.ensures.new in
+    let is = put_is a.chains c.put.new.self c.args.version.now (Row c.args.row) c.in_ok-put.ensures.ok in
+    rw (← c.self.view_is) (noted_or_back a.chains c.put.new.self c.args.version.now (Row c.args.row) new is c.note.new.self c.args.undo.now c.note.new.undo c.note.result c.note.ensures.noted c.note.ensures.stays c.note.ensures.same c.note.ensures.back)
