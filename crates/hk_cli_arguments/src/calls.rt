@@ -1,13 +1,14 @@
 //! The calls that the arguments of the commands make.
 
-use crate::arguments::config_of;
-use crate::forms::CommandForm;
+use crate::forms::{CommandForm, QueryForm, query_named};
+use crate::node;
 use crate::places::{is_alone, is_decimal, place_of, source_of};
+use crate::stay::serve_call;
 use clap::ArgMatches;
 use hk_cli_calls::{Alone, Bodies, Call, Limits, NodeCall, NodePlace, Order, OutputForm};
 use hk_cli_reasons::number_named;
 use hk_model::Query;
-use hk_types::{Key, Table, Tag, Time};
+use hk_types::{Config, Key, Table, Tag, Time};
 
 /// How many items a batch has by default.
 const BATCH: u64 = 4_096;
@@ -51,6 +52,13 @@ fn tag_of(matches: &ArgMatches<'_>) -> Option<Tag> {
 
 pub(crate) fn port_of(matches: &ArgMatches<'_>) -> Option<u16> {
     u16_of(matches, "port")
+}
+
+/// The log that the arguments name, where they are in their ranges.
+pub(crate) fn config_of(matches: &ArgMatches<'_>) -> Option<Config> {
+    let log = u64_of(matches, "log")?;
+    let streams = u16_of(matches, "streams")?;
+    Config::new(log, streams).ok()
 }
 
 /// The form of lines.
@@ -97,31 +105,20 @@ fn node_of<'a>(
     })
 }
 
-fn get_of(table: Table, words: &ArgMatches<'_>) -> Option<Query> {
-    let key = key_of(words, "key")?;
-    Some(Query::Get { table, key })
-}
-
 fn range_of(table: Table, words: &ArgMatches<'_>) -> Option<Query> {
     let low = key_of(words, "low")?;
     let high = key_of(words, "high")?;
     Some(Query::Range { table, low, high })
 }
 
-fn by_tag_of(table: Table, words: &ArgMatches<'_>) -> Option<Query> {
-    let tag = tag_of(words)?;
-    Some(Query::ByTag { table, tag })
-}
-
 /// The query that the words behind the time make.
 fn query_of(name: &str, words: &ArgMatches<'_>) -> Option<Query> {
     let table = table_of(words)?;
-    match name {
-        "get" => get_of(table, words),
-        "range" => range_of(table, words),
-        "tag" => by_tag_of(table, words),
-        "count" => Some(Query::Count { table }),
-        _other => None,
+    match query_named(name)? {
+        QueryForm::Get => key_of(words, "key").map(|key| Query::Get { table, key }),
+        QueryForm::Range => range_of(table, words),
+        QueryForm::ByTag => tag_of(words).map(|tag| Query::ByTag { table, tag }),
+        QueryForm::Count => Some(Query::Count { table }),
     }
 }
 
@@ -331,6 +328,8 @@ pub(crate) fn call_of<'a>(
         CommandForm::World => world_call(matches),
         CommandForm::Save => save_call(matches, named),
         CommandForm::Explain => explain_call(matches),
+        CommandForm::Serve => serve_call(matches),
+        CommandForm::Node => node::node_call(matches),
         node => node_call(node, matches, named),
     }
 }

@@ -5,25 +5,34 @@ use std::alloc::{AllocError, Global};
 /// What an address is.
 const ADDRESS: &str = "an address is HOST:PORT, as far:7420 or [::1]:7420, or unix:PATH";
 
+/// What is wrong with a word.
+#[derive(Clone, Copy)]
+pub(crate) enum WordFlaw {
+    /// It is wanted to be a number, and has more than decimal digits.
+    Digits,
+    /// That of `--node` is no address.
+    Node,
+    /// That of the environment is none.
+    Variable,
+    /// That of `--from` is neither a port nor an address.
+    Source,
+    /// This one of `--from` of a node names none, or is one too many.
+    Sources,
+    /// That of `--parts-bytes` is no number of bytes and no share of the memory.
+    Chunks,
+    /// That of `--address` is no IPv4 address.
+    Listening,
+    /// No refusal has this number or name.
+    NoRefusal,
+}
+
 /// What is wrong.
 #[derive(Clone, Copy)]
 pub(crate) enum Flaw<'a> {
+    /// A word.
+    Word(&'a str, WordFlaw),
     /// A number from which no call can be made.
     Range,
-    /// This word is wanted to be a number, and has more than decimal digits.
-    Digits(&'a str),
-    /// The word of `--node` is no address.
-    Node(&'a str),
-    /// That of the environment is none.
-    Variable(&'a str),
-    /// The word of `--from` is neither a port nor an address.
-    Source(&'a str),
-    /// This word of `--from` of a node names none, or is one too many.
-    Sources(&'a str),
-    /// The word of `--parts-bytes` is no number of bytes and no share of the memory.
-    Chunks(&'a str),
-    /// The word of `--address` is no IPv4 address.
-    Listening(&'a str),
     /// The connections of all ports are more than there are slots.
     Slots,
     /// Item frames are asked without a time.
@@ -32,8 +41,40 @@ pub(crate) enum Flaw<'a> {
     TwoTimes,
     /// The least key of a range is above the greatest.
     Backwards,
-    /// No refusal has this number or name.
-    NoRefusal(&'a str),
+    /// No command has the first word's name.
+    NoSuchCommand,
+    /// There is no command.
+    NoCommand,
+}
+
+/// What is said behind a word.
+fn words_behind(flaw: WordFlaw) -> &'static str {
+    match flaw {
+        WordFlaw::Digits => ": a number is written in decimal digits alone",
+        WordFlaw::Node => " for '--node <ADDRESS>': ",
+        WordFlaw::Variable => " of HKREP_NODE in the environment: ",
+        WordFlaw::Source => " for '--from <Q>': a port is 1 to 65535; ",
+        WordFlaw::Sources => {
+            " for '--from <NODE>': up to 8 nodes are wanted; a port is 1 to 65535; "
+        }
+        WordFlaw::Chunks => {
+            " for '--parts-bytes <BYTES>': a number of bytes is wanted, or 1% to 100% of the memory"
+        }
+        WordFlaw::Listening => {
+            " for '--address <A>': an IPv4 address is wanted, as 127.0.0.1 or 0.0.0.0"
+        }
+        WordFlaw::NoRefusal => {
+            " for '[NUMBER]': no refusal has this number or name; 'hkrep explain' lists them"
+        }
+    }
+}
+
+/// What an address is, where the word was to be one.
+fn address_behind(flaw: WordFlaw) -> &'static str {
+    match flaw {
+        WordFlaw::Node | WordFlaw::Variable | WordFlaw::Source | WordFlaw::Sources => ADDRESS,
+        _other => "",
+    }
 }
 
 /// What is wrong with the words as a whole.
@@ -47,6 +88,8 @@ fn words_of(flaw: Flaw<'_>) -> &'static str {
         }
         Flaw::TwoTimes => "the time is given twice: give TIME before the query, or --at TIME",
         Flaw::Backwards => "LOW is above HIGH: a range goes from its least key to its greatest",
+        Flaw::NoSuchCommand => "no such command",
+        Flaw::NoCommand => "a command is missing",
         _range => "a number is out of its range",
     }
 }
@@ -54,30 +97,10 @@ fn words_of(flaw: Flaw<'_>) -> &'static str {
 /// The text of the error. The only error is out of memory.
 pub(crate) fn text_of(alloc: Global, flaw: Flaw<'_>) -> Result<String, AllocError> {
     match flaw {
-        Flaw::Digits(word) => format!(in alloc;
-            "invalid value '{word}': a number is written in decimal digits alone"
-        ),
-        Flaw::Node(word) => format!(in alloc;
-            "invalid value '{word}' for '--node <ADDRESS>': {ADDRESS}"
-        ),
-        Flaw::Variable(word) => format!(in alloc;
-            "invalid value '{word}' of HKREP_NODE in the environment: {ADDRESS}"
-        ),
-        Flaw::Source(word) => format!(in alloc;
-            "invalid value '{word}' for '--from <Q>': a port is 1 to 65535; {ADDRESS}"
-        ),
-        Flaw::Sources(word) => format!(in alloc;
-            "invalid value '{word}' for '--from <NODE>': up to 8 nodes are wanted; a port is 1 to 65535; {ADDRESS}"
-        ),
-        Flaw::Chunks(word) => format!(in alloc;
-            "invalid value '{word}' for '--parts-bytes <BYTES>': a number of bytes is wanted, or 1% to 100% of the memory"
-        ),
-        Flaw::Listening(word) => format!(in alloc;
-            "invalid value '{word}' for '--address <A>': an IPv4 address is wanted, as 127.0.0.1 or 0.0.0.0"
-        ),
-        Flaw::NoRefusal(word) => format!(in alloc;
-            "invalid value '{word}' for '[NUMBER]': no refusal has this number or name; 'hkrep explain' lists them"
-        ),
-        whole => format!(in alloc; "{}", words_of(whole)),
+        Flaw::Word(word, why) => {
+            let (behind, address) = (words_behind(why), address_behind(why));
+            format!(in alloc; "invalid value '{word}'{behind}{address}")
+        }
+        whole => String::from_str(alloc, words_of(whole)),
     }
 }

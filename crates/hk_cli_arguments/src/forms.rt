@@ -1,12 +1,10 @@
-//! The commands but `serve`, and the queries.
+//! The commands and the queries.
 
-use crate::arguments::{named, plain};
-use crate::numbers::{Number, add_numbers, keep, valued};
+use crate::numbers::{Number, node_numbers, serve_numbers, serve_words, stay_numbers};
 use crate::texts;
-use clap::{Arg, ArgAction, Command};
-use std::alloc::{AllocError, Global};
+use crate::words::Word;
 
-/// A command, or a query.
+/// A command.
 #[derive(Clone, Copy)]
 pub(crate) enum CommandForm {
     At,
@@ -25,6 +23,13 @@ pub(crate) enum CommandForm {
     Prune,
     Shell,
     Explain,
+    Node,
+    Serve,
+}
+
+/// A query.
+#[derive(Clone, Copy)]
+pub(crate) enum QueryForm {
     Get,
     Range,
     ByTag,
@@ -32,7 +37,7 @@ pub(crate) enum CommandForm {
 }
 
 /// The commands, in the order of the help.
-fn all_forms() -> &'static [CommandForm] {
+pub(crate) fn all_forms() -> &'static [CommandForm] {
     &[
         CommandForm::At,
         CommandForm::Ask,
@@ -50,19 +55,60 @@ fn all_forms() -> &'static [CommandForm] {
         CommandForm::Prune,
         CommandForm::Shell,
         CommandForm::Explain,
+        CommandForm::Node,
+        CommandForm::Serve,
     ]
 }
 
-fn queries() -> &'static [CommandForm] {
+/// All queries.
+fn all_queries() -> &'static [QueryForm] {
     &[
-        CommandForm::Get,
-        CommandForm::Range,
-        CommandForm::ByTag,
-        CommandForm::Count,
+        QueryForm::Get,
+        QueryForm::Range,
+        QueryForm::ByTag,
+        QueryForm::Count,
     ]
 }
 
-/// The name of a query, or of a command that asks a node alone.
+/// The queries that a command has behind it.
+pub(crate) fn queries_of(form: CommandForm) -> &'static [QueryForm] {
+    match form {
+        CommandForm::Ask => all_queries(),
+        _other => &[],
+    }
+}
+
+/// The name of a query.
+pub(crate) fn query_name<'a>(form: QueryForm) -> &'a str {
+    match form {
+        QueryForm::Get => "get",
+        QueryForm::Range => "range",
+        QueryForm::ByTag => "tag",
+        QueryForm::Count => "count",
+    }
+}
+
+/// What a query does.
+pub(crate) fn query_about<'a>(form: QueryForm) -> &'a str {
+    match form {
+        QueryForm::Get => texts::GET_ABOUT,
+        QueryForm::Range => texts::RANGE_ABOUT,
+        QueryForm::ByTag => texts::TAG_ABOUT,
+        QueryForm::Count => texts::COUNT_ABOUT,
+    }
+}
+
+/// The numbers of a query.
+pub(crate) fn numbers_of_query(form: QueryForm) -> &'static [Number] {
+    match form {
+        QueryForm::Get => &[Number::Table, Number::Key, Number::At],
+        QueryForm::Range => &[Number::Table, Number::Low, Number::High, Number::At],
+        QueryForm::ByTag => &[Number::Table, Number::Tag, Number::At],
+        QueryForm::Count => &[Number::Table, Number::At],
+    }
+}
+
+/// The name of a command that asks or starts a node.
 fn name_of_node<'a>(form: CommandForm) -> &'a str {
     match form {
         CommandForm::Push => "push",
@@ -72,14 +118,12 @@ fn name_of_node<'a>(form: CommandForm) -> &'a str {
         CommandForm::Pull => "pull",
         CommandForm::Prune => "prune",
         CommandForm::Shell => "shell",
-        CommandForm::Get => "get",
-        CommandForm::Range => "range",
-        CommandForm::ByTag => "tag",
-        _count => "count",
+        CommandForm::Node => "node",
+        _serve => "serve",
     }
 }
 
-fn name_of<'a>(form: CommandForm) -> &'a str {
+pub(crate) fn name_of<'a>(form: CommandForm) -> &'a str {
     match form {
         CommandForm::At => "at",
         CommandForm::Ask => "ask",
@@ -94,7 +138,7 @@ fn name_of<'a>(form: CommandForm) -> &'a str {
     }
 }
 
-/// What a query, or a command that asks a node alone, does.
+/// What a command that asks or starts a node, does.
 fn about_of_node<'a>(form: CommandForm) -> &'a str {
     match form {
         CommandForm::Push => texts::PUSH_ABOUT,
@@ -104,14 +148,12 @@ fn about_of_node<'a>(form: CommandForm) -> &'a str {
         CommandForm::Pull => texts::PULL_ABOUT,
         CommandForm::Prune => texts::PRUNE_ABOUT,
         CommandForm::Shell => texts::SHELL_ABOUT,
-        CommandForm::Get => texts::GET_ABOUT,
-        CommandForm::Range => texts::RANGE_ABOUT,
-        CommandForm::ByTag => texts::TAG_ABOUT,
-        _count => texts::COUNT_ABOUT,
+        CommandForm::Node => texts::NODE_ABOUT,
+        _serve => texts::SERVE_ABOUT,
     }
 }
 
-fn about_of<'a>(form: CommandForm) -> &'a str {
+pub(crate) fn about_of<'a>(form: CommandForm) -> &'a str {
     match form {
         CommandForm::At => texts::AT_ABOUT,
         CommandForm::Ask => texts::ASK_ABOUT,
@@ -126,7 +168,7 @@ fn about_of<'a>(form: CommandForm) -> &'a str {
     }
 }
 
-/// The example of a command that asks a node alone.
+/// The example of a command that asks or starts a node.
 fn example_of_node<'a>(form: CommandForm) -> &'a str {
     match form {
         CommandForm::Push => texts::PUSH_EXAMPLE,
@@ -135,12 +177,14 @@ fn example_of_node<'a>(form: CommandForm) -> &'a str {
         CommandForm::Load => texts::LOAD_EXAMPLE,
         CommandForm::Pull => texts::PULL_EXAMPLE,
         CommandForm::Prune => texts::PRUNE_EXAMPLE,
-        _shell => texts::SHELL_EXAMPLE,
+        CommandForm::Shell => texts::SHELL_EXAMPLE,
+        CommandForm::Node => texts::NODE_EXAMPLE,
+        _serve => texts::SERVE_EXAMPLE,
     }
 }
 
 /// The example of a command.
-fn example_of<'a>(form: CommandForm) -> &'a str {
+pub(crate) fn example_of<'a>(form: CommandForm) -> &'a str {
     match form {
         CommandForm::At => texts::AT_EXAMPLE,
         CommandForm::Ask => texts::ASK_EXAMPLE,
@@ -155,18 +199,16 @@ fn example_of<'a>(form: CommandForm) -> &'a str {
     }
 }
 
-/// The numbers of a query.
-fn numbers_of_query(form: CommandForm) -> &'static [Number] {
+/// What a command does, at length, where there is more to say.
+pub(crate) fn long_about_of<'a>(form: CommandForm) -> Option<&'a str> {
     match form {
-        CommandForm::Get => &[Number::Table, Number::Key, Number::At],
-        CommandForm::Range => &[Number::Table, Number::Low, Number::High, Number::At],
-        CommandForm::ByTag => &[Number::Table, Number::Tag, Number::At],
-        CommandForm::Count => &[Number::Table, Number::At],
-        _other => &[],
+        CommandForm::Node => Some(texts::NODE_LONG_ABOUT),
+        CommandForm::Serve => Some(texts::SERVE_LONG_ABOUT),
+        _other => None,
     }
 }
 
-/// The numbers of a query, or of a command that asks a node alone.
+/// The numbers of a command that asks a node alone.
 fn numbers_of_node(form: CommandForm) -> &'static [Number] {
     match form {
         CommandForm::Push => &[
@@ -191,7 +233,7 @@ fn numbers_of_node(form: CommandForm) -> &'static [Number] {
             Number::ConnectSeconds,
             Number::ReplySeconds,
         ],
-        other => numbers_of_query(other),
+        _other => &[],
     }
 }
 
@@ -221,99 +263,87 @@ pub(crate) fn numbers_of(form: CommandForm) -> &'static [Number] {
             Number::ConnectSeconds,
             Number::OrReplySeconds,
         ],
+        CommandForm::Node => node_numbers(),
+        CommandForm::Serve => serve_numbers(),
         other => numbers_of_node(other),
     }
 }
 
-/// Whether it prints lines of JSON where that is asked for.
-fn has_json(form: CommandForm) -> bool {
-    matches!(
-        form,
-        CommandForm::At
-            | CommandForm::Ask
-            | CommandForm::Front
-            | CommandForm::Status
-            | CommandForm::Items
-            | CommandForm::Save
-    )
+/// The numbers that it accepts behind its words.
+pub(crate) fn last_numbers_of(form: CommandForm) -> &'static [Number] {
+    match form {
+        CommandForm::Serve => stay_numbers(),
+        _other => &[],
+    }
 }
 
-fn is_named<'a>(form: CommandForm, name: &'a str) -> bool {
-    let own: &'a str = name_of(form);
-    own == name
+/// All of its numbers, in the order in which a bad word is looked for.
+pub(crate) fn all_numbers_of(form: CommandForm) -> &'static [Number] {
+    match form {
+        CommandForm::Serve => serve_words(),
+        other => numbers_of(other),
+    }
 }
 
-/// The form of this name.
-fn form_named(forms: &[CommandForm], name: &str) -> Option<CommandForm> {
-    for form in forms {
-        if is_named(*form, name) {
+/// What a command that starts a node accepts beside numbers.
+fn words_of_serving(form: CommandForm) -> &'static [Word] {
+    match form {
+        CommandForm::Serve => &[
+            Word::Stay,
+            Word::Guard,
+            Word::StayQuiet,
+            Word::StayVerbose,
+            Word::StayListening,
+        ],
+        CommandForm::Node => &[
+            Word::Sources,
+            Word::Load,
+            Word::NeedData,
+            Word::NoGuard,
+            Word::PartsBytes,
+            Word::Listening,
+            Word::Quiet,
+            Word::Verbose,
+        ],
+        _other => &[],
+    }
+}
+
+/// What a command accepts beside numbers.
+pub(crate) fn words_of(form: CommandForm) -> &'static [Word] {
+    match form {
+        CommandForm::At | CommandForm::Items => &[Word::Json],
+        CommandForm::Ask | CommandForm::Front | CommandForm::Status => &[Word::Address, Word::Json],
+        CommandForm::Save => &[Word::Address, Word::Json, Word::Out],
+        CommandForm::Pull => &[Word::Address, Word::From],
+        CommandForm::Shell => &[Word::Address, Word::Text, Word::Hex],
+        CommandForm::Push | CommandForm::Feed | CommandForm::Load | CommandForm::Prune => {
+            &[Word::Address]
+        }
+        CommandForm::World => &[Word::Items],
+        CommandForm::Explain => &[Word::Refusal],
+        other => words_of_serving(other),
+    }
+}
+
+/// The command of this name.
+pub(crate) fn command_named(name: &str) -> Option<CommandForm> {
+    for form in all_forms() {
+        if name_of(*form) == name {
             return Some(*form);
         }
     }
     None
 }
 
-/// The command of this name.
-pub(crate) fn command_named(name: &str) -> Option<CommandForm> {
-    form_named(all_forms(), name)
-}
-
-/// The numbers of the query of this name.
-pub(crate) fn query_numbers(name: &str) -> &'static [Number] {
-    match form_named(queries(), name) {
-        Some(form) => numbers_of(form),
-        None => &[],
+/// The query of this name.
+pub(crate) fn query_named(name: &str) -> Option<QueryForm> {
+    for form in all_queries() {
+        if query_name(*form) == name {
+            return Some(*form);
+        }
     }
-}
-
-/// An option that is there or not.
-pub(crate) fn flag<'a>(alloc: Global, name: &'a str, help: &'a str) -> Arg<'a> {
-    Arg::new(alloc, name)
-        .long(name)
-        .help(help)
-        .action(ArgAction::SetTrue)
-}
-
-const ITEMS_HELP: &str =
-    "Also write the frames of the primary's items to this file, which is made anew";
-
-fn items_arg<'a>(alloc: Global) -> Arg<'a> {
-    valued(alloc, "items", "FILE", ITEMS_HELP).long("items")
-}
-
-const NODE_HELP: &str =
-    "The node's address, in place of --port: HOST:PORT, a name or an IP address, or unix:PATH; \
-where neither is given HKREP_NODE of the environment, else 127.0.0.1:7420";
-
-/// The address of a node.
-fn node_arg<'a>(alloc: Global) -> Result<Arg<'a>, AllocError> {
-    let arg = valued(alloc, "node", "ADDRESS", NODE_HELP).long("node");
-    arg.conflicts_with("port")
-}
-
-const FROM_HELP: &str = "The other node: its port on 127.0.0.1, or an address as that of --node";
-
-/// The place of another node.
-fn from_arg<'a>(alloc: Global) -> Arg<'a> {
-    let arg = valued(alloc, "from", "Q", FROM_HELP);
-    arg.long("from").required(true)
-}
-
-const REFUSAL_HELP: &str = "The number or the name of a refusal";
-
-const TEXT_HELP: &str = "Print bodies as text, and escape what can't be shown";
-
-fn text_flag<'a>(alloc: Global) -> Result<Arg<'a>, AllocError> {
-    flag(alloc, "text", TEXT_HELP).conflicts_with("hex")
-}
-
-/// Adds how a shell prints the bodies of rows.
-fn add_bodies<'a>(alloc: Global, args: &mut Vec<Arg<'a>>) -> Result<(), AllocError> {
-    keep(text_flag(alloc)?, args)?;
-    keep(
-        flag(alloc, "hex", "Print bodies in hexadecimal digits"),
-        args,
-    )
+    None
 }
 
 /// Whether it asks a node, alone or where no log is named.
@@ -326,122 +356,7 @@ pub(crate) fn asks_node(form: CommandForm) -> bool {
             | CommandForm::Rewrite
             | CommandForm::World
             | CommandForm::Explain
-            | CommandForm::Get
-            | CommandForm::Range
-            | CommandForm::ByTag
-            | CommandForm::Count
+            | CommandForm::Node
+            | CommandForm::Serve
     )
-}
-
-/// Adds the address of a node, where the command asks one.
-fn add_node<'a>(
-    alloc: Global,
-    form: CommandForm,
-    args: &mut Vec<Arg<'a>>,
-) -> Result<(), AllocError> {
-    if asks_node(form) {
-        return keep(node_arg(alloc)?, args);
-    }
-    Ok(())
-}
-
-const OUT_HELP: &str = "Write to this file: all of it, synced, or it stays as it was";
-
-fn out_arg<'a>(alloc: Global) -> Arg<'a> {
-    valued(alloc, "out", "FILE", OUT_HELP).long("out")
-}
-
-/// Adds what a command accepts beside numbers.
-fn add_extra<'a>(
-    alloc: Global,
-    form: CommandForm,
-    args: &mut Vec<Arg<'a>>,
-) -> Result<(), AllocError> {
-    if has_json(form) {
-        keep(flag(alloc, "json", "Print lines of JSON"), args)?;
-    }
-    match form {
-        CommandForm::World => keep(items_arg(alloc), args),
-        CommandForm::Save => keep(out_arg(alloc), args),
-        CommandForm::Pull => keep(from_arg(alloc), args),
-        CommandForm::Explain => keep(valued(alloc, "refusal", "NUMBER", REFUSAL_HELP), args),
-        CommandForm::Shell => add_bodies(alloc, args),
-        _other => Ok(()),
-    }
-}
-
-/// What a command accepts.
-fn args_of<'a>(alloc: Global, form: CommandForm) -> Result<Vec<Arg<'a>>, AllocError> {
-    let mut args = Vec::new(alloc);
-    add_numbers(alloc, numbers_of(form), &mut args)?;
-    add_node(alloc, form, &mut args)?;
-    add_extra(alloc, form, &mut args)?;
-    Ok(args)
-}
-
-/// A command without its arguments. (A function for each step with a command, since a proof of several together takes a minute.)
-fn bare_command<'a>(alloc: Global, form: CommandForm) -> Command<'a> {
-    plain(alloc, name_of(form), about_of(form), example_of(form))
-}
-
-/// The command of a form, without queries.
-fn plain_command<'a>(alloc: Global, form: CommandForm) -> Result<Command<'a>, AllocError> {
-    let args = args_of(alloc, form)?;
-    bare_command(alloc, form).args(args)
-}
-
-fn query_command<'a>(alloc: Global, query: CommandForm) -> Result<Command<'a>, AllocError> {
-    let args = args_of(alloc, query)?;
-    named(alloc, name_of(query), about_of(query)).args(args)
-}
-
-fn add_query<'a>(
-    alloc: Global,
-    query: CommandForm,
-    commands: &mut Vec<Command<'a>>,
-) -> Result<(), AllocError> {
-    keep(query_command(alloc, query)?, commands)
-}
-
-fn query_commands<'a>(alloc: Global) -> Result<Vec<Command<'a>>, AllocError> {
-    let mut commands = Vec::new(alloc);
-    for query in queries() {
-        add_query(alloc, *query, &mut commands)?;
-    }
-    Ok(commands)
-}
-
-fn with_queries<'a>(alloc: Global, command: Command<'a>) -> Result<Command<'a>, AllocError> {
-    let queries = query_commands(alloc)?;
-    command.subcommand_required(true).subcommands(queries)
-}
-
-fn ask_command<'a>(alloc: Global) -> Result<Command<'a>, AllocError> {
-    with_queries(alloc, plain_command(alloc, CommandForm::Ask)?)
-}
-
-fn form_command<'a>(alloc: Global, form: CommandForm) -> Result<Command<'a>, AllocError> {
-    if matches!(form, CommandForm::Ask) {
-        return ask_command(alloc);
-    }
-    plain_command(alloc, form)
-}
-
-fn add_form<'a>(
-    alloc: Global,
-    form: CommandForm,
-    commands: &mut Vec<Command<'a>>,
-) -> Result<(), AllocError> {
-    keep(form_command(alloc, form)?, commands)
-}
-
-/// Adds the commands of all forms.
-pub(crate) fn add_forms<'a>(
-    alloc: Global,
-    commands: &mut Vec<Command<'a>>,
-) -> Result<(), AllocError> {
-    for form in all_forms() {
-        add_form(alloc, *form, commands)?;
-    }
-    Ok(())
 }

@@ -1,8 +1,10 @@
 //! The command line of `hkrep`, and its help.
 #![tactic(auto)]
 
+mod argument;
 mod arguments;
 mod calls;
+mod command;
 mod flaw;
 mod forms;
 mod node;
@@ -10,5 +12,6 @@ mod numbers;
 mod places;
 mod stay;
 mod texts;
+mod words;
 
 pub use arguments::read_call;

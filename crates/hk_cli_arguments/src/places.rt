@@ -1,7 +1,7 @@
 //! Where the node is that a command asks.
 
 use crate::calls::port_of;
-use crate::flaw::Flaw;
+use crate::flaw::{Flaw, WordFlaw};
 use crate::forms::{CommandForm, asks_node};
 use clap::ArgMatches;
 use hk_cli_calls::NodePlace;
@@ -79,37 +79,37 @@ pub(crate) fn is_alone(matches: &ArgMatches<'_>) -> bool {
     matches.get_str("log").is_some()
 }
 
-/// What is wrong with the other node of `pull`.
-fn source_flaw<'a>(matches: &ArgMatches<'a>) -> Option<Flaw<'a>> {
-    let word = matches.get_str("from")?;
-    match port_or_place(word) {
-        Some(_place) => None,
-        None => Some(Flaw::Source(word)),
+/// Whether the other node of `pull` has a place.
+fn source_checked<'a>(matches: &ArgMatches<'a>) -> Result<(), Flaw<'a>> {
+    match matches.get_str("from") {
+        Some(word) if port_or_place(word).is_none() => Err(Flaw::Word(word, WordFlaw::Source)),
+        _place => Ok(()),
     }
 }
 
-/// What is wrong with what names the node: the option's word, or that of the environment.
-fn node_flaw<'a>(matches: &ArgMatches<'a>, named: Option<&'a str>) -> Option<Flaw<'a>> {
-    match place_of(matches, named) {
-        Some(_place) => None,
-        None => match matches.get_str("node") {
-            Some(word) => Some(Flaw::Node(word)),
-            None => Some(Flaw::Variable(named?)),
-        },
+/// Whether what names the node is a place: the option's word, or that of the environment.
+fn node_checked<'a>(matches: &ArgMatches<'a>, named: Option<&'a str>) -> Result<(), Flaw<'a>> {
+    if place_of(matches, named).is_some() {
+        return Ok(());
+    }
+    match matches.get_str("node") {
+        Some(word) => Err(Flaw::Word(word, WordFlaw::Node)),
+        None => Err(Flaw::Word(named.unwrap_or(""), WordFlaw::Variable)),
     }
 }
 
-/// What is wrong with the places of a command that asks a node.
-pub(crate) fn place_flaw<'a>(
+/// Whether a command that asks a node has its places.
+pub(crate) fn place_checked<'a>(
     form: CommandForm,
     matches: &ArgMatches<'a>,
     named: Option<&'a str>,
-) -> Option<Flaw<'a>> {
+) -> Result<(), Flaw<'a>> {
     if !asks_node(form) || is_alone(matches) {
-        return None;
+        return Ok(());
     }
-    match node_flaw(matches, named) {
-        None if matches!(form, CommandForm::Pull) => source_flaw(matches),
-        other => other,
+    node_checked(matches, named)?;
+    match form {
+        CommandForm::Pull => source_checked(matches),
+        _other => Ok(()),
     }
 }

@@ -1,82 +1,17 @@
-//! The options of `serve` for a long-running node, and for one that tests each change.
+//! The calls of `serve`: for a number of connections, and of a long-running node.
 
-use crate::arguments::{config_of, links_of, parts_bytes_of};
-use crate::calls::{has_flag, port_of, u16_of, u64_of};
-use crate::flaw::Flaw;
-use crate::forms::flag;
-use crate::numbers::{add_numbers, keep, stay_numbers, valued};
-use clap::{Arg, ArgMatches};
+use crate::calls::{config_of, has_flag, is_second, port_of, u16_of, u64_of};
+use crate::flaw::{Flaw, WordFlaw};
+use clap::ArgMatches;
 use hk_cli_calls::{Call, Level, OtherPort, PartsLimit, Stay};
 use hk_types::Links;
-use std::alloc::{AllocError, Global};
 use std::net::Ipv4Addr;
-
-const STAY_HELP: &str = "Serve connections without an end, so many at once";
-
-pub(crate) const QUIET_HELP: &str = "Print faults alone to standard error, and not each connection";
-
-pub(crate) const VERBOSE_HELP: &str = "Print each change that takes effect to standard error, too";
-
-const GUARD_HELP: &str =
-    "Test each change first: one that conflicts is refused 23, and changes nothing";
-
-pub(crate) const ADDRESS_HELP: &str =
-    "Where the ports are opened, in place of 127.0.0.1. Nothing is encrypted or authenticated";
 
 /// How many connections a node serves at once at most, of all kinds.
 const MOST_LINKS: u16 = 64;
 
-fn quiet_flag<'a>(alloc: Global) -> Result<Arg<'a>, AllocError> {
-    flag(alloc, "quiet", QUIET_HELP)
-        .short('q')
-        .requires_arg("stay")
-}
-
-fn verbose_flag<'a>(alloc: Global) -> Result<Arg<'a>, AllocError> {
-    flag(alloc, "verbose", VERBOSE_HELP)
-        .short('v')
-        .requires_arg("stay")?
-        .conflicts_with("quiet")
-}
-
-fn address_arg<'a>(alloc: Global) -> Result<Arg<'a>, AllocError> {
-    let arg = valued(alloc, "address", "A", ADDRESS_HELP);
-    arg.long("address").requires_arg("stay")
-}
-
-/// Adds an option that is there or not.
-fn add_flag<'a>(
-    alloc: Global,
-    name: &'a str,
-    help: &'a str,
-    args: &mut Vec<Arg<'a>>,
-) -> Result<(), AllocError> {
-    let flag = flag(alloc, name, help);
-    keep(flag, args)
-}
-
-fn add_quiet<'a>(alloc: Global, args: &mut Vec<Arg<'a>>) -> Result<(), AllocError> {
-    keep(quiet_flag(alloc)?, args)
-}
-
-fn add_verbose<'a>(alloc: Global, args: &mut Vec<Arg<'a>>) -> Result<(), AllocError> {
-    keep(verbose_flag(alloc)?, args)
-}
-
-fn add_address<'a>(alloc: Global, args: &mut Vec<Arg<'a>>) -> Result<(), AllocError> {
-    keep(address_arg(alloc)?, args)
-}
-
-/// Adds the options of a long-running node, and of one that tests each change. (A function for each of them, since a proof of
-/// all together takes minutes.)
-pub(crate) fn add_stay<'a>(alloc: Global, args: &mut Vec<Arg<'a>>) -> Result<(), AllocError> {
-    add_flag(alloc, "stay", STAY_HELP, args)?;
-    add_flag(alloc, "guard", GUARD_HELP, args)?;
-    add_quiet(alloc, args)?;
-    add_verbose(alloc, args)?;
-    add_address(alloc, args)?;
-    add_numbers(alloc, stay_numbers(), args)
-}
+/// How many bytes all connections keep for messages of version 2 by default.
+const PARTS_BYTES: u64 = 1_073_741_824;
 
 /// How many connections this option asks for, 0 without it.
 pub(crate) fn count_of(matches: &ArgMatches<'_>, name: &str) -> u16 {
@@ -117,21 +52,14 @@ pub(crate) fn address_of(matches: &ArgMatches<'_>) -> Option<Ipv4Addr> {
     }
 }
 
-/// The word of the address, where it names none.
-fn bad_address<'a>(matches: &ArgMatches<'a>) -> Option<&'a str> {
-    let word = matches.get_str("address")?;
-    match address_named(word) {
-        Some(_address) => None,
-        None => Some(word),
-    }
-}
-
-/// What is wrong with the options of a long-running node, each of which is in its range.
-pub(crate) fn stay_flaw<'a>(matches: &ArgMatches<'a>) -> Option<Flaw<'a>> {
-    match bad_address(matches) {
-        Some(word) => Some(Flaw::Listening(word)),
-        None if is_seated(matches) => None,
-        None => Some(Flaw::Slots),
+/// Whether the options of a long-running node are ones, each of which is in its range.
+pub(crate) fn stay_checked<'a>(matches: &ArgMatches<'a>) -> Result<(), Flaw<'a>> {
+    match matches.get_str("address") {
+        Some(word) if address_named(word).is_none() => {
+            Err(Flaw::Word(word, WordFlaw::Listening))
+        }
+        _address if is_seated(matches) => Ok(()),
+        _address => Err(Flaw::Slots),
     }
 }
 
@@ -146,8 +74,21 @@ pub(crate) fn level_of(matches: &ArgMatches<'_>) -> Level {
     }
 }
 
+/// How many bytes all connections keep for messages of version 2, where these are answered.
+fn parts_bytes_of(matches: &ArgMatches<'_>) -> Option<u64> {
+    if !is_second(matches) {
+        return None;
+    }
+    Some(u64_of(matches, "parts-bytes").unwrap_or(PARTS_BYTES))
+}
+
+/// How many connections are served.
+fn links_of(matches: &ArgMatches<'_>) -> Option<Links> {
+    Links::new(u16_of(matches, "links")?)
+}
+
 /// The call that `serve --stay` makes, where each argument is in its range and they have no flaw.
-pub(crate) fn stay_call<'a>(matches: &ArgMatches<'a>) -> Option<Call<'a>> {
+fn stay_call<'a>(matches: &ArgMatches<'a>) -> Option<Call<'a>> {
     let config = config_of(matches)?;
     let stay = Stay {
         address: address_of(matches)?,
@@ -163,4 +104,18 @@ pub(crate) fn stay_call<'a>(matches: &ArgMatches<'a>) -> Option<Call<'a>> {
         start: None,
     };
     Some(Call::Stay(config, stay))
+}
+
+/// The call that `serve` makes, where each argument is in its range.
+pub(crate) fn serve_call<'a>(matches: &ArgMatches<'a>) -> Option<Call<'a>> {
+    if has_flag(matches, "stay") {
+        return stay_call(matches);
+    }
+    Some(Call::Serve {
+        config: config_of(matches)?,
+        port: port_of(matches)?,
+        links: links_of(matches)?,
+        is_guarded: has_flag(matches, "guard"),
+        parts_bytes: parts_bytes_of(matches),
+    })
 }

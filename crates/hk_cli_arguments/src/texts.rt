@@ -187,3 +187,72 @@ prints the rows of table 1 with a key from 0 to 9 at the resolved time as a tabl
   front | status | help | quit
 In a table a body that is text is shown as that, another one as \\x and hexadecimal digits. On a terminal each line \
 has a prompt, and 'rlwrap hkrep shell' edits lines. A refusal is printed, and the next line goes on.";
+
+pub(crate) const ABOUT: &str = "Read replicas of an in-memory multiversion primary";
+
+pub(crate) const LONG_ABOUT: &str = "Read replicas of an in-memory multiversion primary.
+
+A primary writes a log in 1 to 64 streams of item frames: entries, which say what a transaction \
+put in and ended, and marks, which say that a stream is complete up to a time. A replica applies them in \
+any order, late or twice, and answers at a past time with exactly the primary's rows of \
+that time, or with a numbered refusal.
+
+Answers and refusals go to standard output, and why something was refused, in words, to standard \
+error; 'hkrep explain' lists all refusals. The status is 0; 1 where a line 'refused', 'line N: bad \
+command' or 'ended N' with N above 0 was printed, where 'frames', 'rewrite' or 'save' was stopped, \
+which only standard error shows, or where a write failed; 2 for a bad command line.";
+
+pub(crate) const SERVE_ABOUT: &str =
+    "Start a node, and serve connections to it on a port of 127.0.0.1; with --stay without an end";
+
+pub(crate) const SERVE_LONG_ABOUT: &str =
+    "Start a node, and serve connections to it on a port of 127.0.0.1.
+
+It serves --links connections, side by side, and ends when all have ended. It prints \
+'refused 93' where the port can't be listened to. docs/PROTOCOL.md describes the messages of a connection.
+
+With --guard a change that conflicts with the node is refused 23 and changes nothing, where else the node \
+fails and has to be rebuilt; docs/SECURITY.md has what it doesn't refuse.
+
+With --messages 2 it answers messages of version 2 too: full snapshots in chunks, pages of rows, the latest answer, \
+and pins, which end with their connection. What the connections keep for these is at most --parts-bytes, \
+all together; what would be more is refused 46.
+
+With --stay it serves connections without an end, --links of them at once: a further one waits until one ends. \
+It prints 'ended' and a number as each connection ends. --read-port opens a second port, whose connections \
+may ask and not change, --feed-port a further one, whose connections may send items and ask. \
+NOTHING IS ENCRYPTED OR AUTHENTICATED: whoever reaches the port may write. Give \
+--address only behind a proxy that does both (docs/OPERATING.md).";
+
+pub(crate) const SERVE_EXAMPLE: &str = "Example, a node and a feeder:
+  hkrep serve --log 7 --streams 1 --port 7426 --links 1 &
+  hkrep push --port 7426 < examples/links/first.bin
+The node prints 'listening 7426' once connections can be opened. The feeder sends two items and asks \
+for a row: it prints 'done 2' and '9 41'. When the connections have ended, the node prints 'ended 0' for \
+each, or the number of what ended it.
+
+A long-running node, with a port of its own for readers:
+  hkrep serve --stay --log 7 --streams 1 --port 7426 --links 40 --read-port 7427 --read-links 20 &";
+
+pub(crate) const NODE_ABOUT: &str =
+    "Start a node that runs until it is ended, on port 7420 of 127.0.0.1, with what another node or a file has";
+
+pub(crate) const NODE_LONG_ABOUT: &str =
+    "Start a node that runs until it is ended, on port 7420 of 127.0.0.1, with what another node or a file has.
+
+It is guarded: a change that conflicts is refused 23 and changes nothing. It answers messages of both versions. Before it listens it takes \
+what a file of 'hkrep save --out' has, and then what the first node that answers has above that. Each is taken whole or not at all, and \
+standard error says what came of it; where neither can be had it begins empty, or ends with status 1 where --need-data is given.
+
+Standard output has one line, of what it opened. Standard error has a line for each connection that opens or ends, and for each change \
+that is refused: the time in UTC, info, warn or error, the peer's address, and what happened. No connection waits where nobody reads \
+these lines: what finds no room is dropped, and counted.
+
+NOTHING IS ENCRYPTED OR AUTHENTICATED: whoever reaches the port may write (docs/SECURITY.md).";
+
+pub(crate) const NODE_EXAMPLE: &str = "Example, a node, and a file with what it has:
+  hkrep node --log 7 --streams 1 --port 7426 &
+  hkrep feed --port 7426 < examples/first.bin
+  hkrep save --port 7426 --out whole.bin
+A node that begins with what that had, and what another node has above it:
+  hkrep node --log 7 --streams 1 --port 7426 --load whole.bin --from 7427 &";

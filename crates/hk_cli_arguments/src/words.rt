@@ -1,0 +1,178 @@
+//! The arguments that are no numbers.
+
+use crate::argument::{Description, Need, Range, Shape};
+
+/// An argument that is no number. Those of a name that begins with `Stay` are of `serve`, and but for `Stay` itself need `--stay`.
+#[derive(Clone, Copy)]
+pub(crate) enum Word {
+    Json,
+    Address,
+    Items,
+    Out,
+    From,
+    Refusal,
+    Text,
+    Hex,
+    Stay,
+    Guard,
+    StayQuiet,
+    StayVerbose,
+    StayListening,
+    Sources,
+    Load,
+    NeedData,
+    NoGuard,
+    PartsBytes,
+    Listening,
+    Quiet,
+    Verbose,
+}
+
+/// The name that an option of a node that is started is read back by.
+fn name_of_serving(word: Word) -> &'static str {
+    match word {
+        Word::Stay => "stay",
+        Word::Guard => "guard",
+        Word::Quiet | Word::StayQuiet => "quiet",
+        Word::Verbose | Word::StayVerbose => "verbose",
+        Word::Load => "load",
+        Word::NeedData => "need-data",
+        Word::NoGuard => "no-guard",
+        Word::PartsBytes => "parts-bytes",
+        _listening => "address",
+    }
+}
+
+/// The name that it is read back by.
+fn name_of(word: Word) -> &'static str {
+    match word {
+        Word::Json => "json",
+        Word::Address => "node",
+        Word::Items => "items",
+        Word::Out => "out",
+        Word::From | Word::Sources => "from",
+        Word::Refusal => "refusal",
+        Word::Text => "text",
+        Word::Hex => "hex",
+        other => name_of_serving(other),
+    }
+}
+
+/// The placeholder of its word in the help, where it has one.
+fn value_of(word: Word) -> &'static str {
+    match word {
+        Word::Address => "ADDRESS",
+        Word::Items | Word::Out | Word::Load => "FILE",
+        Word::From => "Q",
+        Word::Refusal => "NUMBER",
+        Word::Sources => "NODE",
+        Word::PartsBytes => "BYTES",
+        Word::Listening | Word::StayListening => "A",
+        _flag => "",
+    }
+}
+
+/// The help of an option of `node`.
+fn help_of_node(word: Word) -> &'static str {
+    match word {
+        Word::Sources => {
+            "Begin with what this node has: PORT, HOST:PORT or unix:PATH. More than one, also with commas: the first that answers"
+        }
+        Word::Load => {
+            "Begin with what this file has, which 'hkrep save' wrote, before what --from has above it"
+        }
+        Word::NeedData => "End with status 1 where there is neither a file nor another node",
+        Word::NoGuard => "Don't test changes first: a conflict makes the node fail",
+        _parts => {
+            "How many bytes all connections keep for snapshots in chunks at most: N, or P% of the memory; 25% where it \
+isn't given, and at least 268435456"
+        }
+    }
+}
+
+/// The help of an option of a node that is started.
+fn help_of_serving(word: Word) -> &'static str {
+    match word {
+        Word::Stay => "Serve connections without an end, so many at once",
+        Word::Guard => {
+            "Test each change first: one that conflicts is refused 23, and changes nothing"
+        }
+        Word::Quiet | Word::StayQuiet => {
+            "Print faults alone to standard error, and not each connection"
+        }
+        Word::Verbose | Word::StayVerbose => {
+            "Print each change that takes effect to standard error, too"
+        }
+        Word::Listening | Word::StayListening => {
+            "Where the ports are opened, in place of 127.0.0.1. Nothing is encrypted or authenticated"
+        }
+        other => help_of_node(other),
+    }
+}
+
+/// The help of it.
+fn help_of(word: Word) -> &'static str {
+    match word {
+        Word::Json => "Print lines of JSON",
+        Word::Address => {
+            "The node's address, in place of --port: HOST:PORT, a name or an IP address, or unix:PATH; \
+where neither is given HKREP_NODE of the environment, else 127.0.0.1:7420"
+        }
+        Word::Items => {
+            "Also write the frames of the primary's items to this file, which is made anew"
+        }
+        Word::Out => "Write to this file: all of it, synced, or it stays as it was",
+        Word::From => "The other node: its port on 127.0.0.1, or an address as that of --node",
+        Word::Refusal => "The number or the name of a refusal",
+        Word::Text => "Print bodies as text, and escape what can't be shown",
+        Word::Hex => "Print bodies in hexadecimal digits",
+        other => help_of_serving(other),
+    }
+}
+
+/// How it is written.
+fn shape_of(word: Word) -> Shape {
+    match word {
+        Word::Refusal => Shape::Position,
+        Word::Address | Word::Items | Word::Out | Word::From => Shape::Option,
+        Word::Load | Word::PartsBytes | Word::Listening | Word::StayListening => Shape::Option,
+        Word::Sources => Shape::Options,
+        Word::Quiet | Word::StayQuiet => Shape::Letter('q'),
+        Word::Verbose | Word::StayVerbose => Shape::Letter('v'),
+        _flag => Shape::Flag,
+    }
+}
+
+/// What its word may be, where it has one.
+fn range_of(shape: Shape) -> Range {
+    match shape {
+        Shape::Position | Shape::Option | Shape::Options => Range::Text,
+        Shape::Flag | Shape::Letter(_) => Range::Nothing,
+    }
+}
+
+/// When it has to be given.
+fn need_of(word: Word) -> Need {
+    match word {
+        Word::From => Need::always(),
+        Word::Address => Need::without(&["port"]),
+        Word::Text => Need::without(&["hex"]),
+        Word::Verbose => Need::without(&["quiet"]),
+        Word::StayVerbose => Need::with(&["stay"]).and_without(&["quiet"]),
+        Word::StayQuiet | Word::StayListening => Need::with(&["stay"]),
+        _other => Need::never(),
+    }
+}
+
+/// All columns of a word.
+pub(crate) fn description_of(word: Word) -> Description {
+    let shape = shape_of(word);
+    Description {
+        name: name_of(word),
+        value: value_of(word),
+        help: help_of(word),
+        shape,
+        range: range_of(shape),
+        need: need_of(word),
+    }
+}
