@@ -4,11 +4,11 @@ from __future__ import annotations
 import argparse
 import errno
 import os
-import select
+import selectors
 import socket
 import ssl
 import time
-from typing import Iterable, List, NamedTuple, Optional, Union
+from typing import Iterable, List, NamedTuple, Optional, Tuple, Union
 
 from .address import TLS, Place
 from .errors import Fault, LinkBroken, NotANode, TimeLimit
@@ -158,6 +158,17 @@ def wrapped(plain: socket.socket, security: ssl.SSLContext, host: str) -> socket
         raise
 
 
+EITHER = selectors.EVENT_READ | selectors.EVENT_WRITE
+
+
+def moved(selector: selectors.BaseSelector, limit: Optional[float]) -> Tuple[bool, bool]:
+    """Whether the one socket of a selector can be read from and written to, as soon as it is one of them. TimeoutError:
+    it is neither within so many seconds."""
+    for _, events in selector.select(limit):
+        return bool(events & selectors.EVENT_READ), bool(events & selectors.EVENT_WRITE)
+    raise socket.timeout
+
+
 class Link:
     """One connection, over TLS where a context is given: then the node's side has to have a certificate for the host.
     After any error it is closed; it isn't opened again."""
@@ -182,6 +193,11 @@ class Link:
 
     def close(self) -> None:
         self.socket.close()
+
+    def set_limit(self, limit: Optional[float]) -> None:
+        """The most seconds of each wait from here on."""
+        self.limit = limit
+        self.socket.settimeout(limit)
 
     def exchange(self, data: bytes, count: int, found: List[bytes]) -> None:
         """Sends requests and adds the rests of so many replies to the list as they come. The limit is for each wait."""
@@ -209,19 +225,21 @@ class Link:
             self.socket.sendall(data)
             return
         rest = memoryview(data)
-        if isinstance(self.socket, ssl.SSLSocket):
-            self._send_secured(rest, count, found)
-            return
+        # select.select() fails for a file descriptor of 1,024 or more; what the system has beside it doesn't
+        with selectors.DefaultSelector() as selector:
+            selector.register(self.socket, EITHER)
+            send = self._send_secured if isinstance(self.socket, ssl.SSLSocket) else self._send_plain
+            send(selector, rest, count, found)
+
+    def _send_plain(self, selector: selectors.BaseSelector, rest: memoryview, count: int, found: List[bytes]) -> None:
         while rest:
-            readable, writable, _ = select.select([self.socket], [self.socket], [], self.limit)
-            if not readable and not writable:
-                raise socket.timeout
-            if readable:
+            is_readable, is_writable = moved(selector, self.limit)
+            if is_readable:
                 self._cut(self._received(), count, found)
-            if writable:
+            if is_writable:
                 rest = rest[self.socket.send(rest[:65_536]) :]
 
-    def _send_secured(self, rest: memoryview, count: int, found: List[bytes]) -> None:
+    def _send_secured(self, selector: selectors.BaseSelector, rest: memoryview, count: int, found: List[bytes]) -> None:
         """The same over TLS, where there may be something to read that is no reply."""
         self.socket.settimeout(0.0)
         while rest:
@@ -234,8 +252,8 @@ class Link:
             try:
                 rest = rest[self.socket.send(rest[:16_384]) :]
             except (ssl.SSLWantReadError, ssl.SSLWantWriteError):
-                if not has_moved and not any(select.select([self.socket], [self.socket], [], self.limit)):
-                    raise socket.timeout from None
+                if not has_moved:
+                    moved(selector, self.limit)
         self.socket.settimeout(self.limit)
 
     def _refused_by_tls(self) -> Optional[ssl.SSLError]:
