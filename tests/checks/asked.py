@@ -549,12 +549,31 @@ def how_many_were_new():
     report("how many items were new", differ(pairs))
 
 
+def waited_fronts():
+    """`front --wait` prints the front once its time can be read, by several requests where that is late; a node that reads version 1 alone is told as one."""
+    with Staying(4, "--messages", "2") as node, Node(1) as plain:
+        waiting = [begun("front", "--port", node.port, "--wait", 5, *more) for more in ([], ["--json"], ["--reply-seconds", 1])]
+        time.sleep(1.2)
+        pairs = [("they wait", [it.poll() for it in waiting], [None] * 3)]
+        with node.link() as link:
+            pairs += [("they are told", (link.ask(say.items(say.E1)), link.ask(say.items(say.mark(1, 1, 5)))), (("done", 2), ("done", 3)))]
+        pairs += [("they end", [(*it.communicate(timeout=LIMIT), it.returncode) for it in waiting],
+                   [("front horizon 0 readable 5\n", "", 0), ('{"front":{"horizon":"0","readable":"5"}}\n', "", 0), ("front horizon 0 readable 5\n", "", 0)]),
+                  ("it can be read already", run("front", "--port", node.port, "--wait", 1), (b"front horizon 0 readable 5\n", 0, ""))]
+        out, status, told = run("front", "--port", plain.port, "--wait", 5)
+        pairs += [("version 1 alone", (out, status, "--wait needs version 2" in told), (b"refused 3\n", 1, True))]
+    for words in (["--log", "7", "--streams", "1", "--wait", "5"], ["--wait", "4611686018427387905"], ["--wait"]):
+        out, status, _ = run("front", *words)
+        pairs.append((" ".join(words), (out, status), (b"", 2)))
+    report("a front that is waited for", differ(pairs))
+
+
 def main():
     if not is_built(PROGRAM):
         return ended()
     start = time.monotonic()
     for check in (there_and_back, bad_lines, json_answers, over_a_link, shell, shown_bodies, one_grammar, connected_later, silent_nodes, told_apart, addressed, named_around,
-                  no_nodes, other_logs, misplaced, terminals, words_that_mislead, how_many_were_new):
+                  no_nodes, other_logs, misplaced, terminals, words_that_mislead, how_many_were_new, waited_fronts):
         if not sys.argv[1:] or check.__name__ in sys.argv[1:]:
             guarded(check)
     print(f"asked: {time.monotonic() - start:.1f} s")

@@ -21,7 +21,7 @@ from client import Node
 from messages import E1, E2, E3
 from packaged import PACKAGE
 from python_servers import Peer
-from staying import PROGRAM, Staying
+from staying import PROGRAM, Staying, is_silent
 from vector_values import is_of_version_2, vectors
 
 LIMIT = 30
@@ -32,7 +32,7 @@ ALL = say.items(E1, E2, E3, say.mark(1, 3, 3))
 FACT_BYTES = (19 + 7 + 8) + (19 + 7) + (19 + 7) + 3 * 128
 REQUESTS = {"Streams": say.status(), "AskLatest": say.latest(say.get(1, 5)), "Page": say.page(3, 1, 0, 9, 1), "Whole": say.whole(0, 0), "More": say.more(),
             "AddPart": say.add([]), "JoinParts": say.join_parts(), "MergeParts": say.merge_parts(), "Hold": say.hold(1), "Release": say.release(1),
-            "Feed": say.feed(E1)}
+            "Feed": say.feed(E1), "Await": say.wait(1, 0)}
 
 
 def least_hold(link, wanted):
@@ -64,13 +64,13 @@ def without_it():
 
 def links_that_only_read():
     """On a port for those who only read, what changes or holds has no meaning."""
-    reading = ("Streams", "AskLatest", "Page", "Whole", "More")
+    reading = ("Streams", "AskLatest", "Page", "Whole", "More", "Await")
     with Staying(1, *LATER, reading=1) as node:
         with node.link() as link:
             link.ask(ALL)
         pairs = [("a link ends", node.line(), "ended 0")]
         with node.link(node.read_port) as link:
-            pairs += [(name, link.ask(REQUESTS[name])[0], kind) for name, kind in zip(reading, ("streams", "latest", "page", "part", "part"))]
+            pairs += [(name, link.ask(REQUESTS[name])[0], kind) for name, kind in zip(reading, ("streams", "latest", "page", "part", "part", "ready"))]
         pairs.append(("it ends", node.line(), "ended 0"))
         for name in [it for it in REQUESTS if it not in reading]:
             with node.link(node.read_port) as link:
@@ -212,9 +212,48 @@ def damage():
             link.ask(ALL)
             pairs += [("parts that contradict", (link.ask(say.add(wrong)), link.ask(say.merge_parts(**head))), (("added", 1), ("refused", told, 0, 0))),
                       ("whether it is damaged", link.ask(say.status())[1].damaged, after)]
-            for name in ("AskLatest", "Page", "Whole", "MergeParts", "Hold", "Feed"):
+            for name in ("AskLatest", "Page", "Whole", "MergeParts", "Hold", "Feed", "Await"):
                 pairs.append((name, link.ask(REQUESTS[name])[:2] == ("refused", 41), after))
     report("damaged and guarded nodes in version 2", differ(pairs))
+
+
+# longer than any check takes
+LONG = 600_000
+
+
+def told_at_once(link, request):
+    """The reply to a request, and whether it came at once."""
+    start = time.monotonic()
+    return link.ask(request), time.monotonic() - start < LIMIT / 2
+
+
+def waits():
+    """A wait ends once its time can be read, or after its milliseconds; what is behind it waits, and nobody else does. What is ready is written
+    before. Nodes that don't stay, and those that failed, answer at once."""
+    entry, marked = say.items(E1), say.items(say.mark(1, 1, 5))
+    with Node(1, words=LATER) as node, node.link() as link:
+        pairs = [("without --stay", told_at_once(link, say.wait(9, LONG)), (("ready", 0, 0), True))]
+    with contextlib.ExitStack() as stack:
+        node = stack.enter_context(Staying(3, *LATER, reading=8, feeding=1))
+        waiting, other, late = (stack.enter_context(node.link()) for _ in range(3))
+        readers = [stack.enter_context(node.link(node.read_port)) for _ in range(8)]
+        feeder = stack.enter_context(node.link(node.feed_port))
+        waiting.send(say.status() + say.wait(5, LONG) + say.front())
+        pairs += [("what is ready is written", waiting.reply()[0], "streams"), ("it waits", is_silent(waiting), True)]
+        for link in readers:
+            link.send(say.wait(4, LONG))
+        start = time.monotonic()
+        pairs += [("its milliseconds", other.ask(say.wait(5, 300)), ("ready", 0, 0)), ("are waited", time.monotonic() - start >= 0.3, True),
+                  ("an entry", feeder.ask(entry), ("done", 2)), ("moves no mark", [is_silent(it) for it in (waiting, readers[0])], [True, True]),
+                  ("a mark does", feeder.ask(marked), ("done", 3)),
+                  ("all are woken", [it.reply() for it in (waiting, *readers)], [("ready", 0, 5)] * 9), ("what was behind it", waiting.reply(), ("front", 0, 5)),
+                  ("it can be read already", told_at_once(other, say.wait(5, LONG)), (("ready", 0, 5), True)),
+                  ("also by a link that comes later", told_at_once(late, say.wait(1, LONG)), (("ready", 0, 5), True))]
+        waiting.send(say.wait(9, LONG))
+        pairs += [("it waits again", is_silent(waiting), True),
+                  ("a conflict", other.ask(say.items(say.entry(1, 1, [(1, 5, 9, b"other")])))[:2], ("refused", 23)), ("fails all waits", waiting.reply()[:2], ("refused", 41)),
+                  ("and each later one", [(told[:2], soon) for told, soon in [told_at_once(late, say.wait(9, LONG))]], [(("refused", 41), True)])]
+    report("waits: over, woken, behind others, at each port, and of nodes that fail", differ(pairs))
 
 
 def session_problems(it, words):
@@ -487,7 +526,7 @@ def commands():
     report("pull, save and load in parts", differ(pairs))
 
 
-CHECKS = (sessions, faults, without_it, links_that_only_read, holds, a_full_link, a_limit_for_all, many_at_once, damage, python_node, python_feeds, commands)
+CHECKS = (sessions, faults, without_it, links_that_only_read, holds, a_full_link, a_limit_for_all, many_at_once, damage, waits, python_node, python_feeds, commands)
 
 
 def main():

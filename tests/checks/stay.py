@@ -18,7 +18,7 @@ sys.path.append(str(pathlib.Path(__file__).resolve().parents[1] / "lib"))
 import messages as say
 from checks import differ, ended, free_port, guarded, is_built, report
 from messages import E1, TOO_LONG
-from staying import PROGRAM, OwnNode, Staying, said
+from staying import PROGRAM, OwnNode, Staying, is_silent, said
 
 PUSHED = say.items(E1, say.mark(1, 1, 1))
 GET = say.ask(1, say.get(1, 5))
@@ -29,17 +29,6 @@ BAD_PEERS = 2_500
 MEASURED = 500
 # How much it may grow beside these: nothing of note; the program of `make quick`, whose checks of memory keep what was freed for a while, more.
 MOST_GROWN = {False: 1 << 20, True: 4 << 20}
-
-
-def is_silent(link, seconds=0.3):
-    """Whether nothing comes for a while."""
-    link.socket.settimeout(seconds)
-    try:
-        return link.socket.recv(1) is None
-    except TimeoutError:
-        return True
-    finally:
-        link.socket.settimeout(30)
 
 
 def places_are_given_back():

@@ -247,6 +247,10 @@ def fields_of_whole(base, part_bytes):
     return later(51, [("base", u64(base)), ("bytes of a part", u32(part_bytes))])
 
 
+def fields_of_await(time, milliseconds):
+    return later(59, [("time", u64(time)), ("milliseconds", u32(milliseconds))])
+
+
 def fields_of_told(horizon=0, readable=0, operations=1, hold=None, streams=((0, 0, 0, 0),), damaged=0, log=7):
     """streams: (prefix, closed, how many extra numbers, how many waiting marks)"""
     fields = [("log", u64(log)), ("horizon", u64(horizon)), ("readable", u64(readable)), ("damaged", u8(damaged)), ("operations", u64(operations)),
@@ -279,6 +283,10 @@ def fields_of_feed(frames):
 
 def fields_of_fed(operations, new):
     return later(73, [("operations", u64(operations)), ("new items", u64(new))])
+
+
+def fields_of_ready(horizon, readable):
+    return later(74, [("horizon", u64(horizon)), ("readable", u64(readable))])
 
 
 def fields_of_later_refused(number, first=0, second=0):

@@ -165,6 +165,10 @@ def feed(*frames):
     return later(vadungsil.later.Feed(frames))
 
 
+def wait(time, milliseconds):
+    return later(vadungsil.later.Await(time, milliseconds))
+
+
 # ---- replies
 
 def done(ops):
@@ -203,6 +207,8 @@ def read_later(it):
         return "held", it.number, it.time
     if isinstance(it, later_.Added):
         return "added", it.count
+    if isinstance(it, later_.Ready):
+        return "ready", it.horizon, it.readable
     if isinstance(it, later_.Part):
         return "part", known_of(it.facts), it.left
     if isinstance(it, later_.LastPart):

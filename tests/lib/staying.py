@@ -17,6 +17,17 @@ def said(pipe):
     return (line for line in pipe if not line.startswith("unproved: "))
 
 
+def is_silent(link, seconds=0.3):
+    """Whether nothing comes for a while."""
+    link.socket.settimeout(seconds)
+    try:
+        return link.socket.recv(1) is None
+    except TimeoutError:
+        return True
+    finally:
+        link.socket.settimeout(LIMIT)
+
+
 class Running:
     """A node, which is ended when the block is left, started behind the words before; limits are of `resource`."""
 

@@ -70,7 +70,8 @@ def later_request_of(value):
             "page": lambda: later.AskPage(*(value[name] for name in ("time", "table", "low", "high", "most"))),
             "whole": lambda: later.Whole(value["base"], value["part_bytes"]), "add": lambda: later.AddPart(facts_of(value["facts"])),
             "join parts": lambda: later.JoinParts(head_of(value["head"])), "merge parts": lambda: later.MergeParts(head_of(value["head"])),
-            "feed": lambda: later.Feed(tuple(map(item_of, value["items"]))), "hold": lambda: later.AskHold(value["time"]), "release": lambda: later.Release(value["number"])}[kind]()
+            "feed": lambda: later.Feed(tuple(map(item_of, value["items"]))), "hold": lambda: later.AskHold(value["time"]), "release": lambda: later.Release(value["number"]),
+            "await": lambda: later.Await(value["time"], value["milliseconds"])}[kind]()
 
 
 def later_reply_of(value):
@@ -81,4 +82,5 @@ def later_reply_of(value):
             "page": lambda: later.Page(tuple(va.KeyRow(key, va.Row(tag, bytes.fromhex(body))) for key, tag, body in value["rows"]), value["more"]),
             "part": lambda: later.Part(facts_of(value["facts"]), value["left"]), "added": lambda: later.Added(value["count"]),
             "last part": lambda: later.LastPart(facts_of(value["facts"]), head_of(value["head"])),
-            "fed": lambda: later.Fed(value["operations"], value["new"]), "held": lambda: later.Held(value["number"], value["time"]), "refused": lambda: va.Refused(value["number"], *value["values"])}[kind]()
+            "fed": lambda: later.Fed(value["operations"], value["new"]), "held": lambda: later.Held(value["number"], value["time"]),
+            "ready": lambda: later.Ready(value["horizon"], value["readable"]), "refused": lambda: va.Refused(value["number"], *value["values"])}[kind]()

@@ -47,6 +47,8 @@ def requests():
             found.append((f"merge parts: {name}", {"kind": "merge parts", "head": value_of_head(**head)}, of.later(55, of.fields_of_head(**head))))
     found += [(f"hold {time}", {"kind": "hold", "time": time}, of.later(56, [("time", of.u64(time))])) for time in (0, LAST)]
     found += [(f"release {hold}", {"kind": "release", "number": hold}, of.later(57, [("number", of.u64(hold))])) for hold in (1, MOST)]
+    found += [(f"await {time} for {wait}", {"kind": "await", "time": time, "milliseconds": wait}, of.fields_of_await(time, wait))
+              for time, wait in ((0, 0), (3, 1_500), (LAST, 600_000))]
     return [{"name": name, "value": value, "bytes": of.spelled(fields).hex()} for name, value, fields in found]
 
 
@@ -94,6 +96,8 @@ def replies():
     found += [(f"held {n} at {time}", {"kind": "held", "number": n, "time": time}, of.fields_of_held(n, time), [f"held {n} at {time}"]) for n, time in ((1, 0), (MOST, LAST))]
     found += [(f"fed {ops}, {new} new", {"kind": "fed", "operations": ops, "new": new}, of.fields_of_fed(ops, new), [f"fed {ops} new {new}"])
               for ops, new in ((1, 0), (2, 65_536), (LAST, MOST))]
+    found += [(f"ready {low} to {high}", {"kind": "ready", "horizon": low, "readable": high}, of.fields_of_ready(low, high), [f"ready horizon {low} readable {high}"])
+              for low, high in ((0, 0), (2, 3), (LAST, LAST))]
     found += refusals()
     return [{"name": name, "value": value, "bytes": of.spelled(fields).hex(), "lines": told} for name, value, fields, told in found]
 
@@ -154,7 +158,7 @@ def request_faults():
     asked, page = of.later(49, of.get(1, 5)), of.fields_of_page_of(1, 1, 0, 9, 1)
     hold, whole = of.later(56, [("time", of.u64(1))]), of.fields_of_whole(0, 1)
     entry, mark = of.fields_of_new_entry(1, 2, [(1, 5, 9, b"a")], [(1, 5, 1)]), of.fields_of_mark(1, 1, 1)
-    feed = of.fields_of_feed([of.spelled(entry), of.spelled(mark)])
+    feed, wait = of.fields_of_feed([of.spelled(entry), of.spelled(mark)]), of.fields_of_await(1, 600_000)
     cases = heads_of_frames(48, 64) + [
         ("streams with a byte", of.framed(b"\2\x30\0"), 10), ("more with a byte", of.framed(b"\2\x34\0"), 10), ("query 0", of.patched(asked, "query", b"\0"), 6),
         ("query 5", of.patched(asked, "query", b"\5"), 6), ("query with a byte", of.spelled(asked + [("more", b"\0")]), 10), ("no query", of.framed(b"\2\x31"), 10),
@@ -165,6 +169,9 @@ def request_faults():
         ("base of a merge", of.spelled(of.later(55, of.fields_of_head(base=1, streams=[(3, 3, [], [])]))), 6), ("time of a hold", of.patched(hold, "time", OVER), 6),
         ("a hold without a time", of.framed(b"\2\x38"), 10), ("hold 0", of.spelled(of.later(57, [("number", of.u64(0))])), 6),
         ("a number that is cut", of.spelled(of.later(57, [("number", b"\1")])), 10), ("no count of what is fed", of.framed(b"\2\x3a"), 10),
+        ("time of a wait", of.patched(wait, "time", OVER), 6), ("a wait above the most", of.patched(wait, "milliseconds", of.u32(600_001)), 6),
+        ("the longest wait", of.patched(wait, "milliseconds", b"\xff" * 4), 6), ("a wait without milliseconds", of.spelled(wait[:-1]), 10),
+        ("a wait and a byte", of.spelled(wait + [("more", b"\0")]), 10),
         ("count of what is fed", of.patched(feed, "count", of.u32(65_537)), 8), ("items that are not there", of.patched(feed, "count", of.u32(3)), 10),
         ("items that are not counted", of.patched(feed, "count", of.u32(1)), 10)]
     cases += [(f"feed: {name}", of.spelled(of.fields_of_feed([of.patched(entry, field, text)])), number) for name, field, text, number in (
@@ -181,6 +188,7 @@ def reply_faults():
     told = of.fields_of_told(1, 3, 9, 2, [(3, 3, 0, 0), (0, 4, 1, 2)])
     page, rows = of.fields_of_page([(5, 9, b"a"), (6, 9, b"b")], 1), [("kind of answer", b"\2")]
     part, refused, fed = of.fields_of_part(FACTS, 1), of.fields_of_later_refused(47), of.fields_of_fed(2, 1)
+    ready = of.fields_of_ready(2, 3)
     cases = heads_of_frames(64, 48) + [
         ("done with 0", of.spelled(of.later(64, [("operations", of.u64(0))])), 6), ("done above the most", of.spelled(of.later(64, [("operations", OVER)])), 6),
         ("horizon above readable", of.patched(told, "horizon", of.u64(4)), 6), ("readable above the last time", of.patched(told, "readable", OVER), 6),
@@ -194,6 +202,8 @@ def reply_faults():
         ("added without a number", of.framed(b"\2\x46"), 10), ("fed with 0 operations", of.patched(fed, "operations", of.u64(0)), 6),
         ("fed with operations above the most", of.patched(fed, "operations", OVER), 6), ("fed without how many were new", of.spelled(fed[:-1]), 10),
         ("fed and a byte", of.spelled(fed + [("more", b"\0")]), 10), ("hold 0", of.spelled(of.fields_of_held(0, 1)), 6), ("time of a hold", of.spelled(of.fields_of_held(1, LAST + 1)), 6),
+        ("ready from above the resolved time", of.patched(ready, "horizon", of.u64(4)), 6), ("ready to above the last time", of.patched(ready, "readable", OVER), 6),
+        ("ready without a resolved time", of.spelled(ready[:-1]), 10), ("ready and a byte", of.spelled(ready + [("more", b"\0")]), 10),
         ("47 with a field", of.spelled(of.fields_of_later_refused(47, 1)), 6), ("46 with a second field", of.spelled(of.fields_of_later_refused(46, 1, 1)), 6),
         ("a field that is not 0", of.spelled(of.fields_of_later_refused(1, 1)), 6), ("a base above the last time", of.spelled(of.fields_of_later_refused(22, LAST + 1, 1)), 6)]
     cases += [(f"refusal {number}", of.patched(refused, "number", of.u8(number)), 6) for number in (0, 11, 19, 27, 30, 36, 39, 48, 89, 91, 255)]

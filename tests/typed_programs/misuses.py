@@ -14,6 +14,10 @@ def misused(node: Node, log: LogWriter, other: AsyncNode) -> int:
     print(time + 1, row.body)      # refused: it may be None
     print(node.count(1).rows)      # refused: a count is a number
     print(other.front().readable)      # refused: it has to be awaited
+    print(other.wait(3).readable)      # refused: it has to be awaited
+    print(node.wait(3, "5"))      # refused: seconds are a number
+    print(next(node.changes(3)).row.tag)      # refused: it may be None
+    print(list(other.changes(3)))      # refused: it is asynchronous
     later.AskPage("1", 2)      # refused: a time is a number
     print(node.status().free)      # refused: no such field
     Mark(7, 1, 2)      # refused: without m

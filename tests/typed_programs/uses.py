@@ -5,8 +5,8 @@ import asyncio
 from typing import Iterator, List, Optional, Tuple, Union
 
 import vadungsil
-from vadungsil import (AsyncNode, Count, Entry, Feeder, Fragment, Front, Get, Hold, Item, KeyRow, LinkBroken, Later, LogWriter, Mark, Member, NameCollision,
-                       Names, Node, Nodes, NotANode, NotAName, Operations, Range, Refused, Row, Stream, export, later)
+from vadungsil import (AsyncChanges, AsyncNode, Change, Changes, Count, Entry, Feeder, Fragment, Front, Get, Hold, Item, KeyRow, LinkBroken, Later, LogWriter, Mark, Member, NameCollision,
+                       Names, Node, Nodes, NotANode, NotAName, Operations, Range, Refused, Row, Stream, TooOld, export, later)
 from vadungsil.address import Place, place_of
 from vadungsil.bodies import shown, table_of
 from vadungsil.embedded import Replica
@@ -85,6 +85,34 @@ def later_version(node: Node, other: Node) -> Optional[Row]:
         print(hold.number + hold.time, held, count + len(keys))
     other.take_parts(node.parts(part_bytes=40))
     return row
+
+
+def waited(node: Node, nodes: Nodes) -> List[Change]:
+    front: Front = node.wait(3) if node.front().readable < 3 else node.wait(3, timeout=0.5)
+    found: List[Change] = []
+    try:
+        with node.changes(since=front.horizon) as changes:
+            for at, table, key, row in changes:
+                print(at + table + key, "removed" if row is None else row.tag + 1)
+            found.append(next(changes))
+    except TooOld as pruned:
+        found += nodes.changes(pruned.horizon)
+    feed: Changes = nodes.changes(found[-1].time)
+    later.encode_request(later.Await(feed.time, 1_000))
+    later.encode_reply(later.Ready(front.horizon, front.readable))
+    feed.close()
+    return found
+
+
+async def awaited(node: AsyncNode) -> Optional[Row]:
+    front: Front = await node.wait(3, timeout=2)
+    async with node.changes(front.readable) as changes:
+        async for change in changes:
+            return change.row
+        last: Change = await changes.__anext__()
+    feed: AsyncChanges = node.changes(last.time)
+    await feed.close()
+    return last.row
 
 
 def many(node: Node) -> List[Optional[Row]]:

@@ -1,7 +1,8 @@
 """Reads from nodes of Vadungsil, and writes logs for them: docs/PYTHON.md. Standard library only."""
 from . import later
-from .aio import AsyncMoment, AsyncNode
-from .errors import Fault, LinkBroken, NotANode, NotResumable, Refused, TimeLimit, VadungsilError
+from .aio import AsyncChanges, AsyncMoment, AsyncNode
+from .changes import Change, Changes
+from .errors import Fault, LinkBroken, NotANode, NotResumable, Refused, TimeLimit, TooOld, VadungsilError
 from .items import Feeder, Head, decode, encode, head_of
 from .members import Member
 from .messages import ReplyFeeder, RequestFeeder, decode_reply, decode_request, encode_reply, encode_request
@@ -52,9 +53,12 @@ __all__ = [
     "REASONS",
     "Ask",
     "AskFront",
+    "AsyncChanges",
     "AsyncMoment",
     "AsyncNode",
     "ByTag",
+    "Change",
+    "Changes",
     "Count",
     "Delta",
     "Done",
@@ -102,6 +106,7 @@ __all__ = [
     "Rows",
     "Stream",
     "TimeLimit",
+    "TooOld",
     "Transaction",
     "VadungsilError",
     "VersionKey",

@@ -8,9 +8,10 @@ import os
 import socket
 import ssl
 from collections import deque
-from typing import Any, Awaitable, Deque, Iterable, List, Optional, Tuple
+from typing import Any, AsyncIterator, Awaitable, Callable, Deque, Iterable, List, Optional, Set, Tuple
 
 from .address import Address, place_of
+from .changes import Change, Watch
 from .errors import Fault, LinkBroken, Refused, TimeLimit, VadungsilError
 from .link import (
     NOBODY,
@@ -22,23 +23,27 @@ from .link import (
     security_of,
     too_late,
 )
-from .messages import MOST_MESSAGE
+from .messages import MOST_MESSAGE, encode_request
 from .node import _ends_link
-from .requests import Moment, Read, Requests, ask_frame, feeding, logs_of, other_log, read_done, version_seen
+from .requests import Moment, Read, Requests, ask_frame, feeding, logs_of, other_log, read_done, value_of, version_seen
+from .transfer import least_of
+from .later_values import (
+    Page,
+    Streams,
+)
 from .values import (
     LAST_TIME,
     Fragment,
     Front,
     KeyRow,
     Operations,
-    Page,
     Query,
     Row,
     Stream,
-    Streams,
     number_in,
     time_of,
 )
+from .waiting import Asked, Breaks, Result, Steps, end_of, reached, until
 
 
 class _AsyncLink:
@@ -131,10 +136,11 @@ class AsyncNode(
         certificates, self.address = Certificates(ca, cert, key), place_of(address)
         certificates.see([self.address])
         self._told = self._version = None if messages is None else number_in(messages, 1, 2, "messages")
-        self.limit, self.tries, self.wait = limit, max(tries, 1), wait
+        self.limit, self.tries, self._wait = limit, max(tries, 1), wait
         self._security = security_of(self.address, certificates)
         self._link: Optional[_AsyncLink] = None
         self._opening: Optional[asyncio.Lock] = None
+        self._apart: Set[_AsyncApart] = set()
 
     @property
     def name(self) -> str:
@@ -179,19 +185,24 @@ class AsyncNode(
         return await self._call(ask_frame(time, query), read)
 
     async def _exchange(self, request: bytes) -> bytes:
+        return await self._exchange_over(self._opened, request, self.limit)
+
+    async def _exchange_over(
+        self, opened: Callable[[], Awaitable[_AsyncLink]], request: bytes, limit: Optional[float]
+    ) -> bytes:
         link: Optional[_AsyncLink] = None
         try:
-            link = await asyncio.wait_for(self._opened(), self.limit)
+            link = await asyncio.wait_for(opened(), limit)
             if not link.is_open:  # it ended while it was handed out, and nobody would take a reply from it
                 raise LinkBroken(f"{self.name}: the node ended the connection")
             future: "asyncio.Future[bytes]" = asyncio.get_running_loop().create_future()
             link.waiting.append(future)
             link.writer.write(request)
-            return await asyncio.wait_for(self._sent(link, future), self.limit)
+            return await asyncio.wait_for(self._sent(link, future), limit)
         except asyncio.TimeoutError:
             if link is not None:
                 link.close()
-            raise too_late(self.name, self.limit, link is not None, link is not None and link.has_replied) from None
+            raise too_late(self.name, limit, link is not None, link is not None and link.has_replied) from None
         except OSError as error:
             if link is None:
                 raise no_connection(self.name, error) from error
@@ -206,7 +217,7 @@ class AsyncNode(
 
     async def _connected(self) -> Tuple[asyncio.StreamReader, asyncio.StreamWriter]:
         """A connection; the first is tried again while nobody listens."""
-        until, self.wait = asyncio.get_running_loop().time() + self.wait, 0.0
+        until, self._wait = asyncio.get_running_loop().time() + self._wait, 0.0
         while True:
             try:
                 return await self._connected_once()
@@ -239,6 +250,17 @@ class AsyncNode(
                 self._link = _AsyncLink(self.name, *await self._connected())
             return self._link
 
+    async def wait(self, time: int, timeout: Optional[float] = None) -> Front:
+        """As `Node.wait`: waits until a time can be read, over a connection of its own, and returns the front then."""
+        time, end, limit = time_of(time), end_of(timeout), self.limit
+        async with _AsyncApart(self, Breaks(limit, self.tries, end).rest) as apart:
+            front = await apart.run(lambda: until(time, end, limit))
+        return reached(front, time, timeout, self.name)
+
+    def changes(self, since: int) -> "AsyncChanges":
+        """As `Node.changes`: `async for change in node.changes(5):`."""
+        return AsyncChanges(self, Watch(since, self.limit, self.tries))
+
     async def streams(self) -> Tuple[Stream, ...]:
         """How far each stream is, by a delta since the last time of all, which has no facts."""
         return (await self.delta(LAST_TIME)).streams
@@ -249,12 +271,111 @@ class AsyncNode(
         return AsyncMoment(self, time)
 
     async def close(self) -> None:
+        """Closes the connections, those of waits and of changes too. The next request opens another."""
+        for apart in list(self._apart):
+            await apart.close()
         if self._link is not None:
             self._link.close()
             await asyncio.gather(self._link.task, return_exceptions=True)
             self._link = None
 
     async def __aenter__(self) -> "AsyncNode":
+        return self
+
+    async def __aexit__(self, *_: object) -> None:
+        await self.close()
+
+
+class _AsyncApart:
+    """As `waiting.Apart`: a connection of its own to a node, for who waits."""
+
+    def __init__(self, node: AsyncNode, rest: Callable[[BaseException, bool], float]) -> None:
+        self._node, self._rest, self._is_closed = node, rest, False
+        self._link: Optional[_AsyncLink] = None
+
+    async def run(self, steps: Callable[[], Steps[Result]]) -> Result:
+        """What comes of steps, which begin anew over each connection, but not where another task closes it."""
+        self._is_closed = False
+        while True:
+            try:
+                return await self._run_once(steps())
+            except BaseException as error:  # pylint: disable=broad-except
+                if self._is_closed:
+                    raise
+                has_replied = self._link is not None and self._link.has_replied
+                self._drop()
+                rest = self._rest(error, has_replied)
+            await asyncio.sleep(rest)
+
+    async def _run_once(self, steps: Steps[Result]) -> Result:
+        came: Any = None
+        while True:
+            try:
+                step = steps.send(came)
+            except StopIteration as end:
+                result: Result = end.value
+                return result
+            if isinstance(step, float):
+                await asyncio.sleep(step)
+                came = None
+            else:
+                came = await self._ask(step)
+
+    async def _ask(self, asked: Asked) -> Any:
+        limit = least_of(self._node.limit, asked.within)
+        rest = await self._node._exchange_over(self._opened, encode_request(asked.request), limit)
+        return value_of(rest, *asked.kinds, latest=2)
+
+    async def _opened(self) -> _AsyncLink:
+        if self._link is None:
+            self._link = _AsyncLink(self._node.name, *await self._node._connected())
+            self._node._apart.add(self)
+        return self._link
+
+    def _drop(self) -> Optional[_AsyncLink]:
+        self._node._apart.discard(self)
+        link, self._link = self._link, None
+        if link is not None:
+            link.close()
+        return link
+
+    async def close(self) -> None:
+        self._is_closed = True
+        link = self._drop()
+        if link is not None:
+            await asyncio.gather(link.task, return_exceptions=True)
+
+    async def __aenter__(self) -> "_AsyncApart":
+        return self
+
+    async def __aexit__(self, *_: object) -> None:
+        await self.close()
+
+
+class AsyncChanges(AsyncIterator[Change]):
+    """As `Changes`: the changes above a time, each once. `async with node.changes(5) as changes:` closes its connection
+    where the loop over it is left early; so does the end of its node."""
+
+    def __init__(self, node: AsyncNode, watch: Watch) -> None:
+        self._watch, self._apart = watch, _AsyncApart(node, watch.rest)
+
+    @property
+    def time(self) -> int:
+        """All changes up to this time were given."""
+        return self._watch.time
+
+    async def __anext__(self) -> Change:
+        if self._watch.is_waiting():
+            await self._apart.run(self._watch.steps)
+        if self._watch.is_over():
+            raise StopAsyncIteration
+        return self._watch.kept.popleft()
+
+    async def close(self) -> None:
+        """Closes its connection. The next change opens another."""
+        await self._apart.close()
+
+    async def __aenter__(self) -> "AsyncChanges":
         return self
 
     async def __aexit__(self, *_: object) -> None:

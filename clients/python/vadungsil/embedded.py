@@ -116,7 +116,7 @@ class Replica(Node):
             self._done(number or 90)
         return found
 
-    def _own_link(self) -> Link:
+    def _own_link(self, within: Optional[float] = None) -> Link:
         raise Fault(3, place=f"{self.name}: no node, and without messages of version 2")
 
     def call(self, requests: Bytes) -> bytes:

@@ -100,13 +100,20 @@ class NotANode(Fault):
         return type(self), (self.number, self.what, self.hint, self.place)
 
 
+class TooOld(Refused):
+    """25: what was asked for is below the oldest readable time, `error.horizon`, since the node was pruned. Of
+    `changes`: there may be some that it doesn't have any more. Then read the rows at its resolved time, and go on with
+    the changes since that."""
+
+
 class LinkBroken(VadungsilError):
     """A connection could not be opened, or ended where a reply was awaited; whether the request was made isn't
     known."""
 
 
 class TimeLimit(LinkBroken):
-    """No reply within the time limit; the connection was closed, and whether the request was made isn't known."""
+    """No reply within the time limit: the connection was closed, and whether the request was made isn't known. Of
+    `wait` it may also be that the node replied, and the time can't be read there yet."""
 
 
 class NotResumable(VadungsilError):
@@ -114,5 +121,6 @@ class NotResumable(VadungsilError):
 
 
 def refusal(number: int, *values: int, place: str = "") -> Refused:
-    """A `Fault` for 1 to 10, else a `Refused`."""
-    return (Fault if number <= 10 else Refused)(number, *values, place=place)
+    """A `Fault` for 1 to 10, a `TooOld` for 25, else a `Refused`."""
+    kind = Fault if number <= 10 else TooOld if number == 25 else Refused
+    return kind(number, *values, place=place)

@@ -1,14 +1,15 @@
 """The messages of version 2 by the names of docs/FORMATS.md, "Messages of version 2": a node reads them where it was
 started with `--messages 2`. A chunk is some facts of a fragment; its head is what the fragment is without its facts,
-and how many they are. What stands here stands in `messages` and `values`; here it reads and writes version 2 without
-being asked."""
+and how many they are. What stands here stands in `messages` and `later_values`; here it reads and writes version 2
+without being asked."""
 from __future__ import annotations
 
 from . import messages as _messages
 from .errors import Refused
 from .reading import Bytes
-from .values import (
+from .later_values import (
     MOST_ROWS,
+    MOST_WAIT,
     PART_BYTES,
     AddPart,
     Added,
@@ -16,9 +17,9 @@ from .values import (
     AskLatest,
     AskPage,
     AskStreams,
+    Await,
     Fed,
     Feed,
-    FragmentHead as Head,
     Held,
     JoinParts,
     LastPart,
@@ -30,6 +31,7 @@ from .values import (
     More,
     Page,
     Part,
+    Ready,
     Release,
     Reply,
     Request,
@@ -37,9 +39,13 @@ from .values import (
     StreamTold,
     Whole,
 )
+from .values import (
+    FragmentHead as Head,
+)
 
 __all__ = [
     "MOST_ROWS",
+    "MOST_WAIT",
     "PART_BYTES",
     "AddPart",
     "Added",
@@ -47,6 +53,7 @@ __all__ = [
     "AskLatest",
     "AskPage",
     "AskStreams",
+    "Await",
     "Done",
     "Fed",
     "Feed",
@@ -61,6 +68,7 @@ __all__ = [
     "More",
     "Page",
     "Part",
+    "Ready",
     "Refused",
     "Release",
     "Reply",

@@ -2,6 +2,7 @@
 from __future__ import annotations
 
 import argparse
+import contextlib
 import errno
 import os
 import selectors
@@ -195,9 +196,10 @@ class Link:
         self.socket.close()
 
     def set_limit(self, limit: Optional[float]) -> None:
-        """The most seconds of each wait from here on."""
+        """The most seconds of each wait from here on. That a connection is closed is said by the next exchange."""
         self.limit = limit
-        self.socket.settimeout(limit)
+        with contextlib.suppress(OSError):
+            self.socket.settimeout(limit)
 
     def exchange(self, data: bytes, count: int, found: List[bytes]) -> None:
         """Sends requests and adds the rests of so many replies to the list as they come. The limit is for each wait."""

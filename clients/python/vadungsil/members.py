@@ -6,11 +6,14 @@ import time as clock
 from contextlib import contextmanager, nullcontext
 from typing import Any, Callable, Iterable, Iterator, List, Literal, NamedTuple, Optional, Set, Tuple, TypeVar
 
-from .errors import LinkBroken, Refused, VadungsilError
+from .errors import LinkBroken, Refused, TooOld, VadungsilError
+from .later_values import Request
 from .messages import encode_request, reply_of
 from .node import Node
-from .requests import FRONT, Read, read_fragment, read_front
+from .requests import FRONT, Read, read_fragment, read_front, value_of
+from .transfer import OwnLink
 from .values import LAST_TIME, Delta, Fragment, Front
+from .waiting import Steps, run
 
 State = Literal["up", "away", "bad"]
 Value = TypeVar("Value")
@@ -90,26 +93,62 @@ def exchanged(node: Node, requests: List[bytes], read: Read) -> List[Any]:
         try:
             rests = node._exchange(requests)
         except Refused as fault:
-            raise BadMember(f"{node.name}: its bytes are no reply: {fault}") from fault
-        return [_replied(node, rest, read) for rest in rests]
+            raise _no_reply(node, fault) from fault
+        try:
+            return [_replied(node, rest, read) for rest in rests]
+        except BadMember:
+            node._drop()
+            raise
 
 
-def _replied(node: Node, rest: bytes, read: Read) -> Any:
+def _no_reply(node: Node, fault: Refused) -> BadMember:
+    return BadMember(f"{node.name}: its bytes are no reply: {fault}")
+
+
+def _replied(node: Node, rest: bytes, read: Read, latest: int = 1) -> Any:
     try:
         return read(rest)
     except Refused as refused:
-        if _is_refusal(rest):
+        if _is_refusal(rest, latest):
             raise refused.at(node.name)
-        node._drop()
         raise BadMember(f"{node.name}: its bytes are no reply to this: {refused}") from refused
 
 
-def _is_refusal(rest: bytes) -> bool:
+def _is_refusal(rest: bytes, latest: int) -> bool:
     """Whether a node refused, rather than we its bytes."""
     try:
-        return isinstance(reply_of(rest), Refused)
+        return isinstance(reply_of(rest, latest), Refused)
     except Refused:
         return False
+
+
+class MemberLink(OwnLink):
+    """A connection of its own to a member, whose bytes make it a `BadMember` where they are no reply."""
+
+    def __init__(self, node: Node, limit: Optional[float]) -> None:
+        super().__init__(node._own_link())
+        self._node, self._limit = node, limit
+
+    def run(self, steps: Steps[Value]) -> Value:
+        """What comes of steps. A `Refused` that the steps themselves raise is of what the member said."""
+        return run(self._judged(steps), self.ask)
+
+    def _judged(self, steps: Steps[Value]) -> Steps[Value]:
+        try:
+            return (yield from steps)
+        except TooOld as error:
+            raise error.at(self._node.name)
+        except Refused as fault:
+            raise _no_reply(self._node, fault) from fault
+
+    def _exchanged(self, request: Request) -> bytes:
+        try:
+            return super()._exchanged(request)
+        except Refused as fault:
+            raise _no_reply(self._node, fault) from fault
+
+    def _read(self, rest: bytes, kinds: Tuple[type, ...]) -> Any:
+        return _replied(self._node, rest, lambda it: value_of(it, *kinds, latest=2), 2)
 
 
 def _front_of(node: Node) -> Front:
@@ -132,8 +171,7 @@ def within(node: Node, seconds: float) -> Iterator[None]:
 def _set_limit(node: Node, limit: Optional[float]) -> None:
     node.limit = limit
     if node._link is not None:
-        node._link.limit = limit
-        node._link.socket.settimeout(limit)
+        node._link.set_limit(limit)
 
 
 class Members:
@@ -165,6 +203,16 @@ class Members:
             raise self._noted(it, error, proves)
         with self.changed:
             it.pause *= not proves
+        return value
+
+    def apart(self, it: Tracked, ask: Callable[[], Value]) -> Value:
+        """The same of what it is asked over a connection of its own, while others ask it too."""
+        try:
+            value = ask()
+        except VadungsilError as error:
+            raise self._noted(it, error, True)
+        with self.changed:
+            it.pause = 0.0
         return value
 
     def _noted(self, it: Tracked, error: VadungsilError, proves: bool) -> VadungsilError:

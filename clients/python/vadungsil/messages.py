@@ -9,59 +9,64 @@ from .errors import Fault, Refused, refusal
 from .items import LEAST_REST, MOST_REST, encode
 from .reading import Bytes, FrameFeeder, Reader, Value, whole_frame
 from .reasons import REASONS
-from .values import (
-    LAST_TIME,
-    MOST_STREAMS,
+from .later_values import (
+    MOST_WAIT,
     AddPart,
     Added,
-    Answer,
-    Ask,
-    AskFront,
     AskHold,
     AskLatest,
     AskPage,
     AskStreams,
+    Await,
+    Fed,
+    Feed,
+    Held,
+    JoinParts,
+    LastPart,
+    LaterDone,
+    Latest,
+    MergeParts,
+    More,
+    Page,
+    Part,
+    Ready,
+    Release,
+    Reply,
+    Request,
+    Streams,
+    StreamTold,
+    Whole,
+)
+from .values import (
+    LAST_TIME,
+    MOST_STREAMS,
+    Answer,
+    Ask,
+    AskFront,
     ByTag,
     Count,
     Delta,
     Done,
     Fact,
-    Fed,
-    Feed,
     Fragment,
     FragmentHead,
     Front,
     Full,
     Get,
-    Held,
     Item,
     Items,
-    JoinParts,
     JoinThis,
     KeyRow,
-    LastPart,
-    LaterDone,
-    Latest,
-    MergeParts,
     MergeThis,
-    More,
     Number,
     One,
-    Page,
-    Part,
     Prune,
     Query,
     Range,
-    Release,
-    Reply,
-    Request,
     Row,
     Rows,
     Stream,
-    Streams,
-    StreamTold,
     VersionKey,
-    Whole,
 )
 
 MOST_MESSAGE = 2**28
@@ -153,6 +158,10 @@ def answer_bytes(answer: Answer) -> bytes:
     if isinstance(answer, Number):
         return b"\3" + _U64(answer.count)
     raise TypeError(f"no answer: {type(answer).__name__}")
+
+
+def _front_bytes(it: Front) -> bytes:
+    return struct.pack(">QQ", it.horizon, it.readable)
 
 
 def _refused_bytes(why: Refused, version: int) -> bytes:
@@ -363,6 +372,11 @@ def _front_at(reader: Reader) -> Front:
     return Front(horizon, readable)
 
 
+def _ready_at(reader: Reader) -> Ready:
+    front = _front_at(reader)
+    return Ready(front.horizon, front.readable)
+
+
 def _operations_at(reader: Reader) -> int:
     operations = reader.u64("operations")
     if not 1 <= operations <= LAST_TIME:
@@ -376,6 +390,13 @@ def _page_request_at(reader: Reader) -> AskPage:
     if most == 0:
         raise reader.fault(8, "most rows", 4)
     return AskPage(time, table, low, high, most)
+
+
+def _await_at(reader: Reader) -> Await:
+    time, milliseconds = reader.time("time"), reader.u32("milliseconds")
+    if milliseconds > MOST_WAIT:
+        raise reader.fault(6, "milliseconds", 4)
+    return Await(time, milliseconds)
 
 
 def _positive_at(reader: Reader, what: str) -> int:
@@ -465,11 +486,12 @@ REQUESTS: Dict[int, Kind] = {
     56: Kind((AskHold,), lambda it: _U64(it.time), lambda it: AskHold(it.time("time"))),
     57: Kind((Release,), lambda it: _U64(it.number), lambda it: Release(_positive_at(it, "number of a pin"))),
     58: Kind((Feed,), lambda it: items_bytes(it.items), lambda it: Feed(_items_at(it).items)),
+    59: Kind((Await,), lambda it: struct.pack(">QI", it.time, it.milliseconds), _await_at),
 }
 
 REPLIES: Dict[int, Kind] = {
     32: Kind((Done,), lambda it: _U64(it.operations), lambda it: Done(_operations_at(it))),
-    33: Kind((Front,), lambda it: struct.pack(">QQ", it.horizon, it.readable), _front_at),
+    33: Kind((Front,), _front_bytes, _front_at),
     34: Kind((Fragment,), fragment_bytes, _fragment_at),
     35: Kind((One, Rows, Number), answer_bytes, _answer_at),
     36: Kind((), lambda it: _refused_bytes(it, 1), lambda it: _refused_at(it, 1)),
@@ -495,6 +517,7 @@ REPLIES: Dict[int, Kind] = {
         lambda it: struct.pack(">QQ", it.operations, it.new),
         lambda it: Fed(_operations_at(it), it.u64("new items")),
     ),
+    74: Kind((Ready,), _front_bytes, _ready_at),
 }
 
 

@@ -6,6 +6,7 @@ from types import TracebackType
 from typing import Any, Generic, Iterable, Iterator, List, Optional, Tuple, Type, TypeVar
 
 from .address import Address, place_of
+from .changes import Changes, NodeChanges, Watch
 from .errors import Fault, LinkBroken, Refused, TimeLimit, VadungsilError
 from .link import Certificates, Link, security_of
 from .requests import (
@@ -22,26 +23,29 @@ from .requests import (
     read_front,
     version_seen,
 )
-from .transfer import AnyPart, Hold, parts_from, parts_to
+from .transfer import AnyPart, Hold, least_of, parts_from, parts_to
+from .later_values import (
+    PART_BYTES,
+    LastPart,
+    Page,
+    Streams,
+)
 from .values import (
     LAST_KEY,
     LAST_TIME,
-    PART_BYTES,
     Fact,
     Fragment,
     FragmentHead,
     Front,
     KeyRow,
-    LastPart,
     Operations,
-    Page,
     Query,
     Row,
     Stream,
-    Streams,
     number_in,
     time_of,
 )
+from .waiting import Apart, Breaks, end_of, reached, until, within
 
 Result = TypeVar("Result", covariant=True)
 Own = TypeVar("Own", bound="Node")
@@ -118,7 +122,7 @@ class Node(
         certificates, self.address = Certificates(ca, cert, key), place_of(address)
         certificates.see([self.address])
         self._told = self._version = None if messages is None else number_in(messages, 1, 2, "messages")
-        self.limit, self.tries, self.wait = limit, max(tries, 1), wait
+        self.limit, self.tries, self._wait = limit, max(tries, 1), wait
         self._security = security_of(self.address, certificates)
         self._link: Optional[Link] = None
         self._lock = threading.RLock()
@@ -185,6 +189,24 @@ class Node(
         resolved time is pinned too, and stays readable from when it is reached. 25: it is below the oldest readable
         time."""
         return Hold(self._own_link(), time_of(time))
+
+    def wait(self, time: int, timeout: Optional[float] = None) -> Front:
+        """Waits until a time can be read, and returns the range of readable times at that moment. It has a connection
+        of its own, so questions of other threads don't wait behind it. `TimeLimit`: the time can't be read within
+        `timeout` seconds; None: there is no limit but that of a silent node. 3: the node reads messages of version 1
+        alone; 41: it has failed. `ValueError`: `timeout` is no number from 0 on."""
+        time, end, limit = time_of(time), end_of(timeout), self.limit
+        with Apart(lambda: self._own_link(within(end)), Breaks(limit, self.tries, end).rest) as apart:
+            front = apart.run(lambda: until(time, end, limit))
+        return reached(front, time, timeout, self.name)
+
+    def changes(self, since: int) -> Changes:
+        """Each change above a time, once, by time, table and key, as soon as it can be read:
+        `for time, table, key, row in node.changes(5):`, over a connection of its own. Changes come late to a node, and
+        connections break: it goes on with nothing missed or repeated. `TooOld`: the node was pruned beyond what was
+        given. Other errors as of `wait`. The changes of a delta are in memory together; and what the node has above its
+        resolved time comes with each delta, so a stream that lags far behind others makes each large."""
+        return NodeChanges(self._own_link, Watch(since, self.limit, self.tries))
 
     def whole(self, part_bytes: Optional[int] = None) -> Fragment:
         """All that the node holds. More than 2^28 bytes of it are refused 2, but where it comes in chunks of so many
@@ -266,10 +288,13 @@ class Node(
                 if len(found) < len(requests):
                     raise LinkBroken(f"{self.name}: the node ended the connection")
 
-    def _own_link(self) -> Link:
-        """Another connection, for what the node keeps for one."""
-        wait, self.wait = self.wait, 0.0
-        return Link(self.address, self.limit, wait, self._security)
+    def _own_link(self, within: Optional[float] = None) -> Link:
+        """Another connection, for what the node keeps for one; `within` is a time limit for it, where that is less than
+        the node's."""
+        wait, self._wait = self._wait, 0.0
+        return Link(
+            self.address, least_of(self.limit, within), min(wait, wait if within is None else within), self._security
+        )
 
     def _drop(self) -> None:
         if self._link is not None:

@@ -4,12 +4,14 @@ Nodes that took the items of one log up to a time give equal answers at it, so q
 different nodes."""
 from __future__ import annotations
 
-from typing import Any, Callable, Iterable, List, Optional, Set, Tuple
+import time as clock
+from typing import Any, Callable, Dict, Iterable, List, Optional, Set, Tuple
 
 from .address import Address, place_of
-from .errors import LinkBroken, Refused, VadungsilError
+from .changes import Changes, Found, Watch
+from .errors import LinkBroken, Refused, TooOld, VadungsilError
 from .link import Certificates
-from .members import BadMember, Member, Members, Round, Tracked, exchanged
+from .members import SECOND, BadMember, Member, MemberLink, Members, Round, Tracked, exchanged
 from .node import Node
 from .requests import Moment, Read, Reads, ask_frame, read_number
 from .values import LAST_KEY, MOST_STREAMS, Count, KeyRow, Query, Row, number_in, time_of
@@ -86,7 +88,7 @@ class Nodes(Reads[Optional[Row], List[KeyRow], int]):
             raise ValueError(f"agree is {agree}, and there are {len(self.nodes)} addresses")
         if agree > 1 and len({it.address for it in self.nodes}) < len(self.nodes):
             raise ValueError("an address is named twice, where several have to agree")
-        self.agree = agree
+        self.agree, self._limit = agree, limit
         self._members = Members(self.nodes, agree, log, streams)
 
     def members(self) -> List[Member]:
@@ -115,6 +117,13 @@ class Nodes(Reads[Optional[Row], List[KeyRow], int]):
     def at(self, time: Optional[int] = None) -> "NodesMoment":
         """One moment: this time, or the latest."""
         return NodesMoment(self, self.latest() if time is None else time_of(time))
+
+    def changes(self, since: int) -> Changes:
+        """As `Node.changes`, from whichever member can give them, and on from another where that one is away, lags, or
+        was pruned. With `agree` of 2 or more each change is one that so many members give. A member has to read
+        messages of version 2. `NoNode`: fewer than `agree` can give them, for `limit` seconds; `TooOld`: all were
+        pruned beyond what was given."""
+        return NodesChanges(self, Watch(since, self._limit))
 
     def _read(self, at: Optional[int], query: Query, read: Read) -> Any:
         return self._ask(self.latest() if at is None else at, query, read, set())
@@ -165,10 +174,13 @@ class Nodes(Reads[Optional[Row], List[KeyRow], int]):
         others = [it for it, other in answers if other != answer]
         if len(answers) - len(others) < self.agree:
             return False
+        self._set_others_bad(others)
+        return True
+
+    def _set_others_bad(self, others: Iterable[Tracked]) -> None:
         with self._members.changed:
             for it in others:
                 it.set_bad(BadMember(f"{it.node.name}: it answered otherwise than {self.agree} members that agree"))
-        return True
 
     def _unanswered(self, told: Told, answers: List[Tuple[Tracked, Any]]) -> VadungsilError:
         if any(answer != answers[0][1] for _, answer in answers):
@@ -200,6 +212,130 @@ class Nodes(Reads[Optional[Row], List[KeyRow], int]):
 
     def __exit__(self, *_: object) -> None:
         self.close()
+
+
+class NodesChanges(Changes):
+    """Those of many nodes. A member that gave some is asked first, over a connection of its own that is kept."""
+
+    def __init__(self, nodes: Nodes, watch: Watch) -> None:
+        super().__init__(watch)
+        self._nodes, self._members = nodes, nodes._members
+        self._links: Dict[Tracked, MemberLink] = {}
+
+    def _fetch(self) -> None:
+        while self._watch.is_waiting():
+            try:
+                self._look()
+            except VadungsilError as error:
+                rest = self._rest(error)
+            else:
+                self._watch.breaks.replied()
+                continue
+            clock.sleep(rest)
+
+    def _rest(self, error: VadungsilError) -> float:
+        """How many seconds to wait before the next look; raises the error where that is none. What a member refused
+        says more than that another is away."""
+        try:
+            return self._watch.rest(error, False)
+        except NoNode as nobody:
+            raise _refused(nobody.told) or nobody
+
+    def _look(self) -> None:
+        """Gives what so many members agree on, of those that can be read above the base. Where they are too few, it
+        waits for a second at the one that comes next to it."""
+        ahead: List[Tuple[Tracked, Found]] = []
+        behind: List[Tuple[int, Tracked]] = []
+        told: Told = []
+        way = Round(self._members, self._ordered(), set())
+        it = way.next()
+        while it is not None:
+            readable = self._readable(it, told)
+            if readable is not None:
+                way.reached += 1
+                is_given = None if readable <= self._watch.base else self._is_given(it, ahead, told)
+                if is_given:
+                    return
+                if is_given is None:
+                    behind.append((readable, it))
+            it = way.next()
+        for _, it in sorted(behind, key=lambda each: -each[0]):
+            if self._is_given(it, ahead, told) is not False:
+                return
+        raise self._nothing(told, ahead)
+
+    def _ordered(self) -> List[Tracked]:
+        """The members: those that have a connection of its own first, then each time from the next one on. One that
+        can't be asked any more has none."""
+        for it in [it for it in self._links if it.state != "up"]:
+            self._drop(it)
+        return sorted(self._members.turned(), key=lambda it: it not in self._links)
+
+    def _readable(self, it: Tracked, told: Told) -> Optional[int]:
+        """Up to where a member can be read."""
+        try:
+            readable = self._members.front(it, it.pause > 0).readable
+        except (LinkBroken, Refused, BadMember) as error:
+            told.append((it.node.name, error))
+            return None
+        self._watch.breaks.has_replied = True
+        return readable
+
+    def _is_given(self, it: Tracked, ahead: List[Tuple[Tracked, Found]], told: Told) -> Optional[bool]:
+        """Whether there are changes to give with what this member says; None: it can't say more within a second."""
+        try:
+            found = self._members.apart(it, lambda: self._link(it).run(self._watch.look(clock.monotonic() + SECOND)))
+        except (LinkBroken, Refused, BadMember) as error:
+            self._drop(it)
+            if isinstance(error, Refused) and self._watch.has_other_way(error):
+                return self._is_given(it, ahead, told)
+            told.append((it.node.name, error))
+            return False
+        if found is None:
+            return None
+        ahead.append((it, found))
+        return self._is_agreed(ahead)
+
+    def _is_agreed(self, ahead: List[Tuple[Tracked, Found]]) -> bool:
+        """Whether so many members gave the same changes up to some time as have to. Then these are given, and whoever
+        gave others is bad."""
+        agree = self._nodes.agree
+        for readable in sorted((found.readable for _, found in ahead), reverse=True)[agree - 1 :]:
+            said = [found.up_to(readable) for _, found in ahead if found.readable >= readable]
+            for one in said:
+                if said.count(one) >= agree:
+                    self._nodes._set_others_bad([it for it, found in ahead if not found.is_like(one)])
+                    self._watch.take(one)
+                    return True
+        return False
+
+    def _nothing(self, told: Told, ahead: List[Tuple[Tracked, Found]]) -> VadungsilError:
+        """The error where no member can go on. One that is away may do so later."""
+        if len(ahead) >= self._nodes.agree > 1:
+            each: Told = [(it.node.name, BadMember(f"{len(found.changes)} changes")) for it, found in ahead]
+            return NoNode(told + each, f"no {self._nodes.agree} members give the same changes")
+        is_away = any(it.state == "away" for it in self._members.all)
+        return (None if is_away else _refused(told)) or self._nodes._none(told)
+
+    def _link(self, it: Tracked) -> MemberLink:
+        if it not in self._links:
+            self._links[it] = MemberLink(it.node, self._watch.limit)
+        return self._links[it]
+
+    def _drop(self, it: Tracked) -> None:
+        link = self._links.pop(it, None)
+        if link is not None:
+            link.close()
+
+    def close(self) -> None:
+        for it in list(self._links):
+            self._drop(it)
+
+
+def _refused(told: Told) -> Optional[Refused]:
+    """What members refused: that they were pruned, before others."""
+    refused = [error for _, error in told if isinstance(error, Refused)]
+    return next((it for it in refused if isinstance(it, TooOld)), refused[0] if refused else None)
 
 
 class NodesMoment(Moment[Optional[Row], List[KeyRow], int]):

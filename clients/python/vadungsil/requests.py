@@ -7,34 +7,36 @@ from typing import Any, Callable, Dict, Generic, Iterable, Iterator, List, Optio
 from .errors import Fault, Refused
 from .messages import encode_request, framed, items_bytes, query_bytes, reply_of
 from .reading import Bytes
+from .later_values import (
+    AskLatest,
+    AskPage,
+    Fed,
+    Latest,
+    Page,
+    Streams,
+)
 from .values import (
     LAST_KEY,
     Answer,
-    AskLatest,
-    AskPage,
     ByTag,
     Count,
     Delta,
     Done,
-    Fed,
     Fragment,
     Front,
     Get,
     Item,
     JoinThis,
     KeyRow,
-    Latest,
     MergeThis,
     Number,
     One,
     Operations,
-    Page,
     Prune,
     Query,
     Range,
     Row,
     Rows,
-    Streams,
     time_of,
 )
 
@@ -53,6 +55,7 @@ Read = Callable[[bytes], Any]
 
 NOT_READ = "the node reads messages of version 1 alone (hkrep serve --messages 2)"
 NOT_FED = f"{NOT_READ}, or an item's frame is of none that it reads"
+NOT_KNOWN = "the node is of an earlier release and doesn't know this request, or its port doesn't take it"
 FRONT = framed(17, b"")
 FULL = framed(19, b"")
 STREAMS = framed(48, b"")
@@ -65,10 +68,11 @@ def ask_frame(time: int, query: Query) -> bytes:
 
 def value_of(rest: bytes, *kinds: type, latest: int = 1, unread: str = NOT_READ) -> Any:
     """The reply, which is of one of these kinds; a refusal is raised, and a reply of another kind is 4. A node that
-    doesn't read version 2 refuses what it was asked in it in version 1, with 3."""
+    doesn't read version 2 refuses what it was asked in it in version 1, with 3, and one that doesn't know it with 4."""
     value = reply_of(rest, latest)
     if isinstance(value, Refused):
-        raise value.at(unread) if rest[0] < latest and value.number == 3 else value
+        why = {3: unread, 4: NOT_KNOWN}.get(value.number) if rest[0] < latest else None
+        raise value.at(why) if why else value
     if not isinstance(value, kinds):
         wanted = " or ".join(kind.__name__ for kind in kinds)
         raise Fault(4, place=f"a reply of {type(value).__name__}, where {wanted} was asked for")

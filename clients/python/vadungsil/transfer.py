@@ -3,13 +3,14 @@ has a connection of its own, which is never opened anew: where it breaks, the no
 from __future__ import annotations
 
 from types import TracebackType
-from typing import Any, Callable, Iterable, Iterator, List, Optional, Type, Union
+from typing import Any, Callable, Iterable, Iterator, List, Optional, Tuple, Type, Union
 
 from .errors import Fault
 from .link import Link
 from .messages import encode_request
 from .requests import value_of
-from .values import (
+from .later_values import (
+    PART_BYTES,
     AddPart,
     Added,
     AskHold,
@@ -17,33 +18,53 @@ from .values import (
     JoinParts,
     LastPart,
     LaterDone,
-    LaterRequest,
     MergeParts,
     More,
     Part,
     Release,
-    VersionKey,
+    Request,
     Whole,
+)
+from .values import (
+    VersionKey,
 )
 
 AnyPart = Union[Part, LastPart]
 
 
+def least_of(limit: Optional[float], other: Optional[float]) -> Optional[float]:
+    """The shorter of two time limits; None is none."""
+    limits = [it for it in (limit, other) if it is not None]
+    return min(limits) if limits else None
+
+
 class OwnLink:
-    """A connection for one transfer or one pinned time."""
+    """A connection for one transfer, one pinned time or one wait."""
 
     def __init__(self, link: Link) -> None:
-        self._link = link
+        self._link, self._limit = link, link.limit
 
-    def ask(self, request: LaterRequest, *kinds: type) -> Any:
-        """The reply, of one of these kinds. After any error the connection is closed."""
-        found: List[bytes] = []
+    @property
+    def has_replied(self) -> bool:
+        return self._link.has_replied
+
+    def ask(self, request: Request, *kinds: type, within: Optional[float] = None) -> Any:
+        """The reply, of one of these kinds, which is waited for `within` so many seconds, where that is less than the
+        connection's own limit. After any error the connection is closed."""
         try:
-            self._link.exchange(encode_request(request), 1, found)
-            return value_of(found[0], *kinds, latest=2)
+            self._link.set_limit(least_of(self._limit, within))
+            return self._read(self._exchanged(request), kinds)
         except BaseException:
             self.close()
             raise
+
+    def _exchanged(self, request: Request) -> bytes:
+        found: List[bytes] = []
+        self._link.exchange(encode_request(request), 1, found)
+        return found[0]
+
+    def _read(self, rest: bytes, kinds: Tuple[type, ...]) -> Any:
+        return value_of(rest, *kinds, latest=2)
 
     def close(self) -> None:
         self._link.close()
@@ -83,10 +104,12 @@ class Hold(OwnLink):
         self.close()
 
 
-class _Given:
-    """What the chunks of one fragment have said so far."""
+class Chunks:
+    """What the chunks of one fragment have said so far. `request` is what is asked for the next one, None behind the
+    last: what a node received since a base, or all that it holds since 0. All are of the moment of the first."""
 
-    def __init__(self) -> None:
+    def __init__(self, base: int, part_bytes: int = PART_BYTES) -> None:
+        self.request: Union[Whole, More, None] = Whole(base, part_bytes)
         self.count, self.whole, self.last = 0, None, None  # type: int, Optional[int], Optional[VersionKey]
 
     def take(self, part: AnyPart) -> None:
@@ -106,21 +129,17 @@ class _Given:
                 place=f"{self.count} facts with a chunk of {len(part.facts)}, which says that the fragment has {whole}",
             )
         self.whole = whole
+        self.request = None if is_last else More()
 
 
 def parts_from(opened: Callable[[], Link], base: int, part_bytes: int) -> Iterator[AnyPart]:
-    """The chunks of what a node received since a base, or of all that it holds since 0; the last one is a `LastPart`.
-    All are of the moment of the first."""
-    given = _Given()
+    """The chunks that `Chunks` asks for; the last one is a `LastPart`."""
+    chunks = Chunks(base, part_bytes)
     with OwnLink(opened()) as link:
-        request: LaterRequest = Whole(base, part_bytes)
-        while True:
-            part: AnyPart = link.ask(request, Part, LastPart)
-            given.take(part)
+        while chunks.request is not None:
+            part: AnyPart = link.ask(chunks.request, Part, LastPart)
+            chunks.take(part)
             yield part
-            if isinstance(part, LastPart):
-                return
-            request = More()
 
 
 def parts_to(opened: Callable[[], Link], parts: Iterable[AnyPart]) -> int:

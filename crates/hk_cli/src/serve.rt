@@ -10,7 +10,7 @@ use hk_net::{NetFault, PartsBudget, serve_links};
 use hk_node::{NewList, NodeName, start};
 use hk_session::Ended;
 use hk_types::{Config, Links, Refusal};
-use std::alloc::Global;
+use std::alloc::{AllocError, Global};
 use std::io::Write;
 use std::marker::Brand;
 use std::net::{Ipv4Addr, Net, TcpListener, TcpStream};
@@ -22,6 +22,17 @@ pub(crate) fn stop_of(fault: NetFault) -> Stop {
     match fault {
         NetFault::Memory => Stop::Refused(Refusal::Memory),
         NetFault::Socket => Stop::NetFault,
+    }
+}
+
+/// The budget of so many bytes that connections share, where a number of bytes is given.
+pub(crate) fn budget_of(
+    alloc: Global,
+    parts_bytes: Option<u64>,
+) -> Result<Option<PartsBudget>, AllocError> {
+    match parts_bytes {
+        Some(most) => Ok(Some(PartsBudget::new(alloc, most)?)),
+        None => Ok(None),
     }
 }
 
@@ -96,7 +107,7 @@ fn serve_list<
     let (node, seats) = start::<J, &R>(rt, alloc, list, links.count())?;
     output.print(&Notice::Listening(port))?;
     output.flush()?;
-    let budget = parts_bytes.map(PartsBudget::new);
+    let budget = budget_of(alloc, parts_bytes)?;
     let served = serve_links(rt, alloc, &listener, &node, budget.as_ref(), seats);
     let ends = served.map_err(stop_of)?;
     print_ends(&ends, output)

@@ -316,7 +316,10 @@ where
     R: Threads + Wait + Sync,
 {
     // Nobody else is served yet.
-    let budget = PartsBudget::new(u64::MAX);
+    let Ok(budget) = PartsBudget::new(rt.alloc(), u64::MAX) else {
+        explain(rt.alloc(), Stop::Refused(Refusal::Memory), words);
+        return (host, false);
+    };
     let mut own = Own::new(rt.alloc(), host, &budget);
     let is_taken = match take_source(rt, source, &mut own, words) {
         Ok(is_taken) => is_taken,

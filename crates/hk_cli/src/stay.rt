@@ -7,7 +7,7 @@ use crate::head::Heads;
 use crate::link_reporter::{LinkReporter, Reports};
 use crate::memory::share_of_memory;
 use crate::notice::Notice;
-use crate::serve::{listener_of, new_list, stop_of, tell_unproved};
+use crate::serve::{budget_of, listener_of, new_list, stop_of, tell_unproved};
 use crate::starting::begin;
 use crate::texts::{Backlog, MOST_WAITING, Target, Text, TextWriter, write_texts};
 use crossbeam_channel::{Sender, bounded};
@@ -351,7 +351,7 @@ where
         every => seats.pop().map(|seat| Reports::new(seat, every)),
     };
     let parts_bytes = parts_bytes_of(rt, stay);
-    let budget = parts_bytes.map(PartsBudget::new);
+    let budget = budget_of(alloc, parts_bytes)?;
     let places = places_of(alloc, &node, seats, stay, &listeners, budget.as_ref())?;
     tell_start(alloc, config, stay, parts_bytes, output)?;
     serve_writing(rt, alloc, stay, places, reports, output).map_err(stop_of)

@@ -191,7 +191,8 @@ fn ask_call<'a>(matches: &ArgMatches<'a>, named: Option<&'a str>) -> Option<Call
 fn front_call<'a>(matches: &ArgMatches<'a>, named: Option<&'a str>) -> Option<Call<'a>> {
     let form = form_of(matches);
     let alone = config_of(matches).map(|config| Alone::Front { config, form });
-    either(matches, named, Order::Front { form }, alone)
+    let wait = u64_of(matches, "wait").and_then(|time| Time::new(time).ok());
+    either(matches, named, Order::Front { wait, form }, alone)
 }
 
 fn status_call<'a>(matches: &ArgMatches<'a>, named: Option<&'a str>) -> Option<Call<'a>> {

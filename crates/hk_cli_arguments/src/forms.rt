@@ -256,7 +256,15 @@ pub(crate) fn numbers_of(form: CommandForm) -> &'static [Number] {
             Number::ConnectSeconds,
             Number::OrReplySeconds,
         ],
-        CommandForm::Front | CommandForm::Status => &[
+        CommandForm::Front => &[
+            Number::OrLog,
+            Number::OrStreams,
+            Number::Port,
+            Number::Wait,
+            Number::ConnectSeconds,
+            Number::OrReplySeconds,
+        ],
+        CommandForm::Status => &[
             Number::OrLog,
             Number::OrStreams,
             Number::Port,

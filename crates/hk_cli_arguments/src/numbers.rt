@@ -22,6 +22,7 @@ pub(crate) enum Number {
     OrTime,
     At,
     Horizon,
+    Wait,
     Table,
     Key,
     Low,
@@ -73,6 +74,7 @@ pub(crate) fn name_of(number: Number) -> &'static str {
         Number::Batch => "batch",
         Number::Time | Number::OrTime | Number::Horizon => "time",
         Number::At => "at",
+        Number::Wait => "wait",
         Number::Table => "table",
         Number::Key => "key",
         Number::Low => "low",
@@ -101,6 +103,7 @@ fn value_of(number: Number) -> &'static str {
         Number::Log | Number::OrLog => "L",
         Number::Streams | Number::OrStreams | Number::ServeStreams => "S",
         Number::Time | Number::OrTime | Number::At | Number::Horizon => "T",
+        Number::Wait => "TIME",
         Number::Table => "TABLE",
         Number::Key => "KEY",
         Number::Low => "LOW",
@@ -171,6 +174,9 @@ fn help_of_query(number: Number) -> &'static str {
         Number::Horizon => "The time: 0 to 4611686018427387904",
         Number::Time | Number::OrTime => "The time to read at: 0 to 4611686018427387904",
         Number::At => "The same, behind the query as well as before it",
+        Number::Wait => {
+            "Wait until this time can be read, 0 to 4611686018427387904; the node has to answer messages of version 2"
+        }
         Number::Table => "The number of the table: 0 to 65535",
         Number::Key => "The key of the row: 0 to 18446744073709551615",
         Number::Low => "The least key",
@@ -207,6 +213,7 @@ fn range_of(number: Number) -> Range {
         Number::Time | Number::OrTime | Number::At | Number::Horizon => {
             Range::Within(0, 4_611_686_018_427_387_904)
         }
+        Number::Wait => Range::Within(0, 4_611_686_018_427_387_904),
         Number::Table => Range::Within(0, 65_535),
         Number::Tag => Range::Within(0, 4_294_967_295),
         Number::ConnectSeconds | Number::ReadSeconds => Range::Within(0, 86_400),
@@ -227,6 +234,7 @@ fn need_of(number: Number) -> Need {
         Number::OrLog => Need::with(&["streams"]).and_without(NO_NODE),
         Number::OrStreams => Need::with(&["log"]),
         Number::PartsBytes => Need::with(&["messages"]),
+        Number::Wait => Need::without(&["log"]),
         Number::ReadSeconds | Number::ReportChanges => Need::with(&["stay"]),
         Number::FeedPort => Need::with(&["stay", "feed-links"]),
         Number::FeedLinks => Need::with(&["stay", "feed-port"]),

@@ -43,8 +43,9 @@ pub enum Order {
         query: Query,
         form: OutputForm,
     },
-    /// To return its range of readable times.
+    /// To return its range of readable times; where a time is given, once that can be read.
     Front {
+        wait: Option<Time>,
         form: OutputForm,
     },
     /// To return how far each stream is.
@@ -77,7 +78,7 @@ impl Order {
     /// The form of what is printed.
     pub fn form(&self) -> OutputForm {
         match self {
-            Order::Ask { form, .. } | Order::Front { form } => *form,
+            Order::Ask { form, .. } | Order::Front { form, .. } => *form,
             Order::Status { form } | Order::Save { form } => *form,
             Order::Push { .. } | Order::Shell { .. } | Order::Load => OutputForm::Lines,
             Order::Pull | Order::Prune { .. } | Order::Feed { .. } => OutputForm::Lines,

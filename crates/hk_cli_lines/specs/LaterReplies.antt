@@ -8,7 +8,7 @@ use Rattle.hk_model.specs.Replica.StreamsTold.{StreamsValue}
 use Rattle.hk_model.specs.declared.streams_told.StreamTold.{StreamTold}
 use Rattle.hk_values.specs.Parts.{WireHead}
 use Rattle.hk_wire.specs.LaterReplies.{ReplyValue}
-use Rattle.hk_wire.specs.LaterReplies.ReplyValue.{Done, Streams, Latest, Page, Part, LastPart, Added, Held, Refused, Fed}
+use Rattle.hk_wire.specs.LaterReplies.ReplyValue.{Done, Streams, Latest, Page, Part, LastPart, Added, Held, Refused, Fed, Ready}
 use Rattle.hk_cli_lines.specs.Lines.{line_end, field, keyed_line, answer_lines, refusal_line}
 
 -- ---- streams
@@ -72,7 +72,7 @@ part_line facts left = codes "part " ++ decimal (length facts) ++ codes " left "
 abbrev pub last_part_line : List Known → WireHead → List ℕ
 last_part_line facts head = codes "last part " ++ decimal (length facts) ++ codes " base " ++ decimal head.base ++ line_end
 
--- ---- holds, and items that were fed
+-- ---- holds, items that were fed, and waits
 
 -- what is printed of a hold
 abbrev pub held_line : ℕ → ℕ → List ℕ
@@ -81,6 +81,10 @@ held_line hold t = codes "held " ++ decimal hold ++ codes " at " ++ decimal t ++
 -- what is printed of items that were fed: the node's operations, and how many of the items were new
 abbrev pub fed_line : ℕ → ℕ → List ℕ
 fed_line ops new = codes "fed " ++ decimal ops ++ codes " new " ++ decimal new ++ line_end
+
+-- what is printed of a wait that ended: from where to where the node can be read
+abbrev pub ready_line : ℕ → ℕ → List ℕ
+ready_line horizon readable = codes "ready horizon " ++ decimal horizon ++ codes " readable " ++ decimal readable ++ line_end
 
 -- ---- replies
 
@@ -96,3 +100,4 @@ reply_lines (Added count) = codes "added " ++ decimal count ++ line_end
 reply_lines (Held hold t) = held_line hold t
 reply_lines (Refused why) = refusal_line why
 reply_lines (Fed ops new) = fed_line ops new
+reply_lines (Ready horizon readable) = ready_line horizon readable

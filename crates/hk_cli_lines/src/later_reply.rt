@@ -128,6 +128,12 @@ fn put_fed(ops: u64, new: u64, out: &mut String) -> Result<(), AllocError>
     writeln!(out, "fed {ops} new {new}")
 }
 
+fn put_ready(horizon: Time, readable: Time, out: &mut String) -> Result<(), AllocError>
+    ensures { OnOk result (string_bytes out.new ≡ string_bytes out.old ++ spec.ready_line horizon readable) }
+{
+    writeln!(out, "ready horizon {horizon} readable {readable}")
+}
+
 impl Printed for LaterReply {
     ghost text = { λ reply. spec.reply_lines (reply_seen reply) };
 
@@ -152,6 +158,7 @@ impl Printed for LaterReply {
             LaterReply::Added { count } => writeln!(out, "added {count}"),
             LaterReply::Held { number, t } => put_held(*number, *t, out),
             LaterReply::Fed { ops, new } => put_fed(*ops, *new, out),
+            LaterReply::Ready { horizon, readable } => put_ready(*horizon, *readable, out),
             LaterReply::Refused(refusal) => refusal.print_to(alloc, out),
         }
     }

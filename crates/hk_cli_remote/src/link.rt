@@ -59,6 +59,9 @@ fn is_later(request: &Request) -> bool {
     matches!(request, Request::Later(_) | Request::Feed(_))
 }
 
+/// The most milliseconds for which a request is let wait.
+const MOST_WAIT: u32 = 10_000;
+
 /// The refusal of a message of another version.
 const OTHER_VERSION: Refusal = Refusal::Form(FormFault::BadVersion);
 
@@ -281,6 +284,16 @@ impl<'a> Link<'a> {
         match self.granted(&Request::Later(request))? {
             Reply::Later(reply) => Ok(reply),
             _other => Err(unasked()),
+        }
+    }
+
+    /// For how many milliseconds a request may be let wait: half of what the node's silence is waited for, and ten seconds at most.
+    pub(crate) fn most_wait(&self) -> u32 {
+        match self.limits.reply_seconds {
+            0 => MOST_WAIT,
+            seconds => u32::try_from(seconds.saturating_mul(500))
+                .unwrap_or(MOST_WAIT)
+                .min(MOST_WAIT),
         }
     }
 

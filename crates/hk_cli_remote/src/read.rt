@@ -9,10 +9,17 @@ use hk_cli_reasons::RequestContext;
 use hk_fragment::Fragment;
 use hk_log::Version;
 use hk_model::{Answer, Front, Query};
-use hk_types::{Refusal, Time, VersionKey};
-use hk_wire::{LaterRequest, Reply, Request, encode_request};
+use hk_types::{FormFault, Refusal, Time, VersionKey};
+use hk_wire::{LaterReply, LaterRequest, Reply, Request, encode_request};
 use std::alloc::Global;
 use std::io::Write;
+
+/// The most requests that one command lets wait.
+const MOST_WAITS: u64 = 4_294_967_296;
+
+/// The line where a node that is to let a request wait knows none that can.
+const ONE_VERSION: &str =
+    "the node answers messages of version 1 alone, and --wait needs version 2: start it by 'hkrep node', or with --messages 2\n";
 
 /// The node's range of readable times.
 pub(crate) fn front_at(link: &mut Link<'_>) -> Result<Front, Stop> {
@@ -64,6 +71,58 @@ pub(crate) fn tell_front<W: Write, E: Write>(
 ) -> Result<(), Stop> {
     let front = front_at(link)?;
     output.show_front(front)
+}
+
+/// The node's range of readable times, as it replies to a request that it lets wait until a time can be read.
+fn front_after(link: &mut Link<'_>, t: Time) -> Result<Front, Stop> {
+    let milliseconds = link.most_wait();
+    match link.granted_later(LaterRequest::Await { t, milliseconds })? {
+        LaterReply::Ready { horizon, readable } => Ok(Front { horizon, readable }),
+        _other => Err(unasked()),
+    }
+}
+
+/// Prints the node's range of readable times, once a time can be read.
+fn tell_front_at<W: Write, E: Write>(
+    link: &mut Link<'_>,
+    time: Time,
+    output: &mut Output<'_, W, E>,
+) -> Result<(), Stop> {
+    for _ in 0..MOST_WAITS {
+        let front = front_after(link, time)?;
+        if front.readable >= time {
+            return output.show_front(front);
+        }
+    }
+    Err(Stop::ReadFault)
+}
+
+/// Says where a node answers messages of version 1 alone, if a wait was stopped by that.
+fn tell_version<W: Write, E: Write>(stop: &Stop, output: &mut Output<'_, W, E>) {
+    if matches!(
+        stop,
+        Stop::RefusedAt(Refusal::Form(FormFault::BadVersion), _)
+    ) {
+        output.note(ONE_VERSION);
+    }
+}
+
+/// The same, at once where no time is given. Where a node answers messages of version 1 alone a line of its own says that.
+pub(crate) fn tell_front_from<W: Write, E: Write>(
+    link: &mut Link<'_>,
+    wait: Option<Time>,
+    output: &mut Output<'_, W, E>,
+) -> Result<(), Stop> {
+    let Some(time) = wait else {
+        return tell_front(link, output);
+    };
+    match tell_front_at(link, time, output) {
+        Ok(()) => Ok(()),
+        Err(stop) => {
+            tell_version(&stop, output);
+            Err(stop)
+        }
+    }
 }
 
 /// Prints how far each stream of the node is, by a delta since its resolved time.

@@ -1,8 +1,4 @@
-mod WholeGiven
-mod LettingGo
-mod LinkHolds
 mod JoinRequests
-pub mod Seen
+mod Seen
 mod ChangeReplies
 mod WaitingChanges
-pub mod BothSeen

@@ -1,5 +1,2 @@
 pub mod Replying
-pub mod NodeSides
-pub mod LinkStates
-pub mod LaterReplying
-pub mod GivenWhole
+pub mod Pins

@@ -9,9 +9,9 @@ ghost use Rattle.hk_oplog.specs.Replay.{is_legal};
 ghost use Rattle.hk_host.specs.Replying.{MayFeed};
 
 use crate::node_host::NodeHost;
-use crate::node_side::NodeSide;
 use hk_delta::Fragment;
-use hk_model::{Answer, Page, Query, StreamsTold};
+use hk_link::NodeSide;
+use hk_model::{Answer, Front, Page, Query, StreamsTold};
 use hk_node::{Hold, NodeName, ReaderSeat};
 use hk_session::Host;
 use hk_types::{Key, Refusal, Table, Time};
@@ -86,7 +86,7 @@ impl<'a, J: NodeName, N: Wait + Drop, R: Threads + Wait + Sync> Host for FeedHos
 }
 
 impl<'a, J: NodeName, N: Wait + Drop, R: Threads + Wait + Sync> NodeSide for FeedHost<'a, J, N, R> {
-    ghost use Rattle.hk_host.specs.NodeSides.{RefusesHold, RefusesRelease};
+    ghost use Rattle.hk_host.specs.Pins.{RefusesHold, RefusesRelease};
 
     ghost side = { record { list = λ l. l; may_hold = RefusesHold; may_release = RefusesRelease } };
 
@@ -103,6 +103,10 @@ impl<'a, J: NodeName, N: Wait + Drop, R: Threads + Wait + Sync> NodeSide for Fee
         most: u32,
     ) -> Result<Page, Refusal> {
         self.inner.page(time, table, low, high, most)
+    }
+
+    fn marks(&mut self) -> Result<Front, Refusal> {
+        self.inner.marks()
     }
 
     fn streams(&mut self) -> Result<StreamsTold, Refusal> {

@@ -3,7 +3,7 @@
 ghost use Rattle.std.specs.Prelude.{◌≡◌, true};
 ghost use mathlib.Core.List.{IsPrefix};
 ghost use Rattle.hk_oplog.specs.Replay.{is_legal};
-ghost use Rattle.hk_host.specs.NodeSides.{ReleasesHold, TakesHold};
+ghost use Rattle.hk_host.specs.Pins.{ReleasesHold, TakesHold};
 
 use crate::link_events::{LinkEvent, Teller};
 use crate::seat_host::SeatHost;
@@ -12,14 +12,14 @@ use hk_types::{Refusal, Time};
 use std::sync::Wait;
 
 /// Reports that a change took effect, if there is a teller.
-pub(crate) fn tell_changed<R: Wait>(rt: &R, teller: Option<&Teller>, ops: u64) {
+pub(crate) fn tell_changed<R: Wait>(rt: &R, teller: Option<&Teller<'_>>, ops: u64) {
     if let Some(teller) = teller {
         teller.tell_changed(rt, ops);
     }
 }
 
 /// Reports that a change was refused, if there is a teller.
-pub(crate) fn tell_refused<R: Wait>(rt: &R, teller: Option<&Teller>, why: &Refusal) {
+pub(crate) fn tell_refused<R: Wait>(rt: &R, teller: Option<&Teller<'_>>, why: &Refusal) {
     if let Some(teller) = teller {
         teller.tell(rt, LinkEvent::Refused(why.number()));
     }
@@ -30,7 +30,7 @@ pub(crate) fn hold_on<J: NodeName, N: Wait + Drop, R: Wait>(
     rt: &R,
     node: &Node<J, N>,
     reads: &mut SeatHost<J>,
-    teller: Option<&Teller>,
+    teller: Option<&Teller<'_>>,
     time: Time,
 ) -> Result<Hold, (Option<Hold>, Refusal)>
     ensures held { TakesHold J.kind reads.old time result reads.new }
@@ -61,7 +61,7 @@ pub(crate) fn release_on<J: NodeName, N: Wait + Drop, R: Wait>(
     rt: &R,
     node: &Node<J, N>,
     reads: &mut SeatHost<J>,
-    teller: Option<&Teller>,
+    teller: Option<&Teller<'_>>,
     hold: Hold,
 ) -> Result<u64, (Option<Hold>, Refusal)>
     ensures released { ReleasesHold J.kind reads.old hold result reads.new }

@@ -1,5 +1,6 @@
 //! What happens to the connections of a long-running node, as events on their way to a watcher.
 
+use crate::bell::Bell;
 use crossbeam_channel::{Receiver, Sender};
 use hk_session::Ended;
 use std::alloc::AllocError;
@@ -34,26 +35,35 @@ pub trait Watch {
 
 /// Reports the events of the connections of one slot.
 #[derive(Drop)]
-pub struct Teller {
+pub struct Teller<'a> {
     place: usize,
     /// Whether changes that took effect are reported too.
     tells_changes: bool,
     events: Sender<(usize, LinkEvent)>,
+    /// Who waits until a time is readable.
+    bell: &'a Bell,
 }
 
-impl Teller {
+impl<'a> Teller<'a> {
     /// A further teller on the way of these events.
     pub fn new(
         place: usize,
         tells_changes: bool,
         events: &Sender<(usize, LinkEvent)>,
-    ) -> Result<Teller, AllocError> {
+        bell: &'a Bell,
+    ) -> Result<Teller<'a>, AllocError> {
         let events = events.clone()?;
         Ok(Teller {
             place,
             tells_changes,
             events,
+            bell,
         })
+    }
+
+    /// What wakes those who wait until a time is readable.
+    pub fn bell(&self) -> &Bell {
+        self.bell
     }
 
     /// Reports an event. It waits where many are not received yet.

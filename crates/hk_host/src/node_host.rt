@@ -17,12 +17,12 @@ ghost use Rattle.hk_host.specs.Replying.{IsChangeReply, IsFedReply, IsItemsReply
 
 use crate::holding::{hold_on, release_on, tell_changed, tell_refused};
 use crate::link_events::Teller;
-use crate::node_side::NodeSide;
 use crate::seat_host::SeatHost;
 use hk_batch::{OpenGate, build};
 use hk_delta::{Fragment, fragment_of};
+use hk_link::NodeSide;
 use hk_log::Item;
-use hk_model::{Answer, Page, Query, StreamsTold};
+use hk_model::{Answer, Front, Page, Query, StreamsTold};
 use hk_node::{Hold, Node, NodeName, ReaderSeat, Receipt};
 use hk_session::Host;
 use hk_types::{Key, Refusal, Table, Time};
@@ -61,7 +61,7 @@ pub struct NodeHost<'a, J: NodeName, N: Wait + Drop, R: Threads + Wait + Sync> {
     node: &'a Node<J, N>,
     pub(crate) reads: SeatHost<J>,
     /// Who receives reports of changes, if anyone does.
-    teller: Option<&'a Teller>,
+    teller: Option<&'a Teller<'a>>,
 }
 
 impl<'a, J: NodeName, N: Wait + Drop, R: Threads + Wait + Sync> Model for NodeHost<'a, J, N, R> {
@@ -105,7 +105,7 @@ impl<'a, J: NodeName, N: Wait + Drop, R: Threads + Wait + Sync> NodeHost<'a, J, 
         alloc: Global,
         node: &'a Node<J, N>,
         seat: ReaderSeat<J>,
-        teller: &'a Teller,
+        teller: &'a Teller<'a>,
     ) -> NodeHost<'a, J, N, R>
         ensures { result ≡ seat }
     {
@@ -136,8 +136,37 @@ impl<'a, J: NodeName, N: Wait + Drop, R: Threads + Wait + Sync> NodeHost<'a, J, 
         ensures kept { OnErr result (self.new ≡ self.old) }
     {
         let ops = self.reads.learn(receipt)?;
+        self.tell_marks();
         tell_changed(self.rt, self.teller, ops);
         Ok(ops)
+    }
+
+    /// Wakes who waits for a time that is readable now.
+    fn tell_marks(&mut self)
+        ensures legal { is_legal self.new ≡ true }
+        ensures seen { IsPrefix self.old self.new }
+    {
+        let marks = self.reads.marks();
+        if let Some(teller) = self.teller {
+            match marks {
+                Ok(front) => teller.bell().ring(self.rt, front.readable),
+                Err(Refusal::Damaged) => teller.bell().ring_for_good(self.rt),
+                Err(_no_memory) => {}
+            }
+        }
+    }
+
+    /// Reports that a change was refused. Where that made the node fail nobody waits any more.
+    fn tell_refused(&self, why: &Refusal)
+        ensures { is_legal self.now ≡ true }
+    {
+        let is_guarded = self.reads.is_guarded();
+        tell_refused(self.rt, self.teller, why);
+        if let (Some(teller), Refusal::Conflict, false) = (self.teller, why, is_guarded) {
+            if self.node.hold_refusal(self.rt, Time::zero()) == Refusal::Damaged {
+                teller.bell().ring_for_good(self.rt);
+            }
+        }
     }
 
     /// The reply to a change that the node answered so.
@@ -150,12 +179,12 @@ impl<'a, J: NodeName, N: Wait + Drop, R: Threads + Wait + Sync> NodeHost<'a, J, 
             Ok(receipt) => match self.learn(receipt) {
                 Ok(ops) => Reply::Done { ops },
                 Err(why) => {
-                    tell_refused(self.rt, self.teller, &why);
+                    self.tell_refused(&why);
                     Reply::Refused(why)
                 }
             },
             Err(why) => {
-                tell_refused(self.rt, self.teller, &why);
+                self.tell_refused(&why);
                 Reply::Refused(why)
             }
         }
@@ -239,7 +268,7 @@ impl<'a, J: NodeName, N: Wait + Drop, R: Threads + Wait + Sync> NodeHost<'a, J, 
         match self.take_items(items) {
             Ok((ops, _)) => Reply::Done { ops },
             Err(why) => {
-                tell_refused(self.rt, self.teller, &why);
+                self.tell_refused(&why);
                 Reply::Refused(why)
             }
         }
@@ -254,7 +283,7 @@ impl<'a, J: NodeName, N: Wait + Drop, R: Threads + Wait + Sync> NodeHost<'a, J, 
         match self.take_items(items) {
             Ok((ops, new)) => Reply::Later(LaterReply::Fed { ops, new }),
             Err(why) => {
-                tell_refused(self.rt, self.teller, &why);
+                self.tell_refused(&why);
                 Reply::Later(LaterReply::Refused(why))
             }
         }
@@ -284,7 +313,7 @@ impl<'a, J: NodeName, N: Wait + Drop, R: Threads + Wait + Sync> Host for NodeHos
 }
 
 impl<'a, J: NodeName, N: Wait + Drop, R: Threads + Wait + Sync> NodeSide for NodeHost<'a, J, N, R> {
-    ghost use Rattle.hk_host.specs.NodeSides.{ReleasesHold, TakesHold};
+    ghost use Rattle.hk_host.specs.Pins.{ReleasesHold, TakesHold};
 
     ghost side = { record { list = λ l. l; may_hold = TakesHold J.kind; may_release = ReleasesHold J.kind } };
 
@@ -301,6 +330,10 @@ impl<'a, J: NodeName, N: Wait + Drop, R: Threads + Wait + Sync> NodeSide for Nod
         most: u32,
     ) -> Result<Page, Refusal> {
         self.reads.page(time, table, low, high, most)
+    }
+
+    fn marks(&mut self) -> Result<Front, Refusal> {
+        self.reads.marks()
     }
 
     fn streams(&mut self) -> Result<StreamsTold, Refusal> {

@@ -10,9 +10,9 @@ ghost use Rattle.hk_oplog.specs.Replay.{is_legal, replay};
 ghost use Rattle.hk_oplog.specs.Replies.{node_delta, node_front, node_reply, node_whole};
 ghost use Rattle.hk_host.specs.Replying.{IsOrOutOfMemory, MayOnlyRead, front_reply};
 
-use crate::node_side::NodeSide;
 use hk_delta::Fragment;
-use hk_model::{Answer, Page, Query, StreamsTold};
+use hk_link::NodeSide;
+use hk_model::{Answer, Front, Page, Query, StreamsTold};
 use hk_node::{Hold, NodeName, ReaderSeat, Receipt};
 use hk_session::Host;
 use hk_types::{Config, FormFault, Key, Refusal, Table, Time};
@@ -166,7 +166,7 @@ impl<J: NodeName> Host for SeatHost<J> {
 }
 
 impl<J: NodeName> NodeSide for SeatHost<J> {
-    ghost use Rattle.hk_host.specs.NodeSides.{RefusesHold, RefusesRelease};
+    ghost use Rattle.hk_host.specs.Pins.{RefusesHold, RefusesRelease};
 
     ghost side = { record { list = λ l. l; may_hold = RefusesHold; may_release = RefusesRelease } };
 
@@ -183,6 +183,10 @@ impl<J: NodeName> NodeSide for SeatHost<J> {
         most: u32,
     ) -> Result<Page, Refusal> {
         self.seat.page(time, table, low, high, most)
+    }
+
+    fn marks(&mut self) -> Result<Front, Refusal> {
+        self.seat.front()
     }
 
     fn streams(&mut self) -> Result<StreamsTold, Refusal> {

@@ -3,9 +3,9 @@ use Rattle.std.specs.Prelude.{ℕ, Bool, true, false, ◌&&◌, ◌||◌, ◌==�
 use Rattle.hk_net.specs.declared.frame_watch.Passes.{Passes}
 use Rattle.hk_net.specs.declared.frame_watch.Passes.TheVariants.{All, Feeds, Readings}
 
--- the kinds of requests that change nothing: Front, Delta, Full and Ask; Streams, AskLatest, Page, Whole and More
+-- the kinds of requests that change nothing: Front, Delta, Full and Ask; Streams, AskLatest, Page, Whole and More; Await
 abbrev pub is_reading : ℕ → Bool
-is_reading kind = (nat_le 17 kind && nat_le kind 20) || (nat_le 48 kind && nat_le kind 52)
+is_reading kind = (nat_le 17 kind && nat_le kind 20) || (nat_le 48 kind && nat_le kind 52) || (kind == 59)
 
 -- the kinds of requests to take items: Items and Feed
 abbrev pub is_feeding : ℕ → Bool

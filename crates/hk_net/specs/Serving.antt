@@ -9,9 +9,9 @@ use Rattle.hk_oplog.specs.declared.op.NodeKind.{NodeKind}
 use Rattle.hk_oplog.specs.declared.op.Op.{Op}
 use Rattle.hk_wire.specs.declared.request.Request.{Request}
 use Rattle.hk_wire.specs.declared.reply.Reply.{Reply}
-use Rattle.hk_host.specs.LaterReplying.{AreLetGo, MayReplyBoth}
-use Rattle.hk_host.specs.LinkStates.{LinkValue}
-use Rattle.hk_host.specs.NodeSides.{Sided}
+use Rattle.hk_link.specs.LaterReplying.{AreLetGo, MayReplyBoth}
+use Rattle.hk_link.specs.LinkStates.{LinkValue}
+use Rattle.hk_link.specs.NodeSides.{Sided}
 use Rattle.hk_host.specs.Replying.{MayOnlyRead, MayReply}
 
 -- a session of a host in version 1, which is given back

@@ -27,6 +27,9 @@ const FIRST_LATER_READING: u8 = 48;
 
 const LAST_LATER_READING: u8 = 52;
 
+/// That of the request to reply once a time is readable.
+const AWAIT: u8 = 59;
+
 /// A kind byte that no message has, and a byte of a length that no frame has.
 const NO_KIND: u8 = 255;
 
@@ -100,6 +103,7 @@ fn is_reading(kind: u8) -> bool
 {
     (kind >= FIRST_READING && kind <= LAST_READING)
         || (kind >= FIRST_LATER_READING && kind <= LAST_LATER_READING)
+        || kind == AWAIT
 }
 
 impl FrameWatch {

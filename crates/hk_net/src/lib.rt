@@ -13,10 +13,8 @@ mod sessions;
 mod staying;
 
 pub use fault::NetFault;
-pub use hk_host::{
-    FeedHost, LinkEvent, LinkState, NodeHost, NodeSide, PartsBudget, PartsHost, SeatHost, Watch,
-    given_law,
-};
+pub use hk_host::{FeedHost, LinkEvent, NodeHost, SeatHost, Watch};
+pub use hk_link::{LinkState, NodeSide, PartsBudget, PartsHost, given_law};
 pub use links::serve_links;
 pub use seats::{read_on_seat, serve_on_seat};
 pub use sessions::{serve_parts, serve_plain};

@@ -4,9 +4,10 @@ ghost use Rattle.std.specs.Prelude.{◌≡◌, length, IfOk};
 
 use crate::fault::NetFault;
 use crate::sessions::serve_host;
-use hk_host::{NodeHost, PartsBudget};
+use hk_host::NodeHost;
+use hk_link::PartsBudget;
 use hk_node::{Node, NodeName, ReaderSeat};
-use hk_session::{Counted, Ended};
+use hk_session::{AtOnce, Counted, Ended};
 use std::alloc::Global;
 use std::io::Read;
 use std::net::{Shutdown, TcpListener, TcpStream};
@@ -65,6 +66,7 @@ fn serve_link<J: NodeName, N: Wait + Drop, R: Threads + Wait + Sync>(
         budget,
         host,
         Vec::new(alloc),
+        &mut AtOnce,
         &mut reader,
         &mut writer,
     );

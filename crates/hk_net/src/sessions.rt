@@ -4,9 +4,9 @@ ghost use Rattle.std.specs.Prelude.{◌≡◌};
 ghost use mathlib.Core.List.{IsPrefix};
 ghost use Rattle.hk_net.specs.Serving.{Runs, ServesHost};
 
-use hk_host::{LinkState, NodeSide, PartsBudget, PartsHost};
+use hk_link::{LinkState, NodeSide, PartsBudget, PartsHost};
 use hk_node::Hold;
-use hk_session::{Counted, Ended, serve};
+use hk_session::{Counted, Ended, Waiter, serve, serve_waiting};
 use std::alloc::Global;
 use std::io::{Read, Write};
 
@@ -34,10 +34,11 @@ pub fn serve_plain<H: NodeSide + Drop, I: Read + Drop, O: Write + Drop>(
 /// Runs the session of a connection in both versions, as `serve` over a `PartsHost`. However it ends, the release of each pin
 /// that the connection has then is asked for, and of no other, as `PartsHost::end` does. Returns how it ended, the host for
 /// version 1, and just those of the connection's pins that the node handed back, with which the next connection of the slot
-/// begins. Cost: that of the session and of the releases.
-pub fn serve_parts<H: NodeSide + Drop, I: Read + Drop, O: Write + Drop>(
+/// begins. Before an Await is answered the waiter waits for it. Cost: that of the session and of the releases.
+pub fn serve_parts<H: NodeSide + Drop, I: Read + Drop, O: Write + Drop, W: Waiter>(
     alloc: Global,
     link: PartsHost<'_, H>,
+    waiter: &mut W,
     reader: &mut Counted<I>,
     writer: &mut Counted<O>,
 ) -> (Ended, H, Vec<Hold>)
@@ -50,18 +51,19 @@ pub fn serve_parts<H: NodeSide + Drop, I: Read + Drop, O: Write + Drop>(
         I.remaining reader.old reader.new O.contents writer.old writer.new result }
 {
     let mut served = link;
-    let ended = serve::<2, _, _, _>(alloc, reader, writer, &mut served);
+    let ended = serve_waiting::<2, _, _, _, _>(alloc, reader, writer, &mut served, waiter);
     let (inner, left) = served.end();
     (ended, inner, left)
 }
 
 /// Runs the session of a connection over a host: with a budget in both versions, with these pins, else in version 1. Returns how it
 /// ended, the host, and the pins that are still active.
-pub(crate) fn serve_host<H: NodeSide + Drop, I: Read + Drop, O: Write + Drop>(
+pub(crate) fn serve_host<H: NodeSide + Drop, I: Read + Drop, O: Write + Drop, W: Waiter>(
     alloc: Global,
     budget: Option<&PartsBudget>,
     host: H,
     holds: Vec<Hold>,
+    waiter: &mut W,
     reader: &mut Counted<I>,
     writer: &mut Counted<O>,
 ) -> (Ended, H, Vec<Hold>)
@@ -73,7 +75,7 @@ pub(crate) fn serve_host<H: NodeSide + Drop, I: Read + Drop, O: Write + Drop>(
     match budget {
         Some(budget) => {
             let link = PartsHost::new(host, LinkState::new(alloc, budget, holds));
-            serve_parts(alloc, link, reader, writer)
+            serve_parts(alloc, link, waiter, reader, writer)
         }
         None => {
             let (ended, host) = serve_plain(alloc, host, reader, writer);

@@ -10,11 +10,11 @@ use crate::link_reader::LinkReader;
 use crate::links::drain;
 use crate::sessions::serve_host;
 use crossbeam_channel::{Sender, bounded};
-use hk_host::{
-    EVENTS, FeedHost, LinkEvent, NodeHost, PartsBudget, SeatHost, Teller, Watch, hand_on,
-};
+use hk_host::{Bell, EVENTS, FeedHost, LinkEvent, NodeHost, SeatHost, Teller, Watch, hand_on};
+use hk_link::{NodeSide, PartsBudget};
 use hk_node::{Hold, Node, NodeName, ReaderSeat};
-use hk_session::{Counted, Ended};
+use hk_session::{Counted, Ended, Waiter};
+use hk_types::Time;
 use std::alloc::{AllocError, Global};
 use std::net::{TcpListener, TcpStream};
 use std::rt::Clock;
@@ -118,6 +118,19 @@ impl<'a, J: NodeName, N: Wait + Drop> Door<'a, J, N> {
     }
 }
 
+/// Waits in the connection's thread until a time is readable.
+#[derive(Drop)]
+struct AtBell<'a, R> {
+    rt: &'a R,
+    bell: &'a Bell,
+}
+
+impl<R: Wait + Clock> Waiter for AtBell<'_, R> {
+    fn wait(&mut self, time: Time, milliseconds: u32) {
+        self.bell.wait(self.rt, time, milliseconds);
+    }
+}
+
 /// What a slot has between two connections: its seat, and pins of its last connection whose release was refused.
 #[derive(Drop)]
 struct Place<J: NodeName> {
@@ -125,59 +138,66 @@ struct Place<J: NodeName> {
     holds: Vec<Hold>,
 }
 
+/// Runs the session of a connection over a host to its end. Returns how it ended, the host, and the pins that are still active.
+fn serve_way<J: NodeName, N: Wait + Drop, R: Threads + Wait + Clock + Sync, H: NodeSide + Drop>(
+    rt: &R,
+    alloc: Global,
+    door: &Door<'_, J, N>,
+    host: H,
+    holds: Vec<Hold>,
+    stream: &TcpStream,
+    teller: &Teller<'_>,
+) -> (Ended, H, Vec<Hold>)
+    requires ready { H.ready host }
+    ensures seen { IsPrefix (H.side.list host) (H.side.list result.1) }
+{
+    let mut reader = Counted::new(LinkReader::new(stream, door.read_seconds, door.way.passes()));
+    let mut writer = Counted::new(stream);
+    let mut waiter = AtBell {
+        rt,
+        bell: teller.bell(),
+    };
+    serve_host(
+        alloc,
+        door.budget,
+        host,
+        holds,
+        &mut waiter,
+        &mut reader,
+        &mut writer,
+    )
+}
+
 /// Runs the session of a connection to its end, and returns the slot.
-fn serve_stream<J: NodeName, N: Wait + Drop, R: Threads + Wait + Sync>(
+fn serve_stream<J: NodeName, N: Wait + Drop, R: Threads + Wait + Clock + Sync>(
     rt: &R,
     alloc: Global,
     door: &Door<'_, J, N>,
     place: Place<J>,
     stream: &TcpStream,
-    teller: &Teller,
+    teller: &Teller<'_>,
 ) -> (Ended, Place<J>)
     ensures { IsPrefix place.seat result.1.seat }
 {
     // A reply is sent at once; where the system doesn't allow that, replies come later.
     let _at_once = stream.set_nodelay(true);
-    let mut reader = Counted::new(LinkReader::new(stream, door.read_seconds, door.way.passes()));
-    let mut writer = Counted::new(stream);
     let Place { seat, holds } = place;
     match &door.way {
         Way::Open(node) => {
             let host = NodeHost::telling(rt, alloc, node, seat, teller);
-            let (ended, host, holds) = serve_host(
-                alloc,
-                door.budget,
-                host,
-                holds,
-                &mut reader,
-                &mut writer,
-            );
+            let (ended, host, holds) = serve_way(rt, alloc, door, host, holds, stream, teller);
             let seat = host.into_seat();
             (ended, Place { seat, holds })
         }
         Way::Feeding(node) => {
             let host = FeedHost::new(NodeHost::telling(rt, alloc, node, seat, teller));
-            let (ended, host, holds) = serve_host(
-                alloc,
-                door.budget,
-                host,
-                holds,
-                &mut reader,
-                &mut writer,
-            );
+            let (ended, host, holds) = serve_way(rt, alloc, door, host, holds, stream, teller);
             let seat = host.into_seat();
             (ended, Place { seat, holds })
         }
         Way::Reading => {
             let host = SeatHost::new(seat);
-            let (ended, host, holds) = serve_host(
-                alloc,
-                door.budget,
-                host,
-                holds,
-                &mut reader,
-                &mut writer,
-            );
+            let (ended, host, holds) = serve_way(rt, alloc, door, host, holds, stream, teller);
             let seat = host.into_seat();
             (ended, Place { seat, holds })
         }
@@ -190,7 +210,7 @@ fn serve_next<J: NodeName, N: Wait + Drop, R: Threads + Wait + Clock + Sync>(
     alloc: Global,
     door: &Door<'_, J, N>,
     place: Place<J>,
-    teller: &Teller,
+    teller: &Teller<'_>,
 ) -> Place<J>
     ensures { IsPrefix place.seat result.seat }
 {
@@ -217,7 +237,7 @@ fn serve_place<J: NodeName, N: Wait + Drop, R: Threads + Wait + Clock + Sync>(
     alloc: Global,
     door: Door<'_, J, N>,
     seat: ReaderSeat<J>,
-    teller: Teller,
+    teller: Teller<'_>,
 ) -> ReaderSeat<J>
     ensures { IsPrefix seat result }
 {
@@ -242,7 +262,7 @@ fn start_place<
     alloc: Global,
     door: Door<'s, J, N>,
     seat: ReaderSeat<J>,
-    teller: Result<Teller, AllocError>,
+    teller: Result<Teller<'s>, AllocError>,
 ) -> bool {
     match teller {
         Ok(teller) => scope
@@ -274,6 +294,13 @@ pub fn serve_forever<
     watch: &mut T,
 ) -> Result<(), NetFault> {
     let (events, told) = bounded::<(usize, LinkEvent), _>(alloc, EVENTS)?;
+    let bell = Bell::new();
+    let mut places = places;
+    if let Some((_, seat)) = places.first_mut() {
+        if let Ok(front) = seat.front() {
+            bell.ring(rt, front.readable);
+        }
+    }
     thread::scope(
         thread::scope_env(),
         rt,
@@ -283,7 +310,7 @@ pub fn serve_forever<
             let mut started = false;
             let mut place = 0usize;
             for (door, seat) in places {
-                let teller = Teller::new(place, door.tells_changes, &events);
+                let teller = Teller::new(place, door.tells_changes, &events, &bell);
                 if start_place(scope, rt, alloc, door, seat, teller) {
                     started = true;
                 } else {

@@ -5,4 +5,6 @@ pub mod NeverCut
 pub mod NoTruncatedValue
 pub mod NoTruncatedRequest
 pub mod ChangeReplies
-pub mod HeldReplies
+pub mod SessionTurns
+pub mod SessionStands
+pub mod SpokenTurns

@@ -1,7 +1,7 @@
 -- No reader of the rest of a request answers that the input ends inside a frame: a feeder alone does, at the end.
-use Rattle.std.proofs.Common.{not, ℕ, eqb, ltb, List, length, Option, Some, None, Err, refl}
+use Rattle.std.proofs.Common.{not, ℕ, eqb, ltb, leb, List, length, Option, Some, None, Err, refl}
 use Rattle.std.specs.Int.{w16, w32, w64}
-use Rattle.hk_types.specs.declared.faults.FormFault.TheVariants.{Truncated, BadVersion, BadKind, BadCount, WrongLength}
+use Rattle.hk_types.specs.declared.faults.FormFault.TheVariants.{Truncated, BadVersion, BadKind, BadCount, BadNumber, WrongLength}
 use Rattle.hk_codec.specs.Encoding.{WrittenItem}
 use Rattle.hk_codec.specs.Reading.{item_at}
 use Rattle.hk_codec.specs.Frames.{frame_at}
@@ -12,7 +12,7 @@ use Rattle.hk_values.specs.Fragments.{fragment_at, whole_at}
 use Rattle.hk_values.specs.Parts.{head_at, whole_head_at, part_at}
 use Rattle.hk_wire.specs.declared.request.Request.{Request}
 use Rattle.hk_wire.specs.Messages.{version_of, is_read, head_at as message_head_at, message_at}
-use Rattle.hk_wire.specs.LaterRequests.{most_at, page_at, change_of, request_of as later_request_of}
+use Rattle.hk_wire.specs.LaterRequests.{most_at, wait_at, page_at, change_of, request_of as later_request_of}
 use Rattle.hk_wire.specs.Requests.{frame_taken, item_frame_at, item_count_at, no_place, items_at, request_seen, request_meant, request_rest, IsRequestUpTo, request_of, request_at, ReadsRequests}
 use Rattle.hk_session.proofs.NeverCut.{bind_whole, cond_whole, check_whole, Whole, framed_whole, never_cut}
 use Rattle.hk_session.proofs.NoTruncatedValue.{number_whole, byte_whole, bytes_whole, both_whole, barred_whole, made_whole, listed_whole, time_whole, item_whole, query_whole, fragment_whole, whole_whole, head_whole, whole_head_whole, part_whole, positive_whole}
@@ -36,6 +36,10 @@ items_whole bytes = listed_whole item_count_at no_place (λ _. item_frame_at) (b
 most_whole : Whole most_at
 unfolding most_at
 most_whole bytes = barred_whole (number_at w32) (λ n. eqb n 0) BadCount refl (number_whole w32) bytes
+
+wait_whole : Whole wait_at
+unfolding wait_at
+wait_whole bytes = barred_whole (number_at w32) (λ n. not (leb n 600000)) BadNumber refl (number_whole w32) bytes
 
 page_whole : Whole page_at
 unfolding page_at
@@ -61,7 +65,8 @@ later_of_kind_whole kind bytes =
     (cond_whole (eqb kind 49) _ _ (made_whole _ query_at query_whole bytes)
     (cond_whole (eqb kind 50) _ _ (page_whole bytes)
     (cond_whole (eqb kind 51) _ _ (made_whole _ (both time_at (number_at w32)) (both_whole time_at (number_at w32) time_whole (number_whole w32)) bytes)
-    (cond_whole (eqb kind 52) _ _ refl (change_whole kind bytes)))))
+    (cond_whole (eqb kind 52) _ _ refl
+    (cond_whole (eqb kind 59) _ _ (made_whole _ (both time_at wait_at) (both_whole time_at wait_at time_whole wait_whole) bytes) (change_whole kind bytes))))))
 
 -- ---- requests
 

@@ -1,16 +1,14 @@
 -- What the calls of a session do, over counted devices: `remaining` shows what is left to read of a device, and `contents`
 -- what was written to one.
-use Rattle.std.specs.Prelude.{◌≡◌, ◌≢◌, ◌⊎◌, ◌<◌, ◌+◌, ◌^◌, ◌-◌, ◌++◌, ℕ, List, [], min, Option, IfSome, IfNone, IfOk, Result, Ok}
+use Rattle.std.specs.Prelude.{◌≡◌, ◌⊎◌, ◌<◌, ◌+◌, ◌^◌, ◌-◌, ◌++◌, ℕ, List, min, Option, Some, None}
 use Rattle.std.specs.Io.KnownBytes.{Appends, Consumes}
 use Rattle.hk_types.specs.declared.faults.FormFault.{FormFault}
-use Rattle.hk_types.specs.declared.faults.FormFault.TheVariants.{Truncated}
 use Rattle.hk_session.specs.declared.ended.Ended.{Ended}
 use Rattle.hk_wire.specs.declared.request.Request.{Request}
 use Rattle.hk_wire.specs.declared.reply.Reply.{Reply}
-use Rattle.hk_wire.specs.Requests.{ReadsRequests}
-use Rattle.hk_session.specs.Said.{reply_bytes}
 use Rattle.hk_session.specs.Values.{CountedValue}
-use Rattle.hk_session.specs.Transcript.{Answers, Ends, GoesOn, IsDone, IsProperPrefixOf, IsStopped, May, PartialTranscript, Refuses, Sends, SessionStep, Stops, Transcript, Writes, fault_met, replies_bytes}
+use Rattle.hk_session.specs.Sessions.{EndedSo, IsResting, SessionValue, Stands}
+use Rattle.hk_session.specs.Transcript.{Concludes, Ends, IsDone, IsMidway, IsProperPrefixOf, IsStopped, May, PartialTranscript, SessionStep, Transcript, Writes}
 
 -- the text was written
 abbrev pub Wrote : {W : Type 0} → (W → Option (List ℕ)) → CountedValue W → CountedValue W → List ℕ → Type 0
@@ -24,52 +22,33 @@ CutsOff contents old new text = (part : List ℕ) × IsProperPrefixOf part text 
 abbrev pub WritesBy : {W : Type 0} → (W → Option (List ℕ)) → CountedValue W → CountedValue W → List ℕ → List ℕ → Option Ended → Type 0
 WritesBy contents old new held left result = Writes held (contents old.device) (contents new.device) left result
 
--- the text was added behind what was held, as `Sends` says
-abbrev pub SendsBy : {W : Type 0} → (W → Option (List ℕ)) → CountedValue W → CountedValue W → List ℕ → List ℕ → ℕ → List ℕ → Option Ended → Type 0
-SendsBy contents old new held text most left result = Sends held text most (contents old.device) (contents new.device) left result
+-- the session was ended at the end of its stream, as `Concludes` says
+abbrev pub ConcludesBy : {W : Type 0} → (W → Option (List ℕ)) → CountedValue W → CountedValue W → Option FormFault → Ended → Type 0
+ConcludesBy contents old new fault ended = Concludes fault (contents old.device) (contents new.device) ended
 
--- it was said which fault ends the session, as `Refuses` says
-abbrev pub RefusesBy : {W : Type 0} → (W → Option (List ℕ)) → CountedValue W → CountedValue W → FormFault → Ended → Type 0
-RefusesBy contents old new fault result = Refuses fault (contents old.device) (contents new.device) result
+-- where a session stands that goes on with all requests answered, or how it ended before its reader did
+abbrev pub SpokeSo : {H : Type 0} → ℕ → May H → H → H → List ℕ → List ℕ → SessionValue → Option Ended → Type 0
+SpokeSo latest may start now bytes text s None = Stands latest may start now bytes text s × IsResting s
+SpokeSo latest may start now bytes text s (Some ended) = EndedSo latest may start now bytes text ended × IsMidway ended
 
--- the stream ended inside a frame, of which a feeder holds bytes: it was said so
-abbrev pub EndsCut : {W : Type 0} → (W → Option (List ℕ)) → CountedValue W → CountedValue W → Result (List ℕ) FormFault → Ended → Type 0
-EndsCut contents old new feeder result = (left : List ℕ) → feeder ≡ Ok left → left ≢ [] → RefusesBy contents old new Truncated result
+-- behind this text there was written what a session says that took these bytes so far
+abbrev pub Speaks : {H W : Type 0} → ℕ → May H → H → H → (W → Option (List ℕ)) → CountedValue W → CountedValue W → List ℕ → List ℕ → SessionValue → Option Ended → Type 0
+Speaks latest may start now contents old new bytes text s result =
+    (said : List ℕ) × Wrote contents old new said × SpokeSo latest may start now bytes (text ++ said) s result
 
--- the host answered the request, and its reply was held or written
-abbrev pub Replies : {H W : Type 0} → May H → H → H → (W → Option (List ℕ)) → CountedValue W → CountedValue W → Request → List ℕ → ℕ → List ℕ → Option Ended → Type 0
-Replies may host host_after contents old new request held most left result =
-    (reply : Reply) × may host request reply host_after × SendsBy contents old new held (reply_bytes reply) most left result
+-- wherever the session stood before, it answered the requests that waited, and wrote what it says
+abbrev pub AnswersOn : {H W : Type 0} → ℕ → May H → H → H → (W → Option (List ℕ)) → CountedValue W → CountedValue W → SessionValue → SessionValue → Option Ended → Type 0
+AnswersOn {H} latest may host host_after contents old new before after result =
+    (start : H) (bytes text : List ℕ) → Stands latest may start host bytes text before → Speaks latest may start host_after contents old new bytes text after result
 
--- where the session goes on, the host answered all requests in order, and the replies were written
-abbrev pub AnswersAll : {H W : Type 0} → May H → H → H → (W → Option (List ℕ)) → CountedValue W → CountedValue W → List Request → Option Ended → Type 0
-AnswersAll may host host_after contents old new requests result =
-    IfNone result ((replies : List Reply) × Answers may host requests replies host_after × Wrote contents old new (replies_bytes replies))
-
--- where it ends, some of the requests were answered, and the replies cut off, as `Stops` says
-abbrev pub StopsBy : {H W : Type 0} → May H → H → H → (W → Option (List ℕ)) → CountedValue W → CountedValue W → List Request → Option Ended → Type 0
-StopsBy may host host_after contents old new requests result =
-    IfSome result (λ ended. Stops may host host_after (contents old.device) (contents new.device) requests ended)
+-- the same where it took a piece first
+abbrev pub HandlesPiece : {H W : Type 0} → ℕ → May H → H → H → (W → Option (List ℕ)) → CountedValue W → CountedValue W → SessionValue → SessionValue → List ℕ → Option Ended → Type 0
+HandlesPiece {H} latest may host host_after contents old new before after piece result =
+    (start : H) (bytes text : List ℕ) → Stands latest may start host bytes text before → Speaks latest may start host_after contents old new (bytes ++ piece) text after result
 
 -- the bytes were answered so, as `SessionStep` says
 abbrev pub StepsBy : {H W : Type 0} → May H → H → H → (W → Option (List ℕ)) → CountedValue W → CountedValue W → List ℕ → (List ℕ → List Request → List Reply → List ℕ → Type 0) → Type 0
 StepsBy may host host_after contents old new bytes How = SessionStep may host host_after (contents old.device) (contents new.device) bytes How
-
--- a feeder that holds bytes took a piece behind them: which requests they encode, and which fault follows these
-abbrev pub TakesPiece : {E : Type 0} → ℕ → Result (List ℕ) FormFault → Result (List ℕ) FormFault → List ℕ → List Request → Result (Option FormFault) E → Type 0
-TakesPiece latest feeder after piece requests result =
-    (left : List ℕ) → feeder ≡ Ok left → IfOk result (λ f. ReadsRequests latest (left ++ piece) requests after × (f ≡ fault_met after))
-
--- where the session goes on, the whole requests of what was held and the piece were answered, and the rest is held
-abbrev pub GoesOnWith : {H W : Type 0} → ℕ → May H → H → H → (W → Option (List ℕ)) → CountedValue W → CountedValue W
-    → Result (List ℕ) FormFault → Result (List ℕ) FormFault → List ℕ → Option Ended → Type 0
-GoesOnWith latest may host host_after contents old new feeder after piece result =
-    (left : List ℕ) → feeder ≡ Ok left → IfNone result ((rest : List ℕ) × (after ≡ Ok rest) × StepsBy may host host_after contents old new (left ++ piece) (GoesOn latest rest))
-
--- where the session ends, what was held and the piece were answered so
-abbrev pub EndsWith : {H W : Type 0} → ℕ → May H → H → H → (W → Option (List ℕ)) → CountedValue W → CountedValue W → Result (List ℕ) FormFault → List ℕ → Option Ended → Type 0
-EndsWith latest may host host_after contents old new feeder piece result =
-    (left : List ℕ) → feeder ≡ Ok left → IfSome result (λ e. StepsBy may host host_after contents old new (left ++ piece) (Ends latest e))
 
 -- where the session ended by what it read, what was written is the transcript of these bytes
 abbrev pub WritesAll : {H W : Type 0} → ℕ → May H → H → H → (W → Option (List ℕ)) → CountedValue W → CountedValue W → List ℕ → Ended → Type 0

@@ -104,10 +104,6 @@ BeginsWith latest bytes requests =
     (written : List WrittenRequest) × (map request_seen requests ≡ map request_meant written) × (rest : List ℕ) × (bytes ≡ flat_map (encoded request_rest) written ++ rest)
     × AllByRecursion (IsRequestUpTo latest) written
 
--- A session that goes on has written the replies to all whole requests, and less than one is left.
-abbrev pub GoesOn : ℕ → List ℕ → List ℕ → List Request → List Reply → List ℕ → Type 0
-GoesOn latest left bytes requests replies written = ReadsRequests latest bytes requests (Ok left) × (written ≡ replies_bytes replies)
-
 -- What was read and written where a session ended so. The requests are those that were answered: no other was executed.
 abbrev pub Ends : ℕ → Ended → List ℕ → List Request → List Reply → List ℕ → Type 0
 -- the bytes are whole requests, and the replies to them were written
@@ -143,19 +139,6 @@ Writes text before after left (Some Clean) = ⊥
 Writes text before after left (Some (Fault f)) = ⊥
 Writes text before after left (Some ReadFault) = ⊥
 
--- Both texts are held, at most so many bytes, and nothing was written; or both were written.
-abbrev pub Holds : List ℕ → ℕ → Option (List ℕ) → Option (List ℕ) → List ℕ → Type 0
-Holds both most before after left = (Appends before after [] × (left ≡ both) × (length both ≤ most)) ⊎ (Appends before after both × (left ≡ []))
-
--- what a call that adds a text behind what is held did, where it answers so
-abbrev pub Sends : List ℕ → List ℕ → ℕ → Option (List ℕ) → Option (List ℕ) → List ℕ → Option Ended → Type 0
-Sends held text most before after left None = Holds (held ++ text) most before after left
-Sends held text most before after left (Some Memory) = Appends before after held
-Sends held text most before after left (Some WriteFault) = (part : List ℕ) × IsProperPrefixOf part (held ++ text) × Appends before after part
-Sends held text most before after left (Some Clean) = ⊥
-Sends held text most before after left (Some (Fault f)) = ⊥
-Sends held text most before after left (Some ReadFault) = ⊥
-
 -- how a session can end before its reader does
 abbrev pub IsMidway : Ended → Type 0
 IsMidway Clean = ⊥
@@ -172,11 +155,10 @@ Refuses f before after WriteFault = (part : List ℕ) × IsProperPrefixOf part (
 Refuses f before after Clean = ⊥
 Refuses f before after ReadFault = ⊥
 
--- what a call that answers these requests did, where it answers so: some of them were answered, and the replies cut off
-abbrev pub Stops : {H : Type 0} → May H → H → H → Option (List ℕ) → Option (List ℕ) → List Request → Ended → Type 0
-Stops may old new before after requests e =
-    (front back : List Request) × (requests ≡ front ++ back) × (replies : List Reply) × Answers may old front replies new
-    × (part : List ℕ) × IsCut part replies × Appends before after part × ((e ≡ Memory) ⊎ (e ≡ WriteFault))
+-- what a call that ends a session at the end of its stream did, by the fault of what is left, where it answers so
+abbrev pub Concludes : Option FormFault → Option (List ℕ) → Option (List ℕ) → Ended → Type 0
+Concludes None before after ended = (ended ≡ Clean) × Appends before after []
+Concludes (Some f) before after ended = Refuses f before after ended
 
 -- a session that ended by what it read
 abbrev pub IsDone : Ended → Type 0

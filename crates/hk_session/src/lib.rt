@@ -1,8 +1,9 @@
 //! A session: requests are read from a reader, and their replies written to a writer.
 //!
-//! `serve` is the session. Who answers is a `Host`; its `may` defines which replies it may return, and the session
-//! promises that what it writes is what the host may answer to what was read. Its const parameter fixes which versions
-//! of requests it reads: 1 for version 1 alone, 2 for both.
+//! `serve` is the session; `Session` is what it holds between two reads, for a caller that reads and writes itself. Who
+//! answers is a `Host`; its `may` defines which replies it may return, and the session promises that what it writes is what
+//! the host may answer to what was read. Its const parameter fixes which versions of requests it reads: 1 for version 1
+//! alone, 2 for both. Before an `Await` is answered a `Waiter` waits, of which nothing is promised.
 #![tactic(auto)]
 
 mod counted;
@@ -10,10 +11,16 @@ mod ended;
 mod host;
 mod sending;
 mod serving;
+mod session;
 mod state_host;
+mod step;
+mod waiter;
 
 pub use counted::Counted;
 pub use ended::Ended;
 pub use host::Host;
-pub use serving::{serve, serve_bytes};
+pub use serving::{serve, serve_bytes, serve_waiting};
+pub use session::Session;
 pub use state_host::StateHost;
+pub use step::Step;
+pub use waiter::{AtOnce, Waiter};

@@ -1,171 +1,114 @@
 //! A complete session.
 
-ghost use Rattle.std.specs.Prelude.{◌≡◌, ◌≢◌, ◌<◌, ◌≤◌, ◌+◌, ◌^◌, ℕ, List, [], Ok, Some, IfSome, OnErr};
+ghost use Rattle.std.specs.Prelude.{◌≡◌, ◌≢◌, ◌<◌, ◌≤◌, ◌+◌, ◌^◌, Some};
 ghost use Rattle.std.specs.Io.KnownBytes.{IsAtEnd};
 ghost use Rattle.hk_types.specs.declared.faults.FormFault.TheVariants as faults;
 ghost use Rattle.hk_session.specs.declared.ended.Ended.TheVariants as ends;
-ghost use Rattle.hk_session.specs.Serving.{AnswersAll, EndsCut, EndsWith, FailsToRead, GoesOnWith, RefusesBy, Replies, Serves, ServesAll, ServesPart, StepsBy, StopsBy, TakesPiece, WritesAll, WritesPart, Wrote};
-ghost use Rattle.hk_session.specs.Transcript.{Ends, IsMidway};
+ghost use Rattle.hk_session.specs.Serving.{AnswersOn, ConcludesBy, FailsToRead, HandlesPiece, Serves, ServesAll, ServesPart, StepsBy, WritesAll, WritesPart};
+ghost use Rattle.hk_session.specs.Transcript.{Ends, fault_of};
 
 use crate::counted::Counted;
 use crate::ended::Ended;
 use crate::host::Host;
-use crate::sending::send;
-use hk_types::{FormFault, Refusal};
-use hk_wire::{Reply, Request, RequestFeeder};
-use std::alloc::{AllocError, Global};
+use crate::sending::write_out;
+use crate::session::Session;
+use crate::step::Step;
+use crate::waiter::{AtOnce, Waiter};
+use std::alloc::Global;
 use std::io::{Read, Write};
 
-/// How many bytes of replies are held back at most.
-const MOST_HELD: usize = 65_536;
-
-/// Answers one request. Its reply is kept, where all that are kept have at most `most` bytes, or written with them.
-fn answer_one<W: Write, H: Host>(
-    asked: Request,
-    most: usize,
-    held: &mut Vec<u8>,
-    writer: &mut Counted<W>,
-    host: &mut H,
-) -> Option<Ended>
-    requires quiet { writer.old.faults ≡ 0 }
-    requires ready { H.ready host.old }
-    ensures says { Replies H.may host.old host.new W.contents writer.old writer.new
-        asked held.old.items most held.new.items result }
-    ensures ready { H.ready host.new }
-    ensures quiet { result ≢ Some ends.WriteFault → writer.new.faults ≡ 0 }
-    ensures fault { result ≡ Some ends.WriteFault → 0 < writer.new.faults }
-{
-    let reply = host.answer(asked);
-    send(&reply, most, held, writer)
+/// Has the waiter wait where the next request asks for that.
+fn wait_for<const LATEST: u8, T: Waiter>(session: &Session<LATEST>, waiter: &mut T) {
+    if let Some((time, milliseconds)) = session.first_awaited() {
+        waiter.wait(time, milliseconds);
+    }
 }
 
-/// Answers the requests in order, and writes the replies: in one piece, or as soon as there are so many bytes.
-fn answer_all<W: Write, H: Host>(
+/// Answers the requests that wait, an `Await` after the waiter waited for it, and writes the replies. `None` goes on.
+fn answer_all<const LATEST: u8, W: Write, H: Host, T: Waiter>(
     alloc: Global,
-    requests: Vec<Request>,
+    session: &mut Session<LATEST>,
     writer: &mut Counted<W>,
     host: &mut H,
+    waiter: &mut T,
 ) -> Option<Ended>
     requires quiet { writer.old.faults ≡ 0 }
     requires ready { H.ready host.old }
-    ensures all { AnswersAll H.may host.old host.new W.contents writer.old writer.new requests.items result }
-    ensures part { StopsBy H.may host.old host.new W.contents writer.old writer.new requests.items result }
+    ensures speaks { AnswersOn LATEST H.may host.old host.new W.contents writer.old writer.new
+        session.old session.new result }
     ensures ready { H.ready host.new }
     ensures quiet { result ≢ Some ends.WriteFault → writer.new.faults ≡ 0 }
     ensures fault { result ≡ Some ends.WriteFault → 0 < writer.new.faults }
 {
-    let mut held = Vec::new(alloc);
-    let mut rest = requests.into_iter();
-    'requests: loop {
-        match rest.next() {
-            None => return None,
-            Some(request) => {
-                let most = if rest.len() == 0 { 0 } else { MOST_HELD };
-                if let Some(ended) = answer_one(request, most, &mut held, writer, host) {
-                    return Some(ended);
-                }
-            }
+    let mut out = Vec::new(alloc);
+    'steps: loop {
+        wait_for(session, waiter);
+        let step = session.answer(true, &mut out, host);
+        if let Some(ended) = write_out(&mut out, writer) {
+            return Some(ended);
+        }
+        match step {
+            Step::GoesOn => return None,
+            Step::Ended(ended) => return Some(ended),
+            Step::Full | Step::Waits { .. } => {}
         }
     }
 }
 
-/// Writes the fault that the session ends with.
-fn refuse<W: Write>(alloc: Global, fault: FormFault, writer: &mut Counted<W>) -> Ended
-    requires { writer.old.faults ≡ 0 }
-    ensures sends { RefusesBy W.contents writer.old writer.new fault result }
-    ensures reads { result ≢ ends.ReadFault }
-    ensures quiet { result ≢ ends.WriteFault → writer.new.faults ≡ 0 }
-    ensures fault { result ≡ ends.WriteFault → 0 < writer.new.faults }
-{
-    let mut held = Vec::new(alloc);
-    let reply = Reply::Refused(Refusal::Form(fault));
-    match send(&reply, 0, &mut held, writer) {
-        None => Ended::Fault(fault),
-        Some(ended) => ended,
-    }
-}
-
-/// Reads the next piece of the stream into an empty list, and returns the fault that follows the requests, if one
-/// does. Where memory runs out the feeder and the list are as before.
-fn take_in<const LATEST: u8>(
-    feeder: &mut RequestFeeder<LATEST>,
-    piece: &[u8],
-    requests: &mut Vec<Request>,
-) -> Result<Option<FormFault>, AllocError>
-    requires { requests.old.items ≡ [] }
-    ensures reads { TakesPiece LATEST feeder.old feeder.new piece.now requests.new.items result }
-    ensures err { OnErr result ((feeder.new ≡ feeder.old) × (requests.new.items ≡ requests.old.items)) }
-{
-    match feeder.feed(piece, requests) {
-        Ok(()) => Ok(None),
-        Err(why) => match why {
-            Refusal::Form(fault) => Ok(Some(fault)),
-            _ => Err(AllocError),
-        },
-    }
-}
-
 /// Processes the next piece of the stream, and answers the requests that are complete now. `None` goes on.
-fn handle_piece<const LATEST: u8, W: Write, H: Host>(
+fn handle_piece<const LATEST: u8, W: Write, H: Host, T: Waiter>(
     alloc: Global,
     piece: &[u8],
-    feeder: &mut RequestFeeder<LATEST>,
+    session: &mut Session<LATEST>,
     writer: &mut Counted<W>,
     host: &mut H,
+    waiter: &mut T,
 ) -> Option<Ended>
     requires quiet { writer.old.faults ≡ 0 }
-    requires open { (left : List ℕ) × (feeder.old ≡ Ok left) }
     requires ready { H.ready host.old }
-    ensures goes_on { GoesOnWith LATEST H.may host.old host.new W.contents writer.old writer.new
-        feeder.old feeder.new piece.now result }
-    ensures ends { EndsWith LATEST H.may host.old host.new W.contents writer.old writer.new feeder.old piece.now result }
-    ensures midway { IfSome result IsMidway }
+    ensures speaks { HandlesPiece LATEST H.may host.old host.new W.contents writer.old writer.new
+        session.old session.new piece.now result }
     ensures ready { H.ready host.new }
     ensures quiet { result ≢ Some ends.WriteFault → writer.new.faults ≡ 0 }
     ensures fault { result ≡ Some ends.WriteFault → 0 < writer.new.faults }
 {
-    let mut requests = Vec::new(alloc);
-    let fault = match take_in(feeder, piece, &mut requests) {
-        Ok(fault) => fault,
-        Err(_e) => return Some(Ended::Memory),
-    };
-    if let Some(ended) = answer_all(alloc, requests, writer, host) {
-        return Some(ended);
+    if session.read(piece).is_err() {
+        return Some(Ended::Memory);
     }
-    match fault {
-        None => None,
-        Some(fault) => Some(refuse(alloc, fault, writer)),
-    }
+    answer_all(alloc, session, writer, host, waiter)
 }
 
 /// Ends a session whose reader is at its end.
 fn finish<const LATEST: u8, W: Write>(
     alloc: Global,
-    feeder: RequestFeeder<LATEST>,
+    session: Session<LATEST>,
     writer: &mut Counted<W>,
 ) -> Ended
     requires quiet { writer.old.faults ≡ 0 }
-    ensures clean { feeder.entry ≡ Ok [] → (result ≡ ends.Clean) × Wrote W.contents writer.old writer.new [] }
-    ensures cut { EndsCut W.contents writer.old writer.new feeder.entry result }
+    ensures says { ConcludesBy W.contents writer.old writer.new (fault_of session.entry.left) result }
     ensures reads { result ≢ ends.ReadFault }
     ensures quiet { result ≢ ends.WriteFault → writer.new.faults ≡ 0 }
     ensures fault { result ≡ ends.WriteFault → 0 < writer.new.faults }
 {
-    match feeder.finish() {
-        Err(Refusal::Form(fault)) => refuse(alloc, fault, writer),
-        _ => Ended::Clean,
+    let mut out = Vec::new(alloc);
+    let ended = session.finish(&mut out);
+    if let Some(failed) = write_out(&mut out, writer) {
+        return failed;
     }
+    ended
 }
 
 /// How often a session reads at most.
 const MOST_READS: u64 = 4_294_967_296;
 
-/// The session, by its fields.
-fn run<const LATEST: u8, R: Read, W: Write, H: Host>(
+/// The session as `serve` has it, by its fields, which lets a waiter wait before it answers an `Await`. What is ready is written
+/// before.
+pub fn serve_waiting<const LATEST: u8, R: Read, W: Write, H: Host, T: Waiter>(
     alloc: Global,
     reader: &mut Counted<R>,
     writer: &mut Counted<W>,
     host: &mut H,
+    waiter: &mut T,
 ) -> Ended
     requires reader { reader.old.faults ≡ 0 }
     requires writer { writer.old.faults ≡ 0 }
@@ -186,21 +129,22 @@ fn run<const LATEST: u8, R: Read, W: Write, H: Host>(
     ensures writes { result ≢ ends.WriteFault → writer.new.faults ≡ 0 }
 {
     let _known = reader.calls();
-    let mut feeder: RequestFeeder<LATEST> = RequestFeeder::new(alloc);
+    let mut session: Session<LATEST> = Session::new(alloc);
     let mut buffer = [0; 65_536];
     for _ in 0..MOST_READS {
         match reader.read(&mut buffer) {
             Err(_e) => return Ended::ReadFault,
             Ok(count) => {
                 if count == 0 {
-                    return finish(alloc, feeder, writer);
+                    return finish(alloc, session, writer);
                 }
                 if let Some(ended) = handle_piece(
                     alloc,
                     &buffer[..count],
-                    &mut feeder,
+                    &mut session,
                     writer,
                     host,
+                    waiter,
                 ) {
                     return ended;
                 }
@@ -256,7 +200,7 @@ pub fn serve<const LATEST: u8, R: Read, W: Write, H: Host>(
     ensures reads { result ≢ ends.ReadFault → reader.new.faults ≡ 0 }
     ensures writes { result ≢ ends.WriteFault → writer.new.faults ≡ 0 }
 {
-    run::<LATEST, _, _, _>(alloc, reader, writer, host)
+    serve_waiting::<LATEST, _, _, _, _>(alloc, reader, writer, host, &mut AtOnce)
 }
 
 /// The session of bytes, by its fields.
@@ -274,10 +218,10 @@ fn run_bytes<const LATEST: u8, W: Write, H: Host>(
     ensures write_fault { result ≡ ends.WriteFault → 0 < writer.new.faults }
     ensures writes { result ≢ ends.WriteFault → writer.new.faults ≡ 0 }
 {
-    let mut feeder: RequestFeeder<LATEST> = RequestFeeder::new(alloc);
-    match handle_piece(alloc, bytes, &mut feeder, writer, host) {
+    let mut session: Session<LATEST> = Session::new(alloc);
+    match handle_piece(alloc, bytes, &mut session, writer, host, &mut AtOnce) {
         Some(ended) => ended,
-        None => finish(alloc, feeder, writer),
+        None => finish(alloc, session, writer),
     }
 }
 

@@ -1,8 +1,8 @@
 -- Requests of version 2: what is read is encoded so, and what is encoded so is read again.
-use Rattle.std.proofs.Common.{◌≡◌, ℕ, ◌^◌, ◌<◌, ◌≤◌, true, false, not, eqb, List, ◌++◌, Ok, refl, sym}
+use Rattle.std.proofs.Common.{◌≡◌, ℕ, ◌^◌, ◌<◌, ◌≤◌, true, false, not, eqb, leb, List, ◌++◌, Ok, refl, sym}
 use Rattle.std.specs.Int.{w16, w32, w64}
 use Rattle.std.proofs.lemmas.Bool.{not-true}
-use Rattle.hk_types.specs.declared.faults.FormFault.TheVariants.{BadCount}
+use Rattle.hk_types.specs.declared.faults.FormFault.TheVariants.{BadCount, BadNumber}
 use Rattle.hk_model.specs.declared.query.Query.{Query}
 use Rattle.hk_fragment.specs.Parts.{Known}
 use Rattle.hk_frames.specs.Fields.{IsBytes, number, number_at}
@@ -10,10 +10,10 @@ use Rattle.hk_frames.proofs.ReadingSteps.{Takes}
 use Rattle.hk_values.specs.Readers.{Reader, both, time_at, positive_at}
 use Rattle.hk_values.specs.Queries.{query_at}
 use Rattle.hk_values.specs.Parts.{WireHead, head_at, whole_head_at, part_at}
-use Rattle.hk_values.proofs.ReadersAndEncodings.{IsField, field16, field32, field64, time_field, positive_field, not_zero, both_field, barred_field, same_field, this_or, made_takes, nothing_takes, made_again}
+use Rattle.hk_values.proofs.ReadersAndEncodings.{IsField, field16, field32, field64, time_field, positive_field, not_zero, both_field, barred_field, kept_field, same_field, this_or, made_takes, nothing_takes, made_again}
 use Rattle.hk_values.proofs.QueriesReadAgain.{query_field}
 use Rattle.hk_values.proofs.PartsReadAgain.{head_field, whole_head_field, part_field}
-use Rattle.hk_wire.specs.LaterRequests.{RequestValue, Streams, AskLatest, Page, Whole, More, AddPart, JoinParts, MergeParts, Hold, Release, request_kind, request_body, keeps_rules, RequestFits, most_at, page_at, change_of, request_of}
+use Rattle.hk_wire.specs.LaterRequests.{RequestValue, Streams, AskLatest, Page, Whole, More, AddPart, JoinParts, MergeParts, Hold, Release, Await, request_kind, request_body, keeps_rules, RequestFits, most_at, wait_at, page_at, change_of, request_of}
 
 most_field : IsField most_at (number w32) (λ n. (n < 2 ^ 32) × (not (eqb n 0) ≡ true))
 unfolding most_at
@@ -43,6 +43,16 @@ page_field =
 whole_field : IsField (both time_at (number_at w32)) (λ p. number w64 p.0 ++ number w32 p.1) (λ p. (p.0 ≤ 2 ^ 62) × (p.1 < 2 ^ 32))
 whole_field = both_field time_at (number_at w32) (number w64) (number w32) _ _ time_field field32
 
+abbrev IsWait : ℕ → Type 0
+IsWait n = (n < 2 ^ 32) × (leb n 600000 ≡ true)
+
+wait_field : IsField wait_at (number w32) IsWait
+unfolding wait_at
+wait_field = kept_field (number_at w32) (λ n. leb n 600000) BadNumber (number w32) (λ n. n < 2 ^ 32) field32
+
+await_field : IsField (both time_at wait_at) (λ p. number w64 p.0 ++ number w32 p.1) (λ p. (p.0 ≤ 2 ^ 62) × IsWait p.1)
+await_field = both_field time_at wait_at (number w64) (number w32) (λ n. n ≤ 2 ^ 62) IsWait time_field wait_field
+
 -- ---- requests
 
 abbrev latest_of : Query → RequestValue
@@ -68,6 +78,9 @@ hold_of t = Hold t
 
 abbrev release_of : ℕ → RequestValue
 release_of hold = Release hold
+
+abbrev await_of : ℕ × ℕ → RequestValue
+await_of p = Await p.0 p.1
 
 abbrev pub Keeps : RequestValue → Type 0
 Keeps r = RequestFits r × (keeps_rules r ≡ true)
@@ -103,7 +116,9 @@ request_takes k bytes x fits e =
     (λ is f. made_takes whole_of (both time_at (number_at w32)) _ _ whole_field request_kind request_body Keeps k (λ a. sym is) (λ a. refl) (λ a h. (h, refl)) bytes x fits f)
     (λ e4. this_or k 52 _ _ x (IsRequestOf k bytes x) e4
     (λ is f. nothing_takes More request_kind request_body Keeps k (sym is) refl (tt, refl) bytes x fits f)
-    (λ e5. change_takes k bytes x fits e5)))))
+    (λ e5. this_or k 59 _ _ x (IsRequestOf k bytes x) e5
+    (λ is f. made_takes await_of (both time_at wait_at) _ _ await_field request_kind request_body Keeps k (λ a. sym is) (λ a. refl) (λ a h. ((h.0, h.1.0), h.1.1)) bytes x fits f)
+    (λ e6. change_takes k bytes x fits e6))))))
 
 pub request_again : (r : RequestValue) (rest : List ℕ) → Keeps r → request_of (request_kind r) (request_body r ++ rest) ≡ Ok (r, rest)
 unfolding request_of change_of page_at
@@ -117,3 +132,4 @@ request_again (JoinParts head) rest h = made_again join_of head_at _ _ head_fiel
 request_again (MergeParts head) rest h = made_again merge_of whole_head_at _ _ whole_head_field head rest h
 request_again (Hold t) rest h = made_again hold_of time_at _ _ time_field t rest h.0
 request_again (Release hold) rest h = made_again release_of positive_at _ _ positive_field hold rest h
+request_again (Await t milliseconds) rest h = made_again await_of (both time_at wait_at) _ _ await_field (t, milliseconds) rest (h.0.0, (h.0.1, h.1))

@@ -14,10 +14,10 @@ use Rattle.hk_values.specs.Answers.{answer_text}
 use Rattle.hk_values.specs.Refusals.{refusal_text}
 use Rattle.hk_values.specs.Fragments.{facts_text}
 use Rattle.hk_values.specs.Parts.{WireHead, head_text}
-use Rattle.hk_wire.specs.LaterRequests.{Page, Whole}
+use Rattle.hk_wire.specs.LaterRequests.{Page, Whole, Await}
 use Rattle.hk_wire.specs.LaterRequests as later_requests
 use Rattle.hk_wire.specs.Requests.{WrittenRequest, Items, Feed, Ask, request_body, request_rest}
-use Rattle.hk_wire.specs.LaterReplies.{Latest, Part, LastPart, Held, Fed}
+use Rattle.hk_wire.specs.LaterReplies.{Latest, Part, LastPart, Held, Fed, Ready}
 use Rattle.hk_wire.specs.LaterReplies as later_replies
 use Rattle.hk_wire.specs.Replies.{ReplyValue, Front, reply_body, reply_rest}
 
@@ -37,6 +37,9 @@ page_len t table low high most = simp (length-append, len64, len32, len16) refl
 
 pub whole_len : (base most_bytes : ℕ) → length (later_requests.request_body (Whole base most_bytes)) ≡ 12
 whole_len base most_bytes = simp (length-append, len64, len32) refl
+
+pub await_len : (t milliseconds : ℕ) → length (later_requests.request_body (Await t milliseconds)) ≡ 12
+await_len t milliseconds = simp (length-append, len64, len32) refl
 
 pub request_rest_len : (r : WrittenRequest) → length (request_rest r) ≡ 2 + length (request_body r)
 unfolding request_rest
@@ -58,6 +61,9 @@ last_part_len facts h = length-append (facts_text facts) (head_text h)
 
 pub fed_len : (ops new : ℕ) → length (later_replies.reply_body (Fed ops new)) ≡ 16
 fed_len ops new = simp (length-append, len64) refl
+
+pub ready_len : (horizon readable : ℕ) → length (later_replies.reply_body (Ready horizon readable)) ≡ 16
+ready_len horizon readable = simp (length-append, len64) refl
 
 pub held_len : (hold t : ℕ) → length (later_replies.reply_body (Held hold t)) ≡ 16
 held_len hold t = simp (length-append, len64) refl

@@ -1,5 +1,5 @@
 -- Replies of version 2: their values, the encoding of their bodies and its reading.
-use Rattle.std.specs.Prelude.{ℕ, ◌^◌, ◌<◌, ◌≤◌, Bool, true, not, ◌&&◌, ◌==◌, if◌then◌else◌, List, ◌++◌, Err}
+use Rattle.std.specs.Prelude.{ℕ, ◌^◌, ◌<◌, ◌≤◌, Bool, true, not, nat_le, ◌&&◌, ◌==◌, if◌then◌else◌, List, ◌++◌, Err}
 use Rattle.std.specs.Int.{w64}
 use Rattle.hk_types.specs.declared.faults.FormFault.TheVariants.{BadKind}
 use Rattle.hk_types.specs.declared.faults.Refusal.{Refusal}
@@ -8,7 +8,7 @@ use Rattle.hk_model.specs.Replica.Pages.{PageValue, page_seen}
 use Rattle.hk_model.specs.Replica.StreamsTold.{StreamsValue, streams_seen}
 use Rattle.hk_fragment.specs.Parts.{Known}
 use Rattle.hk_frames.specs.Fields.{number, number_at}
-use Rattle.hk_values.specs.Readers.{Reader, both, mapped_value, time_at, positive_at, is_ops, ops_at}
+use Rattle.hk_values.specs.Readers.{Reader, both, mapped_value, time_at, positive_at, is_ops, ops_at, front_at}
 use Rattle.hk_values.specs.Answers.{answer_text, answer_at, answer_keeps_rules, AnswerFits}
 use Rattle.hk_values.specs.Fragments.{facts_text}
 use Rattle.hk_values.specs.Refusals.{refusal_text, RefusalFits, is_told, later_refusal_at}
@@ -29,6 +29,7 @@ pub data ReplyValue : Type 0 where
   Held : ℕ → ℕ → ReplyValue
   Refused : Refusal → ReplyValue
   Fed : ℕ → ℕ → ReplyValue
+  Ready : ℕ → ℕ → ReplyValue
 
 -- the value that a `LaterReply` has
 abbrev pub reply_seen : LaterReply → ReplyValue
@@ -42,6 +43,7 @@ reply_seen (replied.Added count) = Added count
 reply_seen (replied.Held hold t) = Held hold t
 reply_seen (replied.Refused why) = Refused why
 reply_seen (replied.Fed ops new) = Fed ops new
+reply_seen (replied.Ready horizon readable) = Ready horizon readable
 
 -- the kind byte of a reply
 abbrev pub reply_kind : ReplyValue → ℕ
@@ -55,6 +57,7 @@ reply_kind (Added count) = 70
 reply_kind (Held hold t) = 71
 reply_kind (Refused why) = 72
 reply_kind (Fed ops new) = 73
+reply_kind (Ready horizon readable) = 74
 
 -- its body
 abbrev pub reply_body : ReplyValue → List ℕ
@@ -68,6 +71,7 @@ reply_body (Added count) = number w64 count
 reply_body (Held hold t) = number w64 hold ++ number w64 t
 reply_body (Refused why) = refusal_text why
 reply_body (Fed ops new) = number w64 ops ++ number w64 new
+reply_body (Ready horizon readable) = number w64 horizon ++ number w64 readable
 
 -- whether a reply keeps the rules of its kind
 abbrev pub keeps_rules : ReplyValue → Bool
@@ -81,6 +85,7 @@ keeps_rules (Added count) = true
 keeps_rules (Held hold t) = not (hold == 0)
 keeps_rules (Refused why) = is_told why
 keeps_rules (Fed ops new) = is_ops ops
+keeps_rules (Ready horizon readable) = nat_le horizon readable
 
 -- a reply whose numbers fit their fields
 abbrev pub ReplyFits : ReplyValue → Type 0
@@ -94,6 +99,7 @@ ReplyFits (Added count) = count < 2 ^ 64
 ReplyFits (Held hold t) = (hold < 2 ^ 64) × (t ≤ 2 ^ 62)
 ReplyFits (Refused why) = RefusalFits why
 ReplyFits (Fed ops new) = (ops < 2 ^ 64) × (new < 2 ^ 64)
+ReplyFits (Ready horizon readable) = (horizon ≤ 2 ^ 62) × (readable ≤ 2 ^ 62)
 
 -- the body of a kind of parts, of holds, of refusals, or of what was fed
 unfoldable pub part_reply_of : ℕ → Reader ReplyValue
@@ -113,4 +119,5 @@ reply_of kind bytes =
     else if kind == 65 then mapped_value (λ told. Streams told) streams_at bytes
     else if kind == 66 then mapped_value (λ p. Latest p.0 p.1) (both time_at answer_at) bytes
     else if kind == 67 then mapped_value (λ page. Page page) page_at bytes
+    else if kind == 74 then mapped_value (λ p. Ready p.0 p.1) front_at bytes
     else part_reply_of kind bytes

@@ -1,7 +1,7 @@
 -- Requests of version 2: their values, the encoding of their bodies and its reading.
-use Rattle.std.specs.Prelude.{ℕ, ◌^◌, ◌<◌, ◌≤◌, Bool, true, not, ◌&&◌, ◌==◌, if◌then◌else◌, List, [], ◌++◌, Err}
+use Rattle.std.specs.Prelude.{ℕ, ◌^◌, ◌<◌, ◌≤◌, Bool, true, not, nat_le, ◌&&◌, ◌==◌, if◌then◌else◌, List, [], ◌++◌, Err}
 use Rattle.std.specs.Int.{w16, w32, w64}
-use Rattle.hk_types.specs.declared.faults.FormFault.TheVariants.{BadKind, BadCount}
+use Rattle.hk_types.specs.declared.faults.FormFault.TheVariants.{BadKind, BadCount, BadNumber}
 use Rattle.hk_model.specs.declared.query.Query.{Query}
 use Rattle.hk_fragment.specs.Parts.{Known}
 use Rattle.hk_frames.specs.Fields.{number, number_at}
@@ -24,6 +24,7 @@ pub data RequestValue : Type 0 where
   MergeParts : WireHead → RequestValue
   Hold : ℕ → RequestValue
   Release : ℕ → RequestValue
+  Await : ℕ → ℕ → RequestValue
 
 -- the value that a `LaterRequest` has
 abbrev pub request_seen : LaterRequest → RequestValue
@@ -37,6 +38,7 @@ request_seen (asked.JoinParts head) = JoinParts (wire_head_of head)
 request_seen (asked.MergeParts head) = MergeParts (wire_head_of head)
 request_seen (asked.Hold t) = Hold t
 request_seen (asked.Release hold) = Release hold
+request_seen (asked.Await t milliseconds) = Await t milliseconds
 
 -- the kind byte of a request
 abbrev pub request_kind : RequestValue → ℕ
@@ -50,6 +52,7 @@ request_kind (JoinParts head) = 54
 request_kind (MergeParts head) = 55
 request_kind (Hold t) = 56
 request_kind (Release hold) = 57
+request_kind (Await t milliseconds) = 59
 
 -- its body
 abbrev pub request_body : RequestValue → List ℕ
@@ -63,6 +66,7 @@ request_body (JoinParts head) = head_text head
 request_body (MergeParts head) = head_text head
 request_body (Hold t) = number w64 t
 request_body (Release hold) = number w64 hold
+request_body (Await t milliseconds) = number w64 t ++ number w32 milliseconds
 
 -- whether a request keeps the rules of its kind
 abbrev pub keeps_rules : RequestValue → Bool
@@ -71,6 +75,7 @@ keeps_rules (AddPart facts) = part_keeps_rules facts
 keeps_rules (JoinParts head) = head_is_counted head
 keeps_rules (MergeParts head) = (head.base == 0) && head_is_counted head
 keeps_rules (Release hold) = not (hold == 0)
+keeps_rules (Await t milliseconds) = nat_le milliseconds 600000
 keeps_rules other = true
 
 -- a request whose numbers fit their fields
@@ -85,10 +90,15 @@ RequestFits (JoinParts head) = HeadFits head
 RequestFits (MergeParts head) = HeadFits head
 RequestFits (Hold t) = t ≤ 2 ^ 62
 RequestFits (Release hold) = hold < 2 ^ 64
+RequestFits (Await t milliseconds) = (t ≤ 2 ^ 62) × (milliseconds < 2 ^ 32)
 
 -- the most rows that are wanted, 1 at least
 unfoldable pub most_at : Reader ℕ
 most_at bytes = fault_where (number_at w32) (λ n. n == 0) BadCount bytes
+
+-- how many milliseconds are waited at most, 600,000 at most
+unfoldable pub wait_at : Reader ℕ
+wait_at bytes = fault_where (number_at w32) (λ n. not (nat_le n 600000)) BadNumber bytes
 
 -- a time, a table, the low key and the high one, the most rows
 unfoldable pub page_at : Reader RequestValue
@@ -114,4 +124,5 @@ request_of kind bytes =
     else if kind == 50 then page_at bytes
     else if kind == 51 then mapped_value (λ p. Whole p.0 p.1) (both time_at (number_at w32)) bytes
     else if kind == 52 then nothing More bytes
+    else if kind == 59 then mapped_value (λ p. Await p.0 p.1) (both time_at wait_at) bytes
     else change_of kind bytes

@@ -5,12 +5,12 @@ ghost use Rattle.hk_wire.specs.LaterReplies as spec;
 
 use hk_frames::{Cursor, ReadError};
 use hk_log::Version;
-use hk_model::{Answer, Page, StreamsTold};
+use hk_model::{Answer, Front, Page, StreamsTold};
 use hk_types::{FormFault, Refusal, Time, VersionKey};
 use hk_values::FragmentHead;
 use hk_values::answer::read_answer;
 use hk_values::fragment_head::read_head;
-use hk_values::numbers::{read_ops, read_positive, read_time};
+use hk_values::numbers::{read_front, read_ops, read_positive, read_time};
 use hk_values::part::read_part;
 use hk_values::refusal::read_later_refusal;
 use hk_values::told::{read_page, read_streams_told};
@@ -56,6 +56,11 @@ pub enum LaterReply {
         ops: u64,
         new: u64,
     },
+    /// The node's range of readable times, as a wait ended.
+    Ready {
+        horizon: Time,
+        readable: Time,
+    },
     /// Why nothing happened.
     Refused(Refusal),
 }
@@ -80,6 +85,8 @@ pub(crate) const HELD: u8 = 71;
 pub(crate) const REFUSED: u8 = 72;
 
 pub(crate) const FED: u8 = 73;
+
+pub(crate) const READY: u8 = 74;
 
 /// Reads the body of a kind of chunks, of pins, of refusals, or of what was fed.
 #[tactic(auto, unfolding(crate::specs::LaterReplies::part_reply_of))]
@@ -145,6 +152,10 @@ pub(crate) fn read_later(
         PAGE => {
             let page = read_page(alloc, cursor)?;
             Ok(LaterReply::Page(page))
+        }
+        READY => {
+            let Front { horizon, readable } = read_front(cursor)?;
+            Ok(LaterReply::Ready { horizon, readable })
         }
         _ => read_part_reply(alloc, cursor, kind),
     }

@@ -4,7 +4,7 @@ ghost use Rattle.std.specs.Prelude.{◌≡◌, ◌≤◌, ◌^◌, ◌++◌, tru
 ghost use Rattle.hk_wire.specs.LaterReplies as spec;
 
 use crate::later_reply::{
-    ADDED, DONE, FED, HELD, LAST_PART, LATEST, LaterReply, PAGE, PART, REFUSED, STREAMS,
+    ADDED, DONE, FED, HELD, LAST_PART, LATEST, LaterReply, PAGE, PART, READY, REFUSED, STREAMS,
 };
 use hk_frames::put_u64;
 use hk_values::answer::{answer_len, keeps_answer_rules, put_answer};
@@ -33,6 +33,7 @@ pub(crate) fn later_kind(reply: &LaterReply) -> u8
         LaterReply::Held { .. } => HELD,
         LaterReply::Refused(_) => REFUSED,
         LaterReply::Fed { .. } => FED,
+        LaterReply::Ready { .. } => READY,
     }
 }
 
@@ -51,11 +52,12 @@ pub(crate) fn later_keeps_rules(reply: &LaterReply) -> bool
         LaterReply::Held { number, .. } => *number != 0,
         LaterReply::Refused(why) => is_told(*why),
         LaterReply::Fed { ops, .. } => is_ops(*ops),
+        LaterReply::Ready { horizon, readable } => horizon.number() <= readable.number(),
     }
 }
 
 /// How many bytes the body of a reply that keeps its rules has.
-#[tactic(auto, using(crate::proofs::Lengths::latest_len, crate::proofs::Lengths::part_len, crate::proofs::Lengths::last_part_len, crate::proofs::Lengths::held_len, crate::proofs::Lengths::fed_len, crate::proofs::Lengths::refused_len, hk_codec::proofs::Lengths::len64))]
+#[tactic(auto, using(crate::proofs::Lengths::latest_len, crate::proofs::Lengths::part_len, crate::proofs::Lengths::last_part_len, crate::proofs::Lengths::held_len, crate::proofs::Lengths::fed_len, crate::proofs::Lengths::ready_len, crate::proofs::Lengths::refused_len, hk_codec::proofs::Lengths::len64))]
 pub(crate) fn later_body_len(reply: &LaterReply) -> u64
     requires { spec.keeps_rules (spec.reply_seen reply.now) ≡ true }
     ensures len { result ≡ length (spec.reply_body (spec.reply_seen reply.now)) }
@@ -73,6 +75,7 @@ pub(crate) fn later_body_len(reply: &LaterReply) -> u64
         LaterReply::Held { number, t } => number_len(*number) + time_len(*t),
         LaterReply::Refused(why) => refusal_len(*why),
         LaterReply::Fed { ops, new } => number_len(*ops) + number_len(*new),
+        LaterReply::Ready { horizon, readable } => time_len(*horizon) + time_len(*readable),
     }
 }
 
@@ -108,6 +111,10 @@ pub(crate) fn put_later(out: &mut Vec<u8>, reply: &LaterReply) -> Result<(), All
         LaterReply::Fed { ops, new } => {
             put_u64(out, *ops)?;
             put_u64(out, *new)
+        }
+        LaterReply::Ready { horizon, readable } => {
+            put_u64(out, horizon.number())?;
+            put_u64(out, readable.number())
         }
     }
 }

@@ -53,6 +53,11 @@ pub enum LaterRequest {
     Release {
         number: u64,
     },
+    /// To reply once a time is readable, or after so many milliseconds, at most 600,000.
+    Await {
+        t: Time,
+        milliseconds: u32,
+    },
 }
 
 /// The kind bytes.
@@ -76,6 +81,11 @@ pub(crate) const HOLD: u8 = 56;
 
 pub(crate) const RELEASE: u8 = 57;
 
+pub(crate) const AWAIT: u8 = 59;
+
+/// The most milliseconds that may be waited.
+pub const MOST_MILLISECONDS: u32 = 600_000;
+
 /// Reads the most rows that are wanted.
 #[tactic(auto, unfolding(crate::specs::LaterRequests::most_at))]
 fn read_most(cursor: &mut Cursor) -> Result<u32, FormFault>
@@ -86,6 +96,18 @@ fn read_most(cursor: &mut Cursor) -> Result<u32, FormFault>
         return Err(FormFault::BadCount);
     }
     Ok(most)
+}
+
+/// Reads how many milliseconds are waited at most.
+#[tactic(auto, unfolding(crate::specs::LaterRequests::wait_at))]
+fn read_wait(cursor: &mut Cursor) -> Result<u32, FormFault>
+    ensures { GivesValue (λ x. (x, cursor.new)) result (spec.wait_at cursor.old) }
+{
+    let milliseconds = cursor.u32()?;
+    if milliseconds > MOST_MILLISECONDS {
+        return Err(FormFault::BadNumber);
+    }
+    Ok(milliseconds)
 }
 
 /// Reads what a page is asked of.
@@ -162,6 +184,11 @@ pub(crate) fn read_later(
             Ok(LaterRequest::Whole { base, most_bytes })
         }
         MORE => Ok(LaterRequest::More),
+        AWAIT => {
+            let t = read_time(cursor)?;
+            let milliseconds = read_wait(cursor)?;
+            Ok(LaterRequest::Await { t, milliseconds })
+        }
         _ => read_change(alloc, cursor, kind),
     }
 }

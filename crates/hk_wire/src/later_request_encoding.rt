@@ -4,8 +4,8 @@ ghost use Rattle.std.specs.Prelude.{◌≡◌, ◌<◌, ◌≤◌, ◌^◌, ◌+
 ghost use Rattle.hk_wire.specs.LaterRequests as spec;
 
 use crate::later_request::{
-    ADD_PART, ASK_LATEST, HOLD, JOIN_PARTS, LaterRequest, MERGE_PARTS, MORE, PAGE, RELEASE,
-    STREAMS, WHOLE,
+    ADD_PART, ASK_LATEST, AWAIT, HOLD, JOIN_PARTS, LaterRequest, MERGE_PARTS, MORE,
+    MOST_MILLISECONDS, PAGE, RELEASE, STREAMS, WHOLE,
 };
 use hk_frames::{put_u16, put_u32, put_u64};
 use hk_values::field_len::{key_len, number_len, table_len, time_len};
@@ -29,6 +29,7 @@ pub(crate) fn later_kind(request: &LaterRequest) -> u8
         LaterRequest::MergeParts(_) => MERGE_PARTS,
         LaterRequest::Hold { .. } => HOLD,
         LaterRequest::Release { .. } => RELEASE,
+        LaterRequest::Await { .. } => AWAIT,
     }
 }
 
@@ -42,6 +43,7 @@ pub(crate) fn later_keeps_rules(request: &LaterRequest) -> bool
         LaterRequest::JoinParts(head) => head.is_counted(),
         LaterRequest::MergeParts(head) => head.base().number() == 0 && head.is_counted(),
         LaterRequest::Release { number } => *number != 0,
+        LaterRequest::Await { milliseconds, .. } => *milliseconds <= MOST_MILLISECONDS,
         _ => true,
     }
 }
@@ -55,7 +57,7 @@ fn count_len(count: u32) -> u64
 }
 
 /// How many bytes the body of a request that keeps its rules has.
-#[tactic(auto, using(crate::proofs::Lengths::page_len, crate::proofs::Lengths::whole_len, hk_codec::proofs::Lengths::len64))]
+#[tactic(auto, using(crate::proofs::Lengths::page_len, crate::proofs::Lengths::whole_len, crate::proofs::Lengths::await_len, hk_codec::proofs::Lengths::len64))]
 pub(crate) fn later_body_len(request: &LaterRequest) -> u64
     requires { spec.keeps_rules (spec.request_seen request.now) ≡ true }
     ensures len { result ≡ length (spec.request_body (spec.request_seen request.now)) }
@@ -80,6 +82,7 @@ pub(crate) fn later_body_len(request: &LaterRequest) -> u64
         LaterRequest::JoinParts(head) | LaterRequest::MergeParts(head) => head.bytes(),
         LaterRequest::Hold { t } => time_len(*t),
         LaterRequest::Release { number } => number_len(*number),
+        LaterRequest::Await { t, milliseconds } => time_len(*t) + count_len(*milliseconds),
     }
 }
 
@@ -114,5 +117,9 @@ pub(crate) fn put_later(out: &mut Vec<u8>, request: &LaterRequest) -> Result<(),
         LaterRequest::JoinParts(head) | LaterRequest::MergeParts(head) => head.put_to(out),
         LaterRequest::Hold { t } => put_u64(out, t.number()),
         LaterRequest::Release { number } => put_u64(out, *number),
+        LaterRequest::Await { t, milliseconds } => {
+            put_u64(out, t.number())?;
+            put_u32(out, *milliseconds)
+        }
     }
 }

@@ -20,7 +20,7 @@ mod request;
 mod request_encoding;
 
 pub use later_reply::LaterReply;
-pub use later_request::LaterRequest;
+pub use later_request::{LaterRequest, MOST_MILLISECONDS};
 pub use laws::{
     one_reply_encoding, one_reply_reading, one_request_encoding, one_request_reading,
     reply_pieces_join, request_pieces_join,

@@ -117,9 +117,9 @@ fn put_request(out: &mut Vec<u8>, request: &Request, rest: u32) -> Result<(), Al
 /// Adds a request's encoding whose item frames are all of version 2 at the end. A request without that encoding is refused
 /// `Form(TooLong)`: more than 65,536 items, a fragment or a head with more than 2^32 - 1 of a counted thing, a fragment or
 /// a head to merge whose base is not 0, a page of 0 rows, facts that don't keep the rules of a chunk or are more than 2^32
-/// - 1, a pin of number 0, and a rest of more than 2^28 bytes. After that comes `Memory`. On a refusal the output is as
-/// before. Cost: O(n), n bytes of the encoding: the whole frame is reserved at once, so the output grows once at most; one
-/// pass over the request tests it, one counts its bytes and one writes them.
+/// - 1, a pin of number 0, a wait of more than 600,000 milliseconds, and a rest of more than 2^28 bytes. After that comes
+/// `Memory`. On a refusal the output is as before. Cost: O(n), n bytes of the encoding: the whole frame is reserved at once,
+/// so the output grows once at most; one pass over the request tests it, one counts its bytes and one writes them.
 ///
 /// A `RequestFeeder` that reads its version and is given the encoding alone returns a request of that value, and
 /// keeps nothing.

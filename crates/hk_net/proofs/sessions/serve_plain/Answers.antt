@@ -1,4 +1,4 @@
-use Rattle.hk_host.proofs.Seen.{goes_step}
+use Rattle.hk_link.proofs.Seen.{goes_step}
 use Rattle.hk_net.proofs.sessions.serve_plain.Goals as goal
 
 pub returns-clause-seen : goal.returns-clause-seen

@@ -1,5 +1,5 @@
 use Rattle.std.proofs.Common.{refl}
-use Rattle.hk_host.proofs.Seen.{same_prefix, then_prefix}
+use Rattle.hk_link.proofs.Seen.{same_prefix, then_prefix}
 use Rattle.hk_net.proofs.staying.serve_place.Goals as goal
 
 pub loop-init : goal.loop-init

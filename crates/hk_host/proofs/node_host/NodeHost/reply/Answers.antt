@@ -1,24 +1,21 @@
-use Rattle.std.proofs.Common.{refl, sym, subst, Ok, Result, List}
+use Rattle.std.proofs.Common.{refl, subst, Ok, Result, List}
 use Rattle.hk_types.specs.declared.faults.Refusal.{Refusal}
 use Rattle.hk_oplog.specs.declared.op.Op.{Op}
 use Rattle.hk_node.specs.Changes.{ChangesSome}
-use Rattle.hk_wire.specs.declared.reply.Reply.{Reply}
-use Rattle.hk_wire.specs.Replies.{reply_seen}
-use Rattle.hk_host.specs.Replying.{IsChangeReply}
 use Rattle.hk_host.proofs.WaitingChanges.{handed_reply, waiting_reply}
 use Rattle.hk_host.proofs.node_host.NodeHost.reply.Goals as goal
-use Rattle.hk_host.proofs.node_host.NodeHost.reply.Goals.{in-Ok-learn, in-Err-learn}
 
-pub returns-after-learn-clause-told : goal.returns-after-learn-clause-told
-returns-after-learn-clause-told g c = λ o made.
+pub returns-in-Ok-learn-clause-told : goal.returns-in-Ok-learn-clause-told
+returns-in-Ok-learn-clause-told g c = λ o made.
     let kind = g.J.NodeName.kind in
     let answered : ChangesSome g.J.NodeName.kind o (Ok c.in-Ok.receipt) = subst (λ (r : Result (List Op) Refusal). ChangesSome g.J.NodeName.kind o r) c.in-Ok.is made in
-    elim c.match-learn.branch [
-      | in-Ok-learn w ↦ subst (λ (r : Reply). IsChangeReply kind c.args.self.now c.learn.new.self o (reply_seen r)) (sym w.result-is)
-          (let e = w.in-Ok-learn.ensures in handed_reply kind c.args.self.now c.learn.new.self c.in-Ok.receipt o w.in-Ok-learn.ops answered e.told e.later e.done)
-      | in-Err-learn w ↦ subst (λ (r : Reply). IsChangeReply kind c.args.self.now c.learn.new.self o (reply_seen r)) (sym w.result-is)
-          (let e = w.in-Err-learn.ensures in waiting_reply kind c.args.self.now c.learn.new.self c.in-Ok.receipt o w.in-Err-learn.why answered e.waits e.kept)
-    ]
+    let e = c.in-Ok-learn.ensures in handed_reply kind c.args.self.now c.learn.new.self c.in-Ok.receipt o c.in-Ok-learn.ops answered e.told e.later e.done
+
+pub returns-in-Err-learn-clause-told : goal.returns-in-Err-learn-clause-told
+returns-in-Err-learn-clause-told g c = λ o made.
+    let kind = g.J.NodeName.kind in
+    let answered : ChangesSome g.J.NodeName.kind o (Ok c.in-Ok.receipt) = subst (λ (r : Result (List Op) Refusal). ChangesSome g.J.NodeName.kind o r) c.in-Ok.is made in
+    let e = c.in-Err-learn.ensures in waiting_reply kind c.args.self.now c.learn.new.self c.in-Ok.receipt o c.in-Err-learn.why answered e.waits e.kept
 
 pub returns-in-Err-clause-told : goal.returns-in-Err-clause-told
 returns-in-Err-clause-told g c = λ o made. (subst (λ (r : Result (List Op) Refusal). ChangesSome g.J.NodeName.kind o r) c.in-Err.is made, refl)

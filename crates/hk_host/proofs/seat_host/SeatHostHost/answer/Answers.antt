@@ -1,5 +1,6 @@
 use Rattle.std.proofs.Common.{refl}
-use Rattle.hk_host.proofs.Seen.{no_reading_is, same_prefix}
+use Rattle.hk_link.proofs.Seen.{same_prefix}
+use Rattle.hk_host.proofs.Seen.{no_reading_is}
 use Rattle.hk_host.proofs.seat_host.SeatHostHost.answer.Goals as goal
 
 pub returns-in-Front-clause-may : goal.returns-in-Front-clause-may

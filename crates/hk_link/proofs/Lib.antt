@@ -1,0 +1,6 @@
+mod Budgets
+mod WholeGiven
+mod LettingGo
+mod LinkHolds
+pub mod Seen
+pub mod BothSeen

@@ -1,0 +1,208 @@
+//! How many bytes the connections of a node keep for messages of version 2, all together.
+
+ghost use Rattle.std.specs.Prelude.{◌≡◌, ◌+◌, ◌≤◌, [], true, false, IfOk};
+ghost use Rattle.hk_link.specs.Budgets.{BudgetLaw};
+
+use atomic_table::{Play, Seat, Table, TableRule};
+use std::alloc::{AllocError, Global};
+use std::marker::Model;
+
+/// That what is left and what all rooms have make the limit.
+struct Sums;
+
+impl TableRule<(), u64, u64> for Sums {
+    ghost use Rattle.hk_link.specs.Budgets.{AddsUp};
+
+    ghost holds = { λ most s. AddsUp most s.words s.views };
+
+    ghost first = { λ _. 0 };
+}
+
+/// A room that enters.
+struct Entered;
+
+impl Play<(), u64> for Entered {
+    ghost use Rattle.std.specs.Prelude.{◌≡◌, []};
+
+    ghost then = { λ _ _ _ me. me ≡ (0, []) };
+}
+
+/// A room that takes of what is left.
+struct Taken;
+
+impl Play<(), u64> for Taken {
+    ghost use Rattle.std.specs.Prelude.{◌≡◌};
+    ghost use Rattle.hk_link.specs.Budgets.{Takes};
+
+    ghost then = { λ s old found new. Takes s.first s.second old.0 found new.0 × (new.1 ≡ old.1) };
+}
+
+/// A room that returns what it has.
+struct Returned;
+
+impl Play<(), u64> for Returned {
+    ghost use Rattle.std.specs.Prelude.{◌≡◌};
+    ghost use Rattle.hk_link.specs.Budgets.{Returns};
+
+    ghost then = { λ s old _ new. Returns s.first old.0 new.0 × (new.1 ≡ old.1) };
+}
+
+/// How many bytes the connections of a node may keep for messages of version 2, all together: for what they send in
+/// chunks, and for the chunks that came. A fact counts with its bytes in a message and 128 more, so that the limit is
+/// one on memory. Contracts see it as that limit, and which budget it is.
+///
+/// Each connection reserves what it keeps before it keeps it, and returns it when it drops that. What is left and what all
+/// connections have reserved make the limit at each moment, so they never have more (`budget_law`). It is one word, which each
+/// takes from by one exchange and gives back to by one sum, so that no connection waits for another.
+#[derive(Drop)]
+pub struct PartsBudget {
+    most: u64,
+    table: Table<(), u64, u64, Sums, Global>,
+}
+
+impl Model for PartsBudget {
+    ghost use Rattle.std.specs.Prelude.{◌≡◌, ◌<◌, ◌^◌};
+    ghost use Rattle.hk_link.specs.Budgets.{BudgetValue, budget_code};
+
+    ghost Value = { BudgetValue };
+
+    ghost coded = { budget_code };
+
+    ghost view = { λ b. record { most = b.most; table = b.table.shared.table_id } };
+
+    ghost invariant = { λ b. (b.table.shared.key ≡ b.most) × (b.table.shared.table_id.words ≡ 1) × (b.most < 2 ^ 64) };
+}
+
+impl PartsBudget {
+    /// A budget of so many bytes, of which nothing is reserved. It takes memory for one word.
+    pub fn new(alloc: Global, most: u64) -> Result<PartsBudget, AllocError>
+        ensures { IfOk result (λ budget. budget.most ≡ most) }
+    {
+        let (table, _seat) = Table::of_words(alloc, &[most], &most)?;
+        Ok(PartsBudget { most, table })
+    }
+
+    /// How many bytes all connections may keep. Cost: O(1).
+    pub fn most(&self) -> u64
+        ensures { result ≡ self.now.most }
+    {
+        self.most
+    }
+
+    /// What a room has that begins.
+    fn enter(&self) -> Seat<(), u64>
+        ensures table { result.table_id ≡ self.now.table }
+        ensures none { result.me ≡ (0, []) }
+    {
+        let (_left, seat) = self.table.shared.load_new_seat::<Entered>(0);
+        seat
+    }
+
+    /// Reserves so many bytes for a room, where so many are left. It tries as often as others change what is left.
+    fn take(&self, room: &mut Seat<(), u64>, bytes: u64) -> bool
+        requires { room.old.table_id ≡ self.now.table }
+        ensures table { room.new.table_id ≡ room.old.table_id }
+        ensures slots { room.new.me.1 ≡ room.old.me.1 }
+        ensures more { result ≡ true → room.new.me.0 ≡ room.old.me.0 + bytes }
+        ensures same { result ≡ false → room.new.me.0 ≡ room.old.me.0 }
+    {
+        let mut left = self.table.shared.peek(0);
+        'tries: for _ in 0..u64::MAX {
+            let Some(rest) = left.checked_sub(bytes) else {
+                return false;
+            };
+            let found = self
+                .table
+                .shared
+                .compare_exchange::<Taken>(room, 0, left, rest);
+            if found == left {
+                return true;
+            }
+            left = found;
+        }
+        false
+    }
+
+    /// Returns so many bytes of a room.
+    fn give_back(&self, room: &mut Seat<(), u64>, bytes: u64)
+        requires table { room.old.table_id ≡ self.now.table }
+        requires has { bytes ≤ room.old.me.0 }
+        ensures table { room.new.table_id ≡ room.old.table_id }
+        ensures slots { room.new.me.1 ≡ room.old.me.1 }
+        ensures less { room.new.me.0 + bytes ≡ room.old.me.0 }
+    {
+        let _before = self.table.shared.fetch_add::<Returned>(room, 0, bytes);
+    }
+}
+
+/// What connections have reserved of a budget, all together, is never more than its limit: at each moment it makes the limit with
+/// what is left. A law: it does nothing.
+pub fn budget_law()
+    ensures { BudgetLaw }
+{}
+
+/// So many bytes that are reserved of a budget. They are returned when it is dropped.
+pub(crate) struct Room<'a> {
+    budget: &'a PartsBudget,
+    bytes: u64,
+    seat: Seat<(), u64>,
+}
+
+impl<'a> Model for Room<'a> {
+    ghost use Rattle.std.specs.Prelude.{◌≡◌, ℕ, []};
+
+    ghost Value = { ℕ };
+
+    ghost view = { λ r. r.bytes };
+
+    ghost invariant = { λ r. (r.seat.table_id ≡ r.budget.now.table) × (r.seat.me ≡ (r.bytes, [])) };
+}
+
+impl<'a> Room<'a> {
+    /// Nothing of a budget.
+    pub(crate) fn none(budget: &'a PartsBudget) -> Room<'a>
+        ensures { result ≡ 0 }
+    {
+        Room {
+            budget,
+            bytes: 0,
+            seat: budget.enter(),
+        }
+    }
+
+    /// Reserves so many bytes more, and returns whether so many were left.
+    pub(crate) fn grow(&mut self, bytes: u64) -> bool
+        ensures more { result ≡ true → self.new ≡ self.old + bytes }
+        ensures same { result ≡ false → self.new ≡ self.old }
+    {
+        let Some(sum) = self.bytes.checked_add(bytes) else {
+            return false;
+        };
+        if !self.budget.take(&mut self.seat, bytes) {
+            return false;
+        }
+        self.bytes = sum;
+        true
+    }
+
+    /// Returns so many of its bytes to the budget.
+    pub(crate) fn shrink(&mut self, bytes: u64)
+        requires { bytes ≤ self.old }
+        ensures { self.new + bytes ≡ self.old }
+    {
+        self.budget.give_back(&mut self.seat, bytes);
+        self.bytes -= bytes;
+    }
+}
+
+impl Drop for Room<'_> {
+    fn drop(self) {
+        let Room {
+            budget,
+            bytes,
+            mut seat,
+        } = self;
+        budget.give_back(&mut seat, bytes);
+        drop(seat);
+    }
+}

@@ -1,0 +1,295 @@
+//! A host that speaks both versions, over a host of a node for version 1.
+
+ghost use Rattle.std.specs.Prelude.{◌≡◌, ◌<◌, true, length};
+ghost use mathlib.Core.List.{IsPrefix};
+ghost use Rattle.hk_fragment.specs.Heads.{of_facts};
+ghost use Rattle.hk_wire.specs.LaterReplies.{reply_seen};
+ghost use Rattle.hk_oplog.specs.Replay.{is_legal};
+ghost use Rattle.hk_link.specs.LaterReplying.{AreLetGo, AsksHoldInPlace, IsFirstReply, IsHeld, IsLaterReply, IsOrMemory, IsReleased, JoinsMade, KeepsButCame, KeepsButGiving, KeepsCameAndHolds, KeepsOther, LetsGo, TellsCome, TellsMore, TellsWhole, change_seen, content_of, full_or, latest_reply, page_reply, ready_reply, streams_reply};
+ghost use Rattle.hk_link.specs.LinkStates.{link_of};
+
+use crate::link_holds::release_each;
+use crate::link_state::LinkState;
+use crate::node_side::NodeSide;
+use hk_log::Version;
+use hk_model::{Front, Query};
+use hk_oplog::Hold;
+use hk_session::Host;
+use hk_types::{FormFault, Key, Refusal, Table, Time, VersionKey};
+use hk_values::FragmentHead;
+use hk_wire::{LaterReply, LaterRequest, Reply, Request};
+use std::marker::Model;
+
+/// How many pins a connection has at most.
+const MOST_HOLDS: usize = 1_024;
+
+/// A host for both versions over one for version 1, with what the connection keeps: what it sends in chunks, the chunks that came,
+/// and its pins. Contracts see it as the state of a connection.
+///
+/// A request of version 1 goes to the inner host, and changes nothing else of the connection. A fragment is cut once,
+/// when it is asked for, and its chunks are sent one after the other from what was cut then; a connection keeps one.
+/// The chunks that came are dropped once a head is there, whether they make a fragment or not. For what it sends and
+/// for what came it reserves room of the node's budget. Cost: that of the seat's and the node's calls, and a copy of
+/// each chunk that is sent.
+#[derive(Drop)]
+pub struct PartsHost<'a, H: NodeSide + Drop> {
+    inner: H,
+    kept: LinkState<'a>,
+}
+
+impl<'a, H: NodeSide + Drop> Model for PartsHost<'a, H> {
+    ghost use Rattle.hk_link.specs.LinkStates.{LinkValue, link_code, link_of};
+    ghost use Rattle.hk_oplog.specs.contracts.op.Hold as hold;
+
+    ghost Value = { LinkValue H };
+
+    ghost coded = { link_code H.code hold.the_row.coded };
+
+    ghost view = { λ h. link_of h.inner h.kept };
+}
+
+/// The reply of version 1 to a change, in version 2.
+fn later_reply(answer: Reply) -> LaterReply
+    ensures { reply_seen result ≡ change_seen answer }
+{
+    match answer {
+        Reply::Done { ops } => LaterReply::Done { ops },
+        Reply::Refused(why) => LaterReply::Refused(why),
+        other => {
+            drop(other);
+            LaterReply::Refused(Refusal::Form(FormFault::BadKind))
+        }
+    }
+}
+
+impl<'a, H: NodeSide + Drop> PartsHost<'a, H> {
+    /// A host for both versions over one for version 1, with what the connection keeps. It takes no memory.
+    pub fn new(inner: H, kept: LinkState<'a>) -> PartsHost<'a, H>
+        ensures { result ≡ link_of inner kept.entry }
+    {
+        PartsHost { inner, kept }
+    }
+
+    /// Ends the connection: asks for the release of each of its pins, one after the other, and of no other. Returns the
+    /// inner host, and just those of the pins that are still active, since the node handed them back. What it sent and what
+    /// came is dropped, with the room that was reserved for it. It takes no memory beside that of the releases. Cost: that
+    /// of the releases.
+    pub fn end(self) -> (H, Vec<Hold>)
+        ensures released { AreLetGo H.side.may_release self.entry.inner self.entry.holds
+            result.0 result.1.items }
+        ensures seen { IsPrefix (H.side.list self.entry.inner) (H.side.list result.0) }
+    {
+        let mut inner = self.inner;
+        let left = release_each(&mut inner, self.kept.into_holds());
+        (inner, left)
+    }
+
+    fn streams(&mut self) -> LaterReply
+        ensures legal { is_legal (H.side.list self.new.inner) ≡ true }
+        ensures seen { IsPrefix (H.side.list self.old.inner) (H.side.list self.new.inner) }
+        ensures same { KeepsOther self.old self.new }
+        ensures told { IsOrMemory (streams_reply (content_of H.side self.new)) (reply_seen result) }
+        ensures ready { H.ready self.old.inner → H.ready self.new.inner }
+    {
+        match self.inner.streams() {
+            Ok(told) => LaterReply::Streams(told),
+            Err(why) => LaterReply::Refused(why),
+        }
+    }
+
+    /// The node's range of readable times. Whoever runs the session has waited by now.
+    fn ready(&mut self) -> LaterReply
+        ensures legal { is_legal (H.side.list self.new.inner) ≡ true }
+        ensures seen { IsPrefix (H.side.list self.old.inner) (H.side.list self.new.inner) }
+        ensures same { KeepsOther self.old self.new }
+        ensures told { IsOrMemory (ready_reply (content_of H.side self.new)) (reply_seen result) }
+        ensures ready { H.ready self.old.inner → H.ready self.new.inner }
+    {
+        match self.inner.marks() {
+            Ok(Front { horizon, readable }) => LaterReply::Ready { horizon, readable },
+            Err(why) => LaterReply::Refused(why),
+        }
+    }
+
+    fn latest(&mut self, query: &Query) -> LaterReply
+        ensures legal { is_legal (H.side.list self.new.inner) ≡ true }
+        ensures seen { IsPrefix (H.side.list self.old.inner) (H.side.list self.new.inner) }
+        ensures same { KeepsOther self.old self.new }
+        ensures told { IsOrMemory (latest_reply (content_of H.side self.new) query.now) (reply_seen result) }
+        ensures ready { H.ready self.old.inner → H.ready self.new.inner }
+    {
+        match self.inner.latest(query) {
+            Ok((t, answer)) => LaterReply::Latest { t, answer },
+            Err(why) => LaterReply::Refused(why),
+        }
+    }
+
+    fn page(&mut self, time: Time, table: Table, low: Key, high: Key, most: u32) -> LaterReply
+        ensures legal { is_legal (H.side.list self.new.inner) ≡ true }
+        ensures seen { IsPrefix (H.side.list self.old.inner) (H.side.list self.new.inner) }
+        ensures same { KeepsOther self.old self.new }
+        ensures told { IsOrMemory
+            (page_reply (content_of H.side self.new) time table low high most) (reply_seen result) }
+        ensures ready { H.ready self.old.inner → H.ready self.new.inner }
+    {
+        match self.inner.page(time, table, low, high, most) {
+            Ok(page) => LaterReply::Page(page),
+            Err(why) => LaterReply::Refused(why),
+        }
+    }
+
+    /// Cuts what the node holds, and returns the first chunk of it.
+    fn whole(&mut self, base: Time, most: u32) -> LaterReply
+        ensures legal { is_legal (H.side.list self.new.inner) ≡ true }
+        ensures seen { IsPrefix (H.side.list self.old.inner) (H.side.list self.new.inner) }
+        ensures told { TellsWhole H.side self.old base most (reply_seen result) self.new }
+        ensures same { KeepsCameAndHolds self.old self.new }
+        ensures ready { H.ready self.old.inner → H.ready self.new.inner }
+    {
+        match self.inner.cut(base) {
+            Ok(fragment) => self.kept.begin(fragment, most),
+            Err(why) => {
+                self.kept.stop_giving();
+                LaterReply::Refused(why)
+            }
+        }
+    }
+
+    /// Has the inner host join what the head and the chunks that came make.
+    fn join(&mut self, head: FragmentHead) -> LaterReply
+        requires ready { H.ready self.old.inner }
+        ensures seen { IsPrefix (H.side.list self.old.inner) (H.side.list self.new.inner) }
+        ensures told { JoinsMade H.may self.old.inner (of_facts head self.old.came) (reply_seen result) self.new.inner }
+        ensures same { LetsGo self.old self.new }
+        ensures ready { H.ready self.new.inner }
+    {
+        // The room is returned once they are joined.
+        let (came, _room) = self.kept.take_parts();
+        match head.into_fragment(came) {
+            Ok(fragment) => later_reply(self.answer_first(Request::JoinThis(fragment))),
+            Err(fault) => LaterReply::Refused(Refusal::Form(fault)),
+        }
+    }
+
+    /// Pins a time, once there is room for the pin in the connection's list. Where there is none the node's own refusal comes first.
+    fn hold(&mut self, time: Time) -> LaterReply
+        ensures seen { IsPrefix (H.side.list self.old.inner) (H.side.list self.new.inner) }
+        ensures told { IsHeld H.side.may_hold self.old time (reply_seen result) self.new }
+        ensures ready { H.ready self.old.inner → H.ready self.new.inner }
+    {
+        if self.kept.hold_count() >= MOST_HOLDS {
+            return LaterReply::Refused(match self.inner.hold_refusal(time) {
+                Refusal::Memory => Refusal::LinkFull {
+                    most: MOST_HOLDS as u64,
+                },
+                why => why,
+            });
+        }
+        match self.kept.make_place(time) {
+            Ok(()) => self.ask_hold(time),
+            Err(_) => LaterReply::Refused(self.inner.hold_refusal(time)),
+        }
+    }
+
+    /// Pins a time. The last entry in the connection's list is free for the pin.
+    fn ask_hold(&mut self, time: Time) -> LaterReply
+        requires { 0 < length self.old.holds }
+        ensures seen { IsPrefix (H.side.list self.old.inner) (H.side.list self.new.inner) }
+        ensures told { AsksHoldInPlace H.side.may_hold self.old time (reply_seen result) self.new }
+        ensures ready { H.ready self.old.inner → H.ready self.new.inner }
+    {
+        match self.inner.hold(time) {
+            Ok(hold) => {
+                let reply = LaterReply::Held {
+                    number: hold.reader,
+                    t: hold.at,
+                };
+                self.kept.fill_place(hold);
+                reply
+            }
+            Err((Some(hold), why)) => {
+                self.kept.fill_place(hold);
+                LaterReply::Refused(why)
+            }
+            Err((None, why)) => {
+                self.kept.free_place();
+                LaterReply::Refused(why)
+            }
+        }
+    }
+
+    /// Releases a pin of this connection.
+    fn release(&mut self, number: u64) -> LaterReply
+        ensures seen { IsPrefix (H.side.list self.old.inner) (H.side.list self.new.inner) }
+        ensures told { IsReleased H.side.may_release self.old number (reply_seen result) self.new }
+        ensures ready { H.ready self.old.inner → H.ready self.new.inner }
+    {
+        let Some(hold) = self.kept.hold_of(number) else {
+            return LaterReply::Refused(Refusal::NoHold);
+        };
+        match self.inner.release(hold) {
+            Ok(ops) => {
+                self.kept.forget(number);
+                LaterReply::Done { ops }
+            }
+            Err((Some(_stands), why)) => LaterReply::Refused(why),
+            Err((None, why)) => {
+                self.kept.forget(number);
+                LaterReply::Refused(why)
+            }
+        }
+    }
+
+    /// Answers a request of version 1.
+    fn answer_first(&mut self, request: Request) -> Reply
+        requires ready { H.ready self.old.inner }
+        ensures seen { IsPrefix (H.side.list self.old.inner) (H.side.list self.new.inner) }
+        ensures told { IsFirstReply H.may self.old request result self.new }
+        ensures ready { H.ready self.new.inner }
+    {
+        H::laws();
+        self.inner.answer(request)
+    }
+
+    /// Answers a request of version 2.
+    fn answer_later(&mut self, request: LaterRequest) -> LaterReply
+        requires ready { H.ready self.old.inner }
+        ensures seen { IsPrefix (H.side.list self.old.inner) (H.side.list self.new.inner) }
+        ensures told { IsLaterReply H.side H.may self.old request (reply_seen result) self.new }
+        ensures ready { H.ready self.new.inner }
+    {
+        match request {
+            LaterRequest::Streams => self.streams(),
+            LaterRequest::AskLatest { query } => self.latest(&query),
+            LaterRequest::Page {
+                t,
+                table,
+                low,
+                high,
+                most,
+            } => self.page(t, table, low, high, most),
+            LaterRequest::Await { .. } => self.ready(),
+            LaterRequest::Whole { base, most_bytes } => self.whole(base, most_bytes),
+            LaterRequest::More => self.kept.more(),
+            LaterRequest::AddPart(facts) => self.kept.add(facts),
+            LaterRequest::JoinParts(head) | LaterRequest::MergeParts(head) => self.join(head),
+            LaterRequest::Hold { t } => self.hold(t),
+            LaterRequest::Release { number } => self.release(number),
+        }
+    }
+}
+
+impl<'a, H: NodeSide + Drop> Host for PartsHost<'a, H> {
+    ghost use Rattle.hk_link.specs.LaterReplying.{MayReplyBoth};
+
+    ghost may = { MayReplyBoth H.side H.may };
+
+    ghost ready = { λ h. H.ready h.inner };
+
+    fn answer(&mut self, request: Request) -> Reply {
+        match request {
+            Request::Later(later) => Reply::Later(self.answer_later(later)),
+            first => self.answer_first(first),
+        }
+    }
+}
